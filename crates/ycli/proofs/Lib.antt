@@ -1,0 +1,5 @@
+mod Sent
+mod Places
+mod Lines
+mod Replying
+mod Transcripts

@@ -1,0 +1,268 @@
+-- How the replies to lines make the text of a session.
+use Rattle.std.proofs.Common.{ℕ, zero, suc, ◌≡◌, ◌-◌, ◌^◌, ◌<◌, ◌≤◌, ◌++◌, ◌==◌, Bool, true, false, List, [], ◌∷◌, Option, Some, None, Result, Ok, Err, is_some, length, take, refl, sym, ap, ◌∙◌, subst, arith, append_assoc, append-nil, inl, inr, ◌⊎◌, IsSome, IfSome, codes, length-append}
+use Rattle.std.proofs.lemmas.Bool.{cases_lt}
+use Rattle.ycli.specs.declared.machine.StepKind.{StepKind}
+use Rattle.ycli.specs.declared.machine.StepFault.{StepFault}
+use Rattle.ycli.specs.declared.machine.StepFault.TheVariants.{Halted, Limit, Memory}
+use Rattle.ycli.specs.declared.command.Command.{Command}
+use Rattle.ycli.specs.declared.command.Command.TheVariants.{Step, Back, Show, Quit, Unknown}
+use Rattle.ycli.specs.declared.link.Link.{Link}
+use Rattle.ycli.specs.declared.fault.SessionFault.{SessionFault}
+use Rattle.ycli.specs.declared.fault.SessionFault.TheVariants as faults
+use Rattle.std.specs.Io.KnownBytes.{Consumes, Appends, IsAtEnd}
+use Rattle.ycli.specs.Link.{device_of}
+use Rattle.ycli.specs.Sends.{Sends, Begins}
+use Rattle.ycli.specs.Machine.{Machine, Configuration, next}
+use Rattle.ycli.specs.History.{History, Steps, position}
+use Rattle.ycli.specs.Command.{command_of}
+use Rattle.ycli.specs.Lines.{whole_after, rest_after, whole_lines, rest_line, last_line, lines_of}
+use Rattle.ycli.specs.Reply.{Reply, Answers, AnswersLine, step_text, undo_text, undone, shown}
+use Rattle.ycli.specs.Transcript.{Replies, Transcript, Continues, Tells}
+use Rattle.ycli.specs.Serving.{ChunkTells, ReadTells, Ends}
+use Rattle.ycli.proofs.Sent.{Sends-then, Sends-stop, Sends-nothing}
+use Rattle.ycli.proofs.Lines.{whole_after-append, rest_after-append, whole_after-newline, rest_after-newline, whole_after-byte, rest_after-byte, take-front, command_of-front}
+
+-- ---- there is always a text
+
+pub steps_some : (m : Machine) (h : History) (o : Option (StepKind × Configuration)) → next m h.now ≡ o → (position h < 1000000) ⊎ (1000000 ≤ position h)
+    → (result : Result StepKind StepFault) × (new : History) × Steps m h result new
+steps_some m h None e p = (Err Halted, h, (e, refl))
+steps_some m h (Some s) e (inl p) = (Err Memory, h, (subst (λ (x : Option (StepKind × Configuration)). IsSome x) (sym e) refl, p, refl))
+steps_some m h (Some s) e (inr p) = (Err Limit, h, (subst (λ (x : Option (StepKind × Configuration)). IsSome x) (sym e) refl, p, refl))
+
+pub step_replies : (m : Machine) (h : History) → (text : List ℕ) × (new : History) × Reply m h Step text new
+step_replies m h = let (result, new, s) = steps_some m h (next m h.now) refl (cases_lt (position h) 1000000) in (step_text m new result, new, (result, s, refl))
+
+pub continues : (m : Machine) (h mid : History) (command : Command) (later : History → List ℕ → Type 0) (text reply more : List ℕ) → Reply m h command reply mid → text ≡ reply ++ more → later mid more
+    → Continues m h command later text
+continues m h mid Step later text reply more r e l = (reply, more, mid, r, e, l)
+continues m h mid (Back n) later text reply more r e l = (reply, more, mid, r, e, l)
+continues m h mid Show later text reply more r e l = (reply, more, mid, r, e, l)
+continues m h mid Unknown later text reply more r e l = (reply, more, mid, r, e, l)
+continues m h mid Quit later text reply more r e l = absurd r
+
+pub continues_quit : (m : Machine) (h : History) (command : Command) (later : History → List ℕ → Type 0) → command ≡ Quit → Continues m h command later []
+continues_quit m h command later e = subst (λ (x : Command). Continues m h x later []) (sym e) refl
+
+pub continues_some : (m : Machine) (h : History) (command : Command) (later : History → List ℕ → Type 0) → ((mid : History) → (more : List ℕ) × later mid more) → (text : List ℕ) × Continues m h command later text
+continues_some m h Step later f =
+    let (reply, mid, r) = step_replies m h in
+    let (more, l) = f mid in
+    (reply ++ more, (reply, more, mid, r, refl, l))
+continues_some m h (Back n) later f =
+    let reply : List ℕ = undo_text m n false h.past in
+    let mid : History = undone n h.now h.past in
+    let (more, l) = f mid in
+    (reply ++ more, (reply, more, mid, (refl, refl), refl, l))
+continues_some m h Show later f = let (more, l) = f h in (shown m h ++ more, (shown m h, more, h, (refl, refl), refl, l))
+continues_some m h Unknown later f = let (more, l) = f h in let reply : List ℕ = codes "unknown command\n" in (reply ++ more, (reply, more, h, (refl, refl), refl, l))
+continues_some m h Quit later f = ([], refl)
+
+pub Transcript-some : (m : Machine) (h : History) (lines : List (List ℕ)) → (text : List ℕ) × Transcript m h lines text
+Transcript-some m h [] = ([], refl)
+Transcript-some m h (line ∷ lines) = continues_some m h (command_of line) (λ mid more. Transcript m mid lines more) (λ mid. Transcript-some m mid lines)
+
+-- ---- lines that were answered, and what comes later
+
+pub Replies-line : (m : Machine) (h new : History) (line reply : List ℕ) → Reply m h (command_of line) reply new → Replies m h (line ∷ []) reply new
+Replies-line m h new line reply r = (reply, [], new, r, sym (append-nil reply), (refl, refl))
+
+pub Replies-after : (m : Machine) (h mid new : History) (lines others : List (List ℕ)) (text more : List ℕ) → Replies m h lines text mid → Replies m mid others more new
+    → Replies m h (lines ++ others) (text ++ more) new
+Replies-after m h mid new [] others text more (e, f) q =
+    subst (λ (x : History). Replies m x others (text ++ more) new) f (subst (λ (t : List ℕ). Replies m mid others (t ++ more) new) (sym e) q)
+Replies-after m h mid new (line ∷ lines) others text more (reply, rest, next, r, e, p) q =
+    (reply, rest ++ more, next, r, ap (λ (t : List ℕ). t ++ more) e ∙ append_assoc reply rest more, Replies-after m next mid new lines others rest more p q)
+
+pub Transcript-after : (m : Machine) (h mid : History) (lines others : List (List ℕ)) (text more : List ℕ) → Replies m h lines text mid → Transcript m mid others more
+    → Transcript m h (lines ++ others) (text ++ more)
+Transcript-after m h mid [] others text more (e, f) q =
+    subst (λ (x : History). Transcript m x others (text ++ more)) f (subst (λ (t : List ℕ). Transcript m mid others (t ++ more)) (sym e) q)
+Transcript-after m h mid (line ∷ lines) others text more (reply, rest, next, r, e, p) q =
+    continues m h next (command_of line) (λ x t. Transcript m x (lines ++ others) t) (text ++ more) reply (rest ++ more) r
+    (ap (λ (t : List ℕ). t ++ more) e ∙ append_assoc reply rest more) (Transcript-after m next mid lines others rest more p q)
+
+-- the line that came so far, as its command
+pub held-command : (line held : List ℕ) → held ≡ take 4097 line → command_of held ≡ command_of line
+held-command line held e = ap command_of e ∙ command_of-front 4097 line refl
+
+module _ {W : Type 0} (contents : W → Option (List ℕ)) where
+  -- ---- one byte
+
+  pub chunk_line : (a b c : Link W) (m : Machine) (h mid new : History) (line bytes held empty : List ℕ) (byte : ℕ) → ChunkTells contents a b (Some true) m h line bytes mid held → byte ≡ 10
+      → Answers contents b c true m mid (command_of held) new → empty ≡ [] → ChunkTells contents a c (Some true) m h line (bytes ++ byte ∷ []) new empty
+  chunk_line a b c m h mid new line bytes held empty byte (text, r, s, k) e (reply, q, p) f =
+      let told : Reply m mid (command_of (rest_after line bytes)) reply new = subst (λ (x : Command). Reply m mid x reply new) (held-command (rest_after line bytes) held k) q in
+      let joined : Replies m h (whole_after line bytes ++ rest_after line bytes ∷ []) (text ++ reply) new =
+          Replies-after m h mid new (whole_after line bytes) (rest_after line bytes ∷ []) text reply r (Replies-line m mid new (rest_after line bytes) reply told) in
+      (text ++ reply,
+        subst (λ (ls : List (List ℕ)). Replies m h ls (text ++ reply) new) (sym (whole_after-newline line bytes [] byte e)) joined,
+        Sends-then contents a b c true text reply s p,
+        f ∙ sym (ap (take 4097) (rest_after-newline line bytes byte e)))
+
+  pub chunk_byte : (a b : Link W) (m : Machine) (h mid : History) (line bytes held more : List ℕ) (byte : ℕ) → ChunkTells contents a b (Some true) m h line bytes mid held → (byte == 10) ≡ false
+      → more ≡ take 4097 (held ++ byte ∷ []) → ChunkTells contents a b (Some true) m h line (bytes ++ byte ∷ []) mid more
+  chunk_byte a b m h mid line bytes held more byte (text, r, s, k) e f =
+      (text,
+        subst (λ (ls : List (List ℕ)). Replies m h ls text mid) (sym (whole_after-byte line bytes byte e)) r,
+        s,
+        f ∙ ap (λ (l : List ℕ). take 4097 (l ++ byte ∷ [])) k ∙ take-front 4097 (rest_after line bytes) (byte ∷ []) ∙ sym (ap (take 4097) (rest_after-byte line bytes byte e)))
+
+  pub chunk_quit : (a b c : Link W) (m : Machine) (h mid new : History) (line bytes held all rest last : List ℕ) (byte : ℕ) → ChunkTells contents a b (Some true) m h line bytes mid held → byte ≡ 10
+      → all ≡ bytes ++ byte ∷ rest → command_of held ≡ Quit → c ≡ b → ChunkTells contents a c (Some false) m h line all new last
+  chunk_quit a b c m h mid new line bytes held all rest last byte (text, r, s, k) e g q same =
+      (text,
+        (λ others.
+            let ends : Transcript m mid ((rest_after line bytes ∷ whole_after [] rest) ++ others) [] =
+                continues_quit m mid (command_of (rest_after line bytes)) _ (sym (held-command (rest_after line bytes) held k) ∙ q) in
+            let joined = Transcript-after m h mid (whole_after line bytes) ((rest_after line bytes ∷ whole_after [] rest) ++ others) text [] r ends in
+            let lines : whole_after line bytes ++ ((rest_after line bytes ∷ whole_after [] rest) ++ others) ≡ whole_after line all ++ others =
+                sym (append_assoc (whole_after line bytes) (rest_after line bytes ∷ whole_after [] rest) others)
+                ∙ ap (λ (ls : List (List ℕ)). ls ++ others) (sym (ap (whole_after line) g ∙ whole_after-newline line bytes rest byte e)) in
+            subst (λ (t : List ℕ). Transcript m h (whole_after line all ++ others) t) (append-nil text) (subst (λ (ls : List (List ℕ)). Transcript m h ls (text ++ [])) lines joined)),
+        subst (λ (x : Link W). Sends contents a x true text) (sym same) s)
+
+  pub chunk_fault : (a b c : Link W) (m : Machine) (h mid now new : History) (line bytes held all rest last : List ℕ) (byte : ℕ) → ChunkTells contents a b (Some true) m h line bytes mid held → byte ≡ 10
+      → all ≡ bytes ++ byte ∷ rest → Answers contents b c false m mid (command_of held) now → ChunkTells contents a c None m h line all new last
+  chunk_fault a b c m h mid now new line bytes held all rest last byte (text, r, s, k) e g (reply, left, q, p) = λ others.
+      let told : Reply m mid (command_of (rest_after line bytes)) reply left = subst (λ (x : Command). Reply m mid x reply left) (held-command (rest_after line bytes) held k) q in
+      let (more, t) = Transcript-some m left (whole_after [] rest ++ others) in
+      let ends : Transcript m mid ((rest_after line bytes ∷ whole_after [] rest) ++ others) (reply ++ more) =
+          continues m mid left (command_of (rest_after line bytes)) (λ x l. Transcript m x (whole_after [] rest ++ others) l) (reply ++ more) reply more told refl t in
+      let joined = Transcript-after m h mid (whole_after line bytes) ((rest_after line bytes ∷ whole_after [] rest) ++ others) text (reply ++ more) r ends in
+      let lines : whole_after line bytes ++ ((rest_after line bytes ∷ whole_after [] rest) ++ others) ≡ whole_after line all ++ others =
+          sym (append_assoc (whole_after line bytes) (rest_after line bytes ∷ whole_after [] rest) others)
+          ∙ ap (λ (ls : List (List ℕ)). ls ++ others) (sym (ap (whole_after line) g ∙ whole_after-newline line bytes rest byte e)) in
+      (text ++ (reply ++ more),
+        subst (λ (ls : List (List ℕ)). Transcript m h ls (text ++ (reply ++ more))) lines joined,
+        Sends-then contents a b c false text (reply ++ more) s (Sends-stop contents b c reply more p))
+
+  -- ---- one read
+
+  pub lines-more : (taken bytes : List ℕ) → whole_lines (taken ++ bytes) ≡ whole_lines taken ++ whole_after (rest_line taken) bytes
+  lines-more taken bytes = whole_after-append [] taken bytes
+
+  pub read_on : (a b c : Link W) (m : Machine) (h mid new : History) (taken text bytes held : List ℕ) → Replies m h (whole_lines taken) text mid → Sends contents a b true text
+      → ChunkTells contents b c (Some true) m mid (rest_line taken) bytes new held
+      → (more : List ℕ) × Replies m h (whole_lines (taken ++ bytes)) (text ++ more) new × Sends contents a c true (text ++ more) × (held ≡ take 4097 (rest_line (taken ++ bytes)))
+  read_on a b c m h mid new taken text bytes held r s (more, q, p, k) =
+      (more,
+        subst (λ (ls : List (List ℕ)). Replies m h ls (text ++ more) new) (sym (lines-more taken bytes)) (Replies-after m h mid new (whole_lines taken) (whole_after (rest_line taken) bytes) text more r q),
+        Sends-then contents a b c true text more s p,
+        k ∙ sym (ap (take 4097) (rest_after-append [] taken bytes)))
+
+  pub read_quit : (a b c : Link W) (m : Machine) (h mid new : History) (taken text bytes held : List ℕ) → Replies m h (whole_lines taken) text mid → Sends contents a b true text
+      → ChunkTells contents b c (Some false) m mid (rest_line taken) bytes new held
+      → (whole : List ℕ) × ((others : List (List ℕ)) → Transcript m h (whole_lines (taken ++ bytes) ++ others) whole) × Sends contents a c true whole
+  read_quit a b c m h mid new taken text bytes held r s (more, q, p) =
+      (text ++ more,
+        (λ others.
+            let joined = Transcript-after m h mid (whole_lines taken) (whole_after (rest_line taken) bytes ++ others) text more r (q others) in
+            let lines : whole_lines taken ++ (whole_after (rest_line taken) bytes ++ others) ≡ whole_lines (taken ++ bytes) ++ others =
+                sym (append_assoc (whole_lines taken) (whole_after (rest_line taken) bytes) others) ∙ ap (λ (ls : List (List ℕ)). ls ++ others) (sym (lines-more taken bytes)) in
+            subst (λ (ls : List (List ℕ)). Transcript m h ls (text ++ more)) lines joined),
+        Sends-then contents a b c true text more s p)
+
+  pub read_fault : (a b c : Link W) (m : Machine) (h mid new : History) (taken text bytes held : List ℕ) → Replies m h (whole_lines taken) text mid → Sends contents a b true text
+      → ChunkTells contents b c None m mid (rest_line taken) bytes new held
+      → (others : List (List ℕ)) → (whole : List ℕ) × Transcript m h (whole_lines (taken ++ bytes) ++ others) whole × Sends contents a c false whole
+  read_fault a b c m h mid new taken text bytes held r s q others =
+      let (more, t, p) = q others in
+      let joined = Transcript-after m h mid (whole_lines taken) (whole_after (rest_line taken) bytes ++ others) text more r t in
+      let lines : whole_lines taken ++ (whole_after (rest_line taken) bytes ++ others) ≡ whole_lines (taken ++ bytes) ++ others =
+          sym (append_assoc (whole_lines taken) (whole_after (rest_line taken) bytes) others) ∙ ap (λ (ls : List (List ℕ)). ls ++ others) (sym (lines-more taken bytes)) in
+      (text ++ more, subst (λ (ls : List (List ℕ)). Transcript m h ls (text ++ more)) lines joined, Sends-then contents a b c false text more s p)
+
+module _ {W : Type 0} (contents : W → Option (List ℕ)) where
+  -- what a line was answered, by the session's own machine and the line that is held
+  pub answers_held : (b c : Link W) (r r2 : Option Bool) (m m2 : Machine) (h new : History) (line held : List ℕ) → m2 ≡ m → line ≡ held → r ≡ r2
+      → AnswersLine contents b c r m2 h (command_of line) new → AnswersLine contents b c r2 m h (command_of held) new
+  answers_held b c r r2 m m2 h new line held e f g q =
+      let moved : AnswersLine contents b c r m h (command_of line) new = subst (λ (x : Machine). AnswersLine contents b c r x h (command_of line) new) e q in
+      let told : AnswersLine contents b c r m h (command_of held) new = subst (λ (x : List ℕ). AnswersLine contents b c r m h (command_of x) new) f moved in
+      subst (λ (x : Option Bool). AnswersLine contents b c x m h (command_of held) new) g told
+
+  -- ---- a last line that lacks its newline
+
+  pub ends_empty : (a : Link W) (m : Machine) (h : History) (line held : List ℕ) → held ≡ take 4097 line → held ≡ [] → Ends contents a a true m h line
+  ends_empty a m h [] held e f = ([], refl, Sends-nothing contents a)
+  ends_empty a m h (b ∷ bs) held e f = let bad : [] ≡ b ∷ take 4096 bs = sym f ∙ e in cc
+
+  pub ends_line : (a b : Link W) (m : Machine) (h new : History) (line held : List ℕ) (goes_on : Bool) → held ≡ take 4097 line → (held ≡ [] → ⊥) → AnswersLine contents a b (Some goes_on) m h (command_of held) new
+      → Ends contents a b true m h line
+  ends_line a b m h new [] held goes_on e f q = absurd (f e)
+  ends_line a b m h new (x ∷ xs) held true e f (text, r, s) =
+      let told : Reply m h (command_of (x ∷ xs)) text new = subst (λ (y : Command). Reply m h y text new) (held-command (x ∷ xs) held e) r in
+      (text, continues m h new (command_of (x ∷ xs)) (λ y t. Transcript m y [] t) text text [] told (sym (append-nil text)) refl, s)
+  ends_line a b m h new (x ∷ xs) held false e f (q, now, same) =
+      ([], continues_quit m h (command_of (x ∷ xs)) _ (sym (held-command (x ∷ xs) held e) ∙ q), subst (λ (y : Link W). Sends contents a y true []) (sym same) (Sends-nothing contents a))
+
+  pub ends_fault : (a b : Link W) (m : Machine) (h new : History) (line held : List ℕ) → held ≡ take 4097 line → (held ≡ [] → ⊥) → AnswersLine contents a b None m h (command_of held) new
+      → Ends contents a b false m h line
+  ends_fault a b m h new [] held e f q = absurd (f e)
+  ends_fault a b m h new (x ∷ xs) held e f (text, left, r, s) =
+      let told : Reply m h (command_of (x ∷ xs)) text left = subst (λ (y : Command). Reply m h y text left) (held-command (x ∷ xs) held e) r in
+      (text, continues m h left (command_of (x ∷ xs)) (λ y t. Transcript m y [] t) text text [] told (sym (append-nil text)) refl, s)
+
+-- ---- the whole input
+
+pub if_some : (o : Option (List ℕ)) (P : List ℕ → Type 0) → ((input : List ℕ) → o ≡ Some input → P input) → IfSome o P
+if_some None P f = tt
+if_some (Some input) P f = f input refl
+
+-- the lines of an input of which some was taken
+pub lines_of-parts : (taken rest : List ℕ) → lines_of (taken ++ rest) ≡ whole_lines taken ++ (whole_after (rest_line taken) rest ++ last_line (rest_after (rest_line taken) rest))
+lines_of-parts taken rest =
+    ap (λ (ls : List (List ℕ)). ls ++ last_line (rest_line (taken ++ rest))) (whole_after-append [] taken rest)
+    ∙ append_assoc (whole_lines taken) (whole_after (rest_line taken) rest) (last_line (rest_line (taken ++ rest)))
+    ∙ ap (λ (l : List ℕ). whole_lines taken ++ (whole_after (rest_line taken) rest ++ last_line l)) (rest_after-append [] taken rest)
+
+-- what was taken begins the input
+pub taken_of : (input taken : List ℕ) (left : Option (List ℕ)) → Consumes (Some input) left taken → (rest : List ℕ) × (left ≡ Some rest) × (input ≡ taken ++ rest)
+taken_of input taken None p = absurd p
+taken_of input taken (Some rest) p = (rest, refl, p)
+
+-- at the end all was taken
+pub all_taken : (input taken : List ℕ) (left : Option (List ℕ)) → Consumes (Some input) left taken → IsAtEnd left ⊎ (2 ^ 64 - 1 ≤ length taken) → length input < 2 ^ 63 → input ≡ taken
+all_taken input taken None p q h = absurd p
+all_taken input taken (Some rest) p (inl e) h = p ∙ ap (λ (l : List ℕ). taken ++ l) e ∙ append-nil taken
+all_taken input taken (Some rest) p (inr k) h = absurd (omega (arith, ap length p, length-append taken rest))
+
+module _ {W : Type 0} (contents : W → Option (List ℕ)) where
+  pub tells_read : (old new : Link W) (m : Machine) (h now : History) (input held : List ℕ) (before left : Option (List ℕ)) → before ≡ Some input
+      → ReadTells contents old new before left (Err faults.Read) m h now held → Tells m h input left (contents (device_of old)) (contents (device_of new)) (Err faults.Read)
+  tells_read old new m h now input held before left e (taken, text, p, r, s) =
+      let taken_here : Consumes (Some input) left taken = subst (λ (o : Option (List ℕ)). Consumes o left taken) e p in
+      let whole : Transcript m h (whole_lines taken ++ []) (text ++ []) = Transcript-after m h now (whole_lines taken) [] text [] r refl in
+      (taken, text, taken_here,
+        subst (λ (t : List ℕ). Transcript m h (whole_lines taken) t) (append-nil text) (subst (λ (ls : List (List ℕ)). Transcript m h ls (text ++ [])) (append-nil (whole_lines taken)) whole),
+        s.bytes)
+
+  pub tells_write : (old new : Link W) (m : Machine) (h now : History) (input held : List ℕ) (before left : Option (List ℕ)) → before ≡ Some input
+      → ReadTells contents old new before left (Err faults.Write) m h now held → Tells m h input left (contents (device_of old)) (contents (device_of new)) (Err faults.Write)
+  tells_write old new m h now input held before left e (taken, p, q) =
+      let (rest, f, g) = taken_of input taken left (subst (λ (o : Option (List ℕ)). Consumes o left taken) e p) in
+      let (text, t, s) = q (whole_after (rest_line taken) rest ++ last_line (rest_after (rest_line taken) rest)) in
+      (text, subst (λ (ls : List (List ℕ)). Transcript m h ls text) (sym (ap lines_of g ∙ lines_of-parts taken rest)) t, s.bytes)
+
+  pub tells_err : (old new : Link W) (m : Machine) (h now : History) (input held : List ℕ) (before left : Option (List ℕ)) (fault : SessionFault) → before ≡ Some input
+      → ReadTells contents old new before left (Err fault) m h now held → Tells m h input left (contents (device_of old)) (contents (device_of new)) (Err fault)
+  tells_err old new m h now input held before left faults.Read e r = tells_read old new m h now input held before left e r
+  tells_err old new m h now input held before left faults.Write e r = tells_write old new m h now input held before left e r
+
+  pub tells_quit : (old new : Link W) (m : Machine) (h now : History) (input held : List ℕ) (before left : Option (List ℕ)) → before ≡ Some input
+      → ReadTells contents old new before left (Ok false) m h now held → Tells m h input left (contents (device_of old)) (contents (device_of new)) (Ok tt)
+  tells_quit old new m h now input held before left e (taken, text, p, q, s) =
+      let (rest, f, g) = taken_of input taken left (subst (λ (o : Option (List ℕ)). Consumes o left taken) e p) in
+      let others : List (List ℕ) = whole_after (rest_line taken) rest ++ last_line (rest_after (rest_line taken) rest) in
+      (text, subst (λ (ls : List (List ℕ)). Transcript m h ls text) (sym (ap lines_of g ∙ lines_of-parts taken rest)) (q others), s.bytes)
+
+  -- the whole lines were answered, and then the last one, or a beginning of its text was sent
+  pub tells_last : (old mid new : Link W) (whole : Bool) (m : Machine) (h now : History) (input held : List ℕ) (before left : Option (List ℕ)) → before ≡ Some input → length input < 2 ^ 63
+      → ReadTells contents old mid before left (Ok true) m h now held → ((line : List ℕ) → held ≡ take 4097 line → Ends contents mid new whole m now line)
+      → (text : List ℕ) × Transcript m h (lines_of input) text × Sends contents old new whole text
+  tells_last old mid new whole m h now input held before left e small (taken, text, p, q, r, s, k) f =
+      let all : input ≡ taken = all_taken input taken left (subst (λ (o : Option (List ℕ)). Consumes o left taken) e p) q small in
+      let (more, t, u) = f (rest_line taken) k in
+      let told : Transcript m h (lines_of taken) (text ++ more) = Transcript-after m h now (whole_lines taken) (last_line (rest_line taken)) text more r t in
+      (text ++ more, subst (λ (x : List ℕ). Transcript m h (lines_of x) (text ++ more)) (sym all) told, Sends-then contents old mid new whole text more s u)

@@ -1,0 +1,13 @@
+pub mod Link
+pub mod Sends
+pub mod Machine
+pub mod Tables
+pub mod History
+pub mod Snapshots
+pub mod View
+pub mod Session
+pub mod Command
+pub mod Lines
+pub mod Reply
+pub mod Transcript
+pub mod Serving

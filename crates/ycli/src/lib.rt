@@ -1,0 +1,16 @@
+//! The session engine of the parse stepper, and what a program does but for its exit.
+#![tactic(auto)]
+
+mod command;
+pub mod fault;
+mod held;
+pub mod link;
+pub mod machine;
+mod put;
+mod reply;
+pub mod run;
+pub mod session;
+mod snapshot;
+pub mod tables;
+pub mod tokens;
+pub mod view;

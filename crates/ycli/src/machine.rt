@@ -1,0 +1,85 @@
+//! The words of a parse: what a cell says, the kinds of steps, the modes, the refusals.
+
+ghost use Rattle.std.specs.Prelude.{◌≡◌};
+
+use std::alloc::AllocError;
+use thiserror::Error;
+
+/// A symbol's number: `$end` is 0, `error` is 1, the other tokens follow, then the nonterminals.
+pub type Sym = usize;
+
+/// What a cell of the tables says.
+#[derive(Clone, Copy, Debug, PartialEq, Eq)]
+pub enum Action {
+    /// The token goes to the stack, and this is the state then.
+    Shift(usize),
+    /// The body of this rule is replaced by its left side.
+    Reduce(usize),
+    /// The input is accepted.
+    Accept,
+    /// The input is in error.
+    Error,
+}
+
+/// What a parse is doing.
+#[derive(Clone, Copy, Debug, PartialEq, Eq)]
+pub enum Mode {
+    /// It goes by the cells.
+    Running,
+    /// It looks for a state in which `error` can be shifted.
+    Popping,
+    /// It has accepted its input.
+    Accepted,
+    /// It has given up.
+    Failed,
+}
+
+/// The kind of a step.
+#[derive(Clone, Copy, Debug, PartialEq, Eq)]
+pub enum StepKind {
+    /// This token went to the stack.
+    Shift(Sym),
+    /// The body of this rule was replaced by its left side.
+    Reduce(usize),
+    /// The input was accepted.
+    Accept,
+    /// An error was detected.
+    Detect,
+    /// This symbol was dropped from the stack.
+    Pop(Sym),
+    /// `error` went to the stack.
+    ShiftError,
+    /// This token was dropped from the input.
+    Discard(Sym),
+    /// The parse gave up.
+    Fail,
+}
+
+/// Why a step is refused. A refused step changes nothing.
+#[derive(Clone, Copy, Debug, PartialEq, Eq, Error)]
+pub enum StepFault {
+    /// S1: the mode is accepted or failed.
+    #[error("the parse has halted")]
+    Halted,
+    /// S2: the position is 1,000,000.
+    #[error("the position is at its limit")]
+    Limit,
+    /// S3: a growth was refused.
+    #[error("no memory")]
+    Memory,
+}
+
+impl From<AllocError> for StepFault {
+    ghost use Rattle.ycli.specs.declared.machine.StepFault.TheVariants.{Memory};
+
+    ghost from_gives = { λ _ e. e ≡ Memory };
+
+    fn from(_refused: AllocError) -> StepFault {
+        StepFault::Memory
+    }
+}
+
+/// Why an undo is refused: the position is 0.
+#[derive(Clone, Copy, Debug, PartialEq, Eq, Error)]
+#[error("the parse is at its start")]
+pub struct AtStart;

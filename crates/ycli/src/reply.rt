@@ -1,0 +1,210 @@
+//! The replies to commands.
+
+ghost use Rattle.std.specs.Prelude.{◌≡◌, ◌≢◌, List, ℕ, length, is_some, Some, decimal, map, drop, ◌∷◌, ◌++◌, codes};
+ghost use Rattle.ycli.specs.declared.command.Command.TheVariants as commands;
+ghost use Rattle.ycli.specs.Link.{has_failed};
+ghost use Rattle.ycli.specs.Sends.{Sends};
+ghost use Rattle.ycli.specs.Serving.{chunk_failed};
+ghost use Rattle.ycli.specs.History.{position};
+ghost use Rattle.ycli.specs.Session.{machine_of, history_of};
+ghost use Rattle.ycli.specs.View.{shown_by};
+ghost use Rattle.ycli.specs.Command.{command_of};
+ghost use Rattle.ycli.specs.Reply.{step_line, refusal, kind_word, kind_tail, mode_word, shown, spaced, shown_head, shown_stack, shown_rest, shown_counts, Answers, AnswersLine};
+
+use crate::command::{Command, command_in};
+use crate::link::Link;
+use crate::machine::{AtStart, Mode, StepFault, StepKind, Sym};
+use crate::put::{put, put_all};
+use crate::session::Session;
+use std::io::Write;
+
+/// The words of a step.
+fn kind_word(kind: StepKind) -> &'static [u8]
+    ensures { result.now ≡ kind_word kind }
+{
+    match kind {
+        StepKind::Shift(_) => b"shift ",
+        StepKind::Reduce(_) => b"reduce ",
+        StepKind::Accept => b"accept",
+        StepKind::Detect => b"detect",
+        StepKind::Pop(_) => b"pop ",
+        StepKind::ShiftError => b"shift error",
+        StepKind::Discard(_) => b"discard ",
+        StepKind::Fail => b"fail",
+    }
+}
+
+fn mode_word(mode: Mode) -> &'static [u8]
+    ensures { result.now ≡ mode_word mode }
+{
+    match mode {
+        Mode::Running => b"running",
+        Mode::Popping => b"popping",
+        Mode::Accepted => b"accepted",
+        Mode::Failed => b"failed",
+    }
+}
+
+/// What a refused step writes.
+fn refusal(fault: StepFault) -> &'static [u8]
+    ensures { result.now ≡ refusal fault }
+{
+    match fault {
+        StepFault::Halted => b"halted\n",
+        StepFault::Limit => b"limit\n",
+        StepFault::Memory => b"no memory\n",
+    }
+}
+
+/// The name or the rule number that follows the words of a step.
+fn kind_tail<'a>(session: &'a Session, kind: StepKind, digits: &'a mut itoa::Buffer) -> &'a [u8]
+    ensures { result.now ≡ kind_tail (machine_of session.now) kind }
+{
+    match kind {
+        StepKind::Shift(symbol) => session.name(symbol),
+        StepKind::Pop(symbol) => session.name(symbol),
+        StepKind::Discard(symbol) => session.name(symbol),
+        StepKind::Reduce(rule) => digits.format(rule).as_bytes(),
+        StepKind::Accept => b"",
+        StepKind::Detect => b"",
+        StepKind::ShiftError => b"",
+        StepKind::Fail => b"",
+    }
+}
+
+/// Four pieces and a newline.
+fn put_line<'a, W: Write>(writer: &mut Link<W>, at: &'a [u8], between: &'a [u8], words: &'a [u8], tail: &'a [u8]) -> Option<()>
+    ensures { Sends W.contents writer.old writer.new (is_some result) (at.now ++ (between.now ++ (words.now ++ (tail.now ++ codes "\n")))) }
+{
+    put_all(writer, &[at, between, words, tail, b"\n"])
+}
+
+/// The position, what stands between, and the words of a step.
+fn put_step<W: Write>(session: &Session, writer: &mut Link<W>, between: &[u8], kind: StepKind) -> Option<()>
+    ensures { Sends W.contents writer.old writer.new (is_some result) (step_line (machine_of session.now) (position (history_of session.now)) between.now kind) }
+{
+    let mut at = itoa::Buffer::new();
+    let mut rule = itoa::Buffer::new();
+    let digits = at.format(session.position()).as_bytes();
+    let tail = kind_tail(session, kind, &mut rule);
+    put_line(writer, digits, between, kind_word(kind), tail)
+}
+
+/// One step, with its line, or with the reason for which there is none.
+fn step<W: Write>(session: &mut Session, writer: &mut Link<W>) -> Option<()>
+    ensures answers { Answers W.contents writer.old writer.new (is_some result) (machine_of session.old) (history_of session.old) commands.Step (history_of session.new) }
+    ensures machine { machine_of session.new ≡ machine_of session.old }
+{
+    match session.step() {
+        Ok(kind) => put_step(session, writer, b" ", kind),
+        Err(fault) => put(writer, refusal(fault)),
+    }
+}
+
+/// At most so many undos, with a line for each.
+fn back<W: Write>(session: &mut Session, writer: &mut Link<W>, count: usize) -> Option<()>
+    ensures answers { Answers W.contents writer.old writer.new (is_some result) (machine_of session.old) (history_of session.old) (commands.Back count) (history_of session.new) }
+    ensures machine { machine_of session.new ≡ machine_of session.old }
+{
+    let mut made = false;
+    for _i in 0..count {
+        match session.back() {
+            Ok(kind) => put_step(session, writer, b" undo ", kind)?,
+            Err(AtStart) if made => return Some(()),
+            Err(AtStart) => return put(writer, b"at start\n"),
+        }
+        made = true;
+    }
+    Some(())
+}
+
+/// The position and the mode.
+fn put_head<W: Write>(session: &Session, writer: &mut Link<W>) -> Option<()>
+    ensures { Sends W.contents writer.old writer.new (is_some result) (shown_head (history_of session.now)) }
+{
+    let mut at = itoa::Buffer::new();
+    let digits = at.format(session.position()).as_bytes();
+    put_all(writer, &[digits, b" ", mode_word(session.view().mode()), b"\nstack:"])
+}
+
+/// A space and a name.
+fn put_name<W: Write>(session: &Session, writer: &mut Link<W>, symbol: Sym) -> Option<()>
+    ensures { Sends W.contents writer.old writer.new (is_some result) (32 ∷ (machine_of session.now).name symbol) }
+{
+    put_all(writer, &[b" ", session.name(symbol)])
+}
+
+/// The symbols of the stack from the bottom.
+fn put_stack<W: Write>(session: &Session, writer: &mut Link<W>) -> Option<()>
+    ensures { Sends W.contents writer.old writer.new (is_some result) (shown_stack (machine_of session.now) (history_of session.now)) }
+{
+    let view = session.view();
+    for index in 0..view.stack_len() {
+        put_name(session, writer, view.stack(index))?;
+    }
+    Some(())
+}
+
+/// The tokens that are left.
+fn put_rest<W: Write>(session: &Session, writer: &mut Link<W>) -> Option<()>
+    ensures { Sends W.contents writer.old writer.new (is_some result) (shown_rest (machine_of session.now) (history_of session.now)) }
+{
+    let view = session.view();
+    for index in 0..view.rest_len() {
+        let (token, _place) = view.rest(index);
+        put_name(session, writer, token)?;
+    }
+    Some(())
+}
+
+/// The recovery counter and the errors reported.
+fn put_counts<W: Write>(session: &Session, writer: &mut Link<W>) -> Option<()>
+    ensures { Sends W.contents writer.old writer.new (is_some result) (shown_counts (history_of session.now)) }
+{
+    let view = session.view();
+    let mut counter = itoa::Buffer::new();
+    let mut errors = itoa::Buffer::new();
+    let counter = counter.format(view.counter()).as_bytes();
+    let errors = errors.format(view.errors()).as_bytes();
+    put_all(writer, &[b"\ncounter: ", counter, b"\nerrors: ", errors, b"\n"])
+}
+
+/// The five lines of the configuration now.
+fn put_shown<W: Write>(session: &Session, writer: &mut Link<W>) -> Option<()>
+    ensures { Sends W.contents writer.old writer.new (is_some result) (shown (machine_of session.now) (history_of session.now)) }
+{
+    put_head(session, writer)?;
+    put_stack(session, writer)?;
+    put(writer, b"\nrest:")?;
+    put_rest(session, writer)?;
+    put_counts(session, writer)
+}
+
+/// The reply to a command other than `quit`.
+fn reply<W: Write>(session: &mut Session, command: Command, writer: &mut Link<W>) -> Option<()>
+    requires { command ≢ commands.Quit }
+    ensures answers { Answers W.contents writer.old writer.new (is_some result) (machine_of session.old) (history_of session.old) command (history_of session.new) }
+    ensures machine { machine_of session.new ≡ machine_of session.old }
+{
+    match command {
+        Command::Step => step(session, writer),
+        Command::Back(count) => back(session, writer, count),
+        Command::Show => put_shown(session, writer),
+        Command::Quit => unreachable!(),
+        Command::Unknown => put(writer, b"unknown command\n"),
+    }
+}
+
+/// Answers a line, and flushes the writer. `Some(false)` is `quit`, and `None` a failed link.
+pub(crate) fn answer<W: Write>(session: &mut Session, line: &[u8], writer: &mut Link<W>) -> Option<bool>
+    ensures answers { AnswersLine W.contents writer.old writer.new result (machine_of session.old) (history_of session.old) (command_of line.now) (history_of session.new) }
+    ensures machine { machine_of session.new ≡ machine_of session.old }
+    ensures failed { has_failed writer.new ≡ chunk_failed result (has_failed writer.old) }
+{
+    let command = command_in(line);
+    if command == Command::Quit {
+        return Some(false);
+    }
+    reply(session, command, writer)?;
+    if writer.flush() { Some(true) } else { None }
+}
