@@ -3,3 +3,4 @@ mod Places
 mod Lines
 mod Replying
 mod Transcripts
+mod OneOutcome

@@ -20,7 +20,7 @@ pub whole_after-append : (line xs ys : List ℕ) → whole_after line (xs ++ ys)
 whole_after-append line [] ys = refl
 whole_after-append line (x ∷ xs) ys =
     elim (x == 10) as (λ v. (if v then line ∷ whole_after [] (xs ++ ys) else whole_after (line ++ x ∷ []) (xs ++ ys))
-      ≡ (if v then line ∷ whole_after [] xs else whole_after (line ++ x ∷ []) xs) ++ whole_after (if v then rest_after [] xs else rest_after (line ++ x ∷ []) xs) ys) [
+    ≡ (if v then line ∷ whole_after [] xs else whole_after (line ++ x ∷ []) xs) ++ whole_after (if v then rest_after [] xs else rest_after (line ++ x ∷ []) xs) ys) [
       | true ↦ ap (λ (l : List (List ℕ)). line ∷ l) (whole_after-append [] xs ys)
       | false ↦ whole_after-append (line ++ x ∷ []) xs ys
     ]
@@ -29,7 +29,7 @@ pub rest_after-append : (line xs ys : List ℕ) → rest_after line (xs ++ ys) �
 rest_after-append line [] ys = refl
 rest_after-append line (x ∷ xs) ys =
     elim (x == 10) as (λ v. (if v then rest_after [] (xs ++ ys) else rest_after (line ++ x ∷ []) (xs ++ ys))
-      ≡ rest_after (if v then rest_after [] xs else rest_after (line ++ x ∷ []) xs) ys) [
+    ≡ rest_after (if v then rest_after [] xs else rest_after (line ++ x ∷ []) xs) ys) [
       | true ↦ rest_after-append [] xs ys
       | false ↦ rest_after-append (line ++ x ∷ []) xs ys
     ]
@@ -66,8 +66,8 @@ command_of-front n line e =
     elim (cases_lt n (length line)) [
       | inr h ↦ ap command_of (take_all n line h)
       | inl h ↦
-        let all : length (take n line) ≡ n = length-take-le n line (omega arith) in
-        long-unknown (take n line) (omega arith) ∙ sym (long-unknown line (omega arith))
+          let all : length (take n line) ≡ n = length-take-le n line (omega arith) in
+          long-unknown (take n line) (omega arith) ∙ sym (long-unknown line (omega arith))
     ]
 
 -- a list, cut at one of its items

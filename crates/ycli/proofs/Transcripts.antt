@@ -94,33 +94,36 @@ module _ {W : Type 0} (contents : W → Option (List ℕ)) where
   chunk_line a b c m h mid new line bytes held empty byte (text, r, s, k) e (reply, q, p) f =
       let told : Reply m mid (command_of (rest_after line bytes)) reply new = subst (λ (x : Command). Reply m mid x reply new) (held-command (rest_after line bytes) held k) q in
       let joined : Replies m h (whole_after line bytes ++ rest_after line bytes ∷ []) (text ++ reply) new =
-          Replies-after m h mid new (whole_after line bytes) (rest_after line bytes ∷ []) text reply r (Replies-line m mid new (rest_after line bytes) reply told) in
-      (text ++ reply,
+      Replies-after m h mid new (whole_after line bytes) (rest_after line bytes ∷ []) text reply r (Replies-line m mid new (rest_after line bytes) reply told) in (
+        text ++ reply,
         subst (λ (ls : List (List ℕ)). Replies m h ls (text ++ reply) new) (sym (whole_after-newline line bytes [] byte e)) joined,
         Sends-then contents a b c true text reply s p,
-        f ∙ sym (ap (take 4097) (rest_after-newline line bytes byte e)))
+        f ∙ sym (ap (take 4097) (rest_after-newline line bytes byte e)),
+      )
 
   pub chunk_byte : (a b : Link W) (m : Machine) (h mid : History) (line bytes held more : List ℕ) (byte : ℕ) → ChunkTells contents a b (Some true) m h line bytes mid held → (byte == 10) ≡ false
       → more ≡ take 4097 (held ++ byte ∷ []) → ChunkTells contents a b (Some true) m h line (bytes ++ byte ∷ []) mid more
-  chunk_byte a b m h mid line bytes held more byte (text, r, s, k) e f =
-      (text,
-        subst (λ (ls : List (List ℕ)). Replies m h ls text mid) (sym (whole_after-byte line bytes byte e)) r,
-        s,
-        f ∙ ap (λ (l : List ℕ). take 4097 (l ++ byte ∷ [])) k ∙ take-front 4097 (rest_after line bytes) (byte ∷ []) ∙ sym (ap (take 4097) (rest_after-byte line bytes byte e)))
+  chunk_byte a b m h mid line bytes held more byte (text, r, s, k) e f = (
+    text,
+    subst (λ (ls : List (List ℕ)). Replies m h ls text mid) (sym (whole_after-byte line bytes byte e)) r,
+    s,
+    f ∙ ap (λ (l : List ℕ). take 4097 (l ++ byte ∷ [])) k ∙ take-front 4097 (rest_after line bytes) (byte ∷ []) ∙ sym (ap (take 4097) (rest_after-byte line bytes byte e)),
+  )
 
   pub chunk_quit : (a b c : Link W) (m : Machine) (h mid new : History) (line bytes held all rest last : List ℕ) (byte : ℕ) → ChunkTells contents a b (Some true) m h line bytes mid held → byte ≡ 10
       → all ≡ bytes ++ byte ∷ rest → command_of held ≡ Quit → c ≡ b → ChunkTells contents a c (Some false) m h line all new last
-  chunk_quit a b c m h mid new line bytes held all rest last byte (text, r, s, k) e g q same =
-      (text,
-        (λ others.
-            let ends : Transcript m mid ((rest_after line bytes ∷ whole_after [] rest) ++ others) [] =
-                continues_quit m mid (command_of (rest_after line bytes)) _ (sym (held-command (rest_after line bytes) held k) ∙ q) in
-            let joined = Transcript-after m h mid (whole_after line bytes) ((rest_after line bytes ∷ whole_after [] rest) ++ others) text [] r ends in
-            let lines : whole_after line bytes ++ ((rest_after line bytes ∷ whole_after [] rest) ++ others) ≡ whole_after line all ++ others =
-                sym (append_assoc (whole_after line bytes) (rest_after line bytes ∷ whole_after [] rest) others)
-                ∙ ap (λ (ls : List (List ℕ)). ls ++ others) (sym (ap (whole_after line) g ∙ whole_after-newline line bytes rest byte e)) in
-            subst (λ (t : List ℕ). Transcript m h (whole_after line all ++ others) t) (append-nil text) (subst (λ (ls : List (List ℕ)). Transcript m h ls (text ++ [])) lines joined)),
-        subst (λ (x : Link W). Sends contents a x true text) (sym same) s)
+  chunk_quit a b c m h mid new line bytes held all rest last byte (text, r, s, k) e g q same = (
+    text,
+    (λ others.
+        let ends : Transcript m mid ((rest_after line bytes ∷ whole_after [] rest) ++ others) [] =
+        continues_quit m mid (command_of (rest_after line bytes)) _ (sym (held-command (rest_after line bytes) held k) ∙ q) in
+        let joined = Transcript-after m h mid (whole_after line bytes) ((rest_after line bytes ∷ whole_after [] rest) ++ others) text [] r ends in
+        let lines : whole_after line bytes ++ ((rest_after line bytes ∷ whole_after [] rest) ++ others) ≡ whole_after line all ++ others =
+        sym (append_assoc (whole_after line bytes) (rest_after line bytes ∷ whole_after [] rest) others)
+        ∙ ap (λ (ls : List (List ℕ)). ls ++ others) (sym (ap (whole_after line) g ∙ whole_after-newline line bytes rest byte e)) in
+        subst (λ (t : List ℕ). Transcript m h (whole_after line all ++ others) t) (append-nil text) (subst (λ (ls : List (List ℕ)). Transcript m h ls (text ++ [])) lines joined)),
+    subst (λ (x : Link W). Sends contents a x true text) (sym same) s,
+  )
 
   pub chunk_fault : (a b c : Link W) (m : Machine) (h mid now new : History) (line bytes held all rest last : List ℕ) (byte : ℕ) → ChunkTells contents a b (Some true) m h line bytes mid held → byte ≡ 10
       → all ≡ bytes ++ byte ∷ rest → Answers contents b c false m mid (command_of held) now → ChunkTells contents a c None m h line all new last
@@ -128,14 +131,15 @@ module _ {W : Type 0} (contents : W → Option (List ℕ)) where
       let told : Reply m mid (command_of (rest_after line bytes)) reply left = subst (λ (x : Command). Reply m mid x reply left) (held-command (rest_after line bytes) held k) q in
       let (more, t) = Transcript-some m left (whole_after [] rest ++ others) in
       let ends : Transcript m mid ((rest_after line bytes ∷ whole_after [] rest) ++ others) (reply ++ more) =
-          continues m mid left (command_of (rest_after line bytes)) (λ x l. Transcript m x (whole_after [] rest ++ others) l) (reply ++ more) reply more told refl t in
+      continues m mid left (command_of (rest_after line bytes)) (λ x l. Transcript m x (whole_after [] rest ++ others) l) (reply ++ more) reply more told refl t in
       let joined = Transcript-after m h mid (whole_after line bytes) ((rest_after line bytes ∷ whole_after [] rest) ++ others) text (reply ++ more) r ends in
       let lines : whole_after line bytes ++ ((rest_after line bytes ∷ whole_after [] rest) ++ others) ≡ whole_after line all ++ others =
-          sym (append_assoc (whole_after line bytes) (rest_after line bytes ∷ whole_after [] rest) others)
-          ∙ ap (λ (ls : List (List ℕ)). ls ++ others) (sym (ap (whole_after line) g ∙ whole_after-newline line bytes rest byte e)) in
-      (text ++ (reply ++ more),
+      sym (append_assoc (whole_after line bytes) (rest_after line bytes ∷ whole_after [] rest) others)
+      ∙ ap (λ (ls : List (List ℕ)). ls ++ others) (sym (ap (whole_after line) g ∙ whole_after-newline line bytes rest byte e)) in (
+        text ++ (reply ++ more),
         subst (λ (ls : List (List ℕ)). Transcript m h ls (text ++ (reply ++ more))) lines joined,
-        Sends-then contents a b c false text (reply ++ more) s (Sends-stop contents b c reply more p))
+        Sends-then contents a b c false text (reply ++ more) s (Sends-stop contents b c reply more p),
+      )
 
   -- ---- one read
 
@@ -145,23 +149,25 @@ module _ {W : Type 0} (contents : W → Option (List ℕ)) where
   pub read_on : (a b c : Link W) (m : Machine) (h mid new : History) (taken text bytes held : List ℕ) → Replies m h (whole_lines taken) text mid → Sends contents a b true text
       → ChunkTells contents b c (Some true) m mid (rest_line taken) bytes new held
       → (more : List ℕ) × Replies m h (whole_lines (taken ++ bytes)) (text ++ more) new × Sends contents a c true (text ++ more) × (held ≡ take 4097 (rest_line (taken ++ bytes)))
-  read_on a b c m h mid new taken text bytes held r s (more, q, p, k) =
-      (more,
-        subst (λ (ls : List (List ℕ)). Replies m h ls (text ++ more) new) (sym (lines-more taken bytes)) (Replies-after m h mid new (whole_lines taken) (whole_after (rest_line taken) bytes) text more r q),
-        Sends-then contents a b c true text more s p,
-        k ∙ sym (ap (take 4097) (rest_after-append [] taken bytes)))
+  read_on a b c m h mid new taken text bytes held r s (more, q, p, k) = (
+    more,
+    subst (λ (ls : List (List ℕ)). Replies m h ls (text ++ more) new) (sym (lines-more taken bytes)) (Replies-after m h mid new (whole_lines taken) (whole_after (rest_line taken) bytes) text more r q),
+    Sends-then contents a b c true text more s p,
+    k ∙ sym (ap (take 4097) (rest_after-append [] taken bytes)),
+  )
 
   pub read_quit : (a b c : Link W) (m : Machine) (h mid new : History) (taken text bytes held : List ℕ) → Replies m h (whole_lines taken) text mid → Sends contents a b true text
       → ChunkTells contents b c (Some false) m mid (rest_line taken) bytes new held
       → (whole : List ℕ) × ((others : List (List ℕ)) → Transcript m h (whole_lines (taken ++ bytes) ++ others) whole) × Sends contents a c true whole
-  read_quit a b c m h mid new taken text bytes held r s (more, q, p) =
-      (text ++ more,
-        (λ others.
-            let joined = Transcript-after m h mid (whole_lines taken) (whole_after (rest_line taken) bytes ++ others) text more r (q others) in
-            let lines : whole_lines taken ++ (whole_after (rest_line taken) bytes ++ others) ≡ whole_lines (taken ++ bytes) ++ others =
-                sym (append_assoc (whole_lines taken) (whole_after (rest_line taken) bytes) others) ∙ ap (λ (ls : List (List ℕ)). ls ++ others) (sym (lines-more taken bytes)) in
-            subst (λ (ls : List (List ℕ)). Transcript m h ls (text ++ more)) lines joined),
-        Sends-then contents a b c true text more s p)
+  read_quit a b c m h mid new taken text bytes held r s (more, q, p) = (
+    text ++ more,
+    (λ others.
+        let joined = Transcript-after m h mid (whole_lines taken) (whole_after (rest_line taken) bytes ++ others) text more r (q others) in
+        let lines : whole_lines taken ++ (whole_after (rest_line taken) bytes ++ others) ≡ whole_lines (taken ++ bytes) ++ others =
+        sym (append_assoc (whole_lines taken) (whole_after (rest_line taken) bytes) others) ∙ ap (λ (ls : List (List ℕ)). ls ++ others) (sym (lines-more taken bytes)) in
+        subst (λ (ls : List (List ℕ)). Transcript m h ls (text ++ more)) lines joined),
+    Sends-then contents a b c true text more s p,
+  )
 
   pub read_fault : (a b c : Link W) (m : Machine) (h mid new : History) (taken text bytes held : List ℕ) → Replies m h (whole_lines taken) text mid → Sends contents a b true text
       → ChunkTells contents b c None m mid (rest_line taken) bytes new held
@@ -170,7 +176,7 @@ module _ {W : Type 0} (contents : W → Option (List ℕ)) where
       let (more, t, p) = q others in
       let joined = Transcript-after m h mid (whole_lines taken) (whole_after (rest_line taken) bytes ++ others) text more r t in
       let lines : whole_lines taken ++ (whole_after (rest_line taken) bytes ++ others) ≡ whole_lines (taken ++ bytes) ++ others =
-          sym (append_assoc (whole_lines taken) (whole_after (rest_line taken) bytes) others) ∙ ap (λ (ls : List (List ℕ)). ls ++ others) (sym (lines-more taken bytes)) in
+      sym (append_assoc (whole_lines taken) (whole_after (rest_line taken) bytes) others) ∙ ap (λ (ls : List (List ℕ)). ls ++ others) (sym (lines-more taken bytes)) in
       (text ++ more, subst (λ (ls : List (List ℕ)). Transcript m h ls (text ++ more)) lines joined, Sends-then contents a b c false text more s p)
 
 module _ {W : Type 0} (contents : W → Option (List ℕ)) where
@@ -233,10 +239,13 @@ module _ {W : Type 0} (contents : W → Option (List ℕ)) where
       → ReadTells contents old new before left (Err faults.Read) m h now held → Tells m h input left (contents (device_of old)) (contents (device_of new)) (Err faults.Read)
   tells_read old new m h now input held before left e (taken, text, p, r, s) =
       let taken_here : Consumes (Some input) left taken = subst (λ (o : Option (List ℕ)). Consumes o left taken) e p in
-      let whole : Transcript m h (whole_lines taken ++ []) (text ++ []) = Transcript-after m h now (whole_lines taken) [] text [] r refl in
-      (taken, text, taken_here,
+      let whole : Transcript m h (whole_lines taken ++ []) (text ++ []) = Transcript-after m h now (whole_lines taken) [] text [] r refl in (
+        taken,
+        text,
+        taken_here,
         subst (λ (t : List ℕ). Transcript m h (whole_lines taken) t) (append-nil text) (subst (λ (ls : List (List ℕ)). Transcript m h ls (text ++ [])) (append-nil (whole_lines taken)) whole),
-        s.bytes)
+        s.bytes,
+      )
 
   pub tells_write : (old new : Link W) (m : Machine) (h now : History) (input held : List ℕ) (before left : Option (List ℕ)) → before ≡ Some input
       → ReadTells contents old new before left (Err faults.Write) m h now held → Tells m h input left (contents (device_of old)) (contents (device_of new)) (Err faults.Write)

@@ -8,6 +8,8 @@ pub mod View
 pub mod Session
 pub mod Command
 pub mod Lines
+pub mod TokensFile
+pub mod Reading
 pub mod Reply
 pub mod Transcript
 pub mod Serving

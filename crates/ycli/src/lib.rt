@@ -1,12 +1,15 @@
 //! The session engine of the parse stepper, and what a program does but for its exit.
 #![tactic(auto)]
 
+pub mod arguments;
 mod command;
 pub mod fault;
 mod held;
 pub mod link;
 pub mod machine;
+mod message;
 pub mod plain;
+pub mod programs;
 mod put;
 mod reply;
 pub mod run;
@@ -16,3 +19,4 @@ pub mod tables;
 pub mod thin;
 pub mod tokens;
 pub mod view;
+mod words;

@@ -188,7 +188,12 @@ fn names_of(alloc: Global, lexemes: &[Lexeme<'_>]) -> Result<(Vec<Vec<u8>>, usiz
 }
 
 /// The rules of a file, the first that of `$accept`.
-fn rules_of(alloc: Global, lexemes: &[Lexeme<'_>], names: &[Vec<u8>], tokens: usize) -> Result<Vec<Rule>, ReadFault> {
+fn rules_of(
+    alloc: Global,
+    lexemes: &[Lexeme<'_>],
+    names: &[Vec<u8>],
+    tokens: usize,
+) -> Result<Vec<Rule>, ReadFault> {
     let mut rules = Vec::new(alloc);
     let mut rule = Rule {
         left: tokens,
@@ -202,12 +207,24 @@ fn rules_of(alloc: Global, lexemes: &[Lexeme<'_>], names: &[Vec<u8>], tokens: us
         match lexeme {
             Lexeme::Head(name) => {
                 let left = find(names, name).ok_or(ReadFault::NotYet)?;
-                let done = std::mem::replace(&mut rule, Rule { left, body: Vec::new(alloc) });
+                let done = std::mem::replace(
+                    &mut rule,
+                    Rule {
+                        left,
+                        body: Vec::new(alloc),
+                    },
+                );
                 rules.push(done)?;
             }
             Lexeme::Bar => {
                 let left = rule.left;
-                let done = std::mem::replace(&mut rule, Rule { left, body: Vec::new(alloc) });
+                let done = std::mem::replace(
+                    &mut rule,
+                    Rule {
+                        left,
+                        body: Vec::new(alloc),
+                    },
+                );
                 rules.push(done)?;
             }
             Lexeme::Name(b"error") => return Err(ReadFault::NotYet),

@@ -73,14 +73,25 @@ fn kind_tail<'a>(session: &'a Session, kind: StepKind, digits: &'a mut itoa::Buf
 }
 
 /// Four pieces and a newline.
-fn put_line<'a, W: Write>(writer: &mut Link<W>, at: &'a [u8], between: &'a [u8], words: &'a [u8], tail: &'a [u8]) -> Option<()>
+fn put_line<'a, W: Write>(
+    writer: &mut Link<W>,
+    at: &'a [u8],
+    between: &'a [u8],
+    words: &'a [u8],
+    tail: &'a [u8],
+) -> Option<()>
     ensures { Sends W.contents writer.old writer.new (is_some result) (at.now ++ (between.now ++ (words.now ++ (tail.now ++ codes "\n")))) }
 {
     put_all(writer, &[at, between, words, tail, b"\n"])
 }
 
 /// The position, what stands between, and the words of a step.
-fn put_step<W: Write>(session: &Session, writer: &mut Link<W>, between: &[u8], kind: StepKind) -> Option<()>
+fn put_step<W: Write>(
+    session: &Session,
+    writer: &mut Link<W>,
+    between: &[u8],
+    kind: StepKind,
+) -> Option<()>
     ensures { Sends W.contents writer.old writer.new (is_some result) (step_line (machine_of session.now) (position (history_of session.now)) between.now kind) }
 {
     let mut at = itoa::Buffer::new();
@@ -124,7 +135,10 @@ fn put_head<W: Write>(session: &Session, writer: &mut Link<W>) -> Option<()>
 {
     let mut at = itoa::Buffer::new();
     let digits = at.format(session.position()).as_bytes();
-    put_all(writer, &[digits, b" ", mode_word(session.view().mode()), b"\nstack:"])
+    put_all(
+        writer,
+        &[digits, b" ", mode_word(session.view().mode()), b"\nstack:"],
+    )
 }
 
 /// A space and a name.
@@ -166,7 +180,10 @@ fn put_counts<W: Write>(session: &Session, writer: &mut Link<W>) -> Option<()>
     let mut errors = itoa::Buffer::new();
     let counter = counter.format(view.counter()).as_bytes();
     let errors = errors.format(view.errors()).as_bytes();
-    put_all(writer, &[b"\ncounter: ", counter, b"\nerrors: ", errors, b"\n"])
+    put_all(
+        writer,
+        &[b"\ncounter: ", counter, b"\nerrors: ", errors, b"\n"],
+    )
 }
 
 /// The five lines of the configuration now.
@@ -196,7 +213,11 @@ fn reply<W: Write>(session: &mut Session, command: Command, writer: &mut Link<W>
 }
 
 /// Answers a line, and flushes the writer. `Some(false)` is `quit`, and `None` a failed link.
-pub(crate) fn answer<W: Write>(session: &mut Session, line: &[u8], writer: &mut Link<W>) -> Option<bool>
+pub(crate) fn answer<W: Write>(
+    session: &mut Session,
+    line: &[u8],
+    writer: &mut Link<W>,
+) -> Option<bool>
     ensures answers { AnswersLine W.contents writer.old writer.new result (machine_of session.old) (history_of session.old) (command_of line.now) (history_of session.new) }
     ensures machine { machine_of session.new ≡ machine_of session.old }
     ensures failed { has_failed writer.new ≡ chunk_failed result (has_failed writer.old) }

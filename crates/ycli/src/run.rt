@@ -18,7 +18,12 @@ const CHUNK: usize = 4096;
 
 /// Answers each line that these bytes end, after what is held of the first. `Some(false)` is `quit`, and `None` a
 /// fault of the writer.
-fn take_chunk<W: Write>(session: &mut Session, held: &mut Held, bytes: &[u8], writer: &mut Link<W>) -> Option<bool>
+fn take_chunk<W: Write>(
+    session: &mut Session,
+    held: &mut Held,
+    bytes: &[u8],
+    writer: &mut Link<W>,
+) -> Option<bool>
     ensures tells { (line : List ℕ) → held.old ≡ take 4097 line → ChunkTells W.contents writer.old writer.new result (machine_of session.old) (history_of session.old) line bytes.now (history_of session.new) held.new }
     ensures machine { machine_of session.new ≡ machine_of session.old }
     ensures failed { has_failed writer.new ≡ chunk_failed result (has_failed writer.old) }
@@ -37,7 +42,12 @@ fn take_chunk<W: Write>(session: &mut Session, held: &mut Held, bytes: &[u8], wr
 }
 
 /// Answers each line whose newline is read. `Ok(true)` is the end of the input, and `Ok(false)` is `quit`.
-fn read_lines<R: Read, W: Write>(session: &mut Session, held: &mut Held, reader: &mut Link<R>, writer: &mut Link<W>) -> Result<bool, SessionFault>
+fn read_lines<R: Read, W: Write>(
+    session: &mut Session,
+    held: &mut Held,
+    reader: &mut Link<R>,
+    writer: &mut Link<W>,
+) -> Result<bool, SessionFault>
     requires { held.old ≡ [] }
     ensures tells { ReadTells W.contents writer.old writer.new (R.remaining (device_of reader.old)) (R.remaining (device_of reader.new)) result (machine_of session.old) (history_of session.old) (history_of session.new) held.new }
     ensures machine { machine_of session.new ≡ machine_of session.old }
@@ -75,7 +85,11 @@ fn answer_last<W: Write>(session: &mut Session, held: &Held, writer: &mut Link<W
 }
 
 /// Answers the command lines of the reader, up to a `quit` or to the end of the input.
-fn serve<R: Read, W: Write>(session: &mut Session, reader: &mut Link<R>, writer: &mut Link<W>) -> Result<(), SessionFault>
+fn serve<R: Read, W: Write>(
+    session: &mut Session,
+    reader: &mut Link<R>,
+    writer: &mut Link<W>,
+) -> Result<(), SessionFault>
     ensures tells { IfSome (R.remaining (device_of reader.old)) (λ input. length input < 2 ^ 63 →
         Tells (machine_of session.old) (history_of session.old) input (R.remaining (device_of reader.new)) (W.contents (device_of writer.old)) (W.contents (device_of writer.new)) result) }
     ensures read_fault { has_failed reader.old ≡ false → has_failed reader.new ≡ failed_read result }
@@ -95,7 +109,11 @@ fn serve<R: Read, W: Write>(session: &mut Session, reader: &mut Link<R>, writer:
 ///
 /// X1 is answered exactly where the reader's link failed, and then the replies of all lines whose newline was read are
 /// written. X2 is answered exactly where the writer's link failed, and then a beginning of the session's text is written.
-pub fn run_session<R: Read, W: Write>(mut session: Session, reader: &mut Link<R>, writer: &mut Link<W>) -> Result<(), SessionFault>
+pub fn run_session<R: Read, W: Write>(
+    mut session: Session,
+    reader: &mut Link<R>,
+    writer: &mut Link<W>,
+) -> Result<(), SessionFault>
     // What is written for an input that the reader tells.
     ensures tells { IfSome (R.remaining (device_of reader.old)) (λ input. length input < 2 ^ 63 →
         Tells (machine_of session) (history_of session) input (R.remaining (device_of reader.new)) (W.contents (device_of writer.old)) (W.contents (device_of writer.new)) result) }

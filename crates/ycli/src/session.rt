@@ -6,7 +6,7 @@ ghost use Rattle.ycli.specs.Snapshots.{history_from};
 ghost use Rattle.ycli.specs.Tables.{machine_over};
 
 use crate::machine::{AtStart, Mode, StepFault, StepKind, Sym};
-use crate::snapshot::{next_of, Snapshot, Step};
+use crate::snapshot::{Snapshot, Step, next_of};
 use crate::tables::Tables;
 use crate::tokens::Tokens;
 use crate::view::View;

@@ -84,7 +84,11 @@ fn shift(tokens: &[Sym], now: &Snapshot) -> Result<(StepKind, Snapshot), AllocEr
 }
 
 /// The left side of a rule takes the place of its body.
-fn reduce(tables: &Tables, now: &Snapshot, number: usize) -> Result<(StepKind, Snapshot), AllocError>
+fn reduce(
+    tables: &Tables,
+    now: &Snapshot,
+    number: usize,
+) -> Result<(StepKind, Snapshot), AllocError>
     ensures { (tokens : List ℕ) → IfOk result (λ found. reduced (machine_over tables.now) (configuration_of tokens now.now) number ≡ (found.0, configuration_of tokens found.1)) }
 {
     let (left, body) = tables.rule(number);
@@ -99,7 +103,12 @@ fn reduce(tables: &Tables, now: &Snapshot, number: usize) -> Result<(StepKind, S
 }
 
 /// The step that a cell says.
-fn act(tables: &Tables, tokens: &[Sym], now: &Snapshot, cell: Action) -> Result<(StepKind, Snapshot), AllocError>
+fn act(
+    tables: &Tables,
+    tokens: &[Sym],
+    now: &Snapshot,
+    cell: Action,
+) -> Result<(StepKind, Snapshot), AllocError>
     ensures { IfOk result (λ found. step_by (machine_over tables.now) (configuration_of tokens.now now.now) cell ≡ (found.0, configuration_of tokens.now found.1)) }
 {
     match cell {
@@ -111,7 +120,11 @@ fn act(tables: &Tables, tokens: &[Sym], now: &Snapshot, cell: Action) -> Result<
 }
 
 /// The step of a running parse, and what it leaves.
-pub(crate) fn next_of(tables: &Tables, tokens: &[Sym], now: &Snapshot) -> Result<(StepKind, Snapshot), AllocError>
+pub(crate) fn next_of(
+    tables: &Tables,
+    tokens: &[Sym],
+    now: &Snapshot,
+) -> Result<(StepKind, Snapshot), AllocError>
     requires { now.now.mode ≡ Running }
     ensures { IfOk result (λ found. next (machine_over tables.now) (configuration_of tokens.now now.now) ≡ Some (found.0, configuration_of tokens.now found.1)) }
 {

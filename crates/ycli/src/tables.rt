@@ -2,6 +2,8 @@
 
 ghost use Rattle.std.specs.Prelude.{◌≡◌, is_some, Some};
 ghost use Rattle.ycli.specs.Machine.{Production};
+ghost use Rattle.ycli.specs.TokensFile.{is_input};
+ghost use Rattle.ycli.specs.Reading.{symbol_named};
 ghost use Rattle.ycli.specs.Tables.{name_of, rule_of, production, goto_at, goto_from, cell_at, cell_in, state_after, machine_over};
 
 use crate::machine::{Action, Sym};
@@ -32,6 +34,20 @@ impl Tables {
             Some(name) => name.as_slice(),
             None => &[],
         }
+    }
+
+    /// The number of the symbol with this printed name.
+    pub fn find(&self, name: &[u8]) -> Option<Sym>
+        ensures { result ≡ symbol_named self.now name.now }
+    {
+        self.names.iter().position(|known| known.as_slice() == name)
+    }
+
+    /// Whether a symbol is a token other than `$end` and `error`.
+    pub(crate) fn is_input(&self, symbol: Sym) -> bool
+        ensures { result ≡ is_input self.now.tokens symbol }
+    {
+        1 < symbol && symbol < self.tokens
     }
 
     /// The left side and the body of a rule.

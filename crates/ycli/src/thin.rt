@@ -60,10 +60,7 @@ impl Marks {
     fn new(alloc: Global, rows: usize, width: usize) -> Result<Marks, BuildFault> {
         let count = rows.checked_mul(width).ok_or(BuildFault::Memory)?;
         let marked = vec![in alloc; false; count]?;
-        Ok(Marks {
-            width,
-            marked,
-        })
+        Ok(Marks { width, marked })
     }
 
     fn place(&self, row: usize, column: usize) -> usize {
@@ -221,7 +218,12 @@ fn add_rules(rules: &[Rule], wanted: Sym, items: &mut Vec<Item>) -> Result<(), B
 }
 
 /// The items with the dot before a symbol, each with the dot behind it.
-fn advance(alloc: Global, rules: &[Rule], items: &[Item], symbol: Sym) -> Result<Vec<Item>, BuildFault> {
+fn advance(
+    alloc: Global,
+    rules: &[Rule],
+    items: &[Item],
+    symbol: Sym,
+) -> Result<Vec<Item>, BuildFault> {
     let mut kernel = Vec::new(alloc);
     for item in items {
         if ahead(rules, *item) == Some(symbol) {
@@ -251,7 +253,12 @@ fn number_of(alloc: Global, sets: &mut Vec<Set>, items: Vec<Item>) -> Result<usi
 }
 
 /// Where each symbol leads from a set. The dot never passes `$end`.
-fn leave(alloc: Global, grammar: &Grammar, sets: &mut Vec<Set>, state: usize) -> Result<Vec<Option<usize>>, BuildFault> {
+fn leave(
+    alloc: Global,
+    grammar: &Grammar,
+    sets: &mut Vec<Set>,
+    state: usize,
+) -> Result<Vec<Option<usize>>, BuildFault> {
     let mut gotos = Vec::new(alloc);
     gotos.push(None)?;
     for symbol in 1..grammar.names.len() {
@@ -320,7 +327,14 @@ fn open(facts: &Facts, looks: &mut Marks, item: Item, from: usize, into: usize) 
 }
 
 /// What an item gives to the items of its set. Whether there was something to give.
-fn give(facts: &Facts, looks: &mut Marks, items: &[Item], item: Item, row: usize, from: usize) -> bool {
+fn give(
+    facts: &Facts,
+    looks: &mut Marks,
+    items: &[Item],
+    item: Item,
+    row: usize,
+    from: usize,
+) -> bool {
     let Some(wanted) = ahead(&facts.grammar.rules, item) else {
         return false;
     };
@@ -346,12 +360,23 @@ fn moved(facts: &Facts, sets: &[Set], rows: &[usize], set: &Set, item: Item) -> 
         rule: item.rule,
         dot: item.dot.saturating_add(1),
     };
-    let index = sets.get(to)?.items.iter().position(|other| *other == wanted)?;
+    let index = sets
+        .get(to)?
+        .items
+        .iter()
+        .position(|other| *other == wanted)?;
     Some(row.saturating_add(index))
 }
 
 /// What the items of a set give. Whether there was something to give.
-fn give_all(facts: &Facts, looks: &mut Marks, sets: &[Set], rows: &[usize], set: &Set, row: usize) -> bool {
+fn give_all(
+    facts: &Facts,
+    looks: &mut Marks,
+    sets: &[Set],
+    rows: &[usize],
+    set: &Set,
+    row: usize,
+) -> bool {
     let mut changed = false;
     for (index, item) in set.items.iter().enumerate() {
         let from = row.saturating_add(index);
@@ -379,7 +404,12 @@ fn round(facts: &Facts, looks: &mut Marks, sets: &[Set], rows: &[usize]) -> bool
 }
 
 /// The lookaheads of all items, by rounds until there is nothing to give.
-fn looks_of(alloc: Global, facts: &Facts, sets: &[Set], rows: &[usize]) -> Result<Marks, BuildFault> {
+fn looks_of(
+    alloc: Global,
+    facts: &Facts,
+    sets: &[Set],
+    rows: &[usize],
+) -> Result<Marks, BuildFault> {
     let count = rows.last().copied().unwrap_or(0);
     let mut looks = Marks::new(alloc, count, facts.grammar.tokens)?;
     let _ = looks.set(0, 0);
@@ -414,7 +444,13 @@ fn cell_of(facts: &Facts, looks: &Marks, set: &Set, row: usize, token: Sym) -> A
 }
 
 /// The cells of a set.
-fn cells_of(alloc: Global, facts: &Facts, looks: &Marks, set: &Set, row: usize) -> Result<Vec<Action>, BuildFault> {
+fn cells_of(
+    alloc: Global,
+    facts: &Facts,
+    looks: &Marks,
+    set: &Set,
+    row: usize,
+) -> Result<Vec<Action>, BuildFault> {
     let mut cells = Vec::new(alloc);
     for token in 0..facts.grammar.tokens {
         cells.push(cell_of(facts, looks, set, row, token))?;

@@ -19,10 +19,7 @@ impl<'a> View<'a> {
     pub(crate) fn new(current: &'a Snapshot, tokens: &'a [Sym]) -> Self
         ensures { shown_by result ≡ configuration_of tokens.entry.now current.entry.now }
     {
-        View {
-            current,
-            tokens,
-        }
+        View { current, tokens }
     }
 
     /// How many symbols the stack has.

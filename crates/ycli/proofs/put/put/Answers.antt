@@ -18,7 +18,7 @@ loop-at-preserved g c =
     let n : ℕ = c.in_ok-at.field-0 in
     let rest = take_rest c.args.text.now c.loop-at.at in
     let more : Appends (w (device_of c.loop-at.link)) (w (device_of c.write.new.self)) (take n (drop c.loop-at.at c.args.text.now)) =
-        subst (λ (t : List ℕ). Appends (w (device_of c.loop-at.link)) (w (device_of c.write.new.self)) (take n t)) rest c.in_ok-at.ensures.bytes.1 in
+    subst (λ (t : List ℕ). Appends (w (device_of c.loop-at.link)) (w (device_of c.write.new.self)) (take n t)) rest c.in_ok-at.ensures.bytes.1 in
     let few : n ≤ length (drop c.loop-at.at c.args.text.now) = subst (λ (t : List ℕ). n ≤ length t) rest c.in_ok-at.ensures.bytes.0 in
     record {
       within = omega (arith, length-drop c.loop-at.at c.args.text.now);

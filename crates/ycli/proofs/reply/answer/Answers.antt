@@ -15,4 +15,4 @@ returns-else-flush-clause-answers g c =
     let new = history_of c.reply.new.session in
     subst (λ (x : Command). Answers w c.args.writer.now c.flush.new.self false m h x new) c.command_in-command.ensures
     (answered-unflushed w c.args.writer.now c.reply.new.writer c.flush.new.self m h new c.command_in-command.result c.in_ok-reply.ensures.answers c.flush.ensures.bytes
-      (c.flush.ensures.failed ∙ ap (λ (b : Bool). if b then has_failed c.reply.new.writer else true) c.if-flush.false))
+    (c.flush.ensures.failed ∙ ap (λ (b : Bool). if b then has_failed c.reply.new.writer else true) c.if-flush.false))

@@ -16,10 +16,10 @@ returns-in_err-put_name g c =
     let rest : List ℕ = map (λ token. token.0) tokens in
     let first : ℕ × ℕ → ℕ = λ token. token.0 in
     let symbol : c.rest-token.result.0 ≡ get_or rest c.loop-index.index 0 =
-        ap first (c.rest-token.ensures ∙ ap (λ (d : Configuration). get_or d.rest c.loop-index.index (0, 0)) c.view-view.ensures) ∙ sym (get_or-map first tokens c.loop-index.index (0, 0)) in
+    ap first (c.rest-token.ensures ∙ ap (λ (d : Configuration). get_or d.rest c.loop-index.index (0, 0)) c.view-view.ensures) ∙ sym (get_or-map first tokens c.loop-index.index (0, 0)) in
     let count : c.rest_len-index-end.result ≡ length rest = c.rest_len-index-end.ensures ∙ ap (λ (d : Configuration). length d.rest) c.view-view.ensures ∙ sym (length-map tokens first) in
     let cut : Sends w c.loop-index.writer c.put_name.new.writer false (32 ∷ m.name (get_or rest c.loop-index.index 0)) =
-        subst (λ (s : ℕ). Sends w c.loop-index.writer c.put_name.new.writer false (32 ∷ m.name s)) symbol c.in_err-put_name.ensures in
+    subst (λ (s : ℕ). Sends w c.loop-index.writer c.put_name.new.writer false (32 ∷ m.name s)) symbol c.in_err-put_name.ensures in
     Sends-part w (λ s. 32 ∷ m.name s) _ _ _ (is_some c.from_residual.result) rest c.loop-index.index 0 (ap is_some c.from_residual.ensures) (omega arith) c.loop-index.invariant cut
 
 pub loop-index-preserved : goal.loop-index-preserved
@@ -30,10 +30,10 @@ loop-index-preserved g c =
     let rest : List ℕ = map (λ token. token.0) tokens in
     let first : ℕ × ℕ → ℕ = λ token. token.0 in
     let symbol : c.rest-token.result.0 ≡ get_or rest c.loop-index.index 0 =
-        ap first (c.rest-token.ensures ∙ ap (λ (d : Configuration). get_or d.rest c.loop-index.index (0, 0)) c.view-view.ensures) ∙ sym (get_or-map first tokens c.loop-index.index (0, 0)) in
+    ap first (c.rest-token.ensures ∙ ap (λ (d : Configuration). get_or d.rest c.loop-index.index (0, 0)) c.view-view.ensures) ∙ sym (get_or-map first tokens c.loop-index.index (0, 0)) in
     let count : c.rest_len-index-end.result ≡ length rest = c.rest_len-index-end.ensures ∙ ap (λ (d : Configuration). length d.rest) c.view-view.ensures ∙ sym (length-map tokens first) in
     let added : Sends w c.loop-index.writer c.put_name.new.writer true (32 ∷ m.name (get_or rest c.loop-index.index 0)) =
-        subst (λ (s : ℕ). Sends w c.loop-index.writer c.put_name.new.writer true (32 ∷ m.name s)) symbol c.in_ok-put_name.ensures in
+    subst (λ (s : ℕ). Sends w c.loop-index.writer c.put_name.new.writer true (32 ∷ m.name s)) symbol c.in_ok-put_name.ensures in
     let next : c.loop-index.index + 1 ≡ suc c.loop-index.index = omega arith in
     let sent = Sends-next w (λ s. 32 ∷ m.name s) _ _ _ rest c.loop-index.index 0 (omega arith) c.loop-index.invariant added in
     subst (λ (i : ℕ). Sends w c.args.writer.now c.put_name.new.writer true (spaced m (take i rest))) (sym next) sent

@@ -13,5 +13,5 @@ returns-in_err-put_name g c =
     let symbol : c.stack.result ≡ get_or stack c.loop-index.index 0 = c.stack.ensures ∙ ap (λ (d : Configuration). get_or d.stack c.loop-index.index 0) c.view-view.ensures in
     let count : c.stack_len-index-end.result ≡ length stack = c.stack_len-index-end.ensures ∙ ap (λ (d : Configuration). length d.stack) c.view-view.ensures in
     let cut : Sends w c.loop-index.writer c.put_name.new.writer false (32 ∷ m.name (get_or stack c.loop-index.index 0)) =
-        subst (λ (s : ℕ). Sends w c.loop-index.writer c.put_name.new.writer false (32 ∷ m.name s)) symbol c.in_err-put_name.ensures in
+    subst (λ (s : ℕ). Sends w c.loop-index.writer c.put_name.new.writer false (32 ∷ m.name s)) symbol c.in_err-put_name.ensures in
     Sends-part w (λ s. 32 ∷ m.name s) _ _ _ (is_some c.from_residual.result) stack c.loop-index.index 0 (ap is_some c.from_residual.ensures) (omega arith) c.loop-index.invariant cut

@@ -37,10 +37,10 @@ returns-in_err-answer-clause-tells g c = λ line e.
     let bytes : List ℕ = c.args.bytes.now in
     let i : ℕ = c.loop-byte.byte-index in
     let said = answers_held w c.loop-byte.writer c.answer.new.writer None None m (machine_of c.loop-byte.session) mid new c.as_slice.result.now c.loop-byte.held c.loop-byte.invariant.machine c.as_slice.ensures refl
-        c.in_err-answer.ensures.answers in
+    c.in_err-answer.ensures.answers in
     subst (λ (r : Option Bool). ChunkTells w c.args.writer.now c.answer.new.writer r m h line bytes new c.loop-byte.held) (sym c.from_residual.ensures)
     (chunk_fault w c.args.writer.now c.loop-byte.writer c.answer.new.writer m h mid new new line (take i bytes) c.loop-byte.held bytes (drop (suc i) bytes) c.loop-byte.held (get_or bytes i 0)
-      (c.loop-byte.invariant.told line e) c.if-byte-ne10.false (whole-at bytes i 0 c.loop-byte-test.true) said)
+    (c.loop-byte.invariant.told line e) c.if-byte-ne10.false (whole-at bytes i 0 c.loop-byte-test.true) said)
 
 pub returns-then-not-branch-clause-tells : goal.returns-then-not-branch-clause-tells
 returns-then-not-branch-clause-tells g c = λ line e.
@@ -53,9 +53,9 @@ returns-then-not-branch-clause-tells g c = λ line e.
     let i : ℕ = c.loop-byte.byte-index in
     let off : c.in_ok-answer.field-0 ≡ false = c.if-not-branch.true in
     let said = answers_held w c.loop-byte.writer c.answer.new.writer (Some c.in_ok-answer.field-0) (Some false) m (machine_of c.loop-byte.session) mid new c.as_slice.result.now c.loop-byte.held
-        c.loop-byte.invariant.machine c.as_slice.ensures (ap (λ (b : Bool). let o : Option Bool = Some b in o) off) c.in_ok-answer.ensures.answers in
+    c.loop-byte.invariant.machine c.as_slice.ensures (ap (λ (b : Bool). let o : Option Bool = Some b in o) off) c.in_ok-answer.ensures.answers in
     chunk_quit w c.args.writer.now c.loop-byte.writer c.answer.new.writer m h mid new line (take i bytes) c.loop-byte.held bytes (drop (suc i) bytes) c.loop-byte.held (get_or bytes i 0)
-      (c.loop-byte.invariant.told line e) c.if-byte-ne10.false (whole-at bytes i 0 c.loop-byte-test.true) said.0 said.2
+    (c.loop-byte.invariant.told line e) c.if-byte-ne10.false (whole-at bytes i 0 c.loop-byte-test.true) said.0 said.2
 
 pub loop-byte-preserved : goal.loop-byte-preserved
 loop-byte-preserved g c =
@@ -68,7 +68,7 @@ loop-byte-preserved g c =
     let i : ℕ = c.loop-byte.byte-index in
     let on : c.in_ok-answer.field-0 ≡ true = c.if-not-branch.false in
     let said = answers_held w c.loop-byte.writer c.answer.new.writer (Some c.in_ok-answer.field-0) (Some true) m (machine_of c.loop-byte.session) mid new c.as_slice.result.now c.loop-byte.held
-        c.loop-byte.invariant.machine c.as_slice.ensures (ap (λ (b : Bool). let o : Option Bool = Some b in o) on) c.in_ok-answer.ensures.answers in
+    c.loop-byte.invariant.machine c.as_slice.ensures (ap (λ (b : Bool). let o : Option Bool = Some b in o) on) c.in_ok-answer.ensures.answers in
     let more : take (i + 1) bytes ≡ take i bytes ++ get_or bytes i 0 ∷ [] = take_more bytes i 0 c.loop-byte-test.true in
     record {
       machine = c.in_ok-answer.ensures.machine ∙ c.loop-byte.invariant.machine;
@@ -76,7 +76,7 @@ loop-byte-preserved g c =
       told = λ line e.
           subst (λ (bs : List ℕ). ChunkTells w c.args.writer.now c.answer.new.writer (Some true) m h line bs new c.clear.new.self) (sym more)
           (chunk_line w c.args.writer.now c.loop-byte.writer c.answer.new.writer m h mid new line (take i bytes) c.loop-byte.held c.clear.new.self (get_or bytes i 0)
-            (c.loop-byte.invariant.told line e) c.if-byte-ne10.false said c.clear.ensures);
+          (c.loop-byte.invariant.told line e) c.if-byte-ne10.false said c.clear.ensures);
     }
 
 pub returns-clause-tells : goal.returns-clause-tells

@@ -19,12 +19,12 @@ returns c =
     let low = c.in_ok-made.ensures in
     let token : get_or ts s.at 0 ≡ tok = sym (look.3.1 0) in
     let stack : c.push.new.self.items ≡ s.stack.items ++ tok ∷ [] =
-        c.in_ok-push.ensures.items ∙ ap (λ (l : List ℕ). l ++ tok ∷ []) (low.0 ∙ take_whole c.len.result s.stack.items (search rules)) in
+    c.in_ok-push.ensures.items ∙ ap (λ (l : List ℕ). l ++ tok ∷ []) (low.0 ∙ take_whole c.len.result s.stack.items (search rules)) in
     let at : c.in_ok-made.made.at + 1 ≡ suc s.at = omega (arith, low.1) in
     let rest : drop (c.in_ok-made.made.at + 1) (places_from 1 ts) ≡ drop (suc s.at) (places_from 1 ts) = ap (λ (n : ℕ). drop n (places_from 1 ts)) at in
     let counter : c.saturating_sub.result ≡ s.counter - 1 = c.saturating_sub.ensures ∙ ap (λ (n : ℕ). n - 1) low.2 in
     let front : drop s.at (places_from 1 ts) ≡ (tok, 1 + s.at) ∷ drop (suc s.at) (places_from 1 ts) =
-        drop-places_from 1 s.at ts look.3.0 ∙ ap (λ (t : ℕ). let pair : ℕ × ℕ = (t, 1 + s.at) in pair ∷ drop (suc s.at) (places_from 1 ts)) token in
+    drop-places_from 1 s.at ts look.3.0 ∙ ap (λ (t : ℕ). let pair : ℕ × ℕ = (t, 1 + s.at) in pair ∷ drop (suc s.at) (places_from 1 ts)) token in
     shifted-some _ _ _ tok (1 + s.at) front
     ∙ ap (λ (d : Configuration). let pair : StepKind × Configuration = (kinds.Shift tok, d) in pair)
-      (same (made (s.stack.items ++ tok ∷ []) (drop (suc s.at) (places_from 1 ts)) (s.counter - 1) s.errors s.mode) _ (sym stack) (sym rest) (sym counter) (sym low.3) (sym low.4))
+    (same (made (s.stack.items ++ tok ∷ []) (drop (suc s.at) (places_from 1 ts)) (s.counter - 1) s.errors s.mode) _ (sym stack) (sym rest) (sym counter) (sym low.3) (sym low.4))

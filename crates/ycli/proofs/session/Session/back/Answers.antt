@@ -17,5 +17,5 @@ invariant_of-self c =
     let m : Machine = machine_over s.tables in
     let e : s.past.items ≡ c.pop.new.self.items ++ c.in-Some.field-0 ∷ [] = search rules in
     let split : map (step_of ts) (reverse s.past.items) ≡ step_of ts c.in-Some.field-0 ∷ map (step_of ts) (reverse c.pop.new.self.items) =
-        ap (λ (l : List Step). map (step_of ts) (reverse l)) e ∙ past-push (step_of ts) c.pop.new.self.items c.in-Some.field-0 in
+    ap (λ (l : List Step). map (step_of ts) (reverse l)) e ∙ past-push (step_of ts) c.pop.new.self.items c.in-Some.field-0 in
     record { steps = ∥∥₁_map s.steps (λ h. (subst (LeadsTo m (first_configuration ts) (configuration_of ts s.current)) split h).1) }

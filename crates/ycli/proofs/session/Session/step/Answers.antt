@@ -21,14 +21,14 @@ invariant_of-self-2 c =
     let past : List (StepKind × Configuration) = map (step_of ts) (reverse s.past.items) in
     let items : c.push.new.self.items ≡ s.past.items ++ step ∷ [] = search rules in
     let split : map (step_of ts) (reverse c.push.new.self.items) ≡ step_of ts step ∷ past =
-        ap (λ (l : List Step). map (step_of ts) (reverse l)) items ∙ past-push (step_of ts) s.past.items step in
+    ap (λ (l : List Step). map (step_of ts) (reverse l)) items ∙ past-push (step_of ts) s.past.items step in
     let before : c.replace-before.result ≡ s.current = c.replace-before.ensures.value in
     let now : c.replace-before.new.dest ≡ c.in_ok-kind.made = c.replace-before.ensures.after in
     let told : next m (configuration_of ts s.current) ≡ Some (kind, configuration_of ts c.in_ok-kind.made) =
-        subst (λ (l : List ℕ). next m (configuration_of l s.current) ≡ Some (kind, configuration_of l c.in_ok-kind.made)) c.deref.ensures.value c.in_ok-kind.ensures in
+    subst (λ (l : List ℕ). next m (configuration_of l s.current) ≡ Some (kind, configuration_of l c.in_ok-kind.made)) c.deref.ensures.value c.in_ok-kind.ensures in
     let steps : next m (configuration_of ts c.replace-before.result) ≡ Some (kind, configuration_of ts c.replace-before.new.dest) =
-        ap (λ (x : Snapshot). next m (configuration_of ts x)) before ∙ told
-        ∙ ap (λ (x : Snapshot). let found : Option (StepKind × Configuration) = Some (kind, configuration_of ts x) in found) (sym now) in
+    ap (λ (x : Snapshot). next m (configuration_of ts x)) before ∙ told
+    ∙ ap (λ (x : Snapshot). let found : Option (StepKind × Configuration) = Some (kind, configuration_of ts x) in found) (sym now) in
     record {
       steps = ∥∥₁_map s.steps (λ h. subst (LeadsTo m first (configuration_of ts c.replace-before.new.dest)) (sym split)
           (steps, subst (λ (x : Snapshot). LeadsTo m first (configuration_of ts x) past) (sym before) h));

@@ -1,0 +1,20 @@
+use Rattle.std.proofs.Common.{ℕ, List, ◌≡◌, ◌≤◌, length, Result}
+use Rattle.std.specs.List.{All}
+use Rattle.ycli.specs.declared.tokens.TokenFault.{TokenFault}
+use Rattle.ycli.specs.TokensFile.{Outcome}
+use Rattle.ycli.specs.Tables.{IsInput}
+use Rattle.ycli.specs.Reading.{symbol_named}
+use Rattle.ycli.proofs.OneOutcome.{after_tokens}
+use Rattle.ycli.proofs.tokens.read_all.Given as goal
+
+-- whatever is read of the rest completes the whole
+abbrev pub invariant-loop-symbols : goal.invariant-loop-symbols
+invariant-loop-symbols l = record {
+  few : length l.symbols.items ≤ 1000000;
+  inputs : All (IsInput l.tables.tokens) l.symbols.items;
+  told : (r : Result (List ℕ) TokenFault) → Outcome (symbol_named l.tables) l.tables.tokens (length l.symbols.items) l.rest r → Outcome (symbol_named l.tables) l.tables.tokens 0 l.initial.bytes (after_tokens l.symbols.items r);
+}
+
+-- each word takes a byte
+abbrev pub decreases-loop-symbols : goal.decreases-loop-symbols
+decreases-loop-symbols l = length l.rest

@@ -1,0 +1,128 @@
+//! What the programs write to standard error, and the status that goes with it.
+
+ghost use Rattle.std.specs.Prelude.{◌≡◌};
+
+use crate::fault::SessionFault;
+use crate::link::Link;
+use crate::plain::ReadFault;
+use crate::put::{put, put_all, put_number};
+use crate::thin::BuildFault;
+use crate::tokens::TokenFault;
+use std::alloc::AllocError;
+use std::io::{self, Write};
+
+/// Why a program ends before its work is done.
+#[derive(Clone, Copy, Debug)]
+pub(crate) enum Trouble<'a> {
+    /// The words are refused.
+    Usage,
+    /// The grammar file is more than the thin reader takes.
+    NotYet,
+    /// The tokens file is refused.
+    Tokens(TokenFault),
+    /// The grammar has too many item sets.
+    TooManySets,
+    /// Want of memory.
+    NoMemory,
+    /// The file at this path can't be read.
+    CannotRead(&'a str),
+    /// The session ended for a fault of a stream.
+    Session(SessionFault),
+}
+
+impl<'a> From<ReadFault> for Trouble<'a> {
+    fn from(fault: ReadFault) -> Trouble<'a> {
+        match fault {
+            ReadFault::NotYet => Trouble::NotYet,
+            ReadFault::Memory => Trouble::NoMemory,
+        }
+    }
+}
+
+impl<'a> From<BuildFault> for Trouble<'a> {
+    fn from(fault: BuildFault) -> Trouble<'a> {
+        match fault {
+            BuildFault::TooManySets => Trouble::TooManySets,
+            BuildFault::Memory => Trouble::NoMemory,
+        }
+    }
+}
+
+impl<'a> From<TokenFault> for Trouble<'a> {
+    fn from(fault: TokenFault) -> Trouble<'a> {
+        match fault {
+            TokenFault::Memory => Trouble::NoMemory,
+            _ => Trouble::Tokens(fault),
+        }
+    }
+}
+
+impl<'a> From<SessionFault> for Trouble<'a> {
+    fn from(fault: SessionFault) -> Trouble<'a> {
+        Trouble::Session(fault)
+    }
+}
+
+impl<'a> From<AllocError> for Trouble<'a> {
+    fn from(_refused: AllocError) -> Trouble<'a> {
+        Trouble::NoMemory
+    }
+}
+
+impl<'a> Trouble<'a> {
+    /// What a failed read of a file means.
+    pub(crate) fn of_file(path: &'a str, error: io::Error) -> Trouble<'a> {
+        match error.kind() {
+            io::ErrorKind::OutOfMemory => Trouble::NoMemory,
+            _ => Trouble::CannotRead(path),
+        }
+    }
+
+    /// The exit status: 1 for a file that is refused, 2 for words, 3 for what comes from outside and for limits.
+    pub(crate) fn status(&self) -> u8 {
+        match self {
+            Trouble::NotYet => 1,
+            Trouble::Tokens(_) => 1,
+            Trouble::Usage => 2,
+            Trouble::TooManySets => 3,
+            Trouble::NoMemory => 3,
+            Trouble::CannotRead(_) => 3,
+            Trouble::Session(_) => 3,
+        }
+    }
+
+    /// Writes the message, one line.
+    pub(crate) fn put<E: Write>(&self, link: &mut Link<E>) -> Option<()> {
+        match self {
+            Trouble::Usage => put(link, b"usage: ystep grammar tokens\n"),
+            Trouble::NotYet => put(link, b"ystep: not yet\n"),
+            Trouble::Tokens(fault) => put_token_fault(link, *fault),
+            Trouble::TooManySets => put(link, b"ystep: B1\n"),
+            Trouble::NoMemory => put(link, b"ystep: no memory\n"),
+            Trouble::CannotRead(path) => put_path(link, path.as_bytes()),
+            Trouble::Session(SessionFault::Read) => put(link, b"ystep: read fault\n"),
+            Trouble::Session(SessionFault::Write) => put(link, b"ystep: write fault\n"),
+        }
+    }
+}
+
+fn put_path<E: Write>(link: &mut Link<E>, path: &[u8]) -> Option<()> {
+    put_all(link, &[b"ystep: cannot read ", path, b"\n"])
+}
+
+/// A code and a place.
+fn put_place<E: Write>(link: &mut Link<E>, code: &[u8], place: usize) -> Option<()> {
+    put_all(link, &[b"ystep: ", code, b" at token "])?;
+    put_number(link, place as u64)?;
+    put(link, b"\n")
+}
+
+fn put_token_fault<E: Write>(link: &mut Link<E>, fault: TokenFault) -> Option<()> {
+    match fault {
+        TokenFault::Unknown(place) => put_place(link, b"K1", place),
+        TokenFault::NotInput(place) => put_place(link, b"K2", place),
+        TokenFault::TooMany => put(link, b"ystep: K3\n"),
+        TokenFault::Memory => put(link, b"ystep: no memory\n"),
+        TokenFault::BadLiteral(place) => put_place(link, b"K5", place),
+    }
+}

@@ -1,0 +1,103 @@
+//! What the programs do but for their exit.
+
+use crate::arguments::{YstepWords, ystep_words};
+use crate::link::Link;
+use crate::message::Trouble;
+use crate::plain::read_plain;
+use crate::put::put;
+use crate::run::run_session;
+use crate::session::Session;
+use crate::thin::build_plain;
+use crate::tokens::read_tokens;
+use clap::error::ErrorKind;
+use std::alloc::{AllocError, Global};
+use std::fs;
+use std::io::{Read, Write};
+use std::rt::Files;
+
+/// What the words of a program ask for.
+enum Request<'a> {
+    /// A session.
+    Session(YstepWords<'a>),
+    /// This text.
+    Help(String),
+}
+
+/// What the words of `ystep` ask for.
+fn request_of<'a>(alloc: Global, words: &'a [&'a str]) -> Result<Request<'a>, Trouble<'a>> {
+    match ystep_words(alloc, words) {
+        Ok(words) => Ok(Request::Session(words)),
+        Err(error) => match error.kind() {
+            ErrorKind::OutOfMemory => Err(Trouble::NoMemory),
+            ErrorKind::DisplayHelp => match format!(in alloc; "{error}") {
+                Ok(text) => Ok(Request::Help(text)),
+                Err(_) => Err(Trouble::NoMemory),
+            },
+            _ => Err(Trouble::Usage),
+        },
+    }
+}
+
+/// The bytes of a file.
+fn bytes_of<'a, F: Files + AllocGlobal>(rt: &F, path: &'a str) -> Result<Vec<u8>, Trouble<'a>> {
+    match fs::read(rt, path) {
+        Ok(bytes) => Ok(bytes),
+        Err(error) => Err(Trouble::of_file(path, error)),
+    }
+}
+
+/// A session over a grammar file and a tokens file, which is read only once the tables stand.
+fn session_of<'a, F: Files + AllocGlobal>(
+    rt: &F,
+    words: YstepWords<'a>,
+) -> Result<Session, Trouble<'a>> {
+    let alloc = rt.alloc();
+    let grammar = read_plain(alloc, &bytes_of(rt, words.grammar())?)?;
+    let tables = build_plain(alloc, grammar)?;
+    let tokens = read_tokens(alloc, &tables, &bytes_of(rt, words.tokens())?)?;
+    Ok(Session::new(alloc, tables, tokens))
+}
+
+/// Does what the words ask for.
+fn obey<'a, F: Files + AllocGlobal, R: Read, W: Write>(
+    rt: &F,
+    words: &'a [&'a str],
+    reader: &mut Link<R>,
+    writer: &mut Link<W>,
+) -> Result<(), Trouble<'a>> {
+    match request_of(rt.alloc(), words)? {
+        Request::Session(words) => {
+            let session = session_of(rt, words)?;
+            run_session(session, reader, writer)?;
+        }
+        Request::Help(text) => {
+            let _ = put(writer, text.as_bytes());
+            let _ = writer.flush();
+        }
+    }
+    Ok(())
+}
+
+/// All that `ystep` does but for its exit: `ystep grammar tokens` runs a session with command lines from the reader
+/// and replies to the writer. Messages go to the last link. The answer is the exit status: 0 where the session was
+/// served or help was asked for, 1 where a file is refused, 2 where the words are, 3 for what comes from outside, for
+/// want of memory and for too many item sets. A message or a help text that can't be written is passed over.
+pub fn ystep_run<'a, F: Files + AllocGlobal, R: Read, W: Write, E: Write>(
+    rt: &F,
+    words: &'a [&'a str],
+    reader: &mut Link<R>,
+    writer: &mut Link<W>,
+    errors: &mut Link<E>,
+) -> u8 {
+    reader.clear();
+    writer.clear();
+    errors.clear();
+    match obey(rt, words, reader, writer) {
+        Ok(()) => 0,
+        Err(trouble) => {
+            let _ = trouble.put(errors);
+            let _ = errors.flush();
+            trouble.status()
+        }
+    }
+}

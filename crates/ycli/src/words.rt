@@ -1,0 +1,95 @@
+//! The words of a tokens file.
+
+ghost use Rattle.std.specs.Prelude.{◌≡◌, ◌≤◌, ◌==◌, ◌&&◌, nat_le, true, false, length, take, drop, slice_index};
+ghost use Rattle.ycli.specs.TokensFile.{is_blank, is_plain, is_word_byte, all_pass, begins, FrontAt, FrontIs};
+ghost use Rattle.ycli.specs.Reading.{front_view};
+
+/// What stands at the front of a tokens file, behind blanks.
+#[derive(Clone, Copy)]
+pub(crate) enum Front<'a> {
+    /// The end of the file.
+    Nothing,
+    /// A word by its printed name, and what follows it.
+    Word(&'a [u8], &'a [u8]),
+    /// A quote that begins no literal.
+    Broken,
+}
+
+fn is_blank(byte: u8) -> bool
+    ensures { result ≡ is_blank byte }
+{
+    matches!(byte, b' ' | b'\t' | b'\n' | b'\r' | 12)
+}
+
+/// Whether a byte stands for itself in a literal.
+fn is_plain(byte: u8) -> bool
+    ensures { result ≡ is_plain byte }
+{
+    byte >= 32 && byte <= 126 && byte != b'\'' && byte != b'\\'
+}
+
+fn is_word_byte(byte: u8) -> bool
+    ensures { result ≡ is_word_byte byte }
+{
+    !(is_blank(byte) || byte == b'\'')
+}
+
+/// How many blanks stand at the front.
+fn blanks_in(bytes: &[u8]) -> usize
+    ensures within { result ≤ length bytes.now }
+    ensures each { all_pass is_blank (take result bytes.now) ≡ true }
+    ensures whole { begins is_blank (drop result bytes.now) ≡ false }
+{
+    for (index, byte) in bytes.iter().enumerate() {
+        if !is_blank(*byte) {
+            return index;
+        }
+    }
+    bytes.len()
+}
+
+/// How many bytes that are neither blanks nor quotes stand at the front.
+fn run_in(bytes: &[u8]) -> usize
+    ensures within { result ≤ length bytes.now }
+    ensures each { all_pass is_word_byte (take result bytes.now) ≡ true }
+    ensures whole { begins is_word_byte (drop result bytes.now) ≡ false }
+{
+    for (index, byte) in bytes.iter().enumerate() {
+        if !is_word_byte(*byte) {
+            return index;
+        }
+    }
+    bytes.len()
+}
+
+/// Whether a literal stands at the front.
+fn begins_literal(bytes: &[u8]) -> bool
+    ensures { result ≡ (nat_le 3 (length bytes.now) && ((slice_index bytes.now 0 == 39) && ((slice_index bytes.now 2 == 39) && is_plain (slice_index bytes.now 1)))) }
+{
+    bytes.len() >= 3 && bytes[0] == b'\'' && bytes[2] == b'\'' && is_plain(bytes[1])
+}
+
+/// What stands at the front, where no blank does.
+fn front_here(bytes: &[u8]) -> Front<'_>
+    requires { begins is_blank bytes.now ≡ false }
+    ensures { FrontAt bytes.now (front_view result) }
+{
+    if bytes.is_empty() {
+        return Front::Nothing;
+    }
+    if begins_literal(bytes) {
+        return Front::Word(&bytes[..3], &bytes[3..]);
+    }
+    if bytes[0] == b'\'' {
+        return Front::Broken;
+    }
+    let len = run_in(bytes);
+    Front::Word(&bytes[..len], &bytes[len..])
+}
+
+/// What stands at the front, behind blanks.
+pub(crate) fn front_of(bytes: &[u8]) -> Front<'_>
+    ensures { FrontIs bytes.now (front_view result) }
+{
+    front_here(&bytes[blanks_in(bytes)..])
+}
