@@ -1,11 +1,11 @@
 -- Lines, and the line that is held in an array.
-use Rattle.std.proofs.Common.{ℕ, zero, suc, ◌≡◌, ◌+◌, ◌<◌, ◌≤◌, ◌++◌, nat_lt, ◌==◌, Bool, true, false, List, [], ◌∷◌, length, take, drop, get_or, refl, sym, ap, ◌∙◌, arith, if◌then◌else◌, append_assoc, length-append, length-take-le, append-nil, codes, inl, inr}
+use Rattle.std.proofs.Common.{ℕ, zero, suc, ◌≡◌, ◌+◌, ◌<◌, ◌≤◌, ◌++◌, nat_lt, ◌==◌, Bool, true, false, List, [], ◌∷◌, length, take, drop, get_or, refl, sym, ap, ◌∙◌, arith, if◌then◌else◌, length-append, length-take-le, append-nil, inl, inr}
 use Rattle.std.proofs.lemmas.Bool.{cases_lt, lt-ltb}
 use Rattle.ycli.specs.declared.command.Command.TheVariants.{Unknown}
 use Rattle.ycli.specs.Command.{command_of}
 use Rattle.std.proofs.lemmas.List.{take_all, take_more_set, take_at}
 use Rattle.std.proofs.Math.ListN.{set}
-use Rattle.ycli.specs.Lines.{whole_after, rest_after, whole_lines, rest_line, last_line, lines_of}
+use Rattle.ycli.specs.Lines.{whole_after, rest_after}
 
 pub push-room : (n len byte : ℕ) (bytes held : List ℕ) → len < length bytes → len + 1 ≤ n → held ≡ take len bytes → take (len + 1) (set bytes len byte) ≡ take n (held ++ byte ∷ [])
 push-room n len byte bytes held h k e =

@@ -1,5 +1,5 @@
 -- The words of a tokens file: one answer for each file, and the steps of reading it.
-use Rattle.std.proofs.Common.{ℕ, zero, suc, ◌≡◌, ◌+◌, ◌-◌, ◌<◌, ◌≤◌, ◌++◌, nat_le, nat_lt, ◌==◌, ◌&&◌, not, Bool, true, false, List, [], ◌∷◌, Option, Some, None, Result, Ok, Err, length, take, drop, get_or, refl, sym, ap, ◌∙◌, subst, arith, append_assoc, append-nil, take-append-drop, length-append, true≢false, if◌then◌else◌}
+use Rattle.std.proofs.Common.{ℕ, zero, suc, ◌≡◌, ◌+◌, ◌-◌, ◌<◌, ◌≤◌, ◌++◌, nat_lt, ◌==◌, ◌&&◌, Bool, true, false, List, [], ◌∷◌, Option, Some, None, Result, Ok, Err, length, take, drop, get_or, refl, sym, ap, ◌∙◌, subst, arith, append_assoc, append-nil, take-append-drop, length-append, true≢false, if◌then◌else◌}
 use Rattle.std.proofs.lemmas.Bool.{lt-ltb, ltb-true}
 use Rattle.std.proofs.lemmas.List.{take_rest}
 use Rattle.ycli.specs.declared.tables.Tables.{Tables}
@@ -7,7 +7,6 @@ use Rattle.ycli.specs.declared.tokens.Tokens.{Tokens}
 use Rattle.ycli.specs.declared.tokens.TokenFault.{TokenFault}
 use Rattle.ycli.specs.declared.tokens.TokenFault.TheVariants as faults
 use Rattle.std.specs.List.{All}
-use Rattle.ycli.specs.Tables.{symbols_of}
 use Rattle.ycli.specs.TokensFile.{is_blank, is_plain, is_word_byte, all_pass, begins, WordAt, literal, run, Front, nothing, word, broken, FrontAt, FrontIs, Says, token, answer, named, says, with_token, is_input, Comes, Reads, Outcome}
 use Rattle.ycli.specs.Reading.{TokensOf, Gives, Agrees, symbol_named}
 

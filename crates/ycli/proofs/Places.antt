@@ -1,14 +1,13 @@
 -- Tokens with their places, and what follows for a configuration.
-use Rattle.std.proofs.Common.{ℕ, zero, suc, ◌≡◌, ◌+◌, ◌-◌, ◌<◌, ◌≤◌, ◌++◌, List, [], ◌∷◌, Option, Some, None, length, take, drop, map, reverse, get_or, refl, sym, ap, ap₂, ◌∙◌, subst, arith, append-nil, add-suc, length-drop}
+use Rattle.std.proofs.Common.{ℕ, zero, suc, ◌≡◌, ◌+◌, ◌-◌, ◌<◌, ◌≤◌, ◌++◌, List, [], ◌∷◌, Option, Some, None, length, take, drop, map, reverse, get_or, refl, sym, ap, ap₂, ◌∙◌, arith, length-drop}
 use Rattle.std.proofs.lemmas.List.{take_all, reverse-append}
 use Rattle.ycli.specs.declared.machine.Action.{Action}
-use Rattle.ycli.specs.declared.machine.Action.TheVariants.{Shift, Reduce, Accept, Error}
 use Rattle.ycli.specs.declared.machine.Mode.{Mode}
-use Rattle.ycli.specs.declared.machine.Mode.TheVariants.{Running, Popping, Accepted, Failed}
+use Rattle.ycli.specs.declared.machine.Mode.TheVariants.{Running, Failed}
 use Rattle.ycli.specs.declared.machine.StepKind.{StepKind}
 use Rattle.ycli.specs.declared.machine.StepKind.TheVariants as kinds
 use Rattle.ycli.specs.declared.tables.Tables.{Tables}
-use Rattle.ycli.specs.Machine.{Machine, Configuration, lookahead, shifted, failed, step_by, next_in, next}
+use Rattle.ycli.specs.Machine.{Machine, Configuration, lookahead, shifted, step_by, next_in, next}
 use Rattle.ycli.specs.History.{places_from}
 use Rattle.ycli.specs.Tables.{walk, goto_at}
 

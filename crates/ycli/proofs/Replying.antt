@@ -1,9 +1,6 @@
 -- How replies join.
-use Rattle.std.proofs.Common.{ℕ, zero, suc, ◌≡◌, ◌-◌, ◌<◌, ◌≤◌, ◌++◌, Bool, true, false, List, [], ◌∷◌, Option, Some, None, Result, Ok, Err, length, take, drop, map, flat_map, decimal, codes, if◌then◌else◌, refl, sym, ap, ◌∙◌, subst, arith, append_assoc, append-nil}
+use Rattle.std.proofs.Common.{ℕ, zero, suc, ◌≡◌, ◌++◌, Bool, true, false, List, [], Option, codes, if◌then◌else◌, refl, sym, ap, ◌∙◌, append-nil}
 use Rattle.ycli.specs.declared.machine.StepKind.{StepKind}
-use Rattle.ycli.specs.declared.machine.StepFault.{StepFault}
-use Rattle.ycli.specs.declared.machine.StepFault.TheVariants as refused
-use Rattle.ycli.specs.declared.machine.AtStart.{AtStart}
 use Rattle.ycli.specs.declared.command.Command.{Command}
 use Rattle.ycli.specs.declared.link.Link.{Link}
 use Rattle.std.specs.Io.KnownBytes.{Keeps}
@@ -11,7 +8,7 @@ use Rattle.std.proofs.KnownBytes.{Appends-kept}
 use Rattle.ycli.specs.Link.{device_of, has_failed}
 use Rattle.ycli.specs.Sends.{Sends}
 use Rattle.ycli.specs.Machine.{Machine, Configuration}
-use Rattle.ycli.specs.History.{History, Undoes, pushed, position}
+use Rattle.ycli.specs.History.{History, pushed, position}
 use Rattle.ycli.specs.Reply.{Reply, Answers, undo_text, undone, step_line}
 
 module _ {W : Type 0} (contents : W → Option (List ℕ)) where

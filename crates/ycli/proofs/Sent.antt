@@ -1,11 +1,11 @@
 -- How texts that go through a link join.
-use Rattle.std.proofs.Common.{ℕ, suc, ◌≡◌, ◌<◌, ◌++◌, ◌∷◌, Bool, true, false, List, [], Option, Some, None, is_some, if◌then◌else◌, length, take, drop, flat_map, get_or, refl, sym, ap, ◌∙◌, subst, append_assoc, append-nil, take-append-drop, arith}
+use Rattle.std.proofs.Common.{ℕ, suc, ◌≡◌, ◌<◌, ◌++◌, ◌∷◌, Bool, true, false, List, [], Option, Some, None, is_some, length, take, drop, flat_map, get_or, refl, sym, ap, ◌∙◌, subst, append_assoc, append-nil, take-append-drop, arith}
 use Prim.Native.Nat.{zero}
 use Rattle.std.specs.Io.KnownBytes.{Keeps, Appends}
 use Rattle.std.proofs.KnownBytes.{Appends-nil, Appends-trans, Appends-kept}
 use Rattle.ycli.specs.declared.link.Link.{Link}
 use Rattle.ycli.specs.Link.{device_of, has_failed}
-use Rattle.ycli.specs.Sends.{Sends, Begins, Grows}
+use Rattle.ycli.specs.Sends.{Sends, Begins}
 
 pub Appends-keep : (a b : Option (List ℕ)) → Keeps a b → Appends a b []
 Appends-keep a b k = Appends-kept a a b [] (Appends-nil a) k

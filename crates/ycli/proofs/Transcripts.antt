@@ -1,5 +1,5 @@
 -- How the replies to lines make the text of a session.
-use Rattle.std.proofs.Common.{ℕ, zero, suc, ◌≡◌, ◌-◌, ◌^◌, ◌<◌, ◌≤◌, ◌++◌, ◌==◌, Bool, true, false, List, [], ◌∷◌, Option, Some, None, Result, Ok, Err, is_some, length, take, refl, sym, ap, ◌∙◌, subst, arith, append_assoc, append-nil, inl, inr, ◌⊎◌, IsSome, IfSome, codes, length-append}
+use Rattle.std.proofs.Common.{ℕ, ◌≡◌, ◌-◌, ◌^◌, ◌<◌, ◌≤◌, ◌++◌, ◌==◌, Bool, true, false, List, [], ◌∷◌, Option, Some, None, Result, Ok, Err, length, take, refl, sym, ap, ◌∙◌, subst, arith, append_assoc, append-nil, inl, inr, ◌⊎◌, IsSome, IfSome, codes, length-append}
 use Rattle.std.proofs.lemmas.Bool.{cases_lt}
 use Rattle.ycli.specs.declared.machine.StepKind.{StepKind}
 use Rattle.ycli.specs.declared.machine.StepFault.{StepFault}
@@ -9,9 +9,9 @@ use Rattle.ycli.specs.declared.command.Command.TheVariants.{Step, Back, Show, Qu
 use Rattle.ycli.specs.declared.link.Link.{Link}
 use Rattle.ycli.specs.declared.fault.SessionFault.{SessionFault}
 use Rattle.ycli.specs.declared.fault.SessionFault.TheVariants as faults
-use Rattle.std.specs.Io.KnownBytes.{Consumes, Appends, IsAtEnd}
+use Rattle.std.specs.Io.KnownBytes.{Consumes, IsAtEnd}
 use Rattle.ycli.specs.Link.{device_of}
-use Rattle.ycli.specs.Sends.{Sends, Begins}
+use Rattle.ycli.specs.Sends.{Sends}
 use Rattle.ycli.specs.Machine.{Machine, Configuration, next}
 use Rattle.ycli.specs.History.{History, Steps, position}
 use Rattle.ycli.specs.Command.{command_of}

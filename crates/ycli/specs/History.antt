@@ -1,5 +1,5 @@
 -- The past of a parse: whole configurations, each the next of the one before.
-use Rattle.std.specs.Prelude.{ℕ, suc, ◌≡◌, ◌<◌, ◌≤◌, List, [], ◌∷◌, length, Option, Some, None, IsSome, Result, Ok, Err}
+use Rattle.std.specs.Prelude.{ℕ, suc, ◌≡◌, ◌<◌, ◌≤◌, List, [], ◌∷◌, length, Some, None, IsSome, Result, Ok, Err}
 use Rattle.ycli.specs.declared.machine.Mode.TheVariants.{Running}
 use Rattle.ycli.specs.declared.machine.StepKind.{StepKind}
 use Rattle.ycli.specs.declared.machine.StepFault.{StepFault}

@@ -1,5 +1,5 @@
 -- The lines of an input: cut at each newline; the last one may lack it.
-use Rattle.std.specs.Prelude.{ℕ, ◌≡◌, ◌==◌, List, [], ◌∷◌, ◌++◌, if◌then◌else◌}
+use Rattle.std.specs.Prelude.{ℕ, ◌==◌, List, [], ◌∷◌, ◌++◌, if◌then◌else◌}
 
 -- the lines that end in a newline, where so much of the first has come before
 abbrev pub whole_after : List ℕ → List ℕ → List (List ℕ)

@@ -1,5 +1,5 @@
 -- The machine of a parse: its configurations and its steps (Aho, Sethi and Ullman, 4.7, the LR parsing algorithm).
-use Rattle.std.specs.Prelude.{ℕ, suc, ◌≡◌, ◌-◌, ◌&&◌, Bool, true, false, List, [], ◌∷◌, ◌++◌, length, take, drop, map, Option, Some, None, if◌then◌else◌}
+use Rattle.std.specs.Prelude.{ℕ, ◌-◌, ◌&&◌, Bool, List, [], ◌∷◌, ◌++◌, length, take, drop, Option, Some, None, if◌then◌else◌}
 use Rattle.std.specs.Str.{bytes_eq}
 use Rattle.ycli.specs.declared.machine.Action.{Action}
 use Rattle.ycli.specs.declared.machine.Action.TheVariants.{Shift, Reduce, Accept, Error}

@@ -1,7 +1,6 @@
 -- What reading a tokens file answers.
-use Rattle.std.specs.Prelude.{ℕ, ◌≡◌, List, [], map, position, Option, Some, None, Result, Ok, Err}
+use Rattle.std.specs.Prelude.{ℕ, ◌≡◌, List, [], position, Option, Result, Ok, Err}
 use Rattle.std.specs.Str.{bytes_eq}
-use Rattle.std.specs.Borrow.{Bor}
 use Rattle.ycli.specs.declared.tables.Tables.{Tables}
 use Rattle.ycli.specs.declared.tokens.Tokens.{Tokens}
 use Rattle.ycli.specs.declared.tokens.TokenFault.{TokenFault}

@@ -1,5 +1,5 @@
 -- What a session is: a machine, the tokens first read, and a history.
-use Rattle.std.specs.Prelude.{ℕ, ◌≡◌, List}
+use Rattle.std.specs.Prelude.{ℕ, List}
 use Rattle.ycli.specs.declared.session.Session.{Session}
 use Rattle.ycli.specs.Machine.{Machine}
 use Rattle.ycli.specs.History.{History}

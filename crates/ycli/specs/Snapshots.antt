@@ -1,5 +1,5 @@
 -- What a session's snapshots stand for.
-use Rattle.std.specs.Prelude.{ℕ, ◌≡◌, List, [], ◌∷◌, map, reverse, drop}
+use Rattle.std.specs.Prelude.{ℕ, List, map, reverse, drop}
 use Rattle.ycli.specs.declared.machine.StepKind.{StepKind}
 use Rattle.ycli.specs.declared.snapshot.Snapshot.{Snapshot}
 use Rattle.ycli.specs.declared.snapshot.Step.{Step}

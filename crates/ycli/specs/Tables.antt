@@ -1,5 +1,5 @@
 -- What the tables say: cells and gotos by state, rules by number, names by symbol.
-use Rattle.std.specs.Prelude.{ℕ, ◌≡◌, ◌<◌, List, [], ◌∷◌, map, length, slice_index_or, Option, Some, None, is_some, Bool}
+use Rattle.std.specs.Prelude.{ℕ, ◌<◌, List, [], ◌∷◌, map, slice_index_or, Option, Some, None, is_some}
 use Rattle.ycli.specs.declared.machine.Action.{Action}
 use Rattle.ycli.specs.declared.machine.Action.TheVariants as actions
 use Rattle.ycli.specs.declared.tables.Tables.{Tables}

@@ -1,5 +1,5 @@
 -- The text of a session: the replies to its lines, up to a `quit` or to the end of the input.
-use Rattle.std.specs.Prelude.{ℕ, ◌≡◌, Bool, true, false, List, [], ◌∷◌, ◌++◌, Option, Some, None, Result, Ok, Err}
+use Rattle.std.specs.Prelude.{ℕ, ◌≡◌, Bool, true, false, List, [], ◌∷◌, ◌++◌, Option, Some, Result, Ok, Err}
 use Rattle.std.specs.Io.KnownBytes.{Appends, Consumes}
 use Rattle.ycli.specs.declared.fault.SessionFault.{SessionFault}
 use Rattle.ycli.specs.declared.fault.SessionFault.TheVariants as faults

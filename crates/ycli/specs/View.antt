@@ -1,5 +1,4 @@
 -- What a view shows.
-use Rattle.std.specs.Prelude.{ℕ}
 use Rattle.ycli.specs.declared.view.View.{View}
 use Rattle.ycli.specs.Machine.{Configuration}
 use Rattle.ycli.specs.Snapshots.{configuration_of}

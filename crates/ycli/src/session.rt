@@ -59,7 +59,7 @@ impl Session {
         if self.current.mode != Mode::Running {
             return Err(StepFault::Halted);
         }
-        if self.past.len() >= MAX_POSITION {
+        if self.position() >= MAX_POSITION {
             return Err(StepFault::Limit);
         }
         self.past.reserve(1)?;

@@ -1,4 +1,4 @@
-use Rattle.std.proofs.Common.{ℕ, ◌≡◌, ◌≤◌, ◌+◌, ◌++◌, List, length, take, drop, is_some, true, false, arith, ap, sym, subst, ◌∙◌, length-drop}
+use Rattle.std.proofs.Common.{ℕ, ◌≤◌, List, length, take, drop, is_some, arith, ap, sym, subst, ◌∙◌, length-drop}
 use Rattle.std.proofs.lemmas.List.{take_rest}
 use Rattle.std.proofs.Math.Seq.{take-add}
 use Rattle.std.specs.Io.KnownBytes.{Appends}

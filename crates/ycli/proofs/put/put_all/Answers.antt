@@ -1,4 +1,4 @@
-use Rattle.std.proofs.Common.{ap, is_some, flat_map}
+use Rattle.std.proofs.Common.{ap, is_some}
 use Rattle.ycli.proofs.Sent.{Sends-part}
 use Rattle.ycli.proofs.put.put_all.Goals as goal
 

@@ -1,8 +1,7 @@
-use Rattle.std.proofs.Common.{true, false, subst, sym, ap, ◌∙◌, Bool, if◌then◌else◌}
+use Rattle.std.proofs.Common.{true, false, subst, ap, ◌∙◌, Bool, if◌then◌else◌}
 use Rattle.ycli.specs.Link.{has_failed}
 use Rattle.ycli.specs.declared.command.Command.{Command}
 use Rattle.ycli.specs.Session.{machine_of, history_of}
-use Rattle.ycli.specs.Command.{command_of}
 use Rattle.ycli.specs.Reply.{Answers}
 use Rattle.ycli.proofs.Replying.{answered-unflushed}
 use Rattle.ycli.proofs.reply.answer.Goals as goal

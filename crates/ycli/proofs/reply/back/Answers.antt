@@ -1,6 +1,4 @@
-use Rattle.std.proofs.Common.{rules, ◌≡◌, ◌<◌, ◌+◌, ◌-◌, ◌++◌, ℕ, suc, List, [], Bool, true, false, is_some, if◌then◌else◌, codes, arith, refl, ap, sym, ◌∙◌, subst, append_assoc, append-nil}
-use Rattle.ycli.specs.declared.machine.StepKind.{StepKind}
-use Rattle.ycli.specs.declared.link.Link.{Link}
+use Rattle.std.proofs.Common.{◌≡◌, ◌+◌, ◌-◌, ◌++◌, ℕ, suc, List, [], Bool, true, false, is_some, if◌then◌else◌, codes, arith, refl, ap, sym, ◌∙◌, subst, append_assoc, append-nil}
 use Rattle.ycli.specs.Sends.{Sends}
 use Rattle.ycli.specs.Machine.{Machine}
 use Rattle.ycli.specs.History.{History, position}

@@ -1,4 +1,4 @@
-use Rattle.std.proofs.Common.{ap, is_some, ◌≡◌, ◌<◌, ◌+◌, suc, length, get_or, take, map, subst, List, ◌∷◌, ℕ, Bool, true, false, sym, ◌∙◌, arith}
+use Rattle.std.proofs.Common.{ap, is_some, ◌≡◌, ◌+◌, suc, length, get_or, take, map, subst, List, ◌∷◌, ℕ, true, false, sym, ◌∙◌, arith}
 use Rattle.std.proofs.lemmas.List.{length-map}
 use Rattle.std.proofs.Math.ListN.{get_or-map}
 use Rattle.ycli.specs.Sends.{Sends}

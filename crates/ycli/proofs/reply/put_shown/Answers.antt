@@ -1,5 +1,4 @@
-use Rattle.std.proofs.Common.{ap, is_some, ◌≡◌, ◌++◌, List, ℕ, true, false, codes, flat_map}
-use Rattle.ycli.specs.Sends.{Sends}
+use Rattle.std.proofs.Common.{◌++◌, false, codes}
 use Rattle.ycli.specs.Session.{machine_of, history_of}
 use Rattle.ycli.specs.Reply.{shown_head, shown_stack, shown_rest, shown_counts, shown}
 use Rattle.ycli.proofs.Sent.{Sends-then, Sends-stop, Sends-none}

@@ -1,4 +1,4 @@
-use Rattle.std.proofs.Common.{ap, is_some, ◌≡◌, ◌<◌, length, get_or, subst, List, ◌∷◌, ℕ, Bool, true, false, sym, ◌∙◌, arith}
+use Rattle.std.proofs.Common.{ap, is_some, ◌≡◌, length, get_or, subst, List, ◌∷◌, ℕ, false, ◌∙◌, arith}
 use Rattle.ycli.specs.Sends.{Sends}
 use Rattle.ycli.specs.Machine.{Configuration}
 use Rattle.ycli.specs.Session.{machine_of, history_of}

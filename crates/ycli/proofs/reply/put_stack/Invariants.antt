@@ -1,4 +1,4 @@
-use Rattle.std.proofs.Common.{◌≡◌, true, take}
+use Rattle.std.proofs.Common.{true, take}
 use Rattle.ycli.specs.Sends.{Sends}
 use Rattle.ycli.specs.Session.{machine_of, history_of}
 use Rattle.ycli.specs.Reply.{spaced}

@@ -1,4 +1,4 @@
-use Rattle.std.proofs.Common.{rules, ◌≡◌, ◌==◌, ℕ, List, [], Bool, true, false, Option, Some, None, is_some, length, refl, ap, sym, ◌∙◌, subst, arith}
+use Rattle.std.proofs.Common.{◌≡◌, ◌==◌, ℕ, List, [], Bool, true, false, Some, None, is_some, length, refl, ap, sym, ◌∙◌, subst}
 use Rattle.ycli.specs.Machine.{Machine}
 use Rattle.ycli.specs.History.{History}
 use Rattle.ycli.specs.Session.{machine_of, history_of}

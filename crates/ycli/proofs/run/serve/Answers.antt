@@ -1,4 +1,4 @@
-use Rattle.std.proofs.Common.{rules, ◌≡◌, ◌<◌, ◌^◌, ℕ, List, [], Bool, true, false, Option, Some, None, Result, Ok, Err, length, take, refl, ap, sym, ◌∙◌, subst}
+use Rattle.std.proofs.Common.{◌≡◌, ◌<◌, ◌^◌, ℕ, List, Bool, true, false, Some, Result, Ok, Err, length, take, ap, sym, ◌∙◌, subst}
 use Rattle.std.proofs.lemmas.Result.{err_from_is_err_and}
 use Rattle.ycli.specs.declared.fault.SessionFault.{SessionFault}
 use Rattle.ycli.specs.declared.fault.SessionFault.TheVariants as faults

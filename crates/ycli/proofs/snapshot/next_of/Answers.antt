@@ -1,7 +1,6 @@
-use Rattle.std.proofs.Common.{rules, ◌≡◌, ◌≤◌, ℕ, List, Option, Some, get_or, sym, ap, ◌∙◌, refl, le_refl}
+use Rattle.std.proofs.Common.{◌≡◌, ℕ, List, Option, Some, get_or, sym, ap, ◌∙◌, le_refl}
 use Rattle.std.proofs.lemmas.Result.{IfOk-weaker}
 use Rattle.ycli.specs.declared.machine.StepKind.{StepKind}
-use Rattle.ycli.specs.declared.machine.Action.{Action}
 use Rattle.ycli.specs.Machine.{Machine, Configuration}
 use Rattle.ycli.specs.Snapshots.{configuration_of}
 use Rattle.ycli.specs.Tables.{machine_over}

@@ -1,4 +1,4 @@
-use Rattle.std.proofs.Common.{rules, ◌≡◌, ℕ, suc, ◌+◌, ◌-◌, ◌≤◌, ◌<◌, List, ◌++◌, [], ◌∷◌, length, take, drop, sym, ap, ◌∙◌, refl, arith, get_or}
+use Rattle.std.proofs.Common.{rules, ◌≡◌, ℕ, suc, ◌+◌, ◌-◌, List, ◌++◌, [], ◌∷◌, drop, sym, ap, ◌∙◌, arith, get_or}
 use Rattle.ycli.specs.declared.machine.StepKind.{StepKind}
 use Rattle.ycli.specs.declared.machine.StepKind.TheVariants as kinds
 use Rattle.ycli.specs.Machine.{Configuration}

@@ -1,11 +1,11 @@
-use Rattle.std.proofs.Common.{rules, ◌≡◌, ◌<◌, ◌≤◌, ◌+◌, ◌++◌, ◌&&◌, nat_lt, ℕ, suc, List, [], ◌∷◌, Bool, true, Result, Ok, Err, length, get_or, arith, sym, ap, ◌∙◌, subst, length-append}
+use Rattle.std.proofs.Common.{rules, ◌≡◌, ◌++◌, nat_lt, ℕ, suc, List, [], ◌∷◌, Result, Ok, Err, length, arith, sym, ap, ◌∙◌, subst, length-append}
 use Prim.Native.Nat.{zero}
 use Rattle.std.specs.List.{All}
 use Rattle.std.proofs.lemmas.Bool.{ltb-true}
 use Rattle.ycli.specs.declared.tokens.TokenFault.{TokenFault}
-use Rattle.ycli.specs.TokensFile.{Says, token, answer, Comes, Outcome, with_token, is_input}
+use Rattle.ycli.specs.TokensFile.{token, answer, Comes, Outcome, with_token}
 use Rattle.ycli.specs.Tables.{IsInput}
-use Rattle.ycli.specs.Reading.{symbol_named, next_view}
+use Rattle.ycli.specs.Reading.{symbol_named}
 use Rattle.ycli.proofs.OneOutcome.{after_tokens, after_one, after_none, gives_fault, Token, token_facts, and_true, all_push}
 use Rattle.ycli.proofs.tokens.read_all.Goals as goal
 

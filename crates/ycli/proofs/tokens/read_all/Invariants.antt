@@ -1,4 +1,4 @@
-use Rattle.std.proofs.Common.{ℕ, List, ◌≡◌, ◌≤◌, length, Result}
+use Rattle.std.proofs.Common.{ℕ, List, ◌≤◌, length, Result}
 use Rattle.std.specs.List.{All}
 use Rattle.ycli.specs.declared.tokens.TokenFault.{TokenFault}
 use Rattle.ycli.specs.TokensFile.{Outcome}

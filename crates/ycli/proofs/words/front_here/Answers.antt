@@ -1,4 +1,4 @@
-use Rattle.std.proofs.Common.{rules, ◌≡◌, ◌≤◌, ◌==◌, ◌&&◌, nat_le, Bool, true, ℕ, List, length, get_or, arith, sym, ◌∙◌}
+use Rattle.std.proofs.Common.{◌≡◌, ◌==◌, ◌&&◌, nat_le, Bool, true, ℕ, List, length, get_or, sym, ◌∙◌}
 use Rattle.std.proofs.lemmas.Bool.{leb-true, eqb-true}
 use Rattle.ycli.specs.TokensFile.{is_plain}
 use Rattle.ycli.proofs.OneOutcome.{literal_at, and_true}

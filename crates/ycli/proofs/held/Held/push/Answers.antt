@@ -1,4 +1,4 @@
-use Rattle.std.proofs.Common.{rules, ◌≡◌, ◌<◌, ◌≤◌, ◌+◌, ℕ, List, length, take, arith, sym, ap, ◌∙◌, length-take-le}
+use Rattle.std.proofs.Common.{◌≡◌, ◌≤◌, length, arith, sym, ap, ◌∙◌, length-take-le}
 use Rattle.ycli.proofs.Lines.{push-room, push-full}
 use Rattle.ycli.proofs.held.Held.push.Goals as goal
 

@@ -1,9 +1,7 @@
-use Rattle.std.proofs.Common.{rules, ◌≡◌, List, ◌∷◌, [], ◌++◌, map, reverse, subst, ap, ◌∙◌, sym}
-use Rattle.std.proofs.lemmas.List.{reverse-append}
+use Rattle.std.proofs.Common.{rules, ◌≡◌, List, ◌∷◌, [], ◌++◌, map, reverse, subst, ap, ◌∙◌}
 use Rattle.std.proofs.Math.Logic.{∥∥₁_map}
-use Rattle.ycli.specs.declared.machine.StepKind.{StepKind}
 use Rattle.ycli.specs.declared.snapshot.Step.{Step}
-use Rattle.ycli.specs.Machine.{Machine, Configuration}
+use Rattle.ycli.specs.Machine.{Machine}
 use Rattle.ycli.specs.History.{LeadsTo, first_configuration}
 use Rattle.ycli.specs.Snapshots.{configuration_of, step_of}
 use Rattle.ycli.specs.Tables.{machine_over}

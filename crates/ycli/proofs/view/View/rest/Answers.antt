@@ -1,4 +1,4 @@
-use Rattle.std.proofs.Common.{ℕ, List, ◌≡◌, ◌<◌, ◌+◌, ◌-◌, length, drop, take, get_or, arith, length-drop, sym, ap, ap₂, ◌∙◌}
+use Rattle.std.proofs.Common.{ℕ, List, ◌≡◌, ◌<◌, ◌+◌, ◌-◌, length, drop, get_or, arith, length-drop, sym, ap, ap₂, ◌∙◌}
 use Rattle.std.proofs.lemmas.List.{take_rest, get_or-drop}
 use Rattle.ycli.specs.View.{shown_by}
 use Rattle.ycli.proofs.Places.{within_rest, get-places_from}

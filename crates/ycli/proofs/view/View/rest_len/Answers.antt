@@ -1,4 +1,4 @@
-use Rattle.std.proofs.Common.{◌≡◌, ◌-◌, length, drop, arith, sym, ap, ◌∙◌, length-drop}
+use Rattle.std.proofs.Common.{◌-◌, sym, ap, ◌∙◌, length-drop}
 use Rattle.ycli.specs.History.{places_from}
 use Rattle.ycli.specs.View.{shown_by}
 use Rattle.ycli.proofs.Places.{length-places_from}

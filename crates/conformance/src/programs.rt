@@ -1,0 +1,169 @@
+//! The program's call: its messages and statuses.
+
+use crate::devices::{Refusal, Sink, Source};
+use crate::setting::{COMMANDS, REPLIES};
+use std::fs;
+use std::test::Fail;
+use ycli::link::Link;
+use ycli::programs::ystep_run;
+
+/// What a run of the program wrote and answered.
+struct Outcome {
+    status: u8,
+    replies: Sink,
+    messages: Sink,
+}
+
+/// Runs the program on these words.
+fn run(rt: &HostRuntime, words: &[&str], refused_read: usize, refusal: Refusal) -> Outcome {
+    let mut reader = Link::new(Source::new(COMMANDS, 4096, refused_read));
+    let mut writer = Link::new(Sink::new(4096, refusal));
+    let mut errors = Link::new(Sink::new(4096, Refusal::Never));
+    let status = ystep_run(rt, words, &mut reader, &mut writer, &mut errors);
+    Outcome {
+        status,
+        replies: writer.into_inner(),
+        messages: errors.into_inner(),
+    }
+}
+
+/// Whether a run ends with this status and these messages, without a reply.
+fn refuses(outcome: &Outcome, status: u8, message: &[u8]) -> bool {
+    outcome.status == status
+        && outcome.messages.text() == message
+        && outcome.replies.text().is_empty()
+}
+
+impl Drop for Outcome {
+    fn drop(self) {
+        let Outcome {
+            status: _,
+            replies: _,
+            messages: _,
+        } = self;
+    }
+}
+
+#[test]
+fn a_session_is_served(rt: HostRuntime) -> Result<(), Fail> {
+    fs::write(&rt, "served.y", "%% s : 'x' ;\n")?;
+    fs::write(&rt, "served.tokens", "'x'\n")?;
+    let words = ["ystep", "served.y", "served.tokens"];
+    let outcome = run(&rt, &words, 0, Refusal::Never);
+    assert_eq!(rt; outcome.status, 0);
+    assert_eq!(rt; outcome.replies.text(), REPLIES);
+    assert!(rt; outcome.messages.text().is_empty());
+    assert!(rt;
+        refuses(
+            &run(&rt, &words, 1, Refusal::Never),
+            3,
+            b"ystep: read fault\n"
+        )
+    );
+    assert!(rt;
+        refuses(
+            &run(&rt, &words, 0, Refusal::Refuses(1)),
+            3,
+            b"ystep: write fault\n"
+        )
+    );
+    fs::remove_file(&rt, "served.y")?;
+    fs::remove_file(&rt, "served.tokens")?;
+    Ok(())
+}
+
+#[test]
+fn files_are_refused(rt: HostRuntime) -> Result<(), Fail> {
+    fs::write(&rt, "refused.y", "%% s : 'x' ;\n")?;
+    fs::write(&rt, "refused.tokens", "'x' y\n")?;
+    fs::write(&rt, "error.tokens", "error\n")?;
+    fs::write(&rt, "open.tokens", "'x\n")?;
+    fs::write(&rt, "more.y", "%token A %% s : A ;\n")?;
+    let never = Refusal::Never;
+    assert!(rt;
+        refuses(
+            &run(&rt, &["ystep", "more.y", "refused.tokens"], 0, never),
+            1,
+            b"ystep: not yet\n"
+        )
+    );
+    assert!(rt;
+        refuses(
+            &run(&rt, &["ystep", "refused.y", "refused.tokens"], 0, never),
+            1,
+            b"ystep: K1 at token 2\n"
+        )
+    );
+    assert!(rt;
+        refuses(
+            &run(&rt, &["ystep", "refused.y", "error.tokens"], 0, never),
+            1,
+            b"ystep: K2 at token 1\n"
+        )
+    );
+    assert!(rt;
+        refuses(
+            &run(&rt, &["ystep", "refused.y", "open.tokens"], 0, never),
+            1,
+            b"ystep: K5 at token 1\n"
+        )
+    );
+    assert!(rt;
+        refuses(
+            &run(&rt, &["ystep", "absent.y", "open.tokens"], 0, never),
+            3,
+            b"ystep: cannot read absent.y\n"
+        )
+    );
+    assert!(rt;
+        refuses(
+            &run(&rt, &["ystep", "refused.y", "absent"], 0, never),
+            3,
+            b"ystep: cannot read absent\n"
+        )
+    );
+    // The tokens file is read only once the tables stand.
+    assert!(rt;
+        refuses(
+            &run(&rt, &["ystep", "more.y", "absent"], 0, never),
+            1,
+            b"ystep: not yet\n"
+        )
+    );
+    for name in [
+        "refused.y",
+        "refused.tokens",
+        "error.tokens",
+        "open.tokens",
+        "more.y",
+    ] {
+        fs::remove_file(&rt, name)?;
+    }
+    Ok(())
+}
+
+#[test]
+fn words_are_refused(rt: HostRuntime) -> Result<(), Fail> {
+    let usage = b"usage: ystep grammar tokens\n";
+    assert!(rt; refuses(&run(&rt, &["ystep"], 0, Refusal::Never), 2, usage));
+    assert!(rt; refuses(&run(&rt, &["ystep", "a"], 0, Refusal::Never), 2, usage));
+    assert!(rt;
+        refuses(
+            &run(&rt, &["ystep", "a", "b", "c"], 0, Refusal::Never),
+            2,
+            usage
+        )
+    );
+    assert!(rt;
+        refuses(
+            &run(&rt, &["ystep", "-q", "a", "b"], 0, Refusal::Never),
+            2,
+            usage
+        )
+    );
+    let help = run(&rt, &["ystep", "--help"], 0, Refusal::Never);
+    assert_eq!(rt; help.status, 0);
+    assert!(rt; help.messages.text().is_empty());
+    assert!(rt; !help.replies.text().is_empty());
+    Ok(())
+}
