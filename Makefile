@@ -1,13 +1,17 @@
 # make demo   runs the stepper on examples/ and shows the sessions
 # make build  proves the programs and leaves them in bin/
+# make bench  times the reader of grammar files on large files
 # make test   the gate: every proof from nothing, the must-fail edits, the tests, the stored runs
-.PHONY: demo build test
+.PHONY: demo build bench test
 
 demo:
 	@sh examples/run.sh
 
 build:
 	@sh examples/build.sh
+
+bench:
+	@cd crates/bench && rt run -- all
 
 test:
 	@rt ci

@@ -143,6 +143,21 @@ fn files_are_refused(rt: HostRuntime) -> Result<(), Fail> {
 }
 
 #[test]
+fn too_many_tokens_are_refused(rt: HostRuntime) -> Result<(), Fail> {
+    fs::write(&rt, "many.y", "%% s : 'x' ;\n")?;
+    let mut text = Vec::with_capacity(rt.alloc(), 3_000_003)?;
+    for _ in 0..1_000_001 {
+        text.extend_from_slice(b"'x'")?;
+    }
+    fs::write(&rt, "many.tokens", text.as_slice())?;
+    let outcome = run(&rt, &["ystep", "many.y", "many.tokens"], 0, Refusal::Never);
+    assert!(rt; refuses(&outcome, 1, b"ystep: K3\n"));
+    fs::remove_file(&rt, "many.y")?;
+    fs::remove_file(&rt, "many.tokens")?;
+    Ok(())
+}
+
+#[test]
 fn words_are_refused(rt: HostRuntime) -> Result<(), Fail> {
     let usage = b"usage: ystep grammar tokens\n";
     assert!(rt; refuses(&run(&rt, &["ystep"], 0, Refusal::Never), 2, usage));

@@ -1,0 +1,17 @@
+pub mod Derivations
+pub mod Accepted
+pub mod Shapes
+pub mod Viable
+pub mod Runs
+pub mod Gaps
+pub mod Literals
+pub mod KeptTexts
+pub mod Parts
+pub mod Outcomes
+pub mod Made
+pub mod Fronts
+pub mod Coming
+pub mod Answering
+pub mod Trees
+pub mod OneTree
+pub mod CheckedSteps

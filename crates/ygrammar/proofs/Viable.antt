@@ -1,0 +1,65 @@
+-- The recogniser has a state behind exactly the lists that begin a grammar file.
+use Rattle.std.proofs.Common.{◌≡◌, List, [], ◌∷◌, ◌++◌, Some, None, true, false, refl, ap, ◌∙◌}
+use Rattle.ygrammar.specs.declared.kind.Kind.{Kind}
+use Rattle.ygrammar.specs.declared.kind.Kind.TheVariants as kind
+use Rattle.ygrammar.specs.declared.recogniser.State.{State}
+use Rattle.ygrammar.specs.declared.recogniser.State.TheVariants.{Declarations, StartWord, UnionWord, ListWord, ListTagOpen, ListTagName, ListTagged, Listed, Numbered, TypeWord, TypeTagOpen, TypeTagName, TypeTagged, Typed, RulesMark, Body, PrecWord, PrecNamed, Semicolons, End}
+use Rattle.ygrammar.specs.Syntax.{BeginsSpec}
+use Rattle.ygrammar.specs.Recogniser.{reached, is_final_at, run}
+use Rattle.ygrammar.proofs.Accepted.{lost, reached_append, recognised}
+use Rattle.ygrammar.proofs.Shapes.{derived}
+
+-- kinds that lead from a state to the end of a file
+completion : State → List Kind
+completion Declarations = kind.Mark ∷ kind.Head ∷ []
+completion StartWord = kind.Name ∷ kind.Mark ∷ kind.Head ∷ []
+completion UnionWord = kind.Act ∷ kind.Mark ∷ kind.Head ∷ []
+completion ListWord = kind.Name ∷ kind.Mark ∷ kind.Head ∷ []
+completion ListTagOpen = kind.Name ∷ kind.Greater ∷ kind.Name ∷ kind.Mark ∷ kind.Head ∷ []
+completion ListTagName = kind.Greater ∷ kind.Name ∷ kind.Mark ∷ kind.Head ∷ []
+completion ListTagged = kind.Name ∷ kind.Mark ∷ kind.Head ∷ []
+completion TypeWord = kind.Less ∷ kind.Name ∷ kind.Greater ∷ kind.Name ∷ kind.Mark ∷ kind.Head ∷ []
+completion TypeTagOpen = kind.Name ∷ kind.Greater ∷ kind.Name ∷ kind.Mark ∷ kind.Head ∷ []
+completion TypeTagName = kind.Greater ∷ kind.Name ∷ kind.Mark ∷ kind.Head ∷ []
+completion TypeTagged = kind.Name ∷ kind.Mark ∷ kind.Head ∷ []
+completion RulesMark = kind.Head ∷ []
+completion PrecWord = kind.Name ∷ []
+completion Listed = kind.Mark ∷ kind.Head ∷ []
+completion Numbered = kind.Mark ∷ kind.Head ∷ []
+completion Typed = kind.Mark ∷ kind.Head ∷ []
+completion Body = []
+completion PrecNamed = []
+completion Semicolons = []
+completion End = []
+
+completed : (q : State) → run q (completion q) ≡ true
+unfolding completion
+completed Declarations = refl
+completed StartWord = refl
+completed UnionWord = refl
+completed ListWord = refl
+completed ListTagOpen = refl
+completed ListTagName = refl
+completed ListTagged = refl
+completed Listed = refl
+completed Numbered = refl
+completed TypeWord = refl
+completed TypeTagOpen = refl
+completed TypeTagName = refl
+completed TypeTagged = refl
+completed Typed = refl
+completed RulesMark = refl
+completed Body = refl
+completed PrecWord = refl
+completed PrecNamed = refl
+completed Semicolons = refl
+completed End = refl
+
+pub viable : (ks : List Kind) (q : State) → reached (Some Declarations) ks ≡ Some q → BeginsSpec ks
+viable ks q e = (completion q, derived (ks ++ completion q) (ap is_final_at (reached_append (Some Declarations) ks (completion q) ∙ ap (λ o. reached o (completion q)) e) ∙ completed q))
+
+pub not_viable : (ks : List Kind) → reached (Some Declarations) ks ≡ None → BeginsSpec ks → ⊥
+not_viable ks e (more, d) =
+    let accepted : is_final_at (reached (Some Declarations) (ks ++ more)) ≡ true = recognised (ks ++ more) d in
+    let nowhere : is_final_at (reached (Some Declarations) (ks ++ more)) ≡ false = ap is_final_at (reached_append (Some Declarations) ks more ∙ ap (λ o. reached o more) e ∙ lost more) in
+    cc

@@ -1,0 +1,15 @@
+pub mod Bytes
+pub mod Derivation
+pub mod Syntax
+pub mod Recogniser
+pub mod Lexemes
+pub mod Cuttings
+pub mod Stages
+pub mod Kept
+pub mod Views
+pub mod Answers
+pub mod Tree
+pub mod Checked
+pub mod Forms
+pub mod Grammar
+pub mod WellFormed

@@ -1,0 +1,124 @@
+-- The recogniser's states and moves.
+use Rattle.std.specs.Prelude.{List, [], ◌∷◌, Option, Some, None, Bool, true, false}
+use Rattle.ygrammar.specs.declared.kind.Kind.{Kind}
+use Rattle.ygrammar.specs.declared.kind.Kind.TheVariants.{Name, Head, Literal, Number, Mark, Token, Left, Right, Nonassoc, Types, Start, Union, Prec, Code, Act, Less, Greater, Bar, Semicolon}
+use Rattle.ygrammar.specs.declared.recogniser.State.{State}
+use Rattle.ygrammar.specs.declared.recogniser.State.TheVariants.{Declarations, StartWord, UnionWord, ListWord, ListTagOpen, ListTagName, ListTagged, Listed, Numbered, TypeWord, TypeTagOpen, TypeTagName, TypeTagged, Typed, RulesMark, Body, PrecWord, PrecNamed, Semicolons, End}
+
+abbrev pub after_definition : Kind → Option State
+after_definition Start = Some StartWord
+after_definition Union = Some UnionWord
+after_definition Code = Some Declarations
+after_definition Token = Some ListWord
+after_definition Left = Some ListWord
+after_definition Right = Some ListWord
+after_definition Nonassoc = Some ListWord
+after_definition Types = Some TypeWord
+after_definition Mark = Some RulesMark
+after_definition _ = None
+
+abbrev pub on_name : State → Kind → Option State
+on_name q Name = Some q
+on_name q _ = None
+
+abbrev pub on_identifier : State → Kind → Option State
+on_identifier q Name = Some q
+on_identifier q Literal = Some q
+on_identifier q _ = None
+
+abbrev pub on_less : State → Kind → Option State
+on_less q Less = Some q
+on_less q _ = None
+
+abbrev pub on_greater : State → Kind → Option State
+on_greater q Greater = Some q
+on_greater q _ = None
+
+abbrev pub on_act : State → Kind → Option State
+on_act q Act = Some q
+on_act q _ = None
+
+abbrev pub on_head : State → Kind → Option State
+on_head q Head = Some q
+on_head q _ = None
+
+abbrev pub after_list_word : Kind → Option State
+after_list_word Less = Some ListTagOpen
+after_list_word k = on_identifier Listed k
+
+abbrev pub after_number : Kind → Option State
+after_number Name = Some Listed
+after_number Literal = Some Listed
+after_number k = after_definition k
+
+abbrev pub after_listed : Kind → Option State
+after_listed Number = Some Numbered
+after_listed k = after_number k
+
+abbrev pub after_typed : Kind → Option State
+after_typed Name = Some Typed
+after_typed k = after_definition k
+
+abbrev pub after_rule : Kind → Option State
+after_rule Semicolon = Some Semicolons
+after_rule Head = Some Body
+after_rule Bar = Some Body
+after_rule Mark = Some End
+after_rule _ = None
+
+abbrev pub after_body : Kind → Option State
+after_body Name = Some Body
+after_body Literal = Some Body
+after_body Act = Some Body
+after_body Prec = Some PrecWord
+after_body k = after_rule k
+
+abbrev pub after_prec : Kind → Option State
+after_prec Act = Some Semicolons
+after_prec k = after_rule k
+
+abbrev pub next_state : State → Kind → Option State
+next_state Declarations k = after_definition k
+next_state StartWord k = on_identifier Declarations k
+next_state UnionWord k = on_act Declarations k
+next_state ListWord k = after_list_word k
+next_state ListTagOpen k = on_name ListTagName k
+next_state ListTagName k = on_greater ListTagged k
+next_state ListTagged k = on_identifier Listed k
+next_state Listed k = after_listed k
+next_state Numbered k = after_number k
+next_state TypeWord k = on_less TypeTagOpen k
+next_state TypeTagOpen k = on_name TypeTagName k
+next_state TypeTagName k = on_greater TypeTagged k
+next_state TypeTagged k = on_name Typed k
+next_state Typed k = after_typed k
+next_state RulesMark k = on_head Body k
+next_state Body k = after_body k
+next_state PrecWord k = on_identifier PrecNamed k
+next_state PrecNamed k = after_prec k
+next_state Semicolons k = after_rule k
+next_state End k = None
+
+abbrev pub is_final : State → Bool
+is_final Body = true
+is_final PrecNamed = true
+is_final Semicolons = true
+is_final End = true
+is_final _ = false
+
+abbrev pub is_end : State → Bool
+is_end End = true
+is_end _ = false
+
+-- where the kinds lead from a state
+abbrev pub reached : Option State → List Kind → Option State
+reached q [] = q
+reached None (k ∷ ks) = None
+reached (Some q) (k ∷ ks) = reached (next_state q k) ks
+
+abbrev pub is_final_at : Option State → Bool
+is_final_at None = false
+is_final_at (Some q) = is_final q
+
+abbrev pub run : State → List Kind → Bool
+run q ks = is_final_at (reached (Some q) ks)

@@ -1,0 +1,25 @@
+//! The reader of grammar files, bytes to lexemes and lexemes to a syntax; and grammars as the layers above see them.
+#![tactic(auto)]
+
+mod bytes;
+mod cutting;
+mod fault;
+pub mod grammar;
+mod kept;
+mod kind;
+mod literal;
+mod part;
+mod percent;
+pub mod precedence;
+mod reading;
+mod recogniser;
+
+pub use cutting::{FILE_LIMIT, Placed, read_syntax};
+pub use fault::GrammarFault;
+pub use grammar::{Grammar, Rule, Sym};
+pub use kind::{Kind, Sign};
+pub use part::Lexeme;
+pub use precedence::{Associativity, Precedence};
+
+#[cfg(test)]
+mod tests;

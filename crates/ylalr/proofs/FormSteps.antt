@@ -1,0 +1,70 @@
+-- What a form after the dot adds to a row, symbol by symbol.
+use Rattle.std.proofs.Common.{ℕ, Bool, ◌≡◌, ◌<◌, ◌+◌, ◌⊎◌, List, length, take, get_or, refl, sym, ◌∙◌, ap, subst, inl, inr, arith}
+use Rattle.std.specs.List.{All}
+use Rattle.ylalr.specs.Marks.{marked}
+use Rattle.ylalr.specs.Rows.{BitRows, Holds, AddsFrom}
+use Rattle.ylalr.specs.Looks.{FormHas, FormGives}
+use Rattle.ylalr.proofs.FirstSteps.{unmarked_end}
+
+order : (j k : ℕ) → (j < k) ⊎ ((j ≡ k) ⊎ (k < j))
+order j k = grind arith
+
+-- the row `to` has what the first k symbols of the form begin with, all of which vanish
+pub record Adding (n : List Bool) (f : BitRows) (x : List ℕ) (m o : BitRows) (to k : ℕ) : Type 0 where
+  pub sound : (r b : ℕ) → Holds o r b → Holds m r b ⊎ ((r ≡ to) × FormHas n f x b)
+  pub every : (j b : ℕ) → j < k → Holds f (get_or x j 0) b → Holds o to b
+  pub kept : (r b : ℕ) → Holds m r b → Holds o r b
+
+pub adding_none : (n : List Bool) (f : BitRows) (x : List ℕ) (m : BitRows) (to : ℕ) → Adding n f x m m to 0
+adding_none n f x m to = record { sound = λ r b h. inl h; every = λ j b h z. absurd (omega arith); kept = λ r b h. h }
+
+pub adding_more : (n : List Bool) (f : BitRows) (x : List ℕ) (m o v : BitRows) (to k s : ℕ) → k < length x → s ≡ get_or x k 0 → All (marked n) (take k x) → AddsFrom o v to f s → Adding n f x m o to k → Adding n f x m v to (k + 1)
+adding_more n f x m o v to k s h e p a i = record { sound = sound; every = every; kept = λ r b z. (a r b).1 (inl (i.kept r b z)) }
+  where
+    sound : (r b : ℕ) → Holds v r b → Holds m r b ⊎ ((r ≡ to) × FormHas n f x b)
+    sound r b z = go ((a r b).0 z)
+      where
+        go : Holds o r b ⊎ ((r ≡ to) × Holds f s b) → Holds m r b ⊎ ((r ≡ to) × FormHas n f x b)
+        go (inl w) = i.sound r b w
+        go (inr w) = inr (w.0, record { place = k; within = h; before = p; there = subst (λ t. Holds f t b) e w.1 })
+
+    every : (j b : ℕ) → j < k + 1 → Holds f (get_or x j 0) b → Holds v to b
+    every j b l z = go (order j k)
+      where
+        go : (j < k) ⊎ ((j ≡ k) ⊎ (k < j)) → Holds v to b
+        go (inl w) = (a to b).1 (inl (i.every j b w z))
+        go (inr (inl w)) = (a to b).1 (inr (refl, subst (λ t. Holds f t b) (ap (λ t. get_or x t 0) w ∙ sym e) z))
+        go (inr (inr w)) = absurd (omega arith)
+
+-- a symbol that can't vanish ends the form
+pub stop_sound : (n : List Bool) (f : BitRows) (x : List ℕ) (m v : BitRows) (to from k : ℕ) → Adding n f x m v to k → (r b : ℕ) → Holds v r b → Holds m r b ⊎ ((r ≡ to) × FormGives n f x m from b)
+stop_sound n f x m v to from k i r b z = go (i.sound r b z)
+  where
+    go : Holds m r b ⊎ ((r ≡ to) × FormHas n f x b) → Holds m r b ⊎ ((r ≡ to) × FormGives n f x m from b)
+    go (inl w) = inl w
+    go (inr w) = inr (w.0, inl w.1)
+
+pub stop_every : (n : List Bool) (f : BitRows) (x : List ℕ) (m v : BitRows) (to from k : ℕ) → k < length x → (marked n (get_or x k 0) → ⊥) → Adding n f x m v to (k + 1) → (b : ℕ) → FormGives n f x m from b → Holds v to b
+stop_every n f x m v to from k h u i b (inl w) = go (order w.place k)
+  where
+    go : (w.place < k) ⊎ ((w.place ≡ k) ⊎ (k < w.place)) → Holds v to b
+    go (inl l) = i.every w.place b (omega arith) w.there
+    go (inr (inl l)) = i.every w.place b (omega arith) w.there
+    go (inr (inr l)) = absurd (unmarked_end n x k w.place l w.within u w.before)
+stop_every n f x m v to from k h u i b (inr w) = absurd (u (w.0 k 0 h))
+
+-- the whole form vanishes, and the row itself was added
+pub whole_sound : (n : List Bool) (f : BitRows) (x : List ℕ) (m o v : BitRows) (to from k : ℕ) → All (marked n) x → AddsFrom o v to o from → Adding n f x m o to k → (r b : ℕ) → Holds v r b → Holds m r b ⊎ ((r ≡ to) × FormGives n f x m from b)
+whole_sound n f x m o v to from k p a i r b z = go ((a r b).0 z)
+  where
+    step : (r ≡ to) → Holds m from b ⊎ ((from ≡ to) × FormHas n f x b) → Holds m r b ⊎ ((r ≡ to) × FormGives n f x m from b)
+    step e (inl w) = inr (e, inr (p, w))
+    step e (inr w) = inr (e, inl w.1)
+
+    go : Holds o r b ⊎ ((r ≡ to) × Holds o from b) → Holds m r b ⊎ ((r ≡ to) × FormGives n f x m from b)
+    go (inl w) = stop_sound n f x m o to from k i r b w
+    go (inr w) = step w.0 (i.sound from b w.1)
+
+pub whole_every : (n : List Bool) (f : BitRows) (x : List ℕ) (m o v : BitRows) (to from k : ℕ) → k ≡ length x → AddsFrom o v to o from → Adding n f x m o to k → (b : ℕ) → FormGives n f x m from b → Holds v to b
+whole_every n f x m o v to from k e a i b (inl w) = (a to b).1 (inl (i.every w.place b (subst (λ t. w.place < t) (sym e) w.within) w.there))
+whole_every n f x m o v to from k e a i b (inr w) = (a to b).1 (inr (refl, i.kept from b w.1))

@@ -1,0 +1,10 @@
+pub mod Collection
+pub mod First
+pub mod Items
+pub mod Looks
+pub mod Marks
+pub mod Nullable
+pub mod Parts
+pub mod Rows
+pub mod Sets
+pub mod States

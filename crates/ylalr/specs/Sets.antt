@@ -1,0 +1,82 @@
+-- Sets of items without lookaheads: closure and goto (Aho, Sethi, Ullman, section 4.7).
+use Rattle.std.specs.Prelude.{ℕ, suc, ◌≡◌, ◌≢◌, ◌<◌, ◌≤◌, ◌⊎◌, ◌↔◌, List, ◌∷◌, length, drop, All, AllPairs}
+use Rattle.std.specs.List.{Contains}
+use Rattle.ygrammar.specs.Grammar.{ContextFree, left_of, body_of, end_token}
+use Rattle.ylalr.specs.declared.items.Item.{Item}
+use Rattle.ylalr.specs.Rows.{BitRows, Holds}
+
+-- the items that a set of items leads to at one prefix
+pub data Closed (g : ContextFree) (K : ℕ → ℕ → Type 0) : ℕ → ℕ → Type 0 where
+  given : {r d : ℕ} → K r d → Closed g K r d
+  opened : {r d s : ℕ} {y : List ℕ} → Closed g K r d → drop d (body_of g r) ≡ left_of g s ∷ y → s < length g.rules → Closed g K s 0
+
+-- the item (r, d) comes from K by a move of the dot over x
+pub data Moved (g : ContextFree) (K : ℕ → ℕ → Type 0) (x : ℕ) : ℕ → ℕ → Type 0 where
+  moved : {r d : ℕ} {y : List ℕ} → K r d → drop d (body_of g r) ≡ x ∷ y → x ≢ end_token → Moved g K x r (suc d)
+
+-- the first item of rule 0
+pub data Begin : ℕ → ℕ → Type 0 where
+  begin : Begin 0 0
+
+-- the items of a list, as a set
+abbrev pub ItemsOf : List Item → ℕ → ℕ → Type 0
+ItemsOf k r d = Contains k (record { rule = r; dot = d })
+
+-- v has exactly the items that the items of k lead to at one prefix
+abbrev pub IsClosure : ContextFree → List Item → List Item → Type 0
+IsClosure g k v = (i : Item) → Contains v i ↔ Closed g (ItemsOf k) i.rule i.dot
+
+-- k has exactly the items of v with the dot moved over x
+abbrev pub IsAdvanced : ContextFree → List Item → ℕ → List Item → Type 0
+IsAdvanced g v x k = (i : Item) → Contains k i ↔ Moved g (ItemsOf v) x i.rule i.dot
+
+-- rules of the grammar, the dot in the body or at its end
+abbrev pub InRange : ContextFree → List Item → Type 0
+InRange g k = All (λ i. (i.rule < length g.rules) × (i.dot ≤ length (body_of g i.rule))) k
+
+-- by rule and then by dot
+abbrev pub Before : Item → Item → Type 0
+Before i j = (i.rule < j.rule) ⊎ ((i.rule ≡ j.rule) × (i.dot < j.dot))
+
+abbrev pub IsAscending : List Item → Type 0
+IsAscending k = AllPairs Before k
+
+-- the symbol s after a dot leads to the first item of rule r
+pub data Opens (g : ContextFree) : ℕ → ℕ → Type 0 where
+  itself : {s r : ℕ} → r < length g.rules → s ≡ left_of g r → Opens g s r
+  through : {s t r n : ℕ} {y : List ℕ} → n < length g.rules → s ≡ left_of g n → body_of g n ≡ t ∷ y → Opens g t r → Opens g s r
+
+-- an item of K has its dot before a symbol that leads to rule r
+pub record OpenedBy (g : ContextFree) (K : ℕ → ℕ → Type 0) (r : ℕ) : Type 0 where
+  pub rule : ℕ
+  pub dot : ℕ
+  pub symbol : ℕ
+  pub rest : List ℕ
+  pub item : K rule dot
+  pub next : drop dot (body_of g rule) ≡ symbol ∷ rest
+  pub opens : Opens g symbol r
+
+-- the rows of symbols are the rules that they lead to
+abbrev pub IsOpens : ContextFree → BitRows → Type 0
+IsOpens g m = (s r : ℕ) → Holds m s r ↔ Opens g s r
+
+abbrev pub SoundOpens : ContextFree → BitRows → Type 0
+SoundOpens g m = (s r : ℕ) → Holds m s r → Opens g s r
+
+-- each rule is in the row of its left side
+abbrev pub OwnOpens : ContextFree → BitRows → Type 0
+OwnOpens g m = (r : ℕ) → r < length g.rules → Holds m (left_of g r) r
+
+-- the rule n adds nothing
+abbrev pub OpensClosedAt : ContextFree → BitRows → ℕ → Type 0
+OpensClosedAt g m n = (t : ℕ) (y : List ℕ) → body_of g n ≡ t ∷ y → (r : ℕ) → Holds m t r → Holds m (left_of g n) r
+
+abbrev pub OpensClosed : ContextFree → BitRows → Type 0
+OpensClosed g m = (n : ℕ) → n < length g.rules → OpensClosedAt g m n
+
+-- the dot of i moves over x
+abbrev pub Moves : ContextFree → Item → ℕ → Type 0
+Moves g i x = (y : List ℕ) × (drop i.dot (body_of g i.rule) ≡ x ∷ y) × (x ≢ end_token)
+
+abbrev pub step_of : Item → Item
+step_of i = record { rule = i.rule; dot = suc i.dot }

@@ -1,0 +1,128 @@
+//! The gotos of states: for each state a list by symbol.
+
+ghost use Rattle.std.specs.Prelude.{◌≡◌, ◌<◌, ◌++◌, [], ◌∷◌, length, slice_index_or, OnOk};
+ghost use Rattle.ylalr.specs.States.{lookup, goto_of, IsAscendingRow};
+
+use std::alloc::{AllocError, Global};
+use std::marker::Model;
+use ygrammar::Sym;
+
+/// Over this symbol to this state.
+#[derive(Clone, Copy, Debug, Drop, PartialEq, Eq)]
+pub struct Goto {
+    pub symbol: Sym,
+    pub state: usize,
+}
+
+/// The gotos of one state.
+#[derive(Drop)]
+pub struct GotoRow {
+    list: Vec<Goto>,
+}
+
+impl Model for GotoRow {
+    ghost use Rattle.std.specs.Prelude.{List};
+    ghost use Rattle.ylalr.specs.declared.gotos.Goto.{Goto};
+
+    ghost Value = { List Goto };
+
+    ghost view = { λ l. l.list.items };
+}
+
+impl GotoRow {
+    /// No gotos.
+    pub fn new(alloc: Global) -> GotoRow
+        ensures { result ≡ [] }
+    {
+        GotoRow {
+            list: Vec::new(alloc),
+        }
+    }
+
+    /// Adds a goto at the end.
+    pub fn push(&mut self, goto: Goto) -> Result<(), AllocError>
+        ensures { OnOk result (self.new ≡ self.old ++ goto ∷ []) }
+    {
+        self.list.push(goto)?;
+        Ok(())
+    }
+
+    /// The gotos.
+    pub fn as_slice(&self) -> &[Goto]
+        ensures { result.now ≡ self.now }
+    {
+        self.list.as_slice()
+    }
+}
+
+/// The gotos of all states so far.
+#[derive(Drop)]
+pub struct Gotos {
+    rows: Vec<GotoRow>,
+}
+
+impl Model for Gotos {
+    ghost use Rattle.std.specs.Prelude.{List};
+    ghost use Rattle.ylalr.specs.declared.gotos.Goto.{Goto};
+
+    ghost Value = { List (List Goto) };
+
+    ghost view = { λ l. l.rows.items };
+}
+
+impl Gotos {
+    /// No states.
+    pub fn new(alloc: Global) -> Gotos
+        ensures { result ≡ [] }
+    {
+        Gotos {
+            rows: Vec::new(alloc),
+        }
+    }
+
+    /// Of how many states these are.
+    pub fn count(&self) -> usize
+        ensures { result ≡ length self.now }
+    {
+        self.rows.len()
+    }
+
+    /// The goto from state `q` over `x`.
+    pub fn get(&self, q: usize, x: Sym) -> Option<usize>
+        requires state { q < length self.now }
+        requires order { IsAscendingRow (slice_index_or self.now q []) }
+        ensures { result ≡ goto_of self.now q x }
+    {
+        seek(self.rows[q].as_slice(), x)
+    }
+
+    /// Adds the gotos of the next state.
+    pub fn push(&mut self, row: GotoRow) -> Result<(), AllocError>
+        ensures { OnOk result (self.new ≡ self.old ++ row ∷ []) }
+    {
+        self.rows.push(row)?;
+        Ok(())
+    }
+}
+
+/// The goto over `x` of a row by symbol.
+fn seek(row: &[Goto], x: Sym) -> Option<usize>
+    requires { IsAscendingRow row.now }
+    ensures { result ≡ lookup row.now x }
+{
+    let mut low = 0;
+    let mut high = row.len();
+    while low < high {
+        let mid = low + (high - low) / 2;
+        let found = row[mid];
+        if found.symbol == x {
+            return Some(found.state);
+        }
+        if found.symbol < x {
+            low = mid + 1;
+        } else {
+            high = mid;
+        }
+    }
+    None
+}

@@ -1,0 +1,51 @@
+//! A list of marks, one for each symbol, that are only ever set.
+
+ghost use Rattle.std.specs.Prelude.{◌≡◌, ◌+◌, ◌<◌, true, false, length, replicate, slice_set, slice_index_or, IfOk, if◌then◌else◌};
+ghost use Rattle.ylalr.specs.Marks.{unmarked};
+
+use std::alloc::{AllocError, Global};
+use std::marker::Model;
+
+/// Marks by number.
+#[derive(Drop)]
+pub struct Marks {
+    places: Vec<bool>,
+}
+
+impl Model for Marks {
+    ghost use Rattle.std.specs.Prelude.{List, Bool};
+
+    ghost Value = { List Bool };
+
+    ghost view = { λ m. m.places.items };
+}
+
+impl Marks {
+    /// `n` places, none marked.
+    pub fn new(alloc: Global, n: usize) -> Result<Marks, AllocError>
+        ensures { IfOk result (λ m. m ≡ replicate n false) }
+    {
+        let places = vec![in alloc; false; n]?;
+        Ok(Marks { places })
+    }
+
+    /// Whether place `i` is marked.
+    pub fn has(&self, i: usize) -> bool
+        requires { i < length self.now }
+        ensures { result ≡ slice_index_or self.now i false }
+    {
+        self.places[i]
+    }
+
+    /// Marks place `i`, and says whether it was unmarked.
+    pub fn mark(&mut self, i: usize) -> bool
+        requires { i < length self.old }
+        ensures set { self.new ≡ slice_set self.old i true }
+        ensures fewer { unmarked self.new + (if result then 1 else 0) ≡ unmarked self.old }
+        ensures unchanged { result ≡ false → self.new ≡ self.old }
+    {
+        let before = self.places[i];
+        self.places[i] = true;
+        !before
+    }
+}
