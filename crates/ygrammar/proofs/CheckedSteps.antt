@@ -24,24 +24,24 @@ derives_then (step s d) e = step s (derives_then d e)
 derives_before : {g : ContextFree} {x y : List ℕ} → Derives g x y → (z : List ℕ) → Derives g (x ++ z) (y ++ z)
 derives_before done z = done
 derives_before {g = g} (step {x = x} {y = y} s d) z = step (record {
-    before = s.before;
-    after = s.after ++ z;
-    rule = s.rule;
-    within = s.within;
-    source = rw s.source (append_assoc s.before (left_of g s.rule ∷ s.after) z);
-    target = rw s.target (append_assoc s.before (body_of g s.rule ++ s.after) z ∙ ap (λ (t : List ℕ). s.before ++ t) (append_assoc (body_of g s.rule) s.after z));
-  }) (derives_before d z)
+  before = s.before;
+  after = s.after ++ z;
+  rule = s.rule;
+  within = s.within;
+  source = rw s.source (append_assoc s.before (left_of g s.rule ∷ s.after) z);
+  target = rw s.target (append_assoc s.before (body_of g s.rule ++ s.after) z ∙ ap (λ (t : List ℕ). s.before ++ t) (append_assoc (body_of g s.rule) s.after z));
+}) (derives_before d z)
 
 derives_after : {g : ContextFree} {x y : List ℕ} (w : List ℕ) → Derives g x y → Derives g (w ++ x) (w ++ y)
 derives_after w done = done
 derives_after {g = g} w (step {x = x} {y = y} s d) = step (record {
-    before = w ++ s.before;
-    after = s.after;
-    rule = s.rule;
-    within = s.within;
-    source = rw s.source (sym (append_assoc w s.before (left_of g s.rule ∷ s.after)));
-    target = rw s.target (sym (append_assoc w s.before (body_of g s.rule ++ s.after)));
-  }) (derives_after w d)
+  before = w ++ s.before;
+  after = s.after;
+  rule = s.rule;
+  within = s.within;
+  source = rw s.source (sym (append_assoc w s.before (left_of g s.rule ∷ s.after)));
+  target = rw s.target (sym (append_assoc w s.before (body_of g s.rule ++ s.after)));
+}) (derives_after w d)
 
 record Word (g : ContextFree) (x : List ℕ) : Type 0 where
   word : List ℕ
@@ -91,23 +91,23 @@ two_of (a ∷ (b ∷ (d ∷ x))) h e = absurd (omega arith)
 -- all tests together
 pub well_formed : (tokens symbols : ℕ) (rules : List RuleValue) (accept : ℕ) → 0 < tokens → tokens ≤ symbols → symbols ≤ 4096 → 0 < length rules → length rules ≤ 8192 → accept ≡ (get_or rules 0 blank_rule).production.left → StartFits tokens (get_or rules 0 blank_rule).production → ((r : ℕ) → r < length rules → RuleFits tokens symbols accept (get_or rules r blank_rule).production) → ((r : ℕ) → 0 < r → r < length rules → LaterFits accept (get_or rules r blank_rule).production) → ((s : ℕ) → tokens ≤ s → s < symbols → Productive (bare_from tokens symbols rules) s) → WellFormed (bare_from tokens symbols rules)
 well_formed tokens symbols rules accept h1 h2 h3 h4 h5 ea st each later prod = record {
-    ends = h1;
-    within = h2;
-    some = subst (λ n. 0 < n) (sym (map_length rules)) h4;
-    left = λ r h. subst (λ (p : Production). p.left < symbols) (sym (rule_at rules r)) (each r (in_range r h)).left;
-    nonterminal = λ r h. subst (λ (p : Production). tokens ≤ p.left) (sym (rule_at rules r)) (each r (in_range r h)).nonterminal;
-    body = λ r h. subst (λ (p : Production). All (λ s. s < symbols) p.body) (sym (rule_at rules r)) (All-from_get_or (λ s. s < symbols) (get_or rules r blank_rule).production.body 0 (each r (in_range r h)).body);
-    first = subst (λ (p : Production). p.body ≡ slice_index p.body 0 ∷ 0 ∷ []) (sym (rule_at rules 0)) (two_of (get_or rules 0 blank_rule).production.body st.two st.ends);
-    start_nonterminal = subst (λ (p : Production). tokens ≤ slice_index p.body 0) (sym (rule_at rules 0)) st.start;
-    start_other = subst (λ (p : Production). slice_index p.body 0 ≢ p.left) (sym (rule_at rules 0)) (λ e. (each 0 h4).alone 0 (let z = st.two in omega arith) (e ∙ sym ea));
-    accept_once = λ r l h. subst (λ (p : Production). p.left ≢ left_of (bare_from tokens symbols rules) 0) (sym (rule_at rules r)) (λ e. (later r l (in_range r h)).once (e ∙ accept_is));
-    alone = λ r h. subst (λ (p : Production). All (λ s. s ≢ left_of (bare_from tokens symbols rules) 0) p.body) (sym (rule_at rules r)) (subst (λ v. All (λ s. s ≢ v) (get_or rules r blank_rule).production.body) (sym accept_is) (All-from_get_or (λ s. s ≢ accept) (get_or rules r blank_rule).production.body 0 (each r (in_range r h)).alone));
-    ended = λ r l h. subst (λ (p : Production). All (λ s. s ≢ end_token) p.body) (sym (rule_at rules r)) (All-from_get_or (λ s. s ≢ end_token) (get_or rules r blank_rule).production.body 0 (later r l (in_range r h)).ended);
-    productive = prod;
-    small = h3;
-    few = subst (λ n. n ≤ 8192) (sym (map_length rules)) h5;
-    short = λ r h. subst (λ (p : Production). length p.body ≤ 255) (sym (rule_at rules r)) (each r (in_range r h)).short;
-  }
+  ends = h1;
+  within = h2;
+  some = subst (λ n. 0 < n) (sym (map_length rules)) h4;
+  left = λ r h. subst (λ (p : Production). p.left < symbols) (sym (rule_at rules r)) (each r (in_range r h)).left;
+  nonterminal = λ r h. subst (λ (p : Production). tokens ≤ p.left) (sym (rule_at rules r)) (each r (in_range r h)).nonterminal;
+  body = λ r h. subst (λ (p : Production). All (λ s. s < symbols) p.body) (sym (rule_at rules r)) (All-from_get_or (λ s. s < symbols) (get_or rules r blank_rule).production.body 0 (each r (in_range r h)).body);
+  first = subst (λ (p : Production). p.body ≡ slice_index p.body 0 ∷ 0 ∷ []) (sym (rule_at rules 0)) (two_of (get_or rules 0 blank_rule).production.body st.two st.ends);
+  start_nonterminal = subst (λ (p : Production). tokens ≤ slice_index p.body 0) (sym (rule_at rules 0)) st.start;
+  start_other = subst (λ (p : Production). slice_index p.body 0 ≢ p.left) (sym (rule_at rules 0)) (λ e. (each 0 h4).alone 0 (let z = st.two in omega arith) (e ∙ sym ea));
+  accept_once = λ r l h. subst (λ (p : Production). p.left ≢ left_of (bare_from tokens symbols rules) 0) (sym (rule_at rules r)) (λ e. (later r l (in_range r h)).once (e ∙ accept_is));
+  alone = λ r h. subst (λ (p : Production). All (λ s. s ≢ left_of (bare_from tokens symbols rules) 0) p.body) (sym (rule_at rules r)) (subst (λ v. All (λ s. s ≢ v) (get_or rules r blank_rule).production.body) (sym accept_is) (All-from_get_or (λ s. s ≢ accept) (get_or rules r blank_rule).production.body 0 (each r (in_range r h)).alone));
+  ended = λ r l h. subst (λ (p : Production). All (λ s. s ≢ end_token) p.body) (sym (rule_at rules r)) (All-from_get_or (λ s. s ≢ end_token) (get_or rules r blank_rule).production.body 0 (later r l (in_range r h)).ended);
+  productive = prod;
+  small = h3;
+  few = subst (λ n. n ≤ 8192) (sym (map_length rules)) h5;
+  short = λ r h. subst (λ (p : Production). length p.body ≤ 255) (sym (rule_at rules r)) (each r (in_range r h)).short;
+}
   where
     in_range : (r : ℕ) → r < length (map production_of rules) → r < length rules
     in_range r h = subst (λ n. r < n) (map_length rules) h

@@ -68,13 +68,13 @@ impl Model for Grammar {
     ghost use Rattle.ygrammar.specs.WellFormed.{WellFormed};
 
     ghost view = { λ g. record {
-        bare = record { tokens = g.tokens; symbols = g.symbols; rules = map production_of g.rules.items };
-        names = [];
-        numbers = [];
-        token_precedences = [];
-        rule_precedences = map precedence_of g.rules.items;
-        texts = [];
-        reachable = []
+      bare = record { tokens = g.tokens; symbols = g.symbols; rules = map production_of g.rules.items };
+      names = [];
+      numbers = [];
+      token_precedences = [];
+      rule_precedences = map precedence_of g.rules.items;
+      texts = [];
+      reachable = [];
     } };
 
     ghost invariant = { λ g. WellFormed (record { tokens = g.tokens; symbols = g.symbols; rules = map production_of g.rules.items }) };

@@ -17,6 +17,8 @@ mod places;
 mod rows;
 mod rules;
 mod states;
+#[cfg(test)]
+mod tests;
 
 pub use automaton::{Automaton, build};
 pub use fault::BuildFault;

@@ -39,7 +39,11 @@ fn rule_fits(rule: &Rule, tokens: usize, symbols: usize, accept: Sym) -> bool
 {
     let left = rule.left();
     let body = rule.body();
-    tokens <= left && left < symbols && body.len() <= 255 && below(body, symbols) && lacks(body, accept)
+    tokens <= left
+        && left < symbols
+        && body.len() <= 255
+        && below(body, symbols)
+        && lacks(body, accept)
 }
 
 /// Whether the rule may stand behind the first.
@@ -87,7 +91,14 @@ fn all_marked(tokens: usize, marks: &[bool], form: &[Sym]) -> bool
 }
 
 /// Marks the left side of a rule whose body is all marked, and says whether that was new.
-fn visit(rules: &[Rule], r: usize, tokens: usize, symbols: usize, accept: Sym, marks: &mut Vec<bool>) -> bool
+fn visit(
+    rules: &[Rule],
+    r: usize,
+    tokens: usize,
+    symbols: usize,
+    accept: Sym,
+    marks: &mut Vec<bool>,
+) -> bool
     requires within { r < length rules.now }
     requires sized { vec_len marks.old ≡ symbols }
     requires each { (r : ℕ) → r < length rules.now → RuleFits tokens symbols accept (slice_index_or rules.now r blank_rule).production }
@@ -123,7 +134,13 @@ fn pass(rules: &[Rule], tokens: usize, symbols: usize, accept: Sym, marks: &mut 
 }
 
 /// Whether every nonterminal derives a list of tokens.
-fn productive(alloc: Global, rules: &[Rule], tokens: usize, symbols: usize, accept: Sym) -> Result<bool, AllocError>
+fn productive(
+    alloc: Global,
+    rules: &[Rule],
+    tokens: usize,
+    symbols: usize,
+    accept: Sym,
+) -> Result<bool, AllocError>
     requires { (r : ℕ) → r < length rules.now → RuleFits tokens symbols accept (slice_index_or rules.now r blank_rule).production }
     ensures { IfOk result (λ b. IsTrue b → (s : ℕ) → tokens ≤ s → s < symbols → Productive (bare_from tokens symbols rules.now) s) }
 {
@@ -149,7 +166,12 @@ impl Grammar {
         symbols: usize,
         rules: Vec<Rule>,
     ) -> Result<Option<Grammar>, AllocError> {
-        if tokens == 0 || tokens > symbols || symbols > 4096 || rules.is_empty() || rules.len() > 8192 {
+        if tokens == 0
+            || tokens > symbols
+            || symbols > 4096
+            || rules.is_empty()
+            || rules.len() > 8192
+        {
             return Ok(None);
         }
         let accept = rules[0].left();
