@@ -9,6 +9,7 @@ pub mod Kept
 pub mod Views
 pub mod Answers
 pub mod Tree
+pub mod TreeViews
 pub mod Checked
 pub mod Forms
 pub mod Grammar

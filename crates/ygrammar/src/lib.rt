@@ -13,6 +13,7 @@ mod percent;
 pub mod precedence;
 mod reading;
 mod recogniser;
+mod tree;
 
 pub use cutting::{FILE_LIMIT, Placed, read_syntax};
 pub use fault::GrammarFault;
