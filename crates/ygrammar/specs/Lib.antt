@@ -14,3 +14,6 @@ pub mod Checked
 pub mod Forms
 pub mod Grammar
 pub mod WellFormed
+pub mod Names
+pub mod Elaboration
+pub mod Outline

@@ -8,6 +8,7 @@ pub mod grammar;
 mod kept;
 mod kind;
 mod literal;
+mod outline;
 mod part;
 mod percent;
 pub mod precedence;

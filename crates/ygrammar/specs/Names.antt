@@ -1,0 +1,34 @@
+-- Symbols by their printed names (POSIX yacc, "Lexical Structure of the Grammar"). No name has a quote or a dollar sign in it.
+use Rattle.std.specs.Prelude.{ℕ, ◌+◌, ◌/◌, ◌%◌, Bool, not, ◌&&◌, ◌==◌, nat_le, List, [], ◌∷◌, ◌++◌, fold, if◌then◌else◌}
+use Rattle.std.specs.List.{list_any, position_or_len}
+use Rattle.std.specs.Str.{bytes_eq}
+use Rattle.ygrammar.specs.Tree.{Identifier, named, quoted}
+
+abbrev pub Name : Type 0
+Name = List ℕ
+
+-- a literal is printed by its value: the byte itself, or a backslash and three octal digits
+abbrev pub printed_literal : ℕ → Name
+printed_literal v =
+    if nat_le 32 v && nat_le v 126 && not (v == 39) && not (v == 92) then 39 ∷ v ∷ 39 ∷ []
+    else 39 ∷ 92 ∷ (48 + v / 64) ∷ (48 + v / 8 % 8) ∷ (48 + v % 8) ∷ 39 ∷ []
+
+abbrev pub printed : Identifier → Name
+printed (named n) = n
+printed (quoted v) = printed_literal v
+
+-- the name is listed
+abbrev pub is_among : List Name → Name → Bool
+is_among ns n = list_any (bytes_eq n) ns
+
+-- the names with one more behind them, unless it is there
+abbrev pub noted : List Name → Name → List Name
+noted ns n = if is_among ns n then ns else ns ++ n ∷ []
+
+-- the names with those of more behind them, each once, in the order of their first appearance
+abbrev pub noted_all : List Name → List Name → List Name
+noted_all ns more = fold noted ns more
+
+-- the number of a name among names
+abbrev pub number_in : List Name → Name → ℕ
+number_in ns n = position_or_len (bytes_eq n) ns
