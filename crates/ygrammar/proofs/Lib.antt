@@ -15,3 +15,4 @@ pub mod Answering
 pub mod Trees
 pub mod OneTree
 pub mod CheckedSteps
+pub mod NameSteps

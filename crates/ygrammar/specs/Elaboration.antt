@@ -121,16 +121,22 @@ abbrev pub is_literal : Identifier → Bool
 is_literal (named n) = false
 is_literal (quoted v) = true
 
--- the names of the tokens: the end, `error`, what is listed, and every literal
-abbrev pub token_names : Tree → List Name
-token_names t = codes "$end" ∷ codes "error" ∷ (map (λ l. printed l.who) (listings t) ++ map printed (filter is_literal (appearances t)))
+abbrev pub listed_name : Listing → Name
+listed_name l = printed l.who
+
+-- the names of the tokens: the end, `error`, what is listed, and every literal that appears
+abbrev pub token_names_of : List Listing → List Identifier → List Name
+token_names_of ls is = codes "$end" ∷ codes "error" ∷ (map listed_name ls ++ map printed (filter is_literal is))
 
 abbrev pub is_token : Tree → Name → Bool
-is_token t n = is_among (token_names t) n
+is_token t n = is_among (token_names_of (listings t) (appearances t)) n
 
 -- the tokens by number: the end, `error`, and the others in the order of their first appearance
+abbrev pub tokens_of : List Listing → List Identifier → List Name
+tokens_of ls is = noted_all (codes "$end" ∷ codes "error" ∷ []) (filter (is_among (token_names_of ls is)) (map printed is))
+
 abbrev pub tokens : Tree → List Name
-tokens t = noted_all (codes "$end" ∷ codes "error" ∷ []) (filter (is_token t) (map printed (appearances t)))
+tokens t = tokens_of (listings t) (appearances t)
 
 -- ---- rules
 

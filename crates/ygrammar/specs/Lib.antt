@@ -17,3 +17,4 @@ pub mod WellFormed
 pub mod Names
 pub mod Elaboration
 pub mod Outline
+pub mod NameTexts

@@ -1,6 +1,6 @@
 -- Symbols by their printed names (POSIX yacc, "Lexical Structure of the Grammar"). No name has a quote or a dollar sign in it.
-use Rattle.std.specs.Prelude.{ℕ, ◌+◌, ◌/◌, ◌%◌, Bool, not, ◌&&◌, ◌==◌, nat_le, List, [], ◌∷◌, ◌++◌, fold, if◌then◌else◌}
-use Rattle.std.specs.List.{list_any, position_or_len}
+use Rattle.std.specs.Prelude.{ℕ, suc, ◌+◌, ◌/◌, ◌%◌, Bool, not, ◌&&◌, ◌==◌, nat_le, List, [], ◌∷◌, ◌++◌, fold, if◌then◌else◌}
+use Rattle.std.specs.List.{list_any}
 use Rattle.std.specs.Str.{bytes_eq}
 use Rattle.ygrammar.specs.Tree.{Identifier, named, quoted}
 
@@ -29,6 +29,7 @@ noted ns n = if is_among ns n then ns else ns ++ n ∷ []
 abbrev pub noted_all : List Name → List Name → List Name
 noted_all ns more = fold noted ns more
 
--- the number of a name among names
+-- the number of a name among names: how many others stand before it
 abbrev pub number_in : List Name → Name → ℕ
-number_in ns n = position_or_len (bytes_eq n) ns
+number_in [] n = 0
+number_in (m ∷ ns) n = if bytes_eq n m then 0 else suc (number_in ns n)

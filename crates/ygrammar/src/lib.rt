@@ -8,12 +8,14 @@ pub mod grammar;
 mod kept;
 mod kind;
 mod literal;
+mod names;
 mod outline;
 mod part;
 mod percent;
 pub mod precedence;
 mod reading;
 mod recogniser;
+mod tokens;
 mod tree;
 
 pub use cutting::{FILE_LIMIT, Placed, read_syntax};

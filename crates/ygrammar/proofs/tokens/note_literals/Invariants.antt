@@ -1,0 +1,10 @@
+use Rattle.std.proofs.Common.{◌≡◌, ◌++◌, map, drop}
+use Rattle.ygrammar.specs.NameTexts.{texts}
+use Rattle.ygrammar.specs.TreeViews.{mention_view}
+use Rattle.std.specs.Prelude.{filter}
+use Rattle.ygrammar.specs.Names.{noted_all, printed}
+use Rattle.ygrammar.specs.Elaboration.{is_literal}
+use Rattle.ygrammar.proofs.tokens.note_literals.Given as goal
+
+abbrev pub invariant-loop-mention : goal.invariant-loop-mention
+invariant-loop-mention l = noted_all (texts l.names) (map printed (filter is_literal (map mention_view (drop l.mention-index l.mentions)))) ≡ noted_all (texts l.fn.names) (map printed (filter is_literal (map mention_view l.mentions)))
