@@ -16,3 +16,4 @@ pub mod Trees
 pub mod OneTree
 pub mod CheckedSteps
 pub mod NameSteps
+pub mod RuleSteps

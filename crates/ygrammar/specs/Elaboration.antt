@@ -1,5 +1,5 @@
 -- What a grammar file means: its symbols, its rules and their precedences (POSIX yacc, "Declarations Section" and "Grammar Rules in yacc").
-use Rattle.std.specs.Prelude.{ℕ, zero, suc, ◌≡◌, Bool, true, false, List, [], ◌∷◌, ◌++◌, length, map, filter, Option, Some, None, codes, if◌then◌else◌}
+use Rattle.std.specs.Prelude.{ℕ, zero, suc, ◌≡◌, nat_lt, fold, slice_index_or, Bool, true, false, List, [], ◌∷◌, ◌++◌, length, map, filter, Option, Some, None, codes, if◌then◌else◌}
 use Rattle.std.specs.List.{flat_map}
 use Rattle.std.specs.Str.{bytes_eq}
 use Rattle.std.specs.Str.Parse.{digits_value}
@@ -8,7 +8,8 @@ use Rattle.ygrammar.specs.declared.precedence.Associativity.{Associativity}
 use Rattle.ygrammar.specs.declared.precedence.Associativity.TheVariants as associativity
 use Rattle.ygrammar.specs.declared.precedence.Precedence.{Precedence}
 use Rattle.ygrammar.specs.Tree.{Identifier, named, quoted, Word, token, left, right, nonassoc, Entry, Definition, start, union, block, listing, types, Item, symbol, action, Clause, Tree}
-use Rattle.ygrammar.specs.Names.{Name, printed, printed_literal, is_among, noted_all}
+use Rattle.ygrammar.specs.Names.{Name, printed, printed_literal, is_among, noted_all, number_in}
+use Rattle.ygrammar.specs.Grammar.{ContextFree, Production}
 
 abbrev pub option_list : {A : Type 0} → Option A → List A
 option_list None = []
@@ -191,19 +192,50 @@ start_symbol (i ∷ is) ls = printed i
 start_symbol [] (n ∷ ns) = n
 start_symbol [] [] = []
 
-abbrev pub first_rule : Tree → Rule
-first_rule t = record { left = codes "$accept"; body = start_symbol (starts t) (lefts t) ∷ codes "$end" ∷ []; prec = None; text = None }
+-- rule 0, by what `%start` names and the left sides
+abbrev pub first_rule : List Identifier → List Name → Rule
+first_rule is ls = record { left = codes "$accept"; body = start_symbol is ls ∷ codes "$end" ∷ []; prec = None; text = None }
 
 abbrev pub rules : Tree → List Rule
-rules t = first_rule t ∷ rules_from [] 1 t.clauses
+rules t = first_rule (starts t) (lefts t) ∷ rules_from [] 1 t.clauses
+
+abbrev pub rule_left : Rule → Name
+rule_left r = r.left
 
 -- the symbols by number: the tokens, and the left sides in the order of their first rules
 abbrev pub symbols : Tree → List Name
-symbols t = noted_all (tokens t) (map (λ r. r.left) (rules t))
+symbols t = noted_all (tokens t) (map rule_left (rules t))
 
 -- a symbol that is no token
 abbrev pub is_nonterminal : Tree → Name → Bool
 is_nonterminal t n = if is_token t n then false else is_among (symbols t) n
+
+-- ---- rules by number
+
+-- a rule's left side and body by the numbers of its symbols
+abbrev pub numbered : List Name → Rule → Production
+numbered ns r = record { left = number_in ns r.left; body = map (number_in ns) r.body }
+
+-- the bare grammar of a file
+abbrev pub bare_of : Tree → ContextFree
+bare_of t = record { tokens = length (tokens t); symbols = length (symbols t); rules = map (numbered (symbols t)) (rules t) }
+
+-- the last token of a body, where there are so many tokens
+abbrev pub last_token : ℕ → List ℕ → Option ℕ
+last_token tokens body = fold (λ last s. if nat_lt s tokens then Some s else last) None body
+
+-- the token whose precedence a rule has: the one named, or else the last of the body
+abbrev pub chosen_token : List Name → ℕ → Option Identifier → List ℕ → Option ℕ
+chosen_token ns tokens (Some i) body = Some (number_in ns (printed i))
+chosen_token ns tokens None body = last_token tokens body
+
+abbrev pub precedence_at : List (Option Precedence) → Option ℕ → Option Precedence
+precedence_at given None = None
+precedence_at given (Some k) = slice_index_or given k None
+
+-- the precedence of the token that is named, or else of the last token of the body; given are those of the tokens by number
+abbrev pub rule_precedence : List Name → List (Option Precedence) → Rule → Option Precedence
+rule_precedence ns given r = precedence_at given (chosen_token ns (length given) r.prec (map (number_in ns) r.body))
 
 -- ---- numbers and precedences
 

@@ -18,3 +18,4 @@ pub mod Names
 pub mod Elaboration
 pub mod Outline
 pub mod NameTexts
+pub mod Numbered

@@ -15,6 +15,7 @@ mod percent;
 pub mod precedence;
 mod reading;
 mod recogniser;
+mod rules;
 mod tokens;
 mod tree;
 

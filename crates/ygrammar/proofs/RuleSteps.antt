@@ -1,0 +1,120 @@
+-- Bodies, their final actions, and rules by number.
+use Rattle.std.proofs.Common.{ℕ, zero, suc, ◌≡◌, List, [], ◌∷◌, ◌++◌, map, Option, Some, None, refl, sym, ◌∙◌, ap, append_assoc, length, Bor}
+use Rattle.std.proofs.lemmas.List.{map-append}
+use Rattle.ygrammar.specs.declared.tree.Item.{Item as CodeItem}
+use Rattle.ygrammar.specs.declared.tree.Item.TheVariants as items
+use Rattle.ygrammar.specs.declared.tree.Mention.{Mention}
+use Rattle.ygrammar.specs.Tree.{Item, symbol, action, Identifier, Clause}
+use Rattle.ygrammar.specs.TreeViews.{item_view, mention_view, text_view}
+use Rattle.ygrammar.specs.Elaboration.{split_last, final_of, Body, Rule, body_from, chosen_token, inner_rule, or_else, precedence_at, rule_precedence, rules_from}
+use Rattle.ygrammar.specs.declared.precedence.Precedence.{Precedence}
+use Rattle.ygrammar.specs.Names.{Name, number_in}
+use Rattle.ygrammar.specs.Numbered.{RuleNumbers, inner_numbers, numbered_view, rule_numbers}
+use Rattle.ygrammar.specs.declared.rules.Numbered.{Numbered}
+
+last_action : (xs : List Item) (t : List ℕ) → split_last (xs ++ action t ∷ []) ≡ (xs, Some t)
+last_action [] t = refl
+last_action (symbol i ∷ []) t = refl
+last_action (action u ∷ []) t = refl
+last_action (symbol i ∷ (y ∷ xs)) t = ap (λ (r : List Item × Option (List ℕ)). (symbol i ∷ r.0, r.1)) (last_action (y ∷ xs) t)
+last_action (action u ∷ (y ∷ xs)) t = ap (λ (r : List Item × Option (List ℕ)). (action u ∷ r.0, r.1)) (last_action (y ∷ xs) t)
+
+last_symbol : (xs : List Item) (i : Identifier) → split_last (xs ++ symbol i ∷ []) ≡ (xs ++ symbol i ∷ [], None)
+last_symbol [] i = refl
+last_symbol (symbol j ∷ []) i = refl
+last_symbol (action u ∷ []) i = refl
+last_symbol (symbol j ∷ (y ∷ xs)) i = ap (λ (r : List Item × Option (List ℕ)). (symbol j ∷ r.0, r.1)) (last_symbol (y ∷ xs) i)
+last_symbol (action u ∷ (y ∷ xs)) i = ap (λ (r : List Item × Option (List ℕ)). (action u ∷ r.0, r.1)) (last_symbol (y ∷ xs) i)
+
+-- the last part of a body is an action
+pub ends_action : (last : Option (Bor (List ℕ))) (body whole rest : List CodeItem) (x : CodeItem) (t : Bor (List ℕ)) → last ≡ None → whole ≡ body → whole ≡ rest ++ x ∷ [] → x ≡ items.Action t → final_of (text_view last) (map item_view body) ≡ (map item_view rest, Some t.now)
+ends_action last body whole rest x t n w e f =
+    ap (λ (o : Option (Bor (List ℕ))). final_of (text_view o) (map item_view body)) n
+    ∙ ap split_last (ap (map item_view) (sym w ∙ e) ∙ map-append item_view rest (x ∷ []) ∙ ap (λ (y : CodeItem). map item_view rest ++ item_view y ∷ []) f)
+    ∙ last_action (map item_view rest) t.now
+
+-- it is a name or a literal
+pub ends_symbol : (last : Option (Bor (List ℕ))) (body whole rest : List CodeItem) (x : CodeItem) (m : Mention) → last ≡ None → whole ≡ body → whole ≡ rest ++ x ∷ [] → x ≡ items.Symbol m → final_of (text_view last) (map item_view body) ≡ (map item_view whole, None)
+ends_symbol last body whole rest x m n w e f =
+    let u : map item_view whole ≡ map item_view rest ++ symbol (mention_view m) ∷ [] = ap (map item_view) e ∙ map-append item_view rest (x ∷ []) ∙ ap (λ (y : CodeItem). map item_view rest ++ item_view y ∷ []) f in
+    ap (λ (o : Option (Bor (List ℕ))). final_of (text_view o) (map item_view body)) n
+    ∙ ap split_last (ap (map item_view) (sym w) ∙ u)
+    ∙ last_symbol (map item_view rest) (mention_view m)
+    ∙ ap (λ (l : List Item). (l, None)) (sym u)
+
+-- a body, part by part
+pub inner_more : (k : ℕ) (x : Item) (xs : List Item) → (body_from k (x ∷ xs)).inner ≡ (body_from k (x ∷ [])).inner ++ (body_from (body_from k (x ∷ [])).next xs).inner
+inner_more k (symbol i) xs = refl
+inner_more k (action t) xs = refl
+
+pub symbols_more : (k : ℕ) (x : Item) (xs : List Item) → (body_from k (x ∷ xs)).symbols ≡ (body_from k (x ∷ [])).symbols ++ (body_from (body_from k (x ∷ [])).next xs).symbols
+symbols_more k (symbol i) xs = refl
+symbols_more k (action t) xs = refl
+
+pub next_more : (k : ℕ) (x : Item) (xs : List Item) → (body_from k (x ∷ xs)).next ≡ (body_from (body_from k (x ∷ [])).next xs).next
+next_more k (symbol i) xs = refl
+next_more k (action t) xs = refl
+
+-- more is added to a list, and what is left is what was left without it
+pub push_more : {A B : Type 0} (f : A → B) (old new whole : List B) (left here rest : List A) → left ≡ here ++ rest → new ≡ old ++ map f here → old ++ map f left ≡ whole → new ++ map f rest ≡ whole
+push_more f old new whole left here rest e g h =
+    ap (λ (x : List _). x ++ map f rest) g
+    ∙ append_assoc old (map f here) (map f rest)
+    ∙ ap (λ (x : List _). old ++ x) (sym (map-append f here rest))
+    ∙ ap (λ (x : List _). old ++ map f x) (sym e)
+    ∙ h
+
+-- the rules of inner actions have no precedence
+pub inner_are : (ns : List Name) (given : List (Option Precedence)) (k : ℕ) (xs : List Item) → map (rule_numbers ns given) (body_from k xs).inner ≡ map (inner_numbers ns) (body_from k xs).inner
+inner_are ns given k [] = refl
+inner_are ns given k (symbol i ∷ xs) = inner_are ns given k xs
+inner_are ns given k (action t ∷ xs) = ap (λ (rs : List RuleNumbers). inner_numbers ns (inner_rule k t) ∷ rs) (inner_are ns given (suc k) xs)
+
+-- one more rule of the file is put behind the rules of its inner actions
+pub rule_step : (ns : List Name) (given : List (Option Precedence)) (before : Name) (k : ℕ) (cv : Clause) (cs : List Clause) (items : List Item) (text : Option (List ℕ)) (left : Name) (symbols : List ℕ) (next l : ℕ) (p : Option Precedence) (old mid new whole : List RuleNumbers)
+    → items ≡ (final_of cv.last cv.body).0
+    → text ≡ (final_of cv.last cv.body).1
+    → mid ≡ old ++ map (inner_numbers ns) (body_from k items).inner
+    → symbols ≡ map (number_in ns) (body_from k items).symbols
+    → next ≡ (body_from k items).next
+    → p ≡ precedence_at given (chosen_token ns (length given) cv.prec symbols)
+    → left ≡ or_else cv.left before
+    → l ≡ number_in ns left
+    → new ≡ mid ++ record { production = record { left = l; body = symbols }; precedence = p; text = text } ∷ []
+    → old ++ map (rule_numbers ns given) (rules_from before k (cv ∷ cs)) ≡ whole
+    → new ++ map (rule_numbers ns given) (rules_from left next cs) ≡ whole
+rule_step ns given before k cv cs items text left symbols next l p old mid new whole hi ht hm hs hn hp hl hk hw hall =
+    let it : List Item = (final_of cv.last cv.body).0 in
+    let tx : Option (List ℕ) = (final_of cv.last cv.body).1 in
+    let b : Body = body_from k it in
+    let lf : Name = or_else cv.left before in
+    let f : Rule → RuleNumbers = rule_numbers ns given in
+    let r : Rule = record { left = lf; body = b.symbols; prec = cv.prec; text = tx } in
+    let rest : List RuleNumbers = map f (rules_from lf b.next cs) in
+    let m : mid ≡ old ++ map (inner_numbers ns) b.inner = hm ∙ ap (λ (is : List Item). old ++ map (inner_numbers ns) (body_from k is).inner) hi in
+    let s : symbols ≡ map (number_in ns) b.symbols = hs ∙ ap (λ (is : List Item). map (number_in ns) (body_from k is).symbols) hi in
+    let q : p ≡ precedence_at given (chosen_token ns (length given) cv.prec (map (number_in ns) b.symbols)) = hp ∙ ap (λ (ss : List ℕ). precedence_at given (chosen_token ns (length given) cv.prec ss)) s in
+    let e : l ≡ number_in ns lf = hk ∙ ap (number_in ns) hl in
+    let same : number_rule l symbols p text ≡ f r = same_rule l (number_in ns lf) symbols (map (number_in ns) b.symbols) p (rule_precedence ns given r) text tx e s q ht in
+    let w : new ≡ (old ++ map (inner_numbers ns) b.inner) ++ f r ∷ [] = hw ∙ ap (λ (x : RuleNumbers). mid ++ x ∷ []) same ∙ ap (λ (x : List RuleNumbers). x ++ f r ∷ []) m in
+    let t : map f (rules_from left next cs) ≡ rest = ap (λ (n : Name). map f (rules_from n next cs)) hl ∙ ap (λ n. map f (rules_from lf n cs)) (hn ∙ ap (λ (is : List Item). (body_from k is).next) hi) in
+    ap (λ (x : List RuleNumbers). new ++ x) t
+    ∙ ap (λ (x : List RuleNumbers). x ++ rest) w
+    ∙ append_assoc (old ++ map (inner_numbers ns) b.inner) (f r ∷ []) rest
+    ∙ append_assoc old (map (inner_numbers ns) b.inner) (f r ∷ rest)
+    ∙ ap (λ (x : List RuleNumbers). old ++ (x ++ f r ∷ rest)) (sym (inner_are ns given k it))
+    ∙ ap (λ (x : List RuleNumbers). old ++ x) (sym (map-append f b.inner (r ∷ rules_from lf b.next cs)))
+    ∙ hall
+  where
+    number_rule : ℕ → List ℕ → Option Precedence → Option (List ℕ) → RuleNumbers
+    number_rule l s p t = record { production = record { left = l; body = s }; precedence = p; text = t }
+
+    same_rule : (l m : ℕ) (s u : List ℕ) (p q : Option Precedence) (t v : Option (List ℕ)) → l ≡ m → s ≡ u → p ≡ q → t ≡ v → number_rule l s p t ≡ number_rule m u q v
+    same_rule l m s u p q t v a b c d =
+        ap (λ x. number_rule x s p t) a
+        ∙ ap (λ x. number_rule m x p t) b
+        ∙ ap (λ x. number_rule m u x t) c
+        ∙ ap (λ x. number_rule m u q x) d
+
+pub view_push : (rules : List Numbered) (r : Numbered) (new : List Numbered) → new ≡ rules ++ r ∷ [] → map numbered_view new ≡ map numbered_view rules ++ numbered_view r ∷ []
+view_push rules r new h = ap (map numbered_view) h ∙ map-append numbered_view rules (r ∷ [])

@@ -1,0 +1,288 @@
+//! The rules of a file by number.
+
+ghost use Rattle.std.specs.Prelude.{◌≡◌, ◌+◌, ◌++◌, ◌∷◌, [], List, Option, map, length, codes, IfOk, OnOk};
+ghost use Rattle.ygrammar.specs.Elaboration.{body_from, chosen_token, final_of, first_rule, inner_name, inner_rule, last_token, or_else, precedence_at, rule_left, rules_from, start_symbol};
+ghost use Rattle.ygrammar.specs.NameTexts.{texts};
+ghost use Rattle.ygrammar.specs.Names.{noted_all, number_in};
+ghost use Rattle.ygrammar.specs.Outline.{start_view};
+ghost use Rattle.ygrammar.specs.Numbered.{inner_numbers, numbered_view, rule_numbers};
+ghost use Rattle.ygrammar.specs.TreeViews.{clause_view, item_view, mention_view, name_view, option_view, text_view};
+
+use crate::grammar::Sym;
+use crate::outline::{Outline, Started};
+use crate::names::{Names, note, number_in, number_of};
+use crate::precedence::Precedence;
+use crate::tree::{Clause, Item, Mention, NameAt};
+use itoa::Buffer;
+use std::alloc::{AllocError, Global};
+
+/// A rule by number, and the text of its action.
+#[derive(Drop)]
+pub struct Numbered<'a> {
+    pub left: Sym,
+    pub body: Vec<Sym>,
+    pub precedence: Option<Precedence>,
+    pub text: Option<&'a [u8]>,
+}
+
+/// The name of the nonterminal of the k-th inner action.
+fn inner_name(alloc: Global, k: usize) -> Result<Vec<u8>, AllocError>
+    ensures { IfOk result (λ v. v.items ≡ inner_name k) }
+{
+    let mut buffer = Buffer::new();
+    let mut name = Vec::from_slice(alloc, b"$$")?;
+    name.extend_from_slice(buffer.format(k).as_bytes())?;
+    Ok(name)
+}
+
+/// The number after `k`; so many actions as to have none do not fit into memory.
+fn next_inner(k: usize) -> Result<usize, AllocError>
+    ensures { IfOk result (λ n. n ≡ k + 1) }
+{
+    match k.checked_add(1) {
+        Some(next) => Ok(next),
+        None => Err(AllocError),
+    }
+}
+
+/// A body without its final action, and that action: the one behind the precedence, or else the last part of the body.
+fn final_parts<'t, 'a>(clause: &'t Clause<'a>) -> (&'t [Item<'a>], Option<&'a [u8]>)
+    ensures items { map item_view result.0.now ≡ (final_of (text_view clause.now.last) (map item_view clause.now.body.items)).0 }
+    ensures text { text_view result.1 ≡ (final_of (text_view clause.now.last) (map item_view clause.now.body.items)).1 }
+{
+    let body = clause.body.as_slice();
+    match clause.last {
+        Some(text) => (body, Some(text)),
+        None => match body.split_last() {
+            Some((Item::Action(text), rest)) => (rest, Some(*text)),
+            Some((Item::Symbol(_), _)) => (body, None),
+            None => (body, None),
+        },
+    }
+}
+
+/// Notes the nonterminals of the inner actions, numbered from `k` on, and answers the next such number.
+fn note_inner(
+    alloc: Global,
+    names: &mut Names,
+    items: &[Item],
+    k: usize,
+) -> Result<usize, AllocError>
+    ensures names { OnOk result (texts names.new ≡ noted_all (texts names.old) (map rule_left (body_from k (map item_view items.now)).inner)) }
+    ensures next { IfOk result (λ n. n ≡ (body_from k (map item_view items.now)).next) }
+{
+    let mut next = k;
+    for item in items {
+        match item {
+            Item::Symbol(_) => {}
+            Item::Action(_) => {
+                let name = inner_name(alloc, next)?;
+                note(alloc, names, &name)?;
+                next = next_inner(next)?;
+            }
+        }
+    }
+    Ok(next)
+}
+
+/// The left side of a rule, where `before` is that of the rule before it.
+fn left_name<'a>(clause: &Clause<'a>, before: &'a [u8]) -> &'a [u8]
+    ensures { result.now ≡ or_else (option_view name_view clause.now.left) before.now }
+{
+    match clause.left {
+        Some(left) => left.name,
+        None => before,
+    }
+}
+
+fn note_lefts(alloc: Global, names: &mut Names, clauses: &[Clause]) -> Result<(), AllocError>
+    ensures { OnOk result (texts names.new ≡ noted_all (texts names.old) (map rule_left (rules_from [] 1 (map clause_view clauses.now)))) }
+{
+    let mut before: &[u8] = b"";
+    let mut next: usize = 1;
+    for clause in clauses {
+        let (items, _) = final_parts(clause);
+        next = note_inner(alloc, names, items, next)?;
+        before = left_name(clause, before);
+        note(alloc, names, before)?;
+    }
+    Ok(())
+}
+
+/// Notes the nonterminals in the order of their first rules.
+pub fn note_nonterminals(
+    alloc: Global,
+    names: &mut Names,
+    clauses: &[Clause],
+) -> Result<(), AllocError>
+    ensures { OnOk result (texts names.new ≡ noted_all (texts names.old) (codes "$accept" ∷ map rule_left (rules_from [] 1 (map clause_view clauses.now)))) }
+{
+    note(alloc, names, b"$accept")?;
+    note_lefts(alloc, names, clauses)
+}
+
+/// Adds the rule of an inner action, and answers its left side.
+fn push_inner<'a>(
+    alloc: Global,
+    names: &Names,
+    k: usize,
+    text: &'a [u8],
+    rules: &mut Vec<Numbered<'a>>,
+) -> Result<Sym, AllocError>
+    ensures rules { OnOk result (map numbered_view rules.new.items ≡ map numbered_view rules.old.items ++ inner_numbers (texts names.now) (inner_rule k text.now) ∷ []) }
+    ensures left { IfOk result (λ s. s ≡ number_in (texts names.now) (inner_name k)) }
+{
+    let name = inner_name(alloc, k)?;
+    let left = number_in(names, &name);
+    rules.push(Numbered {
+        left,
+        body: Vec::new(alloc),
+        precedence: None,
+        text: Some(text),
+    })?;
+    Ok(left)
+}
+
+/// A body by number, and the number of the next inner action.
+#[derive(Drop)]
+struct NumberedBody {
+    symbols: Vec<Sym>,
+    next: usize,
+}
+
+/// The symbols of a body; the rules of its inner actions, numbered from `k` on, are added to `rules`.
+fn number_body<'a>(
+    alloc: Global,
+    names: &Names,
+    items: &[Item<'a>],
+    k: usize,
+    rules: &mut Vec<Numbered<'a>>,
+) -> Result<NumberedBody, AllocError>
+    ensures rules { OnOk result (map numbered_view rules.new.items ≡ map numbered_view rules.old.items ++ map (inner_numbers (texts names.now)) (body_from k (map item_view items.now)).inner) }
+    ensures symbols { IfOk result (λ b. b.symbols.items ≡ map (number_in (texts names.now)) (body_from k (map item_view items.now)).symbols) }
+    ensures next { IfOk result (λ b. b.next ≡ (body_from k (map item_view items.now)).next) }
+{
+    let mut symbols = Vec::new(alloc);
+    let mut next = k;
+    for item in items {
+        match item {
+            Item::Symbol(mention) => symbols.push(number_of(names, mention.who))?,
+            Item::Action(text) => {
+                symbols.push(push_inner(alloc, names, next, text, rules)?)?;
+                next = next_inner(next)?;
+            }
+        }
+    }
+    Ok(NumberedBody { symbols, next })
+}
+
+/// The last token of a body, where there are so many tokens.
+fn last_token(tokens: usize, body: &[Sym]) -> Option<Sym>
+    ensures { result ≡ last_token tokens body.now }
+{
+    let mut last = None;
+    for s in body {
+        if *s < tokens {
+            last = Some(*s);
+        }
+    }
+    last
+}
+
+/// The precedence of a rule: that of the token behind its `%prec`, or else of the last token of its body.
+fn rule_precedence(
+    names: &Names,
+    given: &[Option<Precedence>],
+    prec: Option<Mention>,
+    body: &[Sym],
+) -> Option<Precedence>
+    ensures { result ≡ precedence_at given.now (chosen_token (texts names.now) (length given.now) (option_view mention_view prec.entry) body.now) }
+{
+    let token = match prec {
+        Some(mention) => number_of(names, mention.who),
+        None => last_token(given.len(), body)?,
+    };
+    if token < given.len() {
+        given[token]
+    } else {
+        None
+    }
+}
+
+/// Adds the rules of the file, those of inner actions before the rule that they stand in.
+fn push_rules<'a>(
+    alloc: Global,
+    names: &Names,
+    given: &[Option<Precedence>],
+    clauses: &[Clause<'a>],
+    rules: &mut Vec<Numbered<'a>>,
+) -> Result<(), AllocError>
+    ensures { OnOk result (map numbered_view rules.new.items ≡ map numbered_view rules.old.items ++ map (rule_numbers (texts names.now) given.now) (rules_from [] 1 (map clause_view clauses.now))) }
+{
+    let mut before: &[u8] = b"";
+    let mut next: usize = 1;
+    for clause in clauses {
+        let (items, text) = final_parts(clause);
+        let body = number_body(alloc, names, items, next, rules)?;
+        let precedence = rule_precedence(names, given, clause.prec, &body.symbols);
+        before = left_name(clause, before);
+        next = body.next;
+        rules.push(Numbered {
+            left: number_in(names, before),
+            body: body.symbols,
+            precedence,
+            text,
+        })?;
+    }
+    Ok(())
+}
+
+/// The number of the start symbol: the one that `%start` names, or the first left side.
+fn start_symbol(names: &Names, starts: &[Started], lefts: &[NameAt]) -> Sym
+    ensures { result ≡ number_in (texts names.now) (start_symbol (map start_view starts.now) (map name_view lefts.now)) }
+{
+    match starts {
+        [first, ..] => number_of(names, first.who.who),
+        [] => match lefts {
+            [first, ..] => number_in(names, first.name),
+            [] => number_in(names, b""),
+        },
+    }
+}
+
+/// The rule `$accept : S $end`.
+fn first_rule<'a>(
+    alloc: Global,
+    names: &Names,
+    given: &[Option<Precedence>],
+    outline: &Outline,
+) -> Result<Numbered<'a>, AllocError>
+    ensures { IfOk result (λ r. numbered_view r ≡ rule_numbers (texts names.now) given.now (first_rule (map start_view outline.now.starts.items) (map name_view outline.now.lefts.items))) }
+{
+    let mut body = Vec::new(alloc);
+    body.push(start_symbol(names, &outline.starts, &outline.lefts))?;
+    body.push(number_in(names, b"$end"))?;
+    let precedence = rule_precedence(names, given, None, &body);
+    Ok(Numbered {
+        left: number_in(names, b"$accept"),
+        body,
+        precedence,
+        text: None,
+    })
+}
+
+/// The rules of a file by number, with the precedences given to its tokens.
+pub fn number_rules<'a>(
+    alloc: Global,
+    names: &Names,
+    given: &[Option<Precedence>],
+    outline: &Outline,
+    clauses: &[Clause<'a>],
+) -> Result<Vec<Numbered<'a>>, AllocError>
+    ensures { IfOk result (λ v. map numbered_view v.items ≡ map (rule_numbers (texts names.now) given.now) (first_rule (map start_view outline.now.starts.items) (map name_view outline.now.lefts.items) ∷ rules_from [] 1 (map clause_view clauses.now))) }
+{
+    let mut rules = Vec::new(alloc);
+    rules.push(first_rule(alloc, names, given, outline)?)?;
+    push_rules(alloc, names, given, clauses, &mut rules)?;
+    Ok(rules)
+}
