@@ -17,3 +17,4 @@ pub mod OneTree
 pub mod CheckedSteps
 pub mod NameSteps
 pub mod RuleSteps
+pub mod TellingSteps

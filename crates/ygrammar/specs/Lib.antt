@@ -19,3 +19,4 @@ pub mod Elaboration
 pub mod Outline
 pub mod NameTexts
 pub mod Numbered
+pub mod Told

@@ -4,10 +4,12 @@
 mod bytes;
 mod cutting;
 mod fault;
+mod given;
 pub mod grammar;
 mod kept;
 mod kind;
 mod literal;
+mod mistake;
 mod names;
 mod outline;
 mod part;
