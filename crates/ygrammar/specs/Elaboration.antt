@@ -285,3 +285,10 @@ own_number t n = first_or (numbers_given t n) (usual_number t n)
 -- the precedence of a token
 abbrev pub precedence_of : Tree → Name → Option Precedence
 precedence_of t n = first_or (precedences_given t n) None
+
+-- the numbers that the tokens have by themselves, and their precedences
+abbrev pub own_numbers : Tree → List (Option ℕ)
+own_numbers t = map (own_number t) (tokens t)
+
+abbrev pub token_precedences : Tree → List (Option Precedence)
+token_precedences t = map (precedence_of t) (tokens t)

@@ -1,5 +1,5 @@
 -- Derivations by the rules of a grammar (Aho, Sethi, Ullman, section 4.2). A form is a list of symbols.
-use Rattle.std.specs.Prelude.{ℕ, ◌≡◌, ◌<◌, List, [], ◌∷◌, ◌++◌, length, refl}
+use Rattle.std.specs.Prelude.{ℕ, ◌≡◌, ◌<◌, List, [], ◌∷◌, ◌++◌, length, Contains, refl}
 use Rattle.std.specs.List.{All}
 use Rattle.ygrammar.specs.Grammar.{ContextFree, left_of, body_of, IsToken}
 
@@ -32,6 +32,11 @@ pub record Productive (g : ContextFree) (s : ℕ) : Type 0 where
   pub word : List ℕ
   pub tokens : All (IsToken g) word
   pub derives : Derives g (s ∷ []) word
+
+-- The symbols that can be reached: the first left side, and the symbols of the bodies of those that can.
+pub data IsReachable (g : ContextFree) : ℕ → Type 0 where
+  first : IsReachable g (left_of g 0)
+  further : {r s : ℕ} → r < length g.rules → IsReachable g (left_of g r) → Contains (body_of g r) s → IsReachable g s
 
 -- the last of x and the forms listed
 abbrev pub last_of : List ℕ → List (List ℕ) → List ℕ

@@ -20,3 +20,6 @@ pub mod Outline
 pub mod NameTexts
 pub mod Numbered
 pub mod Told
+pub mod Mistakes
+pub mod Numbers
+pub mod Meaning

@@ -1,0 +1,24 @@
+-- The grammar that a file means.
+use Rattle.std.specs.Prelude.{ℕ, ◌≡◌, ◌<◌, ◌↔◌, Bool, true, false, List, length, map, slice_index_or}
+use Rattle.ygrammar.specs.Elaboration.{Rule, bare_of, own_numbers, rule_precedence, rules, symbols, token_precedences}
+use Rattle.ygrammar.specs.Forms.{IsReachable}
+use Rattle.ygrammar.specs.Grammar.{GrammarValue}
+use Rattle.ygrammar.specs.Mistakes.{HasNone, order}
+use Rattle.ygrammar.specs.Numbers.{AreNumbers}
+use Rattle.ygrammar.specs.Tree.{Tree}
+
+-- which symbols are marked as those that can be reached
+pub record MarksReachable (t : Tree) (marks : List Bool) : Type 0 where
+  pub each : length marks ≡ length (symbols t)
+  pub exact : (s : ℕ) → s < length (symbols t) → (slice_index_or marks s false ≡ true) ↔ IsReachable (bare_of t) s
+
+-- The value is what the tree means, and the tree has no mistake.
+pub record IsMeaning (t : Tree) (g : GrammarValue) : Type 0 where
+  pub sound : HasNone t order
+  pub bare : g.bare ≡ bare_of t
+  pub names : g.names ≡ symbols t
+  pub numbers : AreNumbers (own_numbers t) g.numbers
+  pub precedences : g.token_precedences ≡ token_precedences t
+  pub of_rules : g.rule_precedences ≡ map (rule_precedence (symbols t) (token_precedences t)) (rules t)
+  pub texts : g.texts ≡ map (λ r. r.text) (rules t)
+  pub reachable : MarksReachable t g.reachable

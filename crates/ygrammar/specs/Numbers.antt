@@ -1,0 +1,23 @@
+-- Numbers for those tokens that have none of their own: in order, the least unused from 257 on.
+use Rattle.std.specs.Prelude.{ℕ, ◌≡◌, ◌<◌, ◌≤◌, ◌⊎◌, List, length, Option, Some, None, slice_get}
+
+-- a number that some token has by itself
+abbrev pub IsOwn : List (Option ℕ) → ℕ → Type 0
+IsOwn own m = (i : ℕ) × (slice_get own i ≡ Some (Some m))
+
+-- The number at i is the least from 257 on that nobody has and that none before it was given.
+pub record IsLeast (own : List (Option ℕ)) (ns : List ℕ) (i m : ℕ) : Type 0 where
+  pub low : 257 ≤ m
+  pub free : IsOwn own m → ⊥
+  pub above : (j p : ℕ) → j < i → slice_get own j ≡ Some None → slice_get ns j ≡ Some p → p < m
+  pub least : (u : ℕ) → 257 ≤ u → u < m → IsOwn own u ⊎ ((j : ℕ) × (j < i) × (slice_get own j ≡ Some None) × (slice_get ns j ≡ Some u))
+
+-- The numbers of the tokens: their own, and for the others the least unused.
+pub record AreNumbers (own : List (Option ℕ)) (ns : List ℕ) : Type 0 where
+  pub each : length ns ≡ length own
+  pub kept : (i m : ℕ) → slice_get own i ≡ Some (Some m) → slice_get ns i ≡ Some m
+  pub given : (i m : ℕ) → slice_get own i ≡ Some None → slice_get ns i ≡ Some m → IsLeast own ns i m
+
+-- own numbers are below 32,768
+abbrev pub AreSmall : List (Option ℕ) → Type 0
+AreSmall own = (m : ℕ) → IsOwn own m → m < 32768
