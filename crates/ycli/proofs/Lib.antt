@@ -1,4 +1,5 @@
 mod Sent
+mod Walks
 mod Places
 mod Lines
 mod Replying

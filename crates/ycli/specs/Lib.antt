@@ -1,7 +1,9 @@
 pub mod Link
 pub mod Sends
-pub mod Machine
 pub mod Tables
+pub mod Tokens
+pub mod Machine
+pub mod MachineOver
 pub mod History
 pub mod Snapshots
 pub mod View

@@ -2,7 +2,7 @@
 
 ghost use Rattle.std.specs.Prelude.{◌≤◌, length, OnOk};
 
-use crate::machine::Sym;
+use crate::cell::Sym;
 use crate::tables::Rule;
 use std::alloc::{AllocError, AllocFailed, Global};
 use thiserror::Error;

@@ -3,7 +3,7 @@
 
 ghost use Rattle.std.specs.Prelude.{◌≡◌, ℕ, ◌≤◌, ◌*◌, length};
 
-use crate::machine::{Action, Sym};
+use crate::cell::{Action, Sym};
 use crate::plain::Grammar;
 use crate::tables::{Rule, Tables};
 use std::alloc::{AllocError, AllocFailed, Global};
