@@ -5,3 +5,4 @@ mod Lines
 mod Replying
 mod Transcripts
 mod OneOutcome
+mod Required

@@ -15,3 +15,4 @@ pub mod Reading
 pub mod Reply
 pub mod Transcript
 pub mod Serving
+pub mod Arguments
