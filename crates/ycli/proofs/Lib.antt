@@ -6,3 +6,4 @@ mod Replying
 mod Transcripts
 mod OneOutcome
 mod Required
+mod Running

@@ -16,3 +16,4 @@ pub mod Reply
 pub mod Transcript
 pub mod Serving
 pub mod Arguments
+pub mod Programs
