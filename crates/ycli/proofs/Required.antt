@@ -1,5 +1,5 @@
 -- A command line of two required arguments.
-use Rattle.std.proofs.Common.{zero, suc, ◌≡◌, ◌<◌, ℕ, true, false, List, [], ◌∷◌, length, is_some, refl, sym, ◌∙◌, arith}
+use Rattle.std.proofs.Common.{zero, suc, ◌≡◌, ◌<◌, ℕ, true, false, [], ◌∷◌, is_some, refl, sym, ◌∙◌, arith}
 use Rattle.std.specs.List.{All, slice_index_or}
 use Rattle.std.specs.Str.{bytes_eq}
 use Rattle.clap.specs.Facts.{args_of, groups_of}

@@ -1,5 +1,5 @@
 -- What became of a run.
-use Rattle.std.proofs.Common.{ℕ, ◌≡◌, ◌⊎◌, ◌++◌, ◌∙◌, Bool, true, false, List, [], Option, Result, Ok, Err, refl, sym, inl, inr, append-nil, if◌then◌else◌}
+use Rattle.std.proofs.Common.{ℕ, ◌≡◌, ◌∙◌, Bool, true, false, List, [], Option, Err, refl, sym, append-nil, if◌then◌else◌}
 use Rattle.std.specs.Io.KnownBytes.{Keeps, Appends}
 use Rattle.std.proofs.KnownBytes.{Appends-nil, Appends-kept}
 use Rattle.ycli.specs.declared.link.Link.{Link}
@@ -7,9 +7,8 @@ use Rattle.ycli.specs.declared.tables.Tables.{Tables}
 use Rattle.ycli.specs.declared.tokens.TokenFault.{TokenFault}
 use Rattle.ycli.specs.declared.tokens.TokenFault.TheVariants as faults
 use Rattle.ycli.specs.declared.arguments.YstepWords.{YstepWords}
-use Rattle.ycli.specs.declared.message.Trouble.{Trouble}
 use Rattle.ycli.specs.Link.{device_of, has_failed}
-use Rattle.ycli.specs.Sends.{Sends, Begins}
+use Rattle.ycli.specs.Sends.{Sends}
 use Rattle.ycli.specs.Reading.{Gives}
 use Rattle.ycli.specs.Programs.{FilesFail, Says, of_tokens}
 

@@ -1,5 +1,5 @@
 -- What a program does but for its exit: what it was asked for, its message and its exit status.
-use Rattle.std.specs.Prelude.{ℕ, ◌≡◌, ◌≢◌, ◌<◌, ◌^◌, ◌⊎◌, ◌++◌, Bool, false, List, [], length, map, decimal, codes, Option, IfSome, Result, Ok, Err}
+use Rattle.std.specs.Prelude.{ℕ, ◌≡◌, ◌≢◌, ◌<◌, ◌^◌, ◌⊎◌, ◌++◌, false, List, [], length, decimal, codes, Option, IfSome, Result, Ok, Err}
 use Rattle.std.specs.Io.KnownBytes.{Appends}
 use Rattle.clap.specs.Words.{IsAmong, fault_of}
 use Rattle.clap.specs.declared.error.kind.ErrorKind.{ErrorKind}
@@ -14,7 +14,6 @@ use Rattle.ycli.specs.declared.tokens.TokenFault.{TokenFault}
 use Rattle.ycli.specs.declared.tokens.TokenFault.TheVariants as tokens
 use Rattle.ycli.specs.declared.fault.SessionFault.{SessionFault}
 use Rattle.ycli.specs.declared.fault.SessionFault.TheVariants as streams
-use Rattle.ycli.specs.declared.session.Session.{Session as TheSession}
 use Rattle.ycli.specs.declared.arguments.YstepWords.{YstepWords}
 use Rattle.ycli.specs.declared.message.Trouble.{Trouble}
 use Rattle.ycli.specs.declared.message.Trouble.TheVariants.{Usage, NotYet, Tokens, TooManySets, NoMemory, CannotRead, Session}
@@ -26,7 +25,6 @@ use Rattle.ycli.specs.Reading.{TokensOf}
 use Rattle.ycli.specs.Machine.{Machine}
 use Rattle.ycli.specs.MachineOver.{machine_over}
 use Rattle.ycli.specs.History.{History, first_history}
-use Rattle.ycli.specs.Session.{machine_of, history_of}
 use Rattle.ycli.specs.Transcript.{Tells, failed_read, failed_write}
 use Rattle.ycli.specs.Arguments.{ystep_app, ArePathsIn}
 

@@ -1,4 +1,4 @@
-use Rattle.std.proofs.Common.{rules, ◌≡◌, ℕ, true, false, List, [], codes, refl, inl, inr, arith, is_some, subst, slice_index, IfOk}
+use Rattle.std.proofs.Common.{rules, ◌≡◌, ℕ, true, false, List, [], codes, refl, inl, inr, arith, is_some, subst, slice_index}
 use Rattle.std.proofs.lemmas.Result.{IfOk-weaker}
 use Rattle.std.specs.Str.{bytes_eq}
 use Rattle.clap.specs.Built.{FitsChain, TakesValue, IsAuto}

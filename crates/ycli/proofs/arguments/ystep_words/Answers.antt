@@ -1,13 +1,13 @@
-use Rattle.std.proofs.Common.{rules, ◌≡◌, ℕ, Bool, true, List, [], ◌∷◌, Option, Some, map, codes, refl, sym, ap, subst, ◌∙◌}
+use Rattle.std.proofs.Common.{◌≡◌, ℕ, true, List, map, codes, refl, sym, ap, subst, ◌∙◌}
 use Rattle.std.specs.Prelude.{option_map}
 use Rattle.std.specs.Borrow.{Bor}
-use Rattle.clap.specs.Words.{App, Row, app_of, first_of, first_value, found_of, is_simple, matches_of, rows_of}
+use Rattle.clap.specs.Words.{App, app_of, first_of, first_value, found_of, is_simple, matches_of, rows_of}
 use Rattle.clap.specs.Faults.{is_simple_and_free, fault_of}
 use Rattle.clap.specs.Kinds.{FailsBy, HasKind}
 use Rattle.clap.specs.declared.error.Error.{Error}
 use Rattle.std.proofs.lemmas.Result.{err_from_is_err_and}
 use Rattle.clap.proofs.WalkLemmas.{first_value-rows}
-use Rattle.ycli.specs.Arguments.{ystep_app, ArePathsIn}
+use Rattle.ycli.specs.Arguments.{ystep_app}
 use Rattle.ycli.proofs.arguments.ystep_words.Goals as goal
 
 is_plain : is_simple ystep_app ≡ true

@@ -1,4 +1,4 @@
-use Rattle.std.proofs.Common.{◌≡◌, Err, sym, subst, IfErr}
+use Rattle.std.proofs.Common.{sym, subst, IfErr}
 use Rattle.std.proofs.lemmas.Result.{err_from_is_err_and}
 use Rattle.ycli.specs.declared.message.Trouble.{Trouble}
 use Rattle.ycli.specs.Programs.{FilesFail}

@@ -1,4 +1,4 @@
-use Rattle.std.proofs.Common.{◌≡◌, List, ℕ, Bor, Err, is_some, map, subst}
+use Rattle.std.proofs.Common.{List, ℕ, Bor, Err, is_some, map, subst}
 use Rattle.ycli.specs.Link.{device_of}
 use Rattle.ycli.specs.Programs.{EndsIn, Says, message}
 use Rattle.ycli.proofs.Running.{Says-flushed}
