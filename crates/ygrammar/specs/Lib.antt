@@ -10,6 +10,7 @@ pub mod Views
 pub mod Answers
 pub mod Tree
 pub mod TreeViews
+pub mod Building
 pub mod Checked
 pub mod Forms
 pub mod Grammar
