@@ -1,5 +1,5 @@
 -- What goes on behind a piece of a syntax tree, by the recogniser's states.
-use Rattle.std.proofs.Common.{ℕ, ◌≡◌, ◌<◌, ◌+◌, ◌⊎◌, inl, inr, Bool, true, false, not, eqb, List, [], ◌∷◌, ◌++◌, map, length, Option, Some, None, IsSome, refl, sym, ap, ◌∙◌, subst, arith, append_assoc, append-nil, length-append}
+use Rattle.std.proofs.Common.{ℕ, ◌≡◌, ◌<◌, ◌+◌, ◌-◌, ◌⊎◌, inl, inr, Bool, true, false, not, eqb, List, [], ◌∷◌, ◌++◌, map, length, Option, Some, None, IsSome, refl, sym, ap, ◌∙◌, subst, arith, append_assoc, append-nil, length-append}
 use Rattle.std.proofs.lemmas.Bool.{eqb-true}
 use Rattle.std.proofs.lemmas.Grind.{flat_map-append}
 use Rattle.std.proofs.lemmas.List.{length-map, map-append, replicate_more}
@@ -12,7 +12,8 @@ use Rattle.ygrammar.specs.declared.kind.Sign.{Sign}
 use Rattle.ygrammar.specs.declared.kind.Sign.TheVariants as sign
 use Rattle.ygrammar.specs.declared.tree.Entry.{Entry as CodeEntry}
 use Rattle.ygrammar.specs.declared.tree.NameAt.{NameAt}
-use Rattle.ygrammar.specs.TreeViews.{entry_view, name_view}
+use Rattle.ygrammar.specs.TreeViews.{entry_view, name_view, option_view, clause_view}
+use Rattle.ygrammar.specs.declared.tree.Clause.{Clause as CodeClause}
 use Rattle.ygrammar.specs.declared.recogniser.State.{State}
 use Rattle.ygrammar.specs.declared.recogniser.State.TheVariants.{Declarations, StartWord, UnionWord, ListWord, ListTagOpen, ListTagName, ListTagged, Listed, Numbered, TypeWord, TypeTagOpen, TypeTagName, TypeTagged, Typed, RulesMark, Body, PrecWord, PrecNamed, Semicolons, End}
 use Rattle.ygrammar.specs.Recogniser.{on_name, on_identifier, on_less, on_greater, on_act, on_head, next_state, reached, is_final_at, run}
@@ -244,13 +245,13 @@ rules_end (_ ∷ ls) h n m = astray (kinds ls) h
 pub one_more_piece : {A B : Type 0} (f : B → List Lexeme) (v : A → B) (xs new : List A) (x : A) (whole rest next : List Lexeme) → whole ≡ flat_map f (map v xs) ++ rest → rest ≡ f (v x) ++ next → new ≡ xs ++ x ∷ [] → whole ≡ flat_map f (map v new) ++ next
 one_more_piece f v xs new x whole rest next e g h =
     let made : flat_map f (map v new) ≡ flat_map f (map v xs) ++ f (v x) =
-        ap (λ z. flat_map f (map v z)) h ∙ ap (flat_map f) (map-append v xs (x ∷ [])) ∙ flat_map-append f (map v xs) (v x ∷ []) ∙ ap (λ z. flat_map f (map v xs) ++ z) (append-nil (f (v x))) in
+    ap (λ z. flat_map f (map v z)) h ∙ ap (flat_map f) (map-append v xs (x ∷ [])) ∙ flat_map-append f (map v xs) (v x ∷ []) ∙ ap (λ z. flat_map f (map v xs) ++ z) (append-nil (f (v x))) in
     e ∙ ap (λ z. flat_map f (map v xs) ++ z) g ∙ sym (append_assoc (flat_map f (map v xs)) (f (v x)) next) ∙ ap (λ z. z ++ next) (sym made)
 
 pub one_more_lexeme : {A B : Type 0} (f : B → Lexeme) (v : A → B) (xs new : List A) (x : A) (whole rest next : List Lexeme) → whole ≡ map f (map v xs) ++ rest → rest ≡ f (v x) ∷ next → new ≡ xs ++ x ∷ [] → whole ≡ map f (map v new) ++ next
 one_more_lexeme f v xs new x whole rest next e g h =
     let made : map f (map v new) ≡ map f (map v xs) ++ f (v x) ∷ [] =
-        ap (λ z. map f (map v z)) h ∙ ap (map f) (map-append v xs (x ∷ [])) ∙ map-append f (map v xs) (v x ∷ []) in
+    ap (λ z. map f (map v z)) h ∙ ap (map f) (map-append v xs (x ∷ [])) ∙ map-append f (map v xs) (v x ∷ []) in
     e ∙ ap (λ z. map f (map v xs) ++ z) g ∙ sym (append_assoc (map f (map v xs)) (f (v x) ∷ []) next) ∙ ap (λ z. z ++ next) (sym made)
 
 pub one_more_shaped : {A B : Type 0} (P : B → Type 0) (v : A → B) (xs new : List A) (x : A) → AllByRecursion P (map v xs) → P (v x) → new ≡ xs ++ x ∷ [] → AllByRecursion P (map v new)
@@ -268,3 +269,55 @@ shorter rest next l y e =
     let c : length (views rest) ≡ length rest = length-map rest (λ (p : Placed). lexeme_view p.lexeme) in
     let d : length (views next) ≡ length next = length-map next (λ (p : Placed). lexeme_view p.lexeme) in
     omega (arith, a, b, c, d)
+
+-- ---- words, semicolons and first rules
+
+pub other_word : (s : Sign) (ls : List Lexeme) → Goes Declarations (fixed s ∷ ls) → (s ≡ sign.Mark → ⊥) → (s ≡ sign.Start → ⊥) → (s ≡ sign.Union → ⊥) → (s ≡ sign.Types → ⊥)
+    → (s ≡ sign.Token → ⊥) → (s ≡ sign.Left → ⊥) → (s ≡ sign.Right → ⊥) → (s ≡ sign.Nonassoc → ⊥) → ⊥
+other_word sign.Mark ls h a b c d e f g i = a refl
+other_word sign.Start ls h a b c d e f g i = b refl
+other_word sign.Union ls h a b c d e f g i = c refl
+other_word sign.Types ls h a b c d e f g i = d refl
+other_word sign.Token ls h a b c d e f g i = e refl
+other_word sign.Left ls h a b c d e f g i = f refl
+other_word sign.Right ls h a b c d e f g i = g refl
+other_word sign.Nonassoc ls h a b c d e f g i = i refl
+other_word sign.Prec ls h a b c d e f g i = astray (kinds ls) h
+other_word sign.Less ls h a b c d e f g i = astray (kinds ls) h
+other_word sign.Greater ls h a b c d e f g i = astray (kinds ls) h
+other_word sign.Bar ls h a b c d e f g i = astray (kinds ls) h
+other_word sign.Semicolon ls h a b c d e f g i = astray (kinds ls) h
+
+abbrev semis : ℕ → List Lexeme
+semis n = replicate n (fixed sign.Semicolon)
+
+-- what came before the rest is that many semicolons
+abbrev pub Counted : List Placed → List Placed → Type 0
+Counted whole rest = (n : ℕ) × (views whole ≡ semis n ++ views rest) × (n + length rest ≡ length whole)
+
+pub one_more_semicolon : (whole rest next : List Placed) → Counted whole rest → views rest ≡ fixed sign.Semicolon ∷ views next → Counted whole next
+one_more_semicolon whole rest next (n, e, l) h =
+    let a : length (views rest) ≡ length (fixed sign.Semicolon ∷ views next) = ap length h in
+    let c : length (views rest) ≡ length rest = length-map rest (λ (p : Placed). lexeme_view p.lexeme) in
+    let d : length (views next) ≡ length next = length-map next (λ (p : Placed). lexeme_view p.lexeme) in
+    let made : semis n ++ fixed sign.Semicolon ∷ [] ≡ semis (n + 1) = replicate_more n (fixed sign.Semicolon) in
+    (n + 1, e ∙ ap (λ z. semis n ++ z) h ∙ sym (append_assoc (semis n) (fixed sign.Semicolon ∷ []) (views next)) ∙ ap (λ z. z ++ views next) made, omega (arith, a, c, d, l))
+
+pub counted_all : (whole rest : List Placed) (n : ℕ) → Counted whole rest → n ≡ length whole - length rest → views whole ≡ semis n ++ views rest
+counted_all whole rest n (m, e, l) h = let w : m ≡ n = omega (arith, l, h) in e ∙ ap (λ z. semis z ++ views rest) w
+
+-- before the first rule, or behind one
+abbrev pub FirstNamed : List CodeClause → List Lexeme → Type 0
+FirstNamed cs rest = (Goes RulesMark rest × (cs ≡ [])) ⊎ BeginsWithName (map clause_view cs)
+
+pub first_keeps : (xs new : List CodeClause) (x : CodeClause) (left : Option NameAt) (before after : List Lexeme) → FirstNamed xs before → before ≡ left_yield (option_view name_view left) ∷ after → x.left ≡ left → new ≡ xs ++ x ∷ [] → BeginsWithName (map clause_view new)
+first_keeps xs new x left before after (inl (g, e)) h k w =
+    let only : new ≡ x ∷ [] = w ∙ ap (λ z. z ++ x ∷ []) e in
+    let named_left : IsSome (option_view name_view x.left) = subst (λ z. IsSome (option_view name_view z)) (sym k) (first_named (option_view name_view left) after (subst (Goes RulesMark) h g)) in
+    subst (λ z. BeginsWithName (map clause_view z)) (sym only) named_left
+first_keeps [] new x left before after (inr b) h k w = absurd b
+first_keeps (y ∷ ys) new x left before after (inr b) h k w = subst (λ z. BeginsWithName (map clause_view z)) (sym w) b
+
+pub first_there : (xs : List CodeClause) (rest : List Lexeme) → FirstNamed xs rest → None_of left_yield rest → BeginsWithName (map clause_view xs)
+first_there xs rest (inl (g, e)) n = absurd (left_there rest g n)
+first_there xs rest (inr b) n = b

@@ -18,7 +18,8 @@ use crate::cutting::Placed;
 use crate::kind::Sign;
 use crate::part::Lexeme;
 use crate::tree::{
-    Clause, Definition, Digits, Entry, Identifier, Item, Listing, Mention, NameAt, Tree, Types, Word,
+    Clause, Definition, Digits, Entry, Identifier, Item, Listing, Mention, NameAt, Tree, Types,
+    Word,
 };
 use std::alloc::{AllocError, Global};
 use std::marker::Model;
@@ -377,11 +378,7 @@ impl<'a> Lexemes<'_, 'a> {
     }
 
     /// A rule, behind what it begins with.
-    fn clause(
-        &mut self,
-        alloc: Global,
-        left: Option<NameAt<'a>>,
-    ) -> Result<Clause<'a>, AllocError>
+    fn clause(&mut self, alloc: Global, left: Option<NameAt<'a>>) -> Result<Clause<'a>, AllocError>
         requires { GoesOn Body self.old }
         ensures whole { IfOk result (λ c. left_yield (option_view name_view left.entry) ∷ views self.old ≡ clause_yield (clause_view c) ++ views self.new) }
         ensures left { IfOk result (λ c. c.left ≡ left.entry) }

@@ -1,0 +1,14 @@
+use Rattle.ygrammar.specs.Answers.{views}
+use Rattle.std.proofs.Common.{refl, subst, ◌≡◌, length, arith, ◌+◌}
+use Rattle.ygrammar.specs.declared.recogniser.State.TheVariants.{Semicolons}
+use Rattle.ygrammar.proofs.TreeSteps.{Goes, Counted, one_more_semicolon, counted_all}
+use Rattle.ygrammar.proofs.building.Lexemes.semicolons.Goals as goal
+
+pub semicolons-init : goal.semicolons-init
+semicolons-init c = record { counted = (0, refl, omega arith); goes_on = c.requires }
+
+pub semicolons-preserved : goal.semicolons-preserved
+semicolons-preserved c = record {
+  counted = one_more_semicolon c.args.self.now c.semicolons.self c.sign.new.self c.semicolons.invariant.counted c.semicolons-test.ensures;
+  goes_on = subst (Goes Semicolons) c.semicolons-test.ensures c.semicolons.invariant.goes_on;
+}
