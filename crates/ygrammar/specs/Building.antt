@@ -1,14 +1,17 @@
 -- What the builder of syntax trees asks of lexemes, and what it takes of them.
-use Rattle.std.specs.Prelude.{ℕ, ◌≡◌, Bool, true, false, List, ◌∷◌, Option, Some, None}
+use Rattle.std.specs.Prelude.{ℕ, ◌≡◌, Bool, true, false, List, ◌∷◌, Option, Some, None, Result, Ok, Err}
 use Rattle.ygrammar.specs.declared.cutting.Placed.{Placed}
 use Rattle.ygrammar.specs.declared.kind.Sign.{Sign}
 use Rattle.ygrammar.specs.declared.kind.Sign.TheVariants.{Greater}
 use Rattle.ygrammar.specs.declared.recogniser.State.{State}
 use Rattle.ygrammar.specs.Recogniser.{run}
 use Rattle.ygrammar.specs.Lexemes.{Lexeme, name, fixed}
-use Rattle.ygrammar.specs.Cuttings.{kinds}
-use Rattle.ygrammar.specs.Answers.{views}
-use Rattle.ygrammar.specs.Tree.{Item, item_yield}
+use Rattle.ygrammar.specs.declared.fault.GrammarFault.{GrammarFault}
+use Rattle.ygrammar.specs.declared.tree.Tree.{Tree as CodeTree}
+use Rattle.ygrammar.specs.Cuttings.{kinds, Refusal, Outcome}
+use Rattle.ygrammar.specs.Answers.{views, Answers, Gives}
+use Rattle.ygrammar.specs.Tree.{Item, item_yield, yield}
+use Rattle.ygrammar.specs.TreeViews.{tree_view}
 
 -- behind what led to a state, the lexemes make a grammar file
 abbrev pub GoesOn : State → List Placed → Type 0
@@ -41,3 +44,13 @@ pub record EndsTag (ls : List Lexeme) : Type 0 where
   pub tag : List ℕ
   pub rest : List Lexeme
   pub whole : ls ≡ name tag ∷ fixed Greater ∷ rest
+
+-- the answer is the tree of this outcome, or want of memory
+abbrev pub TreeAnswers : Result CodeTree GrammarFault → Result (List Lexeme) Refusal → Type 0
+TreeAnswers (Ok t) o = o ≡ Ok (yield (tree_view t))
+TreeAnswers (Err e) o = Answers (Err e) o
+
+-- the tree of the file's outcome, or want of memory
+abbrev pub GivesTree : List ℕ → Result CodeTree GrammarFault → Type 0
+GivesTree bytes (Ok t) = Outcome bytes (Ok (yield (tree_view t)))
+GivesTree bytes (Err e) = Gives bytes (Err e)

@@ -1,20 +1,21 @@
 //! The syntax tree of a grammar file's lexemes.
 
-ghost use Rattle.std.specs.Prelude.{ℕ, ◌≡◌, ◌≢◌, ◌++◌, ◌∷◌, ◌<◌, Bool, true, List, Option, map, length, replicate, IfOk, IsSome};
+ghost use Rattle.std.specs.Prelude.{ℕ, ◌≡◌, ◌≢◌, ◌++◌, ◌∷◌, ◌<◌, ◌≤◌, ◌↔◌, Bool, true, List, Option, map, length, replicate, Ok, Err, IfOk, IsErrOf, IsSome};
 ghost use Rattle.std.specs.List.{flat_map, AllByRecursion};
 ghost use Rattle.ygrammar.specs.declared.kind.Sign.TheVariants as sign;
 ghost use Rattle.ygrammar.specs.declared.kind.Sign.TheVariants.{Mark, Greater, Semicolon};
 ghost use Rattle.ygrammar.specs.declared.recogniser.State.TheVariants.{Declarations, StartWord, UnionWord, ListWord, ListTagged, Listed, Numbered, TypeWord, TypeTagged, RulesMark, Body, Semicolons};
 ghost use Rattle.ygrammar.specs.Answers.{views};
-ghost use Rattle.ygrammar.specs.Building.{GoesOn, NoItem, NoSign, Takes, TakesSign, EndsTag};
-ghost use Rattle.ygrammar.specs.Cuttings.{kinds};
-ghost use Rattle.ygrammar.specs.Lexemes.{name, number, act, fixed, sign_kind};
+ghost use Rattle.ygrammar.specs.Building.{GoesOn, NoItem, NoSign, Takes, TakesSign, EndsTag, TreeAnswers, GivesTree};
+ghost use Rattle.ygrammar.specs.Cuttings.{kinds, SpellsSyntax, Refusal, Outcome};
+ghost use Rattle.ygrammar.specs.Lexemes.{Lexeme as LexemeOf, name, number, act, fixed, sign_kind};
 ghost use Rattle.ygrammar.specs.Recogniser.{run};
 ghost use Rattle.ygrammar.specs.Syntax.{IsSpec};
 ghost use Rattle.ygrammar.specs.Tree.{IsDefinition, IsClause, BeginsWithName, IsTree, identifier_yield, option_yield, entry_yield, word_sign, tag_yield, definition_yield, item_yield, left_yield, end_yield, clause_yield, mark_yield, yield};
 ghost use Rattle.ygrammar.specs.TreeViews.{name_view, mention_view, digits_view, text_view, word_view, entry_view, definition_view, item_view, clause_view, tree_view, option_view};
 
-use crate::cutting::Placed;
+use crate::cutting::{Placed, read_syntax};
+use crate::fault::GrammarFault;
 use crate::kind::Sign;
 use crate::part::Lexeme;
 use crate::tree::{
@@ -429,4 +430,27 @@ pub fn build_tree<'a>(alloc: Global, lexemes: &[Placed<'a>]) -> Result<Tree<'a>,
         clauses,
         second_mark: !rest.rest.is_empty(),
     })
+}
+
+/// The syntax tree of a grammar file, or the file's first fault.
+///
+/// Want of memory may come in place of any answer but `TooLong`.
+pub fn read_tree<'a>(alloc: Global, bytes: &'a [u8]) -> Result<Tree<'a>, GrammarFault>
+    // It comes before every other answer.
+    ensures too_long { IsErrOf result GrammarFault.TooLong ↔ (1048576 < length bytes.now) }
+    // The tree stands for what the file spells.
+    ensures found { IfOk result (λ t. SpellsSyntax bytes.now (yield (tree_view t))) }
+    ensures shaped { IfOk result (λ t. IsTree (tree_view t)) }
+    // What is spelled is read.
+    ensures only { (ls : List LexemeOf) → length bytes.now ≤ 1048576 → SpellsSyntax bytes.now ls → TreeAnswers result (Ok ls) }
+    // The first fault of the file is answered, with its line.
+    ensures fault { (r : Refusal) → length bytes.now ≤ 1048576 → Outcome bytes.now (Err r) → TreeAnswers result (Err r) }
+    // There is no other answer.
+    ensures exact { length bytes.now ≤ 1048576 → GivesTree bytes.now result }
+{
+    let lexemes = read_syntax(alloc, bytes)?;
+    match build_tree(alloc, lexemes.as_slice()) {
+        Ok(tree) => Ok(tree),
+        Err(_) => Err(GrammarFault::Memory),
+    }
 }
