@@ -1,6 +1,5 @@
 -- What goes on behind a piece of a syntax tree, by the recogniser's states.
-use Rattle.std.proofs.Common.{ℕ, ◌≡◌, ◌<◌, ◌+◌, ◌-◌, ◌⊎◌, inl, inr, Bool, true, false, not, eqb, List, [], ◌∷◌, ◌++◌, map, length, Option, Some, None, IsSome, refl, sym, ap, ◌∙◌, subst, arith, append_assoc, append-nil, length-append}
-use Rattle.std.proofs.lemmas.Bool.{eqb-true}
+use Rattle.std.proofs.Common.{ℕ, ◌≡◌, ◌<◌, ◌+◌, ◌-◌, ◌⊎◌, inl, inr, Bool, true, false, List, [], ◌∷◌, ◌++◌, map, length, Option, Some, None, IsSome, refl, sym, ap, ◌∙◌, subst, arith, append_assoc, append-nil, length-append}
 use Rattle.std.proofs.lemmas.Grind.{flat_map-append}
 use Rattle.std.proofs.lemmas.List.{length-map, map-append, replicate_more}
 use Rattle.std.specs.List.{flat_map, AllByRecursion}
@@ -15,14 +14,14 @@ use Rattle.ygrammar.specs.declared.tree.NameAt.{NameAt}
 use Rattle.ygrammar.specs.TreeViews.{entry_view, name_view, option_view, clause_view}
 use Rattle.ygrammar.specs.declared.tree.Clause.{Clause as CodeClause}
 use Rattle.ygrammar.specs.declared.recogniser.State.{State}
-use Rattle.ygrammar.specs.declared.recogniser.State.TheVariants.{Declarations, StartWord, UnionWord, ListWord, ListTagOpen, ListTagName, ListTagged, Listed, Numbered, TypeWord, TypeTagOpen, TypeTagName, TypeTagged, Typed, RulesMark, Body, PrecWord, PrecNamed, Semicolons, End}
+use Rattle.ygrammar.specs.declared.recogniser.State.TheVariants.{Declarations, StartWord, UnionWord, ListWord, ListTagOpen, ListTagName, ListTagged, Listed, Numbered, TypeWord, TypeTagOpen, TypeTagName, TypeTagged, Typed, RulesMark, Body, PrecWord, PrecNamed, Semicolons}
 use Rattle.ygrammar.specs.Recogniser.{on_name, on_identifier, on_less, on_greater, on_act, on_head, next_state, reached, is_final_at, run}
-use Rattle.ygrammar.specs.Lexemes.{Lexeme, name, head, literal, number, act, code, fixed, kind_of, sign_kind}
+use Rattle.ygrammar.specs.Lexemes.{Lexeme, name, head, literal, number, act, fixed, kind_of}
 use Rattle.ygrammar.specs.Cuttings.{kinds}
 use Rattle.ygrammar.specs.Answers.{views}
 use Rattle.ygrammar.specs.Views.{lexeme_view}
-use Rattle.ygrammar.specs.Building.{None_of, NoItem, NoSign, Takes, TakesSign, EndsTag}
-use Rattle.ygrammar.specs.Tree.{Identifier, named, quoted, Definition, Item, symbol, action, Clause, identifier_yield, option_yield, entry_yield, tag_yield, definition_yield, item_yield, left_yield, end_yield, clause_yield, mark_yield, yield, IsDefinition, IsClause, BeginsWithName}
+use Rattle.ygrammar.specs.Building.{NoneOf, NoItem, NoSign, Takes, EndsTag}
+use Rattle.ygrammar.specs.Tree.{Identifier, named, quoted, Item, symbol, action, identifier_yield, entry_yield, item_yield, left_yield, mark_yield, BeginsWithName}
 
 -- lexemes that go on with a grammar file
 abbrev pub Goes : State → List Lexeme → Type 0
@@ -72,39 +71,39 @@ needs_head r (fixed sign.Mark) ls h = astray (kinds ls) h
 needs_head r (fixed _) ls h = astray (kinds ls) h
 needs_head r _ ls h = astray (kinds ls) h
 
-pub start_there : (ls : List Lexeme) → Goes StartWord ls → None_of identifier_yield ls → ⊥
+pub start_there : (ls : List Lexeme) → Goes StartWord ls → NoneOf identifier_yield ls → ⊥
 start_there [] h n = cc
 start_there (l ∷ ls) h n = let (i, e) = needs_identifier Declarations l ls h in n i ls (ap (λ z. z ∷ ls) e)
 
-pub prec_there : (ls : List Lexeme) → Goes PrecWord ls → None_of identifier_yield ls → ⊥
+pub prec_there : (ls : List Lexeme) → Goes PrecWord ls → NoneOf identifier_yield ls → ⊥
 prec_there [] h n = cc
 prec_there (l ∷ ls) h n = let (i, e) = needs_identifier PrecNamed l ls h in n i ls (ap (λ z. z ∷ ls) e)
 
-pub entry_there : (ls : List Lexeme) → Goes ListTagged ls → None_of identifier_yield ls → ⊥
+pub entry_there : (ls : List Lexeme) → Goes ListTagged ls → NoneOf identifier_yield ls → ⊥
 entry_there [] h n = cc
 entry_there (l ∷ ls) h n = let (i, e) = needs_identifier Listed l ls h in n i ls (ap (λ z. z ∷ ls) e)
 
-pub union_there : (ls : List Lexeme) → Goes UnionWord ls → None_of act ls → ⊥
+pub union_there : (ls : List Lexeme) → Goes UnionWord ls → NoneOf act ls → ⊥
 union_there [] h n = cc
 union_there (l ∷ ls) h n = let (t, e) = needs_act Declarations l ls h in n t ls (ap (λ z. z ∷ ls) e)
 
-pub entries_some : (xs : List CodeEntry) (before after : List Lexeme) → before ≡ flat_map entry_yield (map entry_view xs) ++ after → Goes ListTagged before → None_of identifier_yield after → 0 < length xs
-entries_some [] before after e h n = absurd (entry_there before h (subst (None_of identifier_yield) (sym e) n))
+pub entries_some : (xs : List CodeEntry) (before after : List Lexeme) → before ≡ flat_map entry_yield (map entry_view xs) ++ after → Goes ListTagged before → NoneOf identifier_yield after → 0 < length xs
+entries_some [] before after e h n = absurd (entry_there before h (subst (NoneOf identifier_yield) (sym e) n))
 entries_some (x ∷ xs) before after e h n = omega arith
 
-pub type_there : (ls : List Lexeme) → Goes TypeTagged ls → None_of name ls → ⊥
+pub type_there : (ls : List Lexeme) → Goes TypeTagged ls → NoneOf name ls → ⊥
 type_there [] h n = cc
 type_there (l ∷ ls) h n = let (t, e) = needs_name Typed l ls h in n t ls (ap (λ z. z ∷ ls) e)
 
-pub names_some : (xs : List NameAt) (before after : List Lexeme) → before ≡ map name (map name_view xs) ++ after → Goes TypeTagged before → None_of name after → 0 < length xs
-names_some [] before after e h n = absurd (type_there before h (subst (None_of name) (sym e) n))
+pub names_some : (xs : List NameAt) (before after : List Lexeme) → before ≡ map name (map name_view xs) ++ after → Goes TypeTagged before → NoneOf name after → 0 < length xs
+names_some [] before after e h n = absurd (type_there before h (subst (NoneOf name) (sym e) n))
 names_some (x ∷ xs) before after e h n = omega arith
 
 pub tag_there : (ls : List Lexeme) → Goes TypeWord ls → NoSign sign.Less ls → ⊥
 tag_there [] h n = cc
 tag_there (l ∷ ls) h n = n ls (ap (λ z. z ∷ ls) (needs_less TypeTagOpen l ls h))
 
-pub left_there : (ls : List Lexeme) → Goes RulesMark ls → None_of left_yield ls → ⊥
+pub left_there : (ls : List Lexeme) → Goes RulesMark ls → NoneOf left_yield ls → ⊥
 left_there [] h n = cc
 left_there (l ∷ ls) h n = let (t, e) = needs_head Body l ls h in n (Some t) ls (ap (λ z. z ∷ ls) e)
 
@@ -149,7 +148,7 @@ untagged (_ ∷ ls) h n = h
 pub entry_goes : (d : Option (List ℕ)) (before after : List Lexeme) → Takes number d before after → Goes Listed before → Goes Numbered after
 entry_goes None before after (none, e) h = subst (Goes Numbered) e (go before none h)
   where
-    go : (ls : List Lexeme) → None_of number ls → Goes Listed ls → Goes Numbered ls
+    go : (ls : List Lexeme) → NoneOf number ls → Goes Listed ls → Goes Numbered ls
     go [] n h = h
     go (number ds ∷ ls) n h = absurd (n ds ls refl)
     go (fixed sign.Mark ∷ ls) n h = h
@@ -165,7 +164,7 @@ tagged_numbered (fixed sign.Mark ∷ ls) h = astray (kinds ls) h
 tagged_numbered (fixed _ ∷ ls) h = astray (kinds ls) h
 tagged_numbered (_ ∷ ls) h = astray (kinds ls) h
 
-pub entries_end : (ls : List Lexeme) → Goes Numbered ls → None_of identifier_yield ls → Goes Declarations ls
+pub entries_end : (ls : List Lexeme) → Goes Numbered ls → NoneOf identifier_yield ls → Goes Declarations ls
 entries_end [] h n = h
 entries_end (name m ∷ ls) h n = absurd (n (named m) ls refl)
 entries_end (literal v ∷ ls) h n = absurd (n (quoted v) ls refl)
@@ -180,7 +179,7 @@ tagged_typed (fixed sign.Mark ∷ ls) h = astray (kinds ls) h
 tagged_typed (fixed _ ∷ ls) h = astray (kinds ls) h
 tagged_typed (_ ∷ ls) h = astray (kinds ls) h
 
-pub names_end : (ls : List Lexeme) → Goes Typed ls → None_of name ls → Goes Declarations ls
+pub names_end : (ls : List Lexeme) → Goes Typed ls → NoneOf name ls → Goes Declarations ls
 names_end [] h n = h
 names_end (name m ∷ ls) h n = absurd (n m ls refl)
 names_end (fixed sign.Mark ∷ ls) h n = h
@@ -206,7 +205,7 @@ no_precedence (_ ∷ ls) h n m = h
 pub last_goes : (t : Option (List ℕ)) (before after : List Lexeme) → Takes act t before after → Goes PrecNamed before → Goes Semicolons after
 last_goes None before after (none, e) h = subst (Goes Semicolons) e (go before none h)
   where
-    go : (ls : List Lexeme) → None_of act ls → Goes PrecNamed ls → Goes Semicolons ls
+    go : (ls : List Lexeme) → NoneOf act ls → Goes PrecNamed ls → Goes Semicolons ls
     go [] n h = h
     go (act t ∷ ls) n h = absurd (n t ls refl)
     go (fixed sign.Mark ∷ ls) n h = h
@@ -230,7 +229,7 @@ first_named (Some n) ls h = refl
 first_named None ls h = astray (kinds ls) h
 
 -- behind the second mark nothing follows
-pub rules_end : (ls : List Lexeme) → Goes Semicolons ls → NoSign sign.Semicolon ls → None_of left_yield ls → (b : Bool) × (ls ≡ mark_yield b)
+pub rules_end : (ls : List Lexeme) → Goes Semicolons ls → NoSign sign.Semicolon ls → NoneOf left_yield ls → (b : Bool) × (ls ≡ mark_yield b)
 rules_end [] h n m = (false, refl)
 rules_end (fixed sign.Semicolon ∷ ls) h n m = absurd (n ls refl)
 rules_end (fixed sign.Bar ∷ ls) h n m = absurd (m None ls refl)
@@ -318,6 +317,6 @@ first_keeps xs new x left before after (inl (g, e)) h k w =
 first_keeps [] new x left before after (inr b) h k w = absurd b
 first_keeps (y ∷ ys) new x left before after (inr b) h k w = subst (λ z. BeginsWithName (map clause_view z)) (sym w) b
 
-pub first_there : (xs : List CodeClause) (rest : List Lexeme) → FirstNamed xs rest → None_of left_yield rest → BeginsWithName (map clause_view xs)
+pub first_there : (xs : List CodeClause) (rest : List Lexeme) → FirstNamed xs rest → NoneOf left_yield rest → BeginsWithName (map clause_view xs)
 first_there xs rest (inl (g, e)) n = absurd (left_there rest g n)
 first_there xs rest (inr b) n = b

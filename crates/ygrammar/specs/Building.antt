@@ -1,29 +1,26 @@
 -- What the builder of syntax trees asks of lexemes, and what it takes of them.
-use Rattle.std.specs.Prelude.{ℕ, ◌≡◌, Bool, true, false, List, ◌∷◌, Option, Some, None, Result, Ok, Err}
+use Rattle.std.specs.Prelude.{ℕ, ◌≡◌, Bool, true, false, List, ◌∷◌, Option, Some, None}
 use Rattle.ygrammar.specs.declared.cutting.Placed.{Placed}
 use Rattle.ygrammar.specs.declared.kind.Sign.{Sign}
 use Rattle.ygrammar.specs.declared.kind.Sign.TheVariants.{Greater}
 use Rattle.ygrammar.specs.declared.recogniser.State.{State}
 use Rattle.ygrammar.specs.Recogniser.{run}
 use Rattle.ygrammar.specs.Lexemes.{Lexeme, name, fixed}
-use Rattle.ygrammar.specs.declared.fault.GrammarFault.{GrammarFault}
-use Rattle.ygrammar.specs.declared.tree.Tree.{Tree as CodeTree}
-use Rattle.ygrammar.specs.Cuttings.{kinds, Refusal, Outcome}
-use Rattle.ygrammar.specs.Answers.{views, Answers, Gives}
-use Rattle.ygrammar.specs.Tree.{Item, item_yield, yield}
-use Rattle.ygrammar.specs.TreeViews.{tree_view}
+use Rattle.ygrammar.specs.Cuttings.{kinds}
+use Rattle.ygrammar.specs.Answers.{views}
+use Rattle.ygrammar.specs.Tree.{item_yield}
 
 -- behind what led to a state, the lexemes make a grammar file
 abbrev pub GoesOn : State → List Placed → Type 0
 GoesOn q ls = run q (kinds (views ls)) ≡ true
 
 -- no lexeme of these stands in front
-abbrev pub None_of : {A : Type 0} → (A → Lexeme) → List Lexeme → Type 0
-None_of {A = A} f ls = (x : A) (rest : List Lexeme) → ls ≡ f x ∷ rest → ⊥
+abbrev pub NoneOf : {A : Type 0} → (A → Lexeme) → List Lexeme → Type 0
+NoneOf {A = A} f ls = (x : A) (rest : List Lexeme) → ls ≡ f x ∷ rest → ⊥
 
 -- no part of a body stands in front
 abbrev pub NoItem : List Lexeme → Type 0
-NoItem ls = None_of item_yield ls
+NoItem ls = NoneOf item_yield ls
 
 -- the lexeme that has one spelling does not stand in front
 abbrev pub NoSign : Sign → List Lexeme → Type 0
@@ -31,7 +28,7 @@ NoSign s ls = (rest : List Lexeme) → ls ≡ fixed s ∷ rest → ⊥
 
 -- the lexeme in front was taken, or none of these stands there
 abbrev pub Takes : {A : Type 0} → (A → Lexeme) → Option A → List Lexeme → List Lexeme → Type 0
-Takes f None before after = None_of f before × (before ≡ after)
+Takes f None before after = NoneOf f before × (before ≡ after)
 Takes f (Some x) before after = before ≡ f x ∷ after
 
 -- the lexeme in front was taken, or it does not stand there
@@ -44,13 +41,3 @@ pub record EndsTag (ls : List Lexeme) : Type 0 where
   pub tag : List ℕ
   pub rest : List Lexeme
   pub whole : ls ≡ name tag ∷ fixed Greater ∷ rest
-
--- the answer is the tree of this outcome, or want of memory
-abbrev pub TreeAnswers : Result CodeTree GrammarFault → Result (List Lexeme) Refusal → Type 0
-TreeAnswers (Ok t) o = o ≡ Ok (yield (tree_view t))
-TreeAnswers (Err e) o = Answers (Err e) o
-
--- the tree of the file's outcome, or want of memory
-abbrev pub GivesTree : List ℕ → Result CodeTree GrammarFault → Type 0
-GivesTree bytes (Ok t) = Outcome bytes (Ok (yield (tree_view t)))
-GivesTree bytes (Err e) = Gives bytes (Err e)

@@ -11,6 +11,7 @@ pub mod Answers
 pub mod Tree
 pub mod TreeViews
 pub mod Building
+pub mod TreeAnswers
 pub mod Checked
 pub mod Forms
 pub mod Grammar

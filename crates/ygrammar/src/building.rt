@@ -6,12 +6,13 @@ ghost use Rattle.ygrammar.specs.declared.kind.Sign.TheVariants as sign;
 ghost use Rattle.ygrammar.specs.declared.kind.Sign.TheVariants.{Mark, Greater, Semicolon};
 ghost use Rattle.ygrammar.specs.declared.recogniser.State.TheVariants.{Declarations, StartWord, UnionWord, ListWord, ListTagged, Listed, Numbered, TypeWord, TypeTagged, RulesMark, Body, Semicolons};
 ghost use Rattle.ygrammar.specs.Answers.{views};
-ghost use Rattle.ygrammar.specs.Building.{GoesOn, NoItem, NoSign, Takes, TakesSign, EndsTag, TreeAnswers, GivesTree};
+ghost use Rattle.ygrammar.specs.Building.{GoesOn, NoItem, NoSign, Takes, TakesSign, EndsTag};
 ghost use Rattle.ygrammar.specs.Cuttings.{kinds, SpellsSyntax, Refusal, Outcome};
 ghost use Rattle.ygrammar.specs.Lexemes.{Lexeme as LexemeOf, name, number, act, fixed, sign_kind};
 ghost use Rattle.ygrammar.specs.Recogniser.{run};
 ghost use Rattle.ygrammar.specs.Syntax.{IsSpec};
 ghost use Rattle.ygrammar.specs.Tree.{IsDefinition, IsClause, BeginsWithName, IsTree, identifier_yield, option_yield, entry_yield, word_sign, tag_yield, definition_yield, item_yield, left_yield, end_yield, clause_yield, mark_yield, yield};
+ghost use Rattle.ygrammar.specs.TreeAnswers.{TreeAnswers, GivesTree};
 ghost use Rattle.ygrammar.specs.TreeViews.{name_view, mention_view, digits_view, text_view, word_view, entry_view, definition_view, item_view, clause_view, tree_view, option_view};
 
 use crate::cutting::{Placed, read_syntax};

@@ -25,3 +25,5 @@ pub use precedence::{Associativity, Precedence};
 
 #[cfg(test)]
 mod tests;
+#[cfg(test)]
+mod tree_tests;

@@ -1,9 +1,9 @@
 use Rattle.ygrammar.specs.Answers.{views}
-use Rattle.std.proofs.Common.{ℕ, ◌≡◌, List, inl, inr, refl, sym, subst, ◌∙◌, ap, ◌∷◌, ◌++◌, map}
+use Rattle.std.proofs.Common.{inl, inr, sym, subst, ◌∙◌, ap, ◌++◌, map}
 use Rattle.std.specs.List.{flat_map, AllByRecursion}
-use Rattle.ygrammar.specs.Tree.{IsClause, BeginsWithName, clause_yield, left_yield, mark_yield, end_yield, item_yield}
-use Rattle.ygrammar.specs.TreeViews.{name_view, option_view, clause_view}
-use Rattle.ygrammar.proofs.TreeSteps.{Goes, FirstNamed, rules_begin, rule_goes, rules_end, first_keeps, first_there, one_more_piece, one_more_shaped, shorter}
+use Rattle.ygrammar.specs.Tree.{IsClause, clause_yield, left_yield, end_yield, item_yield}
+use Rattle.ygrammar.specs.TreeViews.{clause_view}
+use Rattle.ygrammar.proofs.TreeSteps.{rules_begin, rules_end, first_keeps, first_there, one_more_piece, one_more_shaped, shorter}
 use Rattle.ygrammar.proofs.building.Lexemes.clauses.Goals as goal
 
 pub rules-init : goal.rules-init

@@ -1,9 +1,8 @@
 use Rattle.ygrammar.specs.Answers.{views}
-use Rattle.std.proofs.Common.{refl, sym, subst, ◌∙◌, ap, ◌++◌, map}
+use Rattle.std.proofs.Common.{sym, subst, ap, ◌++◌, map}
 use Rattle.std.specs.List.{flat_map}
 use Rattle.ygrammar.specs.declared.recogniser.State.TheVariants.{Declarations}
-use Rattle.ygrammar.specs.Building.{GoesOn, None_of}
-use Rattle.ygrammar.specs.Tree.{identifier_yield, entry_yield}
+use Rattle.ygrammar.specs.Tree.{entry_yield}
 use Rattle.ygrammar.specs.TreeViews.{entry_view}
 use Rattle.ygrammar.proofs.TreeSteps.{Goes, tagged_numbered, entries_some, entries_end}
 use Rattle.ygrammar.proofs.building.Lexemes.entries.Goals as goal

@@ -1,5 +1,5 @@
 use Rattle.ygrammar.specs.Answers.{views}
-use Rattle.std.proofs.Common.{refl, sym, subst, ◌∙◌, ap, ◌++◌, map}
+use Rattle.std.proofs.Common.{sym, subst, ap, ◌++◌, map}
 use Rattle.ygrammar.specs.declared.recogniser.State.TheVariants.{Declarations}
 use Rattle.ygrammar.specs.Lexemes.{name}
 use Rattle.ygrammar.specs.TreeViews.{name_view}

@@ -1,7 +1,6 @@
-use Rattle.ygrammar.specs.Answers.{views}
-use Rattle.std.proofs.Common.{refl, subst, ◌≡◌, length, arith, ◌+◌}
+use Rattle.std.proofs.Common.{refl, subst, arith}
 use Rattle.ygrammar.specs.declared.recogniser.State.TheVariants.{Semicolons}
-use Rattle.ygrammar.proofs.TreeSteps.{Goes, Counted, one_more_semicolon, counted_all}
+use Rattle.ygrammar.proofs.TreeSteps.{Goes, one_more_semicolon}
 use Rattle.ygrammar.proofs.building.Lexemes.semicolons.Goals as goal
 
 pub semicolons-init : goal.semicolons-init
