@@ -1,9 +1,11 @@
 -- What the builder of syntax trees asks of lexemes, and what it takes of them.
-use Rattle.std.specs.Prelude.{ℕ, ◌≡◌, Bool, true, false, List, ◌∷◌, Option, Some, None}
+use Rattle.std.specs.Prelude.{ℕ, ◌≡◌, Bool, true, false, List, [], ◌∷◌, Option, Some, None}
 use Rattle.ygrammar.specs.declared.cutting.Placed.{Placed}
 use Rattle.ygrammar.specs.declared.kind.Sign.{Sign}
 use Rattle.ygrammar.specs.declared.kind.Sign.TheVariants.{Greater}
 use Rattle.ygrammar.specs.declared.recogniser.State.{State}
+use Rattle.ygrammar.specs.declared.tree.Definition.{Definition as CodeDefinition}
+use Rattle.ygrammar.specs.declared.tree.Definition.TheVariants as definitions
 use Rattle.ygrammar.specs.Recogniser.{run}
 use Rattle.ygrammar.specs.Lexemes.{Lexeme, name, fixed}
 use Rattle.ygrammar.specs.Cuttings.{kinds}
@@ -41,3 +43,16 @@ pub record EndsTag (ls : List Lexeme) : Type 0 where
   pub tag : List ℕ
   pub rest : List Lexeme
   pub whole : ls ≡ name tag ∷ fixed Greater ∷ rest
+
+-- where the lexeme in front stands
+abbrev pub place_of : List Placed → ℕ
+place_of [] = 0
+place_of (p ∷ ps) = p.at
+
+-- the word of a start symbol stands at the place
+abbrev pub DefinitionAt : ℕ → CodeDefinition → Type 0
+DefinitionAt at (definitions.Start m place) = place ≡ at
+DefinitionAt at (definitions.Union t) = Unit {0}
+DefinitionAt at definitions.Block = Unit {0}
+DefinitionAt at (definitions.Listing l) = Unit {0}
+DefinitionAt at (definitions.Types t) = Unit {0}

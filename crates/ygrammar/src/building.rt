@@ -1,12 +1,12 @@
 //! The syntax tree of a grammar file's lexemes.
 
-ghost use Rattle.std.specs.Prelude.{ℕ, ◌≡◌, ◌≢◌, ◌++◌, ◌∷◌, ◌<◌, ◌≤◌, ◌↔◌, Bool, true, List, Option, map, length, replicate, Ok, Err, IfOk, IsErrOf, IsSome};
+ghost use Rattle.std.specs.Prelude.{ℕ, ◌≡◌, ◌≢◌, ◌++◌, ◌∷◌, ◌<◌, ◌≤◌, ◌↔◌, Bool, true, List, Option, map, length, replicate, Ok, Err, IfOk, IfSome, IsErrOf, IsSome};
 ghost use Rattle.std.specs.List.{flat_map, AllByRecursion};
 ghost use Rattle.ygrammar.specs.declared.kind.Sign.TheVariants as sign;
 ghost use Rattle.ygrammar.specs.declared.kind.Sign.TheVariants.{Mark, Greater, Semicolon};
 ghost use Rattle.ygrammar.specs.declared.recogniser.State.TheVariants.{Declarations, StartWord, UnionWord, ListWord, ListTagged, Listed, Numbered, TypeWord, TypeTagged, RulesMark, Body, Semicolons};
 ghost use Rattle.ygrammar.specs.Answers.{views};
-ghost use Rattle.ygrammar.specs.Building.{GoesOn, NoItem, NoSign, Takes, TakesSign, EndsTag};
+ghost use Rattle.ygrammar.specs.Building.{GoesOn, NoItem, NoSign, Takes, TakesSign, EndsTag, place_of, DefinitionAt};
 ghost use Rattle.ygrammar.specs.Cuttings.{kinds, SpellsSyntax, Refusal, Outcome};
 ghost use Rattle.ygrammar.specs.Lexemes.{Lexeme as LexemeOf, name, number, act, fixed, sign_kind};
 ghost use Rattle.ygrammar.specs.Recogniser.{run};
@@ -45,7 +45,8 @@ impl<'s, 'a> Model for Lexemes<'s, 'a> {
 
 impl<'a> Lexemes<'_, 'a> {
     fn name(&mut self) -> Option<NameAt<'a>>
-        ensures { Takes name (option_view name_view result) (views self.old) (views self.new) }
+        ensures place { IfSome result (λ n. n.at ≡ place_of self.old) }
+        ensures taken { Takes name (option_view name_view result) (views self.old) (views self.new) }
     {
         let [first, rest @ ..] = self.rest else {
             return None;
@@ -60,7 +61,8 @@ impl<'a> Lexemes<'_, 'a> {
     }
 
     fn digits(&mut self) -> Option<Digits<'a>>
-        ensures { Takes number (option_view digits_view result) (views self.old) (views self.new) }
+        ensures place { IfSome result (λ d. d.at ≡ place_of self.old) }
+        ensures taken { Takes number (option_view digits_view result) (views self.old) (views self.new) }
     {
         let [first, rest @ ..] = self.rest else {
             return None;
@@ -93,7 +95,8 @@ impl<'a> Lexemes<'_, 'a> {
     }
 
     fn mention(&mut self) -> Option<Mention<'a>>
-        ensures { Takes identifier_yield (option_view mention_view result) (views self.old) (views self.new) }
+        ensures place { IfSome result (λ m. m.at ≡ place_of self.old) }
+        ensures taken { Takes identifier_yield (option_view mention_view result) (views self.old) (views self.new) }
     {
         let [first, rest @ ..] = self.rest else {
             return None;
@@ -121,7 +124,8 @@ impl<'a> Lexemes<'_, 'a> {
 
     /// What a rule begins with: a name and its colon, or a bar.
     fn left(&mut self) -> Option<Option<NameAt<'a>>>
-        ensures { Takes left_yield (option_view (λ n. option_view name_view n) result) (views self.old) (views self.new) }
+        ensures place { IfSome result (λ left. IfSome left (λ n. n.at ≡ place_of self.old)) }
+        ensures taken { Takes left_yield (option_view (λ n. option_view name_view n) result) (views self.old) (views self.new) }
     {
         let [first, rest @ ..] = self.rest else {
             return None;
@@ -185,6 +189,8 @@ impl<'a> Lexemes<'_, 'a> {
     /// The entry of an identifier, with its number.
     fn entry(&mut self, who: Mention<'a>) -> Entry<'a>
         requires { GoesOn Listed self.old }
+        ensures who { result.who ≡ who.entry }
+        ensures place { IfSome result.digits (λ d. d.at ≡ place_of self.old) }
         ensures whole { identifier_yield (mention_view who.entry) ∷ views self.old ≡ entry_yield (entry_view result) ++ views self.new }
         ensures goes_on { GoesOn Numbered self.new }
     {
@@ -251,6 +257,7 @@ impl<'a> Lexemes<'_, 'a> {
     /// The start symbol, behind its `%start`, which stands at the place.
     fn start(&mut self, at: usize) -> Definition<'a>
         requires { GoesOn StartWord self.old }
+        ensures place { DefinitionAt at result }
         ensures whole { fixed sign.Start ∷ views self.old ≡ definition_yield (definition_view result) ++ views self.new }
         ensures shaped { IsDefinition (definition_view result) }
         ensures goes_on { GoesOn Declarations self.new }
@@ -283,6 +290,7 @@ impl<'a> Lexemes<'_, 'a> {
     ) -> Result<Definition<'a>, AllocError>
         requires other { word ≢ Mark }
         requires goes_on { run Declarations (sign_kind word ∷ kinds (views self.old)) ≡ true }
+        ensures place { IfOk result (λ d. DefinitionAt at d) }
         ensures whole { IfOk result (λ d. fixed word ∷ views self.old ≡ definition_yield (definition_view d) ++ views self.new) }
         ensures shaped { IfOk result (λ d. IsDefinition (definition_view d)) }
         ensures goes_on { IfOk result (λ d. GoesOn Declarations self.new) }
@@ -302,6 +310,7 @@ impl<'a> Lexemes<'_, 'a> {
     fn definition(&mut self, alloc: Global) -> Result<Definition<'a>, AllocError>
         requires other { NoSign Mark (views self.old) }
         requires goes_on { GoesOn Declarations self.old }
+        ensures place { IfOk result (λ d. DefinitionAt (place_of self.old) d) }
         ensures whole { IfOk result (λ d. views self.old ≡ definition_yield (definition_view d) ++ views self.new) }
         ensures shaped { IfOk result (λ d. IsDefinition (definition_view d)) }
         ensures goes_on { IfOk result (λ d. GoesOn Declarations self.new) }

@@ -14,7 +14,7 @@ entries-init c = record {
 }
 
 pub returns-clause-some : goal.returns-clause-some
-returns-clause-some c = entries_some c.entries.entries.items (views c.args.self.now) (views c.entries.self) c.entries.invariant.whole c.requires c.in_default.ensures.0
+returns-clause-some c = entries_some c.entries.entries.items (views c.args.self.now) (views c.entries.self) c.entries.invariant.whole c.requires c.in_default.ensures.taken.0
 
 pub returns-clause-goes_on : goal.returns-clause-goes_on
-returns-clause-goes_on c = subst (Goes Declarations) c.in_default.ensures.1 (entries_end (views c.entries.self) c.entries.invariant.goes_on c.in_default.ensures.0)
+returns-clause-goes_on c = subst (Goes Declarations) c.in_default.ensures.taken.1 (entries_end (views c.entries.self) c.entries.invariant.goes_on c.in_default.ensures.taken.0)

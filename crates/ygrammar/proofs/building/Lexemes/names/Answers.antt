@@ -13,7 +13,7 @@ names-init c = record {
 }
 
 pub returns-clause-some : goal.returns-clause-some
-returns-clause-some c = names_some c.names.names.items (views c.args.self.now) (views c.names.self) c.names.invariant.whole c.requires c.in_default.ensures.0
+returns-clause-some c = names_some c.names.names.items (views c.args.self.now) (views c.names.self) c.names.invariant.whole c.requires c.in_default.ensures.taken.0
 
 pub returns-clause-goes_on : goal.returns-clause-goes_on
-returns-clause-goes_on c = subst (Goes Declarations) c.in_default.ensures.1 (names_end (views c.names.self) c.names.invariant.goes_on c.in_default.ensures.0)
+returns-clause-goes_on c = subst (Goes Declarations) c.in_default.ensures.taken.1 (names_end (views c.names.self) c.names.invariant.goes_on c.in_default.ensures.taken.0)

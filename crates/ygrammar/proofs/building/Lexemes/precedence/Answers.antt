@@ -9,9 +9,9 @@ pub returns-then-not-sign-clause-goes_on : goal.returns-then-not-sign-clause-goe
 returns-then-not-sign-clause-goes_on c = subst (Goes Semicolons) c.if-not-sign.ensures.1 (no_precedence (views c.args.self.now) c.requires.goes_on c.requires.ended c.if-not-sign.ensures.0)
 
 pub unreachable-requires : goal.unreachable-requires
-unreachable-requires c = prec_there (views c.sign.new.self) (subst (Goes Body) c.if-not-sign.ensures c.requires.goes_on) c.in_default.ensures.0
+unreachable-requires c = prec_there (views c.sign.new.self) (subst (Goes Body) c.if-not-sign.ensures c.requires.goes_on) c.in_default.ensures.taken.0
 
 pub returns-clause-goes_on : goal.returns-clause-goes_on
 returns-clause-goes_on c =
     last_goes (text_view c.text-last.result) (views c.mention.new.self) (views c.text-last.new.self) c.text-last.ensures
-    (after_identifier PrecWord PrecNamed refl refl (mention_view c.in-Some.symbol) (views c.sign.new.self) (views c.mention.new.self) (subst (Goes Body) c.if-not-sign.ensures c.requires.goes_on) c.in-Some.ensures)
+    (after_identifier PrecWord PrecNamed refl refl (mention_view c.in-Some.symbol) (views c.sign.new.self) (views c.mention.new.self) (subst (Goes Body) c.if-not-sign.ensures c.requires.goes_on) c.in-Some.ensures.taken)

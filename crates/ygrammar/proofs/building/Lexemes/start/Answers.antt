@@ -3,4 +3,4 @@ use Rattle.ygrammar.proofs.TreeSteps.{start_there}
 use Rattle.ygrammar.proofs.building.Lexemes.start.Goals as goal
 
 pub unreachable-requires : goal.unreachable-requires
-unreachable-requires c = start_there (views c.args.self.now) c.requires c.in_default.ensures.0
+unreachable-requires c = start_there (views c.args.self.now) c.requires c.in_default.ensures.taken.0
