@@ -14,4 +14,5 @@ pub mod Coming
 pub mod Answering
 pub mod Trees
 pub mod OneTree
+pub mod TreeSteps
 pub mod CheckedSteps

@@ -9,6 +9,9 @@ pub mod Kept
 pub mod Views
 pub mod Answers
 pub mod Tree
+pub mod TreeViews
+pub mod Building
+pub mod TreeAnswers
 pub mod Checked
 pub mod Forms
 pub mod Grammar

@@ -1,6 +1,7 @@
 //! The reader of grammar files, bytes to lexemes and lexemes to a syntax; and grammars as the layers above see them.
 #![tactic(auto)]
 
+mod building;
 mod bytes;
 mod cutting;
 mod fault;
@@ -13,6 +14,7 @@ mod percent;
 pub mod precedence;
 mod reading;
 mod recogniser;
+mod tree;
 
 pub use cutting::{FILE_LIMIT, Placed, read_syntax};
 pub use fault::GrammarFault;
@@ -23,3 +25,5 @@ pub use precedence::{Associativity, Precedence};
 
 #[cfg(test)]
 mod tests;
+#[cfg(test)]
+mod tree_tests;

@@ -1,0 +1,71 @@
+-- The code's syntax trees as trees of the definitions: without places.
+use Rattle.std.specs.Prelude.{ℕ, List, map, Option, Some, None}
+use Rattle.std.specs.Borrow.{Bor}
+use Rattle.ygrammar.specs.declared.tree.Identifier.{Identifier as CodeIdentifier}
+use Rattle.ygrammar.specs.declared.tree.Identifier.TheVariants as identifiers
+use Rattle.ygrammar.specs.declared.tree.Mention.{Mention}
+use Rattle.ygrammar.specs.declared.tree.NameAt.{NameAt}
+use Rattle.ygrammar.specs.declared.tree.Digits.{Digits}
+use Rattle.ygrammar.specs.declared.tree.Word.{Word as CodeWord}
+use Rattle.ygrammar.specs.declared.tree.Word.TheVariants as words
+use Rattle.ygrammar.specs.declared.tree.Entry.{Entry as CodeEntry}
+use Rattle.ygrammar.specs.declared.tree.Definition.{Definition as CodeDefinition}
+use Rattle.ygrammar.specs.declared.tree.Definition.TheVariants as definitions
+use Rattle.ygrammar.specs.declared.tree.Item.{Item as CodeItem}
+use Rattle.ygrammar.specs.declared.tree.Item.TheVariants as items
+use Rattle.ygrammar.specs.declared.tree.Clause.{Clause as CodeClause}
+use Rattle.ygrammar.specs.declared.tree.Tree.{Tree as CodeTree}
+use Rattle.ygrammar.specs.Tree.{Identifier, named, quoted, Word, token, left, right, nonassoc, Entry, Definition, start, union, block, listing, types, Item, symbol, action, Clause, Tree}
+
+abbrev pub identifier_view : CodeIdentifier → Identifier
+identifier_view (identifiers.Named n) = named n.now
+identifier_view (identifiers.Quoted v) = quoted v
+
+abbrev pub mention_view : Mention → Identifier
+mention_view m = identifier_view m.who
+
+abbrev pub name_view : NameAt → List ℕ
+name_view n = n.name.now
+
+abbrev pub digits_view : Digits → List ℕ
+digits_view d = d.digits.now
+
+abbrev pub option_view : {A B : Type 0} → (A → B) → Option A → Option B
+option_view f None = None
+option_view f (Some x) = Some (f x)
+
+-- a tag or a kept text, where there is one
+abbrev pub text_view : Option (Bor (List ℕ)) → Option (List ℕ)
+text_view t = option_view (λ s. s.now) t
+
+abbrev pub word_view : CodeWord → Word
+word_view words.Token = token
+word_view words.Left = left
+word_view words.Right = right
+word_view words.Nonassoc = nonassoc
+
+abbrev pub entry_view : CodeEntry → Entry
+entry_view e = record { who = mention_view e.who; digits = option_view digits_view e.digits }
+
+abbrev pub definition_view : CodeDefinition → Definition
+definition_view (definitions.Start m at) = start (mention_view m)
+definition_view (definitions.Union t) = union t.now
+definition_view definitions.Block = block
+definition_view (definitions.Listing l) = listing (word_view l.word) (text_view l.tag) (map entry_view l.entries.items)
+definition_view (definitions.Types t) = types t.tag.now (map name_view t.names.items)
+
+abbrev pub item_view : CodeItem → Item
+item_view (items.Symbol m) = symbol (mention_view m)
+item_view (items.Action t) = action t.now
+
+abbrev pub clause_view : CodeClause → Clause
+clause_view c = record {
+  left = option_view name_view c.left;
+  body = map item_view c.body.items;
+  prec = option_view mention_view c.prec;
+  last = text_view c.last;
+  semicolons = c.semicolons;
+}
+
+abbrev pub tree_view : CodeTree → Tree
+tree_view t = record { definitions = map definition_view t.definitions.items; clauses = map clause_view t.clauses.items; second_mark = t.second_mark }
