@@ -1,6 +1,9 @@
 mod Sent
+mod Walks
 mod Places
 mod Lines
 mod Replying
 mod Transcripts
 mod OneOutcome
+mod Required
+mod Running

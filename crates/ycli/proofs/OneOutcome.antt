@@ -7,8 +7,9 @@ use Rattle.ycli.specs.declared.tokens.Tokens.{Tokens}
 use Rattle.ycli.specs.declared.tokens.TokenFault.{TokenFault}
 use Rattle.ycli.specs.declared.tokens.TokenFault.TheVariants as faults
 use Rattle.std.specs.List.{All}
-use Rattle.ycli.specs.TokensFile.{is_blank, is_plain, is_word_byte, all_pass, begins, WordAt, literal, run, Front, nothing, word, broken, FrontAt, FrontIs, Says, token, answer, named, says, with_token, is_input, Comes, Reads, Outcome}
-use Rattle.ycli.specs.Reading.{TokensOf, Gives, Agrees, symbol_named}
+use Rattle.ycli.specs.TokensFile.{is_blank, is_plain, is_word_byte, all_pass, begins, WordAt, literal, run, Front, nothing, word, broken, FrontAt, FrontIs, Says, token, answer, named, says, with_token, Comes, Reads, Outcome}
+use Rattle.ycli.specs.Tables.{symbol_named, is_input, token_count}
+use Rattle.ycli.specs.Reading.{TokensOf, Gives, Agrees}
 
 pub and_true : (a b : Bool) → (a && b) ≡ true → (a ≡ true) × (b ≡ true)
 and_true true b e = (refl, e)
@@ -115,12 +116,12 @@ after_none symbols = let ok : List ℕ → Result (List ℕ) TokenFault = λ l. 
 
 -- what was answered is what the file has, so what the file has is the answer
 pub agrees : (t : Tables) (bytes : List ℕ) (result : Result Tokens TokenFault) → Gives t bytes result → (r : Result (List ℕ) TokenFault) → TokensOf t bytes r → Agrees result r
-agrees t bytes (Ok tokens) a r b = one_outcome (symbol_named t) t.tokens 0 bytes r _ b a
-agrees t bytes (Err (faults.Unknown place)) a r b = one_outcome (symbol_named t) t.tokens 0 bytes r _ b a
-agrees t bytes (Err (faults.NotInput place)) a r b = one_outcome (symbol_named t) t.tokens 0 bytes r _ b a
-agrees t bytes (Err faults.TooMany) a r b = one_outcome (symbol_named t) t.tokens 0 bytes r _ b a
+agrees t bytes (Ok tokens) a r b = one_outcome (symbol_named t) (token_count t) 0 bytes r _ b a
+agrees t bytes (Err (faults.Unknown place)) a r b = one_outcome (symbol_named t) (token_count t) 0 bytes r _ b a
+agrees t bytes (Err (faults.NotInput place)) a r b = one_outcome (symbol_named t) (token_count t) 0 bytes r _ b a
+agrees t bytes (Err faults.TooMany) a r b = one_outcome (symbol_named t) (token_count t) 0 bytes r _ b a
 agrees t bytes (Err faults.Memory) a r b = tt
-agrees t bytes (Err (faults.BadLiteral place)) a r b = one_outcome (symbol_named t) t.tokens 0 bytes r _ b a
+agrees t bytes (Err (faults.BadLiteral place)) a r b = one_outcome (symbol_named t) (token_count t) 0 bytes r _ b a
 
 -- a fault other than want of memory, which ends the file where it is read
 pub gives_fault : (t : Tables) (bytes : List ℕ) (fault : TokenFault) → TokensOf t bytes (Err fault) → Gives t bytes (Err fault)

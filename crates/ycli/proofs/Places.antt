@@ -1,15 +1,13 @@
 -- Tokens with their places, and what follows for a configuration.
-use Rattle.std.proofs.Common.{ℕ, zero, suc, ◌≡◌, ◌+◌, ◌-◌, ◌<◌, ◌≤◌, ◌++◌, List, [], ◌∷◌, Option, Some, None, length, take, drop, map, reverse, get_or, refl, sym, ap, ap₂, ◌∙◌, arith, length-drop}
+use Rattle.std.proofs.Common.{ℕ, zero, suc, ◌≡◌, ◌+◌, ◌-◌, ◌<◌, ◌≤◌, ◌++◌, List, [], ◌∷◌, Option, Some, length, take, drop, map, reverse, get_or, refl, sym, ap, ap₂, ◌∙◌, arith, length-drop}
 use Rattle.std.proofs.lemmas.List.{take_all, reverse-append}
-use Rattle.ycli.specs.declared.machine.Action.{Action}
+use Rattle.ycli.specs.declared.cell.Action.{Action}
 use Rattle.ycli.specs.declared.machine.Mode.{Mode}
 use Rattle.ycli.specs.declared.machine.Mode.TheVariants.{Running, Failed}
 use Rattle.ycli.specs.declared.machine.StepKind.{StepKind}
 use Rattle.ycli.specs.declared.machine.StepKind.TheVariants as kinds
-use Rattle.ycli.specs.declared.tables.Tables.{Tables}
 use Rattle.ycli.specs.Machine.{Machine, Configuration, lookahead, shifted, step_by, next_in, next}
 use Rattle.ycli.specs.History.{places_from}
-use Rattle.ycli.specs.Tables.{walk, goto_at}
 
 pub length-places_from : (n : ℕ) (xs : List ℕ) → length (places_from n xs) ≡ length xs
 length-places_from n [] = refl
@@ -71,19 +69,8 @@ pub shifted-some : (c : Configuration) (rest more : List (ℕ × ℕ)) (token pl
 shifted-some c rest more token place e =
     ap (shifted c) e
 
--- ---- walks over gotos
-
-pub walk-none : (t : Tables) (symbols : List ℕ) → walk t None symbols ≡ None
-walk-none t [] = refl
-walk-none t (symbol ∷ symbols) = walk-none t symbols
-
 pub take_whole : (n : ℕ) (xs : List ℕ) → n ≡ length xs → take n xs ≡ xs
 take_whole n xs e = take_all n xs (omega arith)
-
-pub walk-stuck : (t : Tables) (q : ℕ) (stack : List ℕ) (i : ℕ) → i < length stack → goto_at t q (get_or stack i 0) ≡ None → walk t (Some q) (drop i stack) ≡ None
-walk-stuck t q [] i h e = absurd (omega arith)
-walk-stuck t q (x ∷ xs) zero h e = ap (λ (o : Option ℕ). walk t o xs) e ∙ walk-none t xs
-walk-stuck t q (x ∷ xs) (suc i) h e = walk-stuck t q xs i (omega arith) e
 
 -- what is left of the tokens, at a place behind some of them
 pub within_rest : (n i k : ℕ) (xs : List ℕ) → k < length (drop i (places_from n xs)) → i + k < length xs

@@ -1,7 +1,9 @@
 pub mod Link
 pub mod Sends
-pub mod Machine
 pub mod Tables
+pub mod Tokens
+pub mod Machine
+pub mod MachineOver
 pub mod History
 pub mod Snapshots
 pub mod View
@@ -13,3 +15,6 @@ pub mod Reading
 pub mod Reply
 pub mod Transcript
 pub mod Serving
+pub mod Plain
+pub mod Arguments
+pub mod Programs

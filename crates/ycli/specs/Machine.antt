@@ -1,17 +1,13 @@
 -- The machine of a parse: its configurations and its steps (Aho, Sethi and Ullman, 4.7, the LR parsing algorithm).
 use Rattle.std.specs.Prelude.{ℕ, ◌-◌, ◌&&◌, Bool, List, [], ◌∷◌, ◌++◌, length, take, drop, Option, Some, None, if◌then◌else◌}
 use Rattle.std.specs.Str.{bytes_eq}
-use Rattle.ycli.specs.declared.machine.Action.{Action}
-use Rattle.ycli.specs.declared.machine.Action.TheVariants.{Shift, Reduce, Accept, Error}
+use Rattle.ycli.specs.declared.cell.Action.{Action}
+use Rattle.ycli.specs.declared.cell.Action.TheVariants.{Shift, Reduce, Accept, Error}
 use Rattle.ycli.specs.declared.machine.Mode.{Mode}
 use Rattle.ycli.specs.declared.machine.Mode.TheVariants.{Running, Popping, Accepted, Failed}
 use Rattle.ycli.specs.declared.machine.StepKind.{StepKind}
 use Rattle.ycli.specs.declared.machine.StepKind.TheVariants as kinds
-
--- a rule: a left side and a body
-pub record Production : Type 0 where
-  pub left : ℕ
-  pub body : List ℕ
+use Rattle.ycli.specs.Tables.{Production}
 
 -- what a parse goes by: the cell of a stack's symbols and a token, whether a symbol leads anywhere from a stack, the rules,
 -- and the names; token 0 is the end of the input

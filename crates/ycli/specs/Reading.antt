@@ -1,6 +1,5 @@
 -- What reading a tokens file answers.
-use Rattle.std.specs.Prelude.{ℕ, ◌≡◌, List, [], position, Option, Result, Ok, Err}
-use Rattle.std.specs.Str.{bytes_eq}
+use Rattle.std.specs.Prelude.{ℕ, ◌≡◌, List, [], Result, Ok, Err}
 use Rattle.ycli.specs.declared.tables.Tables.{Tables}
 use Rattle.ycli.specs.declared.tokens.Tokens.{Tokens}
 use Rattle.ycli.specs.declared.tokens.TokenFault.{TokenFault}
@@ -9,16 +8,13 @@ use Rattle.ycli.specs.declared.words.Front.{Front as CodeFront}
 use Rattle.ycli.specs.declared.words.Front.TheVariants as fronts
 use Rattle.ycli.specs.declared.tokens.Next.{Next}
 use Rattle.ycli.specs.declared.tokens.Next.TheVariants as nexts
-use Rattle.ycli.specs.Tables.{symbols_of}
+use Rattle.ycli.specs.Tables.{symbol_named, token_count}
+use Rattle.ycli.specs.Tokens.{symbols_of}
 use Rattle.ycli.specs.TokensFile.{Front, nothing, word, broken, Outcome, Says, token, answer}
-
--- the number of the symbol with this printed name
-abbrev pub symbol_named : Tables → List ℕ → Option ℕ
-symbol_named t name = position (λ known. bytes_eq known.items name) t.names.items
 
 -- the tokens of a file, or its first fault
 abbrev pub TokensOf : Tables → List ℕ → Result (List ℕ) TokenFault → Type 0
-TokensOf t bytes result = Outcome (symbol_named t) t.tokens 0 bytes result
+TokensOf t bytes result = Outcome (symbol_named t) (token_count t) 0 bytes result
 
 -- the answer is what the file has, or want of memory
 abbrev pub Gives : Tables → List ℕ → Result Tokens TokenFault → Type 0

@@ -3,7 +3,7 @@ use Rattle.std.specs.Prelude.{ℕ, List}
 use Rattle.ycli.specs.declared.session.Session.{Session}
 use Rattle.ycli.specs.Machine.{Machine}
 use Rattle.ycli.specs.History.{History}
-use Rattle.ycli.specs.Tables.{machine_over}
+use Rattle.ycli.specs.MachineOver.{machine_over}
 use Rattle.ycli.specs.Snapshots.{history_from}
 
 -- what a session goes by

@@ -1,16 +1,31 @@
 -- What the tables say: cells and gotos by state, rules by number, names by symbol.
-use Rattle.std.specs.Prelude.{ℕ, ◌<◌, List, [], ◌∷◌, map, slice_index_or, Option, Some, None, is_some}
-use Rattle.ycli.specs.declared.machine.Action.{Action}
-use Rattle.ycli.specs.declared.machine.Action.TheVariants as actions
+use Rattle.std.specs.Prelude.{ℕ, ◌&&◌, Bool, nat_lt, List, [], ◌∷◌, map, position, slice_index_or, Option, Some, None}
+use Rattle.std.specs.Str.{bytes_eq}
+use Rattle.ycli.specs.declared.cell.Action.{Action}
+use Rattle.ycli.specs.declared.cell.Action.TheVariants as actions
 use Rattle.ycli.specs.declared.tables.Tables.{Tables}
 use Rattle.ycli.specs.declared.tables.Rule.{Rule}
-use Rattle.ycli.specs.declared.tokens.Tokens.{Tokens}
-use Rattle.std.specs.List.{All}
-use Rattle.ycli.specs.Machine.{Machine, Production}
+
+-- a rule: a left side and a body
+pub record Production : Type 0 where
+  pub left : ℕ
+  pub body : List ℕ
 
 -- the printed name of a symbol, empty for a number that is no symbol
 abbrev pub name_of : Tables → ℕ → List ℕ
 name_of t symbol = slice_index_or (map (λ name. name.items) t.names.items) symbol []
+
+-- the number of the symbol with this printed name
+abbrev pub symbol_named : Tables → List ℕ → Option ℕ
+symbol_named t name = position (λ known. bytes_eq known.items name) t.names.items
+
+-- how many tokens there are; they have the lowest numbers
+abbrev pub token_count : Tables → ℕ
+token_count t = t.tokens
+
+-- input tokens are those other than `$end` and `error`; tokens have the numbers below `tokens`
+abbrev pub is_input : ℕ → ℕ → Bool
+is_input tokens symbol = nat_lt 1 symbol && nat_lt symbol tokens
 
 abbrev pub production : Rule → Production
 production rule = record { left = rule.left; body = rule.body.items }
@@ -48,24 +63,3 @@ state_after t stack = walk t (Some 0) stack
 abbrev pub cell_in : Tables → Option ℕ → ℕ → Action
 cell_in t None token = actions.Error
 cell_in t (Some q) token = cell_at t q token
-
--- the machine that goes by these tables
-unfoldable pub machine_over : Tables → Machine
-machine_over t = record {
-  cell = λ stack token. cell_in t (state_after t stack) token;
-  leads = λ stack symbol. is_some (goto_from t (state_after t stack) symbol);
-  rule = λ r. rule_of t r;
-  name = λ symbol. name_of t symbol;
-}
-
--- the symbols of a list of tokens
-abbrev pub symbols_of : Tokens → List ℕ
-symbols_of tokens = tokens.symbols.items
-
--- tokens other than `$end` and `error`, which have the numbers below the number of tokens
-abbrev pub IsInput : ℕ → ℕ → Type 0
-IsInput tokens symbol = (1 < symbol) × (symbol < tokens)
-
--- each of the symbols is an input token of the tables
-abbrev pub Fits : Tables → List ℕ → Type 0
-Fits t symbols = All (IsInput t.tokens) symbols

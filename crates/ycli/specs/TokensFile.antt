@@ -3,6 +3,7 @@ use Rattle.std.specs.Prelude.{ℕ, suc, ◌≡◌, ◌<◌, nat_le, nat_lt, ◌=
 use Prim.Native.Nat.{zero}
 use Rattle.ycli.specs.declared.tokens.TokenFault.{TokenFault}
 use Rattle.ycli.specs.declared.tokens.TokenFault.TheVariants as faults
+use Rattle.ycli.specs.Tables.{is_input}
 
 -- space, tab, newline, carriage return, form feed
 abbrev pub is_blank : ℕ → Bool
@@ -52,10 +53,6 @@ pub record FrontIs (bytes : List ℕ) (front : Front) : Type 0 where
   pub blanks : all_pass is_blank gap ≡ true
   pub no_blank : begins is_blank here ≡ false
   pub stands : FrontAt here front
-
--- input tokens are those other than `$end` and `error`; tokens have the numbers below `tokens`
-abbrev pub is_input : ℕ → ℕ → Bool
-is_input tokens symbol = nat_lt 1 symbol && nat_lt symbol tokens
 
 -- what a front says behind some tokens: one more token, and what follows it, or the answer for what is left
 pub data Says : Type 0 where

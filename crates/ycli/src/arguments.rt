@@ -1,10 +1,12 @@
 //! The words of the programs.
 
-ghost use Rattle.std.specs.Prelude.{◌≡◌};
+ghost use Rattle.std.specs.Prelude.{◌≡◌, IfOk, map};
+ghost use Rattle.clap.specs.Words.{FailsBy, IsParsedFrom, app_of, fault_of};
+ghost use Rattle.clap.specs.declared.parser.matches.ArgMatches.{ArgMatches};
+ghost use Rattle.ycli.specs.Arguments.{ystep_app, ArePathsIn, HasBoth};
 
-use clap::error::ErrorKind;
-use clap::{Arg, Command, Error};
-use std::alloc::Global;
+use clap::{Arg, ArgAction, Command, Error};
+use std::alloc::{AllocError, Global};
 
 /// The words of `ystep`: the paths of a grammar file and of a tokens file.
 #[derive(Clone, Copy, Debug)]
@@ -29,23 +31,37 @@ impl<'a> YstepWords<'a> {
     }
 }
 
-/// Reads the words of `ystep`, the program's name first among them.
-///
-/// The error is that of the command line's own crate: a request for help, a mistake in the words, or want of memory.
-pub fn ystep_words<'a>(alloc: Global, words: &'a [&'a str]) -> Result<YstepWords<'a>, Error> {
+/// The command line of `ystep`. A parse of it gives both of its arguments.
+#[tactic(auto, unfolding(crate::specs::Arguments::ystep_app))]
+fn ystep_command<'a>(alloc: Global) -> Result<Command<'a>, AllocError>
+    ensures app { IfOk result (λ command. app_of command ≡ ystep_app) }
+    ensures both { IfOk result (λ command. (found : ArgMatches) → IsParsedFrom command found → HasBoth found) }
+{
     let grammar = Arg::new(alloc, "grammar")
         .required(true)
+        .action(ArgAction::Set)
         .help("The grammar file");
     let tokens = Arg::new(alloc, "tokens")
         .required(true)
+        .action(ArgAction::Set)
         .help("The tokens file");
-    let mut command = Command::new(alloc, "ystep")
+    Command::new(alloc, "ystep")
         .about("Steps a parse forward and back by the command lines of standard input")
         .arg(grammar)?
-        .arg(tokens)?;
-    let matches = command.try_get_matches_from_mut(words)?;
-    match (matches.get_str("grammar"), matches.get_str("tokens")) {
-        (Some(grammar), Some(tokens)) => Ok(YstepWords { grammar, tokens }),
-        _ => Err(command.error(ErrorKind::MissingRequiredArgument, "two files are wanted")?),
-    }
+        .arg(tokens)
+}
+
+/// Reads the words of `ystep`, the program's name first among them.
+///
+/// The error is that of the command line's own crate: a request for help, a mistake in the words, or want of memory.
+pub fn ystep_words<'a>(alloc: Global, words: &'a [&'a str]) -> Result<YstepWords<'a>, Error>
+    // The paths are the values that the words give the two arguments.
+    ensures paths { IfOk result (ArePathsIn (map (λ word. word.now) words.entry.now)) }
+    // An error is the first fault of the words or want of memory, and words with a fault are refused.
+    ensures faults { FailsBy (fault_of ystep_app (map (λ word. word.now) words.entry.now)) result }
+{
+    let matches = ystep_command(alloc)?.try_get_matches_from(words)?;
+    let grammar = matches.get_str("grammar").unwrap();
+    let tokens = matches.get_str("tokens").unwrap();
+    Ok(YstepWords { grammar, tokens })
 }

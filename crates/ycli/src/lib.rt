@@ -2,6 +2,7 @@
 #![tactic(auto)]
 
 pub mod arguments;
+pub mod cell;
 mod command;
 pub mod fault;
 mod held;

@@ -1,6 +1,8 @@
 //! What the programs write to standard error, and the status that goes with it.
 
-ghost use Rattle.std.specs.Prelude.{◌≡◌};
+ghost use Rattle.std.specs.Prelude.{◌≡◌, ◌++◌, is_some, codes};
+ghost use Rattle.ycli.specs.Sends.{Sends};
+ghost use Rattle.ycli.specs.Programs.{message, status, placed, token_message};
 
 use crate::fault::SessionFault;
 use crate::link::Link;
@@ -8,7 +10,6 @@ use crate::plain::ReadFault;
 use crate::put::{put, put_all, put_number};
 use crate::thin::BuildFault;
 use crate::tokens::TokenFault;
-use std::alloc::AllocError;
 use std::io::{self, Write};
 
 /// Why a program ends before its work is done.
@@ -31,6 +32,10 @@ pub(crate) enum Trouble<'a> {
 }
 
 impl<'a> From<ReadFault> for Trouble<'a> {
+    ghost use Rattle.ycli.specs.Programs.{of_grammar};
+
+    ghost from_gives = { λ fault trouble. trouble ≡ of_grammar fault };
+
     fn from(fault: ReadFault) -> Trouble<'a> {
         match fault {
             ReadFault::NotYet => Trouble::NotYet,
@@ -40,6 +45,10 @@ impl<'a> From<ReadFault> for Trouble<'a> {
 }
 
 impl<'a> From<BuildFault> for Trouble<'a> {
+    ghost use Rattle.ycli.specs.Programs.{of_tables};
+
+    ghost from_gives = { λ fault trouble. trouble ≡ of_tables fault };
+
     fn from(fault: BuildFault) -> Trouble<'a> {
         match fault {
             BuildFault::TooManySets => Trouble::TooManySets,
@@ -49,6 +58,10 @@ impl<'a> From<BuildFault> for Trouble<'a> {
 }
 
 impl<'a> From<TokenFault> for Trouble<'a> {
+    ghost use Rattle.ycli.specs.Programs.{of_tokens};
+
+    ghost from_gives = { λ fault trouble. trouble ≡ of_tokens fault };
+
     fn from(fault: TokenFault) -> Trouble<'a> {
         match fault {
             TokenFault::Memory => Trouble::NoMemory,
@@ -58,20 +71,23 @@ impl<'a> From<TokenFault> for Trouble<'a> {
 }
 
 impl<'a> From<SessionFault> for Trouble<'a> {
+    ghost use Rattle.ycli.specs.declared.message.Trouble.TheVariants.{Session};
+
+    ghost from_gives = { λ fault trouble. trouble ≡ Session fault };
+
     fn from(fault: SessionFault) -> Trouble<'a> {
         Trouble::Session(fault)
     }
 }
 
-impl<'a> From<AllocError> for Trouble<'a> {
-    fn from(_refused: AllocError) -> Trouble<'a> {
-        Trouble::NoMemory
-    }
-}
-
 impl<'a> Trouble<'a> {
+    ghost use Rattle.std.specs.Prelude.{◌⊎◌};
+    ghost use Rattle.ycli.specs.declared.message.Trouble.TheVariants.{NoMemory, CannotRead};
+
     /// What a failed read of a file means.
-    pub(crate) fn of_file(path: &'a str, error: io::Error) -> Trouble<'a> {
+    pub(crate) fn of_file(path: &'a str, error: io::Error) -> Trouble<'a>
+        ensures { (result ≡ NoMemory) ⊎ (result ≡ CannotRead path.entry) }
+    {
         match error.kind() {
             io::ErrorKind::OutOfMemory => Trouble::NoMemory,
             _ => Trouble::CannotRead(path),
@@ -79,7 +95,9 @@ impl<'a> Trouble<'a> {
     }
 
     /// The exit status: 1 for a file that is refused, 2 for words, 3 for what comes from outside and for limits.
-    pub(crate) fn status(&self) -> u8 {
+    pub(crate) fn status(&self) -> u8
+        ensures { result ≡ status self.now }
+    {
         match self {
             Trouble::NotYet => 1,
             Trouble::Tokens(_) => 1,
@@ -92,7 +110,9 @@ impl<'a> Trouble<'a> {
     }
 
     /// Writes the message, one line.
-    pub(crate) fn put<E: Write>(&self, link: &mut Link<E>) -> Option<()> {
+    pub(crate) fn put<E: Write>(&self, link: &mut Link<E>) -> Option<()>
+        ensures { Sends E.contents link.old link.new (is_some result) (message self.now) }
+    {
         match self {
             Trouble::Usage => put(link, b"usage: ystep grammar tokens\n"),
             Trouble::NotYet => put(link, b"ystep: not yet\n"),
@@ -106,18 +126,24 @@ impl<'a> Trouble<'a> {
     }
 }
 
-fn put_path<E: Write>(link: &mut Link<E>, path: &[u8]) -> Option<()> {
+fn put_path<E: Write>(link: &mut Link<E>, path: &[u8]) -> Option<()>
+    ensures { Sends E.contents link.old link.new (is_some result) (codes "ystep: cannot read " ++ (path.now ++ codes "\n")) }
+{
     put_all(link, &[b"ystep: cannot read ", path, b"\n"])
 }
 
 /// A code and a place.
-fn put_place<E: Write>(link: &mut Link<E>, code: &[u8], place: usize) -> Option<()> {
+fn put_place<E: Write>(link: &mut Link<E>, code: &[u8], place: usize) -> Option<()>
+    ensures { Sends E.contents link.old link.new (is_some result) (placed code.now place) }
+{
     put_all(link, &[b"ystep: ", code, b" at token "])?;
     put_number(link, place as u64)?;
     put(link, b"\n")
 }
 
-fn put_token_fault<E: Write>(link: &mut Link<E>, fault: TokenFault) -> Option<()> {
+fn put_token_fault<E: Write>(link: &mut Link<E>, fault: TokenFault) -> Option<()>
+    ensures { Sends E.contents link.old link.new (is_some result) (token_message fault) }
+{
     match fault {
         TokenFault::Unknown(place) => put_place(link, b"K1", place),
         TokenFault::NotInput(place) => put_place(link, b"K2", place),

@@ -1,8 +1,9 @@
 //! The thin reader of grammar files: a mark, then rules of names, plain literals, bars and semicolons.
 
-ghost use Rattle.std.specs.Prelude.{◌≤◌, length, OnOk};
+ghost use Rattle.std.specs.Prelude.{◌≡◌, ◌<◌, length, Err};
+ghost use Rattle.ycli.specs.declared.plain.ReadFault.TheVariants.{NotYet};
 
-use crate::machine::Sym;
+use crate::cell::Sym;
 use crate::tables::Rule;
 use std::alloc::{AllocError, AllocFailed, Global};
 use thiserror::Error;
@@ -242,7 +243,7 @@ fn rules_of(
 /// with blanks between; each name in a body is a left side, and none is `error`. Any other file is `NotYet`, and
 /// want of memory may stand in place of any answer.
 pub fn read_plain(alloc: Global, bytes: &[u8]) -> Result<Grammar, ReadFault>
-    ensures { OnOk result (length bytes.now ≤ 4096) }
+    ensures { 4096 < length bytes.now → result ≡ Err NotYet }
 {
     if bytes.len() > MAX_FILE {
         return Err(ReadFault::NotYet);

@@ -1,5 +1,11 @@
 //! What the programs do but for their exit.
 
+ghost use Rattle.std.specs.Prelude.{◌≡◌, ◌⊎◌, IfOk, IfErr, map};
+ghost use Rattle.ycli.specs.declared.message.Trouble.TheVariants.{NoMemory, CannotRead};
+ghost use Rattle.ycli.specs.Link.{device_of};
+ghost use Rattle.ycli.specs.Session.{machine_of, history_of};
+ghost use Rattle.ycli.specs.Programs.{Asks, Starts, FilesFail, EndsIn, Runs};
+
 use crate::arguments::{YstepWords, ystep_words};
 use crate::link::Link;
 use crate::message::Trouble;
@@ -10,7 +16,7 @@ use crate::session::Session;
 use crate::thin::build_plain;
 use crate::tokens::read_tokens;
 use clap::error::ErrorKind;
-use std::alloc::{AllocError, Global};
+use std::alloc::Global;
 use std::fs;
 use std::io::{Read, Write};
 use std::rt::Files;
@@ -24,7 +30,9 @@ enum Request<'a> {
 }
 
 /// What the words of `ystep` ask for.
-fn request_of<'a>(alloc: Global, words: &'a [&'a str]) -> Result<Request<'a>, Trouble<'a>> {
+fn request_of<'a>(alloc: Global, words: &'a [&'a str]) -> Result<Request<'a>, Trouble<'a>>
+    ensures { Asks (map (λ word. word.now) words.entry.now) result }
+{
     match ystep_words(alloc, words) {
         Ok(words) => Ok(Request::Session(words)),
         Err(error) => match error.kind() {
@@ -39,7 +47,9 @@ fn request_of<'a>(alloc: Global, words: &'a [&'a str]) -> Result<Request<'a>, Tr
 }
 
 /// The bytes of a file.
-fn bytes_of<'a, F: Files + AllocGlobal>(rt: &F, path: &'a str) -> Result<Vec<u8>, Trouble<'a>> {
+fn bytes_of<'a, F: Files + AllocGlobal>(rt: &F, path: &'a str) -> Result<Vec<u8>, Trouble<'a>>
+    ensures { IfErr result (λ trouble. (trouble ≡ NoMemory) ⊎ (trouble ≡ CannotRead path.entry)) }
+{
     match fs::read(rt, path) {
         Ok(bytes) => Ok(bytes),
         Err(error) => Err(Trouble::of_file(path, error)),
@@ -50,7 +60,10 @@ fn bytes_of<'a, F: Files + AllocGlobal>(rt: &F, path: &'a str) -> Result<Vec<u8>
 fn session_of<'a, F: Files + AllocGlobal>(
     rt: &F,
     words: YstepWords<'a>,
-) -> Result<Session, Trouble<'a>> {
+) -> Result<Session, Trouble<'a>>
+    ensures starts { IfOk result (λ session. Starts (machine_of session) (history_of session)) }
+    ensures fails { IfErr result (FilesFail words.entry) }
+{
     let alloc = rt.alloc();
     let grammar = read_plain(alloc, &bytes_of(rt, words.grammar())?)?;
     let tables = build_plain(alloc, grammar)?;
@@ -64,18 +77,20 @@ fn obey<'a, F: Files + AllocGlobal, R: Read, W: Write>(
     words: &'a [&'a str],
     reader: &mut Link<R>,
     writer: &mut Link<W>,
-) -> Result<(), Trouble<'a>> {
+) -> Result<(), Trouble<'a>>
+    ensures { EndsIn R.remaining W.contents (map (λ word. word.now) words.entry.now) (device_of reader.old) reader.new (device_of writer.old) writer.new result }
+{
     match request_of(rt.alloc(), words)? {
         Request::Session(words) => {
             let session = session_of(rt, words)?;
-            run_session(session, reader, writer)?;
+            Ok(run_session(session, reader, writer)?)
         }
         Request::Help(text) => {
             let _ = put(writer, text.as_bytes());
             let _ = writer.flush();
+            Ok(())
         }
     }
-    Ok(())
 }
 
 /// All that `ystep` does but for its exit: `ystep grammar tokens` runs a session with command lines from the reader
@@ -88,7 +103,10 @@ pub fn ystep_run<'a, F: Files + AllocGlobal, R: Read, W: Write, E: Write>(
     reader: &mut Link<R>,
     writer: &mut Link<W>,
     errors: &mut Link<E>,
-) -> u8 {
+) -> u8
+    ensures { Runs R.remaining W.contents E.contents (map (λ word. word.now) words.entry.now)
+        (device_of reader.old) reader.new (device_of writer.old) writer.new (device_of errors.old) errors.new result }
+{
     reader.clear();
     writer.clear();
     errors.clear();

@@ -11,9 +11,10 @@ ghost use Rattle.ycli.specs.View.{shown_by};
 ghost use Rattle.ycli.specs.Command.{command_of};
 ghost use Rattle.ycli.specs.Reply.{step_line, refusal, kind_word, kind_tail, mode_word, shown, spaced, shown_head, shown_stack, shown_rest, shown_counts, Answers, AnswersLine};
 
+use crate::cell::Sym;
 use crate::command::{Command, command_in};
 use crate::link::Link;
-use crate::machine::{AtStart, Mode, StepFault, StepKind, Sym};
+use crate::machine::{AtStart, Mode, StepFault, StepKind};
 use crate::put::{put, put_all};
 use crate::session::Session;
 use std::io::Write;

@@ -3,9 +3,10 @@
 ghost use Rattle.std.specs.Prelude.{◌≡◌};
 ghost use Rattle.ycli.specs.History.{IsHistory};
 ghost use Rattle.ycli.specs.Snapshots.{history_from};
-ghost use Rattle.ycli.specs.Tables.{machine_over};
+ghost use Rattle.ycli.specs.MachineOver.{machine_over};
 
-use crate::machine::{AtStart, Mode, StepFault, StepKind, Sym};
+use crate::cell::Sym;
+use crate::machine::{AtStart, Mode, StepFault, StepKind};
 use crate::snapshot::{Snapshot, Step, next_of};
 use crate::tables::Tables;
 use crate::tokens::Tokens;
@@ -27,7 +28,7 @@ pub struct Session {
 
 impl Session {
     ghost use Rattle.std.specs.Prelude.{length, ℕ, ◌<◌, List};
-    ghost use Rattle.ycli.specs.Tables.{Fits, symbols_of};
+    ghost use Rattle.ycli.specs.Tokens.{Fits, symbols_of};
     ghost use Rattle.ycli.specs.History.{first_history, Steps, Undoes, position};
     ghost use Rattle.ycli.specs.Session.{machine_of, history_of, tokens_of};
     ghost use Rattle.ycli.specs.View.{shown_by};
@@ -96,7 +97,7 @@ impl Session {
     }
 
     /// The printed name of a symbol; empty for a number that is no symbol.
-    #[tactic(auto, unfolding(crate::specs::Session::machine_of, crate::specs::Tables::machine_over))]
+    #[tactic(auto, unfolding(crate::specs::Session::machine_of, crate::specs::MachineOver::machine_over))]
     pub fn name(&self, symbol: Sym) -> &[u8]
         ensures { result.now ≡ (machine_of self.now).name symbol }
     {

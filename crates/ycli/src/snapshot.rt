@@ -5,9 +5,10 @@ ghost use Rattle.ycli.specs.declared.machine.Mode.TheVariants.{Running};
 ghost use Rattle.ycli.specs.Machine.{shifted, reduced, step_by, next};
 ghost use Rattle.ycli.specs.History.{first_configuration};
 ghost use Rattle.ycli.specs.Snapshots.{configuration_of};
-ghost use Rattle.ycli.specs.Tables.{machine_over};
+ghost use Rattle.ycli.specs.MachineOver.{machine_over};
 
-use crate::machine::{Action, Mode, StepKind, Sym};
+use crate::cell::{Action, Sym};
+use crate::machine::{Mode, StepKind};
 use crate::tables::Tables;
 use std::alloc::{AllocError, Global};
 
@@ -84,6 +85,7 @@ fn shift(tokens: &[Sym], now: &Snapshot) -> Result<(StepKind, Snapshot), AllocEr
 }
 
 /// The left side of a rule takes the place of its body.
+#[tactic(auto, unfolding(crate::specs::MachineOver::machine_over))]
 fn reduce(
     tables: &Tables,
     now: &Snapshot,

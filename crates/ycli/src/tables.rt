@@ -1,12 +1,9 @@
 //! The thin tables: cells, gotos, rules and names as dense lists.
 
 ghost use Rattle.std.specs.Prelude.{◌≡◌, is_some, Some};
-ghost use Rattle.ycli.specs.Machine.{Production};
-ghost use Rattle.ycli.specs.TokensFile.{is_input};
-ghost use Rattle.ycli.specs.Reading.{symbol_named};
-ghost use Rattle.ycli.specs.Tables.{name_of, rule_of, production, goto_at, goto_from, cell_at, cell_in, state_after, machine_over};
+ghost use Rattle.ycli.specs.Tables.{Production, name_of, symbol_named, token_count, is_input, rule_of, production, goto_at, goto_from, cell_at, cell_in, state_after};
 
-use crate::machine::{Action, Sym};
+use crate::cell::{Action, Sym};
 
 /// A rule: a left side and a body.
 #[derive(Drop)]
@@ -45,16 +42,15 @@ impl Tables {
 
     /// Whether a symbol is a token other than `$end` and `error`.
     pub(crate) fn is_input(&self, symbol: Sym) -> bool
-        ensures { result ≡ is_input self.now.tokens symbol }
+        ensures { result ≡ is_input (token_count self.now) symbol }
     {
         1 < symbol && symbol < self.tokens
     }
 
     /// The left side and the body of a rule.
-    #[tactic(auto, unfolding(crate::specs::Tables::machine_over))]
     pub(crate) fn rule(&self, number: usize) -> (Sym, &[Sym])
-        ensures left { result.0 ≡ ((machine_over self.now).rule number).left }
-        ensures body { result.1.now ≡ ((machine_over self.now).rule number).body }
+        ensures left { result.0 ≡ (rule_of self.now number).left }
+        ensures body { result.1.now ≡ (rule_of self.now number).body }
     {
         match self.rules.get(number) {
             Some(rule) => (rule.left, rule.body.as_slice()),
@@ -94,9 +90,8 @@ impl Tables {
     }
 
     /// What the cell of a stack and a token says.
-    #[tactic(auto, unfolding(crate::specs::Tables::machine_over))]
     pub(crate) fn cell_after(&self, stack: &[Sym], token: Sym) -> Action
-        ensures { result ≡ (machine_over self.now).cell stack.now token }
+        ensures { result ≡ cell_in self.now (state_after self.now stack.now) token }
     {
         match self.state_after(stack) {
             Some(state) => self.cell(state, token),
@@ -105,9 +100,8 @@ impl Tables {
     }
 
     /// Whether a symbol leads anywhere from a stack.
-    #[tactic(auto, unfolding(crate::specs::Tables::machine_over))]
     pub(crate) fn leads(&self, stack: &[Sym], symbol: Sym) -> bool
-        ensures { result ≡ (machine_over self.now).leads stack.now symbol }
+        ensures { result ≡ is_some (goto_from self.now (state_after self.now stack.now) symbol) }
     {
         match self.state_after(stack) {
             Some(state) => self.goto(state, symbol).is_some(),

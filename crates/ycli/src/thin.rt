@@ -1,9 +1,10 @@
 //! The thin tables: LALR(1) item sets and lookaheads by plain saturation, and cells without precedences.
-//! Nothing is proved of them but that they are safe to make and that making them ends.
+//! Of cells and gotos nothing is proved but that they are safe to make and that making them ends.
 
-ghost use Rattle.std.specs.Prelude.{◌≡◌, ℕ, ◌≤◌, ◌*◌, length};
+ghost use Rattle.std.specs.Prelude.{◌≡◌, IfOk};
+ghost use Rattle.ycli.specs.Plain.{KeepsGrammar};
 
-use crate::machine::{Action, Sym};
+use crate::cell::{Action, Sym};
 use crate::plain::Grammar;
 use crate::tables::{Rule, Tables};
 use std::alloc::{AllocError, AllocFailed, Global};
@@ -152,7 +153,9 @@ fn mark_first(rule: &Rule, nullable: &[bool], first: &mut Marks) -> bool {
 }
 
 /// Which symbols vanish, and their first tokens.
-fn facts_of(alloc: Global, grammar: Grammar) -> Result<Facts, BuildFault> {
+fn facts_of(alloc: Global, grammar: Grammar) -> Result<Facts, BuildFault>
+    ensures { IfOk result (λ facts. facts.grammar ≡ grammar) }
+{
     let symbols = grammar.names.len();
     let mut nullable = vec![in alloc; false; symbols]?;
     for _ in 0..symbols {
@@ -461,7 +464,9 @@ fn cells_of(
 /// Makes the tables of a grammar: its LALR(1) item sets, with a shift preferred to a reduction and the rule that
 /// comes first to a later one. B1 where there are more than 16,384 item sets; want of memory may stand in place of
 /// any answer.
-pub fn build_plain(alloc: Global, grammar: Grammar) -> Result<Tables, BuildFault> {
+pub fn build_plain(alloc: Global, grammar: Grammar) -> Result<Tables, BuildFault>
+    ensures { IfOk result (KeepsGrammar grammar) }
+{
     let sets = sets_of(alloc, &grammar)?;
     let facts = facts_of(alloc, grammar)?;
     let rows = rows_of(alloc, &sets)?;

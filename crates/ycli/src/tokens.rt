@@ -2,11 +2,12 @@
 
 ghost use Rattle.std.specs.Prelude.{◌≡◌, ◌<◌, ◌≤◌, ◌↔◌, IsTrue, IfOk, List, ℕ, length, slice_index, Result};
 ghost use Rattle.ycli.specs.declared.tokens.TokenFault.{TokenFault as Fault};
-ghost use Rattle.ycli.specs.Tables.{Fits, symbols_of};
+ghost use Rattle.ycli.specs.Tables.{symbol_named, token_count};
+ghost use Rattle.ycli.specs.Tokens.{Fits, symbols_of};
 ghost use Rattle.ycli.specs.TokensFile.{named, Comes};
-ghost use Rattle.ycli.specs.Reading.{Gives, Agrees, TokensOf, symbol_named, next_view};
+ghost use Rattle.ycli.specs.Reading.{Gives, Agrees, TokensOf, next_view};
 
-use crate::machine::Sym;
+use crate::cell::Sym;
 use crate::tables::Tables;
 use crate::words::{Front, front_of};
 use std::alloc::{AllocFailed, Global};
@@ -95,7 +96,7 @@ pub(crate) enum Next<'a> {
 
 /// The input token with this printed name, and what follows it; K1 and K2 at this place where there is none.
 fn named<'a>(tables: &Tables, name: &[u8], place: usize, after: &'a [u8]) -> Next<'a>
-    ensures { next_view result ≡ named tables.now.tokens place (symbol_named tables.now name.now) after.entry.now }
+    ensures { next_view result ≡ named (token_count tables.now) place (symbol_named tables.now name.now) after.entry.now }
 {
     match tables.find(name) {
         None => Next::Fault(TokenFault::Unknown(place)),
@@ -107,7 +108,7 @@ fn named<'a>(tables: &Tables, name: &[u8], place: usize, after: &'a [u8]) -> Nex
 /// What comes next behind so many tokens.
 fn next_in<'a>(tables: &Tables, read: usize, bytes: &'a [u8]) -> Next<'a>
     requires { read ≤ 1000000 }
-    ensures { Comes (symbol_named tables.now) tables.now.tokens read bytes.entry.now (next_view result) }
+    ensures { Comes (symbol_named tables.now) (token_count tables.now) read bytes.entry.now (next_view result) }
 {
     match front_of(bytes) {
         Front::Nothing => Next::End,

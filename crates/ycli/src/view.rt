@@ -4,7 +4,8 @@ ghost use Rattle.std.specs.Prelude.{◌≡◌, ◌<◌, length, slice_index, sli
 ghost use Rattle.ycli.specs.View.{shown_by};
 ghost use Rattle.ycli.specs.Snapshots.{configuration_of};
 
-use crate::machine::{Mode, Sym};
+use crate::cell::Sym;
+use crate::machine::Mode;
 use crate::snapshot::Snapshot;
 
 /// A configuration: its stack, the tokens left, the recovery counter, the errors reported, the mode.

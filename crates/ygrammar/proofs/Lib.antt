@@ -14,6 +14,7 @@ pub mod Coming
 pub mod Answering
 pub mod Trees
 pub mod OneTree
+pub mod TreeSteps
 pub mod CheckedSteps
 pub mod NameSteps
 pub mod RuleSteps

@@ -10,6 +10,8 @@ pub mod Views
 pub mod Answers
 pub mod Tree
 pub mod TreeViews
+pub mod Building
+pub mod TreeAnswers
 pub mod Checked
 pub mod Forms
 pub mod Grammar

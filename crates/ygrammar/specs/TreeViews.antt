@@ -9,8 +9,6 @@ use Rattle.ygrammar.specs.declared.tree.Digits.{Digits}
 use Rattle.ygrammar.specs.declared.tree.Word.{Word as CodeWord}
 use Rattle.ygrammar.specs.declared.tree.Word.TheVariants as words
 use Rattle.ygrammar.specs.declared.tree.Entry.{Entry as CodeEntry}
-use Rattle.ygrammar.specs.declared.tree.Listing.{Listing}
-use Rattle.ygrammar.specs.declared.tree.Types.{Types}
 use Rattle.ygrammar.specs.declared.tree.Definition.{Definition as CodeDefinition}
 use Rattle.ygrammar.specs.declared.tree.Definition.TheVariants as definitions
 use Rattle.ygrammar.specs.declared.tree.Item.{Item as CodeItem}

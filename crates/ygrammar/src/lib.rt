@@ -1,6 +1,7 @@
 //! The reader of grammar files, bytes to lexemes and lexemes to a syntax; and grammars as the layers above see them.
 #![tactic(auto)]
 
+mod building;
 mod bytes;
 mod cutting;
 mod fault;
@@ -30,3 +31,5 @@ pub use precedence::{Associativity, Precedence};
 
 #[cfg(test)]
 mod tests;
+#[cfg(test)]
+mod tree_tests;

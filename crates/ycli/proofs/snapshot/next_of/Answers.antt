@@ -3,11 +3,12 @@ use Rattle.std.proofs.lemmas.Result.{IfOk-weaker}
 use Rattle.ycli.specs.declared.machine.StepKind.{StepKind}
 use Rattle.ycli.specs.Machine.{Machine, Configuration}
 use Rattle.ycli.specs.Snapshots.{configuration_of}
-use Rattle.ycli.specs.Tables.{machine_over}
+use Rattle.ycli.specs.MachineOver.{machine_over}
 use Rattle.ycli.proofs.Places.{next_by, lookahead_at}
 use Rattle.ycli.proofs.snapshot.next_of.Goals as goal
 
 pub returns : goal.returns
+unfolding machine_over
 returns c =
     let m : Machine = machine_over c.args.tables.now in
     let now : Configuration = configuration_of c.args.tokens.now c.args.now.now in

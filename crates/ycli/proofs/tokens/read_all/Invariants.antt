@@ -2,8 +2,8 @@ use Rattle.std.proofs.Common.{ℕ, List, ◌≤◌, length, Result}
 use Rattle.std.specs.List.{All}
 use Rattle.ycli.specs.declared.tokens.TokenFault.{TokenFault}
 use Rattle.ycli.specs.TokensFile.{Outcome}
-use Rattle.ycli.specs.Tables.{IsInput}
-use Rattle.ycli.specs.Reading.{symbol_named}
+use Rattle.ycli.specs.Tables.{symbol_named, token_count}
+use Rattle.ycli.specs.Tokens.{IsInput}
 use Rattle.ycli.proofs.OneOutcome.{after_tokens}
 use Rattle.ycli.proofs.tokens.read_all.Given as goal
 
@@ -11,8 +11,8 @@ use Rattle.ycli.proofs.tokens.read_all.Given as goal
 abbrev pub invariant-loop-symbols : goal.invariant-loop-symbols
 invariant-loop-symbols l = record {
   few : length l.symbols.items ≤ 1000000;
-  inputs : All (IsInput l.tables.tokens) l.symbols.items;
-  told : (r : Result (List ℕ) TokenFault) → Outcome (symbol_named l.tables) l.tables.tokens (length l.symbols.items) l.rest r → Outcome (symbol_named l.tables) l.tables.tokens 0 l.initial.bytes (after_tokens l.symbols.items r);
+  inputs : All (IsInput (token_count l.tables)) l.symbols.items;
+  told : (r : Result (List ℕ) TokenFault) → Outcome (symbol_named l.tables) (token_count l.tables) (length l.symbols.items) l.rest r → Outcome (symbol_named l.tables) (token_count l.tables) 0 l.initial.bytes (after_tokens l.symbols.items r);
 }
 
 -- each word takes a byte

@@ -4,7 +4,7 @@ use Rattle.ycli.specs.declared.snapshot.Step.{Step}
 use Rattle.ycli.specs.Machine.{Machine}
 use Rattle.ycli.specs.History.{LeadsTo, first_configuration}
 use Rattle.ycli.specs.Snapshots.{configuration_of, step_of}
-use Rattle.ycli.specs.Tables.{machine_over}
+use Rattle.ycli.specs.MachineOver.{machine_over}
 use Rattle.ycli.proofs.Places.{past-push}
 use Rattle.ycli.proofs.session.Session.back.Goals as goal
 

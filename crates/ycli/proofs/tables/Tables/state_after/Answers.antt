@@ -1,5 +1,5 @@
 use Rattle.std.proofs.Common.{sym, ◌∙◌}
-use Rattle.ycli.proofs.Places.{walk-stuck}
+use Rattle.ycli.proofs.Walks.{walk-stuck}
 use Rattle.ycli.proofs.tables.Tables.state_after.Goals as goal
 
 pub returns-in_err-state : goal.returns-in_err-state
