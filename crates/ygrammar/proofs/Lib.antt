@@ -19,3 +19,4 @@ pub mod CheckedSteps
 pub mod NameSteps
 pub mod RuleSteps
 pub mod TellingSteps
+pub mod OwnSteps

@@ -24,7 +24,7 @@ number_at (m ∷ ns) n d h = go (bytes_eq n m) refl h (λ k. number_at ns n d k)
 pub same_number : (ns : List Name) (n m : Name) → number_in ns n < length ns → number_in ns n ≡ number_in ns m → n ≡ m
 same_number ns n m h e = sym (number_at ns n [] h) ∙ ap (λ k. get_or ns k []) e ∙ number_at ns m [] (subst (λ k. k < length ns) e h)
 
-other_name : (n m : Name) → (n ≡ m → ⊥) → bytes_eq n m ≡ false
+pub other_name : (n m : Name) → (n ≡ m → ⊥) → bytes_eq n m ≡ false
 other_name n m h = go (bytes_eq n m) refl
   where
     go : (b : Bool) → bytes_eq n m ≡ b → bytes_eq n m ≡ false

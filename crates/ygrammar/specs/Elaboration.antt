@@ -272,15 +272,15 @@ literal_value (named m ∷ is) n = literal_value is n
 literal_value (quoted v ∷ is) n = if bytes_eq n (printed_literal v) then Some v else literal_value is n
 
 -- the number that a token has where none is given: the end, `error`, and a literal
-abbrev pub usual_number : Tree → Name → Option ℕ
-usual_number t n =
+abbrev pub usual_of : List Identifier → Name → Option ℕ
+usual_of is n =
     if bytes_eq n (codes "$end") then Some 0
     else if bytes_eq n (codes "error") then Some 256
-    else literal_value (appearances t) n
+    else literal_value is n
 
 -- the number that a token has by itself
 abbrev pub own_number : Tree → Name → Option ℕ
-own_number t n = first_or (numbers_given t n) (usual_number t n)
+own_number t n = first_or (numbers_given t n) (usual_of (appearances t) n)
 
 -- the precedence of a token
 abbrev pub precedence_of : Tree → Name → Option Precedence

@@ -25,3 +25,4 @@ pub mod Told
 pub mod Mistakes
 pub mod Numbers
 pub mod Meaning
+pub mod Owned

@@ -1,14 +1,22 @@
 //! What the listings give to the tokens: precedences and numbers, by the number of the token.
 
-ghost use Rattle.std.specs.Prelude.{◌≡◌, map, length};
+ghost use Rattle.std.specs.Prelude.{◌≡◌, ◌≤◌, ◌++◌, ◌∷◌, ℕ, List, Option, None, map, MatchOption};
+ghost use Rattle.std.specs.Char.{digit_value};
+ghost use Rattle.std.specs.Str.Parse.{digits_value};
+ghost use Rattle.ygrammar.specs.Elaboration.{literal_value, usual_of};
+ghost use Rattle.ygrammar.specs.Names.{Name};
+ghost use Rattle.ygrammar.specs.Owned.{IsFit, OwnSoFar, TellsNumbers, filled};
+ghost use Rattle.ygrammar.specs.Tree.{Identifier as IdentifierOf};
+ghost use Rattle.ygrammar.specs.TreeViews.{identifier_view, mention_view};
 ghost use Rattle.ygrammar.specs.NameTexts.{texts};
 ghost use Rattle.ygrammar.specs.Outline.{listed_view};
 ghost use Rattle.ygrammar.specs.Told.{TellsPrecedences};
 
 use crate::mistake::{Mistake, Refused};
-use crate::names::{Names, number_of};
+use crate::names::{Names, number_in, number_of};
 use crate::outline::Listed;
 use crate::precedence::Precedence;
+use crate::tree::{Identifier, Mention};
 use std::alloc::Global;
 
 /// The precedences of the tokens by number.
@@ -37,4 +45,105 @@ pub fn precedences(
         given[token] = Some(precedence);
     }
     Ok(given)
+}
+
+/// The value of a digit, or 36 for any other byte but a letter.
+fn digit(b: u8) -> u32
+    ensures value { result ≡ digit_value b }
+    ensures low { result ≤ 36 }
+{
+    char::from(b).to_digit(36).unwrap_or(36)
+}
+
+/// The number that digits write, where it may be given to a token.
+fn fit_number(digits: &[u8]) -> Option<u32>
+    ensures { MatchOption result (IsFit (digits_value 10 digits.now) → ⊥) (λ v. (v ≡ digits_value 10 digits.now) × IsFit v) }
+{
+    let mut value: u32 = 0;
+    for b in digits {
+        value = value * 10 + digit(*b);
+        if value > 32767 {
+            return None;
+        }
+    }
+    if value == 0 { None } else { Some(value) }
+}
+
+/// The numbers given to the tokens, by the number of the token.
+pub fn given_numbers(
+    alloc: Global,
+    tokens: &Names,
+    listed: &[Listed],
+) -> Result<Vec<Option<u32>>, Refused>
+    ensures { TellsNumbers (texts tokens.now) (map listed_view listed.now) result }
+{
+    let mut given = vec![in alloc; None; tokens.len()]?;
+    for one in listed {
+        let Some(digits) = one.digits else {
+            continue;
+        };
+        let Some(number) = fit_number(digits.digits) else {
+            return Err(Refused::Mistake {
+                what: Mistake::BadNumber,
+                at: digits.at,
+            });
+        };
+        let token = number_of(tokens, one.who.who);
+        if token >= given.len() {
+            continue;
+        }
+        if given[token].is_some() {
+            return Err(Refused::Mistake {
+                what: Mistake::BadNumber,
+                at: digits.at,
+            });
+        }
+        given[token] = Some(number);
+    }
+    Ok(given)
+}
+
+/// Gives a number to a token that has none.
+fn fill(table: &mut Vec<Option<u32>>, token: usize, number: u32)
+    ensures { table.new.items ≡ filled table.old.items token number }
+{
+    if token < table.len() && table[token].is_none() {
+        table[token] = Some(number);
+    }
+}
+
+/// Gives a literal that has no number its value.
+fn fill_literal(table: &mut Vec<Option<u32>>, tokens: &Names, who: Identifier)
+    ensures { (rest : List IdentifierOf) (own : Name → Option ℕ) → OwnSoFar (texts tokens.now) table.old.items (literal_value (identifier_view who.entry ∷ rest)) own → OwnSoFar (texts tokens.now) table.new.items (literal_value rest) own }
+{
+    match who {
+        Identifier::Named(_) => {}
+        Identifier::Quoted(value) => fill(table, number_of(tokens, who), u32::from(value)),
+    }
+}
+
+/// Gives literals that have no number their values.
+fn fill_literals(table: &mut Vec<Option<u32>>, tokens: &Names, mentions: &[Mention])
+    ensures { (more : List IdentifierOf) (own : Name → Option ℕ) → OwnSoFar (texts tokens.now) table.old.items (literal_value (map mention_view mentions.now ++ more)) own → OwnSoFar (texts tokens.now) table.new.items (literal_value more) own }
+{
+    for mention in mentions {
+        fill_literal(table, tokens, mention.who);
+    }
+}
+
+/// The numbers that the tokens have by themselves: those given, that of the end, that of `error`, and the values of literals.
+pub fn own_numbers(
+    tokens: &Names,
+    given: Vec<Option<u32>>,
+    declared: &[Mention],
+    used: &[Mention],
+) -> Vec<Option<u32>>
+    ensures { (own : Name → Option ℕ) → OwnSoFar (texts tokens.now) given.items (usual_of (map mention_view declared.now ++ map mention_view used.now)) own → OwnSoFar (texts tokens.now) result.items (λ _. None) own }
+{
+    let mut own = given;
+    fill(&mut own, number_in(tokens, b"$end"), 0);
+    fill(&mut own, number_in(tokens, b"error"), 256);
+    fill_literals(&mut own, tokens, declared);
+    fill_literals(&mut own, tokens, used);
+    own
 }

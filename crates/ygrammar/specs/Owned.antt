@@ -1,0 +1,45 @@
+-- Tables of the numbers that tokens have by themselves.
+use Rattle.std.specs.Prelude.{ℕ, ◌≡◌, ◌<◌, ◌≤◌, ◌⊎◌, ◌&&◌, not, nat_lt, is_some, cond, List, [], length, Contains, Option, Some, None, Result, Ok, Err, slice_index_or, slice_set}
+use Rattle.std.specs.Global.{Vec}
+use Rattle.ygrammar.specs.declared.mistake.Mistake.{Mistake}
+use Rattle.ygrammar.specs.declared.mistake.Mistake.TheVariants as mistakes
+use Rattle.ygrammar.specs.declared.mistake.Refused.{Refused}
+use Rattle.ygrammar.specs.declared.mistake.Refused.TheVariants as refused
+use Rattle.ygrammar.specs.Elaboration.{Listing, said_of, digits_number}
+use Rattle.ygrammar.specs.Names.{Name, number_in}
+use Rattle.ygrammar.specs.Told.{IsTold, SaidTwice}
+
+-- numbers that may be given
+abbrev pub IsFit : ℕ → Type 0
+IsFit m = (1 ≤ m) × (m ≤ 32767)
+
+-- a number out of range is given
+abbrev pub GivesUnfit : List Listing → Type 0
+GivesUnfit ls = (n : Name) × (m : ℕ) × Contains (said_of digits_number ls n) m × ((m ≡ 0) ⊎ (32767 < m))
+
+abbrev pub IsBadNumber : Mistake → List Listing → Type 0
+IsBadNumber mistakes.BadNumber ls = GivesUnfit ls ⊎ SaidTwice digits_number ls
+IsBadNumber _ ls = ⊥
+
+-- every number of the table is in range
+abbrev pub AllFit : List (Option ℕ) → Type 0
+AllFit table = (k m : ℕ) → slice_index_or table k None ≡ Some m → IsFit m
+
+-- the numbers given to the tokens, or one out of range, or a second one for a token
+abbrev pub TellsNumbers : List Name → List Listing → Result (Vec (Option ℕ)) Refused → Type 0
+TellsNumbers ns ls (Ok v) = IsTold digits_number ns ls v.items × AllFit v.items
+TellsNumbers ns ls (Err (refused.Mistake what at)) = IsBadNumber what ls
+TellsNumbers ns ls (Err refused.Memory) = Unit {0}
+
+abbrev pub keep : Option ℕ → Option ℕ → Option ℕ
+keep (Some x) y = Some x
+keep None y = y
+
+-- What the table has, or else what is left for a name, is the own number.
+pub record OwnSoFar (ns : List Name) (table : List (Option ℕ)) (left own : Name → Option ℕ) : Type 0 where
+  pub each : length table ≡ length ns
+  pub said : (n : Name) → number_in ns n < length ns → keep (slice_index_or table (number_in ns n) None) (left n) ≡ own n
+
+-- the table with a number for a token that has none
+abbrev pub filled : List (Option ℕ) → ℕ → ℕ → List (Option ℕ)
+filled table k v = cond (nat_lt k (length table) && not (is_some (slice_index_or table k None))) (slice_set table k (Some v)) table
