@@ -20,3 +20,4 @@ pub mod NameSteps
 pub mod RuleSteps
 pub mod TellingSteps
 pub mod OwnSteps
+pub mod NumberSteps

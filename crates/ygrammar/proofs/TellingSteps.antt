@@ -31,7 +31,7 @@ other_name n m h = go (bytes_eq n m) refl
     go true e = absurd (h (same_text n m (sym e)))
     go false e = e
 
-false_true : false ≡ true → ⊥
+pub false_true : false ≡ true → ⊥
 false_true h = grind (arith)
 
 module _ {A : Type 0} (f : Listing → Option A) where

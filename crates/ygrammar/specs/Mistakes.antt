@@ -1,10 +1,11 @@
 -- What is wrong with a file whose syntax is right, and which mistake is answered.
-use Rattle.std.specs.Prelude.{ℕ, ◌≡◌, ◌≢◌, ◌<◌, ◌≤◌, ◌⊎◌, true, false, List, [], ◌∷◌, length, map, Contains, Option, Some, None, slice_get}
+use Rattle.std.specs.Prelude.{ℕ, ◌≡◌, ◌≢◌, ◌<◌, ◌≤◌, ◌⊎◌, true, false, List, [], ◌∷◌, length, map, Contains}
 use Rattle.ygrammar.specs.declared.mistake.Mistake.{Mistake}
 use Rattle.ygrammar.specs.declared.mistake.Mistake.TheVariants.{TokenLeft, Undefined, TwicePrecedence, BadNumber, BadStart, Unproductive, BadPrec, Limit}
 use Rattle.ygrammar.specs.Elaboration.{Rule, bare_of, is_nonterminal, is_token, lefts, numbers_given, own_numbers, precedences_given, precs, rules, starts, symbols, tokens, types_of, uses}
 use Rattle.ygrammar.specs.Forms.{Productive}
 use Rattle.ygrammar.specs.Names.{Name, is_among, printed}
+use Rattle.ygrammar.specs.Numbers.{Clashes}
 use Rattle.ygrammar.specs.Tree.{Identifier, Tree}
 
 abbrev pub Holds : Tree → Mistake → Type 0
@@ -17,7 +18,7 @@ Holds t TwicePrecedence = (n : Name) × (2 ≤ length (precedences_given t n))
 -- a number is out of range, a token is given two, or two tokens have one
 Holds t BadNumber = ((n : Name) × (m : ℕ) × Contains (numbers_given t n) m × ((m ≡ 0) ⊎ (32767 < m)))
     ⊎ (((n : Name) × (2 ≤ length (numbers_given t n)))
-    ⊎ ((i : ℕ) × (j : ℕ) × (m : ℕ) × (i < j) × (slice_get (own_numbers t) i ≡ Some (Some m)) × (slice_get (own_numbers t) j ≡ Some (Some m))))
+    ⊎ Clashes (own_numbers t))
 -- `%start` stands twice, or names no nonterminal
 Holds t BadStart = (2 ≤ length (starts t)) ⊎ ((i : Identifier) × Contains (starts t) i × (is_nonterminal t (printed i) ≡ false))
 -- a nonterminal derives no list of tokens

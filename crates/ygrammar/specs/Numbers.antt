@@ -1,5 +1,5 @@
 -- Numbers for those tokens that have none of their own: in order, the least unused from 257 on.
-use Rattle.std.specs.Prelude.{ℕ, ◌≡◌, ◌<◌, ◌≤◌, ◌⊎◌, List, length, Option, Some, None, slice_get}
+use Rattle.std.specs.Prelude.{ℕ, ◌≡◌, ◌<◌, ◌≤◌, ◌⊎◌, ◌↔◌, Bool, true, false, List, length, Option, Some, None, slice_get, slice_index_or}
 
 -- a number that some token has by itself
 abbrev pub IsOwn : List (Option ℕ) → ℕ → Type 0
@@ -21,3 +21,16 @@ pub record AreNumbers (own : List (Option ℕ)) (ns : List ℕ) : Type 0 where
 -- own numbers are below 32,768
 abbrev pub AreSmall : List (Option ℕ) → Type 0
 AreSmall own = (m : ℕ) → IsOwn own m → m < 32768
+
+-- two tokens have one number by themselves
+abbrev pub Clashes : List (Option ℕ) → Type 0
+Clashes own = (i : ℕ) × (j : ℕ) × (m : ℕ) × (i < j) × (slice_get own i ≡ Some (Some m)) × (slice_get own j ≡ Some (Some m))
+
+-- No two tokens have one number, and these marks tell the numbers below count that some token has.
+pub record MarksBelow (count : ℕ) (own : List (Option ℕ)) (marks : List Bool) : Type 0 where
+  pub each : length marks ≡ count
+  pub exact : (m : ℕ) → (slice_index_or marks m false ≡ true) ↔ IsOwn own m
+  pub apart : Clashes own → ⊥
+
+abbrev pub MarksOwn : List (Option ℕ) → List Bool → Type 0
+MarksOwn own marks = MarksBelow 32768 own marks

@@ -12,6 +12,7 @@ mod kind;
 mod literal;
 mod mistake;
 mod names;
+mod numbers;
 mod outline;
 mod part;
 mod percent;
