@@ -1,4 +1,7 @@
 //! The syntax tree of a grammar file's lexemes.
+//!
+//! Each function takes what it makes off the front of the lexemes, and asks that they go on with a grammar file.
+//! So no lexeme can be one that doesn't fit, and only memory can be wanting.
 
 ghost use Rattle.std.specs.Prelude.{ℕ, ◌≡◌, ◌≢◌, ◌++◌, ◌∷◌, ◌<◌, ◌≤◌, ◌↔◌, Bool, true, List, Option, map, length, replicate, Ok, Err, IfOk, IfSome, IsErrOf, IsSome};
 ghost use Rattle.std.specs.List.{flat_map, AllByRecursion};

@@ -223,3 +223,33 @@ fn files_without_a_tree(rt: HostRuntime) -> Result<(), Fail> {
     assert_eq!(rt; no_entry.as_str(), "5");
     Ok(())
 }
+
+/// How many rules a file has, and how many parts the body of its last one; none for a file without a tree.
+fn sizes(alloc: Global, file: &[u8]) -> Option<(usize, usize)> {
+    match read_tree(alloc, file) {
+        Ok(tree) => {
+            let mut parts = 0;
+            for clause in &tree.clauses {
+                parts = clause.body.len();
+            }
+            Some((tree.clauses.len(), parts))
+        }
+        Err(_) => None,
+    }
+}
+
+#[test]
+fn the_trees_of_large_files(rt: HostRuntime) -> Result<(), Fail> {
+    let alloc = rt.alloc();
+    let mut one_rule = Vec::from_slice(alloc, b"%% s :")?;
+    for _ in 0..500_000 {
+        one_rule.extend_from_slice(b" a")?;
+    }
+    assert_eq!(rt; sizes(alloc, &one_rule), Some((1, 500_000)));
+    let mut many_rules = Vec::from_slice(alloc, b"%%")?;
+    for _ in 0..200_000 {
+        many_rules.extend_from_slice(b"s:a;;")?;
+    }
+    assert_eq!(rt; sizes(alloc, &many_rules), Some((200_000, 1)));
+    Ok(())
+}
