@@ -1,5 +1,5 @@
 -- Rules by number, as the code keeps them.
-use Rattle.std.specs.Prelude.{ℕ, List, map, Option, None}
+use Rattle.std.specs.Prelude.{ℕ, ◌&&◌, nat_le, nat_lt, Bool, List, length, map, Option, None}
 use Rattle.ygrammar.specs.declared.rules.Numbered.{Numbered}
 use Rattle.ygrammar.specs.declared.precedence.Precedence.{Precedence}
 use Rattle.ygrammar.specs.Elaboration.{Rule, numbered, rule_precedence}
@@ -23,3 +23,11 @@ inner_numbers ns r = record { production = numbered ns r; precedence = None; tex
 -- what a rule of the file is by number
 abbrev pub rule_numbers : List Name → List (Option Precedence) → Rule → RuleNumbers
 rule_numbers ns given r = record { production = numbered ns r; precedence = rule_precedence ns given r; text = r.text }
+
+-- the number is one from a bound on, below another
+abbrev pub is_between : ℕ → ℕ → ℕ → Bool
+is_between low high n = nat_le low n && nat_lt n high
+
+-- the body is longer than the limit
+abbrev pub is_long : RuleNumbers → Bool
+is_long r = nat_lt 255 (length r.production.body)

@@ -3,6 +3,7 @@
 
 mod building;
 mod bytes;
+mod checks;
 mod cutting;
 mod fault;
 mod given;

@@ -1,0 +1,10 @@
+use Rattle.std.proofs.Common.{◌≡◌, map, drop, not, length}
+use Rattle.std.specs.List.{list_any}
+use Rattle.ygrammar.specs.NameTexts.{texts}
+use Rattle.ygrammar.specs.Names.{is_among, number_in, printed}
+use Rattle.ygrammar.specs.Numbered.{is_between, is_long, numbered_view}
+use Rattle.ygrammar.specs.TreeViews.{mention_view, name_view}
+use Rattle.ygrammar.proofs.checks.first_undefined.Given as goal
+
+abbrev pub invariant-loop-mention : goal.invariant-loop-mention
+invariant-loop-mention l = list_any (λ i. not (is_among (texts l.symbols) (printed i))) (map mention_view (drop l.mention-index l.mentions)) ≡ list_any (λ i. not (is_among (texts l.symbols) (printed i))) (map mention_view l.mentions)

@@ -1,0 +1,100 @@
+//! Tests for mistakes, each over one list of the file. An answer is how many bytes stand before the first name at fault.
+
+ghost use Rattle.std.specs.Prelude.{◌≡◌, ◌||◌, ◌&&◌, is_some, length, map, nat_le, nat_lt, not};
+ghost use Rattle.std.specs.List.{list_any};
+ghost use Rattle.ygrammar.specs.NameTexts.{texts};
+ghost use Rattle.ygrammar.specs.Names.{is_among, number_in, printed};
+ghost use Rattle.ygrammar.specs.Numbered.{is_between, is_long};
+ghost use Rattle.ygrammar.specs.Outline.{start_view};
+ghost use Rattle.ygrammar.specs.Numbered.{numbered_view};
+ghost use Rattle.ygrammar.specs.TreeViews.{identifier_view, mention_view, name_view};
+
+use crate::names::{Names, is_among, is_named, number_of};
+use crate::outline::Started;
+use crate::rules::Numbered;
+use crate::tree::{Identifier, Mention, NameAt};
+
+/// The first of some names that is a token.
+pub fn first_token(names: &[NameAt], tokens: &Names) -> Option<usize>
+    ensures { is_some result ≡ list_any (is_among (texts tokens.now)) (map name_view names.now) }
+{
+    for name in names {
+        if is_among(tokens, name.name) {
+            return Some(name.at);
+        }
+    }
+    None
+}
+
+/// The first of some names that is no symbol.
+pub fn first_unknown(names: &[NameAt], symbols: &Names) -> Option<usize>
+    ensures { is_some result ≡ list_any (λ n. not (is_among (texts symbols.now) n)) (map name_view names.now) }
+{
+    for name in names {
+        if !is_among(symbols, name.name) {
+            return Some(name.at);
+        }
+    }
+    None
+}
+
+/// The first of some names and literals that is no symbol.
+pub fn first_undefined(mentions: &[Mention], symbols: &Names) -> Option<usize>
+    ensures { is_some result ≡ list_any (λ i. not (is_among (texts symbols.now) (printed i))) (map mention_view mentions.now) }
+{
+    for mention in mentions {
+        if !is_named(symbols, mention.who) {
+            return Some(mention.at);
+        }
+    }
+    None
+}
+
+/// Whether a name or literal is a symbol, but none of the first `tokens`.
+fn is_nonterminal(who: Identifier, symbols: &Names, tokens: usize) -> bool
+    ensures { result ≡ is_between tokens (length (texts symbols.now)) (number_in (texts symbols.now) (printed (identifier_view who.entry))) }
+{
+    let number = number_of(symbols, who);
+    tokens <= number && number < symbols.len()
+}
+
+/// The first of some names and literals that is a nonterminal.
+pub fn first_nonterminal(mentions: &[Mention], symbols: &Names, tokens: usize) -> Option<usize>
+    ensures { is_some result ≡ list_any (λ i. is_between tokens (length (texts symbols.now)) (number_in (texts symbols.now) (printed i))) (map mention_view mentions.now) }
+{
+    for mention in mentions {
+        if is_nonterminal(mention.who, symbols, tokens) {
+            return Some(mention.at);
+        }
+    }
+    None
+}
+
+/// The last `%start`, where one stands twice or names no nonterminal.
+pub fn bad_start(starts: &[Started], symbols: &Names, tokens: usize) -> Option<usize>
+    ensures { is_some result ≡ (nat_le 2 (length starts.now) || list_any (λ i. not (is_between tokens (length (texts symbols.now)) (number_in (texts symbols.now) (printed i)))) (map start_view starts.now)) }
+{
+    match starts {
+        [] => None,
+        [one] => {
+            if is_nonterminal(one.who.who, symbols, tokens) {
+                None
+            } else {
+                Some(one.at)
+            }
+        }
+        [.., last] => Some(last.at),
+    }
+}
+
+/// Whether the body of a rule is longer than the limit.
+pub fn any_long(rules: &[Numbered]) -> bool
+    ensures { result ≡ list_any is_long (map numbered_view rules.now) }
+{
+    for rule in rules {
+        if rule.body.len() > 255 {
+            return true;
+        }
+    }
+    false
+}
