@@ -9,8 +9,8 @@ use Rattle.ygrammar.specs.TreeViews.{item_view, mention_view, text_view}
 use Rattle.ygrammar.specs.Elaboration.{split_last, final_of, Body, Rule, body_from, chosen_token, inner_rule, or_else, precedence_at, rule_precedence, rules_from}
 use Rattle.ygrammar.specs.declared.precedence.Precedence.{Precedence}
 use Rattle.ygrammar.specs.Names.{Name, number_in}
-use Rattle.ygrammar.specs.Numbered.{RuleNumbers, inner_numbers, numbered_view, rule_numbers}
-use Rattle.ygrammar.specs.declared.rules.Numbered.{Numbered}
+use Rattle.ygrammar.specs.Numbered.{inner_numbers, rule_numbers}
+use Rattle.ygrammar.specs.Grammar.{RuleValue}
 
 last_action : (xs : List Item) (t : List ℕ) → split_last (xs ++ action t ∷ []) ≡ (xs, Some t)
 last_action [] t = refl
@@ -68,10 +68,10 @@ push_more f old new whole left here rest e g h =
 pub inner_are : (ns : List Name) (given : List (Option Precedence)) (k : ℕ) (xs : List Item) → map (rule_numbers ns given) (body_from k xs).inner ≡ map (inner_numbers ns) (body_from k xs).inner
 inner_are ns given k [] = refl
 inner_are ns given k (symbol i ∷ xs) = inner_are ns given k xs
-inner_are ns given k (action t ∷ xs) = ap (λ (rs : List RuleNumbers). inner_numbers ns (inner_rule k t) ∷ rs) (inner_are ns given (suc k) xs)
+inner_are ns given k (action t ∷ xs) = ap (λ (rs : List RuleValue). inner_numbers ns (inner_rule k t) ∷ rs) (inner_are ns given (suc k) xs)
 
 -- one more rule of the file is put behind the rules of its inner actions
-pub rule_step : (ns : List Name) (given : List (Option Precedence)) (before : Name) (k : ℕ) (cv : Clause) (cs : List Clause) (items : List Item) (text : Option (List ℕ)) (left : Name) (symbols : List ℕ) (next l : ℕ) (p : Option Precedence) (old mid new whole : List RuleNumbers)
+pub rule_step : (ns : List Name) (given : List (Option Precedence)) (before : Name) (k : ℕ) (cv : Clause) (cs : List Clause) (items : List Item) (text : Option (List ℕ)) (left : Name) (symbols : List ℕ) (next l : ℕ) (p : Option Precedence) (old mid new whole : List RuleValue)
     → items ≡ (final_of cv.last cv.body).0
     → text ≡ (final_of cv.last cv.body).1
     → mid ≡ old ++ map (inner_numbers ns) (body_from k items).inner
@@ -88,25 +88,25 @@ rule_step ns given before k cv cs items text left symbols next l p old mid new w
     let tx : Option (List ℕ) = (final_of cv.last cv.body).1 in
     let b : Body = body_from k it in
     let lf : Name = or_else cv.left before in
-    let f : Rule → RuleNumbers = rule_numbers ns given in
+    let f : Rule → RuleValue = rule_numbers ns given in
     let r : Rule = record { left = lf; body = b.symbols; prec = cv.prec; text = tx } in
-    let rest : List RuleNumbers = map f (rules_from lf b.next cs) in
+    let rest : List RuleValue = map f (rules_from lf b.next cs) in
     let m : mid ≡ old ++ map (inner_numbers ns) b.inner = hm ∙ ap (λ (is : List Item). old ++ map (inner_numbers ns) (body_from k is).inner) hi in
     let s : symbols ≡ map (number_in ns) b.symbols = hs ∙ ap (λ (is : List Item). map (number_in ns) (body_from k is).symbols) hi in
     let q : p ≡ precedence_at given (chosen_token ns (length given) cv.prec (map (number_in ns) b.symbols)) = hp ∙ ap (λ (ss : List ℕ). precedence_at given (chosen_token ns (length given) cv.prec ss)) s in
     let e : l ≡ number_in ns lf = hk ∙ ap (number_in ns) hl in
     let same : number_rule l symbols p text ≡ f r = same_rule l (number_in ns lf) symbols (map (number_in ns) b.symbols) p (rule_precedence ns given r) text tx e s q ht in
-    let w : new ≡ (old ++ map (inner_numbers ns) b.inner) ++ f r ∷ [] = hw ∙ ap (λ (x : RuleNumbers). mid ++ x ∷ []) same ∙ ap (λ (x : List RuleNumbers). x ++ f r ∷ []) m in
+    let w : new ≡ (old ++ map (inner_numbers ns) b.inner) ++ f r ∷ [] = hw ∙ ap (λ (x : RuleValue). mid ++ x ∷ []) same ∙ ap (λ (x : List RuleValue). x ++ f r ∷ []) m in
     let t : map f (rules_from left next cs) ≡ rest = ap (λ (n : Name). map f (rules_from n next cs)) hl ∙ ap (λ n. map f (rules_from lf n cs)) (hn ∙ ap (λ (is : List Item). (body_from k is).next) hi) in
-    ap (λ (x : List RuleNumbers). new ++ x) t
-    ∙ ap (λ (x : List RuleNumbers). x ++ rest) w
+    ap (λ (x : List RuleValue). new ++ x) t
+    ∙ ap (λ (x : List RuleValue). x ++ rest) w
     ∙ append_assoc (old ++ map (inner_numbers ns) b.inner) (f r ∷ []) rest
     ∙ append_assoc old (map (inner_numbers ns) b.inner) (f r ∷ rest)
-    ∙ ap (λ (x : List RuleNumbers). old ++ (x ++ f r ∷ rest)) (sym (inner_are ns given k it))
-    ∙ ap (λ (x : List RuleNumbers). old ++ x) (sym (map-append f b.inner (r ∷ rules_from lf b.next cs)))
+    ∙ ap (λ (x : List RuleValue). old ++ (x ++ f r ∷ rest)) (sym (inner_are ns given k it))
+    ∙ ap (λ (x : List RuleValue). old ++ x) (sym (map-append f b.inner (r ∷ rules_from lf b.next cs)))
     ∙ hall
   where
-    number_rule : ℕ → List ℕ → Option Precedence → Option (List ℕ) → RuleNumbers
+    number_rule : ℕ → List ℕ → Option Precedence → Option (List ℕ) → RuleValue
     number_rule l s p t = record { production = record { left = l; body = s }; precedence = p; text = t }
 
     same_rule : (l m : ℕ) (s u : List ℕ) (p q : Option Precedence) (t v : Option (List ℕ)) → l ≡ m → s ≡ u → p ≡ q → t ≡ v → number_rule l s p t ≡ number_rule m u q v
@@ -115,6 +115,3 @@ rule_step ns given before k cv cs items text left symbols next l p old mid new w
         ∙ ap (λ x. number_rule m x p t) b
         ∙ ap (λ x. number_rule m u x t) c
         ∙ ap (λ x. number_rule m u q x) d
-
-pub view_push : (rules : List Numbered) (r : Numbered) (new : List Numbered) → new ≡ rules ++ r ∷ [] → map numbered_view new ≡ map numbered_view rules ++ numbered_view r ∷ []
-view_push rules r new h = ap (map numbered_view) h ∙ map-append numbered_view rules (r ∷ [])

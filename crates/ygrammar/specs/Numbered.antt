@@ -1,27 +1,16 @@
--- Rules by number, as the code keeps them.
+-- Rules by number.
 use Rattle.std.specs.Prelude.{ℕ, ◌&&◌, nat_le, nat_lt, Bool, List, length, map, Option, None}
-use Rattle.ygrammar.specs.declared.rules.Numbered.{Numbered}
 use Rattle.ygrammar.specs.declared.precedence.Precedence.{Precedence}
 use Rattle.ygrammar.specs.Elaboration.{Rule, numbered, rule_precedence}
-use Rattle.ygrammar.specs.Grammar.{Production}
+use Rattle.ygrammar.specs.Grammar.{RuleValue}
 use Rattle.ygrammar.specs.Names.{Name}
-use Rattle.ygrammar.specs.TreeViews.{text_view}
-
--- A rule by number with its precedence and the text of its action.
-pub record RuleNumbers : Type 0 where
-  pub production : Production
-  pub precedence : Option Precedence
-  pub text : Option (List ℕ)
-
-abbrev pub numbered_view : Numbered → RuleNumbers
-numbered_view r = record { production = record { left = r.left; body = r.body.items }; precedence = r.precedence; text = text_view r.text }
 
 -- what the rule of an inner action is by number: it has no precedence
-abbrev pub inner_numbers : List Name → Rule → RuleNumbers
+abbrev pub inner_numbers : List Name → Rule → RuleValue
 inner_numbers ns r = record { production = numbered ns r; precedence = None; text = r.text }
 
 -- what a rule of the file is by number
-abbrev pub rule_numbers : List Name → List (Option Precedence) → Rule → RuleNumbers
+abbrev pub rule_numbers : List Name → List (Option Precedence) → Rule → RuleValue
 rule_numbers ns given r = record { production = numbered ns r; precedence = rule_precedence ns given r; text = r.text }
 
 -- the number is one from a bound on, below another
@@ -29,5 +18,5 @@ abbrev pub is_between : ℕ → ℕ → ℕ → Bool
 is_between low high n = nat_le low n && nat_lt n high
 
 -- the body is longer than the limit
-abbrev pub is_long : RuleNumbers → Bool
+abbrev pub is_long : RuleValue → Bool
 is_long r = nat_lt 255 (length r.production.body)

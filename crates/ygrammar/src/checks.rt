@@ -6,12 +6,11 @@ ghost use Rattle.ygrammar.specs.NameTexts.{texts};
 ghost use Rattle.ygrammar.specs.Names.{is_among, number_in, printed};
 ghost use Rattle.ygrammar.specs.Numbered.{is_between, is_long};
 ghost use Rattle.ygrammar.specs.Outline.{start_view};
-ghost use Rattle.ygrammar.specs.Numbered.{numbered_view};
 ghost use Rattle.ygrammar.specs.TreeViews.{identifier_view, mention_view, name_view};
 
+use crate::grammar::Rule;
 use crate::names::{Names, is_among, is_named, number_of};
 use crate::outline::Started;
-use crate::rules::Numbered;
 use crate::tree::{Identifier, Mention, NameAt};
 
 /// The first of some names that is a token.
@@ -88,11 +87,11 @@ pub fn bad_start(starts: &[Started], symbols: &Names, tokens: usize) -> Option<u
 }
 
 /// Whether the body of a rule is longer than the limit.
-pub fn any_long(rules: &[Numbered]) -> bool
-    ensures { result ≡ list_any is_long (map numbered_view rules.now) }
+pub fn any_long(rules: &[Rule]) -> bool
+    ensures { result ≡ list_any is_long rules.now }
 {
     for rule in rules {
-        if rule.body.len() > 255 {
+        if rule.body().len() > 255 {
             return true;
         }
     }

@@ -1,7 +1,7 @@
 //! The value that stands between the reader and the automaton: a grammar that is well formed.
 
 ghost use Rattle.std.specs.Prelude.{◌≡◌, ◌<◌, ◌≤◌, ◌↔◌, length, IsTrue, map, slice_index_or};
-ghost use Rattle.ygrammar.specs.Grammar.{GrammarValue, RuleValue, Production, IsToken, rule_of, production_of};
+ghost use Rattle.ygrammar.specs.Grammar.{GrammarValue, RuleValue, Production, IsToken, owned_view, rule_of, production_of};
 ghost use Rattle.ygrammar.specs.WellFormed.{WellFormed};
 
 use crate::precedence::Precedence;
@@ -12,23 +12,41 @@ mod checked;
 /// The number of a symbol. The tokens come first, `$end` is 0.
 pub type Sym = usize;
 
-/// A rule: its left side, its body and its precedence.
+/// A rule: its left side, its body, its precedence and the kept text of its action.
 #[derive(Drop)]
 pub struct Rule {
     left: Sym,
     body: Vec<Sym>,
     precedence: Option<Precedence>,
+    text: Option<Vec<u8>>,
 }
 
 impl Model for Rule {
-    ghost use Rattle.ygrammar.specs.Grammar.{RuleValue};
+    ghost use Rattle.ygrammar.specs.Grammar.{RuleValue, owned_view};
 
     ghost Value = { RuleValue };
 
-    ghost view = { λ r. record { production = record { left = r.left; body = r.body.items }; precedence = r.precedence } };
+    ghost view = { λ r. record { production = record { left = r.left; body = r.body.items }; precedence = r.precedence; text = owned_view r.text } };
 }
 
 impl Rule {
+    /// A rule of these parts.
+    pub(crate) fn of(
+        left: Sym,
+        body: Vec<Sym>,
+        precedence: Option<Precedence>,
+        text: Option<Vec<u8>>,
+    ) -> Rule
+        ensures { result ≡ record { production = record { left = left; body = body.items }; precedence = precedence; text = owned_view text } }
+    {
+        Rule {
+            left,
+            body,
+            precedence,
+            text,
+        }
+    }
+
     /// The nonterminal that the rule replaces.
     pub fn left(&self) -> Sym
         ensures { result ≡ self.now.production.left }

@@ -4,26 +4,18 @@ ghost use Rattle.std.specs.Prelude.{◌≡◌, ◌+◌, ◌++◌, ◌∷◌, [],
 ghost use Rattle.ygrammar.specs.Elaboration.{body_from, chosen_token, final_of, first_rule, inner_name, inner_rule, last_token, or_else, precedence_at, rule_left, rules_from, start_symbol};
 ghost use Rattle.ygrammar.specs.NameTexts.{texts};
 ghost use Rattle.ygrammar.specs.Names.{noted_all, number_in};
+ghost use Rattle.ygrammar.specs.Grammar.{owned_view};
 ghost use Rattle.ygrammar.specs.Outline.{start_view};
-ghost use Rattle.ygrammar.specs.Numbered.{inner_numbers, numbered_view, rule_numbers};
+ghost use Rattle.ygrammar.specs.Numbered.{inner_numbers, rule_numbers};
 ghost use Rattle.ygrammar.specs.TreeViews.{clause_view, item_view, mention_view, name_view, option_view, text_view};
 
-use crate::grammar::Sym;
+use crate::grammar::{Rule, Sym};
 use crate::outline::{Outline, Started};
 use crate::names::{Names, note, number_in, number_of};
 use crate::precedence::Precedence;
 use crate::tree::{Clause, Item, Mention, NameAt};
 use itoa::Buffer;
 use std::alloc::{AllocError, Global};
-
-/// A rule by number, and the text of its action.
-#[derive(Drop)]
-pub struct Numbered<'a> {
-    pub left: Sym,
-    pub body: Vec<Sym>,
-    pub precedence: Option<Precedence>,
-    pub text: Option<&'a [u8]>,
-}
 
 /// The name of the nonterminal of the k-th inner action.
 fn inner_name(alloc: Global, k: usize) -> Result<Vec<u8>, AllocError>
@@ -122,24 +114,20 @@ pub fn note_nonterminals(
 }
 
 /// Adds the rule of an inner action, and answers its left side.
-fn push_inner<'a>(
+fn push_inner(
     alloc: Global,
     names: &Names,
     k: usize,
-    text: &'a [u8],
-    rules: &mut Vec<Numbered<'a>>,
+    text: &[u8],
+    rules: &mut Vec<Rule>,
 ) -> Result<Sym, AllocError>
-    ensures rules { OnOk result (map numbered_view rules.new.items ≡ map numbered_view rules.old.items ++ inner_numbers (texts names.now) (inner_rule k text.now) ∷ []) }
+    ensures rules { OnOk result (rules.new.items ≡ rules.old.items ++ inner_numbers (texts names.now) (inner_rule k text.now) ∷ []) }
     ensures left { IfOk result (λ s. s ≡ number_in (texts names.now) (inner_name k)) }
 {
     let name = inner_name(alloc, k)?;
     let left = number_in(names, &name);
-    rules.push(Numbered {
-        left,
-        body: Vec::new(alloc),
-        precedence: None,
-        text: Some(text),
-    })?;
+    let text = Vec::from_slice(alloc, text)?;
+    rules.push(Rule::of(left, Vec::new(alloc), None, Some(text)))?;
     Ok(left)
 }
 
@@ -151,14 +139,14 @@ struct NumberedBody {
 }
 
 /// The symbols of a body; the rules of its inner actions, numbered from `k` on, are added to `rules`.
-fn number_body<'a>(
+fn number_body(
     alloc: Global,
     names: &Names,
-    items: &[Item<'a>],
+    items: &[Item],
     k: usize,
-    rules: &mut Vec<Numbered<'a>>,
+    rules: &mut Vec<Rule>,
 ) -> Result<NumberedBody, AllocError>
-    ensures rules { OnOk result (map numbered_view rules.new.items ≡ map numbered_view rules.old.items ++ map (inner_numbers (texts names.now)) (body_from k (map item_view items.now)).inner) }
+    ensures rules { OnOk result (rules.new.items ≡ rules.old.items ++ map (inner_numbers (texts names.now)) (body_from k (map item_view items.now)).inner) }
     ensures symbols { IfOk result (λ b. b.symbols.items ≡ map (number_in (texts names.now)) (body_from k (map item_view items.now)).symbols) }
     ensures next { IfOk result (λ b. b.next ≡ (body_from k (map item_view items.now)).next) }
 {
@@ -209,15 +197,25 @@ fn rule_precedence(
     }
 }
 
+/// A kept text of one's own, where there is one.
+fn owned_text(alloc: Global, text: Option<&[u8]>) -> Result<Option<Vec<u8>>, AllocError>
+    ensures { IfOk result (λ t. owned_view t ≡ text_view text.entry) }
+{
+    match text {
+        Some(text) => Ok(Some(Vec::from_slice(alloc, text)?)),
+        None => Ok(None),
+    }
+}
+
 /// Adds the rules of the file, those of inner actions before the rule that they stand in.
-fn push_rules<'a>(
+fn push_rules(
     alloc: Global,
     names: &Names,
     given: &[Option<Precedence>],
-    clauses: &[Clause<'a>],
-    rules: &mut Vec<Numbered<'a>>,
+    clauses: &[Clause],
+    rules: &mut Vec<Rule>,
 ) -> Result<(), AllocError>
-    ensures { OnOk result (map numbered_view rules.new.items ≡ map numbered_view rules.old.items ++ map (rule_numbers (texts names.now) given.now) (rules_from [] 1 (map clause_view clauses.now))) }
+    ensures { OnOk result (rules.new.items ≡ rules.old.items ++ map (rule_numbers (texts names.now) given.now) (rules_from [] 1 (map clause_view clauses.now))) }
 {
     let mut before: &[u8] = b"";
     let mut next: usize = 1;
@@ -227,12 +225,9 @@ fn push_rules<'a>(
         let precedence = rule_precedence(names, given, clause.prec, &body.symbols);
         before = left_name(clause, before);
         next = body.next;
-        rules.push(Numbered {
-            left: number_in(names, before),
-            body: body.symbols,
-            precedence,
-            text,
-        })?;
+        let left = number_in(names, before);
+        let text = owned_text(alloc, text)?;
+        rules.push(Rule::of(left, body.symbols, precedence, text))?;
     }
     Ok(())
 }
@@ -251,35 +246,31 @@ fn start_symbol(names: &Names, starts: &[Started], lefts: &[NameAt]) -> Sym
 }
 
 /// The rule `$accept : S $end`.
-fn first_rule<'a>(
+fn first_rule(
     alloc: Global,
     names: &Names,
     given: &[Option<Precedence>],
     outline: &Outline,
-) -> Result<Numbered<'a>, AllocError>
-    ensures { IfOk result (λ r. numbered_view r ≡ rule_numbers (texts names.now) given.now (first_rule (map start_view outline.now.starts.items) (map name_view outline.now.lefts.items))) }
+) -> Result<Rule, AllocError>
+    ensures { IfOk result (λ r. r ≡ rule_numbers (texts names.now) given.now (first_rule (map start_view outline.now.starts.items) (map name_view outline.now.lefts.items))) }
 {
     let mut body = Vec::new(alloc);
     body.push(start_symbol(names, &outline.starts, &outline.lefts))?;
     body.push(number_in(names, b"$end"))?;
     let precedence = rule_precedence(names, given, None, &body);
-    Ok(Numbered {
-        left: number_in(names, b"$accept"),
-        body,
-        precedence,
-        text: None,
-    })
+    let left = number_in(names, b"$accept");
+    Ok(Rule::of(left, body, precedence, None))
 }
 
 /// The rules of a file by number, with the precedences given to its tokens.
-pub fn number_rules<'a>(
+pub fn number_rules(
     alloc: Global,
     names: &Names,
     given: &[Option<Precedence>],
     outline: &Outline,
-    clauses: &[Clause<'a>],
-) -> Result<Vec<Numbered<'a>>, AllocError>
-    ensures { IfOk result (λ v. map numbered_view v.items ≡ map (rule_numbers (texts names.now) given.now) (first_rule (map start_view outline.now.starts.items) (map name_view outline.now.lefts.items) ∷ rules_from [] 1 (map clause_view clauses.now))) }
+    clauses: &[Clause],
+) -> Result<Vec<Rule>, AllocError>
+    ensures { IfOk result (λ v. v.items ≡ map (rule_numbers (texts names.now) given.now) (first_rule (map start_view outline.now.starts.items) (map name_view outline.now.lefts.items) ∷ rules_from [] 1 (map clause_view clauses.now))) }
 {
     let mut rules = Vec::new(alloc);
     rules.push(first_rule(alloc, names, given, outline)?)?;

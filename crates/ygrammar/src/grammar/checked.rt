@@ -15,6 +15,7 @@ impl Rule {
             left,
             body,
             precedence: None,
+            text: None,
         }
     }
 }

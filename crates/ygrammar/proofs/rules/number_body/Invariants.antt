@@ -2,13 +2,13 @@ use Rattle.std.proofs.Common.{◌≡◌, ◌++◌, List, Option, map, drop}
 use Rattle.ygrammar.specs.Elaboration.{body_from}
 use Rattle.ygrammar.specs.NameTexts.{texts}
 use Rattle.ygrammar.specs.Names.{number_in}
-use Rattle.ygrammar.specs.Numbered.{inner_numbers, numbered_view}
+use Rattle.ygrammar.specs.Numbered.{inner_numbers}
 use Rattle.ygrammar.specs.TreeViews.{item_view}
 use Rattle.ygrammar.proofs.rules.number_body.Given as goal
 
 abbrev pub invariant-loop-item : goal.invariant-loop-item
 invariant-loop-item l = record {
-  rules : map numbered_view l.rules.items ++ map (inner_numbers (texts l.names)) (body_from l.next (map item_view (drop l.item-index l.items))).inner ≡ map numbered_view l.fn.rules.items ++ map (inner_numbers (texts l.names)) (body_from l.k (map item_view l.items)).inner;
+  rules : l.rules.items ++ map (inner_numbers (texts l.names)) (body_from l.next (map item_view (drop l.item-index l.items))).inner ≡ l.fn.rules.items ++ map (inner_numbers (texts l.names)) (body_from l.k (map item_view l.items)).inner;
   symbols : l.symbols.items ++ map (number_in (texts l.names)) (body_from l.next (map item_view (drop l.item-index l.items))).symbols ≡ map (number_in (texts l.names)) (body_from l.k (map item_view l.items)).symbols;
   next : (body_from l.next (map item_view (drop l.item-index l.items))).next ≡ (body_from l.k (map item_view l.items)).next;
 }
