@@ -21,3 +21,5 @@ pub mod RuleSteps
 pub mod TellingSteps
 pub mod OwnSteps
 pub mod NumberSteps
+pub mod TokenSteps
+pub mod OwnTables

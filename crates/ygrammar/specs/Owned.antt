@@ -5,7 +5,12 @@ use Rattle.ygrammar.specs.declared.mistake.Mistake.{Mistake}
 use Rattle.ygrammar.specs.declared.mistake.Mistake.TheVariants as mistakes
 use Rattle.ygrammar.specs.declared.mistake.Refused.{Refused}
 use Rattle.ygrammar.specs.declared.mistake.Refused.TheVariants as refused
-use Rattle.ygrammar.specs.Elaboration.{Listing, said_of, digits_number}
+use Rattle.ygrammar.specs.declared.given.OwnTable.{OwnTable}
+use Rattle.ygrammar.specs.declared.precedence.Precedence.{Precedence}
+use Rattle.ygrammar.specs.Elaboration.{Listing, said_of, digits_number, own_numbers, token_precedences}
+use Rattle.ygrammar.specs.Mistakes.{Holds}
+use Rattle.ygrammar.specs.Numbers.{MarksOwn}
+use Rattle.ygrammar.specs.Tree.{Tree}
 use Rattle.ygrammar.specs.Names.{Name, number_in}
 use Rattle.ygrammar.specs.Told.{IsTold, SaidTwice}
 
@@ -43,3 +48,37 @@ pub record OwnSoFar (ns : List Name) (table : List (Option ℕ)) (left own : Nam
 -- the table with a number for a token that has none
 abbrev pub filled : List (Option ℕ) → ℕ → ℕ → List (Option ℕ)
 filled table k v = cond (nat_lt k (length table) && not (is_some (slice_index_or table k None))) (slice_set table k (Some v)) table
+
+-- the mistake is this one, and it holds; or memory was refused
+abbrev pub Refuses : Tree → Mistake → Refused → Type 0
+Refuses t m (refused.Mistake what at) = (what ≡ m) × Holds t m
+Refuses t m refused.Memory = Unit {0}
+
+-- there is no such mistake, or it is answered
+abbrev pub Clears : {A : Type 0} → Tree → Mistake → Result A Refused → Type 0
+Clears t m (Ok v) = Holds t m → ⊥
+Clears t m (Err e) = Refuses t m e
+
+-- The numbers that the tokens have by themselves, with marks for those that are taken.
+pub record IsOwnTable (t : Tree) (o : OwnTable) : Type 0 where
+  pub numbers : o.numbers.items ≡ own_numbers t
+  pub marks : MarksOwn (own_numbers t) o.marks.items
+  pub sound : Holds t mistakes.BadNumber → ⊥
+
+-- these numbers, or a mistake in them
+abbrev pub Owns : Tree → Result OwnTable Refused → Type 0
+Owns t (Ok o) = IsOwnTable t o
+Owns t (Err e) = Refuses t mistakes.BadNumber e
+
+-- The precedences of the tokens, or a second one for a token.
+pub record ArePrecedences (t : Tree) (given : List (Option Precedence)) : Type 0 where
+  pub table : given ≡ token_precedences t
+  pub sound : Holds t mistakes.TwicePrecedence → ⊥
+
+abbrev pub Precedes : Tree → Result (Vec (Option Precedence)) Refused → Type 0
+Precedes t (Ok v) = ArePrecedences t v.items
+Precedes t (Err e) = Refuses t mistakes.TwicePrecedence e
+
+-- every number of the table is one that may stand there
+abbrev pub AllSmall : List (Option ℕ) → Type 0
+AllSmall table = (k m : ℕ) → slice_index_or table k None ≡ Some m → m < 32768

@@ -1,26 +1,27 @@
 //! What the listings give to the tokens: precedences and numbers, by the number of the token.
 
-ghost use Rattle.std.specs.Prelude.{◌≡◌, ◌≤◌, ◌++◌, ◌∷◌, ℕ, List, Option, None, map, MatchOption};
+ghost use Rattle.std.specs.Prelude.{◌≡◌, ◌<◌, ◌≤◌, ◌++◌, ◌∷◌, ℕ, List, Option, None, map, MatchOption};
 ghost use Rattle.std.specs.Char.{digit_value};
 ghost use Rattle.std.specs.Str.Parse.{digits_value};
-ghost use Rattle.ygrammar.specs.Elaboration.{literal_value, usual_of};
+ghost use Rattle.ygrammar.specs.Elaboration.{literal_value, tokens as tokens_of_tree, usual_of};
 ghost use Rattle.ygrammar.specs.Names.{Name};
-ghost use Rattle.ygrammar.specs.Owned.{IsFit, OwnSoFar, TellsNumbers, filled};
-ghost use Rattle.ygrammar.specs.Tree.{Identifier as IdentifierOf};
+ghost use Rattle.ygrammar.specs.Owned.{AllSmall, IsFit, OwnSoFar, Owns, Precedes, TellsNumbers, filled};
+ghost use Rattle.ygrammar.specs.Tree.{Identifier as IdentifierOf, Tree as TreeOf};
 ghost use Rattle.ygrammar.specs.TreeViews.{identifier_view, mention_view};
 ghost use Rattle.ygrammar.specs.NameTexts.{texts};
-ghost use Rattle.ygrammar.specs.Outline.{listed_view};
+ghost use Rattle.ygrammar.specs.Outline.{Outlines, listed_view};
 ghost use Rattle.ygrammar.specs.Told.{TellsPrecedences};
 
 use crate::mistake::{Mistake, Refused};
 use crate::names::{Names, number_in, number_of};
-use crate::outline::Listed;
+use crate::numbers::own_marks;
+use crate::outline::{Listed, Outline};
 use crate::precedence::Precedence;
 use crate::tree::{Identifier, Mention};
 use std::alloc::Global;
 
 /// The precedences of the tokens by number.
-pub fn precedences(
+fn told_precedences(
     alloc: Global,
     tokens: &Names,
     listed: &[Listed],
@@ -70,7 +71,7 @@ fn fit_number(digits: &[u8]) -> Option<u32>
 }
 
 /// The numbers given to the tokens, by the number of the token.
-pub fn given_numbers(
+fn given_numbers(
     alloc: Global,
     tokens: &Names,
     listed: &[Listed],
@@ -105,7 +106,9 @@ pub fn given_numbers(
 
 /// Gives a number to a token that has none.
 fn fill(table: &mut Vec<Option<u32>>, token: usize, number: u32)
-    ensures { table.new.items ≡ filled table.old.items token number }
+    requires { number < 32768 }
+    ensures exact { table.new.items ≡ filled table.old.items token number }
+    ensures small { AllSmall table.old.items → AllSmall table.new.items }
 {
     if token < table.len() && table[token].is_none() {
         table[token] = Some(number);
@@ -114,7 +117,8 @@ fn fill(table: &mut Vec<Option<u32>>, token: usize, number: u32)
 
 /// Gives a literal that has no number its value.
 fn fill_literal(table: &mut Vec<Option<u32>>, tokens: &Names, who: Identifier)
-    ensures { (rest : List IdentifierOf) (own : Name → Option ℕ) → OwnSoFar (texts tokens.now) table.old.items (literal_value (identifier_view who.entry ∷ rest)) own → OwnSoFar (texts tokens.now) table.new.items (literal_value rest) own }
+    ensures small { AllSmall table.old.items → AllSmall table.new.items }
+    ensures told { (rest : List IdentifierOf) (own : Name → Option ℕ) → OwnSoFar (texts tokens.now) table.old.items (literal_value (identifier_view who.entry ∷ rest)) own → OwnSoFar (texts tokens.now) table.new.items (literal_value rest) own }
 {
     match who {
         Identifier::Named(_) => {}
@@ -124,7 +128,8 @@ fn fill_literal(table: &mut Vec<Option<u32>>, tokens: &Names, who: Identifier)
 
 /// Gives literals that have no number their values.
 fn fill_literals(table: &mut Vec<Option<u32>>, tokens: &Names, mentions: &[Mention])
-    ensures { (more : List IdentifierOf) (own : Name → Option ℕ) → OwnSoFar (texts tokens.now) table.old.items (literal_value (map mention_view mentions.now ++ more)) own → OwnSoFar (texts tokens.now) table.new.items (literal_value more) own }
+    ensures small { AllSmall table.old.items → AllSmall table.new.items }
+    ensures told { (more : List IdentifierOf) (own : Name → Option ℕ) → OwnSoFar (texts tokens.now) table.old.items (literal_value (map mention_view mentions.now ++ more)) own → OwnSoFar (texts tokens.now) table.new.items (literal_value more) own }
 {
     for mention in mentions {
         fill_literal(table, tokens, mention.who);
@@ -132,13 +137,14 @@ fn fill_literals(table: &mut Vec<Option<u32>>, tokens: &Names, mentions: &[Menti
 }
 
 /// The numbers that the tokens have by themselves: those given, that of the end, that of `error`, and the values of literals.
-pub fn own_numbers(
+fn own_numbers(
     tokens: &Names,
     given: Vec<Option<u32>>,
     declared: &[Mention],
     used: &[Mention],
 ) -> Vec<Option<u32>>
-    ensures { (own : Name → Option ℕ) → OwnSoFar (texts tokens.now) given.items (usual_of (map mention_view declared.now ++ map mention_view used.now)) own → OwnSoFar (texts tokens.now) result.items (λ _. None) own }
+    ensures small { AllSmall given.items → AllSmall result.items }
+    ensures told { (own : Name → Option ℕ) → OwnSoFar (texts tokens.now) given.items (usual_of (map mention_view declared.now ++ map mention_view used.now)) own → OwnSoFar (texts tokens.now) result.items (λ _. None) own }
 {
     let mut own = given;
     fill(&mut own, number_in(tokens, b"$end"), 0);
@@ -146,4 +152,37 @@ pub fn own_numbers(
     fill_literals(&mut own, tokens, declared);
     fill_literals(&mut own, tokens, used);
     own
+}
+
+/// The numbers that tokens have by themselves, and marks for the numbers that are taken.
+#[derive(Drop)]
+pub struct OwnTable {
+    pub numbers: Vec<Option<u32>>,
+    pub marks: Vec<bool>,
+}
+
+/// The precedences of the tokens by number.
+pub fn precedences(
+    alloc: Global,
+    tokens: &Names,
+    outline: &Outline,
+) -> Result<Vec<Option<Precedence>>, Refused>
+    ensures { (t : TreeOf) → Outlines outline.now t → texts tokens.now ≡ tokens_of_tree t → Precedes t result }
+{
+    told_precedences(alloc, tokens, &outline.listed)
+}
+
+/// The numbers that the tokens have by themselves.
+pub fn own_table(alloc: Global, tokens: &Names, outline: &Outline) -> Result<OwnTable, Refused>
+    ensures { (t : TreeOf) → Outlines outline.now t → texts tokens.now ≡ tokens_of_tree t → Owns t result }
+{
+    let given = given_numbers(alloc, tokens, &outline.listed)?;
+    let numbers = own_numbers(tokens, given, &outline.declared, &outline.used);
+    match own_marks(alloc, &numbers)? {
+        Some(marks) => Ok(OwnTable { numbers, marks }),
+        None => Err(Refused::Mistake {
+            what: Mistake::BadNumber,
+            at: 0,
+        }),
+    }
 }

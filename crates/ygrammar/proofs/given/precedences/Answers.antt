@@ -1,35 +1,9 @@
-use Rattle.std.proofs.Common.{◌≡◌, ◌<◌, ◌≤◌, ap, sym, ◌∙◌, length, map, get_or, arith, subst, Option, None, is_some, Bool, true, false, rules}
-use Rattle.std.proofs.lemmas.List.{get_or_read}
-use Rattle.ygrammar.specs.declared.precedence.Precedence.{Precedence}
-use Rattle.ygrammar.specs.Elaboration.{gives_of}
+use Rattle.std.proofs.Common.{◌≡◌, ap, ◌∙◌, map, List, Option}
+use Rattle.ygrammar.specs.declared.outline.Listed.{Listed}
 use Rattle.ygrammar.specs.NameTexts.{texts}
 use Rattle.ygrammar.specs.Outline.{listed_view}
-use Rattle.ygrammar.proofs.TellingSteps.{is_none, passes_at, says_at, twice_at}
+use Rattle.ygrammar.proofs.OwnTables.{precedes}
 use Rattle.ygrammar.proofs.given.precedences.Goals as goal
 
-pub loop-one-preserved : goal.loop-one-preserved
-loop-one-preserved c =
-    let table = c.loop-one.given.items in
-    let k = c.number_of-token.result in
-    let xs = c.args.listed.now in
-    let i = c.loop-one.one-index in
-    let h : i < length xs = omega arith in
-    let l : k < length table = search rules in
-    says_at gives_of _ (texts c.args.tokens.now) table xs i (map listed_view xs) c.in-Some.precedence k h c.in-Some.is c.number_of-token.ensures l (is_none (get_or table k None) (search rules)) c.loop-one.invariant
-
-pub returns-then-is_some : goal.returns-then-is_some
-returns-then-is_some c =
-    let table = c.loop-one.given.items in
-    let k = c.number_of-token.result in
-    let xs = c.args.listed.now in
-    let i = c.loop-one.one-index in
-    let h : i < length xs = omega arith in
-    let l : k < length table = search rules in
-    twice_at gives_of _ (texts c.args.tokens.now) table xs i (map listed_view xs) c.in-Some.precedence k h c.in-Some.is c.number_of-token.ensures l (ap is_some (sym (get_or_read table k c.index.result.now l c.index.ensures None)) ∙ sym c.is_some.ensures ∙ c.if-is_some.true) c.loop-one.invariant
-
-pub loop-one-preserved-then-token-len : goal.loop-one-preserved-then-token-len
-loop-one-preserved-then-token-len c =
-    let xs = c.args.listed.now in
-    let i = c.loop-one.one-index in
-    let h : i < length xs = omega arith in
-    passes_at gives_of _ (texts c.args.tokens.now) c.loop-one.given.items xs i (map listed_view xs) c.number_of-token.result h c.number_of-token.ensures (search rules) c.loop-one.invariant
+pub returns : goal.returns
+returns c = λ t o e. precedes t (map listed_view c.deref.result.now) (texts c.args.tokens.now) c.told_precedences.result (ap (λ (xs : List Listed). map listed_view xs) c.deref.ensures.value ∙ o.listed) e c.told_precedences.ensures
