@@ -23,3 +23,4 @@ pub mod OwnSteps
 pub mod NumberSteps
 pub mod TokenSteps
 pub mod OwnTables
+pub mod MistakeSteps

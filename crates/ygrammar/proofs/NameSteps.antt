@@ -36,7 +36,7 @@ number_le q (n ∷ ns) = one (bytes_eq q n) (number_in ns q) (length ns) (number
     one true k m h = omega arith
     one false k m h = omega arith
 
-length_texts : (vs : List (Vec ℕ)) → length (texts_of vs) ≡ length vs
+pub length_texts : (vs : List (Vec ℕ)) → length (texts_of vs) ≡ length vs
 length_texts [] = refl
 length_texts (v ∷ vs) = ap (λ n. suc n) (length_texts vs)
 

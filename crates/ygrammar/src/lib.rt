@@ -20,6 +20,7 @@ mod percent;
 pub mod precedence;
 mod reading;
 mod recogniser;
+mod refusals;
 mod rules;
 mod tokens;
 mod tree;

@@ -1,0 +1,94 @@
+//! The mistakes of a file, one by one: each call answers its own, or says that there is none.
+
+ghost use Rattle.std.specs.Prelude.{◌≡◌, ◌∷◌, length, map};
+ghost use Rattle.ygrammar.specs.Elaboration.{rules as rules_of_tree, rule_precedence, symbols as symbols_of_tree, token_precedences, tokens as tokens_of_tree};
+ghost use Rattle.ygrammar.specs.NameTexts.{texts};
+ghost use Rattle.ygrammar.specs.Numbered.{rule_numbers};
+ghost use Rattle.ygrammar.specs.Outline.{Outlines};
+ghost use Rattle.ygrammar.specs.Owned.{Clears};
+ghost use Rattle.ygrammar.specs.Tree.{Tree as TreeOf};
+ghost use Rattle.ygrammar.specs.declared.mistake.Mistake.TheVariants.{BadPrec, BadStart, Limit, TokenLeft, Undefined};
+
+use crate::checks::{
+    any_long, bad_start, first_nonterminal, first_token, first_undefined, first_unknown,
+};
+use crate::grammar::Rule;
+use crate::mistake::{Mistake, Refused};
+use crate::names::Names;
+use crate::outline::Outline;
+
+/// A token that is a left side, or is named by `%type`.
+pub fn refuse_token_left(outline: &Outline, tokens: &Names) -> Result<(), Refused>
+    ensures { (t : TreeOf) → Outlines outline.now t → texts tokens.now ≡ tokens_of_tree t → Clears t TokenLeft result }
+{
+    let what = Mistake::TokenLeft;
+    match first_token(&outline.typed, tokens) {
+        Some(at) => return Err(Refused::Mistake { what, at }),
+        None => {}
+    }
+    match first_token(&outline.lefts, tokens) {
+        Some(at) => Err(Refused::Mistake { what, at }),
+        None => Ok(()),
+    }
+}
+
+/// A name in a body, a `%prec` or a `%type` that is no symbol.
+pub fn refuse_undefined(outline: &Outline, symbols: &Names) -> Result<(), Refused>
+    ensures { (t : TreeOf) → Outlines outline.now t → texts symbols.now ≡ symbols_of_tree t → Clears t Undefined result }
+{
+    let what = Mistake::Undefined;
+    match first_unknown(&outline.typed, symbols) {
+        Some(at) => return Err(Refused::Mistake { what, at }),
+        None => {}
+    }
+    match first_undefined(&outline.used, symbols) {
+        Some(at) => Err(Refused::Mistake { what, at }),
+        None => Ok(()),
+    }
+}
+
+/// A `%start` that stands twice or names no nonterminal.
+pub fn refuse_start(outline: &Outline, symbols: &Names, tokens: usize) -> Result<(), Refused>
+    ensures { (t : TreeOf) → Outlines outline.now t → texts symbols.now ≡ symbols_of_tree t → tokens ≡ length (tokens_of_tree t) → Clears t BadStart result }
+{
+    match bad_start(&outline.starts, symbols, tokens) {
+        Some(at) => Err(Refused::Mistake {
+            what: Mistake::BadStart,
+            at,
+        }),
+        None => Ok(()),
+    }
+}
+
+/// A `%prec` that names a nonterminal.
+pub fn refuse_prec(outline: &Outline, symbols: &Names, tokens: usize) -> Result<(), Refused>
+    ensures { (t : TreeOf) → Outlines outline.now t → texts symbols.now ≡ symbols_of_tree t → tokens ≡ length (tokens_of_tree t) → Clears t BadPrec result }
+{
+    match first_nonterminal(&outline.precs, symbols, tokens) {
+        Some(at) => Err(Refused::Mistake {
+            what: Mistake::BadPrec,
+            at,
+        }),
+        None => Ok(()),
+    }
+}
+
+/// More symbols, rules or symbols in a body than the limits.
+pub fn refuse_limit(symbols: &Names, rules: &[Rule]) -> Result<(), Refused>
+    ensures { (t : TreeOf) → texts symbols.now ≡ symbols_of_tree t → rules.now ≡ map (rule_numbers (symbols_of_tree t) (token_precedences t)) (rules_of_tree t) → Clears t Limit result }
+{
+    let refused = Err(Refused::Mistake {
+        what: Mistake::Limit,
+        at: 0,
+    });
+    if symbols.len() > 4096 {
+        return refused;
+    }
+    if rules.len() > 8192 {
+        return refused;
+    }
+    if any_long(rules) {
+        return refused;
+    }
+    Ok(())
+}
