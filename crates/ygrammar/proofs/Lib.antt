@@ -21,3 +21,4 @@ pub mod RuleSteps
 pub mod TellingSteps
 pub mod OwnSteps
 pub mod NumberSteps
+pub mod SymbolNames
