@@ -22,3 +22,4 @@ pub mod TellingSteps
 pub mod OwnSteps
 pub mod NumberSteps
 pub mod SymbolNames
+pub mod Wellness
