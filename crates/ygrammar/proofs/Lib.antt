@@ -23,3 +23,4 @@ pub mod OwnSteps
 pub mod NumberSteps
 pub mod SymbolNames
 pub mod Wellness
+pub mod OneMeaning
