@@ -24,3 +24,6 @@ pub mod NumberSteps
 pub mod TokenSteps
 pub mod OwnTables
 pub mod MistakeSteps
+pub mod SymbolNames
+pub mod Wellness
+pub mod OneMeaning
