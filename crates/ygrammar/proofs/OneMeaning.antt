@@ -4,7 +4,7 @@ use Rattle.std.specs.List.{slice_get}
 use Rattle.std.proofs.lemmas.Bool.{cases_order}
 use Rattle.ygrammar.specs.declared.mistake.Mistake.{Mistake}
 use Rattle.ygrammar.specs.declared.precedence.Precedence.{Precedence}
-use Rattle.ygrammar.specs.Elaboration.{bare_of, own_numbers, symbols, token_precedences}
+use Rattle.ygrammar.specs.Elaboration.{bare_of, own_numbers, symbols}
 use Rattle.ygrammar.specs.Forms.{IsReachable}
 use Rattle.ygrammar.specs.Grammar.{ContextFree, GrammarValue}
 use Rattle.ygrammar.specs.Meaning.{IsMeaning}

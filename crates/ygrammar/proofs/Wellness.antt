@@ -1,5 +1,5 @@
 -- A tree without mistakes means a well-formed grammar.
-use Rattle.std.proofs.Common.{ℕ, zero, suc, filter, Bool, true, false, cond, ◌||◌, ◌≡◌, ◌≢◌, ◌<◌, ◌≤◌, ◌+◌, ◌⊎◌, inl, inr, List, [], ◌∷◌, ◌++◌, map, length, Option, Some, None, IsSome, refl, sym, ◌∙◌, ap, subst, arith, codes, get_or, append_assoc, length-append}
+use Rattle.std.proofs.Common.{ℕ, zero, suc, filter, Bool, true, false, cond, ◌||◌, ◌≡◌, ◌≢◌, ◌<◌, ◌≤◌, ◌⊎◌, inl, inr, List, [], ◌∷◌, ◌++◌, map, length, Option, Some, None, IsSome, refl, sym, ◌∙◌, ap, subst, arith, codes, get_or, append_assoc, length-append}
 use Rattle.std.specs.List.{flat_map, All, AllByRecursion, Contains}
 use Rattle.std.specs.Str.{bytes_eq}
 use Rattle.std.specs.Cmp.Lexicographic.{same_text}
