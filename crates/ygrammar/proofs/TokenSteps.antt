@@ -89,8 +89,8 @@ listed_declared k (listing w tag es ∷ ds) n h =
     let rest : List Listing = listings_from (level_at w k) ds in
     subst (λ (xs : List Name). is_among xs n ≡ true) (sym (map-append printed (map who_of es) (flat_map declared ds)))
     (split (among_cases (map printed (map who_of es)) (map listed_name rest) n
-        (subst (λ (xs : List Name). is_among (xs ++ map listed_name rest) n ≡ true) (listed_entries (listing_of (given_by w (level_at w k))) (λ e. refl) es)
-        (subst (λ (xs : List Name). is_among xs n ≡ true) (map-append listed_name here rest) h))) (listed_declared (level_at w k) ds n))
+    (subst (λ (xs : List Name). is_among (xs ++ map listed_name rest) n ≡ true) (listed_entries (listing_of (given_by w (level_at w k))) (λ e. refl) es)
+    (subst (λ (xs : List Name). is_among xs n ≡ true) (map-append listed_name here rest) h))) (listed_declared (level_at w k) ds n))
   where
     split : (is_among (map printed (map who_of es)) n ≡ true) ⊎ (is_among (map listed_name (listings_from (level_at w k) ds)) n ≡ true) → (is_among (map listed_name (listings_from (level_at w k) ds)) n ≡ true → is_among (map printed (flat_map declared ds)) n ≡ true) → is_among (map printed (map who_of es) ++ map printed (flat_map declared ds)) n ≡ true
     split (inl e) f = among_left (map printed (map who_of es)) (map printed (flat_map declared ds)) n e

@@ -7,13 +7,13 @@ use Rattle.ygrammar.specs.Recogniser.{reached}
 use Rattle.ygrammar.specs.declared.cutting.Placed.{Placed}
 use Rattle.ygrammar.specs.declared.part.LexicalFault.{LexicalFault}
 use Rattle.ygrammar.specs.declared.part.LexicalFault.TheVariants as lexical
-use Rattle.ygrammar.specs.declared.fault.GrammarFault.{GrammarFault}
-use Rattle.ygrammar.specs.declared.fault.GrammarFault.TheVariants as faults
+use Rattle.ygrammar.specs.declared.fault.SyntaxFault.{SyntaxFault}
+use Rattle.ygrammar.specs.declared.fault.SyntaxFault.TheVariants as faults
 use Rattle.ygrammar.specs.Lexemes.{Lexeme}
 use Rattle.ygrammar.specs.Cuttings.{kinds, ComesTo, unfinished, bad_literal, foreign, syntax, refusal, Refusal, Outcome}
 use Rattle.ygrammar.specs.Views.{lexeme_view}
 
-abbrev pub fault_at : LexicalFault → ℕ → GrammarFault
+abbrev pub fault_at : LexicalFault → ℕ → SyntaxFault
 fault_at lexical.Unfinished line = faults.Unfinished line
 fault_at lexical.BadLiteral line = faults.BadLiteral line
 fault_at lexical.Foreign line = faults.Foreign line
@@ -23,7 +23,7 @@ abbrev pub views : List Placed → List Lexeme
 views ls = map (λ p. lexeme_view p.lexeme) ls
 
 -- the answer is this outcome, or want of memory
-abbrev pub Answers : Result (Vec Placed) GrammarFault → Result (List Lexeme) Refusal → Type 0
+abbrev pub Answers : Result (Vec Placed) SyntaxFault → Result (List Lexeme) Refusal → Type 0
 Answers (Ok v) o = o ≡ Ok (views v.items)
 Answers (Err (faults.Unfinished line)) o = o ≡ Err (refusal unfinished line)
 Answers (Err (faults.BadLiteral line)) o = o ≡ Err (refusal bad_literal line)
@@ -32,7 +32,7 @@ Answers (Err (faults.Syntax line)) o = o ≡ Err (refusal syntax line)
 Answers (Err faults.TooLong) o = ⊥
 Answers (Err faults.Memory) o = Unit {0}
 
-abbrev pub Fails : GrammarFault → List ℕ → Type 0
+abbrev pub Fails : SyntaxFault → List ℕ → Type 0
 Fails (faults.Unfinished line) bytes = Outcome bytes (Err (refusal unfinished line))
 Fails (faults.BadLiteral line) bytes = Outcome bytes (Err (refusal bad_literal line))
 Fails (faults.Foreign line) bytes = Outcome bytes (Err (refusal foreign line))
@@ -41,7 +41,7 @@ Fails faults.TooLong bytes = ⊥
 Fails faults.Memory bytes = Unit {0}
 
 -- the outcome of the file, or want of memory
-abbrev pub Gives : List ℕ → Result (Vec Placed) GrammarFault → Type 0
+abbrev pub Gives : List ℕ → Result (Vec Placed) SyntaxFault → Type 0
 Gives bytes (Ok v) = Outcome bytes (Ok (views v.items))
 Gives bytes (Err e) = Fails e bytes
 

@@ -19,7 +19,7 @@ ghost use Rattle.ygrammar.specs.TreeAnswers.{TreeAnswers, GivesTree};
 ghost use Rattle.ygrammar.specs.TreeViews.{name_view, mention_view, digits_view, text_view, word_view, entry_view, definition_view, item_view, clause_view, tree_view, option_view};
 
 use crate::cutting::{Placed, read_syntax};
-use crate::fault::GrammarFault;
+use crate::fault::SyntaxFault;
 use crate::kind::Sign;
 use crate::part::Lexeme;
 use crate::tree::{
@@ -448,9 +448,9 @@ pub fn build_tree<'a>(alloc: Global, lexemes: &[Placed<'a>]) -> Result<Tree<'a>,
 /// The syntax tree of a grammar file, or the file's first fault.
 ///
 /// Want of memory may come in place of any answer but `TooLong`.
-pub fn read_tree<'a>(alloc: Global, bytes: &'a [u8]) -> Result<Tree<'a>, GrammarFault>
+pub fn read_tree<'a>(alloc: Global, bytes: &'a [u8]) -> Result<Tree<'a>, SyntaxFault>
     // It comes before every other answer.
-    ensures too_long { IsErrOf result GrammarFault.TooLong ↔ (1048576 < length bytes.now) }
+    ensures too_long { IsErrOf result SyntaxFault.TooLong ↔ (1048576 < length bytes.now) }
     // The tree stands for what the file spells.
     ensures found { IfOk result (λ t. SpellsSyntax bytes.now (yield (tree_view t))) }
     ensures shaped { IfOk result (λ t. IsTree (tree_view t)) }
@@ -464,6 +464,6 @@ pub fn read_tree<'a>(alloc: Global, bytes: &'a [u8]) -> Result<Tree<'a>, Grammar
     let lexemes = read_syntax(alloc, bytes)?;
     match build_tree(alloc, lexemes.as_slice()) {
         Ok(tree) => Ok(tree),
-        Err(_) => Err(GrammarFault::Memory),
+        Err(_) => Err(SyntaxFault::Memory),
     }
 }

@@ -6,7 +6,7 @@ ghost use Rattle.ygrammar.specs.Cuttings.{IsLine, SpellsSyntax, Outcome, Refusal
 ghost use Rattle.ygrammar.specs.Lexemes.{Lexeme as LexemeOf};
 ghost use Rattle.ygrammar.specs.Tree.{HasOneTree};
 
-use crate::fault::GrammarFault;
+use crate::fault::SyntaxFault;
 use crate::part::{Lexeme, Part};
 use crate::reading::part_at;
 use crate::recogniser::State;
@@ -29,7 +29,7 @@ fn line_of(bytes: &[u8], rest: &[u8]) -> usize
 }
 
 /// The lexemes of a grammar file.
-pub fn read_lexemes<'a>(alloc: Global, bytes: &'a [u8]) -> Result<Vec<Placed<'a>>, GrammarFault>
+pub fn read_lexemes<'a>(alloc: Global, bytes: &'a [u8]) -> Result<Vec<Placed<'a>>, SyntaxFault>
     ensures { Gives bytes.now result }
 {
     let mut lexemes = Vec::new(alloc);
@@ -45,7 +45,7 @@ pub fn read_lexemes<'a>(alloc: Global, bytes: &'a [u8]) -> Result<Vec<Placed<'a>
             Part::Comment => {}
             Part::Lexeme(lexeme) => {
                 match state.next(lexeme.kind()) {
-                    None => return Err(GrammarFault::Syntax {
+                    None => return Err(SyntaxFault::Syntax {
                         line: line_of(bytes, rest),
                     }),
                     Some(next) => state = next,
@@ -62,7 +62,7 @@ pub fn read_lexemes<'a>(alloc: Global, bytes: &'a [u8]) -> Result<Vec<Placed<'a>
     if state.is_final() {
         Ok(lexemes)
     } else {
-        Err(GrammarFault::Syntax {
+        Err(SyntaxFault::Syntax {
             line: line_of(bytes, rest),
         })
     }
@@ -74,9 +74,9 @@ pub const FILE_LIMIT: usize = 1_048_576;
 /// The lexemes of a grammar file, or its first fault.
 ///
 /// Want of memory may come in place of any answer but `TooLong`.
-pub fn read_syntax<'a>(alloc: Global, bytes: &'a [u8]) -> Result<Vec<Placed<'a>>, GrammarFault>
+pub fn read_syntax<'a>(alloc: Global, bytes: &'a [u8]) -> Result<Vec<Placed<'a>>, SyntaxFault>
     // It comes before every other answer.
-    ensures too_long { IsErrOf result GrammarFault.TooLong ↔ (1048576 < length bytes.now) }
+    ensures too_long { IsErrOf result SyntaxFault.TooLong ↔ (1048576 < length bytes.now) }
     // What is read is spelled.
     ensures found { IfOk result (λ v. SpellsSyntax bytes.now (views v.items)) }
     // Its lexemes are those of exactly one syntax tree.
@@ -89,7 +89,7 @@ pub fn read_syntax<'a>(alloc: Global, bytes: &'a [u8]) -> Result<Vec<Placed<'a>>
     ensures exact { length bytes.now ≤ 1048576 → Gives bytes.now result }
 {
     if bytes.len() > FILE_LIMIT {
-        return Err(GrammarFault::TooLong);
+        return Err(SyntaxFault::TooLong);
     }
     read_lexemes(alloc, bytes)
 }

@@ -2,15 +2,17 @@
 
 ghost use Rattle.std.specs.Prelude.{◌≡◌};
 ghost use Rattle.ygrammar.specs.Answers.{fault_at};
-ghost use Rattle.ygrammar.specs.declared.fault.GrammarFault.TheVariants.{Memory};
+ghost use Rattle.ygrammar.specs.Faults.{IsRefusal, mistake_at, of_syntax};
+ghost use Rattle.ygrammar.specs.declared.fault.SyntaxFault.TheVariants.{Memory};
 
+use crate::mistake::{Mistake, Refused};
 use crate::part::LexicalFault;
 use std::alloc::AllocFailed;
 use thiserror::Error;
 
-/// The fault of a grammar file. A line is one more than the newlines before the place at fault.
+/// The fault of a grammar file's syntax. A line is one more than the newlines before the place at fault.
 #[derive(Clone, Copy, Debug, PartialEq, Eq, Drop, Error)]
-pub enum GrammarFault {
+pub enum SyntaxFault {
     /// G1: the file has more than 1,048,576 bytes.
     #[error("G1")]
     TooLong,
@@ -31,23 +33,125 @@ pub enum GrammarFault {
     Memory,
 }
 
-impl LexicalFault {
-    /// The fault of a file, on a line.
-    pub fn at_line(self, line: usize) -> GrammarFault
-        ensures { result ≡ fault_at self line }
-    {
-        match self {
-            LexicalFault::Unfinished => GrammarFault::Unfinished { line },
-            LexicalFault::BadLiteral => GrammarFault::BadLiteral { line },
-            LexicalFault::Foreign => GrammarFault::Foreign { line },
+/// The fault of a grammar file. A line is one more than the newlines before the place at fault.
+#[derive(Clone, Copy, Debug, PartialEq, Eq, Drop, Error)]
+pub enum GrammarFault {
+    /// G1: the file has more than 1,048,576 bytes.
+    #[error("G1")]
+    TooLong,
+    /// G2: a comment, literal, code block or kept text has no end.
+    #[error("G2 at line {line}")]
+    Unfinished { line: usize },
+    /// G3: no literal begins at a quote, and none would with more bytes.
+    #[error("G3 at line {line}")]
+    BadLiteral { line: usize },
+    /// G4: a byte or percent word that begins no lexeme.
+    #[error("G4 at line {line}")]
+    Foreign { line: usize },
+    /// G5: the lexemes up to here begin no grammar file, or the file ends too early.
+    #[error("G5 at line {line}")]
+    Syntax { line: usize },
+    /// G6: a token is a left side, or is named by `%type`.
+    #[error("G6 at line {line}")]
+    TokenLeft { line: usize },
+    /// G7: a name in a body, a `%prec` or a `%type` is neither token nor nonterminal.
+    #[error("G7 at line {line}")]
+    Undefined { line: usize },
+    /// G8: a token is given a precedence twice.
+    #[error("G8 at line {line}")]
+    TwicePrecedence { line: usize },
+    /// G9: an explicit number is out of range, a token is given two, or two tokens have one.
+    #[error("G9 at line {line}")]
+    BadNumber { line: usize },
+    /// G10: `%start` names no nonterminal, or stands twice.
+    #[error("G10 at line {line}")]
+    BadStart { line: usize },
+    /// G11: a nonterminal derives no list of tokens.
+    #[error("G11 at line {line}")]
+    Unproductive { line: usize },
+    /// G12: `%prec` names a nonterminal.
+    #[error("G12 at line {line}")]
+    BadPrec { line: usize },
+    /// G13: more symbols, rules or symbols in a body than the limits.
+    #[error("G13 at line {line}")]
+    Limit { line: usize },
+    /// G14: memory was refused.
+    #[error("no memory")]
+    Memory,
+}
+
+impl From<SyntaxFault> for GrammarFault {
+    ghost from_gives = { λ f e. e ≡ of_syntax f };
+
+    fn from(fault: SyntaxFault) -> GrammarFault {
+        match fault {
+            SyntaxFault::TooLong => GrammarFault::TooLong,
+            SyntaxFault::Unfinished { line } => GrammarFault::Unfinished { line },
+            SyntaxFault::BadLiteral { line } => GrammarFault::BadLiteral { line },
+            SyntaxFault::Foreign { line } => GrammarFault::Foreign { line },
+            SyntaxFault::Syntax { line } => GrammarFault::Syntax { line },
+            SyntaxFault::Memory => GrammarFault::Memory,
         }
     }
 }
 
-impl<T: Drop> From<AllocFailed<T>> for GrammarFault {
+impl Mistake {
+    /// The fault of a file, on a line.
+    fn at_line(self, line: usize) -> GrammarFault
+        ensures { result ≡ mistake_at self line }
+    {
+        match self {
+            Mistake::TokenLeft => GrammarFault::TokenLeft { line },
+            Mistake::Undefined => GrammarFault::Undefined { line },
+            Mistake::TwicePrecedence => GrammarFault::TwicePrecedence { line },
+            Mistake::BadNumber => GrammarFault::BadNumber { line },
+            Mistake::BadStart => GrammarFault::BadStart { line },
+            Mistake::Unproductive => GrammarFault::Unproductive { line },
+            Mistake::BadPrec => GrammarFault::BadPrec { line },
+            Mistake::Limit => GrammarFault::Limit { line },
+        }
+    }
+}
+
+impl Refused {
+    /// The fault of a file of these bytes.
+    pub fn in_file(self, source: &[u8]) -> GrammarFault
+        ensures { IsRefusal self result }
+    {
+        match self {
+            Refused::Mistake { what, at } => what.at_line(line_at(source, at)),
+            Refused::Memory => GrammarFault::Memory,
+        }
+    }
+}
+
+/// The line of the place with so many bytes before it: one more than the newlines among them.
+fn line_at(source: &[u8], at: usize) -> usize {
+    let before = if at < source.len() {
+        &source[..at]
+    } else {
+        source
+    };
+    before.iter().filter(|b| **b == b'\n').count() + 1
+}
+
+impl LexicalFault {
+    /// The fault of a file, on a line.
+    pub fn at_line(self, line: usize) -> SyntaxFault
+        ensures { result ≡ fault_at self line }
+    {
+        match self {
+            LexicalFault::Unfinished => SyntaxFault::Unfinished { line },
+            LexicalFault::BadLiteral => SyntaxFault::BadLiteral { line },
+            LexicalFault::Foreign => SyntaxFault::Foreign { line },
+        }
+    }
+}
+
+impl<T: Drop> From<AllocFailed<T>> for SyntaxFault {
     ghost from_gives = { λ _ e. e ≡ Memory };
 
-    fn from(_refused: AllocFailed<T>) -> GrammarFault {
-        GrammarFault::Memory
+    fn from(_refused: AllocFailed<T>) -> SyntaxFault {
+        SyntaxFault::Memory
     }
 }

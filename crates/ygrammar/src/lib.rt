@@ -26,7 +26,7 @@ mod tokens;
 mod tree;
 
 pub use cutting::{FILE_LIMIT, Placed, read_syntax};
-pub use fault::GrammarFault;
+pub use fault::{GrammarFault, SyntaxFault};
 pub use grammar::{Grammar, Rule, Sym};
 pub use kind::{Kind, Sign};
 pub use part::Lexeme;

@@ -106,11 +106,7 @@ pub fn is_named(names: &Names, who: Identifier) -> bool
 }
 
 /// Notes a name or literal, unless it is there.
-pub fn note_identifier(
-    alloc: Global,
-    names: &mut Names,
-    who: Identifier,
-) -> Result<(), AllocError>
+pub fn note_identifier(alloc: Global, names: &mut Names, who: Identifier) -> Result<(), AllocError>
     ensures { OnOk result (texts names.new ≡ noted (texts names.old) (printed (identifier_view who.entry))) }
 {
     match who {

@@ -58,11 +58,7 @@ fn next_free(marks: &[bool], from: u32) -> u32
 }
 
 /// The numbers of the tokens: their own, or the least that is free.
-pub fn numbers(
-    alloc: Global,
-    own: &[Option<u32>],
-    marks: &[bool],
-) -> Result<Vec<u32>, AllocError>
+pub fn numbers(alloc: Global, own: &[Option<u32>], marks: &[bool]) -> Result<Vec<u32>, AllocError>
     requires marked { MarksOwn own.now marks.now }
     requires few { length own.now ≤ 4096 }
     ensures { IfOk result (λ v. AreNumbers own.now v.items) }

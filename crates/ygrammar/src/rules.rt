@@ -10,8 +10,8 @@ ghost use Rattle.ygrammar.specs.Numbered.{inner_numbers, rule_numbers};
 ghost use Rattle.ygrammar.specs.TreeViews.{clause_view, item_view, mention_view, name_view, option_view, text_view};
 
 use crate::grammar::{Rule, Sym};
-use crate::outline::{Outline, Started};
 use crate::names::{Names, note, number_in, number_of};
+use crate::outline::{Outline, Started};
 use crate::precedence::Precedence;
 use crate::tree::{Clause, Item, Mention, NameAt};
 use itoa::Buffer;

@@ -1,7 +1,7 @@
 //! Files and their lexemes or faults, as the formats' page says them.
 
 use crate::cutting::{FILE_LIMIT, Placed, read_syntax};
-use crate::fault::GrammarFault;
+use crate::fault::SyntaxFault;
 use crate::kind::Sign;
 use crate::part::Lexeme;
 use std::alloc::Global;
@@ -11,12 +11,12 @@ use std::test::Fail;
 fn answer(alloc: Global, file: &[u8]) -> (char, usize) {
     match read_syntax(alloc, file) {
         Ok(_) => ('a', 0),
-        Err(GrammarFault::TooLong) => ('1', 0),
-        Err(GrammarFault::Unfinished { line }) => ('2', line),
-        Err(GrammarFault::BadLiteral { line }) => ('3', line),
-        Err(GrammarFault::Foreign { line }) => ('4', line),
-        Err(GrammarFault::Syntax { line }) => ('5', line),
-        Err(GrammarFault::Memory) => ('m', 0),
+        Err(SyntaxFault::TooLong) => ('1', 0),
+        Err(SyntaxFault::Unfinished { line }) => ('2', line),
+        Err(SyntaxFault::BadLiteral { line }) => ('3', line),
+        Err(SyntaxFault::Foreign { line }) => ('4', line),
+        Err(SyntaxFault::Syntax { line }) => ('5', line),
+        Err(SyntaxFault::Memory) => ('m', 0),
     }
 }
 

@@ -1,7 +1,7 @@
 //! Small files and their trees, written out by hand.
 
 use crate::building::read_tree;
-use crate::fault::GrammarFault;
+use crate::fault::SyntaxFault;
 use crate::tree::{
     Clause, Definition, Digits, Entry, Identifier, Item, Mention, NameAt, Tree, Word,
 };
@@ -169,12 +169,12 @@ fn tree_text(alloc: Global, file: &[u8]) -> Result<String, Fail> {
     };
     match read_tree(alloc, file) {
         Ok(tree) => shown.tree(&tree)?,
-        Err(GrammarFault::TooLong) => shown.bytes(b"1")?,
-        Err(GrammarFault::Unfinished { .. }) => shown.bytes(b"2")?,
-        Err(GrammarFault::BadLiteral { .. }) => shown.bytes(b"3")?,
-        Err(GrammarFault::Foreign { .. }) => shown.bytes(b"4")?,
-        Err(GrammarFault::Syntax { .. }) => shown.bytes(b"5")?,
-        Err(GrammarFault::Memory) => return Err(Fail::from("no memory")),
+        Err(SyntaxFault::TooLong) => shown.bytes(b"1")?,
+        Err(SyntaxFault::Unfinished { .. }) => shown.bytes(b"2")?,
+        Err(SyntaxFault::BadLiteral { .. }) => shown.bytes(b"3")?,
+        Err(SyntaxFault::Foreign { .. }) => shown.bytes(b"4")?,
+        Err(SyntaxFault::Syntax { .. }) => shown.bytes(b"5")?,
+        Err(SyntaxFault::Memory) => return Err(Fail::from("no memory")),
     }
     Ok(shown.text)
 }

@@ -12,10 +12,10 @@ pub loop-mention-preserved : goal.loop-mention-preserved
 loop-mention-preserved c = record {
   small = λ a. c.fill_literal.ensures.small (c.loop-mention.invariant.small a);
   told = λ more own s.
-    let xs = c.args.mentions.now in
-    let i = c.loop-mention.mention-index in
-    let h : i < length xs = omega arith in
-    c.fill_literal.ensures.told _ own (subst (λ (ys : List Mention). OwnSoFar (texts c.args.tokens.now) c.loop-mention.table.items (literal_value (map mention_view ys ++ more)) own) (drop_more xs i _ h) (c.loop-mention.invariant.told more own s));
+      let xs = c.args.mentions.now in
+      let i = c.loop-mention.mention-index in
+      let h : i < length xs = omega arith in
+      c.fill_literal.ensures.told _ own (subst (λ (ys : List Mention). OwnSoFar (texts c.args.tokens.now) c.loop-mention.table.items (literal_value (map mention_view ys ++ more)) own) (drop_more xs i _ h) (c.loop-mention.invariant.told more own s));
 }
 
 pub returns-clause-told : goal.returns-clause-told

@@ -40,12 +40,12 @@ index_mut-requires c =
 
 pub loop-one-preserved : goal.loop-one-preserved
 loop-one-preserved c = elim c.match-one.branch [
-    | in-None w ↦
+  | in-None w ↦
       let own = c.args.own.now in
       let i = c.loop-one.one-index in
       let h : i < length own = omega arith in
       subst (λ (v : Vec Bool Global). Marking c.args.count own v.items (i + 1)) (sym w.marks-is) (marks_skip c.args.count own c.loop-one.marks.items i (at_place own i None h w.in-None.is) c.loop-one.invariant)
-    | in-Some+else-index w ↦
+  | in-Some+else-index w ↦
       let own = c.args.own.now in
       let i = c.loop-one.one-index in
       let n = w.in-Some.number in
@@ -55,7 +55,7 @@ loop-one-preserved c = elim c.match-one.branch [
       let e : length c.loop-one.marks.items ≡ c.args.count = c.loop-one.invariant.each in
       let m : n < length c.loop-one.marks.items = subst (λ k. n < k) (sym e) l in
       subst (λ (v : Vec Bool Global). Marking c.args.count own v.items (i + 1)) (sym w.marks-is) (marks_more c.args.count own c.loop-one.marks.items i n p m (sym (get_or_read c.loop-one.marks.items n w.index.result.now m w.index.ensures false) ∙ w.if-index.false) c.loop-one.invariant)
-  ]
+]
 
 pub returns : goal.returns
 returns c = marks_all c.args.count c.args.own.now c.loop-one.marks.items c.loop-one.one-index (omega arith) c.loop-one.invariant

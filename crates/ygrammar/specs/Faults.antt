@@ -1,0 +1,33 @@
+-- The faults of a grammar file: of its syntax, and of what it means.
+use Rattle.std.specs.Prelude.{ℕ, ◌≡◌}
+use Rattle.ygrammar.specs.declared.fault.GrammarFault.{GrammarFault}
+use Rattle.ygrammar.specs.declared.fault.GrammarFault.TheVariants as faults
+use Rattle.ygrammar.specs.declared.fault.SyntaxFault.{SyntaxFault}
+use Rattle.ygrammar.specs.declared.fault.SyntaxFault.TheVariants as syntax
+use Rattle.ygrammar.specs.declared.mistake.Mistake.{Mistake}
+use Rattle.ygrammar.specs.declared.mistake.Mistake.TheVariants as mistakes
+use Rattle.ygrammar.specs.declared.mistake.Refused.{Refused}
+use Rattle.ygrammar.specs.declared.mistake.Refused.TheVariants as refused
+
+abbrev pub of_syntax : SyntaxFault → GrammarFault
+of_syntax syntax.TooLong = faults.TooLong
+of_syntax (syntax.Unfinished line) = faults.Unfinished line
+of_syntax (syntax.BadLiteral line) = faults.BadLiteral line
+of_syntax (syntax.Foreign line) = faults.Foreign line
+of_syntax (syntax.Syntax line) = faults.Syntax line
+of_syntax syntax.Memory = faults.Memory
+
+abbrev pub mistake_at : Mistake → ℕ → GrammarFault
+mistake_at mistakes.TokenLeft line = faults.TokenLeft line
+mistake_at mistakes.Undefined line = faults.Undefined line
+mistake_at mistakes.TwicePrecedence line = faults.TwicePrecedence line
+mistake_at mistakes.BadNumber line = faults.BadNumber line
+mistake_at mistakes.BadStart line = faults.BadStart line
+mistake_at mistakes.Unproductive line = faults.Unproductive line
+mistake_at mistakes.BadPrec line = faults.BadPrec line
+mistake_at mistakes.Limit line = faults.Limit line
+
+-- the fault of a refusal, on whatever line
+abbrev pub IsRefusal : Refused → GrammarFault → Type 0
+IsRefusal (refused.Mistake what at) f = (line : ℕ) × (f ≡ mistake_at what line)
+IsRefusal refused.Memory f = f ≡ faults.Memory
