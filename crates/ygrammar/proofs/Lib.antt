@@ -15,7 +15,6 @@ pub mod Answering
 pub mod Trees
 pub mod OneTree
 pub mod TreeSteps
-pub mod CheckedSteps
 pub mod NameSteps
 pub mod RuleSteps
 pub mod TellingSteps

@@ -8,6 +8,7 @@ use Rattle.std.proofs.lemmas.List.{length-map, map-append}
 use Rattle.std.proofs.lemmas.List.Folds.{list_any-append}
 use Rattle.ygrammar.specs.Elaboration.{Listing, appearances, declared, is_literal, is_token, level_at, given_by, listed_name, listing_of, listings, listings_from, option_list, said_of, token_names_of, tokens, uses, who_of}
 use Rattle.ygrammar.specs.Names.{Name, is_among, noted, noted_all, number_in, printed}
+use Rattle.ygrammar.specs.NameTexts.{find_in}
 use Rattle.ygrammar.specs.Tree.{Definition, Entry, Identifier, Tree, start, union, block, listing, types}
 use Rattle.ygrammar.proofs.NameSteps.{among_all, eq_self}
 use Rattle.ygrammar.proofs.TellingSteps.{false_true, other_name}
@@ -267,3 +268,17 @@ by_numbers f ns table d u e h = same_lists table (map f ns) d (e ∙ sym (length
         let n : Name = get_or ns i [] in
         let k : number_in ns n ≡ i = u i l in
         ap (λ j. get_or table j d) (sym k) ∙ h n (subst (λ j. j < length ns) (sym k) l) ∙ sym (get_map ns i l)
+
+abbrev pub some_number : ℕ → Option ℕ
+some_number n = Some n
+
+-- a name is found by its number
+pub found_number : (ns : List Name) (n : Name) (r k : ℕ) → r ≡ number_in ns n → k ≡ length ns → r < k → some_number r ≡ find_in ns n
+found_number ns n r k e f h = ap some_number e ∙ sym (ap (λ b. cond b (some_number (number_in ns n)) None) (number_among ns n (subst (λ a. a < length ns) e (subst (λ a. r < a) f h))))
+
+pub missed_number : (ns : List Name) (n : Name) (r k : ℕ) → r ≡ number_in ns n → k ≡ length ns → k ≤ r → None ≡ find_in ns n
+missed_number ns n r k e f h = sym (ap (λ b. cond b (some_number (number_in ns n)) None) (absent (is_among ns n) refl))
+  where
+    absent : (b : Bool) → is_among ns n ≡ b → is_among ns n ≡ false
+    absent true q = let l : number_in ns n < length ns = among_number ns n q in let m : length ns ≤ number_in ns n = subst (λ a. length ns ≤ a) e (subst (λ a. a ≤ r) f h) in absurd (omega arith)
+    absent false q = q

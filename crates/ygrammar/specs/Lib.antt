@@ -12,7 +12,6 @@ pub mod Tree
 pub mod TreeViews
 pub mod Building
 pub mod TreeAnswers
-pub mod Checked
 pub mod Forms
 pub mod Grammar
 pub mod WellFormed
@@ -27,3 +26,4 @@ pub mod Numbers
 pub mod Meaning
 pub mod Owned
 pub mod Faults
+pub mod Elaborated

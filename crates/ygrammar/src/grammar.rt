@@ -1,13 +1,14 @@
 //! The value that stands between the reader and the automaton: a grammar that is well formed.
 
-ghost use Rattle.std.specs.Prelude.{◌≡◌, ◌<◌, ◌≤◌, ◌↔◌, length, IsTrue, map, slice_index_or};
-ghost use Rattle.ygrammar.specs.Grammar.{GrammarValue, RuleValue, Production, IsToken, owned_view, rule_of, production_of};
-ghost use Rattle.ygrammar.specs.WellFormed.{WellFormed};
+ghost use Rattle.std.specs.Prelude.{◌≡◌, ◌<◌, ◌↔◌, [], None, IsTrue, false, length, slice_get, slice_index_or};
+ghost use Rattle.ygrammar.specs.Grammar.{IsToken, owned_view, rule_of};
+ghost use Rattle.ygrammar.specs.NameTexts.{find_in, value_of};
+ghost use Rattle.ygrammar.specs.TreeViews.{text_view};
+ghost use Rattle.ygrammar.specs.WellFormed.{IsWhole, WellFormed};
 
+use crate::names::{Names, number_in};
 use crate::precedence::Precedence;
 use std::marker::Model;
-
-mod checked;
 
 /// The number of a symbol. The tokens come first, `$end` is 0.
 pub type Sym = usize;
@@ -61,6 +62,16 @@ impl Rule {
         self.body.as_slice()
     }
 
+    /// The kept text of the rule's action with its braces, where it has one.
+    fn text(&self) -> Option<&[u8]>
+        ensures { text_view result ≡ self.now.text }
+    {
+        match &self.text {
+            Some(text) => Some(text.as_slice()),
+            None => None,
+        }
+    }
+
     /// The precedence of the rule, where it has one.
     pub fn precedence(&self) -> Option<Precedence>
         ensures { result ≡ self.now.precedence }
@@ -69,42 +80,80 @@ impl Rule {
     }
 }
 
-/// A grammar. Every one is well formed; `symbols` tells so to its callers.
+/// A grammar. Every one is well formed; `symbols` tells so to its callers. It owns what it keeps.
 #[derive(Drop)]
 pub struct Grammar {
+    /// The symbols by their printed names, the tokens first.
+    names: Names,
     tokens: usize,
-    symbols: usize,
+    /// The numbers of the tokens.
+    numbers: Vec<u32>,
+    /// The precedences of the tokens.
+    precedences: Vec<Option<Precedence>>,
     rules: Vec<Rule>,
+    /// Which symbols can be reached.
+    reachable: Vec<bool>,
 }
 
 impl Model for Grammar {
-    ghost use Rattle.std.specs.Prelude.{[], map};
-    ghost use Rattle.ygrammar.specs.Grammar.{GrammarValue, production_of, precedence_of};
+    ghost use Rattle.std.specs.Prelude.{length, map};
+    ghost use Rattle.ygrammar.specs.Grammar.{GrammarValue, precedence_of, production_of, text_of};
+    ghost use Rattle.ygrammar.specs.NameTexts.{texts};
+    ghost use Rattle.ygrammar.specs.WellFormed.{IsWhole};
 
     ghost Value = { GrammarValue };
 
-    ghost use Rattle.ygrammar.specs.WellFormed.{WellFormed};
-
     ghost view = { λ g. record {
-      bare = record { tokens = g.tokens; symbols = g.symbols; rules = map production_of g.rules.items };
-      names = [];
-      numbers = [];
-      token_precedences = [];
+      bare = record { tokens = g.tokens; symbols = length (texts g.names); rules = map production_of g.rules.items };
+      names = texts g.names;
+      numbers = g.numbers.items;
+      token_precedences = g.precedences.items;
       rule_precedences = map precedence_of g.rules.items;
-      texts = [];
-      reachable = [];
+      texts = map text_of g.rules.items;
+      reachable = g.reachable.items;
     } };
 
-    ghost invariant = { λ g. WellFormed (record { tokens = g.tokens; symbols = g.symbols; rules = map production_of g.rules.items }) };
+    ghost invariant = { λ g. IsWhole (record {
+      bare = record { tokens = g.tokens; symbols = length (texts g.names); rules = map production_of g.rules.items };
+      names = texts g.names;
+      numbers = g.numbers.items;
+      token_precedences = g.precedences.items;
+      rule_precedences = map precedence_of g.rules.items;
+      texts = map text_of g.rules.items;
+      reachable = g.reachable.items;
+    }) };
 }
 
 impl Grammar {
+    /// A grammar of these parts.
+    pub(crate) fn of(
+        names: Names,
+        tokens: usize,
+        numbers: Vec<u32>,
+        precedences: Vec<Option<Precedence>>,
+        rules: Vec<Rule>,
+        reachable: Vec<bool>,
+    ) -> Grammar
+        requires { IsWhole (value_of names tokens numbers.items precedences.items rules.items reachable.items) }
+        ensures { result ≡ value_of names tokens numbers.items precedences.items rules.items reachable.items }
+    {
+        Grammar {
+            names,
+            tokens,
+            numbers,
+            precedences,
+            rules,
+            reachable,
+        }
+    }
+
     /// How many symbols there are; each is a number below this. This call also says that the grammar is well formed.
     pub fn symbols(&self) -> usize
         ensures value { result ≡ self.now.bare.symbols }
         ensures well_formed { WellFormed self.now.bare }
+        ensures whole { IsWhole self.now }
     {
-        self.symbols
+        self.names.len()
     }
 
     /// How many of the symbols are tokens. They are the numbers below this.
@@ -121,6 +170,53 @@ impl Grammar {
         s < self.tokens
     }
 
+    /// The printed name of a symbol.
+    pub fn name(&self, s: Sym) -> &[u8]
+        requires { s < self.now.bare.symbols }
+        ensures { result.now ≡ slice_index_or self.now.names s [] }
+    {
+        match self.names.get_index(s) {
+            Some(name) => name.as_slice(),
+            None => b"",
+        }
+    }
+
+    /// The symbol that is printed so, where there is one.
+    pub fn find(&self, name: &[u8]) -> Option<Sym>
+        ensures { result ≡ find_in self.now.names name.now }
+    {
+        let s = number_in(&self.names, name);
+        if s < self.names.len() { Some(s) } else { None }
+    }
+
+    /// The number of a token; a nonterminal has none.
+    pub fn number(&self, s: Sym) -> Option<u32>
+        requires { s < self.now.bare.symbols }
+        ensures { result ≡ slice_get self.now.numbers s }
+    {
+        self.numbers.get(s).copied()
+    }
+
+    /// The precedence of a token, where it has one.
+    pub fn precedence(&self, s: Sym) -> Option<Precedence>
+        requires { s < self.now.bare.symbols }
+        ensures { result ≡ slice_index_or self.now.token_precedences s None }
+    {
+        if s < self.precedences.len() {
+            self.precedences[s]
+        } else {
+            None
+        }
+    }
+
+    /// Whether the symbol can be reached from the first rule.
+    pub fn reachable(&self, s: Sym) -> bool
+        requires { s < self.now.bare.symbols }
+        ensures { result ≡ slice_index_or self.now.reachable s false }
+    {
+        self.reachable[s]
+    }
+
     /// How many rules there are, `$accept : S $end` among them.
     pub fn rules(&self) -> usize
         ensures { result ≡ length self.now.bare.rules }
@@ -131,8 +227,17 @@ impl Grammar {
     /// The rule of this number. Rule 0 is `$accept : S $end`.
     pub fn rule(&self, r: usize) -> &Rule
         requires { r < length self.now.bare.rules }
-        ensures { result.now.production ≡ rule_of self.now.bare r }
+        ensures production { result.now.production ≡ rule_of self.now.bare r }
+        ensures precedence { result.now.precedence ≡ slice_index_or self.now.rule_precedences r None }
     {
         &self.rules[r]
+    }
+
+    /// The kept text of a rule's action with its braces, where it has one.
+    pub fn action_text(&self, r: usize) -> Option<&[u8]>
+        requires { r < length self.now.bare.rules }
+        ensures { text_view result ≡ slice_index_or self.now.texts r None }
+    {
+        self.rules[r].text()
     }
 }

@@ -5,6 +5,7 @@ mod building;
 mod bytes;
 mod checks;
 mod cutting;
+mod elaboration;
 mod fault;
 mod given;
 pub mod grammar;

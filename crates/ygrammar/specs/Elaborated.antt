@@ -1,0 +1,37 @@
+-- What elaboration gives: the grammar that a tree means, or its first mistake.
+use Rattle.std.specs.Prelude.{ℕ, ◌≡◌, length, Result, Ok, Err}
+use Rattle.ygrammar.specs.declared.elaboration.Named.{Named}
+use Rattle.ygrammar.specs.declared.mistake.Mistake.TheVariants.{TokenLeft, Undefined, TwicePrecedence}
+use Rattle.ygrammar.specs.declared.mistake.Refused.{Refused}
+use Rattle.ygrammar.specs.declared.mistake.Refused.TheVariants as refused
+use Rattle.ygrammar.specs.Elaboration.{symbols, token_precedences, tokens}
+use Rattle.ygrammar.specs.Grammar.{GrammarValue}
+use Rattle.ygrammar.specs.Meaning.{IsMeaning}
+use Rattle.ygrammar.specs.Mistakes.{Holds, IsFirst, order}
+use Rattle.ygrammar.specs.NameTexts.{texts}
+use Rattle.ygrammar.specs.Owned.{IsOwnTable}
+use Rattle.ygrammar.specs.Tree.{Tree}
+
+-- the first mistake of the tree, or want of memory
+abbrev pub IsFirstRefused : Tree → Refused → Type 0
+IsFirstRefused t (refused.Mistake what at) = IsFirst t order what
+IsFirstRefused t refused.Memory = Unit {0}
+
+-- The symbols and the tables of the tokens, where none of the first four mistakes holds.
+pub record AreNamed (t : Tree) (n : Named) : Type 0 where
+  pub names : texts n.names ≡ symbols t
+  pub tokens_first : n.tokens ≡ length (tokens t)
+  pub given : n.given.items ≡ token_precedences t
+  pub own : IsOwnTable t n.own
+  pub no_token_left : Holds t TokenLeft → ⊥
+  pub all_defined : Holds t Undefined → ⊥
+  pub once : Holds t TwicePrecedence → ⊥
+
+abbrev pub GivesNamed : Tree → Result Named Refused → Type 0
+GivesNamed t (Ok n) = AreNamed t n
+GivesNamed t (Err e) = IsFirstRefused t e
+
+-- the meaning of the tree, or its first mistake, or want of memory
+abbrev pub Elaborates : Tree → Result GrammarValue Refused → Type 0
+Elaborates t (Ok g) = IsMeaning t g
+Elaborates t (Err e) = IsFirstRefused t e
