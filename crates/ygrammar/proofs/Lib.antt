@@ -20,3 +20,6 @@ pub mod NameSteps
 pub mod RuleSteps
 pub mod TellingSteps
 pub mod OwnSteps
+pub mod MarkingSteps
+pub mod FilingSteps
+pub mod ProductiveSteps

@@ -26,3 +26,4 @@ pub mod Mistakes
 pub mod Numbers
 pub mod Meaning
 pub mod Owned
+pub mod Marking
