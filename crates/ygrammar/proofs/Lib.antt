@@ -23,3 +23,6 @@ pub mod OwnSteps
 pub mod MarkingSteps
 pub mod FilingSteps
 pub mod ProductiveSteps
+pub mod DotSteps
+pub mod DrainSteps
+pub mod ReachableSteps
