@@ -1,12 +1,13 @@
 -- Marks that a worklist leaves, and the symbols that can be reached.
-use Rattle.std.proofs.Common.{ℕ, Bool, false, ◌≡◌, ◌<◌, ◌≤◌, ◌⊎◌, List, length, get_or, slice_index, sym, ◌∙◌, ap, subst, inl, inr, arith, EachIndex}
-use Rattle.std.specs.List.{Contains, All}
+use Rattle.std.proofs.Common.{ℕ, zero, suc, Bool, false, refl, ◌≡◌, ◌<◌, ◌≤◌, ◌⊎◌, List, length, get_or, slice_index, sym, ◌∙◌, ap, subst, inl, inr, arith, EachIndex}
+use Rattle.std.specs.List.{Contains}
+use Rattle.std.proofs.Math.ListN.{replicate}
 use Rattle.std.proofs.lemmas.List.{length-map}
 use Rattle.std.proofs.lemmas.List.Elements.{All-contains, All-from_get_or, Contains-get_or}
 use Rattle.ygrammar.specs.Grammar.{ContextFree, Production, left_of, body_of}
 use Rattle.ygrammar.specs.Forms.{IsReachable, first, further}
 use Rattle.ygrammar.specs.declared.rules.Numbered.{Numbered}
-use Rattle.ygrammar.specs.Marking.{IsMarked, IsUnmarked, IsWaiting, IsSpread, unseen, ahead, spread, MarksReachable, bare_rule, numbered_grammar, rule_at}
+use Rattle.ygrammar.specs.Marking.{IsMarked, IsUnmarked, IsSpread, unseen, ahead, spread, MarksReachable, bare_rule, numbered_grammar, rule_at}
 use Rattle.ygrammar.proofs.MarkingSteps.{not_both, none_waits}
 
 either : (g : ContextFree) (m : List Bool) (s x : ℕ) → MarksReachable g m → IsReachable g x → IsMarked m s ⊎ (s ≡ x) → IsReachable g s
@@ -37,11 +38,11 @@ all_marked tokens symbols rules m o n z c b s (further {r = r} h p k) =
     let f = closed_by (rule_at rules r) m o n z (c r (subst (λ (j : ℕ). r < j) (length-map rules bare_rule) h)) (all_marked tokens symbols rules m o n z c b (rule_at rules r).left p) in
     All-contains (IsMarked m) body s (All-from_get_or (IsMarked m) body 0 f) k
 
--- at first nothing is marked but the first left side, which waits
-pub spread_first : (p : Production) (m m2 : List Bool) (o2 : List ℕ) → IsUnmarked m p.left → ((s : ℕ) → IsMarked m2 s → IsMarked m s ⊎ IsWaiting o2 0 s) → IsMarked m2 p.left ⊎ IsUnmarked m2 p.left → IsSpread p m2 o2 0
-spread_first p m m2 o2 n w (inr u) = unseen u
-spread_first p m m2 o2 n w (inl k) = waits_first p m m2 o2 n (w p.left k)
-  where
-    waits_first : (p : Production) (m m2 : List Bool) (o2 : List ℕ) → IsUnmarked m p.left → IsMarked m p.left ⊎ IsWaiting o2 0 p.left → IsSpread p m2 o2 0
-    waits_first p m m2 o2 n (inl k) = absurd (not_both (get_or m p.left false) k n)
-    waits_first p m m2 o2 n (inr w) = ahead w
+blank_at : (n s : ℕ) → get_or (replicate n false) s false ≡ false
+blank_at zero s = refl
+blank_at (suc n) zero = refl
+blank_at (suc n) (suc s) = blank_at n s
+
+-- of marks that were made alike none is set
+pub none_marked : (m : List Bool) (n s : ℕ) → m ≡ replicate n false → IsUnmarked m s
+none_marked m n s e = ap (λ (x : List Bool). get_or x s false) e ∙ blank_at n s

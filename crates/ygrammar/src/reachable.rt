@@ -29,20 +29,18 @@ fn mark_body(
     Ok(())
 }
 
-/// Marks the symbols of the bodies of the rules listed, whose left side is `left`.
+/// Marks the symbols of the bodies of the rules listed.
 fn mark_bodies(
     rules: &[Numbered],
     listed: &[usize],
-    left: Sym,
     marks: &mut Vec<bool>,
     order: &mut Vec<Sym>,
 ) -> Result<(), AllocError>
     requires listed { EachIndex listed.now (λ k. slice_index listed.now k < length rules.now) }
-    requires left { EachIndex listed.now (λ k. (rule_at rules.now (slice_index listed.now k)).left ≡ left) }
     requires in_range { AreIn (length marks.old.items) rules.now }
     ensures grows { OnOk result (Grows marks.old.items order.old.items marks.new.items order.new.items) }
     ensures spread { OnOk result ((done : ℕ) → EachIndex listed.now (λ k. IsSpread (rule_at rules.now (slice_index listed.now k)) marks.new.items order.new.items done)) }
-    ensures sound { OnOk result ((tokens symbols : ℕ) → IsReachable (numbered_grammar tokens symbols rules.now) left → MarksReachable (numbered_grammar tokens symbols rules.now) marks.old.items → MarksReachable (numbered_grammar tokens symbols rules.now) marks.new.items) }
+    ensures sound { OnOk result ((tokens symbols : ℕ) → EachIndex listed.now (λ k. IsReachable (numbered_grammar tokens symbols rules.now) (rule_at rules.now (slice_index listed.now k)).left) → MarksReachable (numbered_grammar tokens symbols rules.now) marks.old.items → MarksReachable (numbered_grammar tokens symbols rules.now) marks.new.items) }
 {
     for r in listed {
         mark_body(rules, *r, marks, order)?;
@@ -69,7 +67,7 @@ fn spread(
     while done < order.len() {
         let s = order[done];
         done += 1;
-        mark_bodies(rules, &by_left[s], s, marks, order)?;
+        mark_bodies(rules, &by_left[s], marks, order)?;
     }
     Ok(())
 }
