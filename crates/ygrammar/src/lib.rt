@@ -19,12 +19,15 @@ mod outline;
 mod part;
 mod percent;
 pub mod precedence;
+mod productive;
+mod reachable;
 mod reading;
 mod recogniser;
 mod refusals;
 mod rules;
 mod tokens;
 mod tree;
+mod worklist;
 
 pub use cutting::{FILE_LIMIT, Placed, read_syntax};
 pub use fault::{GrammarFault, SyntaxFault};

@@ -1,0 +1,126 @@
+-- Marking the symbols that can be reached, and those that derive a list of tokens, by worklists.
+use Rattle.std.specs.Prelude.{ℕ, ◌≡◌, ◌<◌, ◌≤◌, ◌+◌, ◌⊎◌, Bool, true, false, cond, List, [], ◌∷◌, length, map, slice_index, slice_index_or, EachIndex, Vec}
+use Rattle.std.specs.Global.{Global}
+use Rattle.std.specs.List.{Contains}
+use Rattle.ygrammar.specs.Grammar.{ContextFree, Production, blank, left_of, body_of, IsToken}
+use Rattle.ygrammar.specs.Forms.{Productive, IsReachable}
+use Rattle.ygrammar.specs.declared.rules.Numbered.{Numbered}
+use Rattle.ygrammar.specs.Numbered.{numbered_view}
+
+abbrev pub bare_rule : Numbered → Production
+bare_rule r = (numbered_view r).production
+
+-- the bare grammar of rules by number
+abbrev pub numbered_grammar : ℕ → ℕ → List Numbered → ContextFree
+numbered_grammar tokens symbols rules = record { tokens = tokens; symbols = symbols; rules = map bare_rule rules }
+
+-- rule r by number, bare
+abbrev pub rule_at : List Numbered → ℕ → Production
+rule_at rules r = slice_index_or (map bare_rule rules) r blank
+
+-- each symbol of a rule is below the bound
+pub record RuleIn (symbols : ℕ) (p : Production) : Type 0 where
+  pub left : p.left < symbols
+  pub body : EachIndex p.body (λ k. slice_index p.body k < symbols)
+
+-- so of every rule
+abbrev pub AreIn : ℕ → List Numbered → Type 0
+AreIn symbols rules = (r : ℕ) → r < length rules → RuleIn symbols (rule_at rules r)
+
+abbrev pub IsMarked : List Bool → ℕ → Type 0
+IsMarked m s = slice_index_or m s false ≡ true
+
+abbrev pub IsUnmarked : List Bool → ℕ → Type 0
+IsUnmarked m s = slice_index_or m s false ≡ false
+
+-- how many are not marked
+abbrev pub unmarked : List Bool → ℕ
+unmarked [] = 0
+unmarked (b ∷ m) = cond b 0 1 + unmarked m
+
+-- s stands in the order, and has not been taken: `done` have been
+pub record IsWaiting (order : List ℕ) (done s : ℕ) : Type 0 where
+  pub at : ℕ
+  pub later : done ≤ at
+  pub within : at < length order
+  pub there : slice_index order at ≡ s
+
+-- the symbols of a worklist are marked, each once
+pub record IsWorklist (m : List Bool) (order : List ℕ) : Type 0 where
+  pub marked : (k : ℕ) → k < length order → IsMarked m (slice_index order k)
+  pub few : length order + unmarked m ≤ length m
+
+-- more are marked, and each that is new waits in the order
+pub record Grows (m : List Bool) (order : List ℕ) (m2 : List Bool) (order2 : List ℕ) : Type 0 where
+  pub sized : length m2 ≡ length m
+  pub longer : length order ≤ length order2
+  pub kept : (s : ℕ) → IsMarked m s → IsMarked m2 s
+  pub ahead : (done s : ℕ) → IsWaiting order done s → IsWaiting order2 done s
+  pub waits : (done s : ℕ) → done ≤ length order → IsMarked m2 s → IsMarked m s ⊎ IsWaiting order2 done s
+  pub list : IsWorklist m order → IsWorklist m2 order2
+
+-- what stands before the dot of a body is marked
+pub record DotFits (body : List ℕ) (m : List Bool) (dot : ℕ) : Type 0 where
+  pub within : dot ≤ length body
+  pub before : (k : ℕ) → k < dot → IsMarked m (slice_index body k)
+
+-- so in every rule
+pub record AreDots (rules : List Numbered) (dots : List ℕ) (m : List Bool) : Type 0 where
+  pub sized : length dots ≡ length rules
+  pub fits : (r : ℕ) → r < length rules → DotFits (rule_at rules r).body m (slice_index dots r)
+
+-- the left side of a rule is marked, or a symbol of its body is not, or one is still to be taken
+pub data IsSettled (p : Production) (m : List Bool) (order : List ℕ) (done : ℕ) : Type 0 where
+  left : IsMarked m p.left → IsSettled p m order done
+  stuck : (k : ℕ) → k < length p.body → IsUnmarked m (slice_index p.body k) → IsSettled p m order done
+  ahead : (k : ℕ) → k < length p.body → IsWaiting order done (slice_index p.body k) → IsSettled p m order done
+
+-- the left side of a rule is not marked, or is still to be taken, or all of its body is marked
+pub data IsSpread (p : Production) (m : List Bool) (order : List ℕ) (done : ℕ) : Type 0 where
+  unseen : IsUnmarked m p.left → IsSpread p m order done
+  ahead : IsWaiting order done p.left → IsSpread p m order done
+  spread : EachIndex p.body (λ k. IsMarked m (slice_index p.body k)) → IsSpread p m order done
+
+-- the marked symbols derive a list of tokens
+abbrev pub MarksProductive : ContextFree → List Bool → Type 0
+MarksProductive g m = (s : ℕ) → IsMarked m s → Productive g s
+
+-- the marked symbols can be reached
+abbrev pub MarksReachable : ContextFree → List Bool → Type 0
+MarksReachable g m = (s : ℕ) → IsMarked m s → IsReachable g s
+
+abbrev pub items_of : Vec ℕ Global → List ℕ
+items_of v = v.items
+
+-- lists of rules, one for each symbol
+abbrev pub lists_of : Vec (Vec ℕ Global) Global → List (List ℕ)
+lists_of v = map items_of v.items
+
+abbrev pub list_at : List (List ℕ) → ℕ → List ℕ
+list_at lists s = slice_index_or lists s []
+
+-- r was added to the list of s
+pub record IsFiled (s r : ℕ) (lists lists2 : List (List ℕ)) : Type 0 where
+  pub sized : length lists2 ≡ length lists
+  pub here : Contains (list_at lists2 s) r
+  pub kept : (t q : ℕ) → Contains (list_at lists t) q → Contains (list_at lists2 t) q
+  pub only : (t q : ℕ) → Contains (list_at lists2 t) q → Contains (list_at lists t) q ⊎ ((t ≡ s) × (q ≡ r))
+
+-- r was added to the list of each symbol of the body
+pub record IsFiledEach (body : List ℕ) (r : ℕ) (lists lists2 : List (List ℕ)) : Type 0 where
+  pub sized : length lists2 ≡ length lists
+  pub here : EachIndex body (λ k. Contains (list_at lists2 (slice_index body k)) r)
+  pub kept : (t q : ℕ) → Contains (list_at lists t) q → Contains (list_at lists2 t) q
+  pub only : (t q : ℕ) → Contains (list_at lists2 t) q → Contains (list_at lists t) q ⊎ (q ≡ r)
+
+-- the rules, in front of the bound, in whose bodies each symbol stands
+pub record AreOccurrences (rules : List Numbered) (bound symbols : ℕ) (lists : List (List ℕ)) : Type 0 where
+  pub sized : length lists ≡ symbols
+  pub within : (s q : ℕ) → Contains (list_at lists s) q → q < bound
+  pub each : (r k : ℕ) → r < bound → k < length (rule_at rules r).body → Contains (list_at lists (slice_index (rule_at rules r).body k)) r
+
+-- the rules, in front of the bound, of which each symbol is the left side
+pub record AreByLeft (rules : List Numbered) (bound symbols : ℕ) (lists : List (List ℕ)) : Type 0 where
+  pub sized : length lists ≡ symbols
+  pub within : (s q : ℕ) → Contains (list_at lists s) q → (q < bound) × ((rule_at rules q).left ≡ s)
+  pub each : (r : ℕ) → r < bound → Contains (list_at lists (rule_at rules r).left) r
