@@ -4,7 +4,7 @@ use Rattle.std.specs.List.{Contains}
 use Rattle.std.proofs.lemmas.List.{get_or-map, length-map}
 use Rattle.std.proofs.lemmas.List.Elements.{All-contains, All-from_get_or, Contains-get_or}
 use Rattle.ygrammar.specs.Grammar.{Production}
-use Rattle.ygrammar.specs.declared.rules.Numbered.{Numbered}
+use Rattle.ygrammar.specs.Grammar.{RuleValue}
 use Rattle.ygrammar.specs.Marking.{IsMarked, IsSettled, IsSpread, IsWorklist, Grows, AreOccurrences, AreByLeft, unmarked, items_of, list_at, rule_at}
 use Rattle.ygrammar.proofs.MarkingSteps.{settled_grows, settled_next, spread_grows, spread_next}
 
@@ -20,10 +20,10 @@ of_listed xs q P f c = All-contains P xs q (All-from_get_or P xs 0 f) c
 pub list_read : (vs : List (Vec ℕ Global)) (s : ℕ) (v : Vec ℕ Global) (listed : List ℕ) → s < length vs → v ≡ get_or vs s v → listed ≡ v.items → listed ≡ list_at (map items_of vs) s
 list_read vs s v listed h e f = f ∙ ap items_of e ∙ sym (get_or-map items_of vs s v [] h)
 
-pub listed_within : (rules : List Numbered) (n symbols s : ℕ) (lists : List (List ℕ)) (listed : List ℕ) → listed ≡ list_at lists s → AreOccurrences rules n symbols lists → (k : ℕ) → k < length listed → slice_index listed k < n
+pub listed_within : (rules : List RuleValue) (n symbols s : ℕ) (lists : List (List ℕ)) (listed : List ℕ) → listed ≡ list_at lists s → AreOccurrences rules n symbols lists → (k : ℕ) → k < length listed → slice_index listed k < n
 listed_within rules n symbols s lists listed e a k h = a.within s (slice_index listed k) (subst (λ (x : List ℕ). Contains x (slice_index listed k)) e (Contains-get_or listed k 0 h))
 
-pub taken_settled : {m m2 : List Bool} {o o2 : List ℕ} (rules : List Numbered) (n symbols s taken q : ℕ) (lists : List (List ℕ)) (listed : List ℕ) → listed ≡ list_at lists s → s ≡ slice_index o taken → AreOccurrences rules n symbols lists → q < n → Grows m o m2 o2 → taken + 1 ≤ length o
+pub taken_settled : {m m2 : List Bool} {o o2 : List ℕ} (rules : List RuleValue) (n symbols s taken q : ℕ) (lists : List (List ℕ)) (listed : List ℕ) → listed ≡ list_at lists s → s ≡ slice_index o taken → AreOccurrences rules n symbols lists → q < n → Grows m o m2 o2 → taken + 1 ≤ length o
     → ((k : ℕ) → k < length listed → IsSettled (rule_at rules (slice_index listed k)) m2 o2 (taken + 1))
     → IsSettled (rule_at rules q) m o (taken + 1) ⊎ ((j : ℕ) × (j < length (rule_at rules q).body) × (slice_index o taken ≡ slice_index (rule_at rules q).body j))
     → IsSettled (rule_at rules q) m2 o2 (taken + 1)
@@ -32,16 +32,16 @@ taken_settled {m2 = m2} {o2 = o2} rules n symbols s taken q lists listed e t a h
     of_listed listed q (λ (u : ℕ). IsSettled (rule_at rules u) m2 o2 (taken + 1)) f (subst (λ (x : List ℕ). Contains x q) (sym e) (subst (λ (u : ℕ). Contains (list_at lists u) q) (sym (t ∙ i)) (a.each q j h l)))
 
 -- one symbol was taken, and the rules in whose bodies it stands were visited
-pub drain_next : {m m2 : List Bool} {o o2 : List ℕ} (rules : List Numbered) (n symbols s taken : ℕ) (lists : List (List ℕ)) (listed : List ℕ) → listed ≡ list_at lists s → s ≡ slice_index o taken → AreOccurrences rules n symbols lists → Grows m o m2 o2 → taken + 1 ≤ length o
+pub drain_next : {m m2 : List Bool} {o o2 : List ℕ} (rules : List RuleValue) (n symbols s taken : ℕ) (lists : List (List ℕ)) (listed : List ℕ) → listed ≡ list_at lists s → s ≡ slice_index o taken → AreOccurrences rules n symbols lists → Grows m o m2 o2 → taken + 1 ≤ length o
     → ((k : ℕ) → k < length listed → IsSettled (rule_at rules (slice_index listed k)) m2 o2 (taken + 1))
     → ((q : ℕ) → q < n → IsSettled (rule_at rules q) m o taken)
     → (q : ℕ) → q < n → IsSettled (rule_at rules q) m2 o2 (taken + 1)
 drain_next rules n symbols s taken lists listed e t a g d f old q h = taken_settled rules n symbols s taken q lists listed e t a h g d f (settled_next (rule_at rules q) taken (old q h))
 
-pub left_listed : (rules : List Numbered) (n symbols s : ℕ) (lists : List (List ℕ)) (listed : List ℕ) → listed ≡ list_at lists s → AreByLeft rules n symbols lists → (k : ℕ) → k < length listed → (slice_index listed k < n) × ((rule_at rules (slice_index listed k)).left ≡ s)
+pub left_listed : (rules : List RuleValue) (n symbols s : ℕ) (lists : List (List ℕ)) (listed : List ℕ) → listed ≡ list_at lists s → AreByLeft rules n symbols lists → (k : ℕ) → k < length listed → (slice_index listed k < n) × ((rule_at rules (slice_index listed k)).left ≡ s)
 left_listed rules n symbols s lists listed e a k h = a.within s (slice_index listed k) (subst (λ (x : List ℕ). Contains x (slice_index listed k)) e (Contains-get_or listed k 0 h))
 
-taken_spread : {m m2 : List Bool} {o o2 : List ℕ} (rules : List Numbered) (n symbols s taken q : ℕ) (lists : List (List ℕ)) (listed : List ℕ) → listed ≡ list_at lists s → s ≡ slice_index o taken → AreByLeft rules n symbols lists → q < n → Grows m o m2 o2 → taken + 1 ≤ length o
+taken_spread : {m m2 : List Bool} {o o2 : List ℕ} (rules : List RuleValue) (n symbols s taken q : ℕ) (lists : List (List ℕ)) (listed : List ℕ) → listed ≡ list_at lists s → s ≡ slice_index o taken → AreByLeft rules n symbols lists → q < n → Grows m o m2 o2 → taken + 1 ≤ length o
     → ((k : ℕ) → k < length listed → IsSpread (rule_at rules (slice_index listed k)) m2 o2 (taken + 1))
     → IsSpread (rule_at rules q) m o (taken + 1) ⊎ (slice_index o taken ≡ (rule_at rules q).left)
     → IsSpread (rule_at rules q) m2 o2 (taken + 1)
@@ -50,7 +50,7 @@ taken_spread {m2 = m2} {o2 = o2} rules n symbols s taken q lists listed e t a h 
     of_listed listed q (λ (u : ℕ). IsSpread (rule_at rules u) m2 o2 (taken + 1)) f (subst (λ (x : List ℕ). Contains x q) (sym e) (subst (λ (u : ℕ). Contains (list_at lists u) q) (sym (t ∙ i)) (a.each q h)))
 
 -- one symbol was taken, and the bodies of its rules were marked
-pub spread_more : {m m2 : List Bool} {o o2 : List ℕ} (rules : List Numbered) (n symbols s taken : ℕ) (lists : List (List ℕ)) (listed : List ℕ) → listed ≡ list_at lists s → s ≡ slice_index o taken → AreByLeft rules n symbols lists → Grows m o m2 o2 → taken + 1 ≤ length o
+pub spread_more : {m m2 : List Bool} {o o2 : List ℕ} (rules : List RuleValue) (n symbols s taken : ℕ) (lists : List (List ℕ)) (listed : List ℕ) → listed ≡ list_at lists s → s ≡ slice_index o taken → AreByLeft rules n symbols lists → Grows m o m2 o2 → taken + 1 ≤ length o
     → ((k : ℕ) → k < length listed → IsSpread (rule_at rules (slice_index listed k)) m2 o2 (taken + 1))
     → ((q : ℕ) → q < n → IsSpread (rule_at rules q) m o taken)
     → (q : ℕ) → q < n → IsSpread (rule_at rules q) m2 o2 (taken + 1)

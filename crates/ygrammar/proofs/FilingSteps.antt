@@ -4,7 +4,7 @@ use Rattle.std.proofs.Math.ListN.{set, length-set}
 use Rattle.std.specs.List.{Contains}
 use Rattle.std.proofs.lemmas.List.Elements.{Contains-append_left, Contains-push, Contains-push_cases}
 use Rattle.ygrammar.specs.Grammar.{Production}
-use Rattle.ygrammar.specs.declared.rules.Numbered.{Numbered}
+use Rattle.ygrammar.specs.Grammar.{RuleValue}
 use Rattle.ygrammar.specs.Marking.{IsFiled, IsFiledEach, AreOccurrences, AreByLeft, list_at, rule_at}
 
 same_or : (a b : ℕ) → (a ≡ b) ⊎ (a ≢ b)
@@ -79,7 +79,7 @@ filed_more body i r s ls0 ls ls2 e f g = record {
 pub filed_whole : (body : List ℕ) (i r : ℕ) (ls0 ls : List (List ℕ)) → length body ≤ i → FiledSoFar body i r ls0 ls → IsFiledEach body r ls0 ls
 filed_whole body i r ls0 ls h f = record { sized = f.sized; here = λ k l. f.here k (omega arith); kept = f.kept; only = f.only }
 
-pub occurrences_none : (rules : List Numbered) (n : ℕ) (ls : List (List ℕ)) → length ls ≡ n → ((s : ℕ) → list_at ls s ≡ []) → AreOccurrences rules 0 n ls
+pub occurrences_none : (rules : List RuleValue) (n : ℕ) (ls : List (List ℕ)) → length ls ≡ n → ((s : ℕ) → list_at ls s ≡ []) → AreOccurrences rules 0 n ls
 occurrences_none rules n ls e f = record {
   sized = e;
   within = λ s q c. absurd (none_in q (subst (λ (x : List ℕ). Contains x q) (f s) c));
@@ -94,33 +94,33 @@ below_by : (ls : List (List ℕ)) (r s q : ℕ) → ((s q : ℕ) → Contains (l
 below_by ls r s q f (inl c) = occurs_below q r (inl (f s q c))
 below_by ls r s q f (inr e) = occurs_below q r (inr e)
 
-occurs_each : (rules : List Numbered) (r n : ℕ) (body : List ℕ) (ls ls2 : List (List ℕ)) → body ≡ (rule_at rules r).body → AreOccurrences rules r n ls → IsFiledEach body r ls ls2 → (q k : ℕ) → (q < r) ⊎ (q ≡ r) → k < length (rule_at rules q).body → Contains (list_at ls2 (slice_index (rule_at rules q).body k)) q
+occurs_each : (rules : List RuleValue) (r n : ℕ) (body : List ℕ) (ls ls2 : List (List ℕ)) → body ≡ (rule_at rules r).body → AreOccurrences rules r n ls → IsFiledEach body r ls ls2 → (q k : ℕ) → (q < r) ⊎ (q ≡ r) → k < length (rule_at rules q).body → Contains (list_at ls2 (slice_index (rule_at rules q).body k)) q
 occurs_each rules r n body ls ls2 e o f q k (inl h) l = f.kept (slice_index (rule_at rules q).body k) q (o.each q k h l)
 occurs_each rules r n body ls ls2 e o f q k (inr h) l = subst (λ (u : ℕ). k < length (rule_at rules u).body → Contains (list_at ls2 (slice_index (rule_at rules u).body k)) u) (sym h) (λ j. subst (λ (x : List ℕ). k < length x → Contains (list_at ls2 (slice_index x k)) r) e (f.here k) j) l
 
-pub occurrences_more : (rules : List Numbered) (r n : ℕ) (body : List ℕ) (ls ls2 : List (List ℕ)) → body ≡ (rule_at rules r).body → AreOccurrences rules r n ls → IsFiledEach body r ls ls2 → AreOccurrences rules (r + 1) n ls2
+pub occurrences_more : (rules : List RuleValue) (r n : ℕ) (body : List ℕ) (ls ls2 : List (List ℕ)) → body ≡ (rule_at rules r).body → AreOccurrences rules r n ls → IsFiledEach body r ls ls2 → AreOccurrences rules (r + 1) n ls2
 occurrences_more rules r n body ls ls2 e o f = record {
   sized = f.sized ∙ o.sized;
   within = λ s q c. below_by ls r s q o.within (f.only s q c);
   each = λ q k h l. occurs_each rules r n body ls ls2 e o f q k (last_or q r h) l;
 }
 
-pub by_left_none : (rules : List Numbered) (n : ℕ) (ls : List (List ℕ)) → length ls ≡ n → ((s : ℕ) → list_at ls s ≡ []) → AreByLeft rules 0 n ls
+pub by_left_none : (rules : List RuleValue) (n : ℕ) (ls : List (List ℕ)) → length ls ≡ n → ((s : ℕ) → list_at ls s ≡ []) → AreByLeft rules 0 n ls
 by_left_none rules n ls e f = record {
   sized = e;
   within = λ s q c. absurd (none_in q (subst (λ (x : List ℕ). Contains x q) (f s) c));
   each = λ r h. absurd (omega arith);
 }
 
-left_within : (rules : List Numbered) (r v s q : ℕ) (ls : List (List ℕ)) → v ≡ (rule_at rules r).left → ((s q : ℕ) → Contains (list_at ls s) q → (q < r) × ((rule_at rules q).left ≡ s)) → Contains (list_at ls s) q ⊎ ((s ≡ v) × (q ≡ r)) → (q < r + 1) × ((rule_at rules q).left ≡ s)
+left_within : (rules : List RuleValue) (r v s q : ℕ) (ls : List (List ℕ)) → v ≡ (rule_at rules r).left → ((s q : ℕ) → Contains (list_at ls s) q → (q < r) × ((rule_at rules q).left ≡ s)) → Contains (list_at ls s) q ⊎ ((s ≡ v) × (q ≡ r)) → (q < r + 1) × ((rule_at rules q).left ≡ s)
 left_within rules r v s q ls e f (inl c) = let p = f s q c in (occurs_below q r (inl p.0), p.1)
 left_within rules r v s q ls e f (inr p) = (occurs_below q r (inr p.1), ap (λ (u : ℕ). (rule_at rules u).left) p.1 ∙ sym e ∙ sym p.0)
 
-left_each : (rules : List Numbered) (r n v : ℕ) (ls ls2 : List (List ℕ)) → v ≡ (rule_at rules r).left → AreByLeft rules r n ls → IsFiled v r ls ls2 → (q : ℕ) → (q < r) ⊎ (q ≡ r) → Contains (list_at ls2 (rule_at rules q).left) q
+left_each : (rules : List RuleValue) (r n v : ℕ) (ls ls2 : List (List ℕ)) → v ≡ (rule_at rules r).left → AreByLeft rules r n ls → IsFiled v r ls ls2 → (q : ℕ) → (q < r) ⊎ (q ≡ r) → Contains (list_at ls2 (rule_at rules q).left) q
 left_each rules r n v ls ls2 e o f q (inl h) = f.kept (rule_at rules q).left q (o.each q h)
 left_each rules r n v ls ls2 e o f q (inr h) = subst (λ (u : ℕ). Contains (list_at ls2 (rule_at rules u).left) u) (sym h) (subst (λ (u : ℕ). Contains (list_at ls2 u) r) e f.here)
 
-pub by_left_more : (rules : List Numbered) (r n v : ℕ) (ls ls2 : List (List ℕ)) → v ≡ (rule_at rules r).left → AreByLeft rules r n ls → IsFiled v r ls ls2 → AreByLeft rules (r + 1) n ls2
+pub by_left_more : (rules : List RuleValue) (r n v : ℕ) (ls ls2 : List (List ℕ)) → v ≡ (rule_at rules r).left → AreByLeft rules r n ls → IsFiled v r ls ls2 → AreByLeft rules (r + 1) n ls2
 by_left_more rules r n v ls ls2 e o f = record {
   sized = f.sized ∙ o.sized;
   within = λ s q c. left_within rules r v s q ls e o.within (f.only s q c);

@@ -26,3 +26,9 @@ pub mod MistakeSteps
 pub mod SymbolNames
 pub mod Wellness
 pub mod OneMeaning
+pub mod MarkingSteps
+pub mod FilingSteps
+pub mod ProductiveSteps
+pub mod DotSteps
+pub mod DrainSteps
+pub mod ReachableSteps

@@ -5,7 +5,7 @@ use Rattle.std.proofs.lemmas.List.Elements.{All-nil, All-cons, All-append, All-f
 use Rattle.std.proofs.lemmas.List.{length-map}
 use Rattle.ygrammar.specs.Grammar.{ContextFree, Production, left_of, body_of, IsToken}
 use Rattle.ygrammar.specs.Forms.{Replaces, Derives, done, step, Productive}
-use Rattle.ygrammar.specs.declared.rules.Numbered.{Numbered}
+use Rattle.ygrammar.specs.Grammar.{RuleValue}
 use Rattle.ygrammar.specs.Marking.{IsMarked, IsUnmarked, IsWaiting, IsSettled, left, stuck, ahead, MarksProductive, DotFits, AreDots, Grows, bare_rule, numbered_grammar, rule_at}
 use Rattle.ygrammar.proofs.MarkingSteps.{not_both, none_waits}
 
@@ -60,7 +60,7 @@ marked_or_left : (g : ContextFree) (m : List Bool) (s l : ℕ) → MarksProducti
 marked_or_left g m s l f p (inl k) = f s k
 marked_or_left g m s l f p (inr e) = subst (Productive g) (sym e) p
 
-pub left_marked : (tokens symbols : ℕ) (rules : List Numbered) (m m2 : List Bool) (r l : ℕ) → r < length rules → l ≡ (rule_at rules r).left → ((k : ℕ) → k < length (rule_at rules r).body → IsMarked m (slice_index (rule_at rules r).body k)) → ((t : ℕ) → IsMarked m2 t → IsMarked m t ⊎ (t ≡ l)) → MarksProductive (numbered_grammar tokens symbols rules) m → MarksProductive (numbered_grammar tokens symbols rules) m2
+pub left_marked : (tokens symbols : ℕ) (rules : List RuleValue) (m m2 : List Bool) (r l : ℕ) → r < length rules → l ≡ (rule_at rules r).left → ((k : ℕ) → k < length (rule_at rules r).body → IsMarked m (slice_index (rule_at rules r).body k)) → ((t : ℕ) → IsMarked m2 t → IsMarked m t ⊎ (t ≡ l)) → MarksProductive (numbered_grammar tokens symbols rules) m → MarksProductive (numbered_grammar tokens symbols rules) m2
 left_marked tokens symbols rules m m2 r l h e a only f s k =
     let g = numbered_grammar tokens symbols rules in
     marked_or_left g m s l f (subst (Productive g) (sym e) (body_productive g m r f (subst (λ (n : ℕ). r < n) (sym (length-map rules bare_rule)) h) a)) (only s k)
@@ -99,7 +99,7 @@ closed_by p m o n z (left h) e = h
 closed_by p m o n z (stuck k l u) e = absurd (not_both (get_or m (slice_index p.body k) false) (every_at (IsMarked m) p.body k l e) u)
 closed_by p m o n z (ahead k l w) e = absurd (none_waits o n (slice_index p.body k) z w)
 
-pub all_marked : (tokens symbols : ℕ) (rules : List Numbered) (m : List Bool) (o : List ℕ) (n : ℕ) → length o ≤ n → ((r : ℕ) → r < length rules → IsSettled (rule_at rules r) m o n) → ((t : ℕ) → t < tokens → IsMarked m t) → (s : ℕ) → Productive (numbered_grammar tokens symbols rules) s → IsMarked m s
+pub all_marked : (tokens symbols : ℕ) (rules : List RuleValue) (m : List Bool) (o : List ℕ) (n : ℕ) → length o ≤ n → ((r : ℕ) → r < length rules → IsSettled (rule_at rules r) m o n) → ((t : ℕ) → t < tokens → IsMarked m t) → (s : ℕ) → Productive (numbered_grammar tokens symbols rules) s → IsMarked m s
 all_marked tokens symbols rules m o n z c t s p =
     let g = numbered_grammar tokens symbols rules in
     let w : Every (IsMarked m) p.word = recursion_from_All (IsMarked m) p.word (All-weaker (IsToken g) (IsMarked m) t p.word p.tokens) in

@@ -27,3 +27,4 @@ pub mod Meaning
 pub mod Owned
 pub mod Faults
 pub mod Elaborated
+pub mod Marking

@@ -2,20 +2,18 @@
 use Rattle.std.specs.Prelude.{ℕ, ◌≡◌, ◌<◌, ◌≤◌, ◌+◌, ◌⊎◌, Bool, true, false, cond, List, [], ◌∷◌, length, map, slice_index, slice_index_or, EachIndex, Vec}
 use Rattle.std.specs.Global.{Global}
 use Rattle.std.specs.List.{Contains}
-use Rattle.ygrammar.specs.Grammar.{ContextFree, Production, blank, left_of, body_of, IsToken}
+use Rattle.ygrammar.specs.Grammar.{ContextFree, Production, RuleValue, blank, left_of, body_of, IsToken}
 use Rattle.ygrammar.specs.Forms.{Productive, IsReachable}
-use Rattle.ygrammar.specs.declared.rules.Numbered.{Numbered}
-use Rattle.ygrammar.specs.Numbered.{numbered_view}
 
-abbrev pub bare_rule : Numbered → Production
-bare_rule r = (numbered_view r).production
+abbrev pub bare_rule : RuleValue → Production
+bare_rule r = r.production
 
 -- the bare grammar of rules by number
-abbrev pub numbered_grammar : ℕ → ℕ → List Numbered → ContextFree
+abbrev pub numbered_grammar : ℕ → ℕ → List RuleValue → ContextFree
 numbered_grammar tokens symbols rules = record { tokens = tokens; symbols = symbols; rules = map bare_rule rules }
 
 -- rule r by number, bare
-abbrev pub rule_at : List Numbered → ℕ → Production
+abbrev pub rule_at : List RuleValue → ℕ → Production
 rule_at rules r = slice_index_or (map bare_rule rules) r blank
 
 -- each symbol of a rule is below the bound
@@ -24,7 +22,7 @@ pub record RuleIn (symbols : ℕ) (p : Production) : Type 0 where
   pub body : EachIndex p.body (λ k. slice_index p.body k < symbols)
 
 -- so of every rule
-abbrev pub AreIn : ℕ → List Numbered → Type 0
+abbrev pub AreIn : ℕ → List RuleValue → Type 0
 AreIn symbols rules = (r : ℕ) → r < length rules → RuleIn symbols (rule_at rules r)
 
 abbrev pub IsMarked : List Bool → ℕ → Type 0
@@ -65,7 +63,7 @@ pub record DotFits (body : List ℕ) (m : List Bool) (dot : ℕ) : Type 0 where
   pub before : (k : ℕ) → k < dot → IsMarked m (slice_index body k)
 
 -- so in every rule
-pub record AreDots (rules : List Numbered) (dots : List ℕ) (m : List Bool) : Type 0 where
+pub record AreDots (rules : List RuleValue) (dots : List ℕ) (m : List Bool) : Type 0 where
   pub sized : length dots ≡ length rules
   pub fits : (r : ℕ) → r < length rules → DotFits (rule_at rules r).body m (slice_index dots r)
 
@@ -114,13 +112,13 @@ pub record IsFiledEach (body : List ℕ) (r : ℕ) (lists lists2 : List (List �
   pub only : (t q : ℕ) → Contains (list_at lists2 t) q → Contains (list_at lists t) q ⊎ (q ≡ r)
 
 -- the rules, in front of the bound, in whose bodies each symbol stands
-pub record AreOccurrences (rules : List Numbered) (bound symbols : ℕ) (lists : List (List ℕ)) : Type 0 where
+pub record AreOccurrences (rules : List RuleValue) (bound symbols : ℕ) (lists : List (List ℕ)) : Type 0 where
   pub sized : length lists ≡ symbols
   pub within : (s q : ℕ) → Contains (list_at lists s) q → q < bound
   pub each : (r k : ℕ) → r < bound → k < length (rule_at rules r).body → Contains (list_at lists (slice_index (rule_at rules r).body k)) r
 
 -- the rules, in front of the bound, of which each symbol is the left side
-pub record AreByLeft (rules : List Numbered) (bound symbols : ℕ) (lists : List (List ℕ)) : Type 0 where
+pub record AreByLeft (rules : List RuleValue) (bound symbols : ℕ) (lists : List (List ℕ)) : Type 0 where
   pub sized : length lists ≡ symbols
   pub within : (s q : ℕ) → Contains (list_at lists s) q → (q < bound) × ((rule_at rules q).left ≡ s)
   pub each : (r : ℕ) → r < bound → Contains (list_at lists (rule_at rules r).left) r

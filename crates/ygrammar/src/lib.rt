@@ -15,6 +15,7 @@ mod literal;
 mod mistake;
 mod names;
 mod numbers;
+mod occurrences;
 mod outline;
 mod part;
 mod percent;

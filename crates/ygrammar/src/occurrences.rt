@@ -3,24 +3,23 @@
 ghost use Rattle.std.specs.Prelude.{◌≡◌, ◌<◌, [], ℕ, length, slice_index, EachIndex, IfOk, OnOk};
 ghost use Rattle.ygrammar.specs.Marking.{AreByLeft, AreIn, AreOccurrences, IsFiled, IsFiledEach, list_at, lists_of, rule_at};
 
-use crate::grammar::Sym;
-use crate::rules::Numbered;
+use crate::grammar::{Rule, Sym};
 use std::alloc::{AllocError, Global};
 
 /// The left side of a rule.
-pub fn left_at(rules: &[Numbered], r: usize) -> Sym
+pub fn left_at(rules: &[Rule], r: usize) -> Sym
     requires { r < length rules.now }
     ensures { result ≡ (rule_at rules.now r).left }
 {
-    rules[r].left
+    rules[r].left()
 }
 
 /// The body of a rule.
-pub fn body_at<'r>(rules: &'r [Numbered], r: usize) -> &'r [Sym]
+pub fn body_at<'r>(rules: &'r [Rule], r: usize) -> &'r [Sym]
     requires { r < length rules.now }
     ensures { result.now ≡ (rule_at rules.now r).body }
 {
-    rules[r].body.as_slice()
+    rules[r].body()
 }
 
 /// Empty lists.
@@ -60,7 +59,7 @@ fn file_body(lists: &mut Vec<Vec<usize>>, body: &[Sym], r: usize) -> Result<(), 
 /// For each symbol the rules in whose bodies it stands.
 pub fn occurrences(
     alloc: Global,
-    rules: &[Numbered],
+    rules: &[Rule],
     symbols: usize,
 ) -> Result<Vec<Vec<usize>>, AllocError>
     requires { AreIn symbols rules.now }
@@ -76,7 +75,7 @@ pub fn occurrences(
 /// For each symbol the rules of which it is the left side.
 pub fn rules_by_left(
     alloc: Global,
-    rules: &[Numbered],
+    rules: &[Rule],
     symbols: usize,
 ) -> Result<Vec<Vec<usize>>, AllocError>
     requires { AreIn symbols rules.now }

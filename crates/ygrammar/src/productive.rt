@@ -4,9 +4,8 @@ ghost use Rattle.std.specs.Prelude.{◌≡◌, ◌≤◌, ◌<◌, ◌↔◌, �
 ghost use Rattle.ygrammar.specs.Forms.{Productive};
 ghost use Rattle.ygrammar.specs.Marking.{AreDots, AreIn, DotFits, Grows, IsMarked, IsSettled, IsUnmarked, IsWorklist, MarksProductive, numbered_grammar, rule_at, unmarked};
 
-use crate::grammar::Sym;
+use crate::grammar::{Rule, Sym};
 use crate::occurrences::{body_at, left_at, occurrences};
-use crate::rules::Numbered;
 use crate::worklist::mark;
 use std::alloc::{AllocError, Global};
 
@@ -27,7 +26,7 @@ fn advance(body: &[Sym], marks: &[bool], dot: usize) -> usize
 
 /// Moves the dot of a rule, and marks its left side once its body is marked.
 fn visit(
-    rules: &[Numbered],
+    rules: &[Rule],
     r: usize,
     dots: &mut Vec<usize>,
     marks: &mut Vec<bool>,
@@ -52,7 +51,7 @@ fn visit(
 
 /// Visits the rules listed.
 fn visit_listed(
-    rules: &[Numbered],
+    rules: &[Rule],
     listed: &[usize],
     dots: &mut Vec<usize>,
     marks: &mut Vec<bool>,
@@ -74,7 +73,7 @@ fn visit_listed(
 
 /// Visits every rule once.
 fn visit_each(
-    rules: &[Numbered],
+    rules: &[Rule],
     dots: &mut Vec<usize>,
     marks: &mut Vec<bool>,
     order: &mut Vec<Sym>,
@@ -95,7 +94,7 @@ fn visit_each(
 /// Takes the symbols in their order, and visits the rules in whose bodies they stand.
 fn drain(
     alloc: Global,
-    rules: &[Numbered],
+    rules: &[Rule],
     dots: &mut Vec<usize>,
     marks: &mut Vec<bool>,
     order: &mut Vec<Sym>,
@@ -134,7 +133,7 @@ fn token_marks(alloc: Global, tokens: usize, symbols: usize) -> Result<Vec<bool>
 /// For each symbol whether it derives a list of tokens, in time linear in the length of the rules.
 pub fn productive(
     alloc: Global,
-    rules: &[Numbered],
+    rules: &[Rule],
     tokens: usize,
     symbols: usize,
 ) -> Result<Vec<bool>, AllocError>

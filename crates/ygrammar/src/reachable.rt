@@ -4,15 +4,14 @@ ghost use Rattle.std.specs.Prelude.{◌≡◌, ◌≤◌, ◌<◌, ◌↔◌, �
 ghost use Rattle.ygrammar.specs.Forms.{IsReachable};
 ghost use Rattle.ygrammar.specs.Marking.{AreIn, Grows, IsMarked, IsSpread, IsWorklist, MarksReachable, numbered_grammar, rule_at};
 
-use crate::grammar::Sym;
+use crate::grammar::{Rule, Sym};
 use crate::occurrences::{body_at, left_at, rules_by_left};
-use crate::rules::Numbered;
 use crate::worklist::mark;
 use std::alloc::{AllocError, Global};
 
 /// Marks the symbols of a rule's body.
 fn mark_body(
-    rules: &[Numbered],
+    rules: &[Rule],
     r: usize,
     marks: &mut Vec<bool>,
     order: &mut Vec<Sym>,
@@ -31,7 +30,7 @@ fn mark_body(
 
 /// Marks the symbols of the bodies of the rules listed.
 fn mark_bodies(
-    rules: &[Numbered],
+    rules: &[Rule],
     listed: &[usize],
     marks: &mut Vec<bool>,
     order: &mut Vec<Sym>,
@@ -51,7 +50,7 @@ fn mark_bodies(
 /// Takes the symbols in their order, and marks the bodies of their rules.
 fn spread(
     alloc: Global,
-    rules: &[Numbered],
+    rules: &[Rule],
     marks: &mut Vec<bool>,
     order: &mut Vec<Sym>,
 ) -> Result<(), AllocError>
@@ -75,7 +74,7 @@ fn spread(
 /// For each symbol whether it can be reached from the first rule, in time linear in the length of the rules.
 pub fn reachable(
     alloc: Global,
-    rules: &[Numbered],
+    rules: &[Rule],
     symbols: usize,
 ) -> Result<Vec<bool>, AllocError>
     requires some { 0 < length rules.now }
