@@ -32,3 +32,4 @@ pub mod ProductiveSteps
 pub mod DotSteps
 pub mod DrainSteps
 pub mod ReachableSteps
+pub mod ElaborationSteps
