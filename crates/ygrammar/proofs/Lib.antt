@@ -33,3 +33,4 @@ pub mod DotSteps
 pub mod DrainSteps
 pub mod ReachableSteps
 pub mod ElaborationSteps
+pub mod MeaningSteps

@@ -1,16 +1,20 @@
 -- What elaboration gives: the grammar that a tree means, or its first mistake.
-use Rattle.std.specs.Prelude.{ℕ, ◌≡◌, length, Result, Ok, Err}
+use Rattle.std.specs.Prelude.{ℕ, ◌≡◌, ◌<◌, ◌≤◌, List, length, map, Result, Ok, Err}
 use Rattle.ygrammar.specs.declared.elaboration.Named.{Named}
-use Rattle.ygrammar.specs.declared.mistake.Mistake.TheVariants.{TokenLeft, Undefined, TwicePrecedence}
+use Rattle.ygrammar.specs.declared.mistake.Mistake.TheVariants.{TokenLeft, Undefined, TwicePrecedence, Unproductive}
 use Rattle.ygrammar.specs.declared.mistake.Refused.{Refused}
 use Rattle.ygrammar.specs.declared.mistake.Refused.TheVariants as refused
-use Rattle.ygrammar.specs.Elaboration.{symbols, token_precedences, tokens}
-use Rattle.ygrammar.specs.Grammar.{GrammarValue}
+use Rattle.ygrammar.specs.Elaboration.{bare_of, rules, symbols, token_precedences, tokens}
+use Rattle.ygrammar.specs.Forms.{Productive}
+use Rattle.ygrammar.specs.Grammar.{ContextFree, GrammarValue, RuleValue}
+use Rattle.ygrammar.specs.Marking.{AreIn}
 use Rattle.ygrammar.specs.Meaning.{IsMeaning}
-use Rattle.ygrammar.specs.Mistakes.{Holds, IsFirst, order}
+use Rattle.ygrammar.specs.Mistakes.{HasNone, Holds, IsFirst, order}
 use Rattle.ygrammar.specs.NameTexts.{texts}
+use Rattle.ygrammar.specs.Numbered.{rule_numbers}
 use Rattle.ygrammar.specs.Owned.{IsOwnTable}
 use Rattle.ygrammar.specs.Tree.{Tree}
+use Rattle.ygrammar.specs.WellFormed.{WellFormed}
 
 -- the first mistake of the tree, or want of memory
 abbrev pub IsFirstRefused : Tree → Refused → Type 0
@@ -35,3 +39,17 @@ GivesNamed t (Err e) = IsFirstRefused t e
 abbrev pub Elaborates : Tree → Result GrammarValue Refused → Type 0
 Elaborates t (Ok g) = IsMeaning t g
 Elaborates t (Err e) = IsFirstRefused t e
+
+-- every nonterminal of the grammar derives a list of tokens, or one that does not is the mistake
+abbrev pub Fruitful : {A : Type 0} → ContextFree → Result A Refused → Type 0
+Fruitful g (Ok v) = (s : ℕ) → g.tokens ≤ s → s < g.symbols → Productive g s
+Fruitful g (Err (refused.Mistake what at)) = (what ≡ Unproductive) × ((s : ℕ) × (g.tokens ≤ s) × (s < g.symbols) × (Productive g s → ⊥))
+Fruitful g (Err refused.Memory) = Unit {0}
+
+-- The rules are numbered, and no mistake stands in the tree.
+pub record IsReady (t : Tree) (n : Named) (vs : List RuleValue) : Type 0 where
+  pub named : AreNamed t n
+  pub numbered : vs ≡ map (rule_numbers (symbols t) (token_precedences t)) (rules t)
+  pub sound : HasNone t order
+  pub in_range : AreIn (length (symbols t)) vs
+  pub well_formed : WellFormed (bare_of t)

@@ -28,3 +28,4 @@ pub mod Owned
 pub mod Faults
 pub mod Elaborated
 pub mod Marking
+pub mod GrammarOf

@@ -1,20 +1,30 @@
 //! What a syntax tree means: the grammar, or the first mistake.
 
-ghost use Rattle.std.specs.Prelude.{◌≡◌, ℕ, List};
-ghost use Rattle.ygrammar.specs.Elaborated.{Elaborates, GivesNamed};
+ghost use Rattle.std.specs.Prelude.{◌≤◌, ℕ, IfOk, List};
+ghost use Rattle.ygrammar.specs.Cuttings.{SpellsSyntax};
+ghost use Rattle.ygrammar.specs.Elaborated.{Elaborates, Fruitful, GivesNamed, IsReady};
+ghost use Rattle.ygrammar.specs.Marking.{AreIn, numbered_grammar};
+ghost use Rattle.ygrammar.specs.Meaning.{IsMeaning};
+ghost use Rattle.ygrammar.specs.Tree.{IsTree, Tree as TreeOf, yield};
 ghost use Rattle.ygrammar.specs.Outline.{Outlines};
 ghost use Rattle.ygrammar.specs.TreeViews.{tree_view};
 
 use crate::given::{OwnTable, own_table, precedences};
-use crate::mistake::Refused;
-use crate::names::Names;
+use crate::grammar::{Grammar, Rule};
+use crate::mistake::{Mistake, Refused};
+use crate::names::{Names, number_in};
+use crate::numbers::numbers;
 use crate::outline::Outline;
 use crate::precedence::Precedence;
-use crate::refusals::{refuse_token_left, refuse_undefined};
-use crate::rules::note_nonterminals;
+use crate::productive::productive;
+use crate::reachable::reachable;
+use crate::refusals::{
+    refuse_limit, refuse_prec, refuse_start, refuse_token_left, refuse_undefined,
+};
+use crate::rules::{note_nonterminals, number_rules};
 use crate::tokens::tokens;
-use crate::tree::Tree;
-use std::alloc::Global;
+use crate::tree::{NameAt, Tree};
+use std::alloc::{AllocError, Global};
 
 /// The symbols by number, the tokens first, and what is given to the tokens.
 #[derive(Drop)]
@@ -45,4 +55,73 @@ fn name_symbols(alloc: Global, tree: &Tree, outline: &Outline) -> Result<Named, 
         given,
         own,
     })
+}
+
+/// The place of the first left side that isn't marked.
+fn unmarked_left(lefts: &[NameAt], names: &Names, marks: &[bool]) -> usize {
+    for left in lefts {
+        let s = number_in(names, left.name);
+        if s < marks.len() && !marks[s] {
+            return left.at;
+        }
+    }
+    0
+}
+
+/// A nonterminal that derives no list of tokens, where there are so many tokens and symbols.
+fn refuse_unproductive(
+    alloc: Global,
+    outline: &Outline,
+    names: &Names,
+    rules: &[Rule],
+    tokens: usize,
+    symbols: usize,
+) -> Result<(), Refused>
+    requires within { tokens ≤ symbols }
+    requires in_range { AreIn symbols rules.now }
+    ensures { Fruitful (numbered_grammar tokens symbols rules.now) result }
+{
+    let marks = productive(alloc, rules, tokens, symbols)?;
+    for s in tokens..symbols {
+        if !marks[s] {
+            return Err(Refused::Mistake {
+                what: Mistake::Unproductive,
+                at: unmarked_left(&outline.lefts, names, &marks),
+            });
+        }
+    }
+    Ok(())
+}
+
+/// The grammar of symbols and rules in which no mistake stands.
+fn grammar_of(alloc: Global, named: Named, rules: Vec<Rule>) -> Result<Grammar, AllocError>
+    requires { (t : TreeOf) × IsReady t named rules.items }
+    ensures { IfOk result (λ g. (t : TreeOf) → IsReady t named rules.items → IsMeaning t g) }
+{
+    let Named {
+        names,
+        tokens,
+        given,
+        own,
+    } = named;
+    let numbers = numbers(alloc, &own.numbers, &own.marks)?;
+    let reachable = reachable(alloc, &rules, names.len())?;
+    Ok(Grammar::of(names, tokens, numbers, given, rules, reachable))
+}
+
+/// What a tree means: the grammar, or the first mistake.
+pub fn elaborate(alloc: Global, tree: &Tree) -> Result<Grammar, Refused>
+    requires spelled { (bytes : List ℕ) × SpellsSyntax bytes (yield (tree_view tree.now)) }
+    requires shaped { IsTree (tree_view tree.now) }
+    ensures { Elaborates (tree_view tree.now) result }
+{
+    let outline = Outline::new(alloc, tree)?;
+    let named = name_symbols(alloc, tree, &outline)?;
+    refuse_start(&outline, &named.names, named.tokens)?;
+    let rules = number_rules(alloc, &named.names, &named.given, &outline, &tree.clauses)?;
+    let symbols = named.names.len();
+    refuse_unproductive(alloc, &outline, &named.names, &rules, named.tokens, symbols)?;
+    refuse_prec(&outline, &named.names, named.tokens)?;
+    refuse_limit(&named.names, &rules)?;
+    Ok(grammar_of(alloc, named, rules)?)
 }

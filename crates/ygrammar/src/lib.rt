@@ -22,6 +22,7 @@ mod percent;
 pub mod precedence;
 mod productive;
 mod reachable;
+mod reader;
 mod reading;
 mod recogniser;
 mod refusals;
@@ -35,6 +36,7 @@ pub use fault::{GrammarFault, SyntaxFault};
 pub use grammar::{Grammar, Rule, Sym};
 pub use kind::{Kind, Sign};
 pub use part::Lexeme;
+pub use reader::read_grammar;
 pub use precedence::{Associativity, Precedence};
 
 #[cfg(test)]

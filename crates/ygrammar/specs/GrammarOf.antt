@@ -1,0 +1,57 @@
+-- The grammar of a file, or its fault (POSIX yacc, "Input Files" and "Extended Description").
+use Rattle.std.specs.Prelude.{ℕ, ◌≡◌, ◌<◌, ◌≤◌, List, length, Result, Ok, Err}
+use Rattle.ygrammar.specs.declared.fault.GrammarFault.{GrammarFault}
+use Rattle.ygrammar.specs.declared.fault.GrammarFault.TheVariants as faults
+use Rattle.ygrammar.specs.declared.mistake.Mistake.{Mistake}
+use Rattle.ygrammar.specs.declared.mistake.Mistake.TheVariants.{TokenLeft, Undefined, TwicePrecedence, BadNumber, BadStart, Unproductive, BadPrec, Limit}
+use Rattle.ygrammar.specs.Cuttings.{Refusal, Outcome, SpellsSyntax, refusal, unfinished, bad_literal, foreign, syntax}
+use Rattle.ygrammar.specs.Grammar.{GrammarValue}
+use Rattle.ygrammar.specs.Meaning.{IsMeaning}
+use Rattle.ygrammar.specs.Mistakes.{IsFirst, order}
+use Rattle.ygrammar.specs.Tree.{IsTree, Tree, yield}
+
+-- the file is not too long, and spells the syntax of this tree
+pub record HasTree (source : List ℕ) (t : Tree) : Type 0 where
+  pub short : length source ≤ 1048576
+  pub spelled : SpellsSyntax source (yield t)
+  pub shaped : IsTree t
+
+-- the grammar of the file is this
+abbrev pub IsGrammarOf : List ℕ → GrammarValue → Type 0
+IsGrammarOf source g = (t : Tree) × HasTree source t × IsMeaning t g
+
+-- the file has a syntax, and this is the first mistake in what it means
+abbrev pub IsMistaken : List ℕ → Mistake → Type 0
+IsMistaken source m = (t : Tree) × HasTree source t × IsFirst t order m
+
+-- the file is not too long, and has no syntax for this reason
+abbrev pub IsRefused : List ℕ → Refusal → Type 0
+IsRefused source r = (length source ≤ 1048576) × Outcome source (Err r)
+
+-- the fault is one of the file; only want of memory is no matter of the file
+abbrev pub IsFaultOf : List ℕ → GrammarFault → Type 0
+IsFaultOf source faults.TooLong = 1048576 < length source
+IsFaultOf source (faults.Unfinished line) = IsRefused source (refusal unfinished line)
+IsFaultOf source (faults.BadLiteral line) = IsRefused source (refusal bad_literal line)
+IsFaultOf source (faults.Foreign line) = IsRefused source (refusal foreign line)
+IsFaultOf source (faults.Syntax line) = IsRefused source (refusal syntax line)
+IsFaultOf source (faults.TokenLeft line) = IsMistaken source TokenLeft
+IsFaultOf source (faults.Undefined line) = IsMistaken source Undefined
+IsFaultOf source (faults.TwicePrecedence line) = IsMistaken source TwicePrecedence
+IsFaultOf source (faults.BadNumber line) = IsMistaken source BadNumber
+IsFaultOf source (faults.BadStart line) = IsMistaken source BadStart
+IsFaultOf source (faults.Unproductive line) = IsMistaken source Unproductive
+IsFaultOf source (faults.BadPrec line) = IsMistaken source BadPrec
+IsFaultOf source (faults.Limit line) = IsMistaken source Limit
+IsFaultOf source faults.Memory = Unit {0}
+
+-- the grammar of the file, or a fault of it, or want of memory
+abbrev pub GivesGrammar : List ℕ → Result GrammarValue GrammarFault → Type 0
+GivesGrammar source (Ok g) = IsGrammarOf source g
+GivesGrammar source (Err f) = IsFaultOf source f
+
+-- the answer is this grammar, or want of memory
+abbrev pub AnswersGrammar : Result GrammarValue GrammarFault → GrammarValue → Type 0
+AnswersGrammar (Ok h) g = h ≡ g
+AnswersGrammar (Err faults.Memory) g = Unit {0}
+AnswersGrammar (Err _) g = ⊥

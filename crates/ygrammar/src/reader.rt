@@ -1,0 +1,32 @@
+//! The reader of grammar files.
+
+ghost use Rattle.std.specs.Prelude.{◌<◌, ◌↔◌, IfErr, IfOk, IsErrOf, length};
+ghost use Rattle.ygrammar.specs.Grammar.{GrammarValue};
+ghost use Rattle.ygrammar.specs.GrammarOf.{AnswersGrammar, GivesGrammar, IsFaultOf, IsGrammarOf};
+
+use crate::building::read_tree;
+use crate::elaboration::elaborate;
+use crate::fault::GrammarFault;
+use crate::grammar::Grammar;
+use std::alloc::Global;
+
+/// The grammar of a grammar file, or the file's first fault.
+///
+/// A file above the limit is `TooLong` before all else. Then the first place decides at which the file has no syntax. A file with a
+/// syntax has the first of the faults from `TokenLeft` to `Limit` that holds. Want of memory may come in place of any answer but `TooLong`.
+pub fn read_grammar(alloc: Global, source: &[u8]) -> Result<Grammar, GrammarFault>
+    // What is read is the grammar of the file.
+    ensures found { IfOk result (λ g. IsGrammarOf source.now g) }
+    // A file that has a grammar is read.
+    ensures only { (g : GrammarValue) → IsGrammarOf source.now g → AnswersGrammar result g }
+    // A fault is one of the file.
+    ensures fault { IfErr result (λ f. IsFaultOf source.now f) }
+    // There is no other answer.
+    ensures exact { GivesGrammar source.now result }
+{
+    let tree = read_tree(alloc, source)?;
+    match elaborate(alloc, &tree) {
+        Ok(grammar) => Ok(grammar),
+        Err(refused) => Err(refused.in_file(source)),
+    }
+}
