@@ -57,7 +57,7 @@ fn digit(b: u8) -> u32
 }
 
 /// The number that digits write, where it may be given to a token.
-fn fit_number(digits: &[u8]) -> Option<u32>
+pub fn fit_number(digits: &[u8]) -> Option<u32>
     ensures { MatchOption result (IsFit (digits_value 10 digits.now) → ⊥) (λ v. (v ≡ digits_value 10 digits.now) × IsFit v) }
 {
     let mut value: u32 = 0;
@@ -105,7 +105,7 @@ fn given_numbers(
 }
 
 /// Gives a number to a token that has none.
-fn fill(table: &mut Vec<Option<u32>>, token: usize, number: u32)
+pub fn fill(table: &mut Vec<Option<u32>>, token: usize, number: u32)
     requires { number < 32768 }
     ensures exact { table.new.items ≡ filled table.old.items token number }
     ensures small { AllSmall table.old.items → AllSmall table.new.items }
@@ -137,7 +137,7 @@ fn fill_literals(table: &mut Vec<Option<u32>>, tokens: &Names, mentions: &[Menti
 }
 
 /// The numbers that the tokens have by themselves: those given, that of the end, that of `error`, and the values of literals.
-fn own_numbers(
+pub fn own_numbers(
     tokens: &Names,
     given: Vec<Option<u32>>,
     declared: &[Mention],

@@ -4,6 +4,7 @@
 mod building;
 mod bytes;
 mod checks;
+mod clashes;
 mod cutting;
 mod elaboration;
 mod fault;
