@@ -56,14 +56,6 @@ pub record FiledSoFar (body : List ℕ) (i r : ℕ) (lists lists2 : List (List �
   pub kept : (t q : ℕ) → Contains (list_at lists t) q → Contains (list_at lists2 t) q
   pub only : (t q : ℕ) → Contains (list_at lists2 t) q → Contains (list_at lists t) q ⊎ (q ≡ r)
 
-pub filed_none : (body : List ℕ) (r : ℕ) (ls : List (List ℕ)) → FiledSoFar body 0 r ls ls
-filed_none body r ls = record {
-  sized = refl;
-  here = λ k h. absurd (omega arith);
-  kept = λ t q k. k;
-  only = λ t q k. inl k;
-}
-
 filed_here : (body : List ℕ) (i r s : ℕ) (ls0 ls ls2 : List (List ℕ)) → s ≡ slice_index body i → FiledSoFar body i r ls0 ls → IsFiled s r ls ls2 → (k : ℕ) → (k < i) ⊎ (k ≡ i) → Contains (list_at ls2 (slice_index body k)) r
 filed_here body i r s ls0 ls ls2 e f g k (inl h) = g.kept (slice_index body k) r (f.here k h)
 filed_here body i r s ls0 ls ls2 e f g k (inr h) = here_by body r i s k ls2 e g.here h
@@ -75,9 +67,6 @@ filed_more body i r s ls0 ls ls2 e f g = record {
   kept = λ t q k. g.kept t q (f.kept t q k);
   only = λ t q k. each_only ls ls0 r t q s (f.only t q) (g.only t q k);
 }
-
-pub filed_whole : (body : List ℕ) (i r : ℕ) (ls0 ls : List (List ℕ)) → length body ≤ i → FiledSoFar body i r ls0 ls → IsFiledEach body r ls0 ls
-filed_whole body i r ls0 ls h f = record { sized = f.sized; here = λ k l. f.here k (omega arith); kept = f.kept; only = f.only }
 
 pub occurrences_none : (rules : List Numbered) (n : ℕ) (ls : List (List ℕ)) → length ls ≡ n → ((s : ℕ) → list_at ls s ≡ []) → AreOccurrences rules 0 n ls
 occurrences_none rules n ls e f = record {
