@@ -1,9 +1,7 @@
 -- The dots of the rules, and what is settled once one has moved.
-use Rattle.std.proofs.Common.{ℕ, Bool, ◌≡◌, ◌≢◌, ◌<◌, ◌≤◌, ◌+◌, ◌⊎◌, List, [], ◌∷◌, length, map, get_or, slice_index, refl, sym, ◌∙◌, ap, subst, inl, inr, arith, EachIndex, get_or-set_other, get_or-set_same}
-use Rattle.std.proofs.Math.ListN.{set, length-set}
+use Rattle.std.proofs.Common.{ℕ, Bool, ◌≡◌, ◌≢◌, ◌<◌, List, length, slice_index, subst, arith}
 use Rattle.ygrammar.specs.Grammar.{Production}
-use Rattle.ygrammar.specs.declared.rules.Numbered.{Numbered}
-use Rattle.ygrammar.specs.Marking.{IsMarked, IsUnmarked, IsSettled, left, stuck, ahead, DotFits, AreDots, AreIn, Grows, rule_at}
+use Rattle.ygrammar.specs.Marking.{IsMarked, IsUnmarked, IsSettled, stuck, DotFits}
 
 pub stuck_at : (p : Production) (m : List Bool) (o : List ℕ) (taken dot : ℕ) (body : List ℕ) → body ≡ p.body → DotFits body m dot → dot ≢ length body → (dot < length body → IsUnmarked m (slice_index body dot)) → IsSettled p m o taken
 stuck_at p m o taken dot body e f n u =

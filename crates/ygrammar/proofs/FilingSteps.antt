@@ -1,9 +1,8 @@
 -- Lists of rules, one for each symbol.
-use Rattle.std.proofs.Common.{ℕ, zero, suc, ◌≡◌, ◌≢◌, ◌<◌, ◌≤◌, ◌+◌, ◌⊎◌, List, [], ◌∷◌, ◌++◌, length, map, get_or, slice_index, refl, sym, ◌∙◌, ap, subst, inl, inr, arith, rules, get_or-set_other, get_or-set_same, length-append, EachIndex}
+use Rattle.std.proofs.Common.{ℕ, zero, suc, ◌≡◌, ◌≢◌, ◌<◌, ◌+◌, ◌⊎◌, List, [], ◌∷◌, ◌++◌, length, get_or, slice_index, refl, sym, ◌∙◌, ap, subst, inl, inr, arith, rules, get_or-set_other, get_or-set_same}
 use Rattle.std.proofs.Math.ListN.{set, length-set}
 use Rattle.std.specs.List.{Contains}
 use Rattle.std.proofs.lemmas.List.Elements.{Contains-append_left, Contains-push, Contains-push_cases}
-use Rattle.ygrammar.specs.Grammar.{Production}
 use Rattle.ygrammar.specs.declared.rules.Numbered.{Numbered}
 use Rattle.ygrammar.specs.Marking.{IsFiled, IsFiledEach, AreOccurrences, AreByLeft, list_at, rule_at}
 

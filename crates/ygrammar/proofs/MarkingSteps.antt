@@ -1,10 +1,10 @@
 -- Steps of the worklists that mark symbols.
-use Rattle.std.proofs.Common.{ℕ, zero, suc, Bool, true, false, ◌≡◌, ◌≢◌, ◌<◌, ◌≤◌, ◌+◌, ◌⊎◌, List, [], ◌∷◌, ◌++◌, length, map, get_or, slice_index, refl, sym, ◌∙◌, ap, subst, inl, inr, arith, rules, get_or-set_other, get_or-set_same, length-append, EachIndex}
+use Rattle.std.proofs.Common.{ℕ, zero, suc, Bool, true, false, ◌≡◌, ◌≢◌, ◌<◌, ◌≤◌, ◌+◌, ◌⊎◌, List, [], ◌∷◌, ◌++◌, length, get_or, slice_index, refl, sym, ◌∙◌, ap, subst, inl, inr, arith, rules, get_or-set_other, get_or-set_same, length-append}
 use Rattle.std.proofs.Math.ListN.{set}
 use Rattle.std.proofs.Math.ListN.{get_or-append, length-set}
 use Rattle.std.proofs.Math.Seq.{get_or-append_seam}
 use Rattle.ygrammar.specs.Grammar.{Production}
-use Rattle.ygrammar.specs.Marking.{IsMarked, IsUnmarked, unmarked, IsWaiting, IsWorklist, Grows, DotFits, IsSettled, left, stuck, ahead, IsSpread, unseen, spread}
+use Rattle.ygrammar.specs.Marking.{IsMarked, IsUnmarked, unmarked, IsWaiting, IsWorklist, Grows, IsSettled, left, stuck, ahead, IsSpread, unseen, spread}
 
 same_or : (a b : ℕ) → (a ≡ b) ⊎ (a ≢ b)
 same_or a b = grind arith

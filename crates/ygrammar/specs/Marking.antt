@@ -2,7 +2,7 @@
 use Rattle.std.specs.Prelude.{ℕ, ◌≡◌, ◌<◌, ◌≤◌, ◌+◌, ◌⊎◌, Bool, true, false, cond, List, [], ◌∷◌, length, map, slice_index, slice_index_or, EachIndex, Vec}
 use Rattle.std.specs.Global.{Global}
 use Rattle.std.specs.List.{Contains}
-use Rattle.ygrammar.specs.Grammar.{ContextFree, Production, blank, left_of, body_of, IsToken}
+use Rattle.ygrammar.specs.Grammar.{ContextFree, Production, blank}
 use Rattle.ygrammar.specs.Forms.{Productive, IsReachable}
 use Rattle.ygrammar.specs.declared.rules.Numbered.{Numbered}
 use Rattle.ygrammar.specs.Numbered.{numbered_view}

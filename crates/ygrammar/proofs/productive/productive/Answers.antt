@@ -1,4 +1,4 @@
-use Rattle.std.proofs.Common.{ℕ, ◌≡◌, ◌<◌, ◌≤◌, ◌∙◌, length, sym, subst, arith}
+use Rattle.std.proofs.Common.{length, arith}
 use Rattle.ygrammar.specs.Marking.{numbered_grammar}
 use Rattle.ygrammar.proofs.DrainSteps.{worklist_none}
 use Rattle.ygrammar.proofs.ProductiveSteps.{all_marked, token_productive}

@@ -1,4 +1,4 @@
-use Rattle.std.proofs.Common.{ℕ, ◌≡◌, ◌<◌, false, get_or, length, sym, subst, ap, ◌∙◌, arith, rules}
+use Rattle.std.proofs.Common.{ℕ, false, get_or, length, subst, arith}
 use Rattle.ygrammar.specs.Marking.{IsMarked, IsUnmarked, MarksReachable, numbered_grammar, rule_at}
 use Rattle.ygrammar.proofs.MarkingSteps.{not_both}
 use Rattle.ygrammar.proofs.DrainSteps.{worklist_none}
