@@ -1,6 +1,5 @@
 -- The dots of the rules, and what is settled once one has moved.
-use Rattle.std.proofs.Common.{ℕ, Bool, ◌≡◌, ◌≢◌, ◌<◌, ◌≤◌, ◌+◌, ◌⊎◌, List, [], ◌∷◌, length, map, get_or, slice_index, refl, sym, ◌∙◌, ap, subst, inl, inr, arith, EachIndex, get_or-set_other, get_or-set_same}
-use Rattle.std.proofs.Math.ListN.{set, length-set}
+use Rattle.std.proofs.Common.{ℕ, Bool, ◌≡◌, ◌≢◌, ◌<◌, List, length, slice_index, subst, arith}
 use Rattle.ygrammar.specs.Grammar.{Production}
 use Rattle.ygrammar.specs.Grammar.{RuleValue}
 use Rattle.ygrammar.specs.Marking.{IsMarked, IsUnmarked, IsSettled, left, stuck, ahead, DotFits, AreDots, AreIn, Grows, rule_at}

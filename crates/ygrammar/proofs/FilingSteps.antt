@@ -1,5 +1,5 @@
 -- Lists of rules, one for each symbol.
-use Rattle.std.proofs.Common.{ℕ, zero, suc, ◌≡◌, ◌≢◌, ◌<◌, ◌≤◌, ◌+◌, ◌⊎◌, List, [], ◌∷◌, ◌++◌, length, map, get_or, slice_index, refl, sym, ◌∙◌, ap, subst, inl, inr, arith, rules, get_or-set_other, get_or-set_same, length-append, EachIndex}
+use Rattle.std.proofs.Common.{ℕ, zero, suc, ◌≡◌, ◌≢◌, ◌<◌, ◌+◌, ◌⊎◌, List, [], ◌∷◌, ◌++◌, length, get_or, slice_index, refl, sym, ◌∙◌, ap, subst, inl, inr, arith, rules, get_or-set_other, get_or-set_same}
 use Rattle.std.proofs.Math.ListN.{set, length-set}
 use Rattle.std.specs.List.{Contains}
 use Rattle.std.proofs.lemmas.List.Elements.{Contains-append_left, Contains-push, Contains-push_cases}
@@ -55,14 +55,6 @@ pub record FiledSoFar (body : List ℕ) (i r : ℕ) (lists lists2 : List (List �
   pub here : (k : ℕ) → k < i → Contains (list_at lists2 (slice_index body k)) r
   pub kept : (t q : ℕ) → Contains (list_at lists t) q → Contains (list_at lists2 t) q
   pub only : (t q : ℕ) → Contains (list_at lists2 t) q → Contains (list_at lists t) q ⊎ (q ≡ r)
-
-pub filed_none : (body : List ℕ) (r : ℕ) (ls : List (List ℕ)) → FiledSoFar body 0 r ls ls
-filed_none body r ls = record {
-  sized = refl;
-  here = λ k h. absurd (omega arith);
-  kept = λ t q k. k;
-  only = λ t q k. inl k;
-}
 
 filed_here : (body : List ℕ) (i r s : ℕ) (ls0 ls ls2 : List (List ℕ)) → s ≡ slice_index body i → FiledSoFar body i r ls0 ls → IsFiled s r ls ls2 → (k : ℕ) → (k < i) ⊎ (k ≡ i) → Contains (list_at ls2 (slice_index body k)) r
 filed_here body i r s ls0 ls ls2 e f g k (inl h) = g.kept (slice_index body k) r (f.here k h)

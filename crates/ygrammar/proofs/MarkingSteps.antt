@@ -1,10 +1,10 @@
 -- Steps of the worklists that mark symbols.
-use Rattle.std.proofs.Common.{ℕ, zero, suc, Bool, true, false, ◌≡◌, ◌≢◌, ◌<◌, ◌≤◌, ◌+◌, ◌⊎◌, List, [], ◌∷◌, ◌++◌, length, map, get_or, slice_index, refl, sym, ◌∙◌, ap, subst, inl, inr, arith, rules, get_or-set_other, get_or-set_same, length-append, EachIndex}
+use Rattle.std.proofs.Common.{ℕ, zero, suc, Bool, true, false, ◌≡◌, ◌≢◌, ◌<◌, ◌≤◌, ◌+◌, ◌⊎◌, List, [], ◌∷◌, ◌++◌, length, get_or, slice_index, refl, sym, ◌∙◌, ap, subst, inl, inr, arith, rules, get_or-set_other, get_or-set_same, length-append}
 use Rattle.std.proofs.Math.ListN.{set}
 use Rattle.std.proofs.Math.ListN.{get_or-append, length-set}
 use Rattle.std.proofs.Math.Seq.{get_or-append_seam}
 use Rattle.ygrammar.specs.Grammar.{Production}
-use Rattle.ygrammar.specs.Marking.{IsMarked, IsUnmarked, unmarked, IsWaiting, IsWorklist, Grows, DotFits, IsSettled, left, stuck, ahead, IsSpread, unseen, spread}
+use Rattle.ygrammar.specs.Marking.{IsMarked, IsUnmarked, unmarked, IsWaiting, IsWorklist, Grows, IsSettled, left, stuck, ahead, IsSpread, unseen, spread}
 
 same_or : (a b : ℕ) → (a ≡ b) ⊎ (a ≢ b)
 same_or a b = grind arith
@@ -60,16 +60,6 @@ in_order m o s k l w (inr e) = subst (λ (u : ℕ). IsMarked (set m s true) u) (
 
 last_or : (k n : ℕ) → k < n + 1 → (k < n) ⊎ (k ≡ n)
 last_or k n h = grind arith
-
-pub grows_same : (m : List Bool) (o : List ℕ) → Grows m o m o
-grows_same m o = record {
-  sized = refl;
-  longer = omega arith;
-  kept = λ s k. k;
-  ahead = λ done s w. w;
-  waits = λ done s d k. inl k;
-  list = λ w. w;
-}
 
 pub grows_new : (m : List Bool) (o : List ℕ) (s : ℕ) → s < length m → IsUnmarked m s → Grows m o (set m s true) (o ++ s ∷ [])
 grows_new m o s l h = record {
@@ -161,7 +151,3 @@ pub spread_next : {m : List Bool} {o : List ℕ} (p : Production) (done : ℕ) �
 spread_next p done (unseen n) = inl (unseen n)
 spread_next {o = o} p done (ahead w) = spread_taken p done (taken o done p.left w)
 spread_next p done (spread f) = inl (spread f)
-
--- the dot stays where the body before it is marked
-pub dot_grows : {m m2 : List Bool} {o o2 : List ℕ} (body : List ℕ) (dot : ℕ) → Grows m o m2 o2 → DotFits body m dot → DotFits body m2 dot
-dot_grows body dot g f = record { within = f.within; before = λ k l. g.kept (slice_index body k) (f.before k l) }

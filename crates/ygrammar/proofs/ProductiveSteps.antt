@@ -1,7 +1,7 @@
 -- Marks that a worklist leaves, and the symbols that derive a list of tokens.
-use Rattle.std.proofs.Common.{ℕ, zero, suc, Bool, true, false, ◌≡◌, ◌≢◌, ◌<◌, ◌≤◌, ◌+◌, ◌⊎◌, List, [], ◌∷◌, ◌++◌, length, map, get_or, slice_index, refl, sym, ◌∙◌, ap, subst, append_assoc, append-nil, inl, inr, arith, EachIndex}
+use Rattle.std.proofs.Common.{ℕ, zero, suc, Bool, false, ◌≡◌, ◌<◌, ◌≤◌, ◌⊎◌, List, [], ◌∷◌, ◌++◌, length, get_or, slice_index, refl, sym, ◌∙◌, ap, subst, append_assoc, append-nil, inl, inr, arith}
 use Rattle.std.specs.List.{All, AllByRecursion}
-use Rattle.std.proofs.lemmas.List.Elements.{All-nil, All-cons, All-append, All-from_get_or, All-from_recursion, recursion_from_All, All-weaker}
+use Rattle.std.proofs.lemmas.List.Elements.{All-nil, All-cons, All-append, recursion_from_All, All-weaker}
 use Rattle.std.proofs.lemmas.List.{length-map}
 use Rattle.ygrammar.specs.Grammar.{ContextFree, Production, left_of, body_of, IsToken}
 use Rattle.ygrammar.specs.Forms.{Replaces, Derives, done, step, Productive}

@@ -1,10 +1,10 @@
 -- Marks that a worklist leaves, and the symbols that can be reached.
-use Rattle.std.proofs.Common.{ℕ, zero, suc, Bool, false, refl, ◌≡◌, ◌<◌, ◌≤◌, ◌⊎◌, List, length, get_or, slice_index, sym, ◌∙◌, ap, subst, inl, inr, arith, EachIndex}
+use Rattle.std.proofs.Common.{ℕ, zero, suc, Bool, false, refl, ◌≡◌, ◌<◌, ◌≤◌, ◌⊎◌, List, length, get_or, slice_index, sym, ◌∙◌, ap, subst, inl, inr, EachIndex}
 use Rattle.std.specs.List.{Contains}
 use Rattle.std.proofs.Math.ListN.{replicate}
 use Rattle.std.proofs.lemmas.List.{length-map}
 use Rattle.std.proofs.lemmas.List.Elements.{All-contains, All-from_get_or, Contains-get_or}
-use Rattle.ygrammar.specs.Grammar.{ContextFree, Production, left_of, body_of}
+use Rattle.ygrammar.specs.Grammar.{ContextFree, Production}
 use Rattle.ygrammar.specs.Forms.{IsReachable, first, further}
 use Rattle.ygrammar.specs.Grammar.{RuleValue}
 use Rattle.ygrammar.specs.Marking.{IsMarked, IsUnmarked, IsSpread, unseen, ahead, spread, MarksReachable, bare_rule, numbered_grammar, rule_at}

@@ -1,6 +1,6 @@
-use Rattle.std.proofs.Common.{◌≡◌, ◌++◌, ◌∷◌, [], ℕ, List, length, get_or, map, subst, sym, ap, ◌∙◌, arith, length-append, rules}
+use Rattle.std.proofs.Common.{◌≡◌, ◌++◌, ◌∷◌, [], ℕ, List, length, get_or, map, subst, sym, ap, ◌∙◌, arith, length-append}
 use Rattle.std.proofs.lemmas.List.{map_push}
-use Rattle.ygrammar.specs.Marking.{items_of, list_at, lists_of}
+use Rattle.ygrammar.specs.Marking.{items_of, lists_of}
 use Rattle.ygrammar.proofs.FilingSteps.{pushed_empty}
 use Rattle.ygrammar.proofs.occurrences.empty_lists.Goals as goal
 

@@ -1,4 +1,4 @@
-use Rattle.std.proofs.Common.{◌≡◌, ◌∙◌, refl}
+use Rattle.std.proofs.Common.{◌∙◌, refl}
 use Rattle.ygrammar.specs.Marking.{lists_of}
 use Rattle.ygrammar.proofs.FilingSteps.{filed_more}
 use Rattle.ygrammar.proofs.occurrences.file_body.Goals as goal

@@ -1,4 +1,4 @@
-use Rattle.std.proofs.Common.{◌≡◌, ◌∙◌, ℕ, length, subst, sym, arith}
+use Rattle.std.proofs.Common.{◌≡◌, ◌∙◌, ℕ, length, subst, arith}
 use Rattle.std.proofs.lemmas.List.{length-map}
 use Rattle.ygrammar.specs.Marking.{AreOccurrences, items_of, lists_of}
 use Rattle.ygrammar.proofs.FilingSteps.{occurrences_more, occurrences_none}

@@ -1,4 +1,4 @@
-use Rattle.std.proofs.Common.{◌≡◌, ◌∙◌, ℕ, length, subst, sym, arith}
+use Rattle.std.proofs.Common.{◌≡◌, ◌∙◌, ℕ, length, subst, arith}
 use Rattle.std.proofs.lemmas.List.{length-map}
 use Rattle.ygrammar.specs.Marking.{AreByLeft, items_of, lists_of}
 use Rattle.ygrammar.proofs.FilingSteps.{by_left_more, by_left_none}

@@ -1,6 +1,6 @@
-use Rattle.std.proofs.Common.{ℕ, ◌≡◌, ◌<◌, ◌≤◌, ◌+◌, ◌∙◌, length, slice_index, get_or, sym, subst, arith, rules}
+use Rattle.std.proofs.Common.{ℕ, ◌≡◌, ◌<◌, ◌+◌, length, get_or, subst, arith}
 use Rattle.std.proofs.lemmas.List.{get_or_read}
-use Rattle.ygrammar.specs.Marking.{IsMarked, IsSettled, items_of, lists_of, list_at, rule_at}
+use Rattle.ygrammar.specs.Marking.{IsSettled, lists_of, rule_at}
 use Rattle.ygrammar.proofs.MarkingSteps.{grows_then}
 use Rattle.ygrammar.proofs.DrainSteps.{drain_next, list_read, listed_within, taken_in}
 use Rattle.ygrammar.proofs.productive.drain.Goals as goal

@@ -1,4 +1,4 @@
-use Rattle.std.proofs.Common.{ℕ, ◌≤◌, ◌<◌, ◌-◌, length, slice_index}
+use Rattle.std.proofs.Common.{ℕ, ◌≤◌, ◌<◌, ◌-◌, length}
 use Rattle.ygrammar.specs.Marking.{AreDots, Grows, IsSettled, IsWorklist, MarksProductive, numbered_grammar, rule_at}
 use Rattle.ygrammar.proofs.productive.drain.Given as goal
 

@@ -1,4 +1,4 @@
-use Rattle.std.proofs.Common.{ℕ, ◌≡◌, ◌<◌, ◌≤◌, ◌∙◌, length, sym, subst, arith}
+use Rattle.std.proofs.Common.{length, arith}
 use Rattle.ygrammar.specs.Marking.{numbered_grammar}
 use Rattle.ygrammar.proofs.DrainSteps.{worklist_none}
 use Rattle.ygrammar.proofs.ProductiveSteps.{all_marked, token_productive}
@@ -13,6 +13,7 @@ returns-clause-exact c = λ s l.
     let n = c.args.symbols in
     let rs = c.args.rules.now in
     let one = c.in_ok-visit_each.ensures in
-    let two = c.in_ok-drain.ensures in
-    (two.sound t n (one.sound t n (λ u k. token_productive (numbered_grammar t n rs) u ((c.in_ok-marks.ensures.marked u).0 k))) s,
-     all_marked t n rs c.drain.new.marks.items c.drain.new.order.items (length c.drain.new.order.items) (omega arith) two.settled (λ u h. two.grows.kept u (one.grows.kept u ((c.in_ok-marks.ensures.marked u).1 h))) s)
+    let two = c.in_ok-drain.ensures in (
+      two.sound t n (one.sound t n (λ u k. token_productive (numbered_grammar t n rs) u ((c.in_ok-marks.ensures.marked u).0 k))) s,
+      all_marked t n rs c.drain.new.marks.items c.drain.new.order.items (length c.drain.new.order.items) (omega arith) two.settled (λ u h. two.grows.kept u (one.grows.kept u ((c.in_ok-marks.ensures.marked u).1 h))) s,
+    )

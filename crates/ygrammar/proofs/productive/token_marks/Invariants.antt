@@ -1,4 +1,4 @@
-use Rattle.std.proofs.Common.{ℕ, ◌≡◌, ◌<◌, ◌↔◌, length}
+use Rattle.std.proofs.Common.{ℕ, ◌≡◌, ◌<◌, length}
 use Rattle.ygrammar.specs.Marking.{IsMarked}
 use Rattle.ygrammar.proofs.productive.token_marks.Given as goal
 

@@ -1,4 +1,4 @@
-use Rattle.std.proofs.Common.{ℕ, ◌≡◌, ◌<◌, length, subst, arith, below_more}
+use Rattle.std.proofs.Common.{ℕ, arith, below_more}
 use Rattle.ygrammar.specs.Marking.{IsSettled, rule_at}
 use Rattle.ygrammar.proofs.MarkingSteps.{grows_then, settled_grows}
 use Rattle.ygrammar.proofs.productive.visit_each.Goals as goal

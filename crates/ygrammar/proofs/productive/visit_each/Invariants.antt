@@ -1,4 +1,4 @@
-use Rattle.std.proofs.Common.{ℕ, ◌≤◌, ◌<◌, length, slice_index}
+use Rattle.std.proofs.Common.{ℕ, ◌<◌}
 use Rattle.ygrammar.specs.Marking.{AreDots, Grows, IsSettled, MarksProductive, numbered_grammar, rule_at}
 use Rattle.ygrammar.proofs.productive.visit_each.Given as goal
 

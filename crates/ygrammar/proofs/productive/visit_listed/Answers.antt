@@ -1,4 +1,4 @@
-use Rattle.std.proofs.Common.{ℕ, ◌≡◌, ◌<◌, ◌≤◌, length, slice_index, subst, arith, below_more}
+use Rattle.std.proofs.Common.{ℕ, slice_index, arith, below_more}
 use Rattle.ygrammar.specs.Marking.{IsSettled, rule_at}
 use Rattle.ygrammar.proofs.MarkingSteps.{grows_then, settled_grows}
 use Rattle.ygrammar.proofs.productive.visit_listed.Goals as goal

@@ -1,4 +1,4 @@
-use Rattle.std.proofs.Common.{ℕ, ◌≡◌, ◌<◌, length, slice_index, EachIndex, arith, below_more}
+use Rattle.std.proofs.Common.{ℕ, ◌<◌, length, slice_index, EachIndex, arith, below_more}
 use Rattle.ygrammar.specs.Marking.{IsMarked, rule_at}
 use Rattle.ygrammar.proofs.MarkingSteps.{grows_then}
 use Rattle.ygrammar.proofs.reachable.mark_bodies.Goals as goal

@@ -1,4 +1,4 @@
-use Rattle.std.proofs.Common.{ℕ, List, ◌≡◌, ◌<◌, length, slice_index, refl, subst, ap, sym, arith, below_more}
+use Rattle.std.proofs.Common.{ℕ, List, ◌<◌, length, slice_index, refl, subst, arith, below_more}
 use Rattle.ygrammar.specs.Marking.{IsMarked, rule_at}
 use Rattle.ygrammar.proofs.MarkingSteps.{grows_then}
 use Rattle.ygrammar.proofs.ReachableSteps.{symbol_marked}

@@ -1,7 +1,7 @@
-use Rattle.std.proofs.Common.{ℕ, ◌≡◌, ◌<◌, ◌≤◌, ◌+◌, ◌∙◌, length, slice_index, get_or, sym, subst, arith, rules}
+use Rattle.std.proofs.Common.{◌≡◌, ◌<◌, ◌+◌, length, get_or, sym, subst, arith}
 use Rattle.std.proofs.lemmas.List.{get_or_read}
 use Rattle.ygrammar.specs.Forms.{IsReachable}
-use Rattle.ygrammar.specs.Marking.{IsMarked, IsSpread, numbered_grammar, items_of, lists_of, list_at, rule_at}
+use Rattle.ygrammar.specs.Marking.{IsMarked, numbered_grammar, lists_of}
 use Rattle.ygrammar.proofs.MarkingSteps.{grows_then}
 use Rattle.ygrammar.proofs.DrainSteps.{left_listed, list_read, spread_more, taken_in}
 use Rattle.ygrammar.proofs.reachable.spread.Goals as goal

@@ -1,8 +1,7 @@
-use Rattle.std.proofs.Common.{◌≡◌, ◌<◌, ◌++◌, ◌∷◌, [], List, ℕ, length, true, sym, subst, ap, ◌∙◌, arith, rules}
+use Rattle.std.proofs.Common.{List, ℕ, true, sym, subst, rules}
 use Rattle.std.proofs.Math.ListN.{set}
-use Rattle.std.proofs.lemmas.List.{get_or_read}
-use Rattle.ygrammar.specs.Marking.{Grows, IsMarked, IsUnmarked}
-use Rattle.ygrammar.proofs.MarkingSteps.{grows_new, grows_same}
+use Rattle.ygrammar.specs.Marking.{Grows, IsUnmarked}
+use Rattle.ygrammar.proofs.MarkingSteps.{grows_new}
 use Rattle.ygrammar.proofs.worklist.mark.Goals as goal
 
 pub returns-in_ok-push-clause-grows : goal.returns-in_ok-push-clause-grows
