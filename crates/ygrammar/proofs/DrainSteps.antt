@@ -3,7 +3,6 @@ use Rattle.std.proofs.Common.{ℕ, zero, suc, Bool, true, false, ◌≡◌, ◌<
 use Rattle.std.specs.List.{Contains}
 use Rattle.std.proofs.lemmas.List.{get_or-map, length-map}
 use Rattle.std.proofs.lemmas.List.Elements.{All-contains, All-from_get_or, Contains-get_or}
-use Rattle.ygrammar.specs.Grammar.{Production}
 use Rattle.ygrammar.specs.Grammar.{RuleValue}
 use Rattle.ygrammar.specs.Marking.{IsMarked, IsSettled, IsSpread, IsWorklist, Grows, AreOccurrences, AreByLeft, unmarked, items_of, list_at, rule_at}
 use Rattle.ygrammar.proofs.MarkingSteps.{settled_grows, settled_next, spread_grows, spread_next}

@@ -5,7 +5,7 @@ use Rattle.ygrammar.specs.declared.mistake.Mistake.TheVariants.{TokenLeft, Undef
 use Rattle.ygrammar.specs.declared.mistake.Refused.{Refused}
 use Rattle.ygrammar.specs.declared.mistake.Refused.TheVariants as refused
 use Rattle.ygrammar.specs.Elaborated.{IsFirstRefused}
-use Rattle.ygrammar.specs.Mistakes.{Holds, IsFirst, HasNone, order}
+use Rattle.ygrammar.specs.Mistakes.{Holds, IsFirst, order}
 use Rattle.ygrammar.specs.Owned.{Refuses}
 use Rattle.ygrammar.specs.Tree.{Tree}
 

@@ -3,7 +3,6 @@ use Rattle.std.proofs.Common.{ℕ, zero, suc, ◌≡◌, ◌≢◌, ◌<◌, ◌
 use Rattle.std.proofs.Math.ListN.{set, length-set}
 use Rattle.std.specs.List.{Contains}
 use Rattle.std.proofs.lemmas.List.Elements.{Contains-append_left, Contains-push, Contains-push_cases}
-use Rattle.ygrammar.specs.Grammar.{Production}
 use Rattle.ygrammar.specs.Grammar.{RuleValue}
 use Rattle.ygrammar.specs.Marking.{IsFiled, IsFiledEach, AreOccurrences, AreByLeft, list_at, rule_at}
 
@@ -67,9 +66,6 @@ filed_more body i r s ls0 ls ls2 e f g = record {
   kept = λ t q k. g.kept t q (f.kept t q k);
   only = λ t q k. each_only ls ls0 r t q s (f.only t q) (g.only t q k);
 }
-
-pub filed_whole : (body : List ℕ) (i r : ℕ) (ls0 ls : List (List ℕ)) → length body ≤ i → FiledSoFar body i r ls0 ls → IsFiledEach body r ls0 ls
-filed_whole body i r ls0 ls h f = record { sized = f.sized; here = λ k l. f.here k (omega arith); kept = f.kept; only = f.only }
 
 pub occurrences_none : (rules : List RuleValue) (n : ℕ) (ls : List (List ℕ)) → length ls ≡ n → ((s : ℕ) → list_at ls s ≡ []) → AreOccurrences rules 0 n ls
 occurrences_none rules n ls e f = record {

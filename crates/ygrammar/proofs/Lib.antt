@@ -34,3 +34,4 @@ pub mod DrainSteps
 pub mod ReachableSteps
 pub mod ElaborationSteps
 pub mod MeaningSteps
+pub mod ReaderSteps

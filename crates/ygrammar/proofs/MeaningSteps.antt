@@ -3,17 +3,17 @@ use Rattle.std.proofs.Common.{ℕ, ◌≡◌, ◌<◌, ◌≤◌, ◌↔◌, Boo
 use Rattle.std.proofs.lemmas.List.{length-map}
 use Rattle.std.proofs.lemmas.List.Elements.{All-get_or}
 use Rattle.ygrammar.specs.declared.elaboration.Named.{Named}
-use Rattle.ygrammar.specs.declared.mistake.Mistake.TheVariants.{BadPrec, BadStart, Limit, Undefined, Unproductive}
+use Rattle.ygrammar.specs.declared.mistake.Mistake.TheVariants.{BadStart, Undefined, Unproductive}
 use Rattle.ygrammar.specs.declared.mistake.Refused.{Refused}
 use Rattle.ygrammar.specs.declared.mistake.Refused.TheVariants as refused
 use Rattle.ygrammar.specs.declared.precedence.Precedence.{Precedence}
-use Rattle.ygrammar.specs.Elaborated.{AreNamed, Fruitful, IsReady}
+use Rattle.ygrammar.specs.Elaborated.{Fruitful, IsReady}
 use Rattle.ygrammar.specs.Elaboration.{Rule, bare_of, first_rule, lefts, numbered, own_number, precedence_of as precedence_of_name, rule_precedence, rules, rules_from, starts, symbols, token_precedences, tokens}
 use Rattle.ygrammar.specs.Forms.{IsReachable, Productive}
-use Rattle.ygrammar.specs.Grammar.{ContextFree, GrammarValue, Production, RuleValue, blank, precedence_of, production_of, text_of}
+use Rattle.ygrammar.specs.Grammar.{ContextFree, Production, RuleValue, blank, precedence_of, production_of, text_of}
 use Rattle.ygrammar.specs.Marking.{AreIn, RuleIn, numbered_grammar, rule_at}
-use Rattle.ygrammar.specs.Meaning.{IsMeaning, MarksReachable}
-use Rattle.ygrammar.specs.Mistakes.{Holds, HasNone, order}
+use Rattle.ygrammar.specs.Meaning.{IsMeaning}
+use Rattle.ygrammar.specs.Mistakes.{Holds}
 use Rattle.ygrammar.specs.Names.{Name}
 use Rattle.ygrammar.specs.NameTexts.{texts, value_of}
 use Rattle.ygrammar.specs.Numbered.{rule_numbers}
@@ -57,7 +57,7 @@ are_in t k n vs s u b e f g r h =
 
 -- what is found of a bare grammar is found of the tree
 pub unproductive : (t : Tree) (e : Refused) (g : ContextFree) → g ≡ bare_of t → Fruitful {A = Unit {0}} g (Err e) → Refuses t Unproductive e
-unproductive t (refused.Mistake what at) g q (w, (s, a, b, c)) = (w, s, subst (λ (x : ContextFree). x.tokens ≤ s) q a, subst (λ (x : ContextFree). s < x.symbols) q b, λ p. c (subst (λ (x : ContextFree). Productive x s) (sym q) p))
+unproductive t (refused.Mistake what at) g q (w, (s, a, b, c)) = (w, (s, subst (λ (x : ContextFree). x.tokens ≤ s) q a, subst (λ (x : ContextFree). s < x.symbols) q b, λ p. c (subst (λ (x : ContextFree). Productive x s) (sym q) p)))
 unproductive t refused.Memory g q p = tt
 
 pub all_productive : (t : Tree) (g : ContextFree) → g ≡ bare_of t → ((s : ℕ) → g.tokens ≤ s → s < g.symbols → Productive g s) → (s : ℕ) → length (tokens t) ≤ s → s < length (symbols t) → Productive (bare_of t) s

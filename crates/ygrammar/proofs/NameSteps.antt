@@ -1,5 +1,5 @@
 -- Names in a set of texts.
-use Rattle.std.proofs.Common.{ℕ, zero, suc, filter, ◌⊎◌, inl, inr, Bool, true, false, ◌≡◌, ◌<◌, ◌≤◌, ◌+◌, subst, arith, ◌||◌, cond, List, [], ◌∷◌, ◌++◌, map, length, Option, Some, None, refl, sym, ◌∙◌, ap, nat_eq, nat_lt, unwrap_or}
+use Rattle.std.proofs.Common.{ℕ, suc, filter, ◌⊎◌, inl, inr, Bool, true, false, ◌≡◌, ◌≤◌, ◌+◌, subst, arith, ◌||◌, cond, List, [], ◌∷◌, ◌++◌, map, length, Option, Some, None, refl, sym, ◌∙◌, ap, nat_eq, nat_lt, unwrap_or}
 use Rattle.std.specs.List.{list_any, position, position_or_len}
 use Rattle.std.specs.Str.{bytes_eq}
 use Rattle.std.proofs.lemmas.Bool.Decides.{nat_tests}

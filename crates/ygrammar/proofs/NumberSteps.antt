@@ -3,7 +3,7 @@ use Rattle.std.proofs.Common.{ℕ, zero, suc, Bool, true, false, ◌≡◌, ◌�
 use Rattle.std.proofs.Math.ListN.{set}
 use Rattle.std.specs.List.{slice_get}
 use Rattle.std.proofs.lemmas.Option.{slice_get_within, slice_get-get_or}
-use Rattle.ygrammar.specs.Numbers.{AreNumbers, AreSmall, Clashes, IsLeast, IsOwn, MarksBelow, MarksOwn}
+use Rattle.ygrammar.specs.Numbers.{AreNumbers, Clashes, IsLeast, IsOwn, MarksBelow, MarksOwn}
 use Rattle.ygrammar.proofs.TellingSteps.{false_true}
 
 -- the marks tell the first i numbers

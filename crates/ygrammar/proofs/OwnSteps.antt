@@ -1,5 +1,5 @@
 -- Numbers: digits, what is given, and what the tokens have by themselves.
-use Rattle.std.proofs.Common.{ℕ, zero, suc, Bool, true, false, not, ◌&&◌, cond, nat_lt, ◌≡◌, ◌≢◌, ◌<◌, ◌≤◌, ◌+◌, ◌*◌, ◌⊎◌, inl, inr, List, [], ◌∷◌, ◌++◌, map, take, drop, length, Option, Some, None, is_some, refl, sym, ◌∙◌, ap, subst, arith, get_or, get_or-set_same, get_or-set_other, length-set, codes}
+use Rattle.std.proofs.Common.{ℕ, zero, suc, Bool, true, false, not, ◌&&◌, cond, nat_lt, ◌≡◌, ◌≢◌, ◌<◌, ◌≤◌, ◌+◌, ◌*◌, ◌⊎◌, inl, inr, List, [], ◌∷◌, map, take, drop, length, Option, Some, None, is_some, refl, sym, ◌∙◌, ap, subst, arith, get_or, get_or-set_same, get_or-set_other, length-set, codes}
 use Rattle.std.proofs.Math.ListN.{set}
 use Rattle.std.specs.List.{Contains}
 use Rattle.std.specs.Char.{digit_value}
@@ -9,18 +9,18 @@ use Rattle.std.specs.Cmp.Lexicographic.{same_text, other_text}
 use Rattle.std.proofs.lemmas.Bool.Decides.{nat_tests}
 use Rattle.std.proofs.lemmas.Int.Digits.{digits_value_push}
 use Rattle.std.proofs.lemmas.Str.Parse.{digits_value-take-le}
-use Rattle.std.proofs.lemmas.List.{take_more, drop_more}
+use Rattle.std.proofs.lemmas.List.{take_more}
 use Rattle.std.proofs.lemmas.List.Elements.{Contains-append_left, Contains-append_right}
 use Rattle.ygrammar.specs.declared.outline.Listed.{Listed}
 use Rattle.ygrammar.specs.declared.tree.Digits.{Digits}
 use Rattle.ygrammar.specs.TreeViews.{digits_view, mention_view, option_view}
 use Rattle.ygrammar.specs.Elaboration.{Listing, digits_number, listed_name, literal_value, option_list, said_of, usual_of}
-use Rattle.ygrammar.specs.Names.{Name, number_in, printed, printed_literal}
+use Rattle.ygrammar.specs.Names.{Name, number_in, printed_literal}
 use Rattle.ygrammar.specs.Outline.{listed_view}
-use Rattle.ygrammar.specs.Owned.{AllFit, GivesUnfit, IsFit, OwnSoFar, filled, keep}
-use Rattle.ygrammar.specs.Tree.{Identifier, named, quoted}
+use Rattle.ygrammar.specs.Owned.{AllFit, IsFit, OwnSoFar, filled, keep}
+use Rattle.ygrammar.specs.Tree.{Identifier, quoted}
 use Rattle.ygrammar.proofs.NameSteps.{eq_self}
-use Rattle.ygrammar.proofs.TellingSteps.{is_none, other_name, same_number}
+use Rattle.ygrammar.proofs.TellingSteps.{is_none, same_number}
 
 -- one more digit
 pub value_more : (ds : List ℕ) (i value digit d : ℕ) → i < length ds → value ≡ digits_value 10 (take i ds) → digit ≡ digit_value (get_or ds i d) → value * 10 + digit ≡ digits_value 10 (take (i + 1) ds)

@@ -8,10 +8,10 @@ use Rattle.ygrammar.specs.declared.mistake.Mistake.TheVariants as mistakes
 use Rattle.ygrammar.specs.declared.mistake.Refused.{Refused}
 use Rattle.ygrammar.specs.declared.mistake.Refused.TheVariants as refused
 use Rattle.ygrammar.specs.declared.precedence.Precedence.{Precedence}
-use Rattle.ygrammar.specs.Elaboration.{Listing, appearances, declared, uses, digits_number, first_or, gives_of, listings, numbers_given, option_list, own_number, own_numbers, precedence_of, said_of, token_names_of, tokens, usual_of}
+use Rattle.ygrammar.specs.Elaboration.{Listing, appearances, declared, uses, digits_number, first_or, gives_of, listings, option_list, own_number, own_numbers, precedence_of, said_of, token_names_of, tokens, usual_of}
 use Rattle.ygrammar.specs.Mistakes.{Holds}
 use Rattle.ygrammar.specs.Names.{Name, is_among, number_in, printed}
-use Rattle.ygrammar.specs.Numbers.{AreSmall, Clashes, IsOwn}
+use Rattle.ygrammar.specs.Numbers.{AreSmall, Clashes}
 use Rattle.ygrammar.specs.Owned.{AllFit, AllSmall, IsFit, IsBadNumber, OwnSoFar, Precedes, Refuses, TellsNumbers, keep}
 use Rattle.ygrammar.specs.Told.{IsTold, SaidTwice, IsTwicePrecedence, TellsPrecedences}
 use Rattle.ygrammar.specs.Tree.{Identifier, Tree}

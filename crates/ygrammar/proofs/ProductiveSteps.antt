@@ -4,9 +4,9 @@ use Rattle.std.specs.List.{All, AllByRecursion}
 use Rattle.std.proofs.lemmas.List.Elements.{All-nil, All-cons, All-append, recursion_from_All, All-weaker}
 use Rattle.std.proofs.lemmas.List.{length-map}
 use Rattle.ygrammar.specs.Grammar.{ContextFree, Production, left_of, body_of, IsToken}
-use Rattle.ygrammar.specs.Forms.{Replaces, Derives, done, step, Productive}
+use Rattle.ygrammar.specs.Forms.{Derives, done, step, Productive}
 use Rattle.ygrammar.specs.Grammar.{RuleValue}
-use Rattle.ygrammar.specs.Marking.{IsMarked, IsUnmarked, IsWaiting, IsSettled, left, stuck, ahead, MarksProductive, DotFits, AreDots, Grows, bare_rule, numbered_grammar, rule_at}
+use Rattle.ygrammar.specs.Marking.{IsMarked, IsSettled, left, stuck, ahead, MarksProductive, bare_rule, numbered_grammar, rule_at}
 use Rattle.ygrammar.proofs.MarkingSteps.{not_both, none_waits}
 
 derives_then : {g : ContextFree} {x y z : List ℕ} → Derives g x y → Derives g y z → Derives g x z

@@ -1,5 +1,5 @@
 -- Bodies, their final actions, and rules by number.
-use Rattle.std.proofs.Common.{ℕ, zero, suc, ◌≡◌, List, [], ◌∷◌, ◌++◌, map, Option, Some, None, refl, sym, ◌∙◌, ap, append_assoc, length, Bor}
+use Rattle.std.proofs.Common.{ℕ, suc, ◌≡◌, List, [], ◌∷◌, ◌++◌, map, Option, Some, None, refl, sym, ◌∙◌, ap, append_assoc, length, Bor}
 use Rattle.std.proofs.lemmas.List.{map-append}
 use Rattle.ygrammar.specs.declared.tree.Item.{Item as CodeItem}
 use Rattle.ygrammar.specs.declared.tree.Item.TheVariants as items

@@ -1,10 +1,9 @@
 -- What the listings say of a token, listing by listing.
-use Rattle.std.proofs.Common.{ℕ, zero, suc, Bool, true, false, cond, ◌≡◌, ◌<◌, ◌≤◌, ◌⊎◌, inl, inr, List, [], ◌∷◌, ◌++◌, length, Option, Some, None, refl, sym, ◌∙◌, ap, subst, arith, append_assoc, length-append, get_or, get_or-set_other, get_or-set_same, length-set, replicate, is_some, map, drop, ◌+◌}
+use Rattle.std.proofs.Common.{ℕ, zero, suc, Bool, true, false, cond, ◌≡◌, ◌<◌, ◌≤◌, List, [], ◌∷◌, ◌++◌, length, Option, Some, None, refl, sym, ◌∙◌, ap, subst, arith, get_or, get_or-set_other, get_or-set_same, length-set, replicate, is_some, map, drop, ◌+◌}
 use Rattle.std.proofs.lemmas.List.{drop_more}
 use Rattle.ygrammar.specs.declared.outline.Listed.{Listed}
 use Rattle.ygrammar.specs.Outline.{listed_view}
 use Rattle.std.proofs.Math.ListN.{set}
-use Rattle.std.specs.List.{flat_map}
 use Rattle.std.specs.Str.{bytes_eq}
 use Rattle.std.specs.Cmp.Lexicographic.{same_text, other_text}
 use Rattle.ygrammar.specs.Elaboration.{Listing, listed_name, option_list, said_of}

@@ -1,9 +1,8 @@
 -- Which names are tokens, and tables by the numbers of names.
-use Rattle.std.proofs.Common.{ℕ, zero, suc, Bool, true, false, not, ◌||◌, ◌&&◌, cond, nat_lt, ◌≡◌, ◌<◌, ◌≤◌, ◌+◌, ◌⊎◌, inl, inr, List, [], ◌∷◌, ◌++◌, map, filter, length, Option, Some, None, refl, sym, ◌∙◌, ap, subst, arith, get_or, length-append, codes}
-use Rattle.std.specs.List.{list_any, flat_map}
+use Rattle.std.proofs.Common.{ℕ, zero, suc, Bool, true, false, ◌||◌, cond, ◌≡◌, ◌<◌, ◌≤◌, ◌+◌, ◌⊎◌, inl, inr, List, [], ◌∷◌, ◌++◌, map, filter, length, Option, Some, None, refl, sym, ◌∙◌, ap, subst, arith, get_or, length-append, codes}
+use Rattle.std.specs.List.{flat_map}
 use Rattle.std.specs.Str.{bytes_eq}
-use Rattle.std.specs.Cmp.Lexicographic.{same_text, other_text}
-use Rattle.std.proofs.lemmas.Bool.Decides.{nat_tests}
+use Rattle.std.specs.Cmp.Lexicographic.{same_text}
 use Rattle.std.proofs.lemmas.List.{length-map, map-append}
 use Rattle.std.proofs.lemmas.List.Folds.{list_any-append}
 use Rattle.ygrammar.specs.Elaboration.{Listing, appearances, declared, is_literal, is_token, level_at, given_by, listed_name, listing_of, listings, listings_from, option_list, said_of, token_names_of, tokens, uses, who_of}
@@ -11,7 +10,7 @@ use Rattle.ygrammar.specs.Names.{Name, is_among, noted, noted_all, number_in, pr
 use Rattle.ygrammar.specs.NameTexts.{find_in}
 use Rattle.ygrammar.specs.Tree.{Definition, Entry, Identifier, Tree, start, union, block, listing, types}
 use Rattle.ygrammar.proofs.NameSteps.{among_all, eq_self}
-use Rattle.ygrammar.proofs.TellingSteps.{false_true, other_name}
+use Rattle.ygrammar.proofs.TellingSteps.{false_true}
 
 -- ---- names among names
 

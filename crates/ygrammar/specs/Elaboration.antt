@@ -1,10 +1,9 @@
 -- What a grammar file means: its symbols, its rules and their precedences (POSIX yacc, "Declarations Section" and "Grammar Rules in yacc").
-use Rattle.std.specs.Prelude.{ℕ, zero, suc, ◌≡◌, nat_lt, fold, slice_index_or, Bool, true, false, List, [], ◌∷◌, ◌++◌, length, map, filter, Option, Some, None, codes, if◌then◌else◌}
+use Rattle.std.specs.Prelude.{ℕ, suc, nat_lt, fold, slice_index_or, Bool, true, false, List, [], ◌∷◌, ◌++◌, length, map, filter, Option, Some, None, codes, if◌then◌else◌}
 use Rattle.std.specs.List.{flat_map}
 use Rattle.std.specs.Str.{bytes_eq}
 use Rattle.std.specs.Str.Parse.{digits_value}
 use Rattle.std.specs.Fmt.{decimal}
-use Rattle.ygrammar.specs.declared.precedence.Associativity.{Associativity}
 use Rattle.ygrammar.specs.declared.precedence.Associativity.TheVariants as associativity
 use Rattle.ygrammar.specs.declared.precedence.Precedence.{Precedence}
 use Rattle.ygrammar.specs.Tree.{Identifier, named, quoted, Word, token, left, right, nonassoc, Entry, Definition, start, union, block, listing, types, Item, symbol, action, Clause, Tree}

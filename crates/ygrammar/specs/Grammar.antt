@@ -1,5 +1,5 @@
 -- A grammar as contracts see it (POSIX yacc, "Grammar Rules"; Aho, Sethi, Ullman, section 4.2).
-use Rattle.std.specs.Prelude.{ℕ, ◌≡◌, ◌<◌, Bool, List, [], ◌∷◌, length, map, slice_index_or, Option, Some, None}
+use Rattle.std.specs.Prelude.{ℕ, ◌<◌, Bool, List, [], slice_index_or, Option, Some, None}
 use Rattle.std.specs.Global.{Vec}
 use Rattle.ygrammar.specs.declared.precedence.Precedence.{Precedence}
 

@@ -2,7 +2,7 @@
 use Rattle.std.specs.Prelude.{ℕ, ◌≡◌, ◌<◌, ◌≤◌, ◌+◌, ◌⊎◌, Bool, true, false, cond, List, [], ◌∷◌, length, map, slice_index, slice_index_or, EachIndex, Vec}
 use Rattle.std.specs.Global.{Global}
 use Rattle.std.specs.List.{Contains}
-use Rattle.ygrammar.specs.Grammar.{ContextFree, Production, RuleValue, blank, left_of, body_of, IsToken}
+use Rattle.ygrammar.specs.Grammar.{ContextFree, Production, RuleValue, blank}
 use Rattle.ygrammar.specs.Forms.{Productive, IsReachable}
 
 abbrev pub bare_rule : RuleValue → Production

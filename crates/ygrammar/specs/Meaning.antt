@@ -1,6 +1,6 @@
 -- The grammar that a file means.
 use Rattle.std.specs.Prelude.{ℕ, ◌≡◌, ◌<◌, ◌↔◌, Bool, true, false, List, length, map, slice_index_or}
-use Rattle.ygrammar.specs.Elaboration.{Rule, bare_of, own_numbers, rule_precedence, rules, symbols, token_precedences}
+use Rattle.ygrammar.specs.Elaboration.{bare_of, own_numbers, rule_precedence, rules, symbols, token_precedences}
 use Rattle.ygrammar.specs.Forms.{IsReachable}
 use Rattle.ygrammar.specs.Grammar.{GrammarValue}
 use Rattle.ygrammar.specs.Mistakes.{HasNone, order}

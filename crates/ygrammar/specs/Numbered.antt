@@ -1,5 +1,5 @@
 -- Rules by number.
-use Rattle.std.specs.Prelude.{ℕ, ◌&&◌, nat_le, nat_lt, Bool, List, length, map, Option, None}
+use Rattle.std.specs.Prelude.{ℕ, ◌&&◌, nat_le, nat_lt, Bool, List, length, Option, None}
 use Rattle.ygrammar.specs.declared.precedence.Precedence.{Precedence}
 use Rattle.ygrammar.specs.Elaboration.{Rule, numbered, rule_precedence}
 use Rattle.ygrammar.specs.Grammar.{RuleValue}

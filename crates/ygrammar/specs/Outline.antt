@@ -1,5 +1,5 @@
 -- What stands in a file, list by list, as the code keeps it.
-use Rattle.std.specs.Prelude.{◌≡◌, List, map}
+use Rattle.std.specs.Prelude.{◌≡◌, map}
 use Rattle.std.specs.List.{flat_map}
 use Rattle.ygrammar.specs.declared.outline.Listed.{Listed}
 use Rattle.ygrammar.specs.declared.outline.Started.{Started}

@@ -1,5 +1,5 @@
 -- Tables of the numbers that tokens have by themselves.
-use Rattle.std.specs.Prelude.{ℕ, ◌≡◌, ◌<◌, ◌≤◌, ◌⊎◌, ◌&&◌, not, nat_lt, is_some, cond, List, [], length, Contains, Option, Some, None, Result, Ok, Err, slice_index_or, slice_set}
+use Rattle.std.specs.Prelude.{ℕ, ◌≡◌, ◌<◌, ◌≤◌, ◌⊎◌, ◌&&◌, not, nat_lt, is_some, cond, List, length, Contains, Option, Some, None, Result, Ok, Err, slice_index_or, slice_set}
 use Rattle.std.specs.Global.{Vec}
 use Rattle.ygrammar.specs.declared.mistake.Mistake.{Mistake}
 use Rattle.ygrammar.specs.declared.mistake.Mistake.TheVariants as mistakes

@@ -1,5 +1,5 @@
 -- Tables of what the listings say of the tokens, by number.
-use Rattle.std.specs.Prelude.{ℕ, ◌≡◌, ◌<◌, ◌≤◌, List, [], ◌∷◌, ◌++◌, length, Option, None, Result, Ok, Err, slice_index_or}
+use Rattle.std.specs.Prelude.{◌≡◌, ◌<◌, ◌≤◌, List, [], ◌++◌, length, Option, None, Result, Ok, Err, slice_index_or}
 use Rattle.std.specs.Global.{Vec}
 use Rattle.ygrammar.specs.declared.mistake.Mistake.{Mistake}
 use Rattle.ygrammar.specs.declared.mistake.Mistake.TheVariants as mistakes

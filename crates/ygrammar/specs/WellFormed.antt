@@ -1,5 +1,5 @@
 -- What every grammar that is handed out keeps: the promise of the reader to the layers above.
-use Rattle.std.specs.Prelude.{ℕ, ◌≡◌, ◌≢◌, ◌<◌, ◌≤◌, List, [], ◌∷◌, length}
+use Rattle.std.specs.Prelude.{ℕ, ◌≡◌, ◌≢◌, ◌<◌, ◌≤◌, [], ◌∷◌, length}
 use Rattle.std.specs.List.{All}
 use Rattle.ygrammar.specs.Grammar.{ContextFree, GrammarValue, left_of, body_of, start_of, end_token}
 use Rattle.ygrammar.specs.Forms.{Productive}

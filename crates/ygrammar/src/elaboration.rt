@@ -9,7 +9,8 @@ ghost use Rattle.ygrammar.specs.Tree.{IsTree, Tree as TreeOf, yield};
 ghost use Rattle.ygrammar.specs.Outline.{Outlines};
 ghost use Rattle.ygrammar.specs.TreeViews.{tree_view};
 
-use crate::given::{OwnTable, own_table, precedences};
+use crate::clashes::placed_table;
+use crate::given::{OwnTable, precedences};
 use crate::grammar::{Grammar, Rule};
 use crate::mistake::{Mistake, Refused};
 use crate::names::{Names, number_in};
@@ -44,7 +45,7 @@ fn name_symbols(alloc: Global, tree: &Tree, outline: &Outline) -> Result<Named, 
     let count = names.len();
     refuse_token_left(outline, &names)?;
     let given = precedences(alloc, &names, outline);
-    let own = own_table(alloc, &names, outline);
+    let own = placed_table(alloc, &names, outline);
     note_nonterminals(alloc, &mut names, &tree.clauses)?;
     refuse_undefined(outline, &names)?;
     let given = given?;

@@ -37,9 +37,11 @@ pub use fault::{GrammarFault, SyntaxFault};
 pub use grammar::{Grammar, Rule, Sym};
 pub use kind::{Kind, Sign};
 pub use part::Lexeme;
-pub use reader::read_grammar;
 pub use precedence::{Associativity, Precedence};
+pub use reader::read_grammar;
 
+#[cfg(test)]
+mod grammar_tests;
 #[cfg(test)]
 mod tests;
 #[cfg(test)]

@@ -72,11 +72,7 @@ fn spread(
 }
 
 /// For each symbol whether it can be reached from the first rule, in time linear in the length of the rules.
-pub fn reachable(
-    alloc: Global,
-    rules: &[Rule],
-    symbols: usize,
-) -> Result<Vec<bool>, AllocError>
+pub fn reachable(alloc: Global, rules: &[Rule], symbols: usize) -> Result<Vec<bool>, AllocError>
     requires some { 0 < length rules.now }
     requires in_range { AreIn symbols rules.now }
     ensures sized { IfOk result (λ marks. vec_len marks ≡ symbols) }

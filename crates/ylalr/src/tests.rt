@@ -4,23 +4,13 @@ use crate::{Automaton, Item, build};
 use std::alloc::Global;
 use std::process::Abort;
 use std::test::Fail;
-use ygrammar::{Grammar, Rule, Sym};
+use ygrammar::{Sym, read_grammar};
 
 const END: Sym = 0;
 
-/// The automaton of a grammar whose rules are given as left side and body. Tokens come first, `$end` is 0 and `error` 1.
-fn automaton(
-    rt: &impl Abort,
-    alloc: Global,
-    tokens: usize,
-    symbols: usize,
-    rules: &[(Sym, &[Sym])],
-) -> Result<Automaton, Fail> {
-    let mut list = Vec::new(alloc);
-    for (left, body) in rules {
-        list.push(Rule::new(*left, body.to_vec(alloc)?))?;
-    }
-    let grammar = Grammar::new(alloc, tokens, symbols, list)?.expect(rt, "well formed");
+/// The automaton of a grammar file.
+fn automaton(rt: &impl Abort, alloc: Global, source: &[u8]) -> Result<Automaton, Fail> {
+    let grammar = read_grammar(alloc, source).ok().expect(rt, "a grammar");
     let automaton = build(alloc, grammar)?;
     Ok(automaton)
 }
@@ -78,12 +68,12 @@ fn looks_at(
     true
 }
 
-// s : p q 'x' ; p : 'y' ; q : ;   with 'x' 2, 'y' 3, $accept 4, s 5, p 6, q 7
-const MIDDLE: &[(Sym, &[Sym])] = &[(4, &[5, 0]), (5, &[6, 7, 2]), (6, &[3]), (7, &[])];
+// 'x' is 2, 'y' 3, $accept 4, s 5, p 6, q 7
+const MIDDLE: &[u8] = b"%% s : p q 'x' ; p : 'y' ; q : ;";
 
 #[test]
 fn a_grammar_with_a_middle_that_vanishes(rt: HostRuntime) -> Result<(), Fail> {
-    let m = automaton(&rt, rt.alloc(), 4, 8, MIDDLE)?;
+    let m = automaton(&rt, rt.alloc(), MIDDLE)?;
     assert_eq!(rt; m.states(), 6);
     assert!(rt; has_items(&m, 0, &[(0, 0), (1, 0), (2, 0)]));
     assert!(rt; has_items(&m, 1, &[(2, 1)]));
@@ -98,20 +88,11 @@ fn a_grammar_with_a_middle_that_vanishes(rt: HostRuntime) -> Result<(), Fail> {
 
 #[test]
 fn assignments(rt: HostRuntime) -> Result<(), Fail> {
-    // s : l '=' r | r ; l : '*' r | ID ; r : l ;   with ID 2, '=' 3, '*' 4, $accept 5, s 6, l 7, r 8
+    // ID is 2, '=' 3, '*' 4, $accept 5, s 6, l 7, r 8
     let m = automaton(
         &rt,
         rt.alloc(),
-        5,
-        9,
-        &[
-            (5, &[6, 0]),
-            (6, &[7, 3, 8]),
-            (6, &[8]),
-            (7, &[4, 8]),
-            (7, &[2]),
-            (8, &[7]),
-        ],
+        b"%token ID %% s : l '=' r | r ; l : '*' r | ID ; r : l ;",
     )?;
     assert_eq!(rt; m.states(), 10);
     assert!(rt; looks_at(&m, &[7], 5, 1, 5, &[0]));
@@ -121,13 +102,10 @@ fn assignments(rt: HostRuntime) -> Result<(), Fail> {
 
 #[test]
 fn conditions(rt: HostRuntime) -> Result<(), Fail> {
-    // s : IF s | IF s ELSE s | X ;   with IF 2, ELSE 3, X 4, $accept 5, s 6
     let m = automaton(
         &rt,
         rt.alloc(),
-        5,
-        7,
-        &[(5, &[6, 0]), (6, &[2, 6]), (6, &[2, 6, 3, 6]), (6, &[4])],
+        b"%token IF ELSE X %% s : IF s | IF s ELSE s | X ;",
     )?;
     assert_eq!(rt; m.states(), 7);
     Ok(())

@@ -1,9 +1,9 @@
-use Rattle.std.proofs.Common.{◌≡◌, map, drop, not, length}
+use Rattle.std.proofs.Common.{◌≡◌, map, drop, length}
 use Rattle.std.specs.List.{list_any}
 use Rattle.ygrammar.specs.NameTexts.{texts}
-use Rattle.ygrammar.specs.Names.{is_among, number_in, printed}
-use Rattle.ygrammar.specs.Numbered.{is_between, is_long}
-use Rattle.ygrammar.specs.TreeViews.{mention_view, name_view}
+use Rattle.ygrammar.specs.Names.{number_in, printed}
+use Rattle.ygrammar.specs.Numbered.{is_between}
+use Rattle.ygrammar.specs.TreeViews.{mention_view}
 use Rattle.ygrammar.proofs.checks.first_nonterminal.Given as goal
 
 abbrev pub invariant-loop-mention : goal.invariant-loop-mention

@@ -1,9 +1,8 @@
-use Rattle.std.proofs.Common.{◌≡◌, map, drop, not, length}
+use Rattle.std.proofs.Common.{◌≡◌, map, drop}
 use Rattle.std.specs.List.{list_any}
 use Rattle.ygrammar.specs.NameTexts.{texts}
-use Rattle.ygrammar.specs.Names.{is_among, number_in, printed}
-use Rattle.ygrammar.specs.Numbered.{is_between, is_long}
-use Rattle.ygrammar.specs.TreeViews.{mention_view, name_view}
+use Rattle.ygrammar.specs.Names.{is_among}
+use Rattle.ygrammar.specs.TreeViews.{name_view}
 use Rattle.ygrammar.proofs.checks.first_token.Given as goal
 
 abbrev pub invariant-loop-name : goal.invariant-loop-name

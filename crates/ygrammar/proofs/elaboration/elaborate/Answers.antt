@@ -5,7 +5,6 @@ use Rattle.ygrammar.specs.declared.mistake.Refused.{Refused}
 use Rattle.ygrammar.specs.declared.tree.Clause.{Clause}
 use Rattle.ygrammar.specs.Elaborated.{Elaborates, IsFirstRefused, IsReady}
 use Rattle.ygrammar.specs.Elaboration.{bare_of, rules, symbols, token_precedences, tokens}
-use Rattle.ygrammar.specs.Grammar.{RuleValue}
 use Rattle.ygrammar.specs.Marking.{numbered_grammar}
 use Rattle.ygrammar.specs.Mistakes.{Holds, HasNone, order}
 use Rattle.ygrammar.specs.NameTexts.{texts}

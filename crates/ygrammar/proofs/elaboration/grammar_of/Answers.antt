@@ -1,7 +1,6 @@
-use Rattle.std.proofs.Common.{◌≡◌, ◌∙◌, ap, sym, subst, length, List, Option, ℕ, rules}
+use Rattle.std.proofs.Common.{◌≡◌, ◌∙◌, sym, subst, length, List, Option, ℕ, rules}
 use Rattle.ygrammar.specs.Grammar.{GrammarValue}
 use Rattle.ygrammar.specs.Meaning.{IsMeaning}
-use Rattle.ygrammar.specs.NameTexts.{texts}
 use Rattle.ygrammar.specs.Numbers.{AreNumbers}
 use Rattle.ygrammar.proofs.MeaningSteps.{meaning_of, whole_of}
 use Rattle.ygrammar.proofs.NameSteps.{length_texts}

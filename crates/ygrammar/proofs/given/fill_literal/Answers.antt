@@ -1,4 +1,4 @@
-use Rattle.std.proofs.Common.{sym, subst, ap, ◌∙◌, ◌∷◌, List, Option, ℕ}
+use Rattle.std.proofs.Common.{subst, ap, ◌∙◌, ◌∷◌}
 use Rattle.ygrammar.specs.declared.tree.Identifier.{Identifier as CodeIdentifier}
 use Rattle.ygrammar.specs.Elaboration.{literal_value}
 use Rattle.ygrammar.specs.NameTexts.{texts}

@@ -1,5 +1,4 @@
-use Rattle.std.proofs.Common.{◌≡◌, ◌<◌, length, arith}
-use Rattle.std.specs.Char.{digit_value}
+use Rattle.std.proofs.Common.{◌<◌, length, arith}
 use Rattle.ygrammar.proofs.OwnSteps.{too_large, value_more}
 use Rattle.ygrammar.proofs.given.fit_number.Goals as goal
 

@@ -1,4 +1,4 @@
-use Rattle.std.proofs.Common.{◌≡◌, ◌<◌, ap, sym, ◌∙◌, length, map, get_or, arith, inl, inr, Option, None, is_some, true, ℕ, refl, rules}
+use Rattle.std.proofs.Common.{◌<◌, ap, sym, ◌∙◌, length, map, get_or, arith, inl, inr, None, is_some, refl, rules}
 use Rattle.std.specs.Str.Parse.{digits_value}
 use Rattle.std.proofs.lemmas.List.{get_or_read}
 use Rattle.ygrammar.specs.Elaboration.{digits_number}

@@ -1,4 +1,4 @@
-use Rattle.std.proofs.Common.{◌≡◌, ◌++◌, [], subst, sym, ap, ◌∙◌, map, List, append-nil}
+use Rattle.std.proofs.Common.{◌++◌, [], subst, sym, map, List, append-nil}
 use Rattle.ygrammar.specs.Elaboration.{literal_value}
 use Rattle.ygrammar.specs.NameTexts.{texts}
 use Rattle.ygrammar.specs.Owned.{OwnSoFar}

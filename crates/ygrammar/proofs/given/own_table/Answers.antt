@@ -1,15 +1,11 @@
-use Rattle.std.proofs.Common.{◌≡◌, ◌++◌, ap, sym, ◌∙◌, map, subst, refl, inr, List, Option, None, ℕ, Ok, Err}
-use Rattle.ygrammar.specs.declared.mistake.Mistake.TheVariants as mistakes
+use Rattle.std.proofs.Common.{◌≡◌, ◌++◌, ap, ◌∙◌, map, subst, refl, inr, List, Option, ℕ}
 use Rattle.ygrammar.specs.declared.outline.Listed.{Listed}
 use Rattle.ygrammar.specs.declared.tree.Mention.{Mention}
-use Rattle.ygrammar.specs.Elaboration.{Listing, appearances, digits_number, listings, own_numbers, tokens, usual_of}
+use Rattle.ygrammar.specs.Elaboration.{appearances, digits_number, listings, own_numbers, tokens}
 use Rattle.ygrammar.specs.NameTexts.{texts}
-use Rattle.ygrammar.specs.Names.{Name}
 use Rattle.ygrammar.specs.Numbers.{Clashes, IsOwn, MarksOwn}
 use Rattle.ygrammar.specs.Outline.{listed_view}
-use Rattle.ygrammar.specs.Owned.{AllFit, AllSmall, OwnSoFar, TellsNumbers}
 use Rattle.ygrammar.specs.Told.{IsTold}
-use Rattle.ygrammar.specs.Tree.{Identifier}
 use Rattle.ygrammar.specs.TreeViews.{mention_view}
 use Rattle.ygrammar.proofs.OwnTables.{appear, are_small, fit_small, numbers_sound, own_whole, told_here}
 use Rattle.ygrammar.proofs.given.own_table.Goals as goal

@@ -1,6 +1,5 @@
-use Rattle.std.proofs.Common.{◌≡◌, ◌<◌, ◌≤◌, ap, sym, ◌∙◌, length, map, get_or, arith, subst, Option, None, is_some, Bool, true, false, rules}
+use Rattle.std.proofs.Common.{◌<◌, ap, sym, ◌∙◌, length, map, get_or, arith, None, is_some, rules}
 use Rattle.std.proofs.lemmas.List.{get_or_read}
-use Rattle.ygrammar.specs.declared.precedence.Precedence.{Precedence}
 use Rattle.ygrammar.specs.Elaboration.{gives_of}
 use Rattle.ygrammar.specs.NameTexts.{texts}
 use Rattle.ygrammar.specs.Outline.{listed_view}

@@ -1,7 +1,6 @@
-use Rattle.std.proofs.Common.{◌≡◌, ◌<◌, sym, ◌∙◌, ap, length, arith, get_or, Option, Some, None, ℕ, Bool, true, false, List, subst, replicate, rules, Vec, ◌+◌}
+use Rattle.std.proofs.Common.{◌≡◌, ◌<◌, sym, ◌∙◌, length, arith, Some, None, Bool, false, subst, rules, Vec, ◌+◌}
 use Rattle.std.specs.Global.{Global}
 use Rattle.std.proofs.lemmas.List.{get_or_read}
-use Rattle.ygrammar.specs.Numbers.{IsOwn}
 use Rattle.ygrammar.proofs.NumberSteps.{Marking, at_place, clash_found, marks_all, marks_more, marks_none, marks_skip}
 use Rattle.ygrammar.proofs.numbers.marks_below.Goals.{in-None, in-Some+else-index}
 use Rattle.ygrammar.proofs.numbers.marks_below.Goals as goal

@@ -1,4 +1,4 @@
-use Rattle.std.proofs.Common.{ap, sym, ◌∙◌, ◌≡◌, ◌≤◌, map, length, refl, subst, List, ℕ}
+use Rattle.std.proofs.Common.{ap, sym, ◌∙◌, ◌≡◌, ◌≤◌, length, refl, subst, List, ℕ}
 use Rattle.std.proofs.lemmas.List.{length-map}
 use Rattle.ygrammar.specs.Elaboration.{rules as rules_of_tree, symbols as symbols_of_tree, token_precedences}
 use Rattle.ygrammar.specs.Grammar.{RuleValue}

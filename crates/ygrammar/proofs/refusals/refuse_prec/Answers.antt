@@ -1,10 +1,7 @@
-use Rattle.std.proofs.Common.{ap, sym, ◌∙◌, map, length, refl, arith, List}
-use Rattle.ygrammar.specs.declared.outline.Started.{Started}
+use Rattle.std.proofs.Common.{ap, ◌∙◌, map, refl, List}
 use Rattle.ygrammar.specs.declared.tree.Mention.{Mention}
-use Rattle.ygrammar.specs.declared.tree.NameAt.{NameAt}
 use Rattle.ygrammar.specs.NameTexts.{texts}
-use Rattle.ygrammar.specs.Outline.{start_view}
-use Rattle.ygrammar.specs.TreeViews.{mention_view, name_view}
+use Rattle.ygrammar.specs.TreeViews.{mention_view}
 use Rattle.ygrammar.proofs.MistakeSteps.{no_prec, prec_found}
 use Rattle.ygrammar.proofs.refusals.refuse_prec.Goals as goal
 

@@ -1,10 +1,7 @@
-use Rattle.std.proofs.Common.{ap, sym, ◌∙◌, map, length, refl, arith, List}
+use Rattle.std.proofs.Common.{ap, sym, ◌∙◌, map, length, refl, List}
 use Rattle.ygrammar.specs.declared.outline.Started.{Started}
-use Rattle.ygrammar.specs.declared.tree.Mention.{Mention}
-use Rattle.ygrammar.specs.declared.tree.NameAt.{NameAt}
 use Rattle.ygrammar.specs.NameTexts.{texts}
 use Rattle.ygrammar.specs.Outline.{start_view}
-use Rattle.ygrammar.specs.TreeViews.{mention_view, name_view}
 use Rattle.ygrammar.proofs.MistakeSteps.{no_start, start_found}
 use Rattle.ygrammar.proofs.refusals.refuse_start.Goals as goal
 use Rattle.std.proofs.lemmas.List.{length-map}

@@ -1,4 +1,4 @@
-use Rattle.std.proofs.Common.{◌≡◌, fold, drop, Some, None, nat_lt, cond, Option, ℕ}
+use Rattle.std.proofs.Common.{◌≡◌, fold, drop, Some, nat_lt}
 use Rattle.std.specs.Prelude.{if◌then◌else◌}
 use Rattle.ygrammar.specs.Elaboration.{last_token}
 use Rattle.ygrammar.proofs.rules.last_token.Given as goal

@@ -1,11 +1,11 @@
-use Rattle.std.proofs.Common.{[], ◌≡◌, ◌<◌, sym, ◌∙◌, subst, ap, drop, map, ◌++◌, ◌∷◌, ◌+◌, List, ℕ, get_or, length, arith}
+use Rattle.std.proofs.Common.{[], ◌≡◌, ◌<◌, sym, ◌∙◌, subst, ap, drop, map, ◌++◌, ◌∷◌, ◌+◌, List, ℕ, length, arith}
 use Rattle.std.proofs.lemmas.List.{drop_more, get_or_read}
 use Rattle.ygrammar.specs.declared.tree.Clause.{Clause}
 use Rattle.ygrammar.specs.Elaboration.{chosen_token, precedence_at, rules_from}
 use Rattle.ygrammar.specs.NameTexts.{texts}
 use Rattle.ygrammar.specs.Numbered.{rule_numbers}
 use Rattle.ygrammar.specs.Grammar.{RuleValue, owned_view}
-use Rattle.ygrammar.specs.TreeViews.{clause_view, item_view, mention_view, option_view, text_view}
+use Rattle.ygrammar.specs.TreeViews.{clause_view, item_view, mention_view, option_view}
 use Rattle.ygrammar.proofs.RuleSteps.{rule_step}
 use Rattle.ygrammar.proofs.rules.push_rules.Goals as goal
 

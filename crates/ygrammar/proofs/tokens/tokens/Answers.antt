@@ -1,4 +1,4 @@
-use Rattle.std.proofs.Common.{◌∙◌, ◌≡◌, ◌++◌, [], ◌∷◌, List, ℕ, map, filter, subst, codes}
+use Rattle.std.proofs.Common.{◌≡◌, ◌++◌, [], ◌∷◌, List, ℕ, map, filter, subst, codes}
 use Rattle.ygrammar.specs.declared.tree.Mention.{Mention}
 use Rattle.ygrammar.specs.Elaboration.{token_names_of}
 use Rattle.ygrammar.specs.NameTexts.{texts}

@@ -1,8 +1,8 @@
-use Rattle.std.proofs.Common.{◌≡◌, ◌∙◌, sym, ap, subst, length, Option, None, ℕ}
+use Rattle.std.proofs.Common.{◌∙◌, sym, ap}
 use Rattle.ygrammar.specs.Grammar.{GrammarValue}
 use Rattle.ygrammar.specs.NameTexts.{find_in, texts}
 use Rattle.ygrammar.proofs.NameSteps.{length_texts}
-use Rattle.ygrammar.proofs.TokenSteps.{found_number, missed_number, some_number}
+use Rattle.ygrammar.proofs.TokenSteps.{found_number, missed_number}
 use Rattle.ygrammar.proofs.grammar.Grammar.find.Goals as goal
 
 pub returns-then-s-len : goal.returns-then-s-len

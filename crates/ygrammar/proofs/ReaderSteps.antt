@@ -1,0 +1,73 @@
+-- A file has one grammar or one fault.
+use Rattle.std.proofs.Common.{ℕ, ◌≡◌, ◌<◌, ◌≤◌, ◌⊎◌, inl, inr, List, Result, Ok, Err, sym, ap, subst, arith, true, false}
+use Rattle.std.specs.Result.{IsErrOf}
+use Rattle.ygrammar.specs.declared.fault.GrammarFault.{GrammarFault}
+use Rattle.ygrammar.specs.declared.mistake.Mistake.{Mistake}
+use Rattle.ygrammar.specs.declared.mistake.Mistake.TheVariants.{TokenLeft, Undefined, TwicePrecedence, BadNumber, BadStart, Unproductive, BadPrec, Limit}
+use Rattle.ygrammar.specs.declared.mistake.Refused.{Refused}
+use Rattle.ygrammar.specs.declared.mistake.Refused.TheVariants as refused
+use Rattle.ygrammar.specs.Cuttings.{Refusal}
+use Rattle.ygrammar.specs.Elaborated.{IsFirstRefused}
+use Rattle.ygrammar.specs.Faults.{IsRefusal, mistake_at}
+use Rattle.ygrammar.specs.Grammar.{GrammarValue}
+use Rattle.ygrammar.specs.GrammarOf.{AnswersGrammar, HasTree, IsFaultOf, IsMistaken}
+use Rattle.ygrammar.specs.Lexemes.{Lexeme}
+use Rattle.ygrammar.specs.Meaning.{IsMeaning}
+use Rattle.ygrammar.specs.Mistakes.{order}
+use Rattle.ygrammar.specs.Tree.{IsTree, Tree, yield}
+use Rattle.ygrammar.proofs.OneMeaning.{none_first, one_meaning}
+use Rattle.ygrammar.proofs.OneTree.{one_tree}
+use Rattle.ygrammar.proofs.TellingSteps.{false_true}
+
+abbrev pub ok_of : {E T : Type 0} → T → Result T E
+ok_of x = Ok x
+
+lexemes_of : List Lexeme → Result (List Lexeme) Refusal → List Lexeme
+lexemes_of d (Ok ls) = ls
+lexemes_of d (Err r) = d
+
+abbrev pub read : List Lexeme → Result (List Lexeme) Refusal
+read ls = Ok ls
+
+-- a file has one tree
+pub same_tree : (t u : Tree) → IsTree t → IsTree u → read (yield u) ≡ read (yield t) → u ≡ t
+unfolding lexemes_of
+same_tree t u a b e = one_tree u t b a (ap (lexemes_of (yield u)) e)
+
+-- a file has one grammar
+pub same_grammar : (source : List ℕ) (t u : Tree) (g h : GrammarValue) → u ≡ t → IsMeaning t g → IsMeaning u h → g ≡ h
+same_grammar source t u g h e a b = one_meaning t g h a (subst (λ x. IsMeaning x h) e b)
+
+-- a file with a grammar has no mistake
+pub no_grammar : (t u : Tree) (e : Refused) (f : GrammarFault) (h : GrammarValue) → u ≡ t → IsFirstRefused t e → IsRefusal e f → IsMeaning u h → AnswersGrammar (Err f) h
+no_grammar t u (refused.Mistake what at) f h e first is m = absurd (none_first t order what (subst (λ x. IsMeaning x h) e m).sound first)
+no_grammar t u refused.Memory f h e first is m = subst (λ (x : GrammarFault). AnswersGrammar (Err x) h) (sym is) tt
+
+mistaken : (source : List ℕ) (m : Mistake) (line : ℕ) → IsMistaken source m → IsFaultOf source (mistake_at m line)
+mistaken source TokenLeft line p = p
+mistaken source Undefined line p = p
+mistaken source TwicePrecedence line p = p
+mistaken source BadNumber line p = p
+mistaken source BadStart line p = p
+mistaken source Unproductive line p = p
+mistaken source BadPrec line p = p
+mistaken source Limit line p = p
+
+-- the mistake of the tree is the fault of the file
+pub fault_of : (source : List ℕ) (t : Tree) (e : Refused) (f : GrammarFault) → HasTree source t → IsFirstRefused t e → IsRefusal e f → IsFaultOf source f
+fault_of source t (refused.Mistake what at) f h first (line, is) = subst (λ (x : GrammarFault). IsFaultOf source x) (sym is) (mistaken source what line (t, h, first))
+fault_of source t refused.Memory f h first is = subst (λ (x : GrammarFault). IsFaultOf source x) (sym is) tt
+
+-- an answer is no error
+pub ok_err : {T E : Type 0} (x : T) (e : E) → IsErrOf (ok_of {E = E} x) e → ⊥
+ok_err {T = T} {E = E} x e h = false_true (sym (ap (λ (r : Result T E). elim r [ Ok y ↦ true | Err d ↦ false ]) h))
+
+pub not_long : (n : ℕ) → (1048576 < n → ⊥) → n ≤ 1048576
+not_long n h = go (long_or n)
+  where
+    long_or : (k : ℕ) → (1048576 < k) ⊎ (k ≤ 1048576)
+    long_or k = grind (arith)
+
+    go : (1048576 < n) ⊎ (n ≤ 1048576) → n ≤ 1048576
+    go (inl l) = absurd (h l)
+    go (inr l) = l
