@@ -110,3 +110,40 @@ fn conditions(rt: HostRuntime) -> Result<(), Fail> {
     assert_eq!(rt; m.states(), 7);
     Ok(())
 }
+
+#[test]
+fn sums_and_products(rt: HostRuntime) -> Result<(), Fail> {
+    let m = automaton(
+        &rt,
+        rt.alloc(),
+        b"%token NUM %left '+' %left '*' %% e : e '+' e | e '*' e | NUM ;",
+    )?;
+    assert_eq!(rt; m.states(), 7);
+    Ok(())
+}
+
+#[test]
+fn two_reductions(rt: HostRuntime) -> Result<(), Fail> {
+    let m = automaton(
+        &rt,
+        rt.alloc(),
+        b"%% s : 'a' p 'd' | 'b' q 'd' | 'a' q 'e' | 'b' p 'e' ; p : 'c' ; q : 'c' ;",
+    )?;
+    assert_eq!(rt; m.states(), 13);
+    Ok(())
+}
+
+#[test]
+fn a_chain(rt: HostRuntime) -> Result<(), Fail> {
+    // 'p' is 2, 'q' 3, 'r' 4, 't' 5, 'y' 6, $accept 7, s 8, a 9, b 10, c 11
+    let m = automaton(
+        &rt,
+        rt.alloc(),
+        b"%% s : 'p' a 'q' ; a : 'r' b ; b : 't' c ; c : 'y' ;",
+    )?;
+    assert_eq!(rt; m.states(), 10);
+    assert!(rt; looks_at(&m, &[2, 4, 10], 2, 2, 7, &[3]));
+    assert!(rt; looks_at(&m, &[2, 4, 5, 11], 3, 2, 7, &[3]));
+    assert!(rt; looks_at(&m, &[2, 4, 5, 6], 4, 1, 7, &[3]));
+    Ok(())
+}

@@ -14,18 +14,18 @@ pub returns-then-not-has-clause-sound : goal.returns-then-not-has-clause-sound
 returns-then-not-has-clause-sound c =
     let g = c.args.grammar.now.bare in
     let k = c.loop-s.s-index in
-    let bb : c.body-body.result.now ≡ body_of g c.args.rule = c.body-body.ensures ∙ ap (λ (p : Production). p.body) c.rule-r.ensures in
+    let bb : c.body-body.result.now ≡ body_of g c.args.rule = c.body-body.ensures ∙ ap (λ (p : Production). p.body) c.rule-r.ensures.production in
     let kl : k < length (body_of g c.args.rule) = subst (λ (b : List ℕ). k < length b) bb (omega arith) in
     let pas = subst (λ (b : List ℕ). All (marked c.args.nullable.now) (take k b)) bb c.loop-s.invariant.passed in
-    let le : c.left-left.result ≡ left_of g c.args.rule = c.left-left.ensures ∙ ap (λ (p : Production). p.left) c.rule-r.ensures in
+    let le : c.left-left.result ≡ left_of g c.args.rule = c.left-left.ensures ∙ ap (λ (p : Production). p.left) c.rule-r.ensures.production in
     sound_adds g c.args.nullable.now c.loop-s.first c.add_row-grew.new.self c.args.rule k c.left-left.result (get_or c.body-body.result.now k 0) c.loop-s.invariant.sound c.add_row-grew.ensures.adds c.requires.exact c.requires.within kl pas le (ap (λ (b : List ℕ). get_or b k 0) bb)
 
 pub returns-then-not-has-clause-closed : goal.returns-then-not-has-clause-closed
 returns-then-not-has-clause-closed c = λ e.
     let g = c.args.grammar.now.bare in
     let k = c.loop-s.s-index in
-    let bb : c.body-body.result.now ≡ body_of g c.args.rule = c.body-body.ensures ∙ ap (λ (p : Production). p.body) c.rule-r.ensures in
-    let le : c.left-left.result ≡ left_of g c.args.rule = c.left-left.ensures ∙ ap (λ (p : Production). p.left) c.rule-r.ensures in
+    let bb : c.body-body.result.now ≡ body_of g c.args.rule = c.body-body.ensures ∙ ap (λ (p : Production). p.body) c.rule-r.ensures.production in
+    let le : c.left-left.result ≡ left_of g c.args.rule = c.left-left.ensures ∙ ap (λ (p : Production). p.left) c.rule-r.ensures.production in
     let be = ap (λ (b : List ℕ). get_or b k 0) bb in
     let same = c.add_row-grew.ensures.grown.unchanged (or_second c.loop-s.grew c.add_row-grew.result e) in
     let here = place_closed g c.args.nullable.now c.loop-s.first c.add_row-grew.new.self c.args.rule k c.left-left.result (get_or c.body-body.result.now k 0) c.add_row-grew.ensures.adds same le be in
@@ -36,11 +36,11 @@ loop-s-preserved c =
     let g = c.args.grammar.now.bare in
     let k = c.loop-s.s-index in
     let i = c.loop-s.invariant in
-    let bb : c.body-body.result.now ≡ body_of g c.args.rule = c.body-body.ensures ∙ ap (λ (p : Production). p.body) c.rule-r.ensures in
+    let bb : c.body-body.result.now ≡ body_of g c.args.rule = c.body-body.ensures ∙ ap (λ (p : Production). p.body) c.rule-r.ensures.production in
     let ko : k < length c.body-body.result.now = omega arith in
     let kl : k < length (body_of g c.args.rule) = subst (λ (b : List ℕ). k < length b) bb ko in
     let pas = subst (λ (b : List ℕ). All (marked c.args.nullable.now) (take k b)) bb i.passed in
-    let le : c.left-left.result ≡ left_of g c.args.rule = c.left-left.ensures ∙ ap (λ (p : Production). p.left) c.rule-r.ensures in
+    let le : c.left-left.result ≡ left_of g c.args.rule = c.left-left.ensures ∙ ap (λ (p : Production). p.left) c.rule-r.ensures.production in
     let be = ap (λ (b : List ℕ). get_or b k 0) bb in
     let m : marked c.args.nullable.now (get_or c.body-body.result.now k 0) = sym c.has.ensures ∙ c.if-not-has.false in
     record {

@@ -8,5 +8,5 @@ use Rattle.ylalr.proofs.nullable.visit.Goals as goal
 pub returns-then-all_marked-clause-sound : goal.returns-then-all_marked-clause-sound
 returns-then-all_marked-clause-sound c =
     let m = c.args.marks.now in
-    let b = subst (All (marked m)) (c.body.ensures ∙ ap (λ (p : Production). p.body) c.rule-r.ensures) (c.all_marked.ensures.0 c.if-all_marked.true) in
-    sound_after c.args.grammar.now.bare m c.mark.new.self c.args.rule c.left.result c.requires.sound c.requires.within (c.left.ensures ∙ ap (λ (p : Production). p.left) c.rule-r.ensures) b c.mark.ensures.set
+    let b = subst (All (marked m)) (c.body.ensures ∙ ap (λ (p : Production). p.body) c.rule-r.ensures.production) (c.all_marked.ensures.0 c.if-all_marked.true) in
+    sound_after c.args.grammar.now.bare m c.mark.new.self c.args.rule c.left.result c.requires.sound c.requires.within (c.left.ensures ∙ ap (λ (p : Production). p.left) c.rule-r.ensures.production) b c.mark.ensures.set
