@@ -1,12 +1,12 @@
 -- The byte by byte reading of a literal meets what a literal is.
-use Rattle.std.proofs.Common.{ℕ, ◌≡◌, ◌≢◌, ◌≤◌, ◌<◌, ◌+◌, ◌*◌, Bool, true, false, cond, not, ◌&&◌, ◌||◌, ◌⊎◌, inl, inr, eqb, leb, ltb, List, [], ◌∷◌, ◌++◌, length, Option, Some, None, refl, sym, ap, ◌∙◌, subst, arith, append_assoc, append-nil}
+use Rattle.std.proofs.Common.{ℕ, ◌≡◌, ◌≢◌, ◌≤◌, ◌<◌, ◌+◌, ◌*◌, Bool, true, false, cond, not, ◌&&◌, ◌||◌, ◌⊎◌, inl, inr, eqb, leb, ltb, List, [], ◌∷◌, ◌++◌, length, Option, Some, None, refl, sym, ap, ◌∙◌, subst, arith, append_assoc, append-nil, length-append, drop, get_or}
 use Rattle.std.proofs.lemmas.Bool.{eqb-true, eqb-false, ne_eqb, and_parts, and_from, or_cases, or_left, or_right, cases_lt, cond-true, cond-false, leb-true, ltb-true, le-leb, lt-ltb, not-true}
 use Rattle.std.proofs.lemmas.Bool.Decides.{nat_tests}
 use Rattle.std.specs.Char.{digit_value}
 use Rattle.std.specs.Str.Parse.{AllDigits, digits_value, digits_value_after}
 use Rattle.ygrammar.specs.declared.literal.Stage.{Stage}
 use Rattle.ygrammar.specs.declared.literal.Stage.TheVariants.{Opened, Backslash, Shut, Octals, HexMark, Hexed}
-use Rattle.ygrammar.specs.Lexemes.{escape_value, IsCharacter, plain, escape, octal, hexadecimal, IsLiteral}
+use Rattle.ygrammar.specs.Lexemes.{escape_value, IsCharacter, plain, escape, octal, hexadecimal, IsLiteral, LiteralAt}
 use Rattle.ygrammar.specs.Stages.{is_plain, digit_in, octal_fits, octal_with, more_octals, hex_with, more_hex, escaped_with, next_stage, closed_stage, Answer, found, stuck, short, shut_with, shut_scan, scan}
 
 -- ---- moves
@@ -368,3 +368,35 @@ short_begins tail e =
     let f = short_finishes Opened tail tt e in
     let (text, w, h) = literal_spelled (tail ++ f.more) [] f.value f.finds in
     (f.value, f.more, subst (λ t. IsLiteral t f.value) (sym (w ∙ append-nil text)) h)
+
+-- ---- the literal at the front
+
+-- it begins with a quote
+pub quote_first : (bytes rest : List ℕ) (v : ℕ) → LiteralAt bytes v rest → (tail : List ℕ) × (bytes ≡ 39 ∷ tail)
+quote_first bytes rest v (text, h, e) = ((h.body ++ 39 ∷ []) ++ rest, e ∙ ap (λ t. t ++ rest) h.whole)
+
+-- there is one alone
+pub one_literal : (bytes r s : List ℕ) (v w : ℕ) → LiteralAt bytes v r → LiteralAt bytes w s → (v ≡ w) × (r ≡ s)
+one_literal bytes r s v w a (text, h, e) =
+    let (tail, first) = quote_first bytes r v a in
+    let (t, i, f) = a in
+    let x : scan Opened tail ≡ found v r = literal_found t tail r v i (sym first ∙ f) in
+    let y : scan Opened tail ≡ found w s = literal_found text tail s w h (sym first ∙ e) in
+    let same : found v r ≡ found w s = sym x ∙ y in
+    (cc, cc)
+
+-- it takes bytes
+pub literal_shorter : (bytes rest : List ℕ) (v : ℕ) → LiteralAt bytes v rest → length rest < length bytes
+literal_shorter bytes rest v (text, h, e) = omega (arith, ap length e, length-append text rest, ap length h.whole)
+
+pub literal_of_scan : (bytes tail rest : List ℕ) (v : ℕ) → bytes ≡ 39 ∷ tail → scan Opened tail ≡ found v rest → LiteralAt bytes v rest
+literal_of_scan bytes tail rest v first e = let (t, w, i) = literal_spelled tail rest v e in (t, i, first ∙ w)
+
+pub no_literal_of_scan : (bytes tail : List ℕ) (a : Answer) → bytes ≡ 39 ∷ tail → scan Opened tail ≡ a → ((v : ℕ) (r : List ℕ) → a ≡ found v r → ⊥)
+    → (v : ℕ) (rest : List ℕ) → LiteralAt bytes v rest → ⊥
+no_literal_of_scan bytes tail a first e none v rest (t, h, w) = none v rest (sym e ∙ literal_found t tail rest v h (sym first ∙ w))
+
+-- the quote at the front, and what is behind it
+pub quoted_front : (bytes tail : List ℕ) → 0 < length bytes → get_or bytes 0 0 ≡ 39 → tail ≡ drop 1 bytes → bytes ≡ 39 ∷ tail
+quoted_front [] tail h e b = absurd (omega arith)
+quoted_front (x ∷ xs) tail h e b = ap (λ (y : ℕ). y ∷ xs) e ∙ ap (λ (l : List ℕ). 39 ∷ l) (sym b)

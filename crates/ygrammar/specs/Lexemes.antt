@@ -57,6 +57,10 @@ pub record IsLiteral (text : List ℕ) (value : ℕ) : Type 0 where
   pub whole : text ≡ 39 ∷ body ++ 39 ∷ []
   pub character : IsCharacter body value
 
+-- a literal of this value stands at the front, and this follows it
+abbrev pub LiteralAt : List ℕ → ℕ → List ℕ → Type 0
+LiteralAt bytes value rest = (text : List ℕ) × IsLiteral text value × (bytes ≡ text ++ rest)
+
 -- what stands between two quotes q, a backslash taking the byte behind it along
 pub data IsInside (q : ℕ) : List ℕ → Type 0 where
   nothing : IsInside q []

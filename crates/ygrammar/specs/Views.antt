@@ -11,7 +11,7 @@ use Rattle.ygrammar.specs.declared.part.Lexeme.TheVariants as lexemes
 use Rattle.ygrammar.specs.declared.part.LexicalFault.{LexicalFault}
 use Rattle.ygrammar.specs.declared.part.LexicalFault.TheVariants as faults
 use Rattle.ygrammar.specs.Bytes.{is_digit, is_blank, is_name_start, begins, IsComment, IsGap}
-use Rattle.ygrammar.specs.Lexemes.{Lexeme, name, head, literal, number, act, code, fixed}
+use Rattle.ygrammar.specs.Lexemes.{Lexeme, LiteralAt, name, head, literal, number, act, code, fixed}
 use Rattle.ygrammar.specs.Cuttings.{Part, blank, comment, lexeme, PartAt, Fault, unfinished, bad_literal, foreign, FaultAt}
 
 abbrev pub slice_of : Option (Bor (List ℕ)) → Option (List ℕ)
@@ -46,6 +46,11 @@ fault_view faults.Foreign = foreign
 abbrev pub Reads : List ℕ → Result (CodePart × Bor (List ℕ)) LexicalFault → Type 0
 Reads bytes (Ok (part, rest)) = PartAt bytes (part_view part) rest.now
 Reads bytes (Err fault) = FaultAt bytes (fault_view fault)
+
+-- the literal at the front is found where one stands there
+abbrev pub FindsLiteral : List ℕ → Option (ℕ × Bor (List ℕ)) → Type 0
+FindsLiteral bytes None = (value : ℕ) (rest : List ℕ) → LiteralAt bytes value rest → ⊥
+FindsLiteral bytes (Some (value, rest)) = LiteralAt bytes value rest.now
 
 abbrev pub begins_digit : List ℕ → Bool
 begins_digit bytes = begins is_digit bytes

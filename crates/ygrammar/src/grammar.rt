@@ -3,10 +3,11 @@
 ghost use Rattle.std.specs.Prelude.{◌≡◌, ◌<◌, ◌↔◌, [], None, IsTrue, false, length, slice_get, slice_index_or};
 ghost use Rattle.ygrammar.specs.Grammar.{IsToken, owned_view, rule_of};
 ghost use Rattle.ygrammar.specs.NameTexts.{find_in, value_of};
+ghost use Rattle.ygrammar.specs.Names.{printed_literal};
 ghost use Rattle.ygrammar.specs.TreeViews.{text_view};
 ghost use Rattle.ygrammar.specs.WellFormed.{IsWhole, WellFormed};
 
-use crate::names::{Names, number_in};
+use crate::names::{Names, Printed, number_in};
 use crate::precedence::Precedence;
 use std::marker::Model;
 
@@ -187,6 +188,13 @@ impl Grammar {
     {
         let s = number_in(&self.names, name);
         if s < self.names.len() { Some(s) } else { None }
+    }
+
+    /// The token that is the literal of this value, where the grammar has it.
+    pub fn find_literal(&self, value: u8) -> Option<Sym>
+        ensures { result ≡ find_in self.now.names (printed_literal value) }
+    {
+        self.find(Printed::new(value).as_slice())
     }
 
     /// The number of a token; a nonterminal has none.

@@ -36,6 +36,7 @@ pub use cutting::{FILE_LIMIT, Placed, read_syntax};
 pub use fault::{GrammarFault, SyntaxFault};
 pub use grammar::{Grammar, Rule, Sym};
 pub use kind::{Kind, Sign};
+pub use literal::literal_at;
 pub use part::Lexeme;
 pub use precedence::{Associativity, Precedence};
 pub use reader::read_grammar;

@@ -3,7 +3,7 @@
 ghost use Rattle.std.specs.Prelude.{◌≡◌, ◌≤◌, true};
 ghost use Rattle.ygrammar.specs.Lexemes.{escape_value};
 ghost use Rattle.ygrammar.specs.Stages.{is_plain, digit_in, opened, escaped, more_octals, more_hex, next_stage, closed_stage, shut_scan, scan, scan_view};
-ghost use Rattle.ygrammar.specs.Views.{Reads, begins_quote};
+ghost use Rattle.ygrammar.specs.Views.{FindsLiteral, Reads, begins_quote};
 
 use crate::part::{Lexeme, LexicalFault, Part};
 
@@ -188,8 +188,8 @@ fn shut<'a>(stage: Stage, b: u8, rest: &'a [u8]) -> Scan<'a>
     }
 }
 
-/// The literal at the front.
-pub fn literal_at<'a>(bytes: &'a [u8]) -> Result<(Part<'a>, &'a [u8]), LexicalFault>
+/// The literal at the front, as a part.
+pub(crate) fn read_literal<'a>(bytes: &'a [u8]) -> Result<(Part<'a>, &'a [u8]), LexicalFault>
     requires { begins_quote bytes.now ≡ true }
     ensures { Reads bytes.now result }
 {
@@ -197,5 +197,19 @@ pub fn literal_at<'a>(bytes: &'a [u8]) -> Result<(Part<'a>, &'a [u8]), LexicalFa
         Scan::Found(value, rest) => Ok((Part::Lexeme(Lexeme::Literal(value)), rest)),
         Scan::Stuck => Err(LexicalFault::BadLiteral),
         Scan::Short => Err(LexicalFault::Unfinished),
+    }
+}
+
+/// The value of the literal at the front, 1 to 255, and what follows it, where a literal stands there.
+pub fn literal_at(bytes: &[u8]) -> Option<(u8, &[u8])>
+    ensures { FindsLiteral bytes.now result }
+{
+    if bytes.is_empty() || bytes[0] != b'\'' {
+        return None;
+    }
+    match scan_literal(bytes.split_at(1).1) {
+        Scan::Found(value, rest) => Some((value, rest)),
+        Scan::Stuck => None,
+        Scan::Short => None,
     }
 }

@@ -10,7 +10,7 @@ use crate::bytes::{
 };
 use crate::kept::act_at;
 use crate::kind::Sign;
-use crate::literal::literal_at;
+use crate::literal::read_literal;
 use crate::part::{Lexeme, LexicalFault, Part};
 use crate::percent::percent_at;
 
@@ -74,7 +74,7 @@ fn other_at<'a>(bytes: &'a [u8]) -> Result<(Part<'a>, &'a [u8]), LexicalFault>
 {
     let first = bytes[0];
     if first == b'\'' {
-        literal_at(bytes)
+        read_literal(bytes)
     } else if first == b'%' {
         percent_at(bytes)
     } else if first == b'{' {
