@@ -1,13 +1,15 @@
 -- The words of a tokens file: one answer for each file, and the steps of reading it.
-use Rattle.std.proofs.Common.{ℕ, zero, suc, ◌≡◌, ◌+◌, ◌-◌, ◌<◌, ◌≤◌, ◌++◌, nat_lt, ◌==◌, ◌&&◌, Bool, true, false, List, [], ◌∷◌, Option, Some, None, Result, Ok, Err, length, take, drop, get_or, refl, sym, ap, ◌∙◌, subst, arith, append_assoc, append-nil, take-append-drop, length-append, true≢false, if◌then◌else◌}
-use Rattle.std.proofs.lemmas.Bool.{lt-ltb, ltb-true}
-use Rattle.std.proofs.lemmas.List.{take_rest}
+use Rattle.std.proofs.Common.{ℕ, zero, suc, ◌≡◌, ◌+◌, ◌<◌, ◌++◌, nat_lt, ◌==◌, ◌&&◌, Bool, true, false, List, [], ◌∷◌, Option, Some, None, Result, Ok, Err, length, refl, sym, ap, ◌∙◌, subst, arith, append_assoc, append-nil, length-append, true≢false, if◌then◌else◌}
+use Rattle.std.proofs.lemmas.Bool.{eqb-true, lt-ltb, ltb-true}
+use Rattle.ygrammar.specs.Lexemes.{LiteralAt}
+use Rattle.ygrammar.specs.Names.{printed_literal}
+use Rattle.ygrammar.proofs.Literals.{literal_shorter, one_literal, quote_first}
 use Rattle.ycli.specs.declared.tables.Tables.{Tables}
 use Rattle.ycli.specs.declared.tokens.Tokens.{Tokens}
 use Rattle.ycli.specs.declared.tokens.TokenFault.{TokenFault}
 use Rattle.ycli.specs.declared.tokens.TokenFault.TheVariants as faults
 use Rattle.std.specs.List.{All}
-use Rattle.ycli.specs.TokensFile.{is_blank, is_plain, is_word_byte, all_pass, begins, WordAt, literal, run, Front, nothing, word, broken, FrontAt, FrontIs, Says, token, answer, named, says, with_token, Comes, Reads, Outcome}
+use Rattle.ycli.specs.TokensFile.{is_blank, is_word_byte, all_pass, begins, WordAt, literal, run, Front, nothing, word, broken, FrontAt, FrontIs, Says, token, answer, named, says, with_token, Comes, Reads, Outcome}
 use Rattle.ycli.specs.Tables.{symbol_named, is_input, token_count}
 use Rattle.ycli.specs.Reading.{TokensOf, Gives, Agrees}
 
@@ -31,26 +33,36 @@ one_run p (x ∷ xs) (y ∷ ys) r s e a b c d =
     (ap (λ (l : List ℕ). x ∷ l) h ∙ ap (λ (z : ℕ). z ∷ ys) same, t)
 
 -- a literal is no run
-pub quote_run : (bytes name rest other : List ℕ) (value : ℕ) → bytes ≡ 39 ∷ value ∷ 39 ∷ other → bytes ≡ name ++ rest → 0 < length name → all_pass is_word_byte name ≡ true → ⊥
-quote_run bytes [] rest other value e f h a = omega arith
-quote_run bytes (b ∷ bs) rest other value e f h a =
+pub quote_run : (bytes tail name rest : List ℕ) → bytes ≡ 39 ∷ tail → bytes ≡ name ++ rest → 0 < length name → all_pass is_word_byte name ≡ true → ⊥
+quote_run bytes tail [] rest e f h a = omega arith
+quote_run bytes tail (b ∷ bs) rest e f h a =
     let same : b ≡ 39 = cc in
     let t : is_word_byte 39 ≡ true = sym (ap is_word_byte same) ∙ (and_true (is_word_byte b) (all_pass is_word_byte bs) a).0 in
     true≢false (sym t)
 
+literal_run : (bytes n r m s : List ℕ) (v : ℕ) → LiteralAt bytes v r → bytes ≡ m ++ s → 0 < length m → all_pass is_word_byte m ≡ true → ⊥
+literal_run bytes n r m s v a e f h = let (tail, first) = quote_first bytes r v a in quote_run bytes tail m s first e f h
+
 pub one_word : (bytes n1 r1 n2 r2 : List ℕ) → WordAt bytes n1 r1 → WordAt bytes n2 r2 → (n1 ≡ n2) × (r1 ≡ r2)
-one_word bytes n1 r1 n2 r2 (literal {value = v} a b p) (literal {value = w} c d q) =
-    let e : bytes ≡ 39 ∷ v ∷ 39 ∷ r1 = b ∙ ap (λ (l : List ℕ). l ++ r1) a in
-    let f : bytes ≡ 39 ∷ w ∷ 39 ∷ r2 = d ∙ ap (λ (l : List ℕ). l ++ r2) c in
-    let same : v ≡ w = cc in
-    (a ∙ ap (λ (x : ℕ). 39 ∷ x ∷ 39 ∷ []) same ∙ sym c, cc)
-one_word bytes n1 r1 n2 r2 (literal {value = v} a b p) (run c d e f) = absurd (quote_run bytes n2 r2 r1 v (b ∙ ap (λ (l : List ℕ). l ++ r1) a) c d e)
-one_word bytes n1 r1 n2 r2 (run a b c d) (literal {value = w} e f q) = absurd (quote_run bytes n1 r1 r2 w (f ∙ ap (λ (l : List ℕ). l ++ r2) e) a b c)
+one_word bytes n1 r1 n2 r2 (literal {value = v} a b) (literal {value = w} c d) =
+    let (same, rest) = one_literal bytes r1 r2 v w b d in
+    (a ∙ ap printed_literal same ∙ sym c, rest)
+one_word bytes n1 r1 n2 r2 (literal {value = v} a b) (run c d e f) = absurd (literal_run bytes n1 r1 n2 r2 v b c d e)
+one_word bytes n1 r1 n2 r2 (run a b c d) (literal {value = w} e f) = absurd (literal_run bytes n2 r2 n1 r1 w f a b c)
 one_word bytes n1 r1 n2 r2 (run a b c d) (run e f g h) = one_run is_word_byte n1 n2 r1 r2 (sym a ∙ e) c d g h
+
+-- where no literal stands at a quote, no word does
+pub no_word : (bytes : List ℕ) → begins (λ b. b == 39) bytes ≡ true → ((value : ℕ) (rest : List ℕ) → LiteralAt bytes value rest → ⊥)
+    → (name rest : List ℕ) → WordAt bytes name rest → ⊥
+no_word bytes q none name rest (literal {value = v} a b) = none v rest b
+no_word [] q none name rest (run a b c d) = cc
+no_word (x ∷ xs) q none name rest (run a b c d) =
+    let same : x ≡ 39 = eqb-true x 39 q in
+    quote_run (x ∷ xs) xs name rest (ap (λ (y : ℕ). y ∷ xs) same) a b c
 
 -- a word takes a byte
 pub word_some : (bytes name rest : List ℕ) → WordAt bytes name rest → length rest < length bytes
-word_some bytes name rest (literal a b p) = omega (arith, ap length b, length-append name rest, ap length a)
+word_some bytes name rest (literal {value = v} a b) = literal_shorter bytes rest v b
 word_some bytes name rest (run a b c d) = omega (arith, ap length a, length-append name rest, b)
 
 pub one_front_here : (bytes : List ℕ) (f g : Front) → FrontAt bytes f → FrontAt bytes g → f ≡ g
@@ -130,21 +142,6 @@ gives_fault t bytes (faults.NotInput place) a = a
 gives_fault t bytes faults.TooMany a = a
 gives_fault t bytes faults.Memory a = tt
 gives_fault t bytes (faults.BadLiteral place) a = a
-
--- the literal at the front, in three bytes
-pub three_bytes : (bytes : List ℕ) → 3 ≤ length bytes → take 3 bytes ≡ get_or bytes 0 0 ∷ get_or bytes 1 0 ∷ get_or bytes 2 0 ∷ []
-three_bytes [] h = absurd (omega arith)
-three_bytes (a ∷ []) h = absurd (omega arith)
-three_bytes (a ∷ b ∷ []) h = absurd (omega arith)
-three_bytes (a ∷ b ∷ c ∷ rest) h = refl
-
-pub literal_at : (bytes : List ℕ) → 3 ≤ length bytes → get_or bytes 0 0 ≡ 39 → get_or bytes 2 0 ≡ 39 → is_plain (get_or bytes 1 0) ≡ true
-    → WordAt bytes (take 3 bytes) (take (length bytes - 3) (drop 3 bytes))
-literal_at bytes h a b p =
-    literal {value = get_or bytes 1 0}
-    (three_bytes bytes h ∙ ap (λ (x : ℕ). x ∷ get_or bytes 1 0 ∷ get_or bytes 2 0 ∷ []) a ∙ ap (λ (x : ℕ). 39 ∷ get_or bytes 1 0 ∷ x ∷ []) b)
-    (sym (take-append-drop 3 bytes) ∙ ap (λ (l : List ℕ). take 3 bytes ++ l) (sym (take_rest bytes 3)))
-    p
 
 -- what is known of a token that comes next
 pub record Token (tokens n x : ℕ) (bytes rest : List ℕ) : Type 0 where

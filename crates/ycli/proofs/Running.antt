@@ -1,24 +1,51 @@
 -- What became of a run.
-use Rattle.std.proofs.Common.{ℕ, ◌≡◌, ◌∙◌, Bool, true, false, List, [], Option, Err, refl, sym, append-nil, if◌then◌else◌}
+use Rattle.std.proofs.Common.{ℕ, ◌≡◌, ◌∙◌, ◌⊎◌, inl, inr, Bool, true, false, List, [], Option, Err, refl, sym, subst, append-nil, if◌then◌else◌}
 use Rattle.std.specs.Io.KnownBytes.{Keeps, Appends}
 use Rattle.std.proofs.KnownBytes.{Appends-nil, Appends-kept}
+use Rattle.ygrammar.specs.declared.fault.GrammarFault.{GrammarFault}
+use Rattle.ygrammar.specs.declared.fault.GrammarFault.TheVariants as grammars
+use Rattle.ygrammar.specs.GrammarOf.{IsFaultOf, IsGrammarOf}
 use Rattle.ycli.specs.declared.link.Link.{Link}
 use Rattle.ycli.specs.declared.tables.Tables.{Tables}
 use Rattle.ycli.specs.declared.tokens.TokenFault.{TokenFault}
 use Rattle.ycli.specs.declared.tokens.TokenFault.TheVariants as faults
 use Rattle.ycli.specs.declared.arguments.YstepWords.{YstepWords}
+use Rattle.ycli.specs.declared.message.Trouble.{Trouble}
+use Rattle.ycli.specs.declared.message.Trouble.TheVariants.{CannotRead, NoMemory}
 use Rattle.ycli.specs.Link.{device_of, has_failed}
 use Rattle.ycli.specs.Sends.{Sends}
 use Rattle.ycli.specs.Reading.{Gives}
-use Rattle.ycli.specs.Programs.{FilesFail, Says, of_tokens}
+use Rattle.ycli.specs.Programs.{FilesFail, Says, of_grammar, of_tokens}
 
 -- a refused tokens file is a trouble of files
-pub tokens_fail : (paths : YstepWords) (t : Tables) (bytes : List ℕ) (fault : TokenFault) → Gives t bytes (Err fault) → FilesFail paths (of_tokens fault)
-tokens_fail paths t bytes (faults.Unknown place) given = (t, bytes, given)
-tokens_fail paths t bytes (faults.NotInput place) given = (t, bytes, given)
-tokens_fail paths t bytes faults.TooMany given = (t, bytes, given)
-tokens_fail paths t bytes faults.Memory given = tt
-tokens_fail paths t bytes (faults.BadLiteral place) given = (t, bytes, given)
+pub tokens_fail : (paths : YstepWords) (source : List ℕ) (t : Tables) (bytes : List ℕ) (fault : TokenFault) → IsGrammarOf source t.grammar → Gives t bytes (Err fault) → FilesFail paths (of_tokens fault)
+tokens_fail paths source t bytes (faults.Unknown place) is given = (source, t, bytes, is, given)
+tokens_fail paths source t bytes (faults.NotInput place) is given = (source, t, bytes, is, given)
+tokens_fail paths source t bytes faults.TooMany is given = (source, t, bytes, is, given)
+tokens_fail paths source t bytes faults.Memory is given = tt
+tokens_fail paths source t bytes (faults.BadLiteral place) is given = (source, t, bytes, is, given)
+
+-- a refused grammar file is one, too
+pub grammar_fails : (paths : YstepWords) (source : List ℕ) (fault : GrammarFault) → IsFaultOf source fault → FilesFail paths (of_grammar fault)
+grammar_fails paths source grammars.TooLong is = (source, is)
+grammar_fails paths source (grammars.Unfinished line) is = (source, is)
+grammar_fails paths source (grammars.BadLiteral line) is = (source, is)
+grammar_fails paths source (grammars.Foreign line) is = (source, is)
+grammar_fails paths source (grammars.Syntax line) is = (source, is)
+grammar_fails paths source (grammars.TokenLeft line) is = (source, is)
+grammar_fails paths source (grammars.Undefined line) is = (source, is)
+grammar_fails paths source (grammars.TwicePrecedence line) is = (source, is)
+grammar_fails paths source (grammars.BadNumber line) is = (source, is)
+grammar_fails paths source (grammars.BadStart line) is = (source, is)
+grammar_fails paths source (grammars.Unproductive line) is = (source, is)
+grammar_fails paths source (grammars.BadPrec line) is = (source, is)
+grammar_fails paths source (grammars.Limit line) is = (source, is)
+grammar_fails paths source grammars.Memory is = tt
+
+-- a tokens file that can't be read is one
+pub unread_fails : (paths : YstepWords) (trouble : Trouble) (path : _) → path ≡ paths.tokens → (trouble ≡ NoMemory) ⊎ (trouble ≡ CannotRead path) → FilesFail paths trouble
+unread_fails paths trouble path same (inl e) = subst (λ (t : Trouble). FilesFail paths t) (sym e) tt
+unread_fails paths trouble path same (inr e) = subst (λ (t : Trouble). FilesFail paths t) (sym e) (inr same)
 
 module _ {E : Type 0} (contents : E → Option (List ℕ)) where
   -- nothing was said

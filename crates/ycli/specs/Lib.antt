@@ -15,6 +15,5 @@ pub mod Reading
 pub mod Reply
 pub mod Transcript
 pub mod Serving
-pub mod Plain
 pub mod Arguments
 pub mod Programs

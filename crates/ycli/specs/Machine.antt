@@ -7,7 +7,7 @@ use Rattle.ycli.specs.declared.machine.Mode.{Mode}
 use Rattle.ycli.specs.declared.machine.Mode.TheVariants.{Running, Popping, Accepted, Failed}
 use Rattle.ycli.specs.declared.machine.StepKind.{StepKind}
 use Rattle.ycli.specs.declared.machine.StepKind.TheVariants as kinds
-use Rattle.ycli.specs.Tables.{Production}
+use Rattle.ygrammar.specs.Grammar.{Production}
 
 -- what a parse goes by: the cell of a stack's symbols and a token, whether a symbol leads anywhere from a stack, the rules,
 -- and the names; token 0 is the end of the input

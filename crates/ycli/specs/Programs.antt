@@ -6,8 +6,9 @@ use Rattle.clap.specs.declared.error.kind.ErrorKind.{ErrorKind}
 use Rattle.clap.specs.declared.error.kind.ErrorKind.TheVariants as kinds
 use Rattle.ycli.specs.declared.link.Link.{Link}
 use Rattle.ycli.specs.declared.tables.Tables.{Tables}
-use Rattle.ycli.specs.declared.plain.ReadFault.{ReadFault}
-use Rattle.ycli.specs.declared.plain.ReadFault.TheVariants as reading
+use Rattle.ygrammar.specs.declared.fault.GrammarFault.{GrammarFault}
+use Rattle.ygrammar.specs.declared.fault.GrammarFault.TheVariants as grammars
+use Rattle.ygrammar.specs.GrammarOf.{IsFaultOf, IsGrammarOf}
 use Rattle.ycli.specs.declared.thin.BuildFault.{BuildFault}
 use Rattle.ycli.specs.declared.thin.BuildFault.TheVariants as building
 use Rattle.ycli.specs.declared.tokens.TokenFault.{TokenFault}
@@ -16,7 +17,7 @@ use Rattle.ycli.specs.declared.fault.SessionFault.{SessionFault}
 use Rattle.ycli.specs.declared.fault.SessionFault.TheVariants as streams
 use Rattle.ycli.specs.declared.arguments.YstepWords.{YstepWords}
 use Rattle.ycli.specs.declared.message.Trouble.{Trouble}
-use Rattle.ycli.specs.declared.message.Trouble.TheVariants.{Usage, NotYet, Tokens, TooManySets, NoMemory, CannotRead, Session}
+use Rattle.ycli.specs.declared.message.Trouble.TheVariants.{Usage, Grammar, Tokens, TooManySets, NoMemory, CannotRead, Session}
 use Rattle.ycli.specs.declared.programs.Request.{Request}
 use Rattle.ycli.specs.declared.programs.Request.TheVariants as requests
 use Rattle.ycli.specs.Link.{device_of, has_failed}
@@ -29,6 +30,27 @@ use Rattle.ycli.specs.Transcript.{Tells, failed_read, failed_write}
 use Rattle.ycli.specs.Arguments.{ystep_app, ArePathsIn}
 
 -- ---- messages and statuses
+
+-- a code and a line
+abbrev pub lined : List ℕ → ℕ → List ℕ
+lined code line = (codes "ystep: " ++ (code ++ codes " at line ")) ++ (decimal line ++ codes "\n")
+
+-- the message on a grammar file
+abbrev pub grammar_message : GrammarFault → List ℕ
+grammar_message grammars.TooLong = codes "ystep: G1\n"
+grammar_message (grammars.Unfinished line) = lined (codes "G2") line
+grammar_message (grammars.BadLiteral line) = lined (codes "G3") line
+grammar_message (grammars.Foreign line) = lined (codes "G4") line
+grammar_message (grammars.Syntax line) = lined (codes "G5") line
+grammar_message (grammars.TokenLeft line) = lined (codes "G6") line
+grammar_message (grammars.Undefined line) = lined (codes "G7") line
+grammar_message (grammars.TwicePrecedence line) = lined (codes "G8") line
+grammar_message (grammars.BadNumber line) = lined (codes "G9") line
+grammar_message (grammars.BadStart line) = lined (codes "G10") line
+grammar_message (grammars.Unproductive line) = lined (codes "G11") line
+grammar_message (grammars.BadPrec line) = lined (codes "G12") line
+grammar_message (grammars.Limit line) = lined (codes "G13") line
+grammar_message grammars.Memory = codes "ystep: no memory\n"
 
 -- a code and the place of a token
 abbrev pub placed : List ℕ → ℕ → List ℕ
@@ -45,7 +67,7 @@ token_message (tokens.BadLiteral place) = placed (codes "K5") place
 -- the line that goes to standard error
 abbrev pub message : Trouble → List ℕ
 message Usage = codes "usage: ystep grammar tokens\n"
-message NotYet = codes "ystep: not yet\n"
+message (Grammar fault) = grammar_message fault
 message (Tokens fault) = token_message fault
 message TooManySets = codes "ystep: B1\n"
 message NoMemory = codes "ystep: no memory\n"
@@ -56,7 +78,7 @@ message (Session streams.Write) = codes "ystep: write fault\n"
 -- 1 for a file that is refused, 2 for words, 3 for what comes from outside and for limits
 abbrev pub status : Trouble → ℕ
 status Usage = 2
-status NotYet = 1
+status (Grammar fault) = 1
 status (Tokens fault) = 1
 status TooManySets = 3
 status NoMemory = 3
@@ -73,9 +95,21 @@ status_after (Ok done) = 0
 status_after (Err trouble) = status trouble
 
 -- the trouble that a fault of each file is
-abbrev pub of_grammar : ReadFault → Trouble
-of_grammar reading.NotYet = NotYet
-of_grammar reading.Memory = NoMemory
+abbrev pub of_grammar : GrammarFault → Trouble
+of_grammar grammars.TooLong = Grammar grammars.TooLong
+of_grammar (grammars.Unfinished line) = Grammar (grammars.Unfinished line)
+of_grammar (grammars.BadLiteral line) = Grammar (grammars.BadLiteral line)
+of_grammar (grammars.Foreign line) = Grammar (grammars.Foreign line)
+of_grammar (grammars.Syntax line) = Grammar (grammars.Syntax line)
+of_grammar (grammars.TokenLeft line) = Grammar (grammars.TokenLeft line)
+of_grammar (grammars.Undefined line) = Grammar (grammars.Undefined line)
+of_grammar (grammars.TwicePrecedence line) = Grammar (grammars.TwicePrecedence line)
+of_grammar (grammars.BadNumber line) = Grammar (grammars.BadNumber line)
+of_grammar (grammars.BadStart line) = Grammar (grammars.BadStart line)
+of_grammar (grammars.Unproductive line) = Grammar (grammars.Unproductive line)
+of_grammar (grammars.BadPrec line) = Grammar (grammars.BadPrec line)
+of_grammar (grammars.Limit line) = Grammar (grammars.Limit line)
+of_grammar grammars.Memory = NoMemory
 
 abbrev pub of_tables : BuildFault → Trouble
 of_tables building.TooManySets = TooManySets
@@ -108,7 +142,7 @@ Asks words (Ok (requests.Session paths)) = AreTaken words × ArePathsIn words pa
 Asks words (Ok (requests.Help text)) = AskHelp words
 Asks words (Err Usage) = AreMistaken words
 Asks words (Err NoMemory) = Unit {0}
-Asks words (Err NotYet) = ⊥
+Asks words (Err (Grammar fault)) = ⊥
 Asks words (Err (Tokens fault)) = ⊥
 Asks words (Err TooManySets) = ⊥
 Asks words (Err (CannotRead path)) = ⊥
@@ -116,19 +150,22 @@ Asks words (Err (Session fault)) = ⊥
 
 -- ---- what became of it
 
--- why there is no session over these files: the trouble is one of files, and one of tokens is what some bytes have
+-- why there is no session over these files: the trouble is one of files, one of the grammar is a fault of some bytes, and
+-- one of tokens is what some bytes have for tables of the grammar of some bytes
 abbrev pub FilesFail : YstepWords → Trouble → Type 0
-FilesFail paths NotYet = Unit {0}
-FilesFail paths (Tokens fault) = (tables : Tables) × (bytes : List ℕ) × TokensOf tables bytes (Err fault)
+FilesFail paths (Grammar fault) = (source : List ℕ) × IsFaultOf source fault
+FilesFail paths (Tokens fault) = (source : List ℕ) × (tables : Tables) × (bytes : List ℕ) × IsGrammarOf source tables.grammar × TokensOf tables bytes (Err fault)
 FilesFail paths TooManySets = Unit {0}
 FilesFail paths NoMemory = Unit {0}
 FilesFail paths (CannotRead path) = (path ≡ paths.grammar) ⊎ (path ≡ paths.tokens)
 FilesFail paths Usage = ⊥
 FilesFail paths (Session fault) = ⊥
 
--- a session at its start, over tables and the tokens of some bytes
+-- a session at its start, over tables of the grammar of some bytes, and the tokens of some bytes
 pub record Starts (m : Machine) (h : History) : Type 0 where
+  pub source : List ℕ
   pub tables : Tables
+  pub grammar : IsGrammarOf source tables.grammar
   pub bytes : List ℕ
   pub symbols : List ℕ
   pub tokens : TokensOf tables bytes (Ok symbols)
@@ -163,7 +200,7 @@ module _ {R W : Type 0} (remaining : R → Option (List ℕ)) (contents : W → 
   EndsIn (Err (Session fault)) = AreTaken words × Serves remaining contents r reader w writer (Err fault)
   EndsIn (Err Usage) = AreMistaken words × Rests r reader w writer
   EndsIn (Err NoMemory) = Rests r reader w writer
-  EndsIn (Err NotYet) = Fails words NotYet × Rests r reader w writer
+  EndsIn (Err (Grammar fault)) = Fails words (Grammar fault) × Rests r reader w writer
   EndsIn (Err (Tokens fault)) = Fails words (Tokens fault) × Rests r reader w writer
   EndsIn (Err TooManySets) = Fails words TooManySets × Rests r reader w writer
   EndsIn (Err (CannotRead path)) = Fails words (CannotRead path) × Rests r reader w writer

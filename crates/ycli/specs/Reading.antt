@@ -1,5 +1,6 @@
 -- What reading a tokens file answers.
 use Rattle.std.specs.Prelude.{ℕ, ◌≡◌, List, [], Result, Ok, Err}
+use Rattle.ygrammar.specs.Names.{printed_literal}
 use Rattle.ycli.specs.declared.tables.Tables.{Tables}
 use Rattle.ycli.specs.declared.tokens.Tokens.{Tokens}
 use Rattle.ycli.specs.declared.tokens.TokenFault.{TokenFault}
@@ -38,6 +39,7 @@ Agrees (Err (faults.BadLiteral place)) r = r ≡ Err (faults.BadLiteral place)
 abbrev pub front_view : CodeFront → Front
 front_view fronts.Nothing = nothing
 front_view (fronts.Word name rest) = word name.now rest.now
+front_view (fronts.Literal value rest) = word (printed_literal value) rest.now
 front_view fronts.Broken = broken
 
 -- what the code finds next

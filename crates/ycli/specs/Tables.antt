@@ -1,41 +1,31 @@
 -- What the tables say: cells and gotos by state, rules by number, names by symbol.
-use Rattle.std.specs.Prelude.{ℕ, ◌&&◌, Bool, nat_lt, List, [], ◌∷◌, map, position, slice_index_or, Option, Some, None}
-use Rattle.std.specs.Str.{bytes_eq}
+use Rattle.std.specs.Prelude.{ℕ, ◌&&◌, Bool, nat_lt, List, [], ◌∷◌, map, slice_index_or, Option, Some, None}
+use Rattle.ygrammar.specs.Grammar.{Production}
+use Rattle.ygrammar.specs.Grammar as grammar
+use Rattle.ygrammar.specs.NameTexts.{find_in}
 use Rattle.ycli.specs.declared.cell.Action.{Action}
 use Rattle.ycli.specs.declared.cell.Action.TheVariants as actions
 use Rattle.ycli.specs.declared.tables.Tables.{Tables}
-use Rattle.ycli.specs.declared.tables.Rule.{Rule}
-
--- a rule: a left side and a body
-pub record Production : Type 0 where
-  pub left : ℕ
-  pub body : List ℕ
 
 -- the printed name of a symbol, empty for a number that is no symbol
 abbrev pub name_of : Tables → ℕ → List ℕ
-name_of t symbol = slice_index_or (map (λ name. name.items) t.names.items) symbol []
+name_of t symbol = slice_index_or t.grammar.names symbol []
 
 -- the number of the symbol with this printed name
 abbrev pub symbol_named : Tables → List ℕ → Option ℕ
-symbol_named t name = position (λ known. bytes_eq known.items name) t.names.items
+symbol_named t name = find_in t.grammar.names name
 
 -- how many tokens there are; they have the lowest numbers
 abbrev pub token_count : Tables → ℕ
-token_count t = t.tokens
+token_count t = t.grammar.bare.tokens
 
 -- input tokens are those other than `$end` and `error`; tokens have the numbers below `tokens`
 abbrev pub is_input : ℕ → ℕ → Bool
 is_input tokens symbol = nat_lt 1 symbol && nat_lt symbol tokens
 
-abbrev pub production : Rule → Production
-production rule = record { left = rule.left; body = rule.body.items }
-
-abbrev pub no_production : Production
-no_production = record { left = 0; body = [] }
-
 -- the left side and the body of a rule
 abbrev pub rule_of : Tables → ℕ → Production
-rule_of t r = slice_index_or (map production t.rules.items) r no_production
+rule_of t r = grammar.rule_of t.grammar.bare r
 
 -- where a symbol leads from a state
 abbrev pub goto_at : Tables → ℕ → ℕ → Option ℕ

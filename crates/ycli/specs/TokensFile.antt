@@ -1,6 +1,8 @@
 -- A tokens file: words between blanks, and the input tokens that they name.
-use Rattle.std.specs.Prelude.{ℕ, suc, ◌≡◌, ◌<◌, nat_le, nat_lt, ◌==◌, ◌&&◌, ◌||◌, not, Bool, true, false, List, [], ◌∷◌, ◌++◌, length, Option, Some, None, Result, Ok, Err, if◌then◌else◌}
+use Rattle.std.specs.Prelude.{ℕ, suc, ◌≡◌, ◌<◌, nat_lt, ◌==◌, ◌&&◌, ◌||◌, not, Bool, true, false, List, [], ◌∷◌, ◌++◌, length, Option, Some, None, Result, Ok, Err, if◌then◌else◌}
 use Prim.Native.Nat.{zero}
+use Rattle.ygrammar.specs.Lexemes.{LiteralAt}
+use Rattle.ygrammar.specs.Names.{printed_literal}
 use Rattle.ycli.specs.declared.tokens.TokenFault.{TokenFault}
 use Rattle.ycli.specs.declared.tokens.TokenFault.TheVariants as faults
 use Rattle.ycli.specs.Tables.{is_input}
@@ -8,10 +10,6 @@ use Rattle.ycli.specs.Tables.{is_input}
 -- space, tab, newline, carriage return, form feed
 abbrev pub is_blank : ℕ → Bool
 is_blank b = b == 32 || b == 9 || b == 10 || b == 13 || b == 12
-
--- a byte that stands for itself in a literal: 32 to 126, and neither a quote nor a backslash
-abbrev pub is_plain : ℕ → Bool
-is_plain b = nat_le 32 b && (nat_le b 126 && (not (b == 39) && not (b == 92)))
 
 -- a byte of a word that is no literal: neither a blank nor a quote
 abbrev pub is_word_byte : ℕ → Bool
@@ -27,10 +25,10 @@ abbrev pub begins : (ℕ → Bool) → List ℕ → Bool
 begins p [] = false
 begins p (b ∷ bs) = p b
 
--- The printed name of the word at the front, and what follows it: a plain literal, which what follows may touch, or
--- the longest run of bytes that are neither blanks nor quotes.
+-- The printed name of the word at the front, and what follows it: a literal in any spelling, which what follows may
+-- touch, or the longest run of bytes that are neither blanks nor quotes.
 pub data WordAt (bytes name rest : List ℕ) : Type 0 where
-  literal : {value : ℕ} → name ≡ 39 ∷ value ∷ 39 ∷ [] → bytes ≡ name ++ rest → is_plain value ≡ true → WordAt bytes name rest
+  literal : {value : ℕ} → name ≡ printed_literal value → LiteralAt bytes value rest → WordAt bytes name rest
   run : bytes ≡ name ++ rest → 0 < length name → all_pass is_word_byte name ≡ true → begins is_word_byte rest ≡ false → WordAt bytes name rest
 
 -- what can stand at the front: nothing more, a word by its name with what follows it, or a quote that begins no literal

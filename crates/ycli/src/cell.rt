@@ -1,7 +1,6 @@
-//! The words of tables: symbols, and what a cell says.
+//! The words of tables: symbols by number, and what a cell says.
 
-/// A symbol's number: `$end` is 0, `error` is 1, the other tokens follow, then the nonterminals.
-pub type Sym = usize;
+pub use ygrammar::Sym;
 
 /// What a cell of the tables says.
 #[derive(Clone, Copy, Debug, PartialEq, Eq)]

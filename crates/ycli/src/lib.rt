@@ -9,7 +9,6 @@ mod held;
 pub mod link;
 pub mod machine;
 mod message;
-pub mod plain;
 pub mod programs;
 mod put;
 mod reply;

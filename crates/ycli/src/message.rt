@@ -2,23 +2,23 @@
 
 ghost use Rattle.std.specs.Prelude.{◌≡◌, ◌++◌, is_some, codes};
 ghost use Rattle.ycli.specs.Sends.{Sends};
-ghost use Rattle.ycli.specs.Programs.{message, status, placed, token_message};
+ghost use Rattle.ycli.specs.Programs.{grammar_message, lined, message, status, placed, token_message};
 
 use crate::fault::SessionFault;
 use crate::link::Link;
-use crate::plain::ReadFault;
 use crate::put::{put, put_all, put_number};
 use crate::thin::BuildFault;
 use crate::tokens::TokenFault;
 use std::io::{self, Write};
+use ygrammar::GrammarFault;
 
 /// Why a program ends before its work is done.
 #[derive(Clone, Copy, Debug)]
 pub(crate) enum Trouble<'a> {
     /// The words are refused.
     Usage,
-    /// The grammar file is more than the thin reader takes.
-    NotYet,
+    /// The grammar file is refused.
+    Grammar(GrammarFault),
     /// The tokens file is refused.
     Tokens(TokenFault),
     /// The grammar has too many item sets.
@@ -31,15 +31,15 @@ pub(crate) enum Trouble<'a> {
     Session(SessionFault),
 }
 
-impl<'a> From<ReadFault> for Trouble<'a> {
+impl<'a> From<GrammarFault> for Trouble<'a> {
     ghost use Rattle.ycli.specs.Programs.{of_grammar};
 
     ghost from_gives = { λ fault trouble. trouble ≡ of_grammar fault };
 
-    fn from(fault: ReadFault) -> Trouble<'a> {
+    fn from(fault: GrammarFault) -> Trouble<'a> {
         match fault {
-            ReadFault::NotYet => Trouble::NotYet,
-            ReadFault::Memory => Trouble::NoMemory,
+            GrammarFault::Memory => Trouble::NoMemory,
+            _ => Trouble::Grammar(fault),
         }
     }
 }
@@ -99,7 +99,7 @@ impl<'a> Trouble<'a> {
         ensures { result ≡ status self.now }
     {
         match self {
-            Trouble::NotYet => 1,
+            Trouble::Grammar(_) => 1,
             Trouble::Tokens(_) => 1,
             Trouble::Usage => 2,
             Trouble::TooManySets => 3,
@@ -115,7 +115,7 @@ impl<'a> Trouble<'a> {
     {
         match self {
             Trouble::Usage => put(link, b"usage: ystep grammar tokens\n"),
-            Trouble::NotYet => put(link, b"ystep: not yet\n"),
+            Trouble::Grammar(fault) => put_grammar_fault(link, *fault),
             Trouble::Tokens(fault) => put_token_fault(link, *fault),
             Trouble::TooManySets => put(link, b"ystep: B1\n"),
             Trouble::NoMemory => put(link, b"ystep: no memory\n"),
@@ -130,6 +130,36 @@ fn put_path<E: Write>(link: &mut Link<E>, path: &[u8]) -> Option<()>
     ensures { Sends E.contents link.old link.new (is_some result) (codes "ystep: cannot read " ++ (path.now ++ codes "\n")) }
 {
     put_all(link, &[b"ystep: cannot read ", path, b"\n"])
+}
+
+/// A code and a line.
+fn put_line<E: Write>(link: &mut Link<E>, code: &[u8], line: usize) -> Option<()>
+    ensures { Sends E.contents link.old link.new (is_some result) (lined code.now line) }
+{
+    put_all(link, &[b"ystep: ", code, b" at line "])?;
+    put_number(link, line as u64)?;
+    put(link, b"\n")
+}
+
+fn put_grammar_fault<E: Write>(link: &mut Link<E>, fault: GrammarFault) -> Option<()>
+    ensures { Sends E.contents link.old link.new (is_some result) (grammar_message fault) }
+{
+    match fault {
+        GrammarFault::TooLong => put(link, b"ystep: G1\n"),
+        GrammarFault::Unfinished { line } => put_line(link, b"G2", line),
+        GrammarFault::BadLiteral { line } => put_line(link, b"G3", line),
+        GrammarFault::Foreign { line } => put_line(link, b"G4", line),
+        GrammarFault::Syntax { line } => put_line(link, b"G5", line),
+        GrammarFault::TokenLeft { line } => put_line(link, b"G6", line),
+        GrammarFault::Undefined { line } => put_line(link, b"G7", line),
+        GrammarFault::TwicePrecedence { line } => put_line(link, b"G8", line),
+        GrammarFault::BadNumber { line } => put_line(link, b"G9", line),
+        GrammarFault::BadStart { line } => put_line(link, b"G10", line),
+        GrammarFault::Unproductive { line } => put_line(link, b"G11", line),
+        GrammarFault::BadPrec { line } => put_line(link, b"G12", line),
+        GrammarFault::Limit { line } => put_line(link, b"G13", line),
+        GrammarFault::Memory => put(link, b"ystep: no memory\n"),
+    }
 }
 
 /// A code and a place.

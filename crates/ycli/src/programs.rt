@@ -9,17 +9,17 @@ ghost use Rattle.ycli.specs.Programs.{Asks, Starts, FilesFail, EndsIn, Runs};
 use crate::arguments::{YstepWords, ystep_words};
 use crate::link::Link;
 use crate::message::Trouble;
-use crate::plain::read_plain;
 use crate::put::put;
 use crate::run::run_session;
 use crate::session::Session;
-use crate::thin::build_plain;
+use crate::thin::build_thin;
 use crate::tokens::read_tokens;
 use clap::error::ErrorKind;
 use std::alloc::Global;
 use std::fs;
 use std::io::{Read, Write};
 use std::rt::Files;
+use ygrammar::read_grammar;
 
 /// What the words of a program ask for.
 enum Request<'a> {
@@ -65,8 +65,8 @@ fn session_of<'a, F: Files + AllocGlobal>(
     ensures fails { IfErr result (FilesFail words.entry) }
 {
     let alloc = rt.alloc();
-    let grammar = read_plain(alloc, &bytes_of(rt, words.grammar())?)?;
-    let tables = build_plain(alloc, grammar)?;
+    let grammar = read_grammar(alloc, &bytes_of(rt, words.grammar())?)?;
+    let tables = build_thin(alloc, grammar)?;
     let tokens = read_tokens(alloc, &tables, &bytes_of(rt, words.tokens())?)?;
     Ok(Session::new(alloc, tables, tokens))
 }

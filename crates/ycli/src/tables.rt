@@ -1,23 +1,16 @@
-//! The thin tables: cells, gotos, rules and names as dense lists.
+//! The thin tables: a grammar, and cells and gotos as dense lists.
 
 ghost use Rattle.std.specs.Prelude.{◌≡◌, is_some, Some};
-ghost use Rattle.ycli.specs.Tables.{Production, name_of, symbol_named, token_count, is_input, rule_of, production, goto_at, goto_from, cell_at, cell_in, state_after};
+ghost use Rattle.ygrammar.specs.Names.{printed_literal};
+ghost use Rattle.ycli.specs.Tables.{name_of, symbol_named, token_count, is_input, rule_of, goto_at, goto_from, cell_at, cell_in, state_after};
 
 use crate::cell::{Action, Sym};
-
-/// A rule: a left side and a body.
-#[derive(Drop)]
-pub struct Rule {
-    pub(crate) left: Sym,
-    pub(crate) body: Vec<Sym>,
-}
+use ygrammar::Grammar;
 
 /// What a parse goes by.
 #[derive(Drop)]
 pub struct Tables {
-    pub(crate) names: Vec<Vec<u8>>,
-    pub(crate) tokens: usize,
-    pub(crate) rules: Vec<Rule>,
+    pub(crate) grammar: Grammar,
     pub(crate) cells: Vec<Vec<Action>>,
     pub(crate) gotos: Vec<Vec<Option<usize>>>,
 }
@@ -27,9 +20,10 @@ impl Tables {
     pub fn name(&self, symbol: Sym) -> &[u8]
         ensures { result.now ≡ name_of self.now symbol }
     {
-        match self.names.get(symbol) {
-            Some(name) => name.as_slice(),
-            None => &[],
+        if symbol < self.grammar.symbols() {
+            self.grammar.name(symbol)
+        } else {
+            &[]
         }
     }
 
@@ -37,14 +31,21 @@ impl Tables {
     pub fn find(&self, name: &[u8]) -> Option<Sym>
         ensures { result ≡ symbol_named self.now name.now }
     {
-        self.names.iter().position(|known| known.as_slice() == name)
+        self.grammar.find(name)
+    }
+
+    /// The number of the literal with this value.
+    pub(crate) fn find_literal(&self, value: u8) -> Option<Sym>
+        ensures { result ≡ symbol_named self.now (printed_literal value) }
+    {
+        self.grammar.find_literal(value)
     }
 
     /// Whether a symbol is a token other than `$end` and `error`.
     pub(crate) fn is_input(&self, symbol: Sym) -> bool
         ensures { result ≡ is_input (token_count self.now) symbol }
     {
-        1 < symbol && symbol < self.tokens
+        1 < symbol && symbol < self.grammar.tokens()
     }
 
     /// The left side and the body of a rule.
@@ -52,9 +53,11 @@ impl Tables {
         ensures left { result.0 ≡ (rule_of self.now number).left }
         ensures body { result.1.now ≡ (rule_of self.now number).body }
     {
-        match self.rules.get(number) {
-            Some(rule) => (rule.left, rule.body.as_slice()),
-            None => (0, &[]),
+        if number < self.grammar.rules() {
+            let rule = self.grammar.rule(number);
+            (rule.left(), rule.body())
+        } else {
+            (0, &[])
         }
     }
 

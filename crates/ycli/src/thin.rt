@@ -1,14 +1,13 @@
-//! The thin tables: LALR(1) item sets and lookaheads by plain saturation, and cells without precedences.
+//! The thin tables: LALR(1) item sets and lookaheads by plain saturation, and cells that pass over precedences.
 //! Of cells and gotos nothing is proved but that they are safe to make and that making them ends.
 
 ghost use Rattle.std.specs.Prelude.{◌≡◌, IfOk};
-ghost use Rattle.ycli.specs.Plain.{KeepsGrammar};
 
 use crate::cell::{Action, Sym};
-use crate::plain::Grammar;
-use crate::tables::{Rule, Tables};
+use crate::tables::Tables;
 use std::alloc::{AllocError, AllocFailed, Global};
 use thiserror::Error;
+use ygrammar::{Grammar, Rule};
 
 /// The most item sets.
 const MAX_SETS: usize = 16_384;
@@ -108,27 +107,38 @@ struct Facts {
 }
 
 /// The body of a rule.
-fn body_of(rules: &[Rule], rule: usize) -> &[Sym] {
-    match rules.get(rule) {
-        Some(rule) => rule.body.as_slice(),
-        None => &[],
+fn body_of(grammar: &Grammar, rule: usize) -> &[Sym] {
+    if rule < grammar.rules() {
+        grammar.rule(rule).body()
+    } else {
+        &[]
+    }
+}
+
+/// The left side of a rule.
+fn left_of(grammar: &Grammar, rule: usize) -> Option<Sym> {
+    if rule < grammar.rules() {
+        Some(grammar.rule(rule).left())
+    } else {
+        None
     }
 }
 
 /// The symbol behind the dot of an item.
-fn ahead(rules: &[Rule], item: Item) -> Option<Sym> {
-    body_of(rules, item.rule).get(item.dot).copied()
+fn ahead(grammar: &Grammar, item: Item) -> Option<Sym> {
+    body_of(grammar, item.rule).get(item.dot).copied()
 }
 
 /// Marks the left sides of rules whose bodies vanish. Whether there was one to mark.
-fn mark_nullable(rules: &[Rule], nullable: &mut [bool]) -> bool {
+fn mark_nullable(grammar: &Grammar, nullable: &mut [bool]) -> bool {
     let mut changed = false;
-    for rule in rules {
+    for number in 0..grammar.rules() {
+        let rule = grammar.rule(number);
         let vanishes = rule
-            .body
+            .body()
             .iter()
             .all(|symbol| nullable.get(*symbol).copied().unwrap_or(false));
-        if let Some(mark) = nullable.get_mut(rule.left) {
+        if let Some(mark) = nullable.get_mut(rule.left()) {
             if vanishes && !*mark {
                 *mark = true;
                 changed = true;
@@ -141,8 +151,8 @@ fn mark_nullable(rules: &[Rule], nullable: &mut [bool]) -> bool {
 /// Adds to the first tokens of a left side those of its body. Whether there was one to add.
 fn mark_first(rule: &Rule, nullable: &[bool], first: &mut Marks) -> bool {
     let mut changed = false;
-    for symbol in rule.body.as_slice() {
-        if first.unite(rule.left, *symbol) {
+    for symbol in rule.body() {
+        if first.unite(rule.left(), *symbol) {
             changed = true;
         }
         if !nullable.get(*symbol).copied().unwrap_or(false) {
@@ -156,18 +166,18 @@ fn mark_first(rule: &Rule, nullable: &[bool], first: &mut Marks) -> bool {
 fn facts_of(alloc: Global, grammar: Grammar) -> Result<Facts, BuildFault>
     ensures { IfOk result (λ facts. facts.grammar ≡ grammar) }
 {
-    let symbols = grammar.names.len();
+    let symbols = grammar.symbols();
     let mut nullable = vec![in alloc; false; symbols]?;
     for _ in 0..symbols {
-        if !mark_nullable(&grammar.rules, &mut nullable) {
+        if !mark_nullable(&grammar, &mut nullable) {
             break;
         }
     }
-    let mut first = Marks::new(alloc, symbols, grammar.tokens)?;
-    for token in 0..grammar.tokens {
+    let mut first = Marks::new(alloc, symbols, grammar.tokens())?;
+    for token in 0..grammar.tokens() {
         let _ = first.set(token, token);
     }
-    saturate_first(&grammar.rules, &nullable, &mut first);
+    saturate_first(&grammar, &nullable, &mut first);
     Ok(Facts {
         grammar,
         nullable,
@@ -176,11 +186,11 @@ fn facts_of(alloc: Global, grammar: Grammar) -> Result<Facts, BuildFault>
 }
 
 /// Adds first tokens until there are none to add.
-fn saturate_first(rules: &[Rule], nullable: &[bool], first: &mut Marks) {
+fn saturate_first(grammar: &Grammar, nullable: &[bool], first: &mut Marks) {
     for _ in 0..first.marked.len() {
         let mut changed = false;
-        for rule in rules {
-            if mark_first(rule, nullable, first) {
+        for number in 0..grammar.rules() {
+            if mark_first(grammar.rule(number), nullable, first) {
                 changed = true;
             }
         }
@@ -191,29 +201,29 @@ fn saturate_first(rules: &[Rule], nullable: &[bool], first: &mut Marks) {
 }
 
 /// The items of a kernel, and with each dot before a nonterminal the beginnings of its rules; in order.
-fn close(rules: &[Rule], mut items: Vec<Item>) -> Result<Vec<Item>, BuildFault> {
-    let most = items.len().saturating_add(rules.len());
+fn close(grammar: &Grammar, mut items: Vec<Item>) -> Result<Vec<Item>, BuildFault> {
+    let most = items.len().saturating_add(grammar.rules());
     for place in 0..most {
         let Some(item) = items.get(place).copied() else {
             break;
         };
-        let Some(wanted) = ahead(rules, item) else {
+        let Some(wanted) = ahead(grammar, item) else {
             continue;
         };
-        add_rules(rules, wanted, &mut items)?;
+        add_rules(grammar, wanted, &mut items)?;
     }
     items.sort()?;
     Ok(items)
 }
 
 /// Adds the beginnings of a symbol's rules that are not there.
-fn add_rules(rules: &[Rule], wanted: Sym, items: &mut Vec<Item>) -> Result<(), BuildFault> {
-    for (number, rule) in rules.iter().enumerate() {
+fn add_rules(grammar: &Grammar, wanted: Sym, items: &mut Vec<Item>) -> Result<(), BuildFault> {
+    for number in 0..grammar.rules() {
         let item = Item {
             rule: number,
             dot: 0,
         };
-        if rule.left == wanted && !items.contains(&item) {
+        if grammar.rule(number).left() == wanted && !items.contains(&item) {
             items.push(item)?;
         }
     }
@@ -223,13 +233,13 @@ fn add_rules(rules: &[Rule], wanted: Sym, items: &mut Vec<Item>) -> Result<(), B
 /// The items with the dot before a symbol, each with the dot behind it.
 fn advance(
     alloc: Global,
-    rules: &[Rule],
+    grammar: &Grammar,
     items: &[Item],
     symbol: Sym,
 ) -> Result<Vec<Item>, BuildFault> {
     let mut kernel = Vec::new(alloc);
     for item in items {
-        if ahead(rules, *item) == Some(symbol) {
+        if ahead(grammar, *item) == Some(symbol) {
             kernel.push(Item {
                 rule: item.rule,
                 dot: item.dot.saturating_add(1),
@@ -264,16 +274,16 @@ fn leave(
 ) -> Result<Vec<Option<usize>>, BuildFault> {
     let mut gotos = Vec::new(alloc);
     gotos.push(None)?;
-    for symbol in 1..grammar.names.len() {
+    for symbol in 1..grammar.symbols() {
         let kernel = match sets.get(state) {
-            Some(set) => advance(alloc, &grammar.rules, &set.items, symbol)?,
+            Some(set) => advance(alloc, grammar, &set.items, symbol)?,
             None => Vec::new(alloc),
         };
         if kernel.is_empty() {
             gotos.push(None)?;
             continue;
         }
-        let items = close(&grammar.rules, kernel)?;
+        let items = close(grammar, kernel)?;
         gotos.push(Some(number_of(alloc, sets, items)?))?;
     }
     Ok(gotos)
@@ -284,7 +294,7 @@ fn sets_of(alloc: Global, grammar: &Grammar) -> Result<Vec<Set>, BuildFault> {
     let mut sets = Vec::new(alloc);
     let mut kernel = Vec::new(alloc);
     kernel.push(Item { rule: 0, dot: 0 })?;
-    let items = close(&grammar.rules, kernel)?;
+    let items = close(grammar, kernel)?;
     let _ = number_of(alloc, &mut sets, items)?;
     for state in 0..MAX_SETS {
         if state >= sets.len() {
@@ -313,7 +323,7 @@ fn rows_of(alloc: Global, sets: &[Set]) -> Result<Vec<usize>, BuildFault> {
 /// What an item gives to the beginning of a rule that it opens. Whether there was something to give.
 fn open(facts: &Facts, looks: &mut Marks, item: Item, from: usize, into: usize) -> bool {
     let mut changed = false;
-    let rest = body_of(&facts.grammar.rules, item.rule)
+    let rest = body_of(&facts.grammar, item.rule)
         .get(item.dot.saturating_add(1)..)
         .unwrap_or(&[]);
     for symbol in rest {
@@ -338,15 +348,12 @@ fn give(
     row: usize,
     from: usize,
 ) -> bool {
-    let Some(wanted) = ahead(&facts.grammar.rules, item) else {
+    let Some(wanted) = ahead(&facts.grammar, item) else {
         return false;
     };
     let mut changed = false;
     for (index, other) in items.iter().enumerate() {
-        let opens = match facts.grammar.rules.get(other.rule) {
-            Some(rule) => other.dot == 0 && rule.left == wanted,
-            None => false,
-        };
+        let opens = other.dot == 0 && left_of(&facts.grammar, other.rule) == Some(wanted);
         if opens && open(facts, looks, item, from, row.saturating_add(index)) {
             changed = true;
         }
@@ -356,7 +363,7 @@ fn give(
 
 /// The row of the item with the dot one further, in the set where it leads.
 fn moved(facts: &Facts, sets: &[Set], rows: &[usize], set: &Set, item: Item) -> Option<usize> {
-    let symbol = ahead(&facts.grammar.rules, item)?;
+    let symbol = ahead(&facts.grammar, item)?;
     let to = set.gotos.get(symbol).copied().unwrap_or(None)?;
     let row = rows.get(to)?;
     let wanted = Item {
@@ -414,7 +421,7 @@ fn looks_of(
     rows: &[usize],
 ) -> Result<Marks, BuildFault> {
     let count = rows.last().copied().unwrap_or(0);
-    let mut looks = Marks::new(alloc, count, facts.grammar.tokens)?;
+    let mut looks = Marks::new(alloc, count, facts.grammar.tokens())?;
     let _ = looks.set(0, 0);
     for _ in 0..looks.marked.len() {
         if !round(facts, &mut looks, sets, rows) {
@@ -428,7 +435,7 @@ fn looks_of(
 fn cell_of(facts: &Facts, looks: &Marks, set: &Set, row: usize, token: Sym) -> Action {
     let mut cell = Action::Error;
     for (index, item) in set.items.iter().enumerate() {
-        match ahead(&facts.grammar.rules, *item) {
+        match ahead(&facts.grammar, *item) {
             Some(symbol) if symbol == token && token == 0 => return Action::Accept,
             Some(symbol) if symbol == token => {
                 return match set.gotos.get(token).copied().unwrap_or(None) {
@@ -455,17 +462,17 @@ fn cells_of(
     row: usize,
 ) -> Result<Vec<Action>, BuildFault> {
     let mut cells = Vec::new(alloc);
-    for token in 0..facts.grammar.tokens {
+    for token in 0..facts.grammar.tokens() {
         cells.push(cell_of(facts, looks, set, row, token))?;
     }
     Ok(cells)
 }
 
 /// Makes the tables of a grammar: its LALR(1) item sets, with a shift preferred to a reduction and the rule that
-/// comes first to a later one. B1 where there are more than 16,384 item sets; want of memory may stand in place of
+/// comes first to a later one; precedences are passed over. B1 where there are more than 16,384 item sets; want of memory may stand in place of
 /// any answer.
-pub fn build_plain(alloc: Global, grammar: Grammar) -> Result<Tables, BuildFault>
-    ensures { IfOk result (KeepsGrammar grammar) }
+pub fn build_thin(alloc: Global, grammar: Grammar) -> Result<Tables, BuildFault>
+    ensures { IfOk result (λ tables. tables.grammar ≡ grammar) }
 {
     let sets = sets_of(alloc, &grammar)?;
     let facts = facts_of(alloc, grammar)?;
@@ -479,15 +486,8 @@ pub fn build_plain(alloc: Global, grammar: Grammar) -> Result<Tables, BuildFault
     for set in sets {
         gotos.push(set.gotos)?;
     }
-    let Grammar {
-        names,
-        tokens,
-        rules,
-    } = facts.grammar;
     Ok(Tables {
-        names,
-        tokens,
-        rules,
+        grammar: facts.grammar,
         cells,
         gotos,
     })

@@ -94,11 +94,11 @@ pub(crate) enum Next<'a> {
     Fault(TokenFault),
 }
 
-/// The input token with this printed name, and what follows it; K1 and K2 at this place where there is none.
-fn named<'a>(tables: &Tables, name: &[u8], place: usize, after: &'a [u8]) -> Next<'a>
-    ensures { next_view result ≡ named (token_count tables.now) place (symbol_named tables.now name.now) after.entry.now }
+/// The symbol that was found, where it is an input token, and what follows it; else K1 or K2 at this place.
+fn named<'a>(tables: &Tables, found: Option<Sym>, place: usize, after: &'a [u8]) -> Next<'a>
+    ensures { next_view result ≡ named (token_count tables.now) place found after.entry.now }
 {
-    match tables.find(name) {
+    match found {
         None => Next::Fault(TokenFault::Unknown(place)),
         Some(symbol) if tables.is_input(symbol) => Next::Token(symbol, after),
         Some(_) => Next::Fault(TokenFault::NotInput(place)),
@@ -115,7 +115,11 @@ fn next_in<'a>(tables: &Tables, read: usize, bytes: &'a [u8]) -> Next<'a>
         Front::Broken if read == MAX_TOKENS => Next::Fault(TokenFault::TooMany),
         Front::Broken => Next::Fault(TokenFault::BadLiteral(read + 1)),
         Front::Word(_, _) if read == MAX_TOKENS => Next::Fault(TokenFault::TooMany),
-        Front::Word(name, after) => named(tables, name, read + 1, after),
+        Front::Word(name, after) => named(tables, tables.find(name), read + 1, after),
+        Front::Literal(_, _) if read == MAX_TOKENS => Next::Fault(TokenFault::TooMany),
+        Front::Literal(value, after) => {
+            named(tables, tables.find_literal(value), read + 1, after)
+        }
     }
 }
 
@@ -140,8 +144,8 @@ fn read_all(alloc: Global, tables: &Tables, bytes: &[u8]) -> Result<Tokens, Toke
 
 /// Reads a tokens file: words between blanks, each the printed name of a token other than `error` and `$end`.
 ///
-/// The first place at fault decides: K1 for a word that is no symbol, K2 for one that is no input token, K5 for a quote
-/// that begins no plain literal; K3 at the start of a further word after 1,000,000 tokens. K4 may stand in place of
+/// A literal is looked up by its value, so its spelling is free; what follows it may touch it. The first place at fault
+/// decides: K1 for a word that is no symbol, K2 for one that is no input token, K5 for a quote that begins no literal; K3 at the start of a further word after 1,000,000 tokens. K4 may stand in place of
 /// any answer.
 pub fn read_tokens(alloc: Global, tables: &Tables, bytes: &[u8]) -> Result<Tokens, TokenFault>
     // What is answered is what the file has.

@@ -1,16 +1,20 @@
 //! The words of a tokens file.
 
-ghost use Rattle.std.specs.Prelude.{◌≡◌, ◌≤◌, ◌==◌, ◌&&◌, nat_le, true, false, length, take, drop, slice_index};
-ghost use Rattle.ycli.specs.TokensFile.{is_blank, is_plain, is_word_byte, all_pass, begins, FrontAt, FrontIs};
+ghost use Rattle.std.specs.Prelude.{◌≡◌, ◌≤◌, ◌==◌, true, false, length, take, drop};
+ghost use Rattle.ycli.specs.TokensFile.{is_blank, is_word_byte, all_pass, begins, FrontAt, FrontIs};
 ghost use Rattle.ycli.specs.Reading.{front_view};
+
+use ygrammar::literal_at;
 
 /// What stands at the front of a tokens file, behind blanks.
 #[derive(Clone, Copy)]
 pub(crate) enum Front<'a> {
     /// The end of the file.
     Nothing,
-    /// A word by its printed name, and what follows it.
+    /// A word that is no literal, and what follows it.
     Word(&'a [u8], &'a [u8]),
+    /// A literal by its value, and what follows it.
+    Literal(u8, &'a [u8]),
     /// A quote that begins no literal.
     Broken,
 }
@@ -19,13 +23,6 @@ fn is_blank(byte: u8) -> bool
     ensures { result ≡ is_blank byte }
 {
     matches!(byte, b' ' | b'\t' | b'\n' | b'\r' | 12)
-}
-
-/// Whether a byte stands for itself in a literal.
-fn is_plain(byte: u8) -> bool
-    ensures { result ≡ is_plain byte }
-{
-    byte >= 32 && byte <= 126 && byte != b'\'' && byte != b'\\'
 }
 
 fn is_word_byte(byte: u8) -> bool
@@ -62,11 +59,15 @@ fn run_in(bytes: &[u8]) -> usize
     bytes.len()
 }
 
-/// Whether a literal stands at the front.
-fn begins_literal(bytes: &[u8]) -> bool
-    ensures { result ≡ (nat_le 3 (length bytes.now) && ((slice_index bytes.now 0 == 39) && ((slice_index bytes.now 2 == 39) && is_plain (slice_index bytes.now 1)))) }
+/// What stands at a quote.
+fn quoted(bytes: &[u8]) -> Front<'_>
+    requires { begins (λ b. b == 39) bytes.now ≡ true }
+    ensures { FrontAt bytes.now (front_view result) }
 {
-    bytes.len() >= 3 && bytes[0] == b'\'' && bytes[2] == b'\'' && is_plain(bytes[1])
+    match literal_at(bytes) {
+        Some((value, rest)) => Front::Literal(value, rest),
+        None => Front::Broken,
+    }
 }
 
 /// What stands at the front, where no blank does.
@@ -77,11 +78,8 @@ fn front_here(bytes: &[u8]) -> Front<'_>
     if bytes.is_empty() {
         return Front::Nothing;
     }
-    if begins_literal(bytes) {
-        return Front::Word(&bytes[..3], &bytes[3..]);
-    }
     if bytes[0] == b'\'' {
-        return Front::Broken;
+        return quoted(bytes);
     }
     let len = run_in(bytes);
     Front::Word(&bytes[..len], &bytes[len..])
