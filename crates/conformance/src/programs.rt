@@ -78,13 +78,13 @@ fn files_are_refused(rt: HostRuntime) -> Result<(), Fail> {
     fs::write(&rt, "refused.tokens", "'x' y\n")?;
     fs::write(&rt, "error.tokens", "error\n")?;
     fs::write(&rt, "open.tokens", "'x\n")?;
-    fs::write(&rt, "more.y", "%token A %% s : A ;\n")?;
+    fs::write(&rt, "more.y", "%%\ns :\nt ;\n")?;
     let never = Refusal::Never;
     assert!(rt;
         refuses(
             &run(&rt, &["ystep", "more.y", "refused.tokens"], 0, never),
             1,
-            b"ystep: not yet\n"
+            b"ystep: G7 at line 3\n"
         )
     );
     assert!(rt;
@@ -127,7 +127,7 @@ fn files_are_refused(rt: HostRuntime) -> Result<(), Fail> {
         refuses(
             &run(&rt, &["ystep", "more.y", "absent"], 0, never),
             1,
-            b"ystep: not yet\n"
+            b"ystep: G7 at line 3\n"
         )
     );
     for name in [
@@ -139,6 +139,59 @@ fn files_are_refused(rt: HostRuntime) -> Result<(), Fail> {
     ] {
         fs::remove_file(&rt, name)?;
     }
+    Ok(())
+}
+
+// One file for each fault of a grammar, and its message.
+#[test]
+fn each_fault_of_a_grammar_has_its_message(rt: HostRuntime) -> Result<(), Fail> {
+    let files: [(&str, &[u8]); 14] = [
+        ("%%\ns : 'a' { \"}\" ;", b"ystep: G2 at line 2\n"),
+        ("%%\ns : 'ab' ;", b"ystep: G3 at line 2\n"),
+        ("%%\ns : '\\400' ;", b"ystep: G3 at line 2\n"),
+        ("%%\n\ns : @ ;", b"ystep: G4 at line 3\n"),
+        ("%%\n", b"ystep: G5 at line 2\n"),
+        ("%token s\n%%\ns : 'a' ;", b"ystep: G6 at line 3\n"),
+        ("%%\ns :\nt ;\n", b"ystep: G7 at line 3\n"),
+        (
+            "%left '+'\n%right '+'\n%% s : '+' ;",
+            b"ystep: G8 at line 2\n",
+        ),
+        ("\n%token A 256\n%% s : A ;", b"ystep: G9 at line 2\n"),
+        ("\n\n%start 'a' %% s : 'a' ;", b"ystep: G10 at line 3\n"),
+        ("%%\ns : s 't' ;", b"ystep: G11 at line 2\n"),
+        ("%%\ns : 'a' %prec\ns ;", b"ystep: G12 at line 3\n"),
+        ("", b"ystep: G5 at line 1\n"),
+        ("%%", b"ystep: G5 at line 1\n"),
+    ];
+    for (text, message) in files {
+        fs::write(&rt, "fault.y", text)?;
+        let outcome = run(&rt, &["ystep", "fault.y", "absent"], 0, Refusal::Never);
+        assert!(rt; refuses(&outcome, 1, message));
+    }
+    fs::remove_file(&rt, "fault.y")?;
+    Ok(())
+}
+
+#[test]
+fn grammars_above_the_limits_are_refused(rt: HostRuntime) -> Result<(), Fail> {
+    let words = ["ystep", "limits.y", "absent"];
+    let mut body = Vec::from_slice(rt.alloc(), b"\n\n%%\ns :")?;
+    for _ in 0..256 {
+        body.extend_from_slice(b" 'a'")?;
+    }
+    fs::write(&rt, "limits.y", body.as_slice())?;
+    assert!(rt;
+        refuses(
+            &run(&rt, &words, 0, Refusal::Never),
+            1,
+            b"ystep: G13 at line 1\n"
+        )
+    );
+    let long = vec![in rt.alloc(); b'\n'; 1_048_577]?;
+    fs::write(&rt, "limits.y", long.as_slice())?;
+    assert!(rt; refuses(&run(&rt, &words, 0, Refusal::Never), 1, b"ystep: G1\n"));
+    fs::remove_file(&rt, "limits.y")?;
     Ok(())
 }
 

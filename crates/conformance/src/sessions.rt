@@ -69,6 +69,46 @@ fn a_nullable_rest_is_looked_through(rt: HostRuntime) -> Result<(), Fail> {
     Ok(())
 }
 
+// So many steps.
+const STEPS: &[u8] = b"step\nstep\nstep\nstep\nstep\nstep\nstep\nstep\n";
+
+#[test]
+fn inner_actions_are_rules(rt: HostRuntime) -> Result<(), Fail> {
+    let one = replies(
+        rt.alloc(),
+        b"%% s : 'a' { x } 'b' { y } ;",
+        b"'a' 'b'",
+        STEPS,
+    )?;
+    let want =
+        b"1 shift 'a'\n2 reduce 1\n3 shift 'b'\n4 reduce 2\n5 accept\nhalted\nhalted\nhalted\n";
+    assert_eq!(rt; one.text(), want.as_slice());
+    let more = replies(
+        rt.alloc(),
+        b"%% s : { a } 'x' { b } t { c } ; t : { d } %prec 'x' { e } ;",
+        b"'x'",
+        STEPS,
+    )?;
+    let want =
+        b"1 reduce 1\n2 shift 'x'\n3 reduce 2\n4 reduce 4\n5 reduce 5\n6 reduce 3\n7 accept\nhalted\n";
+    assert_eq!(rt; more.text(), want.as_slice());
+    Ok(())
+}
+
+#[test]
+fn tokens_are_named_and_quoted(rt: HostRuntime) -> Result<(), Fail> {
+    let sink = replies(
+        rt.alloc(),
+        b"%token A 300 B %% s : A B '\\x41' 'A' ;",
+        b"A B '\\101' 'A'",
+        STEPS,
+    )?;
+    let want =
+        b"1 shift A\n2 shift B\n3 shift 'A'\n4 shift 'A'\n5 reduce 1\n6 accept\nhalted\nhalted\n";
+    assert_eq!(rt; sink.text(), want.as_slice());
+    Ok(())
+}
+
 #[test]
 fn other_lines_are_unknown(rt: HostRuntime) -> Result<(), Fail> {
     let lines =

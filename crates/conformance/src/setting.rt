@@ -5,12 +5,12 @@ use std::alloc::Global;
 use std::test::Fail;
 use ycli::fault::SessionFault;
 use ycli::link::Link;
-use ycli::plain::read_plain;
 use ycli::run::run_session;
 use ycli::session::Session;
 use ycli::tables::Tables;
-use ycli::thin::build_plain;
+use ycli::thin::build_thin;
 use ycli::tokens::read_tokens;
+use ygrammar::read_grammar;
 
 /// The grammar of the first sessions: one rule of one token.
 pub const ONE: &[u8] = b"%% s : 'x' ;";
@@ -24,7 +24,7 @@ pub const REPLIES: &[u8] =
 
 /// The tables of a grammar text.
 pub fn tables_of(alloc: Global, grammar: &[u8]) -> Result<Tables, Fail> {
-    Ok(build_plain(alloc, read_plain(alloc, grammar)?)?)
+    Ok(build_thin(alloc, read_grammar(alloc, grammar)?)?)
 }
 
 /// A session over a grammar text and a tokens text.

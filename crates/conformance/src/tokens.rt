@@ -67,12 +67,67 @@ fn the_first_place_decides(rt: HostRuntime) -> Result<(), Fail> {
     );
     assert_eq!(rt;
         fault(alloc, &tables, b"'\\n'"),
+        Some(TokenFault::Unknown(1))
+    );
+    assert_eq!(rt;
+        fault(alloc, &tables, b"'\\400'"),
         Some(TokenFault::BadLiteral(1))
     );
     assert_eq!(rt;
         fault(alloc, &tables, b"'n' 'n' q e '"),
         Some(TokenFault::Unknown(3))
     );
+    Ok(())
+}
+
+// A literal may stand in any spelling, and what follows it may touch it.
+#[test]
+fn a_literal_goes_by_its_value(rt: HostRuntime) -> Result<(), Fail> {
+    let alloc = rt.alloc();
+    let tables = tables_of(alloc, b"%% s : 'A' '\\n' '\\'' ;")?;
+    let tokens = read_tokens(
+        alloc,
+        &tables,
+        b"'A''\\101''\\x41' '\\n''\\012''\\xa' '\\'''\\047'",
+    )?;
+    assert_eq!(rt; tokens.len(), 8);
+    for (index, symbol) in [2, 2, 2, 3, 3, 3, 4, 4].iter().enumerate() {
+        assert!(rt; index < tokens.len() && tokens.get(index) == *symbol);
+    }
+    assert_eq!(rt;
+        fault(alloc, &tables, b"'A' '\\x4'"),
+        Some(TokenFault::Unknown(2))
+    );
+    Ok(())
+}
+
+#[test]
+fn words_are_looked_up_among_all_symbols(rt: HostRuntime) -> Result<(), Fail> {
+    let alloc = rt.alloc();
+    let tables = tables_of(
+        alloc,
+        b"%token NUM %left '+' %left '*' %% e : e '+' e | e '*' e | NUM ;",
+    )?;
+    assert_eq!(rt;
+        fault(alloc, &tables, b"NUM - NUM"),
+        Some(TokenFault::Unknown(2))
+    );
+    assert_eq!(rt; fault(alloc, &tables, b"'-'"), Some(TokenFault::Unknown(1)));
+    assert_eq!(rt;
+        fault(alloc, &tables, b"NUM error"),
+        Some(TokenFault::NotInput(2))
+    );
+    assert_eq!(rt; fault(alloc, &tables, b"e"), Some(TokenFault::NotInput(1)));
+    assert_eq!(rt;
+        fault(alloc, &tables, b"$end"),
+        Some(TokenFault::NotInput(1))
+    );
+    assert_eq!(rt;
+        fault(alloc, &tables, b"NUM '+"),
+        Some(TokenFault::BadLiteral(2))
+    );
+    assert_eq!(rt; read_tokens(alloc, &tables, b"NUM'+'NUM")?.len(), 3);
+    assert_eq!(rt; read_tokens(alloc, &tables, b"")?.len(), 0);
     Ok(())
 }
 
