@@ -1,8 +1,9 @@
 # make demo   runs the stepper on examples/ and shows the sessions
 # make build  proves the programs and leaves them in bin/
 # make bench  times the reader of grammar files on large files
+# make refuse refuses each allocation of the stepper in turn, on every example
 # make test   the gate: every proof from nothing, the must-fail edits, the tests, the stored runs
-.PHONY: demo build bench test
+.PHONY: demo build bench refuse test
 
 demo:
 	@sh examples/run.sh
@@ -12,6 +13,9 @@ build:
 
 bench:
 	@cd crates/bench && rt run -- all
+
+refuse:
+	@sh examples/refuse.sh
 
 test:
 	@rt ci

@@ -2,14 +2,15 @@
 #![tactic(auto)]
 
 use std::env;
-use std::io::{self, BufWriter};
+use std::io::{self, BufWriter, ErrorKind, Write};
 use std::process::ExitCode;
 use ycli::link::Link;
 use ycli::programs::ystep_run;
 
-fn main(rt: HostRuntime) -> io::Result<ExitCode> {
+/// Passes on the words and the standard streams, and gives the exit status.
+fn status(rt: &HostRuntime) -> io::Result<u8> {
     let alloc = rt.alloc();
-    let given: Vec<String> = env::args(&rt)?.collect(alloc)?;
+    let given: Vec<String> = env::args(rt)?.collect(alloc)?;
     let mut words = Vec::with_capacity(alloc, given.len())?;
     for word in &given {
         words.push(word.as_str())?;
@@ -17,6 +18,15 @@ fn main(rt: HostRuntime) -> io::Result<ExitCode> {
     let mut reader = Link::new(rt.stdin());
     let mut writer = Link::new(BufWriter::new(alloc, rt.stdout())?);
     let mut errors = Link::new(rt.stderr());
-    let status = ystep_run(&rt, &words, &mut reader, &mut writer, &mut errors);
-    Ok(ExitCode::from(status))
+    Ok(ystep_run(rt, &words, &mut reader, &mut writer, &mut errors))
+}
+
+fn main(rt: HostRuntime) -> io::Result<ExitCode> {
+    match status(&rt) {
+        Err(error) if error.kind() == ErrorKind::OutOfMemory => {
+            let _ = rt.stderr().write_all(b"ystep: no memory\n");
+            Ok(ExitCode::from(3))
+        }
+        answer => Ok(ExitCode::from(answer?)),
+    }
 }
