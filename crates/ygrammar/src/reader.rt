@@ -32,8 +32,8 @@ pub fn read_grammar(alloc: Global, source: &[u8]) -> Result<Grammar, GrammarFaul
     // There is no other answer.
     ensures exact { GivesGrammar source.now result }
 {
-    let tree = read_tree(alloc, source)?;
-    match elaborate(alloc, &tree) {
+    let syntax = read_tree(alloc, source)?;
+    match elaborate(alloc, source, &syntax.kept, &syntax.tree) {
         Ok(grammar) => Ok(grammar),
         Err(refused) => Err(refused.in_file(source)),
     }
