@@ -42,28 +42,6 @@ ends_symbol last body whole rest x m n w e f =
     ∙ last_symbol (map item_view rest) (mention_view m)
     ∙ ap (λ (l : List Item). (l, None)) (sym u)
 
--- a body, part by part
-pub inner_more : (k : ℕ) (x : Item) (xs : List Item) → (body_from k (x ∷ xs)).inner ≡ (body_from k (x ∷ [])).inner ++ (body_from (body_from k (x ∷ [])).next xs).inner
-inner_more k (symbol i) xs = refl
-inner_more k (action t) xs = refl
-
-pub symbols_more : (k : ℕ) (x : Item) (xs : List Item) → (body_from k (x ∷ xs)).symbols ≡ (body_from k (x ∷ [])).symbols ++ (body_from (body_from k (x ∷ [])).next xs).symbols
-symbols_more k (symbol i) xs = refl
-symbols_more k (action t) xs = refl
-
-pub next_more : (k : ℕ) (x : Item) (xs : List Item) → (body_from k (x ∷ xs)).next ≡ (body_from (body_from k (x ∷ [])).next xs).next
-next_more k (symbol i) xs = refl
-next_more k (action t) xs = refl
-
--- more is added to a list, and what is left is what was left without it
-pub push_more : {A B : Type 0} (f : A → B) (old new whole : List B) (left here rest : List A) → left ≡ here ++ rest → new ≡ old ++ map f here → old ++ map f left ≡ whole → new ++ map f rest ≡ whole
-push_more f old new whole left here rest e g h =
-    ap (λ (x : List _). x ++ map f rest) g
-    ∙ append_assoc old (map f here) (map f rest)
-    ∙ ap (λ (x : List _). old ++ x) (sym (map-append f here rest))
-    ∙ ap (λ (x : List _). old ++ map f x) (sym e)
-    ∙ h
-
 -- the rules of inner actions have no precedence
 pub inner_are : (ns : List Name) (given : List (Option Precedence)) (k : ℕ) (xs : List Item) → map (rule_numbers ns given) (body_from k xs).inner ≡ map (inner_numbers ns) (body_from k xs).inner
 inner_are ns given k [] = refl

@@ -16,7 +16,7 @@ use Rattle.ygrammar.specs.Tree.{Identifier, Definition, start, union, block, lis
 use Rattle.ygrammar.specs.Elaboration.{Rule, appearances, bare_of, body_from, clause_left, declared, final_of, inner_name, is_nonterminal, is_token, item_identifier, lefts, listings, numbered, option_list, or_else, prec_of, rule_left, rules, rules_from, split_last, start_symbol, started, starts, symbols, tokens, token_names_of, used, uses}
 use Rattle.ygrammar.proofs.NameSteps.{among_all, eq_self}
 use Rattle.ygrammar.proofs.TellingSteps.{false_true, same_number}
-use Rattle.ygrammar.proofs.TokenSteps.{among_number, noted_behind, number_behind, number_stays, or_left, or_right, token_among}
+use Rattle.ygrammar.proofs.TokenSteps.{among_number, noted_behind, number_behind, or_left, or_right, token_among}
 use Rattle.ygrammar.proofs.SymbolNames.{IsNamed, Named, accept_token, each_from_map, each_join, each_left, each_piece, each_right, each_to_map, each_weaker, end_accept, inner_accept, inner_end, inner_token, name_plain, plain_other, printed_plain}
 
 -- ---- tests
@@ -31,11 +31,6 @@ bool_true false h = absurd (h refl)
 
 -- ---- numbers of names
 
-noted_front : (ns more : List Name) (n : Name) → is_among ns n ≡ true → number_in (noted_all ns more) n < length ns
-noted_front ns more n h =
-    let g = noted_behind ns more in
-    subst (λ (k : ℕ). k < length ns) (sym (ap (λ (xs : List Name). number_in xs n) g.1 ∙ number_stays ns g.0 n h)) (among_number ns n h)
-
 noted_above : (ns more : List Name) (n : Name) → is_among ns n ≡ false → length ns ≤ number_in (noted_all ns more) n
 noted_above ns more n h = let g = noted_behind ns more in subst (λ (xs : List Name). length ns ≤ number_in xs n) (sym g.1) (number_behind ns g.0 n h)
 
@@ -48,10 +43,7 @@ pub among_self : (xs : List Name) → AllByRecursion (λ n. is_among xs n ≡ tr
 among_self [] = tt
 among_self (x ∷ xs) = (or_left (bytes_eq x x) (is_among xs x) (eq_self x), each_weaker (λ n. is_among xs n ≡ true) (λ n. is_among (x ∷ xs) n ≡ true) (λ n h. or_right (bytes_eq n x) (is_among xs n) h) xs (among_self xs))
 
--- tokens have the first numbers, and other names none of them
-pub token_below : (t : Tree) (n : Name) → is_token t n ≡ true → number_in (symbols t) n < length (tokens t)
-token_below t n h = noted_front (tokens t) (map rule_left (rules t)) n (token_among t n ∙ h)
-
+-- names that are no tokens have none of the first numbers
 pub other_above : (t : Tree) (n : Name) → is_token t n ≡ false → length (tokens t) ≤ number_in (symbols t) n
 other_above t n h = noted_above (tokens t) (map rule_left (rules t)) n (token_among t n ∙ h)
 
@@ -219,9 +211,6 @@ later_each ns first rs Q a (suc r) l h = rule_each ns rs Q a r (omega arith)
 body_each : (ns : List Name) (P : Name → Type 0) (Q : ℕ → Type 0) → ((n : Name) → P n → Q (number_in ns n)) → (body : List Name) → AllByRecursion P body → All Q (map (number_in ns) body)
 body_each ns P Q f body a = All-from_recursion Q (map (number_in ns) body) (each_to_map Q (number_in ns) body (each_weaker P (λ n. Q (number_in ns n)) f body a))
 
-bodies_number : (ns : List Name) (P : Name → Type 0) (Q : ℕ → Type 0) → ((n : Name) → P n → Q (number_in ns n)) → (rs : List Rule) → AllByRecursion (λ r. AllByRecursion P r.body) rs → AllByRecursion (λ r. All Q (numbered ns r).body) rs
-bodies_number ns P Q f rs a = each_weaker (λ r. AllByRecursion P r.body) (λ r. All Q (numbered ns r).body) (λ r h. body_each ns P Q f r.body h) rs a
-
 -- what a rule has by number is in range
 pub record InRange (symbols : ℕ) (p : Production) : Type 0 where
   pub left : p.left < symbols
@@ -264,9 +253,6 @@ lefts_other t s n h = (accept_token t n, lefts_each (λ m. is_token t m ≡ fals
 -- every left side has a number behind those of the tokens
 lefts_above : (t : Tree) → IsTree t → IsNamed t → (Holds t TokenLeft → ⊥) → AllByRecursion (λ r. length (tokens t) ≤ number_in (symbols t) r.left) (rules t)
 lefts_above t s n h = each_weaker (λ r. is_token t r.left ≡ false) (λ r. length (tokens t) ≤ number_in (symbols t) r.left) (λ r q. other_above t r.left q) (rules t) (lefts_other t s n h)
-
-pub left_above : (t : Tree) → IsTree t → IsNamed t → (Holds t TokenLeft → ⊥) → (r : ℕ) → r < length (bare_of t).rules → length (tokens t) ≤ (rule_of (bare_of t) r).left
-left_above t s n h r l = rule_each (symbols t) (rules t) (λ q. length (tokens t) ≤ q.left) (lefts_above t s n h) r l
 
 lefts_ordinary : (t : Tree) → IsTree t → IsNamed t → AllByRecursion (λ r. Ordinary r.left) (rules_from [] 1 t.clauses)
 lefts_ordinary t s n =

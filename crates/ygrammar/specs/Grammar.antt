@@ -1,5 +1,5 @@
 -- A grammar as contracts see it (POSIX yacc, "Grammar Rules"; Aho, Sethi, Ullman, section 4.2).
-use Rattle.std.specs.Prelude.{ℕ, ◌<◌, Bool, List, [], slice_index_or, Option, None}
+use Rattle.std.specs.Prelude.{ℕ, ◌<◌, Bool, List, [], slice_index_or, Option}
 use Rattle.ygrammar.specs.declared.precedence.Precedence.{Precedence}
 
 -- A rule: a left side and a body.
@@ -35,9 +35,6 @@ pub record GrammarValue : Type 0 where
 
 abbrev pub blank : Production
 blank = record { left = 0; body = [] }
-
-abbrev pub blank_rule : RuleValue
-blank_rule = record { production = blank; precedence = None }
 
 abbrev pub production_of : RuleValue → Production
 production_of r = r.production
