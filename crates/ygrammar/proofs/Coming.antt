@@ -1,7 +1,9 @@
 -- Reading one part after another comes to the file's outcome.
-use Rattle.std.proofs.Common.{ℕ, ◌≡◌, ◌≤◌, ◌+◌, Bool, true, false, cond, not, ◌&&◌, ◌||◌, ◌⊎◌, inl, inr, eqb, List, [], ◌∷◌, ◌++◌, length, Option, Some, None, Ok, Err, refl, sym, ap, ◌∙◌, subst, arith, append-nil, length-append}
+use Rattle.std.proofs.Common.{ℕ, ◌≡◌, ◌≤◌, ◌+◌, ◌-◌, drop, Bool, true, false, cond, not, ◌&&◌, ◌||◌, ◌⊎◌, inl, inr, eqb, List, [], ◌∷◌, ◌++◌, length, Option, Some, None, Ok, Err, refl, sym, ap, ◌∙◌, subst, arith, append-nil, length-append}
 use Rattle.std.proofs.lemmas.Bool.{eqb-true, and_parts, or_cases, not-true, both_ways}
 use Rattle.std.proofs.lemmas.List.{map_push}
+use Rattle.std.proofs.Math.Seq.{drop-append_seam}
+use Rattle.std.specs.List.{AllByRecursion}
 use Rattle.ygrammar.specs.declared.cutting.Placed.{Placed}
 use Rattle.ygrammar.specs.declared.kind.Kind.{Kind}
 use Rattle.ygrammar.specs.declared.kind.Kind.TheVariants as kind
@@ -15,7 +17,7 @@ use Rattle.ygrammar.specs.Recogniser.{next_state, reached, is_final, is_final_at
 use Rattle.ygrammar.specs.Lexemes.{Lexeme, fixed, kind_of}
 use Rattle.ygrammar.specs.Cuttings.{Part, lexeme, PartAt, Cuts, lexemes, kinds, is_mark, marks, syntax, FaultAt, refusal, IsLine, ended, marked, lexical, stray, early, Outcome}
 use Rattle.ygrammar.specs.Views.{lexeme_view, fault_view}
-use Rattle.ygrammar.specs.Answers.{views, fault_at, Fails, Comes}
+use Rattle.ygrammar.specs.Answers.{views, fault_at, Fails, Comes, StandsIn}
 use Rattle.ygrammar.proofs.Accepted.{reached_append, recognised}
 use Rattle.ygrammar.proofs.Shapes.{derived}
 use Rattle.ygrammar.proofs.Viable.{viable, not_viable}
@@ -142,7 +144,7 @@ cuts_more [] bytes rest p m e h = (m, subst (λ z. PartAt z p m) (sym e) h, refl
 cuts_more (q ∷ ps) bytes rest p m (n, a, c) h = (n, a, cuts_more ps n rest p m c h)
 
 pub comes_start : (bytes : List ℕ) → Comes bytes [] bytes Declarations
-comes_start bytes = record { cut = record { parts = []; cut = refl; read = refl; unfinished = omega arith }; state_is = refl }
+comes_start bytes = record { cut = record { parts = []; cut = refl; read = refl; unfinished = omega arith }; state_is = refl; placed = tt }
 
 pub goes_gap : (bytes rest m : List ℕ) (ls : List Placed) (q : State) (p : Part) → Comes bytes ls rest q → lexemes (p ∷ []) ≡ [] → PartAt rest p m → Comes bytes ls m q
 goes_gap bytes rest m ls q p c e h = record {
@@ -153,6 +155,7 @@ goes_gap bytes rest m ls q p c e h = record {
     unfinished = c.cut.unfinished;
   };
   state_is = c.state_is;
+  placed = c.placed;
 }
 
 views_push : (ls : List Placed) (p : Placed) → views (ls ++ p ∷ []) ≡ views ls ++ lexeme_view p.lexeme ∷ []
@@ -162,9 +165,26 @@ reached_push : (ls : List Lexeme) (l : Lexeme) (q : State) (o : Option State) �
 reached_push ls l q o e h =
     ap (reached (Some Declarations)) (kinds_append ls (l ∷ [])) ∙ reached_append (Some Declarations) (kinds ls) (kind_of l ∷ []) ∙ ap (λ z. reached z (kind_of l ∷ [])) e ∙ h
 
-pub goes_lexeme : (bytes rest m : List ℕ) (ls new : List Placed) (q r : State) (p : Placed) → Comes bytes ls rest q → PartAt rest (lexeme (lexeme_view p.lexeme)) m
+-- a lexeme that is read stands where the rest began
+here : (before rest : List ℕ) (at : ℕ) → at ≡ length (before ++ rest) - length rest → drop at (before ++ rest) ≡ rest
+here before rest at e =
+    let n : at ≡ length before = let w = length-append before rest in omega (arith, e, w) in
+    ap (λ i. drop i (before ++ rest)) n ∙ drop-append_seam before rest
+
+pub placed_more : (bytes rest m : List ℕ) (ls new : List Placed) (q : State) (p : Placed) → Comes bytes ls rest q → PartAt rest (lexeme (lexeme_view p.lexeme)) m → p.at ≡ length bytes - length rest → new ≡ ls ++ p ∷ [] → AllByRecursion (StandsIn bytes) new
+placed_more bytes rest m ls new q p c h a f =
+    let (before, w) = cut_before c.cut.parts bytes rest c.cut.cut in
+    let there : drop p.at bytes ≡ rest = ap (λ (x : List ℕ). drop p.at x) w ∙ here before rest p.at (a ∙ ap (λ (x : List ℕ). length x - length rest) w) in
+    let one : StandsIn bytes p = (m, subst (λ (x : List ℕ). PartAt x (lexeme (lexeme_view p.lexeme)) m) (sym there) h) in
+    subst (AllByRecursion (StandsIn bytes)) (sym f) (all ls one c.placed)
+  where
+    all : (ls : List Placed) → StandsIn bytes p → AllByRecursion (StandsIn bytes) ls → AllByRecursion (StandsIn bytes) (ls ++ p ∷ [])
+    all [] one a = (one, tt)
+    all (l ∷ ls) one a = (a.0, all ls one a.1)
+
+pub goes_lexeme : (bytes rest m : List ℕ) (ls new : List Placed) (q r : State) (p : Placed) → Comes bytes ls rest q → PartAt rest (lexeme (lexeme_view p.lexeme)) m → p.at ≡ length bytes - length rest
     → next_state q (kind_of (lexeme_view p.lexeme)) ≡ Some r → is_end r ≡ false → new ≡ ls ++ p ∷ [] → Comes bytes new m r
-goes_lexeme bytes rest m ls new q r p c h e n f =
+goes_lexeme bytes rest m ls new q r p c h a e n f =
     let l = lexeme_view p.lexeme in
     let v : views new ≡ views ls ++ l ∷ [] = ap views f ∙ views_push ls p in
     let s : reached (Some Declarations) (kinds (views new)) ≡ Some r = ap (λ z. reached (Some Declarations) (kinds z)) v ∙ reached_push (views ls) l q (Some r) c.state_is e in
@@ -178,6 +198,7 @@ goes_lexeme bytes rest m ls new q r p c h e n f =
         unfinished = omega (arith, k, w);
       };
       state_is = s;
+      placed = placed_more bytes rest m ls new q p c h a f;
     }
 
 -- ---- where reading stops

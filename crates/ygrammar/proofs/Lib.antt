@@ -35,3 +35,4 @@ pub mod ReachableSteps
 pub mod ElaborationSteps
 pub mod MeaningSteps
 pub mod ReaderSteps
+pub mod SpanSteps

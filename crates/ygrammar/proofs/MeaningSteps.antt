@@ -10,7 +10,7 @@ use Rattle.ygrammar.specs.declared.precedence.Precedence.{Precedence}
 use Rattle.ygrammar.specs.Elaborated.{Fruitful, IsReady}
 use Rattle.ygrammar.specs.Elaboration.{Rule, bare_of, first_rule, lefts, numbered, own_number, precedence_of as precedence_of_name, rule_precedence, rules, rules_from, starts, symbols, token_precedences, tokens}
 use Rattle.ygrammar.specs.Forms.{IsReachable, Productive}
-use Rattle.ygrammar.specs.Grammar.{ContextFree, Production, RuleValue, blank, precedence_of, production_of, text_of}
+use Rattle.ygrammar.specs.Grammar.{ContextFree, Production, RuleValue, blank, precedence_of, production_of}
 use Rattle.ygrammar.specs.Marking.{AreIn, RuleIn, numbered_grammar, rule_at}
 use Rattle.ygrammar.specs.Meaning.{IsMeaning}
 use Rattle.ygrammar.specs.Mistakes.{Holds}
@@ -19,6 +19,7 @@ use Rattle.ygrammar.specs.NameTexts.{texts, value_of}
 use Rattle.ygrammar.specs.Numbered.{rule_numbers}
 use Rattle.ygrammar.specs.Numbers.{AreNumbers}
 use Rattle.ygrammar.specs.Owned.{Refuses}
+use Rattle.ygrammar.specs.Spans.{rule_text}
 use Rattle.ygrammar.specs.Tree.{Clause, Identifier, IsTree, Tree}
 use Rattle.ygrammar.specs.WellFormed.{IsWhole, WellFormed}
 use Rattle.ygrammar.proofs.Wellness.{in_range}
@@ -30,10 +31,6 @@ rules_bare ns given (r ∷ rs) = ap (λ (ps : List Production). numbered ns r �
 rules_chosen : (ns : List Name) (given : List (Option Precedence)) (rs : List Rule) → map precedence_of (map (rule_numbers ns given) rs) ≡ map (rule_precedence ns given) rs
 rules_chosen ns given [] = refl
 rules_chosen ns given (r ∷ rs) = ap (λ (ps : List (Option Precedence)). rule_precedence ns given r ∷ ps) (rules_chosen ns given rs)
-
-rules_texts : (ns : List Name) (given : List (Option Precedence)) (rs : List Rule) → map text_of (map (rule_numbers ns given) rs) ≡ map (λ r. r.text) rs
-rules_texts ns given [] = refl
-rules_texts ns given (r ∷ rs) = ap (λ (ts : List (Option (List ℕ))). r.text ∷ ts) (rules_texts ns given rs)
 
 bare_from : ℕ → ℕ → List Production → ContextFree
 bare_from k n ps = record { tokens = k; symbols = n; rules = ps }
@@ -74,20 +71,20 @@ rules_are t ns given is ls cs vs a b c d e h =
     ∙ ap (λ (x : List Clause). map (rule_numbers (symbols t) (token_precedences t)) (first_rule (starts t) (lefts t) ∷ rules_from [] 1 x)) e
 
 -- the lists of a grammar have each number
-pub whole_of : (t : Tree) (n : Named) (vs : List RuleValue) (numbers : List ℕ) (marks : List Bool) → IsReady t n vs → length numbers ≡ length n.own.numbers.items → length marks ≡ length (texts n.names) → IsWhole (value_of n.names n.tokens numbers n.given.items vs marks)
-whole_of t n vs numbers marks r a b = record {
+pub whole_of : (t : Tree) (n : Named) (vs : List RuleValue) (ts : List (Option (List ℕ))) (numbers : List ℕ) (marks : List Bool) → IsReady t n vs ts → length numbers ≡ length n.own.numbers.items → length marks ≡ length (texts n.names) → IsWhole (value_of n.names n.tokens numbers n.given.items vs ts marks)
+whole_of t n vs ts numbers marks r a b = record {
   bare = subst WellFormed (sym (bare_same t n.tokens (length (texts n.names)) vs r.named.tokens_first (ap (λ (x : List Name). length x) r.named.names) r.numbered)) r.well_formed;
   names = refl;
   numbers = a ∙ ap (λ (x : List (Option ℕ)). length x) r.named.own.numbers ∙ length-map (tokens t) (own_number t) ∙ sym r.named.tokens_first;
   token_precedences = ap (λ (x : List (Option Precedence)). length x) r.named.given ∙ length-map (tokens t) (precedence_of_name t) ∙ sym r.named.tokens_first;
   rule_precedences = length-map vs precedence_of ∙ sym (length-map vs production_of);
-  texts = length-map vs text_of ∙ sym (length-map vs production_of);
+  texts = ap (λ (x : List (Option (List ℕ))). length x) r.texts ∙ length-map (rules t) rule_text ∙ sym (length-map (rules t) (rule_numbers (symbols t) (token_precedences t))) ∙ ap (λ (x : List RuleValue). length x) (sym r.numbered) ∙ sym (length-map vs production_of);
   reachable = b;
 }
 
 -- the parts are the meaning of the tree
-pub meaning_of : (t : Tree) (n : Named) (vs ws : List RuleValue) (numbers : List ℕ) (marks : List Bool) (k : ℕ) → IsReady t n vs → AreNumbers n.own.numbers.items numbers → length marks ≡ k → k ≡ length (texts n.names) → ws ≡ vs → ((s : ℕ) → s < k → (get_or marks s false ≡ true) ↔ IsReachable (numbered_grammar n.tokens k ws) s) → IsMeaning t (value_of n.names n.tokens numbers n.given.items vs marks)
-meaning_of t n vs ws numbers marks k r a b e w h =
+pub meaning_of : (t : Tree) (n : Named) (vs ws : List RuleValue) (ts : List (Option (List ℕ))) (numbers : List ℕ) (marks : List Bool) (k : ℕ) → IsReady t n vs ts → AreNumbers n.own.numbers.items numbers → length marks ≡ k → k ≡ length (texts n.names) → ws ≡ vs → ((s : ℕ) → s < k → (get_or marks s false ≡ true) ↔ IsReachable (numbered_grammar n.tokens k ws) s) → IsMeaning t (value_of n.names n.tokens numbers n.given.items vs ts marks)
+meaning_of t n vs ws ts numbers marks k r a b e w h =
     let l : k ≡ length (symbols t) = e ∙ ap (λ (x : List Name). length x) r.named.names in
     let g : numbered_grammar n.tokens k ws ≡ bare_of t = bare_same t n.tokens k ws r.named.tokens_first l (w ∙ r.numbered) in
     record {
@@ -97,7 +94,7 @@ meaning_of t n vs ws numbers marks k r a b e w h =
       numbers = subst (λ (x : List (Option ℕ)). AreNumbers x numbers) r.named.own.numbers a;
       precedences = r.named.given;
       of_rules = ap (λ (x : List RuleValue). map precedence_of x) r.numbered ∙ rules_chosen (symbols t) (token_precedences t) (rules t);
-      texts = ap (λ (x : List RuleValue). map text_of x) r.numbered ∙ rules_texts (symbols t) (token_precedences t) (rules t);
+      texts = r.texts;
       reachable = record {
         each = b ∙ l;
         exact = λ s m. subst (λ (x : ContextFree). (get_or marks s false ≡ true) ↔ IsReachable x s) g (h s (subst (λ j. s < j) (sym l) m));

@@ -1,6 +1,9 @@
 -- A file has one grammar or one fault.
-use Rattle.std.proofs.Common.{ℕ, ◌≡◌, ◌<◌, ◌≤◌, ◌⊎◌, inl, inr, List, Result, Ok, Err, sym, ap, subst, arith, true, false}
+use Rattle.std.proofs.Common.{ℕ, ◌≡◌, ◌<◌, ◌≤◌, ◌⊎◌, inl, inr, List, Result, Ok, Err, refl, sym, ap, subst, arith, true, false}
 use Rattle.std.specs.Result.{IsErrOf}
+use Rattle.ygrammar.specs.declared.fault.SyntaxFault.{SyntaxFault}
+use Rattle.ygrammar.specs.declared.fault.SyntaxFault.TheVariants as syntax_faults
+use Rattle.ygrammar.specs.Answers.{Answers}
 use Rattle.ygrammar.specs.declared.fault.GrammarFault.{GrammarFault}
 use Rattle.ygrammar.specs.declared.mistake.Mistake.{Mistake}
 use Rattle.ygrammar.specs.declared.mistake.Mistake.TheVariants.{TokenLeft, Undefined, TwicePrecedence, BadNumber, BadStart, Unproductive, BadPrec, Limit}
@@ -8,14 +11,14 @@ use Rattle.ygrammar.specs.declared.mistake.Refused.{Refused}
 use Rattle.ygrammar.specs.declared.mistake.Refused.TheVariants as refused
 use Rattle.ygrammar.specs.Cuttings.{Refusal}
 use Rattle.ygrammar.specs.Elaborated.{IsFirstRefused}
-use Rattle.ygrammar.specs.Faults.{IsRefusal, mistake_at}
+use Rattle.ygrammar.specs.Faults.{IsRefusal, mistake_at, of_syntax}
 use Rattle.ygrammar.specs.Grammar.{GrammarValue}
-use Rattle.ygrammar.specs.GrammarOf.{AnswersGrammar, HasTree, IsFaultOf, IsMistaken}
+use Rattle.ygrammar.specs.GrammarOf.{AnswersGrammar, AnswersMistake, AnswersRefusal, HasTree, IsFaultOf, IsMistaken}
 use Rattle.ygrammar.specs.Lexemes.{Lexeme}
 use Rattle.ygrammar.specs.Meaning.{IsMeaning}
-use Rattle.ygrammar.specs.Mistakes.{order}
+use Rattle.ygrammar.specs.Mistakes.{IsFirst, order}
 use Rattle.ygrammar.specs.Tree.{IsTree, Tree, yield}
-use Rattle.ygrammar.proofs.OneMeaning.{none_first, one_meaning}
+use Rattle.ygrammar.proofs.OneMeaning.{none_first, one_first, one_meaning}
 use Rattle.ygrammar.proofs.OneTree.{one_tree}
 use Rattle.ygrammar.proofs.TellingSteps.{false_true}
 
@@ -57,6 +60,42 @@ mistaken source Limit line p = p
 pub fault_of : (source : List ℕ) (t : Tree) (e : Refused) (f : GrammarFault) → HasTree source t → IsFirstRefused t e → IsRefusal e f → IsFaultOf source f
 fault_of source t (refused.Mistake what at) f h first (line, is) = subst (λ (x : GrammarFault). IsFaultOf source x) (sym is) (mistaken source what line (t, h, first))
 fault_of source t refused.Memory f h first is = subst (λ (x : GrammarFault). IsFaultOf source x) (sym is) tt
+
+-- ---- the other direction
+
+abbrev err_of : GrammarFault → Result GrammarValue GrammarFault
+err_of f = Err f
+
+-- a file whose lexemes are read has no fault of the syntax
+pub read_no_fault : (ls : List Lexeme) (r : Refusal) (A : Type 0) → read ls ≡ Err r → A
+read_no_fault ls r A e = absurd (false_true (ap (λ (o : Result (List Lexeme) Refusal). elim o [ Ok y ↦ false | Err d ↦ true ]) e))
+
+-- the fault of the syntax that is answered is the file's
+pub same_refusal : (e : SyntaxFault) (r : Refusal) → Answers (Err e) (Err r) → AnswersRefusal (err_of (of_syntax e)) r
+same_refusal (syntax_faults.Unfinished line) r h = cc
+same_refusal (syntax_faults.BadLiteral line) r h = cc
+same_refusal (syntax_faults.Foreign line) r h = cc
+same_refusal (syntax_faults.Syntax line) r h = cc
+same_refusal syntax_faults.TooLong r h = absurd h
+same_refusal syntax_faults.Memory r h = tt
+
+-- each mistake is answered as itself
+answers_mistake : (m : Mistake) (line : ℕ) → AnswersMistake (err_of (mistake_at m line)) m
+answers_mistake TokenLeft line = (line, refl)
+answers_mistake Undefined line = (line, refl)
+answers_mistake TwicePrecedence line = (line, refl)
+answers_mistake BadNumber line = (line, refl)
+answers_mistake BadStart line = (line, refl)
+answers_mistake Unproductive line = (line, refl)
+answers_mistake BadPrec line = (line, refl)
+answers_mistake Limit line = (line, refl)
+
+-- the mistake that is answered is the file's first
+pub same_mistake : (t u : Tree) (e : Refused) (f : GrammarFault) (m : Mistake) → u ≡ t → IsFirstRefused t e → IsRefusal e f → IsFirst u order m → AnswersMistake (err_of f) m
+same_mistake t u (refused.Mistake what at) f m e first (line, is) h =
+    let same : what ≡ m = one_first t order what m first (subst (λ x. IsFirst x order m) e h) in
+    subst (λ x. AnswersMistake (err_of x) m) (sym is) (subst (λ x. AnswersMistake (err_of (mistake_at what line)) x) same (answers_mistake what line))
+same_mistake t u refused.Memory f m e first is h = subst (λ x. AnswersMistake (err_of x) m) (sym is) tt
 
 -- an answer is no error
 pub ok_err : {T E : Type 0} (x : T) (e : E) → IsErrOf (ok_of {E = E} x) e → ⊥

@@ -42,28 +42,6 @@ ends_symbol last body whole rest x m n w e f =
     ∙ last_symbol (map item_view rest) (mention_view m)
     ∙ ap (λ (l : List Item). (l, None)) (sym u)
 
--- a body, part by part
-pub inner_more : (k : ℕ) (x : Item) (xs : List Item) → (body_from k (x ∷ xs)).inner ≡ (body_from k (x ∷ [])).inner ++ (body_from (body_from k (x ∷ [])).next xs).inner
-inner_more k (symbol i) xs = refl
-inner_more k (action t) xs = refl
-
-pub symbols_more : (k : ℕ) (x : Item) (xs : List Item) → (body_from k (x ∷ xs)).symbols ≡ (body_from k (x ∷ [])).symbols ++ (body_from (body_from k (x ∷ [])).next xs).symbols
-symbols_more k (symbol i) xs = refl
-symbols_more k (action t) xs = refl
-
-pub next_more : (k : ℕ) (x : Item) (xs : List Item) → (body_from k (x ∷ xs)).next ≡ (body_from (body_from k (x ∷ [])).next xs).next
-next_more k (symbol i) xs = refl
-next_more k (action t) xs = refl
-
--- more is added to a list, and what is left is what was left without it
-pub push_more : {A B : Type 0} (f : A → B) (old new whole : List B) (left here rest : List A) → left ≡ here ++ rest → new ≡ old ++ map f here → old ++ map f left ≡ whole → new ++ map f rest ≡ whole
-push_more f old new whole left here rest e g h =
-    ap (λ (x : List _). x ++ map f rest) g
-    ∙ append_assoc old (map f here) (map f rest)
-    ∙ ap (λ (x : List _). old ++ x) (sym (map-append f here rest))
-    ∙ ap (λ (x : List _). old ++ map f x) (sym e)
-    ∙ h
-
 -- the rules of inner actions have no precedence
 pub inner_are : (ns : List Name) (given : List (Option Precedence)) (k : ℕ) (xs : List Item) → map (rule_numbers ns given) (body_from k xs).inner ≡ map (inner_numbers ns) (body_from k xs).inner
 inner_are ns given k [] = refl
@@ -71,19 +49,18 @@ inner_are ns given k (symbol i ∷ xs) = inner_are ns given k xs
 inner_are ns given k (action t ∷ xs) = ap (λ (rs : List RuleValue). inner_numbers ns (inner_rule k t) ∷ rs) (inner_are ns given (suc k) xs)
 
 -- one more rule of the file is put behind the rules of its inner actions
-pub rule_step : (ns : List Name) (given : List (Option Precedence)) (before : Name) (k : ℕ) (cv : Clause) (cs : List Clause) (items : List Item) (text : Option (List ℕ)) (left : Name) (symbols : List ℕ) (next l : ℕ) (p : Option Precedence) (old mid new whole : List RuleValue)
+pub rule_step : (ns : List Name) (given : List (Option Precedence)) (before : Name) (k : ℕ) (cv : Clause) (cs : List Clause) (items : List Item) (left : Name) (symbols : List ℕ) (next l : ℕ) (p : Option Precedence) (old mid new whole : List RuleValue)
     → items ≡ (final_of cv.last cv.body).0
-    → text ≡ (final_of cv.last cv.body).1
     → mid ≡ old ++ map (inner_numbers ns) (body_from k items).inner
     → symbols ≡ map (number_in ns) (body_from k items).symbols
     → next ≡ (body_from k items).next
     → p ≡ precedence_at given (chosen_token ns (length given) cv.prec symbols)
     → left ≡ or_else cv.left before
     → l ≡ number_in ns left
-    → new ≡ mid ++ record { production = record { left = l; body = symbols }; precedence = p; text = text } ∷ []
+    → new ≡ mid ++ record { production = record { left = l; body = symbols }; precedence = p } ∷ []
     → old ++ map (rule_numbers ns given) (rules_from before k (cv ∷ cs)) ≡ whole
     → new ++ map (rule_numbers ns given) (rules_from left next cs) ≡ whole
-rule_step ns given before k cv cs items text left symbols next l p old mid new whole hi ht hm hs hn hp hl hk hw hall =
+rule_step ns given before k cv cs items left symbols next l p old mid new whole hi hm hs hn hp hl hk hw hall =
     let it : List Item = (final_of cv.last cv.body).0 in
     let tx : Option (List ℕ) = (final_of cv.last cv.body).1 in
     let b : Body = body_from k it in
@@ -95,7 +72,7 @@ rule_step ns given before k cv cs items text left symbols next l p old mid new w
     let s : symbols ≡ map (number_in ns) b.symbols = hs ∙ ap (λ (is : List Item). map (number_in ns) (body_from k is).symbols) hi in
     let q : p ≡ precedence_at given (chosen_token ns (length given) cv.prec (map (number_in ns) b.symbols)) = hp ∙ ap (λ (ss : List ℕ). precedence_at given (chosen_token ns (length given) cv.prec ss)) s in
     let e : l ≡ number_in ns lf = hk ∙ ap (number_in ns) hl in
-    let same : number_rule l symbols p text ≡ f r = same_rule l (number_in ns lf) symbols (map (number_in ns) b.symbols) p (rule_precedence ns given r) text tx e s q ht in
+    let same : number_rule l symbols p ≡ f r = same_rule l (number_in ns lf) symbols (map (number_in ns) b.symbols) p (rule_precedence ns given r) e s q in
     let w : new ≡ (old ++ map (inner_numbers ns) b.inner) ++ f r ∷ [] = hw ∙ ap (λ (x : RuleValue). mid ++ x ∷ []) same ∙ ap (λ (x : List RuleValue). x ++ f r ∷ []) m in
     let t : map f (rules_from left next cs) ≡ rest = ap (λ (n : Name). map f (rules_from n next cs)) hl ∙ ap (λ n. map f (rules_from lf n cs)) (hn ∙ ap (λ (is : List Item). (body_from k is).next) hi) in
     ap (λ (x : List RuleValue). new ++ x) t
@@ -106,12 +83,11 @@ rule_step ns given before k cv cs items text left symbols next l p old mid new w
     ∙ ap (λ (x : List RuleValue). old ++ x) (sym (map-append f b.inner (r ∷ rules_from lf b.next cs)))
     ∙ hall
   where
-    number_rule : ℕ → List ℕ → Option Precedence → Option (List ℕ) → RuleValue
-    number_rule l s p t = record { production = record { left = l; body = s }; precedence = p; text = t }
+    number_rule : ℕ → List ℕ → Option Precedence → RuleValue
+    number_rule l s p = record { production = record { left = l; body = s }; precedence = p }
 
-    same_rule : (l m : ℕ) (s u : List ℕ) (p q : Option Precedence) (t v : Option (List ℕ)) → l ≡ m → s ≡ u → p ≡ q → t ≡ v → number_rule l s p t ≡ number_rule m u q v
-    same_rule l m s u p q t v a b c d =
-        ap (λ x. number_rule x s p t) a
-        ∙ ap (λ x. number_rule m x p t) b
-        ∙ ap (λ x. number_rule m u x t) c
-        ∙ ap (λ x. number_rule m u q x) d
+    same_rule : (l m : ℕ) (s u : List ℕ) (p q : Option Precedence) → l ≡ m → s ≡ u → p ≡ q → number_rule l s p ≡ number_rule m u q
+    same_rule l m s u p q a b c =
+        ap (λ x. number_rule x s p) a
+        ∙ ap (λ x. number_rule m x p) b
+        ∙ ap (λ x. number_rule m u x) c

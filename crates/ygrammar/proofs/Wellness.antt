@@ -1,23 +1,23 @@
 -- A tree without mistakes means a well-formed grammar.
-use Rattle.std.proofs.Common.{ℕ, zero, suc, filter, Bool, true, false, cond, ◌||◌, ◌≡◌, ◌≢◌, ◌<◌, ◌≤◌, ◌⊎◌, inl, inr, List, [], ◌∷◌, ◌++◌, map, length, Option, Some, None, IsSome, refl, sym, ◌∙◌, ap, subst, arith, codes, get_or, append_assoc, length-append}
+use Rattle.std.proofs.Common.{ℕ, zero, suc, filter, Bool, true, false, cond, ◌≡◌, ◌≢◌, ◌<◌, ◌≤◌, ◌⊎◌, inl, inr, List, [], ◌∷◌, ◌++◌, map, length, Option, Some, None, IsSome, refl, sym, ◌∙◌, ap, subst, arith, codes, get_or, length-append}
 use Rattle.std.specs.List.{flat_map, All, AllByRecursion, Contains}
 use Rattle.std.specs.Str.{bytes_eq}
-use Rattle.std.specs.Cmp.Lexicographic.{same_text}
-use Rattle.std.proofs.lemmas.Bool.{cases_lt, or_cases}
-use Rattle.std.proofs.lemmas.List.{append-nil, length-map}
-use Rattle.std.proofs.lemmas.List.Elements.{All-contains_itself, All-from_recursion, filter_passes, recursion_from_All}
+use Rattle.std.proofs.lemmas.Bool.{cases_lt}
+use Rattle.std.proofs.lemmas.List.{length-map}
+use Rattle.std.proofs.lemmas.List.Elements.{All-contains_itself, All-from_recursion, recursion_from_All}
 use Rattle.ygrammar.specs.declared.mistake.Mistake.TheVariants.{TokenLeft, Undefined, BadStart, Limit}
 use Rattle.ygrammar.specs.Grammar.{ContextFree, Production, blank, rule_of}
 use Rattle.ygrammar.specs.Forms.{Productive}
 use Rattle.ygrammar.specs.WellFormed.{WellFormed}
 use Rattle.ygrammar.specs.Lexemes.{IsName}
 use Rattle.ygrammar.specs.Mistakes.{Holds, HasNone, order}
-use Rattle.ygrammar.specs.Names.{Name, is_among, noted, noted_all, number_in, printed}
+use Rattle.ygrammar.specs.Names.{Name, is_among, noted_all, number_in, printed}
 use Rattle.ygrammar.specs.Tree.{Identifier, Definition, start, union, block, listing, types, Item, symbol, action, Clause, Tree, IsTree, BeginsWithName}
 use Rattle.ygrammar.specs.Elaboration.{Rule, appearances, bare_of, body_from, clause_left, declared, final_of, inner_name, is_nonterminal, is_token, item_identifier, lefts, listings, numbered, option_list, or_else, prec_of, rule_left, rules, rules_from, split_last, start_symbol, started, starts, symbols, tokens, token_names_of, used, uses}
 use Rattle.ygrammar.proofs.NameSteps.{among_all, eq_self}
 use Rattle.ygrammar.proofs.TellingSteps.{false_true, same_number}
-use Rattle.ygrammar.proofs.SymbolNames.{IsNamed, Named, accept_token, each_from_map, each_join, each_left, each_piece, each_right, each_to_map, each_weaker, end_accept, inner_accept, inner_end, inner_token, name_plain, plain_other, printed_plain, tokens_each}
+use Rattle.ygrammar.proofs.TokenSteps.{among_number, noted_behind, number_behind, or_left, or_right, token_among}
+use Rattle.ygrammar.proofs.SymbolNames.{IsNamed, Named, accept_token, each_from_map, each_join, each_left, each_piece, each_right, each_to_map, each_weaker, end_accept, inner_accept, inner_end, inner_token, name_plain, plain_other, printed_plain}
 
 -- ---- tests
 
@@ -29,62 +29,13 @@ bool_true : (b : Bool) → (b ≡ false → ⊥) → b ≡ true
 bool_true true h = refl
 bool_true false h = absurd (h refl)
 
-bool_same : (a b : Bool) → (a ≡ true → b ≡ true) → (b ≡ true → a ≡ true) → a ≡ b
-bool_same true b f g = sym (f refl)
-bool_same false true f g = g refl
-bool_same false false f g = refl
-
-or_left : (a b : Bool) → a ≡ true → (a || b) ≡ true
-or_left true b h = refl
-or_left false b h = absurd (false_true h)
-
-or_right : (a b : Bool) → b ≡ true → (a || b) ≡ true
-or_right true b h = refl
-or_right false b h = h
-
 -- ---- numbers of names
 
--- a name among others has a number below their count, whatever stands behind them
-front_one : (b r : Bool) (k l : ℕ) → (r ≡ true → k < l) → (b || r) ≡ true → cond b 0 (suc k) < suc l
-front_one true r k l f h = omega arith
-front_one false r k l f h = let i : k < l = f h in omega arith
-
-behind_one : (b r : Bool) (k l : ℕ) → (r ≡ false → l ≤ k) → (b || r) ≡ false → suc l ≤ cond b 0 (suc k)
-behind_one true r k l f h = absurd (false_true (sym h))
-behind_one false r k l f h = let i : l ≤ k = f h in omega arith
-
-pub among_below : (ns : List Name) (n : Name) → is_among ns n ≡ true → number_in ns n < length ns
-among_below [] n h = absurd (false_true h)
-among_below (m ∷ ns) n h = front_one (bytes_eq n m) (is_among ns n) (number_in ns n) (length ns) (among_below ns n) h
-
-front_number : (ns rest : List Name) (n : Name) → is_among ns n ≡ true → number_in (ns ++ rest) n < length ns
-front_number [] rest n h = absurd (false_true h)
-front_number (m ∷ ns) rest n h = front_one (bytes_eq n m) (is_among ns n) (number_in (ns ++ rest) n) (length ns) (front_number ns rest n) h
-
-behind_number : (ns rest : List Name) (n : Name) → is_among ns n ≡ false → length ns ≤ number_in (ns ++ rest) n
-behind_number [] rest n h = omega arith
-behind_number (m ∷ ns) rest n h = behind_one (bytes_eq n m) (is_among ns n) (number_in (ns ++ rest) n) (length ns) (behind_number ns rest n) h
-
--- more names are put behind
-pub noted_grows : (ns more : List Name) → (rest : List Name) × (noted_all ns more ≡ ns ++ rest)
-noted_grows ns [] = ([], sym (append-nil ns))
-noted_grows ns (m ∷ more) =
-    let a = one (is_among ns m) in
-    let r = noted_grows (noted ns m) more in
-    (a.0 ++ r.0, r.1 ∙ ap (λ (xs : List Name). xs ++ r.0) a.1 ∙ append_assoc ns a.0 r.0)
-  where
-    one : (b : Bool) → (rest : List Name) × (cond b ns (ns ++ m ∷ []) ≡ ns ++ rest)
-    one true = ([], sym (append-nil ns))
-    one false = (m ∷ [], refl)
-
-pub noted_front : (ns more : List Name) (n : Name) → is_among ns n ≡ true → number_in (noted_all ns more) n < length ns
-noted_front ns more n h = let g = noted_grows ns more in subst (λ (xs : List Name). number_in xs n < length ns) (sym g.1) (front_number ns g.0 n h)
-
-pub noted_behind : (ns more : List Name) (n : Name) → is_among ns n ≡ false → length ns ≤ number_in (noted_all ns more) n
-noted_behind ns more n h = let g = noted_grows ns more in subst (λ (xs : List Name). length ns ≤ number_in xs n) (sym g.1) (behind_number ns g.0 n h)
+noted_above : (ns more : List Name) (n : Name) → is_among ns n ≡ false → length ns ≤ number_in (noted_all ns more) n
+noted_above ns more n h = let g = noted_behind ns more in subst (λ (xs : List Name). length ns ≤ number_in xs n) (sym g.1) (number_behind ns g.0 n h)
 
 noted_length : (ns more : List Name) → length ns ≤ length (noted_all ns more)
-noted_length ns more = let g = noted_grows ns more in subst (λ (xs : List Name). length ns ≤ length xs) (sym g.1) (let e = length-append ns g.0 in omega arith)
+noted_length ns more = let g = noted_behind ns more in subst (λ (xs : List Name). length ns ≤ length xs) (sym g.1) (let e = length-append ns g.0 in omega arith)
 
 -- ---- which names are among others
 
@@ -92,75 +43,9 @@ pub among_self : (xs : List Name) → AllByRecursion (λ n. is_among xs n ≡ tr
 among_self [] = tt
 among_self (x ∷ xs) = (or_left (bytes_eq x x) (is_among xs x) (eq_self x), each_weaker (λ n. is_among xs n ≡ true) (λ n. is_among (x ∷ xs) n ≡ true) (λ n h. or_right (bytes_eq n x) (is_among xs n) h) xs (among_self xs))
 
--- what holds of each holds of one that is among them
-pub among_each : (P : Name → Type 0) (ns : List Name) (n : Name) → AllByRecursion P ns → is_among ns n ≡ true → P n
-among_each P [] n a h = absurd (false_true h)
-among_each P (m ∷ ns) n a h = one (or_cases (bytes_eq n m) (is_among ns n) h) (among_each P ns n a.1)
-  where
-    one : (bytes_eq n m ≡ true) ⊎ (is_among ns n ≡ true) → (is_among ns n ≡ true → P n) → P n
-    one (inl e) f = subst P (sym (same_text n m (sym e))) a.0
-    one (inr e) f = f e
-
-filter_keeps : (p : Name → Bool) (xs : List Name) → AllByRecursion (λ n. p n ≡ true → is_among (filter p xs) n ≡ true) xs
-filter_keeps p [] = tt
-filter_keeps p (x ∷ xs) = (λ h. here (p x) h, each_weaker (λ n. p n ≡ true → is_among (filter p xs) n ≡ true) (λ n. p n ≡ true → is_among (filter p (x ∷ xs)) n ≡ true) (λ n f h. later (p x) n (f h)) xs (filter_keeps p xs))
-  where
-    here : (b : Bool) → b ≡ true → is_among (cond b (x ∷ filter p xs) (filter p xs)) x ≡ true
-    here true h = or_left (bytes_eq x x) (is_among (filter p xs) x) (eq_self x)
-    here false h = absurd (false_true h)
-
-    later : (b : Bool) (n : Name) → is_among (filter p xs) n ≡ true → is_among (cond b (x ∷ filter p xs) (filter p xs)) n ≡ true
-    later true n h = or_right (bytes_eq n x) (is_among (filter p xs) n) h
-    later false n h = h
-
--- the first names and those of all that pass the test are the names tested for
-same_among : (first all names : List Name) → AllByRecursion (λ n. is_among names n ≡ true) first → AllByRecursion (λ n. is_among names n ≡ true → is_among (noted_all first (filter (is_among names) all)) n ≡ true) names → (n : Name) → is_among (noted_all first (filter (is_among names) all)) n ≡ is_among names n
-same_among first all names f g n = bool_same (is_among (noted_all first (filter (is_among names) all)) n) (is_among names n) there back
-  where
-    back : is_among names n ≡ true → is_among (noted_all first (filter (is_among names) all)) n ≡ true
-    back h = among_each (λ m. is_among names m ≡ true → is_among (noted_all first (filter (is_among names) all)) m ≡ true) names n g h h
-
-    cases : (is_among first n ≡ true) ⊎ (is_among (filter (is_among names) all) n ≡ true) → is_among names n ≡ true
-    cases (inl h) = among_each (λ m. is_among names m ≡ true) first n f h
-    cases (inr h) = among_each (λ m. is_among names m ≡ true) (filter (is_among names) all) n (recursion_from_All (λ m. is_among names m ≡ true) (filter (is_among names) all) (filter_passes (is_among names) all)) h
-
-    there : is_among (noted_all first (filter (is_among names) all)) n ≡ true → is_among names n ≡ true
-    there h = cases (or_cases (is_among first n) (is_among (filter (is_among names) all) n) (sym (among_all first (filter (is_among names) all) n) ∙ h))
-
-kept_among : (first all names : List Name) (n : Name) → is_among (filter (is_among names) all) n ≡ true → is_among (noted_all first (filter (is_among names) all)) n ≡ true
-kept_among first all names n h = among_all first (filter (is_among names) all) n ∙ or_right (is_among first n) (is_among (filter (is_among names) all) n) h
-
-first_among : (first more : List Name) (n : Name) → is_among first n ≡ true → is_among (noted_all first more) n ≡ true
-first_among first more n h = among_all first more n ∙ or_left (is_among first n) (is_among more n) h
-
--- the tokens are listed, each once
-pub token_among : (t : Tree) (n : Name) → is_among (tokens t) n ≡ is_token t n
-token_among t n = same_among first all names (refl, (refl, tt)) (tokens_each P t (λ h. first_among first kept (codes "$end") refl) (λ h. first_among first kept (codes "error") refl) each) n
-  where
-    first : List Name
-    first = codes "$end" ∷ codes "error" ∷ []
-
-    all : List Name
-    all = map printed (appearances t)
-
-    names : List Name
-    names = token_names_of (listings t) (appearances t)
-
-    kept : List Name
-    kept = filter (is_among names) all
-
-    P : Name → Type 0
-    P m = is_among names m ≡ true → is_among (noted_all first kept) m ≡ true
-
-    each : AllByRecursion (λ i. P (printed i)) (appearances t)
-    each = each_from_map P printed (appearances t) (each_weaker (λ m. is_among names m ≡ true → is_among kept m ≡ true) P (λ m f h. kept_among first all names m (f h)) all (filter_keeps (is_among names) all))
-
--- tokens have the first numbers, and other names none of them
-pub token_below : (t : Tree) (n : Name) → is_token t n ≡ true → number_in (symbols t) n < length (tokens t)
-token_below t n h = noted_front (tokens t) (map rule_left (rules t)) n (token_among t n ∙ h)
-
+-- names that are no tokens have none of the first numbers
 pub other_above : (t : Tree) (n : Name) → is_token t n ≡ false → length (tokens t) ≤ number_in (symbols t) n
-other_above t n h = noted_behind (tokens t) (map rule_left (rules t)) n (token_among t n ∙ h)
+other_above t n h = noted_above (tokens t) (map rule_left (rules t)) n (token_among t n ∙ h)
 
 pub tokens_within : (t : Tree) → length (tokens t) ≤ length (symbols t)
 tokens_within t = noted_length (tokens t) (map rule_left (rules t))
@@ -168,8 +53,8 @@ tokens_within t = noted_length (tokens t) (map rule_left (rules t))
 -- the end is the first token
 end_first : (x y : List Name) → number_in (noted_all (noted_all (codes "$end" ∷ codes "error" ∷ []) x) y) (codes "$end") ≡ 0
 end_first x y =
-    let a = noted_grows (codes "$end" ∷ codes "error" ∷ []) x in
-    let b = noted_grows (noted_all (codes "$end" ∷ codes "error" ∷ []) x) y in
+    let a = noted_behind (codes "$end" ∷ codes "error" ∷ []) x in
+    let b = noted_behind (noted_all (codes "$end" ∷ codes "error" ∷ []) x) y in
     ap (λ (ns : List Name). number_in ns (codes "$end")) (b.1 ∙ ap (λ (ns : List Name). ns ++ b.0) a.1)
 
 some_tokens : (x : List Name) → 0 < length (noted_all (codes "$end" ∷ codes "error" ∷ []) x)
@@ -308,7 +193,7 @@ start_among t s h = start_passes (Among t) (starts t) (lefts t)
     (some_lefts t.clauses s.first)
 
 end_among : (t : Tree) → Among t (codes "$end")
-end_among t = first_among (tokens t) (map rule_left (rules t)) (codes "$end") (first_among (codes "$end" ∷ codes "error" ∷ []) (appeared t) (codes "$end") refl)
+end_among t = among_all (tokens t) (map rule_left (rules t)) (codes "$end") ∙ or_left (is_among (tokens t) (codes "$end")) (is_among (map rule_left (rules t)) (codes "$end")) (token_among t (codes "$end") ∙ refl)
 
 -- every name in a body is a symbol
 pub bodies_among : (t : Tree) → IsTree t → (Holds t Undefined → ⊥) → (Holds t BadStart → ⊥) → AllByRecursion (λ r. AllByRecursion (λ n. is_among (symbols t) n ≡ true) r.body) (rules t)
@@ -326,9 +211,6 @@ later_each ns first rs Q a (suc r) l h = rule_each ns rs Q a r (omega arith)
 body_each : (ns : List Name) (P : Name → Type 0) (Q : ℕ → Type 0) → ((n : Name) → P n → Q (number_in ns n)) → (body : List Name) → AllByRecursion P body → All Q (map (number_in ns) body)
 body_each ns P Q f body a = All-from_recursion Q (map (number_in ns) body) (each_to_map Q (number_in ns) body (each_weaker P (λ n. Q (number_in ns n)) f body a))
 
-bodies_number : (ns : List Name) (P : Name → Type 0) (Q : ℕ → Type 0) → ((n : Name) → P n → Q (number_in ns n)) → (rs : List Rule) → AllByRecursion (λ r. AllByRecursion P r.body) rs → AllByRecursion (λ r. All Q (numbered ns r).body) rs
-bodies_number ns P Q f rs a = each_weaker (λ r. AllByRecursion P r.body) (λ r. All Q (numbered ns r).body) (λ r h. body_each ns P Q f r.body h) rs a
-
 -- what a rule has by number is in range
 pub record InRange (symbols : ℕ) (p : Production) : Type 0 where
   pub left : p.left < symbols
@@ -339,7 +221,7 @@ each_both P Q R f [] a b = tt
 each_both P Q R f (x ∷ xs) a b = (f x a.0 b.0, each_both P Q R f xs a.1 b.1)
 
 rules_range : (ns : List Name) (rs : List Rule) → AllByRecursion (λ r. is_among ns r.left ≡ true) rs → AllByRecursion (λ r. AllByRecursion (λ n. is_among ns n ≡ true) r.body) rs → AllByRecursion (λ r. InRange (length ns) (numbered ns r)) rs
-rules_range ns rs a b = each_both (λ r. is_among ns r.left ≡ true) (λ r. AllByRecursion (λ n. is_among ns n ≡ true) r.body) (λ r. InRange (length ns) (numbered ns r)) (λ r x y. record { left = among_below ns r.left x; body = body_each ns (λ n. is_among ns n ≡ true) (λ s. s < length ns) (among_below ns) r.body y }) rs a b
+rules_range ns rs a b = each_both (λ r. is_among ns r.left ≡ true) (λ r. AllByRecursion (λ n. is_among ns n ≡ true) r.body) (λ r. InRange (length ns) (numbered ns r)) (λ r x y. record { left = among_number ns r.left x; body = body_each ns (λ n. is_among ns n ≡ true) (λ s. s < length ns) (among_number ns) r.body y }) rs a b
 
 -- the rules of a file without undefined names and with a start symbol have symbols in range
 pub in_range : (t : Tree) → IsTree t → (Holds t Undefined → ⊥) → (Holds t BadStart → ⊥) → (r : ℕ) → r < length (bare_of t).rules → InRange (length (symbols t)) (rule_of (bare_of t) r)
@@ -371,9 +253,6 @@ lefts_other t s n h = (accept_token t n, lefts_each (λ m. is_token t m ≡ fals
 -- every left side has a number behind those of the tokens
 lefts_above : (t : Tree) → IsTree t → IsNamed t → (Holds t TokenLeft → ⊥) → AllByRecursion (λ r. length (tokens t) ≤ number_in (symbols t) r.left) (rules t)
 lefts_above t s n h = each_weaker (λ r. is_token t r.left ≡ false) (λ r. length (tokens t) ≤ number_in (symbols t) r.left) (λ r q. other_above t r.left q) (rules t) (lefts_other t s n h)
-
-pub left_above : (t : Tree) → IsTree t → IsNamed t → (Holds t TokenLeft → ⊥) → (r : ℕ) → r < length (bare_of t).rules → length (tokens t) ≤ (rule_of (bare_of t) r).left
-left_above t s n h r l = rule_each (symbols t) (rules t) (λ q. length (tokens t) ≤ q.left) (lefts_above t s n h) r l
 
 lefts_ordinary : (t : Tree) → IsTree t → IsNamed t → AllByRecursion (λ r. Ordinary r.left) (rules_from [] 1 t.clauses)
 lefts_ordinary t s n =
@@ -432,7 +311,7 @@ record Known (k : ℕ) (ns : List Name) (first : Name) (rs : List Rule) : Type 0
   short : AllByRecursion (λ r. length r.body ≤ 255) (opening first ∷ rs)
 
 number_other : (ns : List Name) (n m : Name) → Member ns n → (n ≡ m → ⊥) → number_in ns n ≢ number_in ns m
-number_other ns n m h f e = f (same_number ns n m (among_below ns n h) e)
+number_other ns n m h f e = f (same_number ns n m (among_number ns n h) e)
 
 number_positive : (ns : List Name) (n : Name) → number_in ns (codes "$end") ≡ 0 → Member ns n → (n ≡ codes "$end" → ⊥) → number_in ns n ≢ 0
 number_positive ns n z h f e = number_other ns n (codes "$end") h f (e ∙ sym z)

@@ -1,5 +1,6 @@
 -- What reading a file's lexemes gives.
-use Rattle.std.specs.Prelude.{◌≡◌, ℕ, List, map, Result, Ok, Err, Some}
+use Rattle.std.specs.Prelude.{◌≡◌, ℕ, List, drop, map, Result, Ok, Err, Some}
+use Rattle.std.specs.List.{AllByRecursion}
 use Rattle.std.specs.Global.{Vec}
 use Rattle.ygrammar.specs.declared.recogniser.State.{State}
 use Rattle.ygrammar.specs.declared.recogniser.State.TheVariants.{Declarations}
@@ -10,7 +11,7 @@ use Rattle.ygrammar.specs.declared.part.LexicalFault.TheVariants as lexical
 use Rattle.ygrammar.specs.declared.fault.SyntaxFault.{SyntaxFault}
 use Rattle.ygrammar.specs.declared.fault.SyntaxFault.TheVariants as faults
 use Rattle.ygrammar.specs.Lexemes.{Lexeme}
-use Rattle.ygrammar.specs.Cuttings.{kinds, ComesTo, unfinished, bad_literal, foreign, syntax, refusal, Refusal, Outcome}
+use Rattle.ygrammar.specs.Cuttings.{kinds, lexeme, PartAt, ComesTo, unfinished, bad_literal, foreign, syntax, refusal, Refusal, Outcome}
 use Rattle.ygrammar.specs.Views.{lexeme_view}
 
 abbrev pub fault_at : LexicalFault → ℕ → SyntaxFault
@@ -45,7 +46,12 @@ abbrev pub Gives : List ℕ → Result (Vec Placed) SyntaxFault → Type 0
 Gives bytes (Ok v) = Outcome bytes (Ok (views v.items))
 Gives bytes (Err e) = Fails e bytes
 
+-- the part at the place of a lexeme is that lexeme
+abbrev pub StandsIn : List ℕ → Placed → Type 0
+StandsIn source p = (rest : List ℕ) × PartAt (drop p.at source) (lexeme (lexeme_view p.lexeme)) rest
+
 -- reading has come to the rest, in this state
 pub record Comes (bytes : List ℕ) (ls : List Placed) (rest : List ℕ) (state : State) : Type 0 where
   pub cut : ComesTo bytes (views ls) rest
   pub state_is : reached (Some Declarations) (kinds (views ls)) ≡ Some state
+  pub placed : AllByRecursion (StandsIn bytes) ls

@@ -1,5 +1,5 @@
 -- What elaboration gives: the grammar that a tree means, or its first mistake.
-use Rattle.std.specs.Prelude.{ℕ, ◌≡◌, ◌<◌, ◌≤◌, List, length, map, Result, Ok, Err}
+use Rattle.std.specs.Prelude.{ℕ, ◌≡◌, ◌<◌, ◌≤◌, List, length, map, Option, Result, Ok, Err}
 use Rattle.ygrammar.specs.declared.elaboration.Named.{Named}
 use Rattle.ygrammar.specs.declared.mistake.Mistake.TheVariants.{TokenLeft, Undefined, TwicePrecedence, Unproductive}
 use Rattle.ygrammar.specs.declared.mistake.Refused.{Refused}
@@ -13,6 +13,7 @@ use Rattle.ygrammar.specs.Mistakes.{HasNone, Holds, IsFirst, order}
 use Rattle.ygrammar.specs.NameTexts.{texts}
 use Rattle.ygrammar.specs.Numbered.{rule_numbers}
 use Rattle.ygrammar.specs.Owned.{IsOwnTable}
+use Rattle.ygrammar.specs.Spans.{rule_text}
 use Rattle.ygrammar.specs.Tree.{Tree}
 use Rattle.ygrammar.specs.WellFormed.{WellFormed}
 
@@ -46,10 +47,11 @@ Fruitful g (Ok v) = (s : ℕ) → g.tokens ≤ s → s < g.symbols → Productiv
 Fruitful g (Err (refused.Mistake what at)) = (what ≡ Unproductive) × ((s : ℕ) × (g.tokens ≤ s) × (s < g.symbols) × (Productive g s → ⊥))
 Fruitful g (Err refused.Memory) = Unit {0}
 
--- The rules are numbered, and no mistake stands in the tree.
-pub record IsReady (t : Tree) (n : Named) (vs : List RuleValue) : Type 0 where
+-- The rules are numbered and have their texts, and no mistake stands in the tree.
+pub record IsReady (t : Tree) (n : Named) (vs : List RuleValue) (ts : List (Option (List ℕ))) : Type 0 where
   pub named : AreNamed t n
   pub numbered : vs ≡ map (rule_numbers (symbols t) (token_precedences t)) (rules t)
+  pub texts : ts ≡ map rule_text (rules t)
   pub sound : HasNone t order
   pub in_range : AreIn (length (symbols t)) vs
   pub well_formed : WellFormed (bare_of t)

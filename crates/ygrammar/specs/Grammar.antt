@@ -1,6 +1,5 @@
 -- A grammar as contracts see it (POSIX yacc, "Grammar Rules"; Aho, Sethi, Ullman, section 4.2).
-use Rattle.std.specs.Prelude.{ℕ, ◌<◌, Bool, List, [], slice_index_or, Option, Some, None}
-use Rattle.std.specs.Global.{Vec}
+use Rattle.std.specs.Prelude.{ℕ, ◌<◌, Bool, List, [], slice_index_or, Option}
 use Rattle.ygrammar.specs.declared.precedence.Precedence.{Precedence}
 
 -- A rule: a left side and a body.
@@ -14,11 +13,10 @@ pub record ContextFree : Type 0 where
   pub symbols : ℕ
   pub rules : List Production
 
--- A rule with its precedence and the kept text of its action, where it has them.
+-- A rule with its precedence, where it has one.
 pub record RuleValue : Type 0 where
   pub production : Production
   pub precedence : Option Precedence
-  pub text : Option (List ℕ)
 
 -- The whole value of a grammar: the bare grammar, and lists by number beside it.
 pub record GrammarValue : Type 0 where
@@ -38,22 +36,11 @@ pub record GrammarValue : Type 0 where
 abbrev pub blank : Production
 blank = record { left = 0; body = [] }
 
-abbrev pub blank_rule : RuleValue
-blank_rule = record { production = blank; precedence = None; text = None }
-
 abbrev pub production_of : RuleValue → Production
 production_of r = r.production
 
 abbrev pub precedence_of : RuleValue → Option Precedence
 precedence_of r = r.precedence
-
-abbrev pub text_of : RuleValue → Option (List ℕ)
-text_of r = r.text
-
--- a kept text of one's own
-abbrev pub owned_view : Option (Vec ℕ) → Option (List ℕ)
-owned_view None = None
-owned_view (Some v) = Some v.items
 
 abbrev pub rule_of : ContextFree → ℕ → Production
 rule_of g r = slice_index_or g.rules r blank

@@ -4,7 +4,8 @@ use Rattle.ygrammar.specs.declared.fault.GrammarFault.{GrammarFault}
 use Rattle.ygrammar.specs.declared.fault.GrammarFault.TheVariants as faults
 use Rattle.ygrammar.specs.declared.mistake.Mistake.{Mistake}
 use Rattle.ygrammar.specs.declared.mistake.Mistake.TheVariants.{TokenLeft, Undefined, TwicePrecedence, BadNumber, BadStart, Unproductive, BadPrec, Limit}
-use Rattle.ygrammar.specs.Cuttings.{Refusal, Outcome, SpellsSyntax, refusal, unfinished, bad_literal, foreign, syntax}
+use Rattle.ygrammar.specs.Cuttings.{Fault, Refusal, Outcome, SpellsSyntax, refusal, unfinished, bad_literal, foreign, syntax}
+use Rattle.ygrammar.specs.Faults.{mistake_at}
 use Rattle.ygrammar.specs.Grammar.{GrammarValue}
 use Rattle.ygrammar.specs.Meaning.{IsMeaning}
 use Rattle.ygrammar.specs.Mistakes.{IsFirst, order}
@@ -55,3 +56,22 @@ abbrev pub AnswersGrammar : Result GrammarValue GrammarFault → GrammarValue �
 AnswersGrammar (Ok h) g = h ≡ g
 AnswersGrammar (Err faults.Memory) g = Unit {0}
 AnswersGrammar (Err _) g = ⊥
+
+-- the answer is this mistake, on some line, or want of memory
+abbrev pub AnswersMistake : Result GrammarValue GrammarFault → Mistake → Type 0
+AnswersMistake (Ok g) m = ⊥
+AnswersMistake (Err faults.Memory) m = Unit {0}
+AnswersMistake (Err f) m = (line : ℕ) × (f ≡ mistake_at m line)
+
+-- a fault of the syntax, on a line
+abbrev pub refusal_at : Fault → ℕ → GrammarFault
+refusal_at unfinished line = faults.Unfinished line
+refusal_at bad_literal line = faults.BadLiteral line
+refusal_at foreign line = faults.Foreign line
+refusal_at syntax line = faults.Syntax line
+
+-- the answer is this refusal with its line, or want of memory
+abbrev pub AnswersRefusal : Result GrammarValue GrammarFault → Refusal → Type 0
+AnswersRefusal (Ok g) r = ⊥
+AnswersRefusal (Err faults.Memory) r = Unit {0}
+AnswersRefusal (Err f) r = f ≡ refusal_at r.fault r.line

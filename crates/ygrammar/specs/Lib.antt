@@ -28,4 +28,5 @@ pub mod Owned
 pub mod Faults
 pub mod Elaborated
 pub mod Marking
+pub mod Spans
 pub mod GrammarOf

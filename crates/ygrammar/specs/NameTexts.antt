@@ -1,7 +1,7 @@
 -- The names that a set of texts has, in order, and the value of a grammar.
 use Rattle.std.specs.Prelude.{ℕ, Bool, List, length, map, Option, Some, None, if◌then◌else◌}
 use Rattle.ygrammar.specs.declared.precedence.Precedence.{Precedence}
-use Rattle.ygrammar.specs.Grammar.{GrammarValue, RuleValue, precedence_of, production_of, text_of}
+use Rattle.ygrammar.specs.Grammar.{GrammarValue, RuleValue, precedence_of, production_of}
 use Rattle.ygrammar.specs.Names.{Name, is_among, number_in}
 use Rattle.std.specs.Global.{Vec}
 use Rattle.indexmap.specs.IndexSet.{IndexSet}
@@ -17,13 +17,13 @@ abbrev pub find_in : List Name → Name → Option ℕ
 find_in ns n = if is_among ns n then Some (number_in ns n) else None
 
 -- the value of a grammar of these parts
-abbrev pub value_of : {S : Type 0} → IndexSet (Vec ℕ) S → ℕ → List ℕ → List (Option Precedence) → List RuleValue → List Bool → GrammarValue
-value_of names tokens numbers precedences rules reachable = record {
+abbrev pub value_of : {S : Type 0} → IndexSet (Vec ℕ) S → ℕ → List ℕ → List (Option Precedence) → List RuleValue → List (Option (List ℕ)) → List Bool → GrammarValue
+value_of names tokens numbers precedences rules kept reachable = record {
   bare = record { tokens = tokens; symbols = length (texts names); rules = map production_of rules };
   names = texts names;
   numbers = numbers;
   token_precedences = precedences;
   rule_precedences = map precedence_of rules;
-  texts = map text_of rules;
+  texts = kept;
   reachable = reachable;
 }

@@ -7,11 +7,11 @@ use Rattle.ygrammar.specs.Names.{Name}
 
 -- what the rule of an inner action is by number: it has no precedence
 abbrev pub inner_numbers : List Name → Rule → RuleValue
-inner_numbers ns r = record { production = numbered ns r; precedence = None; text = r.text }
+inner_numbers ns r = record { production = numbered ns r; precedence = None }
 
 -- what a rule of the file is by number
 abbrev pub rule_numbers : List Name → List (Option Precedence) → Rule → RuleValue
-rule_numbers ns given r = record { production = numbered ns r; precedence = rule_precedence ns given r; text = r.text }
+rule_numbers ns given r = record { production = numbered ns r; precedence = rule_precedence ns given r }
 
 -- the number is one from a bound on, below another
 abbrev pub is_between : ℕ → ℕ → ℕ → Bool

@@ -13,6 +13,7 @@ ghost use Rattle.ygrammar.specs.Building.{GoesOn, NoItem, NoSign, Takes, TakesSi
 ghost use Rattle.ygrammar.specs.Cuttings.{kinds, SpellsSyntax, Refusal, Outcome};
 ghost use Rattle.ygrammar.specs.Lexemes.{Lexeme as LexemeOf, name, number, act, fixed, sign_kind};
 ghost use Rattle.ygrammar.specs.Recogniser.{run};
+ghost use Rattle.ygrammar.specs.Spans.{kept_texts, part_of, span_of};
 ghost use Rattle.ygrammar.specs.Syntax.{IsSpec};
 ghost use Rattle.ygrammar.specs.Tree.{IsDefinition, IsClause, BeginsWithName, IsTree, identifier_yield, option_yield, entry_yield, word_sign, tag_yield, definition_yield, item_yield, left_yield, end_yield, clause_yield, mark_yield, yield};
 ghost use Rattle.ygrammar.specs.TreeAnswers.{TreeAnswers, GivesTree};
@@ -22,6 +23,7 @@ use crate::cutting::{Placed, read_syntax};
 use crate::fault::SyntaxFault;
 use crate::kind::Sign;
 use crate::part::Lexeme;
+use crate::texts::{Span, kept_spans};
 use crate::tree::{
     Clause, Definition, Digits, Entry, Identifier, Item, Listing, Mention, NameAt, Tree, Types,
     Word,
@@ -445,15 +447,36 @@ pub fn build_tree<'a>(alloc: Global, lexemes: &[Placed<'a>]) -> Result<Tree<'a>,
     })
 }
 
+/// The syntax tree of a file, and where the kept texts of its lexemes stand, in their order.
+#[derive(Drop)]
+pub struct Syntax<'a> {
+    pub tree: Tree<'a>,
+    pub kept: Vec<Span>,
+}
+
+/// The tree of lexemes, and the places of the kept texts among them.
+fn build_syntax<'a>(alloc: Global, lexemes: &[Placed<'a>]) -> Result<Syntax<'a>, AllocError>
+    requires { IsSpec (kinds (views lexemes.now)) }
+    ensures whole { IfOk result (λ s. views lexemes.now ≡ yield (tree_view s.tree)) }
+    ensures shaped { IfOk result (λ s. IsTree (tree_view s.tree)) }
+    ensures kept { IfOk result (λ s. s.kept.items ≡ flat_map span_of lexemes.now) }
+{
+    let tree = build_tree(alloc, lexemes)?;
+    let kept = kept_spans(alloc, lexemes)?;
+    Ok(Syntax { tree, kept })
+}
+
 /// The syntax tree of a grammar file, or the file's first fault.
 ///
 /// Want of memory may come in place of any answer but `TooLong`.
-pub fn read_tree<'a>(alloc: Global, bytes: &'a [u8]) -> Result<Tree<'a>, SyntaxFault>
+pub fn read_tree<'a>(alloc: Global, bytes: &'a [u8]) -> Result<Syntax<'a>, SyntaxFault>
     // It comes before every other answer.
     ensures too_long { IsErrOf result SyntaxFault.TooLong ↔ (1048576 < length bytes.now) }
     // The tree stands for what the file spells.
-    ensures found { IfOk result (λ t. SpellsSyntax bytes.now (yield (tree_view t))) }
-    ensures shaped { IfOk result (λ t. IsTree (tree_view t)) }
+    ensures found { IfOk result (λ s. SpellsSyntax bytes.now (yield (tree_view s.tree))) }
+    ensures shaped { IfOk result (λ s. IsTree (tree_view s.tree)) }
+    // Its kept texts stand at these places.
+    ensures kept { IfOk result (λ s. map (part_of bytes.now) s.kept.items ≡ kept_texts (yield (tree_view s.tree))) }
     // What is spelled is read.
     ensures only { (ls : List LexemeOf) → length bytes.now ≤ 1048576 → SpellsSyntax bytes.now ls → TreeAnswers result (Ok ls) }
     // The first fault of the file is answered, with its line.
@@ -462,8 +485,8 @@ pub fn read_tree<'a>(alloc: Global, bytes: &'a [u8]) -> Result<Tree<'a>, SyntaxF
     ensures exact { length bytes.now ≤ 1048576 → GivesTree bytes.now result }
 {
     let lexemes = read_syntax(alloc, bytes)?;
-    match build_tree(alloc, lexemes.as_slice()) {
-        Ok(tree) => Ok(tree),
+    match build_syntax(alloc, lexemes.as_slice()) {
+        Ok(syntax) => Ok(syntax),
         Err(_) => Err(SyntaxFault::Memory),
     }
 }

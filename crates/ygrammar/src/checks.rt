@@ -1,12 +1,12 @@
 //! Tests for mistakes, each over one list of the file. An answer is how many bytes stand before the first name at fault.
 
-ghost use Rattle.std.specs.Prelude.{◌≡◌, ◌||◌, ◌&&◌, is_some, length, map, nat_le, nat_lt, not};
-ghost use Rattle.std.specs.List.{list_any};
+ghost use Rattle.std.specs.Prelude.{◌≡◌, ◌||◌, ◌&&◌, None, Some, is_some, length, map, nat_le, nat_lt, not, IfSome};
+ghost use Rattle.std.specs.List.{find, last_or, list_any};
 ghost use Rattle.ygrammar.specs.NameTexts.{texts};
 ghost use Rattle.ygrammar.specs.Names.{is_among, number_in, printed};
 ghost use Rattle.ygrammar.specs.Numbered.{is_between, is_long};
 ghost use Rattle.ygrammar.specs.Outline.{start_view};
-ghost use Rattle.ygrammar.specs.TreeViews.{identifier_view, mention_view, name_view};
+ghost use Rattle.ygrammar.specs.TreeViews.{identifier_view, mention_view, name_view, option_view};
 
 use crate::grammar::Rule;
 use crate::names::{Names, is_among, is_named, number_of};
@@ -15,7 +15,8 @@ use crate::tree::{Identifier, Mention, NameAt};
 
 /// The first of some names that is a token.
 pub fn first_token(names: &[NameAt], tokens: &Names) -> Option<usize>
-    ensures { is_some result ≡ list_any (is_among (texts tokens.now)) (map name_view names.now) }
+    ensures found { is_some result ≡ list_any (is_among (texts tokens.now)) (map name_view names.now) }
+    ensures place { result ≡ option_view (λ n. n.at) (find (λ n. is_among (texts tokens.now) (name_view n)) names.now) }
 {
     for name in names {
         if is_among(tokens, name.name) {
@@ -27,7 +28,8 @@ pub fn first_token(names: &[NameAt], tokens: &Names) -> Option<usize>
 
 /// The first of some names that is no symbol.
 pub fn first_unknown(names: &[NameAt], symbols: &Names) -> Option<usize>
-    ensures { is_some result ≡ list_any (λ n. not (is_among (texts symbols.now) n)) (map name_view names.now) }
+    ensures found { is_some result ≡ list_any (λ n. not (is_among (texts symbols.now) n)) (map name_view names.now) }
+    ensures place { result ≡ option_view (λ n. n.at) (find (λ n. not (is_among (texts symbols.now) (name_view n))) names.now) }
 {
     for name in names {
         if !is_among(symbols, name.name) {
@@ -39,7 +41,8 @@ pub fn first_unknown(names: &[NameAt], symbols: &Names) -> Option<usize>
 
 /// The first of some names and literals that is no symbol.
 pub fn first_undefined(mentions: &[Mention], symbols: &Names) -> Option<usize>
-    ensures { is_some result ≡ list_any (λ i. not (is_among (texts symbols.now) (printed i))) (map mention_view mentions.now) }
+    ensures found { is_some result ≡ list_any (λ i. not (is_among (texts symbols.now) (printed i))) (map mention_view mentions.now) }
+    ensures place { result ≡ option_view (λ m. m.at) (find (λ m. not (is_among (texts symbols.now) (printed (mention_view m)))) mentions.now) }
 {
     for mention in mentions {
         if !is_named(symbols, mention.who) {
@@ -59,7 +62,8 @@ fn is_nonterminal(who: Identifier, symbols: &Names, tokens: usize) -> bool
 
 /// The first of some names and literals that is a nonterminal.
 pub fn first_nonterminal(mentions: &[Mention], symbols: &Names, tokens: usize) -> Option<usize>
-    ensures { is_some result ≡ list_any (λ i. is_between tokens (length (texts symbols.now)) (number_in (texts symbols.now) (printed i))) (map mention_view mentions.now) }
+    ensures found { is_some result ≡ list_any (λ i. is_between tokens (length (texts symbols.now)) (number_in (texts symbols.now) (printed i))) (map mention_view mentions.now) }
+    ensures place { result ≡ option_view (λ m. m.at) (find (λ m. is_between tokens (length (texts symbols.now)) (number_in (texts symbols.now) (printed (mention_view m)))) mentions.now) }
 {
     for mention in mentions {
         if is_nonterminal(mention.who, symbols, tokens) {
@@ -71,7 +75,8 @@ pub fn first_nonterminal(mentions: &[Mention], symbols: &Names, tokens: usize) -
 
 /// The last `%start`, where one stands twice or names no nonterminal.
 pub fn bad_start(starts: &[Started], symbols: &Names, tokens: usize) -> Option<usize>
-    ensures { is_some result ≡ (nat_le 2 (length starts.now) || list_any (λ i. not (is_between tokens (length (texts symbols.now)) (number_in (texts symbols.now) (printed i)))) (map start_view starts.now)) }
+    ensures found { is_some result ≡ (nat_le 2 (length starts.now) || list_any (λ i. not (is_between tokens (length (texts symbols.now)) (number_in (texts symbols.now) (printed i)))) (map start_view starts.now)) }
+    ensures place { IfSome result (λ at. option_view (λ s. s.at) (last_or None starts.now) ≡ Some at) }
 {
     match starts {
         [] => None,

@@ -1,7 +1,8 @@
 //! A grammar file cut into lexemes, up to its first fault.
 
 ghost use Rattle.std.specs.Prelude.{◌≡◌, ◌++◌, ◌<◌, ◌≤◌, ◌↔◌, ℕ, List, length, Ok, Err, IfOk, IsErrOf};
-ghost use Rattle.ygrammar.specs.Answers.{Gives, Answers, views};
+ghost use Rattle.std.specs.List.{AllByRecursion};
+ghost use Rattle.ygrammar.specs.Answers.{Gives, Answers, StandsIn, views};
 ghost use Rattle.ygrammar.specs.Cuttings.{IsLine, SpellsSyntax, Outcome, Refusal};
 ghost use Rattle.ygrammar.specs.Lexemes.{Lexeme as LexemeOf};
 ghost use Rattle.ygrammar.specs.Tree.{HasOneTree};
@@ -30,7 +31,8 @@ fn line_of(bytes: &[u8], rest: &[u8]) -> usize
 
 /// The lexemes of a grammar file.
 pub fn read_lexemes<'a>(alloc: Global, bytes: &'a [u8]) -> Result<Vec<Placed<'a>>, SyntaxFault>
-    ensures { Gives bytes.now result }
+    ensures outcome { Gives bytes.now result }
+    ensures placed { IfOk result (λ v. AllByRecursion (StandsIn bytes.now) v.items) }
 {
     let mut lexemes = Vec::new(alloc);
     let mut state = State::Declarations;
@@ -87,6 +89,8 @@ pub fn read_syntax<'a>(alloc: Global, bytes: &'a [u8]) -> Result<Vec<Placed<'a>>
     ensures fault { (r : Refusal) → length bytes.now ≤ 1048576 → Outcome bytes.now (Err r) → Answers result (Err r) }
     // There is no other answer.
     ensures exact { length bytes.now ≤ 1048576 → Gives bytes.now result }
+    // Each lexeme stands at its place.
+    ensures placed { IfOk result (λ v. AllByRecursion (StandsIn bytes.now) v.items) }
 {
     if bytes.len() > FILE_LIMIT {
         return Err(SyntaxFault::TooLong);

@@ -1,10 +1,11 @@
 //! What a syntax tree means: the grammar, or the first mistake.
 
-ghost use Rattle.std.specs.Prelude.{◌≤◌, ℕ, IfOk, List};
+ghost use Rattle.std.specs.Prelude.{◌≡◌, ◌≤◌, ℕ, IfOk, List, map};
 ghost use Rattle.ygrammar.specs.Cuttings.{SpellsSyntax};
 ghost use Rattle.ygrammar.specs.Elaborated.{Elaborates, Fruitful, GivesNamed, IsReady};
 ghost use Rattle.ygrammar.specs.Marking.{AreIn, numbered_grammar};
 ghost use Rattle.ygrammar.specs.Meaning.{IsMeaning};
+ghost use Rattle.ygrammar.specs.Spans.{kept_texts, part_of};
 ghost use Rattle.ygrammar.specs.Tree.{IsTree, Tree as TreeOf, yield};
 ghost use Rattle.ygrammar.specs.Outline.{Outlines};
 ghost use Rattle.ygrammar.specs.TreeViews.{tree_view};
@@ -23,6 +24,7 @@ use crate::refusals::{
     refuse_limit, refuse_prec, refuse_start, refuse_token_left, refuse_undefined,
 };
 use crate::rules::{note_nonterminals, number_rules};
+use crate::texts::{Span, Texts};
 use crate::tokens::tokens;
 use crate::tree::{NameAt, Tree};
 use std::alloc::{AllocError, Global};
@@ -95,9 +97,14 @@ fn refuse_unproductive(
 }
 
 /// The grammar of symbols and rules in which no mistake stands.
-fn grammar_of(alloc: Global, named: Named, rules: Vec<Rule>) -> Result<Grammar, AllocError>
-    requires { (t : TreeOf) × IsReady t named rules.items }
-    ensures { IfOk result (λ g. (t : TreeOf) → IsReady t named rules.items → IsMeaning t g) }
+fn grammar_of(
+    alloc: Global,
+    named: Named,
+    rules: Vec<Rule>,
+    texts: Texts,
+) -> Result<Grammar, AllocError>
+    requires { (t : TreeOf) × IsReady t named rules.items texts }
+    ensures { IfOk result (λ g. (t : TreeOf) → IsReady t named rules.items texts → IsMeaning t g) }
 {
     let Named {
         names,
@@ -107,13 +114,19 @@ fn grammar_of(alloc: Global, named: Named, rules: Vec<Rule>) -> Result<Grammar, 
     } = named;
     let numbers = numbers(alloc, &own.numbers, &own.marks)?;
     let reachable = reachable(alloc, &rules, names.len())?;
-    Ok(Grammar::of(names, tokens, numbers, given, rules, reachable))
+    Ok(Grammar::of(names, tokens, numbers, given, rules, texts, reachable))
 }
 
-/// What a tree means: the grammar, or the first mistake.
-pub fn elaborate(alloc: Global, tree: &Tree) -> Result<Grammar, Refused>
+/// What a tree means: the grammar, or the first mistake. The kept texts among its lexemes stand at these places of the source.
+pub fn elaborate(
+    alloc: Global,
+    source: &[u8],
+    kept: &[Span],
+    tree: &Tree,
+) -> Result<Grammar, Refused>
     requires spelled { (bytes : List ℕ) × SpellsSyntax bytes (yield (tree_view tree.now)) }
     requires shaped { IsTree (tree_view tree.now) }
+    requires kept { map (part_of source.now) kept.now ≡ kept_texts (yield (tree_view tree.now)) }
     ensures { Elaborates (tree_view tree.now) result }
 {
     let outline = Outline::new(alloc, tree)?;
@@ -124,5 +137,6 @@ pub fn elaborate(alloc: Global, tree: &Tree) -> Result<Grammar, Refused>
     refuse_unproductive(alloc, &outline, &named.names, &rules, named.tokens, symbols)?;
     refuse_prec(&outline, &named.names, named.tokens)?;
     refuse_limit(&named.names, &rules)?;
-    Ok(grammar_of(alloc, named, rules)?)
+    let texts = Texts::of(alloc, source, kept, tree)?;
+    Ok(grammar_of(alloc, named, rules, texts)?)
 }

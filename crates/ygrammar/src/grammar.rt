@@ -1,7 +1,7 @@
 //! The value that stands between the reader and the automaton: a grammar that is well formed.
 
 ghost use Rattle.std.specs.Prelude.{◌≡◌, ◌<◌, ◌↔◌, [], None, IsTrue, false, length, slice_get, slice_index_or};
-ghost use Rattle.ygrammar.specs.Grammar.{IsToken, owned_view, rule_of};
+ghost use Rattle.ygrammar.specs.Grammar.{IsToken, rule_of};
 ghost use Rattle.ygrammar.specs.NameTexts.{find_in, value_of};
 ghost use Rattle.ygrammar.specs.Names.{printed_literal};
 ghost use Rattle.ygrammar.specs.TreeViews.{text_view};
@@ -9,43 +9,37 @@ ghost use Rattle.ygrammar.specs.WellFormed.{IsWhole, WellFormed};
 
 use crate::names::{Names, Printed, number_in};
 use crate::precedence::Precedence;
+use crate::texts::Texts;
 use std::marker::Model;
 
 /// The number of a symbol. The tokens come first, `$end` is 0.
 pub type Sym = usize;
 
-/// A rule: its left side, its body, its precedence and the kept text of its action.
+/// A rule: its left side, its body and its precedence.
 #[derive(Drop)]
 pub struct Rule {
     left: Sym,
     body: Vec<Sym>,
     precedence: Option<Precedence>,
-    text: Option<Vec<u8>>,
 }
 
 impl Model for Rule {
-    ghost use Rattle.ygrammar.specs.Grammar.{RuleValue, owned_view};
+    ghost use Rattle.ygrammar.specs.Grammar.{RuleValue};
 
     ghost Value = { RuleValue };
 
-    ghost view = { λ r. record { production = record { left = r.left; body = r.body.items }; precedence = r.precedence; text = owned_view r.text } };
+    ghost view = { λ r. record { production = record { left = r.left; body = r.body.items }; precedence = r.precedence } };
 }
 
 impl Rule {
     /// A rule of these parts.
-    pub(crate) fn of(
-        left: Sym,
-        body: Vec<Sym>,
-        precedence: Option<Precedence>,
-        text: Option<Vec<u8>>,
-    ) -> Rule
-        ensures { result ≡ record { production = record { left = left; body = body.items }; precedence = precedence; text = owned_view text } }
+    pub(crate) fn of(left: Sym, body: Vec<Sym>, precedence: Option<Precedence>) -> Rule
+        ensures { result ≡ record { production = record { left = left; body = body.items }; precedence = precedence } }
     {
         Rule {
             left,
             body,
             precedence,
-            text,
         }
     }
 
@@ -63,16 +57,6 @@ impl Rule {
         self.body.as_slice()
     }
 
-    /// The kept text of the rule's action with its braces, where it has one.
-    fn text(&self) -> Option<&[u8]>
-        ensures { text_view result ≡ self.now.text }
-    {
-        match &self.text {
-            Some(text) => Some(text.as_slice()),
-            None => None,
-        }
-    }
-
     /// The precedence of the rule, where it has one.
     pub fn precedence(&self) -> Option<Precedence>
         ensures { result ≡ self.now.precedence }
@@ -81,7 +65,8 @@ impl Rule {
     }
 }
 
-/// A grammar. Every one is well formed; `symbols` tells so to its callers. It owns what it keeps.
+/// A grammar. Every one is well formed; `symbols` tells so to its callers. It owns what it keeps: names, and the source once, of which
+/// kept texts are parts.
 #[derive(Drop)]
 pub struct Grammar {
     /// The symbols by their printed names, the tokens first.
@@ -92,13 +77,15 @@ pub struct Grammar {
     /// The precedences of the tokens.
     precedences: Vec<Option<Precedence>>,
     rules: Vec<Rule>,
+    /// The kept texts of the rules, where they have one.
+    kept: Texts,
     /// Which symbols can be reached.
     reachable: Vec<bool>,
 }
 
 impl Model for Grammar {
     ghost use Rattle.std.specs.Prelude.{length, map};
-    ghost use Rattle.ygrammar.specs.Grammar.{GrammarValue, precedence_of, production_of, text_of};
+    ghost use Rattle.ygrammar.specs.Grammar.{GrammarValue, precedence_of, production_of};
     ghost use Rattle.ygrammar.specs.NameTexts.{texts};
     ghost use Rattle.ygrammar.specs.WellFormed.{IsWhole};
 
@@ -110,7 +97,7 @@ impl Model for Grammar {
       numbers = g.numbers.items;
       token_precedences = g.precedences.items;
       rule_precedences = map precedence_of g.rules.items;
-      texts = map text_of g.rules.items;
+      texts = g.kept;
       reachable = g.reachable.items;
     } };
 
@@ -120,7 +107,7 @@ impl Model for Grammar {
       numbers = g.numbers.items;
       token_precedences = g.precedences.items;
       rule_precedences = map precedence_of g.rules.items;
-      texts = map text_of g.rules.items;
+      texts = g.kept;
       reachable = g.reachable.items;
     }) };
 }
@@ -133,10 +120,11 @@ impl Grammar {
         numbers: Vec<u32>,
         precedences: Vec<Option<Precedence>>,
         rules: Vec<Rule>,
+        kept: Texts,
         reachable: Vec<bool>,
     ) -> Grammar
-        requires { IsWhole (value_of names tokens numbers.items precedences.items rules.items reachable.items) }
-        ensures { result ≡ value_of names tokens numbers.items precedences.items rules.items reachable.items }
+        requires { IsWhole (value_of names tokens numbers.items precedences.items rules.items kept reachable.items) }
+        ensures { result ≡ value_of names tokens numbers.items precedences.items rules.items kept reachable.items }
     {
         Grammar {
             names,
@@ -144,6 +132,7 @@ impl Grammar {
             numbers,
             precedences,
             rules,
+            kept,
             reachable,
         }
     }
@@ -246,6 +235,6 @@ impl Grammar {
         requires { r < length self.now.bare.rules }
         ensures { text_view result ≡ slice_index_or self.now.texts r None }
     {
-        self.rules[r].text()
+        self.kept.get(r)
     }
 }

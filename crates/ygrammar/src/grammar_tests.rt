@@ -226,6 +226,54 @@ fn a_kept_text_byte_for_byte(rt: HostRuntime) -> Result<(), Fail> {
     Ok(())
 }
 
+/// The kept text of a rule of a file, empty where it has none.
+fn kept_text(alloc: Global, file: &[u8], r: usize) -> Result<Vec<u8>, Fail> {
+    match read_grammar(alloc, file) {
+        Ok(grammar) => {
+            if r >= grammar.rules() {
+                return Err(Fail::from("no such rule"));
+            }
+            match grammar.action_text(r) {
+                Some(text) => Ok(Vec::from_slice(alloc, text)?),
+                None => Ok(Vec::new(alloc)),
+            }
+        }
+        Err(_) => Err(Fail::from("refused")),
+    }
+}
+
+#[test]
+fn a_kept_text_has_every_byte(rt: HostRuntime) -> Result<(), Fail> {
+    let alloc = rt.alloc();
+    let mut text = Vec::from_slice(alloc, b"{")?;
+    for byte in 0..=255_u8 {
+        if !matches!(byte, b'{' | b'}' | b'"' | b'\'' | b'/') {
+            text.push(byte)?;
+        }
+    }
+    text.push(b'}')?;
+    let mut file = Vec::from_slice(alloc, b"%union { v } %% s : 'x' | ")?;
+    file.extend_from_slice(&text)?;
+    file.extend_from_slice(b";")?;
+    assert!(rt; kept_text(alloc, &file, 0)?.is_empty());
+    assert!(rt; kept_text(alloc, &file, 1)?.is_empty());
+    assert!(rt; kept_text(alloc, &file, 2)?.as_slice() == text.as_slice());
+    Ok(())
+}
+
+#[test]
+fn kept_texts_behind_those_of_declarations(rt: HostRuntime) -> Result<(), Fail> {
+    let found = grammar_text(
+        rt.alloc(),
+        b"%union { u } %token A %union {} %%\ns : { a } A | { \"}\" } {{}} %prec A {c} ;; t : | A {} ; %% { z }",
+    )?;
+    assert_eq!(rt;
+        found.as_str(),
+        "$end=0 error=256- A=257 $accept $$1 s $$2 $$3 t- \n$accept: s $end\n$$1: { a }\ns: $$1 A\n$$2: { \"}\" }\n$$3: {{}}\ns: $$2 $$3 {c}\nt:\nt: A {}\n"
+    );
+    Ok(())
+}
+
 #[test]
 fn two_spellings_of_one_literal(rt: HostRuntime) -> Result<(), Fail> {
     let alloc = rt.alloc();
@@ -376,6 +424,17 @@ fn faults_of_the_text(rt: HostRuntime) {
     assert_eq!(rt; answer(alloc, b"%% s : '\\400' ;"), (3, 1));
     assert_eq!(rt; answer(alloc, b"%% s : @ ;"), (4, 1));
     assert_eq!(rt; answer(alloc, b"%token s %% s : t @ ;"), (4, 1));
+}
+
+#[test]
+fn faults_of_the_text_and_their_lines(rt: HostRuntime) {
+    let alloc = rt.alloc();
+    assert_eq!(rt; answer(alloc, b"%%\ns :\n{ open\n\n"), (2, 3));
+    assert_eq!(rt; answer(alloc, b"%% s : 'a'\n/* open\n"), (2, 2));
+    assert_eq!(rt; answer(alloc, b"%%\ns :\n'ab' ;"), (3, 3));
+    assert_eq!(rt; answer(alloc, b"%{\n\n%}\n%tokens A %% s : A ;"), (4, 4));
+    assert_eq!(rt; answer(alloc, b"%%\ns : 'a'\n%left ;\n"), (5, 3));
+    assert_eq!(rt; answer(alloc, b"%token s\n%%\ns : t\n@ ;"), (4, 4));
 }
 
 #[test]

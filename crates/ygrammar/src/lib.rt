@@ -28,6 +28,7 @@ mod reading;
 mod recogniser;
 mod refusals;
 mod rules;
+mod texts;
 mod tokens;
 mod tree;
 mod worklist;

@@ -2,7 +2,9 @@
 
 ghost use Rattle.std.specs.Prelude.{◌<◌, ◌↔◌, IfErr, IfOk, IsErrOf, length};
 ghost use Rattle.ygrammar.specs.Grammar.{GrammarValue};
-ghost use Rattle.ygrammar.specs.GrammarOf.{AnswersGrammar, GivesGrammar, IsFaultOf, IsGrammarOf};
+ghost use Rattle.ygrammar.specs.Cuttings.{Refusal};
+ghost use Rattle.ygrammar.specs.GrammarOf.{AnswersGrammar, AnswersMistake, AnswersRefusal, GivesGrammar, IsFaultOf, IsGrammarOf, IsMistaken, IsRefused};
+ghost use Rattle.ygrammar.specs.declared.mistake.Mistake.{Mistake};
 
 use crate::building::read_tree;
 use crate::elaboration::elaborate;
@@ -15,17 +17,23 @@ use std::alloc::Global;
 /// A file above the limit is `TooLong` before all else. Then the first place decides at which the file has no syntax. A file with a
 /// syntax has the first of the faults from `TokenLeft` to `Limit` that holds. Want of memory may come in place of any answer but `TooLong`.
 pub fn read_grammar(alloc: Global, source: &[u8]) -> Result<Grammar, GrammarFault>
+    // It comes before every other answer, and for no other file.
+    ensures too_long { IsErrOf result GrammarFault.TooLong ↔ (1048576 < length source.now) }
     // What is read is the grammar of the file.
     ensures found { IfOk result (λ g. IsGrammarOf source.now g) }
     // A file that has a grammar is read.
     ensures only { (g : GrammarValue) → IsGrammarOf source.now g → AnswersGrammar result g }
+    // Where a file has no syntax, the first reason is answered, with its line.
+    ensures refused { (r : Refusal) → IsRefused source.now r → AnswersRefusal result r }
+    // Where it has a syntax and a mistake, the first mistake is answered.
+    ensures mistaken { (m : Mistake) → IsMistaken source.now m → AnswersMistake result m }
     // A fault is one of the file.
     ensures fault { IfErr result (λ f. IsFaultOf source.now f) }
     // There is no other answer.
     ensures exact { GivesGrammar source.now result }
 {
-    let tree = read_tree(alloc, source)?;
-    match elaborate(alloc, &tree) {
+    let syntax = read_tree(alloc, source)?;
+    match elaborate(alloc, source, &syntax.kept, &syntax.tree) {
         Ok(grammar) => Ok(grammar),
         Err(refused) => Err(refused.in_file(source)),
     }

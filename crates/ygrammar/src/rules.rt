@@ -4,7 +4,6 @@ ghost use Rattle.std.specs.Prelude.{◌≡◌, ◌+◌, ◌++◌, ◌∷◌, [],
 ghost use Rattle.ygrammar.specs.Elaboration.{body_from, chosen_token, final_of, first_rule, inner_name, inner_rule, last_token, or_else, precedence_at, rule_left, rules_from, start_symbol};
 ghost use Rattle.ygrammar.specs.NameTexts.{texts};
 ghost use Rattle.ygrammar.specs.Names.{noted_all, number_in};
-ghost use Rattle.ygrammar.specs.Grammar.{owned_view};
 ghost use Rattle.ygrammar.specs.Outline.{start_view};
 ghost use Rattle.ygrammar.specs.Numbered.{inner_numbers, rule_numbers};
 ghost use Rattle.ygrammar.specs.TreeViews.{clause_view, item_view, mention_view, name_view, option_view, text_view};
@@ -38,7 +37,7 @@ fn next_inner(k: usize) -> Result<usize, AllocError>
 }
 
 /// A body without its final action, and that action: the one behind the precedence, or else the last part of the body.
-fn final_parts<'t, 'a>(clause: &'t Clause<'a>) -> (&'t [Item<'a>], Option<&'a [u8]>)
+pub fn final_parts<'t, 'a>(clause: &'t Clause<'a>) -> (&'t [Item<'a>], Option<&'a [u8]>)
     ensures items { map item_view result.0.now ≡ (final_of (text_view clause.now.last) (map item_view clause.now.body.items)).0 }
     ensures text { text_view result.1 ≡ (final_of (text_view clause.now.last) (map item_view clause.now.body.items)).1 }
 {
@@ -118,16 +117,14 @@ fn push_inner(
     alloc: Global,
     names: &Names,
     k: usize,
-    text: &[u8],
     rules: &mut Vec<Rule>,
 ) -> Result<Sym, AllocError>
-    ensures rules { OnOk result (rules.new.items ≡ rules.old.items ++ inner_numbers (texts names.now) (inner_rule k text.now) ∷ []) }
+    ensures rules { OnOk result (rules.new.items ≡ rules.old.items ++ inner_numbers (texts names.now) (inner_rule k []) ∷ []) }
     ensures left { IfOk result (λ s. s ≡ number_in (texts names.now) (inner_name k)) }
 {
     let name = inner_name(alloc, k)?;
     let left = number_in(names, &name);
-    let text = Vec::from_slice(alloc, text)?;
-    rules.push(Rule::of(left, Vec::new(alloc), None, Some(text)))?;
+    rules.push(Rule::of(left, Vec::new(alloc), None))?;
     Ok(left)
 }
 
@@ -155,8 +152,8 @@ fn number_body(
     for item in items {
         match item {
             Item::Symbol(mention) => symbols.push(number_of(names, mention.who))?,
-            Item::Action(text) => {
-                symbols.push(push_inner(alloc, names, next, text, rules)?)?;
+            Item::Action(_) => {
+                symbols.push(push_inner(alloc, names, next, rules)?)?;
                 next = next_inner(next)?;
             }
         }
@@ -197,16 +194,6 @@ fn rule_precedence(
     }
 }
 
-/// A kept text of one's own, where there is one.
-fn owned_text(alloc: Global, text: Option<&[u8]>) -> Result<Option<Vec<u8>>, AllocError>
-    ensures { IfOk result (λ t. owned_view t ≡ text_view text.entry) }
-{
-    match text {
-        Some(text) => Ok(Some(Vec::from_slice(alloc, text)?)),
-        None => Ok(None),
-    }
-}
-
 /// Adds the rules of the file, those of inner actions before the rule that they stand in.
 fn push_rules(
     alloc: Global,
@@ -220,14 +207,13 @@ fn push_rules(
     let mut before: &[u8] = b"";
     let mut next: usize = 1;
     for clause in clauses {
-        let (items, text) = final_parts(clause);
+        let (items, _) = final_parts(clause);
         let body = number_body(alloc, names, items, next, rules)?;
         let precedence = rule_precedence(names, given, clause.prec, &body.symbols);
         before = left_name(clause, before);
         next = body.next;
         let left = number_in(names, before);
-        let text = owned_text(alloc, text)?;
-        rules.push(Rule::of(left, body.symbols, precedence, text))?;
+        rules.push(Rule::of(left, body.symbols, precedence))?;
     }
     Ok(())
 }
@@ -259,7 +245,7 @@ fn first_rule(
     body.push(number_in(names, b"$end"))?;
     let precedence = rule_precedence(names, given, None, &body);
     let left = number_in(names, b"$accept");
-    Ok(Rule::of(left, body, precedence, None))
+    Ok(Rule::of(left, body, precedence))
 }
 
 /// The rules of a file by number, with the precedences given to its tokens.

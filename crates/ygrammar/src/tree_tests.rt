@@ -1,6 +1,6 @@
 //! Small files and their trees, written out by hand.
 
-use crate::building::read_tree;
+use crate::building::{Syntax, read_tree};
 use crate::fault::SyntaxFault;
 use crate::tree::{
     Clause, Definition, Digits, Entry, Identifier, Item, Mention, NameAt, Tree, Word,
@@ -168,7 +168,7 @@ fn tree_text(alloc: Global, file: &[u8]) -> Result<String, Fail> {
         text: String::new(alloc),
     };
     match read_tree(alloc, file) {
-        Ok(tree) => shown.tree(&tree)?,
+        Ok(syntax) => shown.tree(&syntax.tree)?,
         Err(SyntaxFault::TooLong) => shown.bytes(b"1")?,
         Err(SyntaxFault::Unfinished { .. }) => shown.bytes(b"2")?,
         Err(SyntaxFault::BadLiteral { .. }) => shown.bytes(b"3")?,
@@ -227,7 +227,7 @@ fn files_without_a_tree(rt: HostRuntime) -> Result<(), Fail> {
 /// How many rules a file has, and how many parts the body of its last one; none for a file without a tree.
 fn sizes(alloc: Global, file: &[u8]) -> Option<(usize, usize)> {
     match read_tree(alloc, file) {
-        Ok(tree) => {
+        Ok(Syntax { tree, .. }) => {
             let mut parts = 0;
             for clause in &tree.clauses {
                 parts = clause.body.len();

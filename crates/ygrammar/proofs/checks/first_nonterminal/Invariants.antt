@@ -1,5 +1,5 @@
 use Rattle.std.proofs.Common.{◌≡◌, map, drop, length}
-use Rattle.std.specs.List.{list_any}
+use Rattle.std.specs.List.{find, list_any}
 use Rattle.ygrammar.specs.NameTexts.{texts}
 use Rattle.ygrammar.specs.Names.{number_in, printed}
 use Rattle.ygrammar.specs.Numbered.{is_between}
@@ -7,4 +7,7 @@ use Rattle.ygrammar.specs.TreeViews.{mention_view}
 use Rattle.ygrammar.proofs.checks.first_nonterminal.Given as goal
 
 abbrev pub invariant-loop-mention : goal.invariant-loop-mention
-invariant-loop-mention l = list_any (λ i. is_between l.tokens (length (texts l.symbols)) (number_in (texts l.symbols) (printed i))) (map mention_view (drop l.mention-index l.mentions)) ≡ list_any (λ i. is_between l.tokens (length (texts l.symbols)) (number_in (texts l.symbols) (printed i))) (map mention_view l.mentions)
+invariant-loop-mention l = record {
+  found : list_any (λ i. is_between l.tokens (length (texts l.symbols)) (number_in (texts l.symbols) (printed i))) (map mention_view (drop l.mention-index l.mentions)) ≡ list_any (λ i. is_between l.tokens (length (texts l.symbols)) (number_in (texts l.symbols) (printed i))) (map mention_view l.mentions);
+  place : find (λ m. is_between l.tokens (length (texts l.symbols)) (number_in (texts l.symbols) (printed (mention_view m)))) (drop l.mention-index l.mentions) ≡ find (λ m. is_between l.tokens (length (texts l.symbols)) (number_in (texts l.symbols) (printed (mention_view m)))) l.mentions;
+}

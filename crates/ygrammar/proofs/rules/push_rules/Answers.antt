@@ -4,7 +4,7 @@ use Rattle.ygrammar.specs.declared.tree.Clause.{Clause}
 use Rattle.ygrammar.specs.Elaboration.{chosen_token, precedence_at, rules_from}
 use Rattle.ygrammar.specs.NameTexts.{texts}
 use Rattle.ygrammar.specs.Numbered.{rule_numbers}
-use Rattle.ygrammar.specs.Grammar.{RuleValue, owned_view}
+use Rattle.ygrammar.specs.Grammar.{RuleValue}
 use Rattle.ygrammar.specs.TreeViews.{clause_view, item_view, mention_view, option_view}
 use Rattle.ygrammar.proofs.RuleSteps.{rule_step}
 use Rattle.ygrammar.proofs.rules.push_rules.Goals as goal
@@ -19,10 +19,9 @@ loop-clause-preserved c =
     let h : i < length cs = omega arith in
     let e : drop i cs ≡ x ∷ drop (i + 1) cs = drop_more cs i x h ∙ ap (λ (y : Clause). y ∷ drop (i + 1) cs) (sym (get_or_read cs i x h c.clause-item.is x)) in
     let whole : List RuleValue = c.args.rules.now.items ++ map (rule_numbers ns given) (rules_from [] 1 (map clause_view cs)) in
-    rule_step ns given c.loop-clause.before.now c.loop-clause.next (clause_view x) (map clause_view (drop (i + 1) cs)) (map item_view c.final_parts.result.0.now) (owned_view c.in_ok-text.text) c.left_name-before.result.now c.in_ok-body.body.symbols.items c.in_ok-body.body.next c.number_in-left.result c.rule_precedence-precedence.result
+    rule_step ns given c.loop-clause.before.now c.loop-clause.next (clause_view x) (map clause_view (drop (i + 1) cs)) (map item_view c.final_parts.result.0.now) c.left_name-before.result.now c.in_ok-body.body.symbols.items c.in_ok-body.body.next c.number_in-left.result c.rule_precedence-precedence.result
     c.loop-clause.rules.items c.number_body.new.rules.items c.push.new.self.items whole
     c.final_parts.ensures.items
-    (c.in_ok-text.ensures ∙ c.final_parts.ensures.text)
     c.in_ok-body.ensures.rules
     c.in_ok-body.ensures.symbols
     c.in_ok-body.ensures.next
