@@ -11,7 +11,7 @@ use Rattle.ygrammar.specs.declared.mistake.Refused.{Refused}
 use Rattle.ygrammar.specs.declared.mistake.Refused.TheVariants as refused
 use Rattle.ygrammar.specs.Cuttings.{Refusal}
 use Rattle.ygrammar.specs.Elaborated.{IsFirstRefused}
-use Rattle.ygrammar.specs.Faults.{IsRefusal, mistake_at, of_syntax}
+use Rattle.ygrammar.specs.Faults.{IsRefusal, line_of, mistake_at, of_syntax}
 use Rattle.ygrammar.specs.Grammar.{GrammarValue}
 use Rattle.ygrammar.specs.GrammarOf.{AnswersGrammar, AnswersMistake, AnswersRefusal, HasTree, IsFaultOf, IsMistaken}
 use Rattle.ygrammar.specs.Lexemes.{Lexeme}
@@ -42,9 +42,9 @@ pub same_grammar : (source : List ℕ) (t u : Tree) (g h : GrammarValue) → u �
 same_grammar source t u g h e a b = one_meaning t g h a (subst (λ x. IsMeaning x h) e b)
 
 -- a file with a grammar has no mistake
-pub no_grammar : (t u : Tree) (e : Refused) (f : GrammarFault) (h : GrammarValue) → u ≡ t → IsFirstRefused t e → IsRefusal e f → IsMeaning u h → AnswersGrammar (Err f) h
-no_grammar t u (refused.Mistake what at) f h e first is m = absurd (none_first t order what (subst (λ x. IsMeaning x h) e m).sound first)
-no_grammar t u refused.Memory f h e first is m = subst (λ (x : GrammarFault). AnswersGrammar (Err x) h) (sym is) tt
+pub no_grammar : (source : List ℕ) (t u : Tree) (e : Refused) (f : GrammarFault) (h : GrammarValue) → u ≡ t → IsFirstRefused t e → IsRefusal source e f → IsMeaning u h → AnswersGrammar (Err f) h
+no_grammar source t u (refused.Mistake what at) f h e first is m = absurd (none_first t order what (subst (λ x. IsMeaning x h) e m).sound first)
+no_grammar source t u refused.Memory f h e first is m = subst (λ (x : GrammarFault). AnswersGrammar (Err x) h) (sym is) tt
 
 mistaken : (source : List ℕ) (m : Mistake) (line : ℕ) → IsMistaken source m → IsFaultOf source (mistake_at m line)
 mistaken source TokenLeft line p = p
@@ -57,8 +57,8 @@ mistaken source BadPrec line p = p
 mistaken source Limit line p = p
 
 -- the mistake of the tree is the fault of the file
-pub fault_of : (source : List ℕ) (t : Tree) (e : Refused) (f : GrammarFault) → HasTree source t → IsFirstRefused t e → IsRefusal e f → IsFaultOf source f
-fault_of source t (refused.Mistake what at) f h first (line, is) = subst (λ (x : GrammarFault). IsFaultOf source x) (sym is) (mistaken source what line (t, h, first))
+pub fault_of : (source : List ℕ) (t : Tree) (e : Refused) (f : GrammarFault) → HasTree source t → IsFirstRefused t e → IsRefusal source e f → IsFaultOf source f
+fault_of source t (refused.Mistake what at) f h first is = subst (λ (x : GrammarFault). IsFaultOf source x) (sym is) (mistaken source what (line_of source at) (t, h, first))
 fault_of source t refused.Memory f h first is = subst (λ (x : GrammarFault). IsFaultOf source x) (sym is) tt
 
 -- ---- the other direction
@@ -91,11 +91,11 @@ answers_mistake BadPrec line = (line, refl)
 answers_mistake Limit line = (line, refl)
 
 -- the mistake that is answered is the file's first
-pub same_mistake : (t u : Tree) (e : Refused) (f : GrammarFault) (m : Mistake) → u ≡ t → IsFirstRefused t e → IsRefusal e f → IsFirst u order m → AnswersMistake (err_of f) m
-same_mistake t u (refused.Mistake what at) f m e first (line, is) h =
+pub same_mistake : (source : List ℕ) (t u : Tree) (e : Refused) (f : GrammarFault) (m : Mistake) → u ≡ t → IsFirstRefused t e → IsRefusal source e f → IsFirst u order m → AnswersMistake (err_of f) m
+same_mistake source t u (refused.Mistake what at) f m e first is h =
     let same : what ≡ m = one_first t order what m first (subst (λ x. IsFirst x order m) e h) in
-    subst (λ x. AnswersMistake (err_of x) m) (sym is) (subst (λ x. AnswersMistake (err_of (mistake_at what line)) x) same (answers_mistake what line))
-same_mistake t u refused.Memory f m e first is h = subst (λ x. AnswersMistake (err_of x) m) (sym is) tt
+    subst (λ x. AnswersMistake (err_of x) m) (sym is) (subst (λ x. AnswersMistake (err_of (mistake_at what (line_of source at))) x) same (answers_mistake what (line_of source at)))
+same_mistake source t u refused.Memory f m e first is h = subst (λ x. AnswersMistake (err_of x) m) (sym is) tt
 
 -- an answer is no error
 pub ok_err : {T E : Type 0} (x : T) (e : E) → IsErrOf (ok_of {E = E} x) e → ⊥

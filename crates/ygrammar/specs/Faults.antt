@@ -1,5 +1,5 @@
 -- The faults of a grammar file: of its syntax, and of what it means.
-use Rattle.std.specs.Prelude.{ℕ, ◌≡◌}
+use Rattle.std.specs.Prelude.{ℕ, ◌≡◌, ◌+◌, List, take}
 use Rattle.ygrammar.specs.declared.fault.GrammarFault.{GrammarFault}
 use Rattle.ygrammar.specs.declared.fault.GrammarFault.TheVariants as faults
 use Rattle.ygrammar.specs.declared.fault.SyntaxFault.{SyntaxFault}
@@ -8,6 +8,7 @@ use Rattle.ygrammar.specs.declared.mistake.Mistake.{Mistake}
 use Rattle.ygrammar.specs.declared.mistake.Mistake.TheVariants as mistakes
 use Rattle.ygrammar.specs.declared.mistake.Refused.{Refused}
 use Rattle.ygrammar.specs.declared.mistake.Refused.TheVariants as refused
+use Rattle.ygrammar.specs.Cuttings.{newlines}
 
 abbrev pub of_syntax : SyntaxFault → GrammarFault
 of_syntax syntax.TooLong = faults.TooLong
@@ -27,7 +28,11 @@ mistake_at mistakes.Unproductive line = faults.Unproductive line
 mistake_at mistakes.BadPrec line = faults.BadPrec line
 mistake_at mistakes.Limit line = faults.Limit line
 
--- the fault of a refusal, on whatever line
-abbrev pub IsRefusal : Refused → GrammarFault → Type 0
-IsRefusal (refused.Mistake what at) f = (line : ℕ) × (f ≡ mistake_at what line)
-IsRefusal refused.Memory f = f ≡ faults.Memory
+-- the line of the place with so many bytes before it
+abbrev pub line_of : List ℕ → ℕ → ℕ
+line_of source at = newlines (take at source) + 1
+
+-- the fault of a refusal, on the line of its place
+abbrev pub IsRefusal : List ℕ → Refused → GrammarFault → Type 0
+IsRefusal source (refused.Mistake what at) f = f ≡ mistake_at what (line_of source at)
+IsRefusal source refused.Memory f = f ≡ faults.Memory

@@ -23,9 +23,11 @@ kept_text (number ds) = []
 kept_text code = []
 kept_text (fixed s) = []
 
+-- the kept texts among lexemes, in their order
 abbrev pub kept_texts : List Lexeme → List (List ℕ)
 kept_texts ls = flat_map kept_text ls
 
+-- the kept text of a rule, where it has one
 abbrev pub rule_text : Rule → Option (List ℕ)
 rule_text r = r.text
 
@@ -39,6 +41,7 @@ span_at (lexemes.Number n) at = []
 span_at lexemes.Code at = []
 span_at (lexemes.Fixed s) at = []
 
+-- the same of a lexeme with its place
 abbrev pub span_of : Placed → List Span
 span_of p = span_at p.lexeme p.at
 
@@ -51,11 +54,12 @@ behind (block ∷ ds) ss = behind ds ss
 behind (listing w tag es ∷ ds) ss = behind ds ss
 behind (types tag ns ∷ ds) ss = behind ds ss
 
--- whether each rule that a piece of a file makes has a kept text
+-- for each rule of inner actions that a part of a body makes, that it has a kept text
 abbrev pub item_flags : Item → List Bool
 item_flags (symbol i) = []
 item_flags (action t) = true ∷ []
 
+-- for each rule that a rule of the file makes, inner ones first, whether it has a kept text
 abbrev pub clause_flags : Clause → List Bool
 clause_flags c = let f = final_of c.last c.body in flat_map item_flags f.0 ++ is_some f.1 ∷ []
 

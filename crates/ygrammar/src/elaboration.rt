@@ -1,14 +1,17 @@
 //! What a syntax tree means: the grammar, or the first mistake.
 
-ghost use Rattle.std.specs.Prelude.{◌≡◌, ◌≤◌, ℕ, IfOk, List, map};
+ghost use Rattle.std.specs.Prelude.{◌≡◌, ◌≤◌, ℕ, true, IfOk, List, map, not, slice_index_or, unwrap_or};
+ghost use Rattle.std.specs.List.{find};
 ghost use Rattle.ygrammar.specs.Cuttings.{SpellsSyntax};
 ghost use Rattle.ygrammar.specs.Elaborated.{Elaborates, Fruitful, GivesNamed, IsReady};
 ghost use Rattle.ygrammar.specs.Marking.{AreIn, numbered_grammar};
 ghost use Rattle.ygrammar.specs.Meaning.{IsMeaning};
+ghost use Rattle.ygrammar.specs.NameTexts.{texts};
+ghost use Rattle.ygrammar.specs.Names.{number_in};
 ghost use Rattle.ygrammar.specs.Spans.{kept_texts, part_of};
 ghost use Rattle.ygrammar.specs.Tree.{IsTree, Tree as TreeOf, yield};
 ghost use Rattle.ygrammar.specs.Outline.{Outlines};
-ghost use Rattle.ygrammar.specs.TreeViews.{tree_view};
+ghost use Rattle.ygrammar.specs.TreeViews.{name_view, option_view, tree_view};
 
 use crate::clashes::placed_table;
 use crate::given::{OwnTable, precedences};
@@ -61,7 +64,9 @@ fn name_symbols(alloc: Global, tree: &Tree, outline: &Outline) -> Result<Named, 
 }
 
 /// The place of the first left side that isn't marked.
-fn unmarked_left(lefts: &[NameAt], names: &Names, marks: &[bool]) -> usize {
+fn unmarked_left(lefts: &[NameAt], names: &Names, marks: &[bool]) -> usize
+    ensures { result ≡ unwrap_or (option_view (λ l. l.at) (find (λ l. not (slice_index_or marks.now (number_in (texts names.now) (name_view l)) true)) lefts.now)) 0 }
+{
     for left in lefts {
         let s = number_in(names, left.name);
         if s < marks.len() && !marks[s] {

@@ -2,7 +2,7 @@
 
 ghost use Rattle.std.specs.Prelude.{◌≡◌};
 ghost use Rattle.ygrammar.specs.Answers.{fault_at};
-ghost use Rattle.ygrammar.specs.Faults.{IsRefusal, mistake_at, of_syntax};
+ghost use Rattle.ygrammar.specs.Faults.{IsRefusal, line_of, mistake_at, of_syntax};
 ghost use Rattle.ygrammar.specs.declared.fault.SyntaxFault.TheVariants.{Memory};
 
 use crate::mistake::{Mistake, Refused};
@@ -116,7 +116,7 @@ impl Mistake {
 impl Refused {
     /// The fault of a file of these bytes.
     pub fn in_file(self, source: &[u8]) -> GrammarFault
-        ensures { IsRefusal self result }
+        ensures { IsRefusal source.now self result }
     {
         match self {
             Refused::Mistake { what, at } => what.at_line(line_at(source, at)),
@@ -126,7 +126,9 @@ impl Refused {
 }
 
 /// The line of the place with so many bytes before it: one more than the newlines among them.
-fn line_at(source: &[u8], at: usize) -> usize {
+fn line_at(source: &[u8], at: usize) -> usize
+    ensures { result ≡ line_of source.now at }
+{
     let before = if at < source.len() {
         &source[..at]
     } else {

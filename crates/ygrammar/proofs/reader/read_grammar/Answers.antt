@@ -18,7 +18,7 @@ returns-in-Ok-clause-only c = λ g (u, h, m).
 pub returns-clause-only : goal.returns-clause-only
 returns-clause-only c = λ g (u, h, m).
     let t = tree_view c.in_ok-syntax.syntax.tree in
-    no_grammar t u c.in-Err.refused c.in_file.result g (same_tree t u c.in_ok-syntax.ensures.shaped h.shaped (c.in_ok-syntax.ensures.only (yield u) h.short h.spelled)) c.in-Err.ensures c.in_file.ensures m
+    no_grammar c.args.source.now t u c.in-Err.refused c.in_file.result g (same_tree t u c.in_ok-syntax.ensures.shaped h.shaped (c.in_ok-syntax.ensures.only (yield u) h.short h.spelled)) c.in-Err.ensures c.in_file.ensures m
 
 pub returns-clause-fault : goal.returns-clause-fault
 returns-clause-fault c =
@@ -54,4 +54,4 @@ returns-clause-refused c = λ r (short, out). read_no_fault (yield (tree_view c.
 pub returns-clause-mistaken : goal.returns-clause-mistaken
 returns-clause-mistaken c = λ m (u, h, first).
     let t = tree_view c.in_ok-syntax.syntax.tree in
-    same_mistake t u c.in-Err.refused c.in_file.result m (same_tree t u c.in_ok-syntax.ensures.shaped h.shaped (c.in_ok-syntax.ensures.only (yield u) h.short h.spelled)) c.in-Err.ensures c.in_file.ensures first
+    same_mistake c.args.source.now t u c.in-Err.refused c.in_file.result m (same_tree t u c.in_ok-syntax.ensures.shaped h.shaped (c.in_ok-syntax.ensures.only (yield u) h.short h.spelled)) c.in-Err.ensures c.in_file.ensures first
