@@ -1,8 +1,9 @@
 //! Grammar files and what they mean, written out by hand.
 
+use crate::cutting::FILE_LIMIT;
 use crate::grammar::{Grammar, Sym};
 use crate::precedence::{Associativity, Precedence};
-use crate::{FILE_LIMIT, GrammarFault, read_grammar};
+use crate::{GrammarFault, read_grammar};
 use std::alloc::Global;
 use std::test::Fail;
 

@@ -33,12 +33,9 @@ mod tokens;
 mod tree;
 mod worklist;
 
-pub use cutting::{FILE_LIMIT, Placed, read_syntax};
-pub use fault::{GrammarFault, SyntaxFault};
+pub use fault::GrammarFault;
 pub use grammar::{Grammar, Rule, Sym};
-pub use kind::{Kind, Sign};
 pub use literal::literal_at;
-pub use part::Lexeme;
 pub use precedence::{Associativity, Precedence};
 pub use reader::read_grammar;
 
