@@ -1,6 +1,9 @@
 -- What became of a run.
-use Rattle.std.proofs.Common.{ℕ, ◌≡◌, ◌∙◌, ◌⊎◌, inl, inr, Bool, true, false, List, [], Option, Err, refl, sym, subst, append-nil, if◌then◌else◌}
+use Rattle.std.proofs.Common.{ℕ, ◌≡◌, ◌∙◌, ◌⊎◌, Bool, true, false, List, [], Option, Err, refl, sym, subst, append-nil, if◌then◌else◌}
+use Rattle.std.specs.Borrow.{Bor}
 use Rattle.std.specs.Io.KnownBytes.{Keeps, Appends}
+use Rattle.std.specs.declared.io.ErrorKind.{ErrorKind as IoKind}
+use Rattle.std.specs.declared.io.ErrorKind.TheVariants as errors
 use Rattle.std.proofs.KnownBytes.{Appends-nil, Appends-kept}
 use Rattle.ygrammar.specs.declared.fault.GrammarFault.{GrammarFault}
 use Rattle.ygrammar.specs.declared.fault.GrammarFault.TheVariants as grammars
@@ -11,11 +14,10 @@ use Rattle.ycli.specs.declared.tokens.TokenFault.{TokenFault}
 use Rattle.ycli.specs.declared.tokens.TokenFault.TheVariants as faults
 use Rattle.ycli.specs.declared.arguments.YstepWords.{YstepWords}
 use Rattle.ycli.specs.declared.message.Trouble.{Trouble}
-use Rattle.ycli.specs.declared.message.Trouble.TheVariants.{CannotRead, NoMemory}
 use Rattle.ycli.specs.Link.{device_of, has_failed}
 use Rattle.ycli.specs.Sends.{Sends}
 use Rattle.ycli.specs.Reading.{Gives}
-use Rattle.ycli.specs.Programs.{FilesFail, Says, of_grammar, of_tokens}
+use Rattle.ycli.specs.Programs.{FilesFail, Says, of_grammar, of_tokens, of_unread}
 
 -- a refused tokens file is a trouble of files
 pub tokens_fail : (paths : YstepWords) (source : List ℕ) (t : Tables) (bytes : List ℕ) (fault : TokenFault) → IsGrammarOf source t.grammar → Gives t bytes (Err fault) → FilesFail paths (of_tokens fault)
@@ -43,9 +45,12 @@ grammar_fails paths source (grammars.Limit line) is = (source, is)
 grammar_fails paths source grammars.Memory is = tt
 
 -- a tokens file that can't be read is one
-pub unread_fails : (paths : YstepWords) (trouble : Trouble) (path : _) → path ≡ paths.tokens → (trouble ≡ NoMemory) ⊎ (trouble ≡ CannotRead path) → FilesFail paths trouble
-unread_fails paths trouble path same (inl e) = subst (λ (t : Trouble). FilesFail paths t) (sym e) tt
-unread_fails paths trouble path same (inr e) = subst (λ (t : Trouble). FilesFail paths t) (sym e) (inr same)
+pub unread_fails : (paths : YstepWords) (trouble : Trouble) (path : Bor (List ℕ)) → (path ≡ paths.grammar) ⊎ (path ≡ paths.tokens) → (kind : IoKind) × (trouble ≡ of_unread kind path) → FilesFail paths trouble
+unread_fails paths trouble path same (kind, e) = subst (λ (t : Trouble). FilesFail paths t) (sym e) (either kind)
+  where
+    either : (k : IoKind) → FilesFail paths (of_unread k path)
+    either errors.OutOfMemory = tt
+    either _ = same
 
 module _ {E : Type 0} (contents : E → Option (List ℕ)) where
   -- nothing was said

@@ -1,6 +1,9 @@
 -- What a program does but for its exit: what it was asked for, its message and its exit status.
 use Rattle.std.specs.Prelude.{ℕ, ◌≡◌, ◌≢◌, ◌<◌, ◌^◌, ◌⊎◌, ◌++◌, false, List, [], length, decimal, codes, Option, IfSome, Result, Ok, Err}
+use Rattle.std.specs.Borrow.{Bor}
 use Rattle.std.specs.Io.KnownBytes.{Appends}
+use Rattle.std.specs.declared.io.ErrorKind.{ErrorKind as IoKind}
+use Rattle.std.specs.declared.io.ErrorKind.TheVariants as errors
 use Rattle.clap.specs.Words.{IsAmong, fault_of}
 use Rattle.clap.specs.declared.error.kind.ErrorKind.{ErrorKind}
 use Rattle.clap.specs.declared.error.kind.ErrorKind.TheVariants as kinds
@@ -110,6 +113,11 @@ of_grammar (grammars.Unproductive line) = Grammar (grammars.Unproductive line)
 of_grammar (grammars.BadPrec line) = Grammar (grammars.BadPrec line)
 of_grammar (grammars.Limit line) = Grammar (grammars.Limit line)
 of_grammar grammars.Memory = NoMemory
+
+-- a file that can't be read at this path, for an error of this kind
+abbrev pub of_unread : IoKind → Bor (List ℕ) → Trouble
+of_unread errors.OutOfMemory path = NoMemory
+of_unread _ path = CannotRead path
 
 abbrev pub of_tables : BuildFault → Trouble
 of_tables building.TooManySets = TooManySets

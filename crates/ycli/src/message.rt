@@ -81,12 +81,12 @@ impl<'a> From<SessionFault> for Trouble<'a> {
 }
 
 impl<'a> Trouble<'a> {
-    ghost use Rattle.std.specs.Prelude.{◌⊎◌};
-    ghost use Rattle.ycli.specs.declared.message.Trouble.TheVariants.{NoMemory, CannotRead};
+    ghost use Rattle.std.specs.IoError.{error_kind};
+    ghost use Rattle.ycli.specs.Programs.{of_unread};
 
     /// What a failed read of a file means.
     pub(crate) fn of_file(path: &'a str, error: io::Error) -> Trouble<'a>
-        ensures { (result ≡ NoMemory) ⊎ (result ≡ CannotRead path.entry) }
+        ensures { result ≡ of_unread (error_kind error) path.entry }
     {
         match error.kind() {
             io::ErrorKind::OutOfMemory => Trouble::NoMemory,

@@ -1,10 +1,10 @@
 //! What the programs do but for their exit.
 
-ghost use Rattle.std.specs.Prelude.{◌≡◌, ◌⊎◌, IfOk, IfErr, map};
-ghost use Rattle.ycli.specs.declared.message.Trouble.TheVariants.{NoMemory, CannotRead};
+ghost use Rattle.std.specs.Prelude.{◌≡◌, IfOk, IfErr, map};
+ghost use Rattle.std.specs.declared.io.ErrorKind.{ErrorKind as IoKind};
 ghost use Rattle.ycli.specs.Link.{device_of};
 ghost use Rattle.ycli.specs.Session.{machine_of, history_of};
-ghost use Rattle.ycli.specs.Programs.{Asks, Starts, FilesFail, EndsIn, Runs};
+ghost use Rattle.ycli.specs.Programs.{Asks, Starts, FilesFail, EndsIn, Runs, of_unread};
 
 use crate::arguments::{YstepWords, ystep_words};
 use crate::link::Link;
@@ -48,7 +48,7 @@ fn request_of<'a>(alloc: Global, words: &'a [&'a str]) -> Result<Request<'a>, Tr
 
 /// The bytes of a file.
 fn bytes_of<'a, F: Files + AllocGlobal>(rt: &F, path: &'a str) -> Result<Vec<u8>, Trouble<'a>>
-    ensures { IfErr result (λ trouble. (trouble ≡ NoMemory) ⊎ (trouble ≡ CannotRead path.entry)) }
+    ensures { IfErr result (λ trouble. (kind : IoKind) × (trouble ≡ of_unread kind path.entry)) }
 {
     match fs::read(rt, path) {
         Ok(bytes) => Ok(bytes),

@@ -1,4 +1,4 @@
-use Rattle.std.proofs.Common.{rules, sym, subst, IfErr}
+use Rattle.std.proofs.Common.{inl, inr, rules, sym, subst, IfErr}
 use Rattle.std.proofs.lemmas.Result.{err_from_is_err_and}
 use Rattle.ygrammar.specs.GrammarOf.{IsGrammarOf}
 use Rattle.ycli.specs.declared.message.Trouble.{Trouble}
@@ -21,11 +21,18 @@ returns-in_err-tokens-clause-fails g c =
     (tokens_fail c.args.words c.deref.result.now c.in_ok-tables.tables c.deref-2.result.now c.in_err-tokens.field-0.0 (search rules) c.in_err-tokens.ensures.exact) in
     subst (λ (r : _). IfErr r (FilesFail c.args.words)) (sym is.1) fails
 
+pub returns-in_err-bytes_of-clause-fails : goal.returns-in_err-bytes_of-clause-fails
+returns-in_err-bytes_of-clause-fails g c =
+    let is = err_from_is_err_and c.from_residual.result c.from_residual.ensures.1 in
+    let fails : FilesFail c.args.words is.0 = subst (λ (trouble : Trouble). FilesFail c.args.words trouble) (sym is.2)
+    (unread_fails c.args.words c.in_err-bytes_of.field-0.0 c.grammar.result (inl (search rules)) c.in_err-bytes_of.ensures) in
+    subst (λ (r : _). IfErr r (FilesFail c.args.words)) (sym is.1) fails
+
 pub returns-in_err-bytes_of-2-clause-fails : goal.returns-in_err-bytes_of-2-clause-fails
 returns-in_err-bytes_of-2-clause-fails g c =
     let is = err_from_is_err_and c.from_residual-in_err-bytes_of-2.result c.from_residual-in_err-bytes_of-2.ensures.1 in
     let fails : FilesFail c.args.words is.0 = subst (λ (trouble : Trouble). FilesFail c.args.words trouble) (sym is.2)
-    (unread_fails c.args.words c.in_err-bytes_of-2.field-0.0 c.tokens.result (search rules) c.in_err-bytes_of-2.ensures) in
+    (unread_fails c.args.words c.in_err-bytes_of-2.field-0.0 c.tokens.result (inr (search rules)) c.in_err-bytes_of-2.ensures) in
     subst (λ (r : _). IfErr r (FilesFail c.args.words)) (sym is.1) fails
 
 pub returns-clause-starts : goal.returns-clause-starts
