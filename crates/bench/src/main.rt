@@ -1,88 +1,38 @@
-//! Times the reader on large grammar files. With no word it does nothing; with any word it prints, for each
-//! kind of file at two sizes, the bytes, the microseconds and the bytes a second.
+//! Times the reader of grammar files and the making of automata. With no word it does nothing.
+//!
+//!     bench read           the reader on large files
+//!     bench build KIND N   the automaton of a grammar of this kind and size
+//!     bench write KIND N   writes that grammar's file
 #![tactic(auto)]
 
-use std::alloc::{AllocError, Global};
-use std::time::Instant;
-use std::{env, io};
-use ygrammar::read_syntax;
+mod building;
+mod files;
+mod reading;
 
-/// A file that begins with one text and goes on with another, so many times, and ends with a third.
-fn repeated(
-    alloc: Global,
-    start: &[u8],
-    text: &[u8],
-    times: usize,
-    end: &[u8],
-) -> Result<Vec<u8>, AllocError> {
-    let mut file = Vec::from_slice(alloc, start)?;
-    for _ in 0..times {
-        file.extend_from_slice(text)?;
-    }
-    file.extend_from_slice(end)?;
-    Ok(file)
-}
+use crate::building::time_build;
+use crate::files::{Kind, file_of};
+use crate::reading::time_reading;
+use std::io::{self, Write};
+use std::{env, str};
 
-/// Kept texts within one another.
-fn nested(alloc: Global, depth: usize) -> Result<Vec<u8>, AllocError> {
-    let mut file = repeated(alloc, b"%% s : ", b"{", depth, b"")?;
-    for _ in 0..depth {
-        file.push(b'}')?;
-    }
-    Ok(file)
-}
-
-/// Reads a file ten times, and prints the least time that this took.
-fn time(rt: &HostRuntime, name: &str, file: &[u8]) -> io::Result<()> {
-    let mut lexemes = 0;
-    let mut least = u128::MAX;
-    for _ in 0..10 {
-        let start = Instant::now(rt)?;
-        match read_syntax(rt.alloc(), file) {
-            Ok(read) => lexemes = read.len(),
-            Err(_) => lexemes = 0,
-        }
-        least = least.min(start.elapsed(rt)?.as_micros());
-    }
-    let speed = (file.len() as u128 * 1_000_000)
-        .checked_div(least)
-        .unwrap_or(0);
-    println!(rt;
-        "{name}: {} bytes, {lexemes} lexemes, {least} us, {speed} bytes/s",
-        file.len()
-    )
+/// Writes the grammar file of a kind.
+fn write_file(rt: &HostRuntime, kind: Kind, size: usize) -> io::Result<()> {
+    let file = file_of(rt.alloc(), kind, size)?;
+    rt.stdout().write_all(file.as_bytes())
 }
 
 fn main(rt: HostRuntime) -> io::Result<()> {
-    if env::args(&rt)?.count() < 2 {
-        return Ok(());
+    let words: Vec<String> = env::args(&rt)?.collect(rt.alloc())?;
+    let task = words.get(1).map(|w| w.as_str());
+    if task == Some("read") {
+        return time_reading(&rt);
     }
-    let alloc = rt.alloc();
-    let ordinary: &[u8] =
-        b"rule_name : other_name 'x' more { $$ = \"}\"; } /* a comment */ | '\\n' %prec LOW ;\n";
-    for times in [6_300, 12_600] {
-        time(
-            &rt,
-            "ordinary text",
-            &repeated(alloc, b"%token LOW\n%%\n", ordinary, times, b"")?,
-        )?;
+    let kind = words.get(2).and_then(|w| Kind::named(w.as_str()));
+    let size = words.get(3).and_then(|w| w.as_str().parse().ok());
+    match (task, kind, size) {
+        (Some("build"), Some(kind), Some(size)) => time_build(&rt, kind, size),
+        (Some("write"), Some(kind), Some(size)) => write_file(&rt, kind, size),
+        (None, _, _) => Ok(()),
+        _ => println!(rt; "bench read | build KIND N | write KIND N"),
     }
-    for times in [524_000, 1_048_000] {
-        time(
-            &rt,
-            "one comment",
-            &repeated(alloc, b"%% s : ; /*", b"x", times, b"*/")?,
-        )?;
-    }
-    for depth in [50_000, 100_000] {
-        time(&rt, "nested braces", &nested(alloc, depth)?)?;
-    }
-    for times in [250_000, 500_000] {
-        time(
-            &rt,
-            "one-byte names",
-            &repeated(alloc, b"%% s :", b" a", times, b"")?,
-        )?;
-    }
-    Ok(())
 }
