@@ -1,12 +1,13 @@
 //! The lookaheads of the items of all states, by saturation over their places.
 
-ghost use Rattle.std.specs.Prelude.{ℕ, ◌≡◌, ◌<◌, ◌≤◌, ◌⊎◌, ◌∷◌, false, true, length, drop, All, IfOk, suc};
+ghost use Rattle.std.specs.Prelude.{ℕ, ◌≡◌, ◌<◌, ◌≤◌, ◌⊎◌, ◌∷◌, false, true, ◌↔◌, length, drop, All, IfOk, IsTrue, suc};
 ghost use Rattle.ygrammar.specs.Grammar.{left_of, body_of};
 ghost use Rattle.ylalr.specs.declared.items.Item.{Item};
 ghost use Rattle.ylalr.specs.Rows.{Holds, IsSized, Grown, room};
 ghost use Rattle.ylalr.specs.States.{goto_of, set_at, start_item};
 ghost use Rattle.ylalr.specs.Looks.{FormGives, IsPlace, SoundLooks, StartLooks, ClosesAt, MovesAt, PlaceClosed, IndexClosed, StateClosed, ClosedLooks};
-ghost use Rattle.ylalr.specs.Parts.{FitParts};
+ghost use Rattle.ylalr.specs.Items.{Lookahead};
+ghost use Rattle.ylalr.specs.Parts.{FitParts, Whole};
 
 use crate::gotos::Gotos;
 use crate::items::{Item, form_after, moves_over, symbol_after};
@@ -201,4 +202,18 @@ pub fn all_looks(alloc: Global, parts: &Parts) -> Result<Rows, AllocError>
     let mut looks = start_rows(alloc, parts)?;
     while pass(parts, &mut looks) {}
     Ok(looks)
+}
+
+/// Whether the token is a lookahead of the item in state `q`, by its row; false where the state doesn't have the item.
+pub fn has_look(parts: &Parts, looks: &Rows, q: usize, item: Item, t: Sym) -> bool
+    requires whole { Whole parts.now looks.now }
+    requires state { q < length parts.now.states.closures }
+    requires token { t < parts.now.grammar.bare.tokens }
+    ensures { IsTrue result ↔ Lookahead parts.now.grammar.bare (set_at parts.now.states.closures q) item t }
+{
+    let _symbols = parts.grammar.symbols();
+    match place_of(&parts.states, &parts.offsets, q, item) {
+        Some(p) => looks.has(p, t),
+        None => false,
+    }
 }

@@ -1,4 +1,4 @@
-use Rattle.std.proofs.Common.{◌≡◌, ◌≤◌, ◌<◌, ◌+◌, subst, arith}
+use Rattle.std.proofs.Common.{◌≡◌, ◌≤◌, subst, arith}
 use Rattle.std.proofs.lemmas.Grind.{common_steps}
 use Rattle.ylalr.proofs.ListSteps.{Opening, opening_skip, opening_push}
 use Rattle.ylalr.proofs.closure.push_opened.Goals as goal
