@@ -192,6 +192,19 @@ fn start_rows(alloc: Global, parts: &Parts) -> Result<Rows, AllocError>
     Ok(looks)
 }
 
+/// Makes passes until one adds nothing.
+fn saturate(parts: &Parts, looks: &mut Rows)
+    requires fit { FitParts parts.now }
+    requires sized { IsSized parts.now.offsets.total parts.now.grammar.bare.tokens looks.old }
+    requires sound { SoundLooks parts.now.grammar.bare (goto_of parts.now.gotos) parts.now.states parts.now.offsets looks.old }
+    requires start { StartLooks parts.now.states parts.now.offsets looks.old }
+    ensures sized { IsSized parts.now.offsets.total parts.now.grammar.bare.tokens looks.new }
+    ensures sound { SoundLooks parts.now.grammar.bare (goto_of parts.now.gotos) parts.now.states parts.now.offsets looks.new }
+    ensures closed { ClosedLooks parts.now.grammar.bare (goto_of parts.now.gotos) parts.now.states parts.now.offsets looks.new }
+{
+    while pass(parts, looks) {}
+}
+
 /// The lookaheads of all items of all states.
 pub fn all_looks(alloc: Global, parts: &Parts) -> Result<Rows, AllocError>
     requires { FitParts parts.now }
@@ -200,7 +213,7 @@ pub fn all_looks(alloc: Global, parts: &Parts) -> Result<Rows, AllocError>
     ensures closed { IfOk result (λ m. ClosedLooks parts.now.grammar.bare (goto_of parts.now.gotos) parts.now.states parts.now.offsets m) }
 {
     let mut looks = start_rows(alloc, parts)?;
-    while pass(parts, &mut looks) {}
+    saturate(parts, &mut looks);
     Ok(looks)
 }
 
