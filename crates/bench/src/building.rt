@@ -76,7 +76,7 @@ fn grammar_of(alloc: Global, file: &str) -> io::Result<Grammar> {
 }
 
 /// Makes the automaton of a grammar three times, and prints its size, the least time, and the most memory.
-pub fn time_build(rt: &HostRuntime, kind: Kind, n: usize) -> io::Result<()> {
+pub fn time_build(rt: &HostRuntime, name: &str, kind: Kind, n: usize) -> io::Result<()> {
     let alloc = rt.alloc();
     let file = file_of(alloc, kind, n)?;
     let mut least = u128::MAX;
@@ -89,7 +89,7 @@ pub fn time_build(rt: &HostRuntime, kind: Kind, n: usize) -> io::Result<()> {
     }
     let most = peak(rt)?;
     let Ok(automaton) = build(alloc, grammar_of(alloc, file.as_str())?) else {
-        return println!(rt; "{n}: refused, {least} us, {most}");
+        return println!(rt; "{name} {n}: refused, {least} us, at most {most}");
     };
     let Size {
         items,
@@ -97,7 +97,7 @@ pub fn time_build(rt: &HostRuntime, kind: Kind, n: usize) -> io::Result<()> {
         facts,
     } = size_of(&automaton);
     println!(rt;
-        "{n}: {} symbols, {} rules, {} states, {items} items, {gotos} gotos, {facts} facts, {least} us, {most}",
+        "{name} {n}: {} symbols, {} rules, {} states, {items} items, {gotos} gotos, {facts} facts, {least} us, at most {most}",
         automaton.grammar().symbols(),
         automaton.grammar().rules(),
         automaton.states(),

@@ -12,8 +12,16 @@ mod reading;
 use crate::building::time_build;
 use crate::files::{Kind, file_of};
 use crate::reading::time_reading;
+use std::env;
 use std::io::{self, Write};
-use std::{env, str};
+
+/// The word at this place, or an empty one.
+fn word_at(words: &[String], at: usize) -> &str {
+    match words.get(at) {
+        Some(word) => word.as_str(),
+        None => "",
+    }
+}
 
 /// Writes the grammar file of a kind.
 fn write_file(rt: &HostRuntime, kind: Kind, size: usize) -> io::Result<()> {
@@ -21,18 +29,25 @@ fn write_file(rt: &HostRuntime, kind: Kind, size: usize) -> io::Result<()> {
     rt.stdout().write_all(file.as_bytes())
 }
 
+/// What is done with the grammar of a kind and size.
+fn serve(rt: &HostRuntime, task: &str, name: &str, size: &str) -> io::Result<()> {
+    let (Some(kind), Ok(size)) = (Kind::named(name), size.parse()) else {
+        return println!(rt; "no such kind, or no size");
+    };
+    if task == "build" {
+        time_build(rt, name, kind, size)
+    } else {
+        write_file(rt, kind, size)
+    }
+}
+
 fn main(rt: HostRuntime) -> io::Result<()> {
     let words: Vec<String> = env::args(&rt)?.collect(rt.alloc())?;
-    let task = words.get(1).map(|w| w.as_str());
-    if task == Some("read") {
-        return time_reading(&rt);
-    }
-    let kind = words.get(2).and_then(|w| Kind::named(w.as_str()));
-    let size = words.get(3).and_then(|w| w.as_str().parse().ok());
-    match (task, kind, size) {
-        (Some("build"), Some(kind), Some(size)) => time_build(&rt, kind, size),
-        (Some("write"), Some(kind), Some(size)) => write_file(&rt, kind, size),
-        (None, _, _) => Ok(()),
-        _ => println!(rt; "bench read | build KIND N | write KIND N"),
+    match word_at(&words, 1) {
+        "" => Ok(()),
+        "read" => time_reading(&rt),
+        "build" => serve(&rt, "build", word_at(&words, 2), word_at(&words, 3)),
+        "write" => serve(&rt, "write", word_at(&words, 2), word_at(&words, 3)),
+        _ => println!(&rt; "bench read | build KIND N | write KIND N"),
     }
 }

@@ -101,11 +101,11 @@ pub fn time_reading(rt: &HostRuntime) -> io::Result<()> {
         let file = repeated(alloc, b"%% s :", b" a", times, b"")?;
         time_lexemes(rt, "one-byte names", &file)?;
     }
-    for size in [1_023, 2_047] {
+    for size in [1_022, 2_046] {
         let file = file_of(alloc, Kind::Symbols, size)?;
         time_grammar(rt, "many symbols and rules", file.as_bytes())?;
     }
-    for size in [2_047, 4_094] {
+    for size in [2_046, 4_092] {
         let file = file_of(alloc, Kind::Text, size)?;
         time_grammar(rt, "much text", file.as_bytes())?;
     }
