@@ -161,6 +161,43 @@ fn pass_state(parts: &Parts, q: usize, looks: &mut Rows) -> bool
     grew
 }
 
+/// Visits each item of a state, the last one first.
+fn pass_back(parts: &Parts, q: usize, looks: &mut Rows) -> bool
+    requires fit { FitParts parts.now }
+    requires state { q < length parts.now.states.closures }
+    requires sized { IsSized parts.now.offsets.total parts.now.grammar.bare.tokens looks.old }
+    requires sound { SoundLooks parts.now.grammar.bare (goto_of parts.now.gotos) parts.now.states parts.now.offsets looks.old }
+    ensures grown { Grown looks.old looks.new result }
+    ensures sound { SoundLooks parts.now.grammar.bare (goto_of parts.now.gotos) parts.now.states parts.now.offsets looks.new }
+{
+    let items = parts.states.items(q);
+    let start = parts.offsets.start(q);
+    let mut grew = false;
+    for i in 0..items.len() {
+        let j = items.len() - 1 - i;
+        grew |= visit(parts, q, items[j], looks, start + j);
+    }
+    grew
+}
+
+/// Visits each item of a state and, where a row grew, each again in the other order, so that lookaheads that go from later
+/// items to earlier ones don't take a pass for each step. Says whether any row grew.
+fn pass_both(parts: &Parts, q: usize, looks: &mut Rows) -> bool
+    requires fit { FitParts parts.now }
+    requires state { q < length parts.now.states.closures }
+    requires sized { IsSized parts.now.offsets.total parts.now.grammar.bare.tokens looks.old }
+    requires sound { SoundLooks parts.now.grammar.bare (goto_of parts.now.gotos) parts.now.states parts.now.offsets looks.old }
+    ensures grown { Grown looks.old looks.new result }
+    ensures sound { SoundLooks parts.now.grammar.bare (goto_of parts.now.gotos) parts.now.states parts.now.offsets looks.new }
+    ensures closed { result ≡ false → StateClosed parts.now.grammar.bare (goto_of parts.now.gotos) parts.now.states parts.now.offsets looks.new q }
+{
+    let grew = pass_state(parts, q, looks);
+    if grew {
+        pass_back(parts, q, looks);
+    }
+    grew
+}
+
 /// Visits each item of each state, and says whether any row grew.
 fn pass(parts: &Parts, looks: &mut Rows) -> bool
     requires fit { FitParts parts.now }
@@ -172,7 +209,7 @@ fn pass(parts: &Parts, looks: &mut Rows) -> bool
 {
     let mut grew = false;
     for q in 0..parts.states.count() {
-        grew |= pass_state(parts, q, looks);
+        grew |= pass_both(parts, q, looks);
     }
     grew
 }
