@@ -1,6 +1,6 @@
 # make demo   runs the stepper on examples/ and shows the sessions
 # make build  proves the programs and leaves them in bin/
-# make bench  times the reader of grammar files on large files
+# make bench  times the reader on large files and the making of automata, and byacc on the same grammars
 # make refuse refuses each allocation of the stepper in turn, on every example
 # make test   the gate: every proof from nothing, the must-fail edits, the tests, the stored runs
 .PHONY: demo build bench refuse test
@@ -12,7 +12,7 @@ build:
 	@sh examples/build.sh
 
 bench:
-	@cd crates/bench && rt run -- all
+	@sh bench/run.sh
 
 refuse:
 	@sh examples/refuse.sh

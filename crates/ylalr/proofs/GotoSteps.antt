@@ -72,15 +72,21 @@ rowing_none g s q = record { gotos = λ x h. absurd (omega arith); below = All-n
 pub rowing_kept : (g : ContextFree) (s t : StateLists) (q n : ℕ) (row : List Goto) → Extends s t → q < length s.closures → Rowing g s q n row → Rowing g t q n row
 rowing_kept g s t q n row e h r = record { gotos = λ x l. goto_kept g s t q x (lookup row x) e h (r.gotos x l); below = r.below; order = r.order }
 
+below_or : (x n : ℕ) → (x < n) ⊎ (n ≤ x)
+below_or x n = grind arith
+
+lower : (n : ℕ) {m : ℕ} (row : List Goto) → n ≤ m → All (λ (a : Goto). a.symbol < n) row → All (λ (a : Goto). a.symbol < m) row
+lower n row le f k d h = let l = f k d h in omega arith
+
 wider : (n : ℕ) (row : List Goto) → All (λ (a : Goto). a.symbol < n) row → All (λ (a : Goto). a.symbol < n + 1) row
 wider n row f k d h = let l = f k d h in omega arith
 
-pub rowing_skip : (g : ContextFree) (s : StateLists) (q n : ℕ) (row : List Goto) → GotoIs g s q n None → Rowing g s q n row → Rowing g s q (n + 1) row
-rowing_skip g s q n row z r = record { gotos = λ x h. go x (last_or x n h); below = wider n row r.below; order = r.order }
+pub rowing_skip : (g : ContextFree) (s : StateLists) (q n m : ℕ) (row : List Goto) → n ≤ m → ((x : ℕ) → n ≤ x → x < m → GotoIs g s q x None) → Rowing g s q n row → Rowing g s q m row
+rowing_skip g s q n m row le z r = record { gotos = λ x h. go x h (below_or x n); below = lower n row le r.below; order = r.order }
   where
-    go : (x : ℕ) → (x < n) ⊎ (x ≡ n) → GotoIs g s q x (lookup row x)
-    go x (inl l) = r.gotos x l
-    go x (inr e) = subst (λ y. GotoIs g s q y (lookup row y)) (sym e) (subst (GotoIs g s q n) (sym (lookup_none row n r.below)) z)
+    go : (x : ℕ) → x < m → (x < n) ⊎ (n ≤ x) → GotoIs g s q x (lookup row x)
+    go x h (inl l) = r.gotos x l
+    go x h (inr l) = subst (GotoIs g s q x) (sym (lookup_none row x (lower n row l r.below))) (z x l h)
 
 pub rowing_push : (g : ContextFree) (s : StateLists) (q n m : ℕ) (row : List Goto) → GotoIs g s q n (Some m) → Rowing g s q n row → Rowing g s q (n + 1) (row ++ record { symbol = n; state = m } ∷ [])
 rowing_push g s q n m row z r = record {

@@ -65,24 +65,24 @@ opening_none w from old a b = record {
     back i (inl c) = c
     back i (inr c) = absurd (let x = c.1 in let y = c.2 in omega arith)
 
-pub opening_skip : (w : BitRows) (from r : ℕ) (old new : List Item) → (Holds w 0 r → ⊥) → Opening w from r old new → Opening w from (r + 1) old new
-opening_skip w from r old new n o = record {
+pub opening_skip : (w : BitRows) (from r n : ℕ) (old new : List Item) → r ≤ n → ((k : ℕ) → r ≤ k → k < n → Holds w 0 k → ⊥) → Opening w from r old new → Opening w from n old new
+opening_skip w from r n old new le none o = record {
   ascending = o.ascending;
   below = λ k d h. (let l = o.below k d h in omega arith);
   exact = λ i. ((λ c. wider i ((o.exact i).0 c)), λ c. (o.exact i).1 (narrow i c));
 }
   where
-    wider : (i : Item) → Contains old i ⊎ ((i.dot ≡ 0) × (from ≤ i.rule) × (i.rule < r) × Holds w 0 i.rule) → Contains old i ⊎ ((i.dot ≡ 0) × (from ≤ i.rule) × (i.rule < r + 1) × Holds w 0 i.rule)
+    wider : (i : Item) → Contains old i ⊎ ((i.dot ≡ 0) × (from ≤ i.rule) × (i.rule < r) × Holds w 0 i.rule) → Contains old i ⊎ ((i.dot ≡ 0) × (from ≤ i.rule) × (i.rule < n) × Holds w 0 i.rule)
     wider i (inl c) = inl c
     wider i (inr c) = inr (c.0, c.1, (let l = c.2 in omega arith), c.3)
 
-    narrow : (i : Item) → Contains old i ⊎ ((i.dot ≡ 0) × (from ≤ i.rule) × (i.rule < r + 1) × Holds w 0 i.rule) → Contains old i ⊎ ((i.dot ≡ 0) × (from ≤ i.rule) × (i.rule < r) × Holds w 0 i.rule)
+    narrow : (i : Item) → Contains old i ⊎ ((i.dot ≡ 0) × (from ≤ i.rule) × (i.rule < n) × Holds w 0 i.rule) → Contains old i ⊎ ((i.dot ≡ 0) × (from ≤ i.rule) × (i.rule < r) × Holds w 0 i.rule)
     narrow i (inl c) = inl c
     narrow i (inr c) = go (cases_lt i.rule r)
       where
         go : (i.rule < r) ⊎ (r ≤ i.rule) → Contains old i ⊎ ((i.dot ≡ 0) × (from ≤ i.rule) × (i.rule < r) × Holds w 0 i.rule)
         go (inl l) = inr (c.0, c.1, l, c.3)
-        go (inr l) = absurd (n (let e : i.rule ≡ r = (let k = c.2 in omega arith) in subst (λ t. Holds w 0 t) e c.3))
+        go (inr l) = absurd (none i.rule l c.2 c.3)
 
 pub opening_push : (w : BitRows) (from r : ℕ) (old new more : List Item) → from ≤ r → Holds w 0 r → Opening w from r old new → more ≡ new ++ first_of r ∷ [] → Opening w from (r + 1) old more
 opening_push w from r old new more l h o e = subst (λ xs. Opening w from (r + 1) old xs) (sym e) (record {

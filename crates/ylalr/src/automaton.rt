@@ -11,9 +11,9 @@ use crate::collection::all_states;
 use crate::fault::BuildFault;
 use crate::first::first_tokens;
 use crate::items::Item;
-use crate::looks::{Parts, all_looks};
+use crate::looks::{Parts, all_looks, has_look};
 use crate::nullable::nullable_symbols;
-use crate::places::{Offsets, place_of};
+use crate::places::Offsets;
 use crate::rows::Rows;
 use crate::rules::RulesOf;
 use std::alloc::Global;
@@ -116,11 +116,7 @@ impl Automaton {
         requires token { t < (bare_of self.now).tokens }
         ensures { IsTrue result ↔ Lookahead (bare_of self.now) (state_of self.now q) item t }
     {
-        let _symbols = self.parts.grammar.symbols();
-        match place_of(&self.parts.states, &self.parts.offsets, q, item) {
-            Some(p) => self.looks.has(p, t),
-            None => false,
-        }
+        has_look(&self.parts, &self.looks, q, item, t)
     }
 
     /// Whether the symbol derives the empty form.

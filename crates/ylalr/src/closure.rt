@@ -44,9 +44,13 @@ fn push_opened(
     ensures below { OnOk result (All (λ i. i.rule < to) items.new) }
     ensures exact { OnOk result ((i : Item) → Contains items.new i ↔ (Contains items.old i ⊎ ((i.dot ≡ 0) × (from ≤ i.rule) × (i.rule < to) × Holds wanted.now 0 i.rule))) }
 {
-    for r in from..to {
+    let mut r = from;
+    while r < to {
         if wanted.has(0, r) {
             items.push(Item { rule: r, dot: 0 })?;
+            r += 1;
+        } else {
+            r = wanted.after(0, r).min(to);
         }
     }
     Ok(())

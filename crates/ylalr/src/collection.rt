@@ -1,7 +1,7 @@
 //! All states of a grammar, and their gotos.
 
 ghost use Rattle.std.specs.Prelude.{ℕ, ◌≡◌, ◌<◌, ◌≤◌, length, IfOk, IfErr, OnOk, MatchOption};
-ghost use Rattle.ylalr.specs.States.{AreStates, Extends, IsFresh, HasKernel, MayJoin, RowIs, RowsAre, IsAscendingRow, set_at};
+ghost use Rattle.ylalr.specs.States.{AreStates, Extends, IsFresh, HasKernel, IsSorted, MayJoin, RowIs, RowsAre, IsAscendingRow, set_at};
 ghost use Rattle.ylalr.specs.Collection.{TooMany};
 ghost use Rattle.ylalr.specs.Sets.{IsOpens};
 ghost use Rattle.ylalr.specs.Rows.{IsSized};
@@ -98,12 +98,12 @@ fn gotos_of(
     requires opens_sized { IsSized grammar.now.bare.symbols (length grammar.now.bare.rules) opens.now }
     requires opens_exact { IsOpens grammar.now.bare opens.now }
     requires wanted_sized { IsSized 1 (length grammar.now.bare.rules) wanted.old }
-    requires kernels_sized { length kernels.old ≡ grammar.now.bare.symbols }
+    requires kernels_sorted { IsSorted grammar.now.bare.symbols kernels.old }
     requires states { AreStates grammar.now.bare states.old }
     requires few { length states.old.closures ≤ 16384 }
     requires state { q < length states.old.closures }
     ensures wanted_sized { OnOk result (IsSized 1 (length grammar.now.bare.rules) wanted.new) }
-    ensures kernels_sized { OnOk result (length kernels.new ≡ grammar.now.bare.symbols) }
+    ensures kernels_sorted { OnOk result (IsSorted grammar.now.bare.symbols kernels.new) }
     ensures states { OnOk result (AreStates grammar.now.bare states.new) }
     ensures few { OnOk result (length states.new.closures ≤ 16384) }
     ensures extends { OnOk result (Extends states.old states.new) }
@@ -113,7 +113,9 @@ fn gotos_of(
 {
     kernels.fill(grammar, states.items(q))?;
     let mut row = GotoRow::new(alloc);
-    for x in 0..grammar.symbols() {
+    let symbols = grammar.symbols();
+    let mut x = 0;
+    while x < symbols {
         if let Some(n) = number(
             alloc,
             grammar,
@@ -126,6 +128,9 @@ fn gotos_of(
                 symbol: x,
                 state: n,
             })?;
+            x += 1;
+        } else {
+            x = kernels.after(x);
         }
     }
     Ok(row)

@@ -54,6 +54,22 @@ fn pass(grammar: &Grammar, nullable: &Marks, first: &mut Rows) -> bool
     grew
 }
 
+/// Visits each rule, the first one first.
+fn pass_on(grammar: &Grammar, nullable: &Marks, first: &mut Rows) -> bool
+    requires marks { length nullable.now ≡ grammar.now.bare.symbols }
+    requires exact { IsNullable grammar.now.bare nullable.now }
+    requires sized { IsSized grammar.now.bare.symbols grammar.now.bare.tokens first.old }
+    requires sound { SoundFirst grammar.now.bare first.old }
+    ensures sound { SoundFirst grammar.now.bare first.new }
+    ensures grown { Grown first.old first.new result }
+{
+    let mut grew = false;
+    for r in 0..grammar.rules() {
+        grew |= visit(grammar, nullable, r, first);
+    }
+    grew
+}
+
 /// Rows in which each token has itself.
 fn own_tokens(alloc: Global, grammar: &Grammar) -> Result<Rows, AllocError>
     ensures sized { IfOk result (λ m. IsSized grammar.now.bare.symbols grammar.now.bare.tokens m) }
@@ -75,6 +91,8 @@ pub fn first_tokens(alloc: Global, grammar: &Grammar, nullable: &Marks) -> Resul
     ensures exact { IfOk result (λ m. IsFirst grammar.now.bare m) }
 {
     let mut first = own_tokens(alloc, grammar)?;
-    while pass(grammar, nullable, &mut first) {}
+    while pass(grammar, nullable, &mut first) {
+        pass_on(grammar, nullable, &mut first);
+    }
     Ok(first)
 }

@@ -14,6 +14,8 @@ mod marks;
 mod nullable;
 mod opens;
 mod places;
+#[cfg(test)]
+mod reference;
 mod rows;
 mod rules;
 mod states;

@@ -1,12 +1,13 @@
 //! The lookaheads of the items of all states, by saturation over their places.
 
-ghost use Rattle.std.specs.Prelude.{ℕ, ◌≡◌, ◌<◌, ◌≤◌, ◌⊎◌, ◌∷◌, false, true, length, drop, All, IfOk, suc};
+ghost use Rattle.std.specs.Prelude.{ℕ, ◌≡◌, ◌<◌, ◌≤◌, ◌⊎◌, ◌∷◌, false, true, ◌↔◌, length, drop, All, IfOk, IsTrue, suc};
 ghost use Rattle.ygrammar.specs.Grammar.{left_of, body_of};
 ghost use Rattle.ylalr.specs.declared.items.Item.{Item};
 ghost use Rattle.ylalr.specs.Rows.{Holds, IsSized, Grown, room};
 ghost use Rattle.ylalr.specs.States.{goto_of, set_at, start_item};
 ghost use Rattle.ylalr.specs.Looks.{FormGives, IsPlace, SoundLooks, StartLooks, ClosesAt, MovesAt, PlaceClosed, IndexClosed, StateClosed, ClosedLooks};
-ghost use Rattle.ylalr.specs.Parts.{FitParts};
+ghost use Rattle.ylalr.specs.Items.{Lookahead};
+ghost use Rattle.ylalr.specs.Parts.{FitParts, Whole};
 
 use crate::gotos::Gotos;
 use crate::items::{Item, form_after, moves_over, symbol_after};
@@ -160,6 +161,43 @@ fn pass_state(parts: &Parts, q: usize, looks: &mut Rows) -> bool
     grew
 }
 
+/// Visits each item of a state, the last one first.
+fn pass_back(parts: &Parts, q: usize, looks: &mut Rows) -> bool
+    requires fit { FitParts parts.now }
+    requires state { q < length parts.now.states.closures }
+    requires sized { IsSized parts.now.offsets.total parts.now.grammar.bare.tokens looks.old }
+    requires sound { SoundLooks parts.now.grammar.bare (goto_of parts.now.gotos) parts.now.states parts.now.offsets looks.old }
+    ensures grown { Grown looks.old looks.new result }
+    ensures sound { SoundLooks parts.now.grammar.bare (goto_of parts.now.gotos) parts.now.states parts.now.offsets looks.new }
+{
+    let items = parts.states.items(q);
+    let start = parts.offsets.start(q);
+    let mut grew = false;
+    for i in 0..items.len() {
+        let j = items.len() - 1 - i;
+        grew |= visit(parts, q, items[j], looks, start + j);
+    }
+    grew
+}
+
+/// Visits each item of a state and, where a row grew, each again in the other order, so that lookaheads that go from later
+/// items to earlier ones don't take a pass for each step. Says whether any row grew.
+fn pass_both(parts: &Parts, q: usize, looks: &mut Rows) -> bool
+    requires fit { FitParts parts.now }
+    requires state { q < length parts.now.states.closures }
+    requires sized { IsSized parts.now.offsets.total parts.now.grammar.bare.tokens looks.old }
+    requires sound { SoundLooks parts.now.grammar.bare (goto_of parts.now.gotos) parts.now.states parts.now.offsets looks.old }
+    ensures grown { Grown looks.old looks.new result }
+    ensures sound { SoundLooks parts.now.grammar.bare (goto_of parts.now.gotos) parts.now.states parts.now.offsets looks.new }
+    ensures closed { result ≡ false → StateClosed parts.now.grammar.bare (goto_of parts.now.gotos) parts.now.states parts.now.offsets looks.new q }
+{
+    let grew = pass_state(parts, q, looks);
+    if grew {
+        pass_back(parts, q, looks);
+    }
+    grew
+}
+
 /// Visits each item of each state, and says whether any row grew.
 fn pass(parts: &Parts, looks: &mut Rows) -> bool
     requires fit { FitParts parts.now }
@@ -171,7 +209,7 @@ fn pass(parts: &Parts, looks: &mut Rows) -> bool
 {
     let mut grew = false;
     for q in 0..parts.states.count() {
-        grew |= pass_state(parts, q, looks);
+        grew |= pass_both(parts, q, looks);
     }
     grew
 }
@@ -191,6 +229,19 @@ fn start_rows(alloc: Global, parts: &Parts) -> Result<Rows, AllocError>
     Ok(looks)
 }
 
+/// Makes passes until one adds nothing.
+fn saturate(parts: &Parts, looks: &mut Rows)
+    requires fit { FitParts parts.now }
+    requires sized { IsSized parts.now.offsets.total parts.now.grammar.bare.tokens looks.old }
+    requires sound { SoundLooks parts.now.grammar.bare (goto_of parts.now.gotos) parts.now.states parts.now.offsets looks.old }
+    requires start { StartLooks parts.now.states parts.now.offsets looks.old }
+    ensures sized { IsSized parts.now.offsets.total parts.now.grammar.bare.tokens looks.new }
+    ensures sound { SoundLooks parts.now.grammar.bare (goto_of parts.now.gotos) parts.now.states parts.now.offsets looks.new }
+    ensures closed { ClosedLooks parts.now.grammar.bare (goto_of parts.now.gotos) parts.now.states parts.now.offsets looks.new }
+{
+    while pass(parts, looks) {}
+}
+
 /// The lookaheads of all items of all states.
 pub fn all_looks(alloc: Global, parts: &Parts) -> Result<Rows, AllocError>
     requires { FitParts parts.now }
@@ -199,6 +250,20 @@ pub fn all_looks(alloc: Global, parts: &Parts) -> Result<Rows, AllocError>
     ensures closed { IfOk result (λ m. ClosedLooks parts.now.grammar.bare (goto_of parts.now.gotos) parts.now.states parts.now.offsets m) }
 {
     let mut looks = start_rows(alloc, parts)?;
-    while pass(parts, &mut looks) {}
+    saturate(parts, &mut looks);
     Ok(looks)
+}
+
+/// Whether the token is a lookahead of the item in state `q`, by its row; false where the state doesn't have the item.
+pub fn has_look(parts: &Parts, looks: &Rows, q: usize, item: Item, t: Sym) -> bool
+    requires whole { Whole parts.now looks.now }
+    requires state { q < length parts.now.states.closures }
+    requires token { t < parts.now.grammar.bare.tokens }
+    ensures { IsTrue result ↔ Lookahead parts.now.grammar.bare (set_at parts.now.states.closures q) item t }
+{
+    let _symbols = parts.grammar.symbols();
+    match place_of(&parts.states, &parts.offsets, q, item) {
+        Some(p) => looks.has(p, t),
+        None => false,
+    }
 }

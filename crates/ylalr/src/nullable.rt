@@ -59,12 +59,27 @@ fn pass(grammar: &Grammar, marks: &mut Marks) -> bool
     grew
 }
 
+/// Visits each rule, the first one first.
+fn pass_on(grammar: &Grammar, marks: &mut Marks)
+    requires sized { length marks.old ≡ grammar.now.bare.symbols }
+    requires sound { SoundNullable grammar.now.bare marks.old }
+    ensures sized { length marks.new ≡ grammar.now.bare.symbols }
+    ensures sound { SoundNullable grammar.now.bare marks.new }
+    ensures less { unmarked marks.new ≤ unmarked marks.old }
+{
+    for r in 0..grammar.rules() {
+        visit(grammar, r, marks);
+    }
+}
+
 /// The symbols that derive the empty form.
 pub fn nullable_symbols(alloc: Global, grammar: &Grammar) -> Result<Marks, AllocError>
     ensures sized { IfOk result (λ marks. length marks ≡ grammar.now.bare.symbols) }
     ensures exact { IfOk result (λ marks. (s : ℕ) → marked marks s ↔ Nullable grammar.now.bare (s ∷ [])) }
 {
     let mut marks = Marks::new(alloc, grammar.symbols())?;
-    while pass(grammar, &mut marks) {}
+    while pass(grammar, &mut marks) {
+        pass_on(grammar, &mut marks);
+    }
     Ok(marks)
 }

@@ -43,6 +43,20 @@ fn pass(grammar: &Grammar, opens: &mut Rows) -> bool
     grew
 }
 
+/// Visits each rule, the first one first.
+fn pass_on(grammar: &Grammar, opens: &mut Rows) -> bool
+    requires sized { IsSized grammar.now.bare.symbols (length grammar.now.bare.rules) opens.old }
+    requires sound { SoundOpens grammar.now.bare opens.old }
+    ensures sound { SoundOpens grammar.now.bare opens.new }
+    ensures grown { Grown opens.old opens.new result }
+{
+    let mut grew = false;
+    for r in 0..grammar.rules() {
+        grew |= visit(grammar, r, opens);
+    }
+    grew
+}
+
 /// Rows in which each left side has its own rules.
 fn own_rules(alloc: Global, grammar: &Grammar) -> Result<Rows, AllocError>
     ensures sized { IfOk result (λ m. IsSized grammar.now.bare.symbols (length grammar.now.bare.rules) m) }
@@ -62,6 +76,8 @@ pub fn opened_rules(alloc: Global, grammar: &Grammar) -> Result<Rows, AllocError
     ensures exact { IfOk result (λ m. IsOpens grammar.now.bare m) }
 {
     let mut opens = own_rules(alloc, grammar)?;
-    while pass(grammar, &mut opens) {}
+    while pass(grammar, &mut opens) {
+        pass_on(grammar, &mut opens);
+    }
     Ok(opens)
 }

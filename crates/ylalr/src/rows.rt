@@ -57,6 +57,27 @@ impl Rows {
         (word >> (c % BITS)) & 1 == 1
     }
 
+    /// A column behind `c`, which row `r` lacks, such that the row has none from `c` up to it. An empty word is passed
+    /// over as a whole.
+    pub fn after(&self, r: usize, c: usize) -> usize
+        requires row { r < self.now.height }
+        requires column { c < self.now.width }
+        requires absent { Holds self.now r c → ⊥ }
+        ensures further { c < result }
+        ensures within { result ≤ self.now.width }
+        ensures none { (k : ℕ) → c ≤ k → k < result → Holds self.now r k → ⊥ }
+    {
+        let width = self.width;
+        let start = c / BITS * BITS;
+        if self.words[r * self.span + c / BITS] != 0 {
+            c + 1
+        } else if width - start > BITS {
+            start + BITS
+        } else {
+            width
+        }
+    }
+
     /// Unsets all bits.
     pub fn clear(&mut self)
         ensures rows { self.new.height ≡ self.old.height }

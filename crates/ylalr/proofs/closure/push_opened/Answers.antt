@@ -1,20 +1,33 @@
-use Rattle.std.proofs.Common.{◌≡◌, ◌+◌, ◌∙◌, List, subst, sym, arith}
-use Rattle.ylalr.specs.declared.items.Item.{Item}
+use Rattle.std.proofs.Common.{◌≡◌, ◌≤◌, subst, arith}
+use Rattle.std.proofs.lemmas.Grind.{common_steps}
 use Rattle.ylalr.proofs.ListSteps.{Opening, opening_skip, opening_push}
 use Rattle.ylalr.proofs.closure.push_opened.Goals as goal
-use Rattle.ylalr.proofs.closure.push_opened.Goals.{then-has+in_ok-push, else-has}
+
+pub loop-r-preserved-then-has : goal.loop-r-preserved-then-has
+loop-r-preserved-then-has c =
+    let i = c.loop-r.invariant in
+    record {
+      opening = opening_push c.args.wanted.now c.args.from c.loop-r.r c.args.items.now c.loop-r.items c.push.new.self i.after (c.has.ensures.0 c.if-has.true) i.opening c.in_ok-push.ensures;
+      after = (let a = i.after in omega arith);
+      until = (let t = c.loop-r-test.true in omega arith);
+    }
 
 pub loop-r-preserved : goal.loop-r-preserved
 loop-r-preserved c =
-    let w0 = c.args.wanted.now in
-    let old = c.args.items.now in
-    let r = c.loop-r.r in
-    elim c.if-has.branch [
-      | then-has+in_ok-push w ↦ opening_push w0 c.args.from r old c.loop-r.items c.if-has.items (omega arith) (c.has.ensures.0 w.if-has.true) c.loop-r.invariant (w.items-is ∙ w.in_ok-push.ensures)
-      | else-has w ↦ subst (λ (xs : List Item). Opening w0 c.args.from (r + 1) old xs) (sym w.items-is) (opening_skip w0 c.args.from r old c.loop-r.items (λ h. (let t = c.has.ensures.1 h in let f = w.if-has.false in cc)) c.loop-r.invariant)
-    ]
+    let i = c.loop-r.invariant in
+    let f = c.after.ensures.further in
+    let t = c.loop-r-test.true in
+    let e = c.min-r.ensures in
+    let le : c.loop-r.r ≤ c.min-r.result = grind (arith, common_steps) in
+    let up : c.min-r.result ≤ c.after.result = grind (arith, common_steps) in
+    record {
+      opening = opening_skip c.args.wanted.now c.args.from c.loop-r.r c.min-r.result c.args.items.now c.loop-r.items le (λ k a b. c.after.ensures.none k a (omega arith)) i.opening;
+      after = (let a = i.after in omega arith);
+      until = grind (arith, common_steps);
+    }
 
 pub returns-clause-exact : goal.returns-clause-exact
 returns-clause-exact c =
+    let u = c.loop-r.invariant.until in
     let e : c.loop-r.r ≡ c.args.to = omega arith in
-    (subst (λ t. Opening c.args.wanted.now c.args.from t c.args.items.now c.loop-r.items) e c.loop-r.invariant).exact
+    (subst (λ t. Opening c.args.wanted.now c.args.from t c.args.items.now c.loop-r.items) e c.loop-r.invariant.opening).exact

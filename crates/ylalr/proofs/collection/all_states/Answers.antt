@@ -21,7 +21,7 @@ loop-alloc-preserved c =
     let p = rows_push g s t (length xs) xs row e.extends i.within refl i.rows r e.order in
     record {
       wanted_sized = e.wanted_sized;
-      kernels_sized = e.kernels_sized;
+      kernels_sorted = e.kernels_sorted;
       states = e.states;
       few = e.few;
       within = (let l = e.extends.longer in omega arith);

@@ -1,4 +1,4 @@
-use Rattle.std.proofs.Common.{◌≤◌, length}
+use Rattle.std.proofs.Common.{◌≤◌, ◌-◌, length}
 use Rattle.ylalr.specs.Rows.{IsSized}
 use Rattle.ylalr.specs.States.{AreStates, Extends}
 use Rattle.ylalr.proofs.GotoSteps.{Rowing}
@@ -10,5 +10,9 @@ invariant-loop-x l = record {
   states : AreStates l.grammar.bare l.states;
   few : length l.states.closures ≤ 16384;
   extends : Extends l.initial.states l.states;
+  until : l.x ≤ l.symbols;
   rowing : Rowing l.grammar.bare l.states l.q l.x l.row;
 }
+
+abbrev pub decreases-loop-x : goal.decreases-loop-x
+decreases-loop-x l = l.symbols - l.x

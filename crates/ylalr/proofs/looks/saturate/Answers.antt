@@ -1,5 +1,5 @@
 use Rattle.ylalr.proofs.Growth.{sized_grown}
-use Rattle.ylalr.proofs.looks.all_looks.Goals as goal
+use Rattle.ylalr.proofs.looks.saturate.Goals as goal
 
 pub loop-preserved : goal.loop-preserved
 loop-preserved c = let P = c.args.parts.now in record {

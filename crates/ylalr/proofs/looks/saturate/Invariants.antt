@@ -1,7 +1,7 @@
 use Rattle.ylalr.specs.Rows.{IsSized, room}
 use Rattle.ylalr.specs.States.{goto_of}
 use Rattle.ylalr.specs.Looks.{SoundLooks, StartLooks}
-use Rattle.ylalr.proofs.looks.all_looks.Given as goal
+use Rattle.ylalr.proofs.looks.saturate.Given as goal
 
 abbrev pub invariant-loop : goal.invariant-loop
 invariant-loop l = record {
