@@ -8,7 +8,7 @@ rt run -- help > /dev/null
 program=$top/crates/bench/out/bench
 echo "--- reading: bytes, what was found, the least time of several"
 "$program" read
-echo "--- automata: sizes, the least time of three, the most memory that the process held"
+echo "--- automata: sizes, the least time of ten, the most memory that the process held"
 while read -r kind half whole; do
   "$program" build "$kind" "$half"
   "$program" build "$kind" "$whole"

@@ -75,12 +75,12 @@ fn grammar_of(alloc: Global, file: &str) -> io::Result<Grammar> {
     }
 }
 
-/// Makes the automaton of a grammar three times, and prints its size, the least time, and the most memory.
+/// Makes the automaton of a grammar ten times, and prints its size, the least time, and the most memory.
 pub fn time_build(rt: &HostRuntime, name: &str, kind: Kind, n: usize) -> io::Result<()> {
     let alloc = rt.alloc();
     let file = file_of(alloc, kind, n)?;
     let mut least = u128::MAX;
-    for _ in 0..3 {
+    for _ in 0..10 {
         let grammar = grammar_of(alloc, file.as_str())?;
         let start = Instant::now(rt)?;
         let built = build(alloc, grammar);

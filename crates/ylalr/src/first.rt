@@ -91,6 +91,7 @@ pub fn first_tokens(alloc: Global, grammar: &Grammar, nullable: &Marks) -> Resul
     ensures exact { IfOk result (λ m. IsFirst grammar.now.bare m) }
 {
     let mut first = own_tokens(alloc, grammar)?;
+    pass(grammar, nullable, &mut first);
     while pass(grammar, nullable, &mut first) {
         pass_on(grammar, nullable, &mut first);
     }

@@ -162,7 +162,7 @@ fn pass_state(parts: &Parts, q: usize, looks: &mut Rows) -> bool
 }
 
 /// Visits each item of a state, the last one first.
-fn pass_back(parts: &Parts, q: usize, looks: &mut Rows) -> bool
+fn back_over(parts: &Parts, q: usize, looks: &mut Rows) -> bool
     requires fit { FitParts parts.now }
     requires state { q < length parts.now.states.closures }
     requires sized { IsSized parts.now.offsets.total parts.now.grammar.bare.tokens looks.old }
@@ -180,20 +180,18 @@ fn pass_back(parts: &Parts, q: usize, looks: &mut Rows) -> bool
     grew
 }
 
-/// Visits each item of a state and, where a row grew, each again in the other order, so that lookaheads that go from later
-/// items to earlier ones don't take a pass for each step. Says whether any row grew.
-fn pass_both(parts: &Parts, q: usize, looks: &mut Rows) -> bool
+/// Visits each item of each state, the last one first.
+fn pass_back(parts: &Parts, looks: &mut Rows) -> bool
     requires fit { FitParts parts.now }
-    requires state { q < length parts.now.states.closures }
     requires sized { IsSized parts.now.offsets.total parts.now.grammar.bare.tokens looks.old }
     requires sound { SoundLooks parts.now.grammar.bare (goto_of parts.now.gotos) parts.now.states parts.now.offsets looks.old }
     ensures grown { Grown looks.old looks.new result }
     ensures sound { SoundLooks parts.now.grammar.bare (goto_of parts.now.gotos) parts.now.states parts.now.offsets looks.new }
-    ensures closed { result ≡ false → StateClosed parts.now.grammar.bare (goto_of parts.now.gotos) parts.now.states parts.now.offsets looks.new q }
 {
-    let grew = pass_state(parts, q, looks);
-    if grew {
-        pass_back(parts, q, looks);
+    let states = parts.states.count();
+    let mut grew = false;
+    for i in 0..states {
+        grew |= back_over(parts, states - 1 - i, looks);
     }
     grew
 }
@@ -209,7 +207,7 @@ fn pass(parts: &Parts, looks: &mut Rows) -> bool
 {
     let mut grew = false;
     for q in 0..parts.states.count() {
-        grew |= pass_both(parts, q, looks);
+        grew |= pass_state(parts, q, looks);
     }
     grew
 }
@@ -229,7 +227,8 @@ fn start_rows(alloc: Global, parts: &Parts) -> Result<Rows, AllocError>
     Ok(looks)
 }
 
-/// Makes passes until one adds nothing.
+/// Makes passes until one adds nothing. After the second, which mostly adds nothing, each that does is followed by one in
+/// the other order: lookaheads that go from later items to earlier ones would take a pass for each step.
 fn saturate(parts: &Parts, looks: &mut Rows)
     requires fit { FitParts parts.now }
     requires sized { IsSized parts.now.offsets.total parts.now.grammar.bare.tokens looks.old }
@@ -239,7 +238,10 @@ fn saturate(parts: &Parts, looks: &mut Rows)
     ensures sound { SoundLooks parts.now.grammar.bare (goto_of parts.now.gotos) parts.now.states parts.now.offsets looks.new }
     ensures closed { ClosedLooks parts.now.grammar.bare (goto_of parts.now.gotos) parts.now.states parts.now.offsets looks.new }
 {
-    while pass(parts, looks) {}
+    pass(parts, looks);
+    while pass(parts, looks) {
+        pass_back(parts, looks);
+    }
 }
 
 /// The lookaheads of all items of all states.

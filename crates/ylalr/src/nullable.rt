@@ -78,6 +78,7 @@ pub fn nullable_symbols(alloc: Global, grammar: &Grammar) -> Result<Marks, Alloc
     ensures exact { IfOk result (λ marks. (s : ℕ) → marked marks s ↔ Nullable grammar.now.bare (s ∷ [])) }
 {
     let mut marks = Marks::new(alloc, grammar.symbols())?;
+    pass(grammar, &mut marks);
     while pass(grammar, &mut marks) {
         pass_on(grammar, &mut marks);
     }

@@ -76,6 +76,7 @@ pub fn opened_rules(alloc: Global, grammar: &Grammar) -> Result<Rows, AllocError
     ensures exact { IfOk result (λ m. IsOpens grammar.now.bare m) }
 {
     let mut opens = own_rules(alloc, grammar)?;
+    pass(grammar, &mut opens);
     while pass(grammar, &mut opens) {
         pass_on(grammar, &mut opens);
     }

@@ -6,17 +6,17 @@ use Rattle.ylalr.proofs.Growth.{grown_then, sized_grown, or_first, or_second}
 use Rattle.ylalr.proofs.Turn.{one_more}
 use Rattle.ylalr.proofs.looks.pass.Goals as goal
 
-pub pass_both-grew-requires-clause-sized : goal.pass_both-grew-requires-clause-sized
-pass_both-grew-requires-clause-sized c = let P = c.args.parts.now in let g = P.grammar.bare in let fit = c.requires.fit in let m = c.args.looks.now in sized_grown m c.loop-q.looks P.offsets.total g.tokens c.loop-q.grew c.requires.sized c.loop-q.invariant.grown
+pub pass_state-grew-requires-clause-sized : goal.pass_state-grew-requires-clause-sized
+pass_state-grew-requires-clause-sized c = let P = c.args.parts.now in let g = P.grammar.bare in let fit = c.requires.fit in let m = c.args.looks.now in sized_grown m c.loop-q.looks P.offsets.total g.tokens c.loop-q.grew c.requires.sized c.loop-q.invariant.grown
 
 pub loop-q-preserved : goal.loop-q-preserved
 loop-q-preserved c = let P = c.args.parts.now in let g = P.grammar.bare in let fit = c.requires.fit in let m = c.args.looks.now in
-    let v = c.pass_both-grew.ensures in
+    let v = c.pass_state-grew.ensures in
     let i = c.loop-q.invariant in
     record {
       sound = v.sound;
-      grown = grown_then m c.loop-q.looks c.pass_both-grew.new.looks c.loop-q.grew c.pass_both-grew.result i.grown v.grown;
-      closed = λ f. one_more (λ (w : BitRows) k. StateClosed g (goto_of P.gotos) P.states P.offsets w k) c.loop-q.looks c.pass_both-grew.new.looks c.loop-q.q (v.grown.unchanged (or_second c.loop-q.grew c.pass_both-grew.result f)) (i.closed (or_first c.loop-q.grew c.pass_both-grew.result f)) (v.closed (or_second c.loop-q.grew c.pass_both-grew.result f));
+      grown = grown_then m c.loop-q.looks c.pass_state-grew.new.looks c.loop-q.grew c.pass_state-grew.result i.grown v.grown;
+      closed = λ f. one_more (λ (w : BitRows) k. StateClosed g (goto_of P.gotos) P.states P.offsets w k) c.loop-q.looks c.pass_state-grew.new.looks c.loop-q.q (v.grown.unchanged (or_second c.loop-q.grew c.pass_state-grew.result f)) (i.closed (or_first c.loop-q.grew c.pass_state-grew.result f)) (v.closed (or_second c.loop-q.grew c.pass_state-grew.result f));
     }
 
 pub returns-clause-closed : goal.returns-clause-closed

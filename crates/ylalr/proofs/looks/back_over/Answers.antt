@@ -1,6 +1,6 @@
 use Rattle.std.proofs.Common.{◌<◌, ◌-◌, length, subst, sym, arith}
 use Rattle.ylalr.specs.Sets.{InRange}
-use Rattle.ylalr.proofs.looks.pass_back.Goals as goal
+use Rattle.ylalr.proofs.looks.back_over.Goals as goal
 
 pub visit-grew-requires-clause-rule : goal.visit-grew-requires-clause-rule
 visit-grew-requires-clause-rule c =
