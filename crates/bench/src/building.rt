@@ -36,8 +36,8 @@ fn facts_of(automaton: &Automaton, q: usize) -> u64
 {
     let mut facts: u64 = 0;
     for item in automaton.items(q) {
-        for t in 0..automaton.grammar().tokens() {
-            if automaton.looks(q, *item, t) {
+        for t in 0..automaton.grammar().symbols() {
+            if automaton.grammar().is_token(t) && automaton.looks(q, *item, t) {
                 facts = facts.wrapping_add(1);
             }
         }

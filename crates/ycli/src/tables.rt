@@ -45,7 +45,7 @@ impl Tables {
     pub(crate) fn is_input(&self, symbol: Sym) -> bool
         ensures { result ≡ is_input (token_count self.now) symbol }
     {
-        1 < symbol && symbol < self.grammar.tokens()
+        1 < symbol && self.grammar.is_token(symbol)
     }
 
     /// The left side and the body of a rule.

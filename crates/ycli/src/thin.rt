@@ -106,6 +106,16 @@ struct Facts {
     first: Marks,
 }
 
+/// How many of the symbols are tokens.
+fn token_count(grammar: &Grammar) -> usize {
+    for symbol in 0..grammar.symbols() {
+        if !grammar.is_token(symbol) {
+            return symbol;
+        }
+    }
+    grammar.symbols()
+}
+
 /// The body of a rule.
 fn body_of(grammar: &Grammar, rule: usize) -> &[Sym] {
     if rule < grammar.rules() {
@@ -173,8 +183,9 @@ fn facts_of(alloc: Global, grammar: Grammar) -> Result<Facts, BuildFault>
             break;
         }
     }
-    let mut first = Marks::new(alloc, symbols, grammar.tokens())?;
-    for token in 0..grammar.tokens() {
+    let tokens = token_count(&grammar);
+    let mut first = Marks::new(alloc, symbols, tokens)?;
+    for token in 0..tokens {
         let _ = first.set(token, token);
     }
     saturate_first(&grammar, &nullable, &mut first);
@@ -421,7 +432,7 @@ fn looks_of(
     rows: &[usize],
 ) -> Result<Marks, BuildFault> {
     let count = rows.last().copied().unwrap_or(0);
-    let mut looks = Marks::new(alloc, count, facts.grammar.tokens())?;
+    let mut looks = Marks::new(alloc, count, token_count(&facts.grammar))?;
     let _ = looks.set(0, 0);
     for _ in 0..looks.marked.len() {
         if !round(facts, &mut looks, sets, rows) {
@@ -462,7 +473,7 @@ fn cells_of(
     row: usize,
 ) -> Result<Vec<Action>, BuildFault> {
     let mut cells = Vec::new(alloc);
-    for token in 0..facts.grammar.tokens() {
+    for token in 0..token_count(&facts.grammar) {
         cells.push(cell_of(facts, looks, set, row, token))?;
     }
     Ok(cells)

@@ -146,14 +146,7 @@ impl Grammar {
         self.names.len()
     }
 
-    /// How many of the symbols are tokens. They are the numbers below this.
-    pub fn tokens(&self) -> usize
-        ensures { result ≡ self.now.bare.tokens }
-    {
-        self.tokens
-    }
-
-    /// Whether the symbol is a token.
+    /// Whether the symbol is a token. The tokens are the numbers from 0 on.
     pub fn is_token(&self, s: Sym) -> bool
         ensures { IsTrue result ↔ IsToken self.now.bare s }
     {

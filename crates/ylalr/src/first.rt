@@ -8,6 +8,7 @@ ghost use Rattle.ylalr.specs.First.{IsNullable, IsFirst, SoundFirst, RuleFirstCl
 
 use crate::marks::Marks;
 use crate::rows::Rows;
+use crate::tokens::token_count;
 use std::alloc::{AllocError, Global};
 use ygrammar::Grammar;
 
@@ -76,8 +77,9 @@ fn own_tokens(alloc: Global, grammar: &Grammar) -> Result<Rows, AllocError>
     ensures sound { IfOk result (λ m. SoundFirst grammar.now.bare m) }
     ensures tokens { IfOk result (λ m. TokensClosed grammar.now.bare m) }
 {
-    let mut first = Rows::new(alloc, grammar.symbols(), grammar.tokens())?;
-    for t in 0..grammar.tokens() {
+    let tokens = token_count(grammar);
+    let mut first = Rows::new(alloc, grammar.symbols(), tokens)?;
+    for t in 0..tokens {
         first.mark(t, t);
     }
     Ok(first)

@@ -21,6 +21,7 @@ mod rules;
 mod states;
 #[cfg(test)]
 mod tests;
+mod tokens;
 
 pub use automaton::{Automaton, build};
 pub use fault::BuildFault;

@@ -16,6 +16,7 @@ use crate::places::{Offsets, place_of};
 use crate::rows::Rows;
 use crate::rules::RulesOf;
 use crate::states::States;
+use crate::tokens::token_count;
 use std::alloc::{AllocError, Global};
 use ygrammar::{Grammar, Sym};
 
@@ -220,7 +221,7 @@ fn start_rows(alloc: Global, parts: &Parts) -> Result<Rows, AllocError>
     ensures start { IfOk result (λ m. StartLooks parts.now.states parts.now.offsets m) }
 {
     let _symbols = parts.grammar.symbols();
-    let mut looks = Rows::new(alloc, parts.offsets.total(), parts.grammar.tokens())?;
+    let mut looks = Rows::new(alloc, parts.offsets.total(), token_count(&parts.grammar))?;
     if let Some(p) = place_of(&parts.states, &parts.offsets, 0, Item { rule: 0, dot: 0 }) {
         looks.mark(p, END);
     }

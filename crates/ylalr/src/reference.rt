@@ -1,6 +1,7 @@
 //! The reference for lookaheads, in tests alone: plain saturation over single facts, a flag for each item of each
 //! state and token. It goes by the states and gotos that callers see and by nothing of how rows are kept.
 
+use crate::tokens::token_count;
 use crate::{Automaton, Item};
 use std::alloc::{AllocError, Global};
 use ygrammar::Sym;
@@ -20,7 +21,7 @@ impl Facts {
         for q in 0..automaton.states() {
             let mut rows = Vec::new(alloc);
             for _ in 0..items_of(automaton, q).len() {
-                rows.push(vec![in alloc; false; automaton.grammar().tokens()]?)?;
+                rows.push(vec![in alloc; false; token_count(automaton.grammar())]?)?;
             }
             flags.push(rows)?;
         }
@@ -81,7 +82,7 @@ pub fn index_of(automaton: &Automaton, q: usize, item: Item) -> Option<usize> {
 /// Whether the form, with the token `a` behind it, can begin with the token `b`.
 fn begins(automaton: &Automaton, form: &[Sym], a: Sym, b: Sym) -> bool {
     for s in form {
-        let known = *s < automaton.grammar().symbols() && b < automaton.grammar().tokens();
+        let known = *s < automaton.grammar().symbols() && automaton.grammar().is_token(b);
         if !known || automaton.in_first(*s, b) {
             return known;
         }
@@ -128,7 +129,7 @@ fn open(automaton: &Automaton, facts: &mut Facts, q: usize, item: Item, a: Sym, 
     }
     let rest = body.get(item.dot.wrapping_add(1)..).unwrap_or(&[]);
     let mut grew = false;
-    for b in 0..automaton.grammar().tokens() {
+    for b in 0..token_count(automaton.grammar()) {
         if begins(automaton, rest, a, b) {
             grew |= facts.set(q, k, b);
         }
@@ -146,7 +147,7 @@ fn visit(automaton: &Automaton, facts: &mut Facts, q: usize, j: usize) -> bool {
         return false;
     }
     let mut grew = false;
-    for a in 0..automaton.grammar().tokens() {
+    for a in 0..token_count(automaton.grammar()) {
         if facts.has(q, j, a) {
             grew |= move_on(automaton, facts, q, *item, a);
             for k in 0..items.len() {

@@ -1,6 +1,7 @@
 //! The worked grammars: their states item by item and their lookaheads, and the limit of states.
 
 use crate::reference::{Facts, body_of, index_of, items_of, lookaheads};
+use crate::tokens::token_count;
 use crate::{Automaton, BuildFault, Item, build};
 use std::alloc::{AllocError, Global};
 use std::process::Abort;
@@ -43,7 +44,7 @@ fn after(automaton: &Automaton, path: &[Sym]) -> Option<usize> {
 
 /// Whether the token is a lookahead of the item in the state.
 fn has_look(automaton: &Automaton, q: usize, item: Item, t: Sym) -> bool {
-    if q >= automaton.states() || t >= automaton.grammar().tokens() {
+    if q >= automaton.states() || !automaton.grammar().is_token(t) {
         return false;
     }
     automaton.looks(q, item, t)
@@ -81,7 +82,7 @@ fn vanish(automaton: &Automaton, symbols: &[Sym]) -> bool {
 
 /// Whether the symbol can begin with exactly these tokens.
 fn begins_with(automaton: &Automaton, s: Sym, tokens: &[Sym]) -> bool {
-    for t in 0..automaton.grammar().tokens() {
+    for t in 0..token_count(automaton.grammar()) {
         if s >= automaton.grammar().symbols() || automaton.in_first(s, t) != tokens.contains(&t) {
             return false;
         }
@@ -220,7 +221,7 @@ const WORKED: [&[u8]; 28] = [
 
 /// Whether the token is in the list of facts exactly where it is a lookahead, for each item of the state.
 fn agrees_in(automaton: &Automaton, q: usize, item: Item, facts: &Facts) -> bool {
-    for t in 0..automaton.grammar().tokens() {
+    for t in 0..token_count(automaton.grammar()) {
         let expected = match index_of(automaton, q, item) {
             Some(j) => facts.has(q, j, t),
             None => false,

@@ -14,12 +14,12 @@ pub mark-requires-clause-row : goal.mark-requires-clause-row
 mark-requires-clause-row c = let P = c.args.parts.now in subst (λ t. c.in-Some.p < t) (sym (c.in_ok-looks.ensures.sized.rows ∙ c.total.ensures)) (place_within P.states P.offsets 0 c.in-Some.p start_item c.requires.places c.in-Some.ensures)
 
 pub mark-requires-clause-column : goal.mark-requires-clause-column
-mark-requires-clause-column c = subst (λ t. 0 < t) (sym (c.in_ok-looks.ensures.sized.columns ∙ c.tokens.ensures)) c.symbols-symbols.ensures.well_formed.ends
+mark-requires-clause-column c = subst (λ t. 0 < t) (sym (c.in_ok-looks.ensures.sized.columns ∙ c.token_count.ensures)) c.symbols-symbols.ensures.well_formed.ends
 
 pub returns-clause-sized : goal.returns-clause-sized
 returns-clause-sized c =
     let P = c.args.parts.now in
-    let z : IsSized P.offsets.total P.grammar.bare.tokens c.in_ok-looks.looks = record { rows = c.in_ok-looks.ensures.sized.rows ∙ c.total.ensures; columns = c.in_ok-looks.ensures.sized.columns ∙ c.tokens.ensures } in
+    let z : IsSized P.offsets.total P.grammar.bare.tokens c.in_ok-looks.looks = record { rows = c.in_ok-looks.ensures.sized.rows ∙ c.total.ensures; columns = c.in_ok-looks.ensures.sized.columns ∙ c.token_count.ensures } in
     elim c.match-place_of.branch [
       | in-Some w ↦ subst (IsSized P.offsets.total P.grammar.bare.tokens) (sym w.looks-is) (sized_grown c.in_ok-looks.looks w.mark.new.self P.offsets.total P.grammar.bare.tokens w.mark.result z w.mark.ensures.grown)
       | in_default w ↦ subst (IsSized P.offsets.total P.grammar.bare.tokens) (sym w.looks-is) z
