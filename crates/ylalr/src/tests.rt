@@ -155,10 +155,10 @@ fn two_reductions(rt: HostRuntime) -> Result<(), Fail> {
     )?;
     assert_eq!(rt; m.states(), 13);
     // 'a' is 2, 'd' 3, 'b' 4, 'e' 5, 'c' 6: behind 'a' 'c' and behind 'b' 'c' stands the one state of both
-    for first in [2, 4] {
-        assert!(rt; looks_at(&m, &[first, 6], 5, 1, 7, &[3, 5]));
-        assert!(rt; looks_at(&m, &[first, 6], 6, 1, 7, &[3, 5]));
-    }
+    assert!(rt; looks_at(&m, &[2, 6], 5, 1, 7, &[3, 5]));
+    assert!(rt; looks_at(&m, &[2, 6], 6, 1, 7, &[3, 5]));
+    assert!(rt; looks_at(&m, &[4, 6], 5, 1, 7, &[3, 5]));
+    assert!(rt; looks_at(&m, &[4, 6], 6, 1, 7, &[3, 5]));
     Ok(())
 }
 
