@@ -3,9 +3,11 @@
 set -eu
 top=$(cd "$(dirname "$0")/.." && pwd)
 mkdir -p "$top/bin"
-cd "$top/crates/ystep"
-rt run -- --help > /dev/null
-program=$(find out -type f -perm -u+x ! -name '*.so' ! -name '*.o' | grep '/ystep$' | head -n 1)
-[ -n "$program" ] || { echo "no program was built"; exit 1; }
-cp "$program" "$top/bin/ystep"
-echo "bin/ystep"
+for name in yacc ystep; do
+  cd "$top/crates/$name"
+  rt run -- --help > /dev/null
+  program=$(find out -type f -perm -u+x ! -name '*.so' ! -name '*.o' | grep "/$name\$" | head -n 1)
+  [ -n "$program" ] || { echo "no program was built"; exit 1; }
+  cp "$program" "$top/bin/$name"
+  echo "bin/$name"
+done

@@ -1,19 +1,19 @@
-//! Times the reader of grammar files and the making of automata. With no word it does nothing.
+//! Times the phases of a run on a grammar file. With no word it does nothing.
 //!
-//!     bench read           the reader on large files
-//!     bench build KIND N   the automaton of a grammar of this kind and size
-//!     bench write KIND N   writes that grammar's file
+//!     bench read FILE      reads its grammar
+//!     bench build FILE     makes the automaton of its grammar
+//!     bench resolve FILE   makes the tables of that automaton
+//!     bench size FILE      shows how large that automaton is
 #![tactic(auto)]
 
 mod building;
-mod files;
 mod reading;
+mod resolving;
 
-use crate::building::time_build;
-use crate::files::{Kind, file_of};
+use crate::building::{show_size, time_build};
 use crate::reading::time_reading;
-use std::env;
-use std::io::{self, Write};
+use crate::resolving::time_resolve;
+use std::{env, io};
 
 /// The word at this place, or an empty one.
 fn word_at(words: &[String], at: usize) -> &str {
@@ -23,31 +23,15 @@ fn word_at(words: &[String], at: usize) -> &str {
     }
 }
 
-/// Writes the grammar file of a kind.
-fn write_file(rt: &HostRuntime, kind: Kind, size: usize) -> io::Result<()> {
-    let file = file_of(rt.alloc(), kind, size)?;
-    rt.stdout().write_all(file.as_bytes())
-}
-
-/// What is done with the grammar of a kind and size.
-fn serve(rt: &HostRuntime, task: &str, name: &str, size: &str) -> io::Result<()> {
-    let (Some(kind), Ok(size)) = (Kind::named(name), size.parse()) else {
-        return println!(rt; "no such kind, or no size");
-    };
-    if task == "build" {
-        time_build(rt, name, kind, size)
-    } else {
-        write_file(rt, kind, size)
-    }
-}
-
 fn main(rt: HostRuntime) -> io::Result<()> {
     let words: Vec<String> = env::args(&rt)?.collect(rt.alloc())?;
+    let path = word_at(&words, 2);
     match word_at(&words, 1) {
         "" => Ok(()),
-        "read" => time_reading(&rt),
-        "build" => serve(&rt, "build", word_at(&words, 2), word_at(&words, 3)),
-        "write" => serve(&rt, "write", word_at(&words, 2), word_at(&words, 3)),
-        _ => println!(&rt; "bench read | build KIND N | write KIND N"),
+        "read" => time_reading(&rt, path),
+        "build" => time_build(&rt, path),
+        "resolve" => time_resolve(&rt, path),
+        "size" => show_size(&rt, path),
+        _ => println!(&rt; "bench read|build|resolve|size FILE"),
     }
 }

@@ -4,8 +4,8 @@ use crate::devices::{Refusal, Sink, Source};
 use crate::setting::{COMMANDS, REPLIES};
 use std::fs;
 use std::test::Fail;
-use ycli::link::Link;
 use ycli::programs::ystep_run;
+use ytables::Link;
 
 /// What a run of the program wrote and answered.
 struct Outcome {

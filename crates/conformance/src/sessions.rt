@@ -2,6 +2,7 @@
 
 use crate::devices::{Refusal, Sink, Source};
 use crate::setting::{COMMANDS, ONE, REPLIES, replies, served, session_of};
+use std::alloc::{AllocError, Global};
 use std::test::Fail;
 use ycli::machine::{AtStart, Mode, StepFault, StepKind};
 
@@ -32,10 +33,10 @@ fn an_error_fails(rt: HostRuntime) -> Result<(), Fail> {
         rt.alloc(),
         ONE,
         b"'x' 'x'",
-        b"step\nstep\nshow\nstep\nback 1\n",
+        b"step\nstep\nshow\nstep\nstep\nback 1\n",
     )?;
     let want =
-        b"1 shift 'x'\n2 fail\n2 failed\nstack: 'x'\nrest: 'x'\ncounter: 0\nerrors: 0\nhalted\n1 undo fail\n";
+        b"1 shift 'x'\n2 reduce 1\n2 running\nstack: s\nrest: 'x'\ncounter: 0\nerrors: 0\n3 fail\nhalted\n2 undo fail\n";
     assert_eq!(rt; sink.text(), want.as_slice());
     Ok(())
 }
@@ -71,6 +72,64 @@ fn a_nullable_rest_is_looked_through(rt: HostRuntime) -> Result<(), Fail> {
 
 // So many steps.
 const STEPS: &[u8] = b"step\nstep\nstep\nstep\nstep\nstep\nstep\nstep\n";
+
+const FIVE: &[u8] = b"step\nstep\nstep\nstep\nstep\n";
+
+const ELEVEN: &[u8] = b"step\nstep\nstep\nstep\nstep\nstep\nstep\nstep\nstep\nstep\nstep\n";
+
+#[test]
+fn precedences_decide(rt: HostRuntime) -> Result<(), Fail> {
+    let sums = replies(
+        rt.alloc(),
+        b"%token NUM %left '+' %left '*' %% e : e '+' e | e '*' e | NUM ;",
+        b"NUM '+' NUM '*' NUM",
+        ELEVEN,
+    )?;
+    let want =
+        b"1 shift NUM\n2 reduce 3\n3 shift '+'\n4 shift NUM\n5 reduce 3\n6 shift '*'\n7 shift NUM\n8 reduce 3\n9 reduce 2\n10 reduce 1\n11 accept\n";
+    assert_eq!(rt; sums.text(), want.as_slice());
+    let less = replies(
+        rt.alloc(),
+        b"%token NUM %nonassoc '<' %% e : e '<' e | NUM ;",
+        b"NUM '<' NUM '<' NUM",
+        FIVE,
+    )?;
+    let want = b"1 shift NUM\n2 reduce 2\n3 shift '<'\n4 shift NUM\n5 reduce 2\n";
+    assert_eq!(rt; less.text(), want.as_slice());
+    Ok(())
+}
+
+#[test]
+fn conflicts_take_the_shift_or_the_least_rule(rt: HostRuntime) -> Result<(), Fail> {
+    let dangling = replies(
+        rt.alloc(),
+        b"%token IF ELSE X %% s : IF s | IF s ELSE s | X ;",
+        b"IF IF X ELSE X",
+        ELEVEN,
+    )?;
+    let want =
+        b"1 shift IF\n2 shift IF\n3 shift X\n4 reduce 3\n5 shift ELSE\n6 shift X\n7 reduce 3\n8 reduce 2\n9 reduce 1\n10 accept\nhalted\n";
+    assert_eq!(rt; dangling.text(), want.as_slice());
+    let accepted = replies(rt.alloc(), b"%% s : s | 'x' ;", b"'x'", FIVE)?;
+    let want = b"1 shift 'x'\n2 reduce 2\n3 accept\nhalted\nhalted\n";
+    assert_eq!(rt; accepted.text(), want.as_slice());
+    Ok(())
+}
+
+#[test]
+fn a_reduction_without_end(rt: HostRuntime) -> Result<(), Fail> {
+    let grammar = b"%left 'x' %left HI %% s : e s | 'x' ; e : %prec HI ;";
+    let sink = replies(
+        rt.alloc(),
+        grammar,
+        b"'x'",
+        b"step\nstep\nstep\nstep\nstep\nback 5\n",
+    )?;
+    let want =
+        b"1 reduce 3\n2 reduce 3\n3 reduce 3\n4 reduce 3\n5 reduce 3\n4 undo reduce 3\n3 undo reduce 3\n2 undo reduce 3\n1 undo reduce 3\n0 undo reduce 3\n";
+    assert_eq!(rt; sink.text(), want.as_slice());
+    Ok(())
+}
 
 #[test]
 fn inner_actions_are_rules(rt: HostRuntime) -> Result<(), Fail> {
@@ -117,9 +176,10 @@ fn other_lines_are_unknown(rt: HostRuntime) -> Result<(), Fail> {
     let text = sink.text();
     let unknown = b"unknown command\n";
     assert_eq!(rt; text.len(), 21 * unknown.len());
-    for line in text.chunks(unknown.len()) {
-        assert_eq!(rt; line, unknown.as_slice());
-    }
+    assert!(rt;
+        text.chunks(unknown.len())
+            .all(|line| line == unknown.as_slice())
+    );
     Ok(())
 }
 
@@ -133,19 +193,23 @@ fn a_number_may_have_seven_digits(rt: HostRuntime) -> Result<(), Fail> {
     Ok(())
 }
 
+// A line of so many bytes, and a step.
+fn long_line(alloc: Global, len: usize) -> Result<Vec<u8>, AllocError> {
+    let mut lines = vec![in alloc; b's'; len]?;
+    lines.extend_from_slice(b"\nstep\n")?;
+    Ok(lines)
+}
+
 #[test]
 fn long_lines_are_unknown(rt: HostRuntime) -> Result<(), Fail> {
     let alloc = rt.alloc();
-    for extra in [0usize, 1, 5000] {
-        let mut lines = vec![in alloc; b's'; 4096]?;
-        for _ in 0..extra {
-            lines.push(b't')?;
-        }
-        lines.push(b'\n')?;
-        lines.extend_from_slice(b"step\n")?;
-        let sink = replies(alloc, ONE, b"'x'", &lines)?;
-        assert_eq!(rt; sink.text(), b"unknown command\n1 shift 'x'\n".as_slice());
-    }
+    let want = b"unknown command\n1 shift 'x'\n";
+    let longest = replies(alloc, ONE, b"'x'", &long_line(alloc, 4096)?)?;
+    assert_eq!(rt; longest.text(), want.as_slice());
+    let longer = replies(alloc, ONE, b"'x'", &long_line(alloc, 4097)?)?;
+    assert_eq!(rt; longer.text(), want.as_slice());
+    let longest_yet = replies(alloc, ONE, b"'x'", &long_line(alloc, 9096)?)?;
+    assert_eq!(rt; longest_yet.text(), want.as_slice());
     Ok(())
 }
 
@@ -173,20 +237,51 @@ fn no_bytes_are_no_line(rt: HostRuntime) -> Result<(), Fail> {
     Ok(())
 }
 
+/// Four steps of a session over one rule and one token, where three can be made.
+fn steps(alloc: Global) -> Result<[Result<StepKind, StepFault>; 4], Fail> {
+    let mut session = session_of(alloc, ONE, b"'x'")?;
+    Ok([
+        session.step(),
+        session.step(),
+        session.step(),
+        session.step(),
+    ])
+}
+
+/// What an undo answers at the start and behind one step.
+fn undos(alloc: Global) -> Result<[Result<StepKind, AtStart>; 2], Fail> {
+    let mut session = session_of(alloc, ONE, b"'x'")?;
+    let none = session.back();
+    let _ = session.step();
+    Ok([none, session.back()])
+}
+
+/// The position, how long the stack and the rest are, and the mode, behind one step.
+fn shown(alloc: Global) -> Result<(usize, usize, usize, Mode), Fail> {
+    let mut session = session_of(alloc, ONE, b"'x'")?;
+    let _ = session.step();
+    let view = session.view();
+    Ok((
+        session.position(),
+        view.stack_len(),
+        view.rest_len(),
+        view.mode(),
+    ))
+}
+
 #[test]
 fn the_calls_of_a_session(rt: HostRuntime) -> Result<(), Fail> {
-    let mut session = session_of(rt.alloc(), ONE, b"'x'")?;
-    assert_eq!(rt; session.back(), Err(AtStart));
-    assert_eq!(rt; session.step(), Ok(StepKind::Shift(2)));
-    assert_eq!(rt; session.name(2), b"'x'".as_slice());
-    assert_eq!(rt; session.view().stack_len(), 1);
-    assert_eq!(rt; session.view().rest_len(), 0);
-    assert_eq!(rt; session.step(), Ok(StepKind::Reduce(1)));
-    assert_eq!(rt; session.step(), Ok(StepKind::Accept));
-    assert_eq!(rt; session.step(), Err(StepFault::Halted));
-    assert_eq!(rt; session.position(), 3);
-    assert_eq!(rt; session.view().mode(), Mode::Accepted);
-    assert_eq!(rt; session.back(), Ok(StepKind::Accept));
-    assert_eq!(rt; session.view().mode(), Mode::Running);
+    let alloc = rt.alloc();
+    let [first, second, third, fourth] = steps(alloc)?;
+    assert_eq!(rt; first, Ok(StepKind::Shift(2)));
+    assert_eq!(rt; second, Ok(StepKind::Reduce(1)));
+    assert_eq!(rt; third, Ok(StepKind::Accept));
+    assert_eq!(rt; fourth, Err(StepFault::Halted));
+    let [none, one] = undos(alloc)?;
+    assert_eq!(rt; none, Err(AtStart));
+    assert_eq!(rt; one, Ok(StepKind::Shift(2)));
+    let (position, stack, rest, mode) = shown(alloc)?;
+    assert_eq!(rt; (position, stack, rest), (1, 1, 0));
+    assert_eq!(rt; mode, Mode::Running);
     Ok(())
 }

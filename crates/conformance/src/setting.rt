@@ -4,13 +4,12 @@ use crate::devices::{Refusal, Sink, Source};
 use std::alloc::Global;
 use std::test::Fail;
 use ycli::fault::SessionFault;
-use ycli::link::Link;
 use ycli::run::run_session;
 use ycli::session::Session;
-use ycli::tables::Tables;
-use ycli::thin::build_thin;
 use ycli::tokens::read_tokens;
 use ygrammar::read_grammar;
+use ylalr::build;
+use ytables::{Link, Tables, resolve};
 
 /// The grammar of the first sessions: one rule of one token.
 pub const ONE: &[u8] = b"%% s : 'x' ;";
@@ -24,7 +23,7 @@ pub const REPLIES: &[u8] =
 
 /// The tables of a grammar text.
 pub fn tables_of(alloc: Global, grammar: &[u8]) -> Result<Tables, Fail> {
-    Ok(build_thin(alloc, read_grammar(alloc, grammar)?)?)
+    Ok(resolve(alloc, build(alloc, read_grammar(alloc, grammar)?)?)?)
 }
 
 /// A session over a grammar text and a tokens text.

@@ -1,81 +1,93 @@
 //! Tokens files, and what is refused of them.
 
 use crate::setting::{ONE, tables_of};
-use std::alloc::Global;
+use std::alloc::{AllocError, Global};
 use std::test::Fail;
-use ycli::tables::Tables;
 use ycli::tokens::{TokenFault, read_tokens};
+use ygrammar::Sym;
 
 const SUM: &[u8] = b"%% e : e '+' t | t ; t : 'n' ;";
 
-/// How a tokens text is refused.
-fn fault(alloc: Global, tables: &Tables, text: &[u8]) -> Option<TokenFault> {
-    match read_tokens(alloc, tables, text) {
-        Ok(_) => None,
-        Err(fault) => Some(fault),
+/// How a tokens text is refused for the tables of a grammar, where it is.
+fn fault(alloc: Global, grammar: &[u8], text: &[u8]) -> Result<Option<TokenFault>, Fail> {
+    let tables = tables_of(alloc, grammar)?;
+    Ok(read_tokens(alloc, &tables, text).err())
+}
+
+/// The symbols of a tokens text.
+fn symbols(alloc: Global, grammar: &[u8], text: &[u8]) -> Result<Vec<Sym>, Fail> {
+    let tables = tables_of(alloc, grammar)?;
+    let tokens = read_tokens(alloc, &tables, text)?;
+    let mut symbols = Vec::new(alloc);
+    for index in 0..tokens.len() {
+        symbols.push(tokens.get(index))?;
     }
+    Ok(symbols)
+}
+
+/// Whether the tokens of a text for one grammar fit the tables of another.
+fn fits(alloc: Global, grammar: &[u8], text: &[u8], other: &[u8]) -> Result<bool, Fail> {
+    let tables = tables_of(alloc, grammar)?;
+    let tokens = read_tokens(alloc, &tables, text)?;
+    let others = tables_of(alloc, other)?;
+    Ok(tokens.fits(&others))
 }
 
 #[test]
 fn tokens_are_words_between_blanks(rt: HostRuntime) -> Result<(), Fail> {
-    let tables = tables_of(rt.alloc(), SUM)?;
-    let tokens = read_tokens(rt.alloc(), &tables, b" 'n''+'\t'n'\r\n\x0c'+' 'n'\n")?;
-    assert_eq!(rt; tokens.len(), 5);
-    assert!(rt; tokens.fits(&tables));
-    assert_eq!(rt; tables.name(tokens.get(0)), b"'n'".as_slice());
-    assert_eq!(rt; tables.name(tokens.get(3)), b"'+'".as_slice());
-    let none = read_tokens(rt.alloc(), &tables, b" \n")?;
-    assert!(rt; none.is_empty());
-    let other = tables_of(rt.alloc(), ONE)?;
-    assert!(rt; !tokens.fits(&other));
+    let alloc = rt.alloc();
+    let text = b" 'n''+'\t'n'\r\n\x0c'+' 'n'\n";
+    assert_eq!(rt;
+        symbols(alloc, SUM, text)?.as_slice(),
+        [3, 2, 3, 2, 3].as_slice()
+    );
+    assert!(rt; symbols(alloc, SUM, b" \n")?.is_empty());
+    assert!(rt; fits(alloc, SUM, text, SUM)?);
+    assert!(rt; !fits(alloc, SUM, text, ONE)?);
     Ok(())
 }
 
 #[test]
 fn the_first_place_decides(rt: HostRuntime) -> Result<(), Fail> {
     let alloc = rt.alloc();
-    let tables = tables_of(alloc, SUM)?;
     assert_eq!(rt;
-        fault(alloc, &tables, b"'n' - 'n'"),
+        fault(alloc, SUM, b"'n' - 'n'")?,
         Some(TokenFault::Unknown(2))
     );
-    assert_eq!(rt; fault(alloc, &tables, b"'-'"), Some(TokenFault::Unknown(1)));
+    assert_eq!(rt; fault(alloc, SUM, b"'-'")?, Some(TokenFault::Unknown(1)));
     assert_eq!(rt;
-        fault(alloc, &tables, b"'n' error"),
+        fault(alloc, SUM, b"'n' error")?,
         Some(TokenFault::NotInput(2))
     );
-    assert_eq!(rt; fault(alloc, &tables, b"e"), Some(TokenFault::NotInput(1)));
+    assert_eq!(rt; fault(alloc, SUM, b"e")?, Some(TokenFault::NotInput(1)));
+    assert_eq!(rt; fault(alloc, SUM, b"$end")?, Some(TokenFault::NotInput(1)));
     assert_eq!(rt;
-        fault(alloc, &tables, b"$end"),
+        fault(alloc, SUM, b"$accept")?,
         Some(TokenFault::NotInput(1))
     );
     assert_eq!(rt;
-        fault(alloc, &tables, b"$accept"),
-        Some(TokenFault::NotInput(1))
+        fault(alloc, SUM, b"'n' 'n' q e '")?,
+        Some(TokenFault::Unknown(3))
     );
+    Ok(())
+}
+
+#[test]
+fn a_quote_begins_a_literal_or_none(rt: HostRuntime) -> Result<(), Fail> {
+    let alloc = rt.alloc();
     assert_eq!(rt;
-        fault(alloc, &tables, b"'n' '+"),
+        fault(alloc, SUM, b"'n' '+")?,
         Some(TokenFault::BadLiteral(2))
     );
+    assert_eq!(rt; fault(alloc, SUM, b"'")?, Some(TokenFault::BadLiteral(1)));
     assert_eq!(rt;
-        fault(alloc, &tables, b"'"),
+        fault(alloc, SUM, b"''' e")?,
         Some(TokenFault::BadLiteral(1))
     );
+    assert_eq!(rt; fault(alloc, SUM, b"'\\n'")?, Some(TokenFault::Unknown(1)));
     assert_eq!(rt;
-        fault(alloc, &tables, b"''' e"),
+        fault(alloc, SUM, b"'\\400'")?,
         Some(TokenFault::BadLiteral(1))
-    );
-    assert_eq!(rt;
-        fault(alloc, &tables, b"'\\n'"),
-        Some(TokenFault::Unknown(1))
-    );
-    assert_eq!(rt;
-        fault(alloc, &tables, b"'\\400'"),
-        Some(TokenFault::BadLiteral(1))
-    );
-    assert_eq!(rt;
-        fault(alloc, &tables, b"'n' 'n' q e '"),
-        Some(TokenFault::Unknown(3))
     );
     Ok(())
 }
@@ -84,18 +96,12 @@ fn the_first_place_decides(rt: HostRuntime) -> Result<(), Fail> {
 #[test]
 fn a_literal_goes_by_its_value(rt: HostRuntime) -> Result<(), Fail> {
     let alloc = rt.alloc();
-    let tables = tables_of(alloc, b"%% s : 'A' '\\n' '\\'' ;")?;
-    let tokens = read_tokens(
-        alloc,
-        &tables,
-        b"'A''\\101''\\x41' '\\n''\\012''\\xa' '\\'''\\047'",
-    )?;
-    assert_eq!(rt; tokens.len(), 8);
-    for (index, symbol) in [2, 2, 2, 3, 3, 3, 4, 4].iter().enumerate() {
-        assert!(rt; index < tokens.len() && tokens.get(index) == *symbol);
-    }
+    let grammar = b"%% s : 'A' '\\n' '\\'' ;";
+    let text = b"'A''\\101''\\x41' '\\n''\\012''\\xa' '\\'''\\047'";
+    let want = [2, 2, 2, 3, 3, 3, 4, 4];
+    assert_eq!(rt; symbols(alloc, grammar, text)?.as_slice(), want.as_slice());
     assert_eq!(rt;
-        fault(alloc, &tables, b"'A' '\\x4'"),
+        fault(alloc, grammar, b"'A' '\\x4'")?,
         Some(TokenFault::Unknown(2))
     );
     Ok(())
@@ -104,45 +110,45 @@ fn a_literal_goes_by_its_value(rt: HostRuntime) -> Result<(), Fail> {
 #[test]
 fn words_are_looked_up_among_all_symbols(rt: HostRuntime) -> Result<(), Fail> {
     let alloc = rt.alloc();
-    let tables = tables_of(
-        alloc,
-        b"%token NUM %left '+' %left '*' %% e : e '+' e | e '*' e | NUM ;",
-    )?;
+    let grammar = b"%token NUM %left '+' %left '*' %% e : e '+' e | e '*' e | NUM ;";
     assert_eq!(rt;
-        fault(alloc, &tables, b"NUM - NUM"),
+        fault(alloc, grammar, b"NUM - NUM")?,
         Some(TokenFault::Unknown(2))
     );
-    assert_eq!(rt; fault(alloc, &tables, b"'-'"), Some(TokenFault::Unknown(1)));
     assert_eq!(rt;
-        fault(alloc, &tables, b"NUM error"),
+        fault(alloc, grammar, b"NUM error")?,
         Some(TokenFault::NotInput(2))
     );
-    assert_eq!(rt; fault(alloc, &tables, b"e"), Some(TokenFault::NotInput(1)));
+    assert_eq!(rt; fault(alloc, grammar, b"e")?, Some(TokenFault::NotInput(1)));
     assert_eq!(rt;
-        fault(alloc, &tables, b"$end"),
+        fault(alloc, grammar, b"$end")?,
         Some(TokenFault::NotInput(1))
     );
     assert_eq!(rt;
-        fault(alloc, &tables, b"NUM '+"),
+        fault(alloc, grammar, b"NUM '+")?,
         Some(TokenFault::BadLiteral(2))
     );
-    assert_eq!(rt; read_tokens(alloc, &tables, b"NUM'+'NUM")?.len(), 3);
-    assert_eq!(rt; read_tokens(alloc, &tables, b"")?.len(), 0);
+    assert_eq!(rt; symbols(alloc, grammar, b"NUM'+'NUM")?.len(), 3);
+    assert_eq!(rt; symbols(alloc, grammar, b"")?.len(), 0);
     Ok(())
+}
+
+/// A million tokens, and what follows them.
+fn a_million(alloc: Global, end: &[u8]) -> Result<Vec<u8>, AllocError> {
+    let mut text = Vec::with_capacity(alloc, 3_000_010)?;
+    for _ in 0..1_000_000 {
+        text.extend_from_slice(b"'x'")?;
+    }
+    text.extend_from_slice(end)?;
+    Ok(text)
 }
 
 #[test]
 fn a_million_tokens_are_the_most(rt: HostRuntime) -> Result<(), Fail> {
     let alloc = rt.alloc();
-    let tables = tables_of(alloc, ONE)?;
-    let mut text = Vec::with_capacity(alloc, 3_000_010)?;
-    for _ in 0..1_000_000 {
-        text.extend_from_slice(b"'x'")?;
-    }
-    assert_eq!(rt; fault(alloc, &tables, &text), None);
-    text.extend_from_slice(b" \n")?;
-    assert_eq!(rt; fault(alloc, &tables, &text), None);
-    text.extend_from_slice(b"'")?;
-    assert_eq!(rt; fault(alloc, &tables, &text), Some(TokenFault::TooMany));
+    assert_eq!(rt; fault(alloc, ONE, &a_million(alloc, b"")?)?, None);
+    assert_eq!(rt; fault(alloc, ONE, &a_million(alloc, b" \n")?)?, None);
+    let more = fault(alloc, ONE, &a_million(alloc, b" \n'")?)?;
+    assert_eq!(rt; more, Some(TokenFault::TooMany));
     Ok(())
 }

@@ -1,4 +1,3 @@
-mod Sent
 mod Walks
 mod Places
 mod Lines
@@ -7,3 +6,4 @@ mod Transcripts
 mod OneOutcome
 mod Required
 mod Running
+pub mod Generated

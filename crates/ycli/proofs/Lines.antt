@@ -1,11 +1,14 @@
 -- Lines, and the line that is held in an array.
-use Rattle.std.proofs.Common.{ℕ, zero, suc, ◌≡◌, ◌+◌, ◌<◌, ◌≤◌, ◌++◌, nat_lt, ◌==◌, Bool, true, false, List, [], ◌∷◌, length, take, drop, get_or, refl, sym, ap, ◌∙◌, arith, if◌then◌else◌, length-append, length-take-le, append-nil, inl, inr}
-use Rattle.std.proofs.lemmas.Bool.{cases_lt, lt-ltb}
+use Rattle.std.proofs.Common.{ℕ, zero, suc, ◌≡◌, ◌≢◌, ◌+◌, ◌<◌, ◌≤◌, ◌++◌, nat_lt, ◌==◌, Bool, true, false, List, [], ◌∷◌, length, take, drop, get_or, refl, sym, ap, ◌∙◌, arith, if◌then◌else◌, length-append, length-take-le, append-nil, append_assoc, inl, inr}
+use Rattle.std.proofs.lemmas.Bool.{cases_lt, lt-ltb, eqb-true}
 use Rattle.ycli.specs.declared.command.Command.TheVariants.{Unknown}
 use Rattle.ycli.specs.Command.{command_of}
 use Rattle.std.proofs.lemmas.List.{take_all, take_more_set, take_at}
 use Rattle.std.proofs.Math.ListN.{set}
-use Rattle.ycli.specs.Lines.{whole_after, rest_after}
+use Rattle.std.specs.List.{flat_map}
+use Rattle.std.proofs.lemmas.List.Elements.{All-append, All-cons, All-nil}
+use Rattle.ycli.specs.Lines.{IsOneLine, IsCut, AreLines}
+use Rattle.ycli.specs.Serving.{whole_after, rest_after, whole_lines, rest_line, lines_of}
 
 pub push-room : (n len byte : ℕ) (bytes held : List ℕ) → len < length bytes → len + 1 ≤ n → held ≡ take len bytes → take (len + 1) (set bytes len byte) ≡ take n (held ++ byte ∷ [])
 push-room n len byte bytes held h k e =
@@ -75,3 +78,39 @@ pub whole-at : (xs : List ℕ) (i d : ℕ) → i < length xs → xs ≡ take i x
 whole-at [] i d h = absurd (omega arith)
 whole-at (x ∷ xs) zero d h = refl
 whole-at (x ∷ xs) (suc i) d h = ap (λ (l : List ℕ). x ∷ l) (whole-at xs i d (omega arith))
+
+-- ---- what the code cuts is a cut
+
+snoc : (line : List ℕ) (b : ℕ) → IsOneLine line → b ≢ 10 → IsOneLine (line ++ b ∷ [])
+snoc line b one h = All-append (λ c. c ≢ 10) line (b ∷ []) one (All-cons (λ c. c ≢ 10) b [] h (All-nil (λ c. c ≢ 10)))
+
+none_yet : IsOneLine []
+none_yet = All-nil (λ c. c ≢ 10)
+
+is_cut-by : (line bytes : List ℕ) (b : ℕ) (v : Bool) → (b == 10) ≡ v → IsOneLine line
+    → ((l : List ℕ) → IsOneLine l → IsCut (l ++ bytes) (whole_after l bytes) (rest_after l bytes))
+    → IsCut (line ++ b ∷ bytes) (if v then line ∷ whole_after [] bytes else whole_after (line ++ b ∷ []) bytes)
+    (if v then rest_after [] bytes else rest_after (line ++ b ∷ []) bytes)
+is_cut-by line bytes b true e one more =
+    let rest = more [] none_yet in
+    let newline : b ≡ 10 = eqb-true b 10 e in
+    let joined : line ++ b ∷ bytes ≡ (line ++ 10 ∷ []) ++ (flat_map (λ l. l ++ 10 ∷ []) (whole_after [] bytes) ++ rest_after [] bytes) =
+    ap (λ (c : ℕ). line ++ c ∷ bytes) newline ∙ ap (λ (l : List ℕ). line ++ 10 ∷ l) rest.joined ∙ sym (append_assoc line (10 ∷ []) (flat_map (λ l. l ++ 10 ∷ []) (whole_after [] bytes) ++ rest_after [] bytes)) in
+    record {
+      joined = joined ∙ sym (append_assoc (line ++ 10 ∷ []) (flat_map (λ l. l ++ 10 ∷ []) (whole_after [] bytes)) (rest_after [] bytes));
+      each = All-cons IsOneLine line (whole_after [] bytes) one rest.each;
+      last = rest.last;
+    }
+is_cut-by line bytes b false e one more =
+    let rest = more (line ++ b ∷ []) (snoc line b one (λ same. let bad : true ≡ false = sym (ap (λ (c : ℕ). c == 10) same) ∙ e in cc)) in
+    record { joined = sym (append_assoc line (b ∷ []) bytes) ∙ rest.joined; each = rest.each; last = rest.last }
+
+pub is_cut-after : (line bytes : List ℕ) → IsOneLine line → IsCut (line ++ bytes) (whole_after line bytes) (rest_after line bytes)
+is_cut-after line [] one = record { joined = append-nil line; each = All-nil IsOneLine; last = one }
+is_cut-after line (b ∷ bs) one = is_cut-by line bs b (b == 10) refl one (λ l all. is_cut-after l bs all)
+
+pub is_cut : (bytes : List ℕ) → IsCut bytes (whole_lines bytes) (rest_line bytes)
+is_cut bytes = is_cut-after [] bytes none_yet
+
+pub are_lines : (bytes : List ℕ) → AreLines bytes (lines_of bytes)
+are_lines bytes = record { whole = whole_lines bytes; rest = rest_line bytes; cut = is_cut bytes; all = refl }

@@ -4,7 +4,7 @@ use Rattle.std.proofs.lemmas.Bool.{eqb-true, lt-ltb, ltb-true}
 use Rattle.ygrammar.specs.Lexemes.{LiteralAt}
 use Rattle.ygrammar.specs.Names.{printed_literal}
 use Rattle.ygrammar.proofs.Literals.{literal_shorter, one_literal, quote_first}
-use Rattle.ycli.specs.declared.tables.Tables.{Tables}
+use Rattle.ytables.specs.Tables.{TablesValue as Tables}
 use Rattle.ycli.specs.declared.tokens.Tokens.{Tokens}
 use Rattle.ycli.specs.declared.tokens.TokenFault.{TokenFault}
 use Rattle.ycli.specs.declared.tokens.TokenFault.TheVariants as faults

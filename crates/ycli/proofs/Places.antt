@@ -1,7 +1,7 @@
 -- Tokens with their places, and what follows for a configuration.
 use Rattle.std.proofs.Common.{ℕ, zero, suc, ◌≡◌, ◌+◌, ◌-◌, ◌<◌, ◌≤◌, ◌++◌, List, [], ◌∷◌, Option, Some, length, take, drop, map, reverse, get_or, refl, sym, ap, ap₂, ◌∙◌, arith, length-drop}
 use Rattle.std.proofs.lemmas.List.{take_all, reverse-append}
-use Rattle.ycli.specs.declared.cell.Action.{Action}
+use Rattle.ytables.specs.declared.cell.Action.{Action}
 use Rattle.ycli.specs.declared.machine.Mode.{Mode}
 use Rattle.ycli.specs.declared.machine.Mode.TheVariants.{Running, Failed}
 use Rattle.ycli.specs.declared.machine.StepKind.{StepKind}

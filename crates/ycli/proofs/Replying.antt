@@ -2,11 +2,11 @@
 use Rattle.std.proofs.Common.{ℕ, zero, suc, ◌≡◌, ◌++◌, Bool, true, false, List, [], Option, codes, if◌then◌else◌, refl, sym, ap, ◌∙◌, append-nil}
 use Rattle.ycli.specs.declared.machine.StepKind.{StepKind}
 use Rattle.ycli.specs.declared.command.Command.{Command}
-use Rattle.ycli.specs.declared.link.Link.{Link}
+use Rattle.ytables.specs.declared.link.Link.{Link}
 use Rattle.std.specs.Io.KnownBytes.{Keeps}
 use Rattle.std.proofs.KnownBytes.{Appends-kept}
-use Rattle.ycli.specs.Link.{device_of, has_failed}
-use Rattle.ycli.specs.Sends.{Sends}
+use Rattle.ytables.specs.Link.{device_of, has_failed}
+use Rattle.ytables.specs.Sends.{Sends}
 use Rattle.ycli.specs.Machine.{Machine, Configuration}
 use Rattle.ycli.specs.History.{History, pushed, position}
 use Rattle.ycli.specs.Reply.{Reply, Answers, undo_text, undone, step_line}

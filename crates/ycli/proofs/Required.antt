@@ -1,4 +1,4 @@
--- A command line of two required arguments.
+-- Command lines whose required arguments are given.
 use Rattle.std.proofs.Common.{zero, suc, ◌≡◌, ◌<◌, ℕ, true, false, [], ◌∷◌, is_some, refl, sym, ◌∙◌, arith}
 use Rattle.std.specs.List.{All, slice_index_or}
 use Rattle.std.specs.Str.{bytes_eq}
@@ -35,3 +35,40 @@ both_given start mid cmd x y first second args groups globals negates fits-x fit
     λ k lt takes. required_in_chain start cmd (x ∷ y ∷ []) k x m (mid, first, (cmd, second, refl)) args groups globals negates
     (all_two FitsChain x y fits-x fits-y) (distinct_two x y differ differ-back) lt takes parsed in
     (one 0 (omega arith) takes-x, one 1 (omega arith) takes-y)
+
+-- no two of three arguments have one id
+pub record Differ (x y z : Arg) : Type 0 where
+  pub xy : bytes_eq x.id.now y.id.now ≡ false
+  pub xz : bytes_eq x.id.now z.id.now ≡ false
+  pub yx : bytes_eq y.id.now x.id.now ≡ false
+  pub yz : bytes_eq y.id.now z.id.now ≡ false
+  pub zx : bytes_eq z.id.now x.id.now ≡ false
+  pub zy : bytes_eq z.id.now y.id.now ≡ false
+
+all_three : {X : Type 0} (P : X → Type 0) (x y z : X) → P x → P y → P z → All P (x ∷ y ∷ z ∷ [])
+all_three P x y z p q r zero d lt = p
+all_three P x y z p q r (suc zero) d lt = q
+all_three P x y z p q r (suc (suc zero)) d lt = r
+all_three P x y z p q r (suc (suc (suc n))) d lt = absurd (omega arith)
+
+distinct_three : (x y z : Arg) → Differ x y z → HasDistinctIds (x ∷ y ∷ z ∷ [])
+distinct_three x y z h zero zero d e l m same = refl
+distinct_three x y z h zero (suc zero) d e l m same = let bad : true ≡ false = sym same ∙ h.xy in cc
+distinct_three x y z h zero (suc (suc zero)) d e l m same = let bad : true ≡ false = sym same ∙ h.xz in cc
+distinct_three x y z h (suc zero) zero d e l m same = let bad : true ≡ false = sym same ∙ h.yx in cc
+distinct_three x y z h (suc zero) (suc zero) d e l m same = refl
+distinct_three x y z h (suc zero) (suc (suc zero)) d e l m same = let bad : true ≡ false = sym same ∙ h.yz in cc
+distinct_three x y z h (suc (suc zero)) zero d e l m same = let bad : true ≡ false = sym same ∙ h.zx in cc
+distinct_three x y z h (suc (suc zero)) (suc zero) d e l m same = let bad : true ≡ false = sym same ∙ h.zy in cc
+distinct_three x y z h (suc (suc zero)) (suc (suc zero)) d e l m same = refl
+distinct_three x y z h (suc (suc (suc j))) k d e l m same = absurd (omega arith)
+distinct_three x y z h j (suc (suc (suc k))) d e l m same = absurd (omega arith)
+
+-- a parse gives the last of three a value, where that one is required
+pub last_given : (start mid next cmd : Command) (x y z : Arg) → AddsArg start x mid → AddsArg mid y next → AddsArg next z cmd
+    → args_of start ≡ [] → groups_of start ≡ [] → (out-Command start).has_globals ≡ false → (out-Command start).subcommand_negates_reqs ≡ false
+    → FitsChain x → FitsChain y → FitsChain z → TakesValue z → Differ x y z
+    → (m : ArgMatches) → IsParsedFrom cmd m → is_some (first_value (found_of m) z.id.now) ≡ true
+last_given start mid next cmd x y z first second third args groups globals negates fits-x fits-y fits-z takes differ m parsed =
+    required_in_chain start cmd (x ∷ y ∷ z ∷ []) 2 x m (mid, first, (next, second, (cmd, third, refl))) args groups globals negates
+    (all_three FitsChain x y z fits-x fits-y fits-z) (distinct_three x y z differ) (omega arith) takes parsed

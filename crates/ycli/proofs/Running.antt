@@ -7,50 +7,62 @@ use Rattle.std.specs.declared.io.ErrorKind.TheVariants as errors
 use Rattle.std.proofs.KnownBytes.{Appends-nil, Appends-kept}
 use Rattle.ygrammar.specs.declared.fault.GrammarFault.{GrammarFault}
 use Rattle.ygrammar.specs.declared.fault.GrammarFault.TheVariants as grammars
+use Rattle.ygrammar.specs.Grammar.{GrammarValue}
 use Rattle.ygrammar.specs.GrammarOf.{IsFaultOf, IsGrammarOf}
-use Rattle.ycli.specs.declared.link.Link.{Link}
-use Rattle.ycli.specs.declared.tables.Tables.{Tables}
+use Rattle.ylalr.specs.Collection.{TooMany}
+use Rattle.ylalr.specs.declared.fault.BuildFault.{BuildFault}
+use Rattle.ylalr.specs.declared.fault.BuildFault.TheVariants as building
+use Rattle.ytables.specs.declared.link.Link.{Link}
+use Rattle.ytables.specs.Tables.{TablesValue as Tables}
 use Rattle.ycli.specs.declared.tokens.TokenFault.{TokenFault}
 use Rattle.ycli.specs.declared.tokens.TokenFault.TheVariants as faults
 use Rattle.ycli.specs.declared.arguments.YstepWords.{YstepWords}
 use Rattle.ycli.specs.declared.message.Trouble.{Trouble}
-use Rattle.ycli.specs.Link.{device_of, has_failed}
-use Rattle.ycli.specs.Sends.{Sends}
+use Rattle.ytables.specs.Link.{device_of, has_failed}
+use Rattle.ytables.specs.Sends.{Sends}
 use Rattle.ycli.specs.Reading.{Gives}
-use Rattle.ycli.specs.Programs.{FilesFail, Says, of_grammar, of_tokens, of_unread}
+use Rattle.ycli.specs.Programs.{AreTablesOf, GrammarFails, TokensFail, Says, of_grammar, of_tables, of_tokens, of_unread}
 
--- a refused tokens file is a trouble of files
-pub tokens_fail : (paths : YstepWords) (source : List ℕ) (t : Tables) (bytes : List ℕ) (fault : TokenFault) → IsGrammarOf source t.grammar → Gives t bytes (Err fault) → FilesFail paths (of_tokens fault)
-tokens_fail paths source t bytes (faults.Unknown place) is given = (source, t, bytes, is, given)
-tokens_fail paths source t bytes (faults.NotInput place) is given = (source, t, bytes, is, given)
-tokens_fail paths source t bytes faults.TooMany is given = (source, t, bytes, is, given)
-tokens_fail paths source t bytes faults.Memory is given = tt
-tokens_fail paths source t bytes (faults.BadLiteral place) is given = (source, t, bytes, is, given)
+-- a refused tokens file
+pub tokens_fail : (path : Bor (List ℕ)) (source : List ℕ) (t : Tables) (bytes : List ℕ) (fault : TokenFault) → AreTablesOf source t → Gives t bytes (Err fault)
+    → TokensFail path (of_tokens fault)
+tokens_fail path source t bytes (faults.Unknown place) are given = (source, t, bytes, are, given)
+tokens_fail path source t bytes (faults.NotInput place) are given = (source, t, bytes, are, given)
+tokens_fail path source t bytes faults.TooMany are given = (source, t, bytes, are, given)
+tokens_fail path source t bytes faults.Memory are given = tt
+tokens_fail path source t bytes (faults.BadLiteral place) are given = (source, t, bytes, are, given)
 
--- a refused grammar file is one, too
-pub grammar_fails : (paths : YstepWords) (source : List ℕ) (fault : GrammarFault) → IsFaultOf source fault → FilesFail paths (of_grammar fault)
-grammar_fails paths source grammars.TooLong is = (source, is)
-grammar_fails paths source (grammars.Unfinished line) is = (source, is)
-grammar_fails paths source (grammars.BadLiteral line) is = (source, is)
-grammar_fails paths source (grammars.Foreign line) is = (source, is)
-grammar_fails paths source (grammars.Syntax line) is = (source, is)
-grammar_fails paths source (grammars.TokenLeft line) is = (source, is)
-grammar_fails paths source (grammars.Undefined line) is = (source, is)
-grammar_fails paths source (grammars.TwicePrecedence line) is = (source, is)
-grammar_fails paths source (grammars.BadNumber line) is = (source, is)
-grammar_fails paths source (grammars.BadStart line) is = (source, is)
-grammar_fails paths source (grammars.Unproductive line) is = (source, is)
-grammar_fails paths source (grammars.BadPrec line) is = (source, is)
-grammar_fails paths source (grammars.Limit line) is = (source, is)
-grammar_fails paths source grammars.Memory is = tt
+-- a refused grammar file
+pub grammar_fails : (path : Bor (List ℕ)) (source : List ℕ) (fault : GrammarFault) → IsFaultOf source fault → GrammarFails path (of_grammar fault)
+grammar_fails path source grammars.TooLong is = (source, is)
+grammar_fails path source (grammars.Unfinished line) is = (source, is)
+grammar_fails path source (grammars.BadLiteral line) is = (source, is)
+grammar_fails path source (grammars.Foreign line) is = (source, is)
+grammar_fails path source (grammars.Syntax line) is = (source, is)
+grammar_fails path source (grammars.TokenLeft line) is = (source, is)
+grammar_fails path source (grammars.Undefined line) is = (source, is)
+grammar_fails path source (grammars.TwicePrecedence line) is = (source, is)
+grammar_fails path source (grammars.BadNumber line) is = (source, is)
+grammar_fails path source (grammars.BadStart line) is = (source, is)
+grammar_fails path source (grammars.Unproductive line) is = (source, is)
+grammar_fails path source (grammars.BadPrec line) is = (source, is)
+grammar_fails path source (grammars.Limit line) is = (source, is)
+grammar_fails path source grammars.Memory is = tt
 
--- a tokens file that can't be read is one
-pub unread_fails : (paths : YstepWords) (trouble : Trouble) (path : Bor (List ℕ)) → (path ≡ paths.grammar) ⊎ (path ≡ paths.tokens) → (kind : IoKind) × (trouble ≡ of_unread kind path) → FilesFail paths trouble
-unread_fails paths trouble path same (kind, e) = subst (λ (t : Trouble). FilesFail paths t) (sym e) (either kind)
-  where
-    either : (k : IoKind) → FilesFail paths (of_unread k path)
-    either errors.OutOfMemory = tt
-    either _ = same
+-- a grammar with too many states
+pub build_fails : (path : Bor (List ℕ)) (source : List ℕ) (v : GrammarValue) (fault : BuildFault) → IsGrammarOf source v
+    → (fault ≡ building.TooManySets → TooMany v.bare) → GrammarFails path (of_tables fault)
+build_fails path source v building.TooManySets is many = (source, v, is, many refl)
+build_fails path source v building.Memory is many = tt
+
+-- a file that can't be read
+pub grammar_unread : (path : Bor (List ℕ)) (kind : IoKind) → GrammarFails path (of_unread kind path)
+grammar_unread path errors.OutOfMemory = tt
+grammar_unread path _ = refl
+
+pub tokens_unread : (path : Bor (List ℕ)) (kind : IoKind) → TokensFail path (of_unread kind path)
+tokens_unread path errors.OutOfMemory = tt
+tokens_unread path _ = refl
 
 module _ {E : Type 0} (contents : E → Option (List ℕ)) where
   -- nothing was said

@@ -6,21 +6,21 @@ use Rattle.ycli.specs.declared.machine.StepFault.{StepFault}
 use Rattle.ycli.specs.declared.machine.StepFault.TheVariants.{Halted, Limit, Memory}
 use Rattle.ycli.specs.declared.command.Command.{Command}
 use Rattle.ycli.specs.declared.command.Command.TheVariants.{Step, Back, Show, Quit, Unknown}
-use Rattle.ycli.specs.declared.link.Link.{Link}
+use Rattle.ytables.specs.declared.link.Link.{Link}
 use Rattle.ycli.specs.declared.fault.SessionFault.{SessionFault}
 use Rattle.ycli.specs.declared.fault.SessionFault.TheVariants as faults
 use Rattle.std.specs.Io.KnownBytes.{Consumes, IsAtEnd}
-use Rattle.ycli.specs.Link.{device_of}
-use Rattle.ycli.specs.Sends.{Sends}
+use Rattle.ytables.specs.Link.{device_of}
+use Rattle.ytables.specs.Sends.{Sends}
 use Rattle.ycli.specs.Machine.{Machine, Configuration, next}
 use Rattle.ycli.specs.History.{History, Steps, position}
 use Rattle.ycli.specs.Command.{command_of}
-use Rattle.ycli.specs.Lines.{whole_after, rest_after, whole_lines, rest_line, last_line, lines_of}
+use Rattle.ycli.specs.Lines.{last_line}
 use Rattle.ycli.specs.Reply.{Reply, Answers, AnswersLine, step_text, undo_text, undone, shown}
-use Rattle.ycli.specs.Transcript.{Replies, Transcript, Continues, Tells}
-use Rattle.ycli.specs.Serving.{ChunkTells, ReadTells, Ends}
-use Rattle.ycli.proofs.Sent.{Sends-then, Sends-stop, Sends-nothing}
-use Rattle.ycli.proofs.Lines.{whole_after-append, rest_after-append, whole_after-newline, rest_after-newline, whole_after-byte, rest_after-byte, take-front, command_of-front}
+use Rattle.ycli.specs.Transcript.{Transcript, Tells}
+use Rattle.ycli.specs.Serving.{whole_after, rest_after, whole_lines, rest_line, lines_of, Replies, ChunkTells, ReadTells, Ends}
+use Rattle.ytables.proofs.Sent.{Sends-then, Sends-stop, Sends-nothing}
+use Rattle.ycli.proofs.Lines.{whole_after-append, rest_after-append, whole_after-newline, rest_after-newline, whole_after-byte, rest_after-byte, take-front, command_of-front, is_cut, are_lines}
 
 -- ---- there is always a text
 
@@ -33,34 +33,29 @@ steps_some m h (Some s) e (inr p) = (Err Limit, h, (subst (λ (x : Option (StepK
 pub step_replies : (m : Machine) (h : History) → (text : List ℕ) × (new : History) × Reply m h Step text new
 step_replies m h = let (result, new, s) = steps_some m h (next m h.now) refl (cases_lt (position h) 1000000) in (step_text m new result, new, (result, s, refl))
 
-pub continues : (m : Machine) (h mid : History) (command : Command) (later : History → List ℕ → Type 0) (text reply more : List ℕ) → Reply m h command reply mid → text ≡ reply ++ more → later mid more
-    → Continues m h command later text
-continues m h mid Step later text reply more r e l = (reply, more, mid, r, e, l)
-continues m h mid (Back n) later text reply more r e l = (reply, more, mid, r, e, l)
-continues m h mid Show later text reply more r e l = (reply, more, mid, r, e, l)
-continues m h mid Unknown later text reply more r e l = (reply, more, mid, r, e, l)
-continues m h mid Quit later text reply more r e l = absurd r
+-- a line's reply, and what comes after it
+pub goes_on : (m : Machine) (h mid : History) (line : List ℕ) (lines : List (List ℕ)) (text reply more : List ℕ) → Reply m h (command_of line) reply mid → text ≡ reply ++ more → Transcript m mid lines more
+    → Transcript m h (line ∷ lines) text
+goes_on m h mid line lines text reply more r e t = inr (reply, more, mid, r, e, t)
 
-pub continues_quit : (m : Machine) (h : History) (command : Command) (later : History → List ℕ → Type 0) → command ≡ Quit → Continues m h command later []
-continues_quit m h command later e = subst (λ (x : Command). Continues m h x later []) (sym e) refl
+pub quits : (m : Machine) (h : History) (line : List ℕ) (lines : List (List ℕ)) → command_of line ≡ Quit → Transcript m h (line ∷ lines) []
+quits m h line lines e = inl (e, refl)
 
-pub continues_some : (m : Machine) (h : History) (command : Command) (later : History → List ℕ → Type 0) → ((mid : History) → (more : List ℕ) × later mid more) → (text : List ℕ) × Continues m h command later text
-continues_some m h Step later f =
-    let (reply, mid, r) = step_replies m h in
-    let (more, l) = f mid in
-    (reply ++ more, (reply, more, mid, r, refl, l))
-continues_some m h (Back n) later f =
-    let reply : List ℕ = undo_text m n false h.past in
-    let mid : History = undone n h.now h.past in
-    let (more, l) = f mid in
-    (reply ++ more, (reply, more, mid, (refl, refl), refl, l))
-continues_some m h Show later f = let (more, l) = f h in (shown m h ++ more, (shown m h, more, h, (refl, refl), refl, l))
-continues_some m h Unknown later f = let (more, l) = f h in let reply : List ℕ = codes "unknown command\n" in (reply ++ more, (reply, more, h, (refl, refl), refl, l))
-continues_some m h Quit later f = ([], refl)
+-- a command is `quit`, or has a reply
+pub replies_some : (m : Machine) (h : History) (command : Command) → (command ≡ Quit) ⊎ ((text : List ℕ) × (new : History) × Reply m h command text new)
+replies_some m h Step = inr (step_replies m h)
+replies_some m h (Back n) = inr (undo_text m n false h.past, undone n h.now h.past, (refl, refl))
+replies_some m h Show = inr (shown m h, h, (refl, refl))
+replies_some m h Unknown = inr (codes "unknown command\n", h, (refl, refl))
+replies_some m h Quit = inl refl
 
 pub Transcript-some : (m : Machine) (h : History) (lines : List (List ℕ)) → (text : List ℕ) × Transcript m h lines text
 Transcript-some m h [] = ([], refl)
-Transcript-some m h (line ∷ lines) = continues_some m h (command_of line) (λ mid more. Transcript m mid lines more) (λ mid. Transcript-some m mid lines)
+Transcript-some m h (line ∷ lines) =
+    elim (replies_some m h (command_of line)) [
+      | inl e ↦ ([], quits m h line lines e)
+      | inr (reply, mid, r) ↦ let (more, t) = Transcript-some m mid lines in (reply ++ more, goes_on m h mid line lines (reply ++ more) reply more r refl t)
+    ]
 
 -- ---- lines that were answered, and what comes later
 
@@ -79,7 +74,7 @@ pub Transcript-after : (m : Machine) (h mid : History) (lines others : List (Lis
 Transcript-after m h mid [] others text more (e, f) q =
     subst (λ (x : History). Transcript m x others (text ++ more)) f (subst (λ (t : List ℕ). Transcript m mid others (t ++ more)) (sym e) q)
 Transcript-after m h mid (line ∷ lines) others text more (reply, rest, next, r, e, p) q =
-    continues m h next (command_of line) (λ x t. Transcript m x (lines ++ others) t) (text ++ more) reply (rest ++ more) r
+    goes_on m h next line (lines ++ others) (text ++ more) reply (rest ++ more) r
     (ap (λ (t : List ℕ). t ++ more) e ∙ append_assoc reply rest more) (Transcript-after m next mid lines others rest more p q)
 
 -- the line that came so far, as its command
@@ -116,7 +111,7 @@ module _ {W : Type 0} (contents : W → Option (List ℕ)) where
     text,
     (λ others.
         let ends : Transcript m mid ((rest_after line bytes ∷ whole_after [] rest) ++ others) [] =
-        continues_quit m mid (command_of (rest_after line bytes)) _ (sym (held-command (rest_after line bytes) held k) ∙ q) in
+        quits m mid (rest_after line bytes) (whole_after [] rest ++ others) (sym (held-command (rest_after line bytes) held k) ∙ q) in
         let joined = Transcript-after m h mid (whole_after line bytes) ((rest_after line bytes ∷ whole_after [] rest) ++ others) text [] r ends in
         let lines : whole_after line bytes ++ ((rest_after line bytes ∷ whole_after [] rest) ++ others) ≡ whole_after line all ++ others =
         sym (append_assoc (whole_after line bytes) (rest_after line bytes ∷ whole_after [] rest) others)
@@ -131,7 +126,7 @@ module _ {W : Type 0} (contents : W → Option (List ℕ)) where
       let told : Reply m mid (command_of (rest_after line bytes)) reply left = subst (λ (x : Command). Reply m mid x reply left) (held-command (rest_after line bytes) held k) q in
       let (more, t) = Transcript-some m left (whole_after [] rest ++ others) in
       let ends : Transcript m mid ((rest_after line bytes ∷ whole_after [] rest) ++ others) (reply ++ more) =
-      continues m mid left (command_of (rest_after line bytes)) (λ x l. Transcript m x (whole_after [] rest ++ others) l) (reply ++ more) reply more told refl t in
+      goes_on m mid left (rest_after line bytes) (whole_after [] rest ++ others) (reply ++ more) reply more told refl t in
       let joined = Transcript-after m h mid (whole_after line bytes) ((rest_after line bytes ∷ whole_after [] rest) ++ others) text (reply ++ more) r ends in
       let lines : whole_after line bytes ++ ((rest_after line bytes ∷ whole_after [] rest) ++ others) ≡ whole_after line all ++ others =
       sym (append_assoc (whole_after line bytes) (rest_after line bytes ∷ whole_after [] rest) others)
@@ -199,16 +194,16 @@ module _ {W : Type 0} (contents : W → Option (List ℕ)) where
   ends_line a b m h new [] held goes_on e f q = absurd (f e)
   ends_line a b m h new (x ∷ xs) held true e f (text, r, s) =
       let told : Reply m h (command_of (x ∷ xs)) text new = subst (λ (y : Command). Reply m h y text new) (held-command (x ∷ xs) held e) r in
-      (text, continues m h new (command_of (x ∷ xs)) (λ y t. Transcript m y [] t) text text [] told (sym (append-nil text)) refl, s)
+      (text, goes_on m h new (x ∷ xs) [] text text [] told (sym (append-nil text)) refl, s)
   ends_line a b m h new (x ∷ xs) held false e f (q, now, same) =
-      ([], continues_quit m h (command_of (x ∷ xs)) _ (sym (held-command (x ∷ xs) held e) ∙ q), subst (λ (y : Link W). Sends contents a y true []) (sym same) (Sends-nothing contents a))
+      ([], quits m h (x ∷ xs) [] (sym (held-command (x ∷ xs) held e) ∙ q), subst (λ (y : Link W). Sends contents a y true []) (sym same) (Sends-nothing contents a))
 
   pub ends_fault : (a b : Link W) (m : Machine) (h new : History) (line held : List ℕ) → held ≡ take 4097 line → (held ≡ [] → ⊥) → AnswersLine contents a b None m h (command_of held) new
       → Ends contents a b false m h line
   ends_fault a b m h new [] held e f q = absurd (f e)
   ends_fault a b m h new (x ∷ xs) held e f (text, left, r, s) =
       let told : Reply m h (command_of (x ∷ xs)) text left = subst (λ (y : Command). Reply m h y text left) (held-command (x ∷ xs) held e) r in
-      (text, continues m h left (command_of (x ∷ xs)) (λ y t. Transcript m y [] t) text text [] told (sym (append-nil text)) refl, s)
+      (text, goes_on m h left (x ∷ xs) [] text text [] told (sym (append-nil text)) refl, s)
 
 -- ---- the whole input
 
@@ -241,8 +236,11 @@ module _ {W : Type 0} (contents : W → Option (List ℕ)) where
       let taken_here : Consumes (Some input) left taken = subst (λ (o : Option (List ℕ)). Consumes o left taken) e p in
       let whole : Transcript m h (whole_lines taken ++ []) (text ++ []) = Transcript-after m h now (whole_lines taken) [] text [] r refl in (
         taken,
+        whole_lines taken,
+        rest_line taken,
         text,
         taken_here,
+        is_cut taken,
         subst (λ (t : List ℕ). Transcript m h (whole_lines taken) t) (append-nil text) (subst (λ (ls : List (List ℕ)). Transcript m h ls (text ++ [])) (append-nil (whole_lines taken)) whole),
         s.bytes,
       )
@@ -252,7 +250,7 @@ module _ {W : Type 0} (contents : W → Option (List ℕ)) where
   tells_write old new m h now input held before left e (taken, p, q) =
       let (rest, f, g) = taken_of input taken left (subst (λ (o : Option (List ℕ)). Consumes o left taken) e p) in
       let (text, t, s) = q (whole_after (rest_line taken) rest ++ last_line (rest_after (rest_line taken) rest)) in
-      (text, subst (λ (ls : List (List ℕ)). Transcript m h ls text) (sym (ap lines_of g ∙ lines_of-parts taken rest)) t, s.bytes)
+      (lines_of input, text, are_lines input, subst (λ (ls : List (List ℕ)). Transcript m h ls text) (sym (ap lines_of g ∙ lines_of-parts taken rest)) t, s.bytes)
 
   pub tells_err : (old new : Link W) (m : Machine) (h now : History) (input held : List ℕ) (before left : Option (List ℕ)) (fault : SessionFault) → before ≡ Some input
       → ReadTells contents old new before left (Err fault) m h now held → Tells m h input left (contents (device_of old)) (contents (device_of new)) (Err fault)
@@ -264,7 +262,7 @@ module _ {W : Type 0} (contents : W → Option (List ℕ)) where
   tells_quit old new m h now input held before left e (taken, text, p, q, s) =
       let (rest, f, g) = taken_of input taken left (subst (λ (o : Option (List ℕ)). Consumes o left taken) e p) in
       let others : List (List ℕ) = whole_after (rest_line taken) rest ++ last_line (rest_after (rest_line taken) rest) in
-      (text, subst (λ (ls : List (List ℕ)). Transcript m h ls text) (sym (ap lines_of g ∙ lines_of-parts taken rest)) (q others), s.bytes)
+      (lines_of input, text, are_lines input, subst (λ (ls : List (List ℕ)). Transcript m h ls text) (sym (ap lines_of g ∙ lines_of-parts taken rest)) (q others), s.bytes)
 
   -- the whole lines were answered, and then the last one, or a beginning of its text was sent
   pub tells_last : (old mid new : Link W) (whole : Bool) (m : Machine) (h now : History) (input held : List ℕ) (before left : Option (List ℕ)) → before ≡ Some input → length input < 2 ^ 63

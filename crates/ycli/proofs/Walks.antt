@@ -1,6 +1,6 @@
 -- Walks over the gotos of tables.
 use Rattle.std.proofs.Common.{ℕ, zero, suc, ◌≡◌, ◌<◌, List, [], ◌∷◌, Option, Some, None, length, drop, get_or, refl, ap, ◌∙◌, arith}
-use Rattle.ycli.specs.declared.tables.Tables.{Tables}
+use Rattle.ytables.specs.Tables.{TablesValue as Tables}
 use Rattle.ycli.specs.Tables.{walk, goto_at}
 
 pub walk-none : (t : Tables) (symbols : List ℕ) → walk t None symbols ≡ None

@@ -1,8 +1,7 @@
-pub mod Link
-pub mod Sends
 pub mod Tables
 pub mod Tokens
 pub mod Machine
+pub mod Messages
 pub mod MachineOver
 pub mod History
 pub mod Snapshots
@@ -17,3 +16,4 @@ pub mod Transcript
 pub mod Serving
 pub mod Arguments
 pub mod Programs
+pub mod Generating

@@ -1,29 +1,25 @@
--- The lines of an input: cut at each newline; the last one may lack it.
-use Rattle.std.specs.Prelude.{ℕ, ◌==◌, List, [], ◌∷◌, ◌++◌, if◌then◌else◌}
+-- The lines of an input: each but the last ends with a newline, and none has one inside.
+use Rattle.std.specs.Prelude.{ℕ, ◌≡◌, ◌≢◌, List, [], ◌∷◌, ◌++◌, All}
+use Rattle.std.specs.List.{flat_map}
 
--- the lines that end in a newline, where so much of the first has come before
-abbrev pub whole_after : List ℕ → List ℕ → List (List ℕ)
-whole_after line [] = []
-whole_after line (b ∷ bs) = if b == 10 then line ∷ whole_after [] bs else whole_after (line ++ b ∷ []) bs
+-- no newline stands in it
+abbrev pub IsOneLine : List ℕ → Type 0
+IsOneLine line = All (λ b. b ≢ 10) line
 
--- what comes after the last newline
-abbrev pub rest_after : List ℕ → List ℕ → List ℕ
-rest_after line [] = line
-rest_after line (b ∷ bs) = if b == 10 then rest_after [] bs else rest_after (line ++ b ∷ []) bs
+-- the bytes are these lines, each with its newline, and then the rest
+pub record IsCut (bytes : List ℕ) (lines : List (List ℕ)) (rest : List ℕ) : Type 0 where
+  pub joined : bytes ≡ flat_map (λ line. line ++ 10 ∷ []) lines ++ rest
+  pub each : All IsOneLine lines
+  pub last : IsOneLine rest
 
--- the lines that end in a newline
-abbrev pub whole_lines : List ℕ → List (List ℕ)
-whole_lines bytes = whole_after [] bytes
-
--- what comes after the last of them
-abbrev pub rest_line : List ℕ → List ℕ
-rest_line bytes = rest_after [] bytes
-
--- no bytes are no line
+-- a last line without its newline; no bytes are no line
 abbrev pub last_line : List ℕ → List (List ℕ)
 last_line [] = []
 last_line (b ∷ bs) = (b ∷ bs) ∷ []
 
 -- all lines of an input
-abbrev pub lines_of : List ℕ → List (List ℕ)
-lines_of bytes = whole_lines bytes ++ last_line (rest_line bytes)
+pub record AreLines (bytes : List ℕ) (lines : List (List ℕ)) : Type 0 where
+  pub whole : List (List ℕ)
+  pub rest : List ℕ
+  pub cut : IsCut bytes whole rest
+  pub all : lines ≡ whole ++ last_line rest

@@ -1,8 +1,8 @@
 -- The machine of a parse: its configurations and its steps (Aho, Sethi and Ullman, 4.7, the LR parsing algorithm).
 use Rattle.std.specs.Prelude.{ℕ, ◌-◌, ◌&&◌, Bool, List, [], ◌∷◌, ◌++◌, length, take, drop, Option, Some, None, if◌then◌else◌}
 use Rattle.std.specs.Str.{bytes_eq}
-use Rattle.ycli.specs.declared.cell.Action.{Action}
-use Rattle.ycli.specs.declared.cell.Action.TheVariants.{Shift, Reduce, Accept, Error}
+use Rattle.ytables.specs.declared.cell.Action.{Action}
+use Rattle.ytables.specs.declared.cell.Action.TheVariants.{Shift, Reduce, Accept, Error}
 use Rattle.ycli.specs.declared.machine.Mode.{Mode}
 use Rattle.ycli.specs.declared.machine.Mode.TheVariants.{Running, Popping, Accepted, Failed}
 use Rattle.ycli.specs.declared.machine.StepKind.{StepKind}

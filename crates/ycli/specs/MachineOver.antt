@@ -1,6 +1,6 @@
 -- The machine of tables.
 use Rattle.std.specs.Prelude.{is_some}
-use Rattle.ycli.specs.declared.tables.Tables.{Tables}
+use Rattle.ytables.specs.Tables.{TablesValue as Tables}
 use Rattle.ycli.specs.Tables.{name_of, rule_of, state_after, cell_in, goto_from}
 use Rattle.ycli.specs.Machine.{Machine}
 

@@ -9,8 +9,8 @@ use Rattle.ycli.specs.declared.machine.StepFault.{StepFault}
 use Rattle.ycli.specs.declared.machine.StepFault.TheVariants.{Halted, Limit, Memory}
 use Rattle.ycli.specs.declared.command.Command.{Command}
 use Rattle.ycli.specs.declared.command.Command.TheVariants.{Step, Back, Show, Quit, Unknown}
-use Rattle.ycli.specs.declared.link.Link.{Link}
-use Rattle.ycli.specs.Sends.{Sends}
+use Rattle.ytables.specs.declared.link.Link.{Link}
+use Rattle.ytables.specs.Sends.{Sends}
 use Rattle.ycli.specs.Machine.{Machine, Configuration}
 use Rattle.ycli.specs.History.{History, Steps, position}
 

@@ -1,14 +1,43 @@
 -- What the parts of a session's loop leave, between modules alone.
-use Rattle.std.specs.Prelude.{ℕ, ◌≡◌, ◌≤◌, ◌^◌, ◌-◌, ◌⊎◌, Bool, true, false, List, ◌++◌, length, take, Option, Some, None, Result, Ok, Err}
+use Rattle.std.specs.Prelude.{ℕ, ◌≡◌, ◌==◌, ◌≤◌, ◌^◌, ◌-◌, ◌⊎◌, Bool, true, false, List, [], ◌∷◌, ◌++◌, length, take, Option, Some, None, Result, Ok, Err, if◌then◌else◌}
 use Rattle.std.specs.Io.KnownBytes.{Consumes, IsAtEnd}
-use Rattle.ycli.specs.declared.link.Link.{Link}
+use Rattle.ytables.specs.declared.link.Link.{Link}
 use Rattle.ycli.specs.declared.fault.SessionFault.{SessionFault}
 use Rattle.ycli.specs.declared.fault.SessionFault.TheVariants as faults
-use Rattle.ycli.specs.Sends.{Sends}
+use Rattle.ytables.specs.Sends.{Sends}
 use Rattle.ycli.specs.Machine.{Machine}
 use Rattle.ycli.specs.History.{History}
-use Rattle.ycli.specs.Lines.{whole_after, rest_after, whole_lines, rest_line, last_line}
-use Rattle.ycli.specs.Transcript.{Replies, Transcript}
+use Rattle.ycli.specs.Command.{command_of}
+use Rattle.ycli.specs.Lines.{last_line}
+use Rattle.ycli.specs.Reply.{Reply}
+use Rattle.ycli.specs.Transcript.{Transcript}
+
+-- the lines that end in a newline, where so much of the first has come before
+abbrev pub whole_after : List ℕ → List ℕ → List (List ℕ)
+whole_after line [] = []
+whole_after line (b ∷ bs) = if b == 10 then line ∷ whole_after [] bs else whole_after (line ++ b ∷ []) bs
+
+-- what comes after the last newline
+abbrev pub rest_after : List ℕ → List ℕ → List ℕ
+rest_after line [] = line
+rest_after line (b ∷ bs) = if b == 10 then rest_after [] bs else rest_after (line ++ b ∷ []) bs
+
+-- the lines that end in a newline, and what comes after the last of them
+abbrev pub whole_lines : List ℕ → List (List ℕ)
+whole_lines bytes = whole_after [] bytes
+
+abbrev pub rest_line : List ℕ → List ℕ
+rest_line bytes = rest_after [] bytes
+
+-- all lines of an input
+abbrev pub lines_of : List ℕ → List (List ℕ)
+lines_of bytes = whole_lines bytes ++ last_line (rest_line bytes)
+
+-- the replies to lines, one after another, none of which is `quit`
+abbrev pub Replies : Machine → History → List (List ℕ) → List ℕ → History → Type 0
+Replies m h [] text new = (text ≡ []) × (new ≡ h)
+Replies m h (line ∷ lines) text new =
+    (reply : List ℕ) × (more : List ℕ) × (mid : History) × Reply m h (command_of line) reply mid × (text ≡ reply ++ more) × Replies m mid lines more new
 
 -- After what was read of the first line: the lines were answered; or one of them is `quit`, whatever follows; or a
 -- beginning of their text was written, whatever follows.

@@ -1,23 +1,24 @@
 -- What the tables say: cells and gotos by state, rules by number, names by symbol.
-use Rattle.std.specs.Prelude.{ℕ, ◌&&◌, Bool, nat_lt, List, [], ◌∷◌, map, slice_index_or, Option, Some, None}
+use Rattle.std.specs.Prelude.{ℕ, ◌&&◌, Bool, nat_lt, List, [], ◌∷◌, length, slice_index_or, Option, Some, None, if◌then◌else◌}
 use Rattle.ygrammar.specs.Grammar.{Production}
 use Rattle.ygrammar.specs.Grammar as grammar
-use Rattle.ygrammar.specs.NameTexts.{find_in}
-use Rattle.ycli.specs.declared.cell.Action.{Action}
-use Rattle.ycli.specs.declared.cell.Action.TheVariants as actions
-use Rattle.ycli.specs.declared.tables.Tables.{Tables}
+use Rattle.ygrammar.specs.Names.{find_in}
+use Rattle.ylalr.specs.Collection.{goto_in}
+use Rattle.ytables.specs.declared.cell.Action.{Action}
+use Rattle.ytables.specs.declared.cell.Action.TheVariants as actions
+use Rattle.ytables.specs.Tables.{TablesValue as Tables, action_at}
 
 -- the printed name of a symbol, empty for a number that is no symbol
 abbrev pub name_of : Tables → ℕ → List ℕ
-name_of t symbol = slice_index_or t.grammar.names symbol []
+name_of t symbol = slice_index_or t.built.grammar.names symbol []
 
 -- the number of the symbol with this printed name
 abbrev pub symbol_named : Tables → List ℕ → Option ℕ
-symbol_named t name = find_in t.grammar.names name
+symbol_named t name = find_in t.built.grammar.names name
 
 -- how many tokens there are; they have the lowest numbers
 abbrev pub token_count : Tables → ℕ
-token_count t = t.grammar.bare.tokens
+token_count t = t.built.grammar.bare.tokens
 
 -- input tokens are those other than `$end` and `error`; tokens have the numbers below `tokens`
 abbrev pub is_input : ℕ → ℕ → Bool
@@ -25,15 +26,17 @@ is_input tokens symbol = nat_lt 1 symbol && nat_lt symbol tokens
 
 -- the left side and the body of a rule
 abbrev pub rule_of : Tables → ℕ → Production
-rule_of t r = grammar.rule_of t.grammar.bare r
+rule_of t r = grammar.rule_of t.built.grammar.bare r
 
 -- where a symbol leads from a state
 abbrev pub goto_at : Tables → ℕ → ℕ → Option ℕ
-goto_at t q symbol = slice_index_or (slice_index_or (map (λ row. row.items) t.gotos.items) q []) symbol None
+goto_at t q symbol =
+    if nat_lt q (length t.built.states) && nat_lt symbol t.built.grammar.bare.symbols then goto_in t.built q symbol else None
 
 -- what the cell of a state and a token says
 abbrev pub cell_at : Tables → ℕ → ℕ → Action
-cell_at t q token = slice_index_or (slice_index_or (map (λ row. row.items) t.cells.items) q []) token actions.Error
+cell_at t q token =
+    if nat_lt q (length t.built.states) && nat_lt token (token_count t) then action_at t q token else actions.Error
 
 -- where a symbol leads from a state, where there is one
 abbrev pub goto_from : Tables → Option ℕ → ℕ → Option ℕ

@@ -1,7 +1,7 @@
 -- What a list of tokens is.
 use Rattle.std.specs.Prelude.{ℕ, ◌<◌, List}
 use Rattle.std.specs.List.{All}
-use Rattle.ycli.specs.declared.tables.Tables.{Tables}
+use Rattle.ytables.specs.Tables.{TablesValue as Tables}
 use Rattle.ycli.specs.declared.tokens.Tokens.{Tokens}
 use Rattle.ycli.specs.Tables.{token_count}
 

@@ -2,21 +2,19 @@
 #![tactic(auto)]
 
 pub mod arguments;
-pub mod cell;
 mod command;
 pub mod fault;
+mod files;
+pub mod generator;
 mod held;
-pub mod link;
 pub mod machine;
 mod message;
 pub mod programs;
-mod put;
 mod reply;
 pub mod run;
 pub mod session;
 mod snapshot;
-pub mod tables;
-pub mod thin;
+mod tables;
 pub mod tokens;
 pub mod view;
 mod words;

@@ -2,9 +2,9 @@
 
 ghost use Rattle.std.specs.Prelude.{◌≡◌};
 
-use crate::cell::Sym;
 use std::alloc::AllocError;
 use thiserror::Error;
+use ygrammar::Sym;
 
 /// What a parse is doing.
 #[derive(Clone, Copy, Debug, PartialEq, Eq)]

@@ -1,16 +1,142 @@
 //! What the programs write to standard error, and the status that goes with it.
 
-ghost use Rattle.std.specs.Prelude.{◌≡◌, ◌++◌, is_some, codes};
-ghost use Rattle.ycli.specs.Sends.{Sends};
-ghost use Rattle.ycli.specs.Programs.{grammar_message, lined, message, status, placed, token_message};
+ghost use Rattle.std.specs.Prelude.{◌≡◌, ◌++◌, ◌==◌, ◌&&◌, is_some, codes};
+ghost use Rattle.ytables.specs.Sends.{Sends};
+ghost use Rattle.ycli.specs.Messages.{conflicts_line, grammar_code, grammar_line, message, name_of, said, session_word, token_code, token_place, usage_of};
+ghost use Rattle.ycli.specs.Programs.{status};
 
 use crate::fault::SessionFault;
-use crate::link::Link;
-use crate::put::{put, put_all, put_number};
-use crate::thin::BuildFault;
 use crate::tokens::TokenFault;
 use std::io::{self, Write};
 use ygrammar::GrammarFault;
+use ylalr::BuildFault;
+use ytables::put::{put, put_all};
+use ytables::{Counts, Link};
+
+/// One of the programs.
+#[derive(Clone, Copy, Debug, PartialEq, Eq)]
+pub(crate) enum Program {
+    /// The parser generator.
+    Yacc,
+    /// The stepper.
+    Ystep,
+}
+
+impl Program {
+    /// The name that its messages begin with.
+    fn name(self) -> &'static [u8]
+        ensures { result.now ≡ name_of self }
+    {
+        match self {
+            Program::Yacc => b"yacc",
+            Program::Ystep => b"ystep",
+        }
+    }
+
+    /// The message on words that are refused.
+    fn usage(self) -> &'static [u8]
+        ensures { result.now ≡ usage_of self }
+    {
+        match self {
+            Program::Yacc => b"usage: yacc [-v] [-b prefix] grammar\n",
+            Program::Ystep => b"usage: ystep grammar tokens\n",
+        }
+    }
+
+    /// Says something, at a place where it has one.
+    fn say<E: Write>(
+        self,
+        link: &mut Link<E>,
+        what: &[u8],
+        at: &[u8],
+        number: Option<usize>,
+    ) -> Option<()>
+        ensures { Sends E.contents link.old link.new (is_some result) (said self what.now at.now number) }
+    {
+        let Some(number) = number else {
+            return put_line(link, self.name(), b": ", what);
+        };
+        let mut buffer = itoa::Buffer::new();
+        let digits = buffer.format(number).as_bytes();
+        put_numbered(link, self.name(), what, at, digits)
+    }
+}
+
+/// Three pieces and a newline.
+fn put_line<'a, E: Write>(
+    link: &mut Link<E>,
+    name: &'a [u8],
+    between: &'a [u8],
+    what: &'a [u8],
+) -> Option<()>
+    ensures { Sends E.contents link.old link.new (is_some result) (name.now ++ (between.now ++ (what.now ++ codes "\n"))) }
+{
+    put_all(link, &[name, between, what, b"\n"])
+}
+
+/// A name, and the file that can't be written.
+fn put_unwritten<'a, E: Write>(
+    link: &mut Link<E>,
+    name: &'a [u8],
+    prefix: &'a [u8],
+    ending: &'a [u8],
+) -> Option<()>
+    ensures { Sends E.contents link.old link.new (is_some result) (name.now ++ (codes ": cannot write " ++ (prefix.now ++ (ending.now ++ codes "\n")))) }
+{
+    put_all(link, &[name, b": cannot write ", prefix, ending, b"\n"])
+}
+
+/// Whether there are no conflicts.
+fn is_free(counts: Counts) -> bool
+    ensures { result ≡ (counts.shift_reduce == 0 && counts.reduce_reduce == 0) }
+{
+    counts.shift_reduce == 0 && counts.reduce_reduce == 0
+}
+
+/// The line on conflicts, where there are some.
+pub(crate) fn put_conflicts<E: Write>(link: &mut Link<E>, counts: Counts) -> Option<()>
+    ensures { Sends E.contents link.old link.new (is_some result) (conflicts_line counts) }
+{
+    if is_free(counts) {
+        return Some(());
+    }
+    let mut first = itoa::Buffer::new();
+    let mut second = itoa::Buffer::new();
+    put_counts(
+        link,
+        first.format(counts.shift_reduce).as_bytes(),
+        second.format(counts.reduce_reduce).as_bytes(),
+    )
+}
+
+/// That line, with its two counts.
+fn put_counts<'a, E: Write>(link: &mut Link<E>, first: &'a [u8], second: &'a [u8]) -> Option<()>
+    ensures { Sends E.contents link.old link.new (is_some result) (codes "conflicts: " ++ (first.now ++ (codes " shift/reduce, " ++ (second.now ++ codes " reduce/reduce\n")))) }
+{
+    put_all(
+        link,
+        &[
+            b"conflicts: ",
+            first,
+            b" shift/reduce, ",
+            second,
+            b" reduce/reduce\n",
+        ],
+    )
+}
+
+/// A name, what is said, and the number of a place.
+fn put_numbered<'a, E: Write>(
+    link: &mut Link<E>,
+    name: &'a [u8],
+    what: &'a [u8],
+    at: &'a [u8],
+    digits: &'a [u8],
+) -> Option<()>
+    ensures { Sends E.contents link.old link.new (is_some result) (name.now ++ (codes ": " ++ (what.now ++ (at.now ++ (digits.now ++ codes "\n"))))) }
+{
+    put_all(link, &[name, b": ", what, at, digits, b"\n"])
+}
 
 /// Why a program ends before its work is done.
 #[derive(Clone, Copy, Debug)]
@@ -27,6 +153,8 @@ pub(crate) enum Trouble<'a> {
     NoMemory,
     /// The file at this path can't be read.
     CannotRead(&'a str),
+    /// The file of this prefix and ending can't be written.
+    CannotWrite(&'a str, &'static str),
     /// The session ended for a fault of a stream.
     Session(SessionFault),
 }
@@ -105,80 +233,111 @@ impl<'a> Trouble<'a> {
             Trouble::TooManySets => 3,
             Trouble::NoMemory => 3,
             Trouble::CannotRead(_) => 3,
+            Trouble::CannotWrite(_, _) => 3,
             Trouble::Session(_) => 3,
         }
     }
 
-    /// Writes the message, one line.
-    pub(crate) fn put<E: Write>(&self, link: &mut Link<E>) -> Option<()>
-        ensures { Sends E.contents link.old link.new (is_some result) (message self.now) }
+    /// Writes the program's message, one line.
+    pub(crate) fn put<E: Write>(&self, link: &mut Link<E>, program: Program) -> Option<()>
+        ensures { Sends E.contents link.old link.new (is_some result) (message program self.now) }
     {
         match self {
-            Trouble::Usage => put(link, b"usage: ystep grammar tokens\n"),
-            Trouble::Grammar(fault) => put_grammar_fault(link, *fault),
-            Trouble::Tokens(fault) => put_token_fault(link, *fault),
-            Trouble::TooManySets => put(link, b"ystep: B1\n"),
-            Trouble::NoMemory => put(link, b"ystep: no memory\n"),
-            Trouble::CannotRead(path) => put_path(link, path.as_bytes()),
-            Trouble::Session(SessionFault::Read) => put(link, b"ystep: read fault\n"),
-            Trouble::Session(SessionFault::Write) => put(link, b"ystep: write fault\n"),
+            Trouble::Usage => put(link, program.usage()),
+            Trouble::Grammar(fault) => {
+                let (code, line) = (grammar_code(*fault), grammar_line(*fault));
+                program.say(link, code, b" at line ", line)
+            }
+            Trouble::Tokens(fault) => {
+                let (code, place) = (token_code(*fault), token_place(*fault));
+                program.say(link, code, b" at token ", place)
+            }
+            Trouble::TooManySets => program.say(link, b"B1", b"", None),
+            Trouble::NoMemory => program.say(link, b"no memory", b"", None),
+            Trouble::CannotRead(path) => {
+                put_line(link, program.name(), b": cannot read ", path.as_bytes())
+            }
+            Trouble::CannotWrite(prefix, ending) => {
+                put_unwritten(link, program.name(), prefix.as_bytes(), ending.as_bytes())
+            }
+            Trouble::Session(fault) => program.say(link, session_word(*fault), b"", None),
         }
     }
 }
 
-fn put_path<E: Write>(link: &mut Link<E>, path: &[u8]) -> Option<()>
-    ensures { Sends E.contents link.old link.new (is_some result) (codes "ystep: cannot read " ++ (path.now ++ codes "\n")) }
-{
-    put_all(link, &[b"ystep: cannot read ", path, b"\n"])
-}
-
-/// A code and a line.
-fn put_line<E: Write>(link: &mut Link<E>, code: &[u8], line: usize) -> Option<()>
-    ensures { Sends E.contents link.old link.new (is_some result) (lined code.now line) }
-{
-    put_all(link, &[b"ystep: ", code, b" at line "])?;
-    put_number(link, line as u64)?;
-    put(link, b"\n")
-}
-
-fn put_grammar_fault<E: Write>(link: &mut Link<E>, fault: GrammarFault) -> Option<()>
-    ensures { Sends E.contents link.old link.new (is_some result) (grammar_message fault) }
+/// What a fault of a session's streams is told as.
+fn session_word(fault: SessionFault) -> &'static [u8]
+    ensures { result.now ≡ session_word fault }
 {
     match fault {
-        GrammarFault::TooLong => put(link, b"ystep: G1\n"),
-        GrammarFault::Unfinished { line } => put_line(link, b"G2", line),
-        GrammarFault::BadLiteral { line } => put_line(link, b"G3", line),
-        GrammarFault::Foreign { line } => put_line(link, b"G4", line),
-        GrammarFault::Syntax { line } => put_line(link, b"G5", line),
-        GrammarFault::TokenLeft { line } => put_line(link, b"G6", line),
-        GrammarFault::Undefined { line } => put_line(link, b"G7", line),
-        GrammarFault::TwicePrecedence { line } => put_line(link, b"G8", line),
-        GrammarFault::BadNumber { line } => put_line(link, b"G9", line),
-        GrammarFault::BadStart { line } => put_line(link, b"G10", line),
-        GrammarFault::Unproductive { line } => put_line(link, b"G11", line),
-        GrammarFault::BadPrec { line } => put_line(link, b"G12", line),
-        GrammarFault::Limit { line } => put_line(link, b"G13", line),
-        GrammarFault::Memory => put(link, b"ystep: no memory\n"),
+        SessionFault::Read => b"read fault",
+        SessionFault::Write => b"write fault",
     }
 }
 
-/// A code and a place.
-fn put_place<E: Write>(link: &mut Link<E>, code: &[u8], place: usize) -> Option<()>
-    ensures { Sends E.contents link.old link.new (is_some result) (placed code.now place) }
-{
-    put_all(link, &[b"ystep: ", code, b" at token "])?;
-    put_number(link, place as u64)?;
-    put(link, b"\n")
-}
-
-fn put_token_fault<E: Write>(link: &mut Link<E>, fault: TokenFault) -> Option<()>
-    ensures { Sends E.contents link.old link.new (is_some result) (token_message fault) }
+/// The code of a fault of a grammar file.
+fn grammar_code(fault: GrammarFault) -> &'static [u8]
+    ensures { result.now ≡ grammar_code fault }
 {
     match fault {
-        TokenFault::Unknown(place) => put_place(link, b"K1", place),
-        TokenFault::NotInput(place) => put_place(link, b"K2", place),
-        TokenFault::TooMany => put(link, b"ystep: K3\n"),
-        TokenFault::Memory => put(link, b"ystep: no memory\n"),
-        TokenFault::BadLiteral(place) => put_place(link, b"K5", place),
+        GrammarFault::TooLong => b"G1",
+        GrammarFault::Unfinished { line: _ } => b"G2",
+        GrammarFault::BadLiteral { line: _ } => b"G3",
+        GrammarFault::Foreign { line: _ } => b"G4",
+        GrammarFault::Syntax { line: _ } => b"G5",
+        GrammarFault::TokenLeft { line: _ } => b"G6",
+        GrammarFault::Undefined { line: _ } => b"G7",
+        GrammarFault::TwicePrecedence { line: _ } => b"G8",
+        GrammarFault::BadNumber { line: _ } => b"G9",
+        GrammarFault::BadStart { line: _ } => b"G10",
+        GrammarFault::Unproductive { line: _ } => b"G11",
+        GrammarFault::BadPrec { line: _ } => b"G12",
+        GrammarFault::Limit { line: _ } => b"G13",
+        GrammarFault::Memory => b"no memory",
+    }
+}
+
+/// The line of a fault of a grammar file, where it has one.
+fn grammar_line(fault: GrammarFault) -> Option<usize>
+    ensures { result ≡ grammar_line fault }
+{
+    match fault {
+        GrammarFault::TooLong | GrammarFault::Memory => None,
+        GrammarFault::Unfinished { line }
+        | GrammarFault::BadLiteral { line }
+        | GrammarFault::Foreign { line }
+        | GrammarFault::Syntax { line }
+        | GrammarFault::TokenLeft { line }
+        | GrammarFault::Undefined { line }
+        | GrammarFault::TwicePrecedence { line }
+        | GrammarFault::BadNumber { line }
+        | GrammarFault::BadStart { line }
+        | GrammarFault::Unproductive { line }
+        | GrammarFault::BadPrec { line }
+        | GrammarFault::Limit { line } => Some(line),
+    }
+}
+
+/// The code of a fault of a tokens file.
+fn token_code(fault: TokenFault) -> &'static [u8]
+    ensures { result.now ≡ token_code fault }
+{
+    match fault {
+        TokenFault::Unknown(_) => b"K1",
+        TokenFault::NotInput(_) => b"K2",
+        TokenFault::TooMany => b"K3",
+        TokenFault::Memory => b"no memory",
+        TokenFault::BadLiteral(_) => b"K5",
+    }
+}
+
+/// The place of the token of such a fault, where it has one.
+fn token_place(fault: TokenFault) -> Option<usize>
+    ensures { result ≡ token_place fault }
+{
+    match fault {
+        TokenFault::TooMany | TokenFault::Memory => None,
+        TokenFault::Unknown(place) | TokenFault::NotInput(place) | TokenFault::BadLiteral(place) =>
+            Some(place),
     }
 }

@@ -1,25 +1,24 @@
 //! What the programs do but for their exit.
 
-ghost use Rattle.std.specs.Prelude.{◌≡◌, IfOk, IfErr, map};
-ghost use Rattle.std.specs.declared.io.ErrorKind.{ErrorKind as IoKind};
-ghost use Rattle.ycli.specs.Link.{device_of};
+ghost use Rattle.std.specs.Prelude.{ℕ, List, Ok, IfOk, IfErr, map};
+ghost use Rattle.ytables.specs.Link.{device_of};
 ghost use Rattle.ycli.specs.Session.{machine_of, history_of};
-ghost use Rattle.ycli.specs.Programs.{Asks, Starts, FilesFail, EndsIn, Runs, of_unread};
+ghost use Rattle.ycli.specs.Reading.{TokensOf};
+ghost use Rattle.ycli.specs.Tokens.{Fits, symbols_of};
+ghost use Rattle.ycli.specs.Programs.{AreTablesOf, Asks, Starts, FilesFail, TokensFail, EndsIn, Runs};
 
 use crate::arguments::{YstepWords, ystep_words};
-use crate::link::Link;
-use crate::message::Trouble;
-use crate::put::put;
+use crate::files::{bytes_of, tables_of};
+use crate::message::{Program, Trouble};
 use crate::run::run_session;
 use crate::session::Session;
-use crate::thin::build_thin;
-use crate::tokens::read_tokens;
+use crate::tokens::{Tokens, read_tokens};
 use clap::error::ErrorKind;
 use std::alloc::Global;
-use std::fs;
 use std::io::{Read, Write};
 use std::rt::Files;
-use ygrammar::read_grammar;
+use ytables::put::put;
+use ytables::{Link, Tables};
 
 /// What the words of a program ask for.
 enum Request<'a> {
@@ -46,14 +45,18 @@ fn request_of<'a>(alloc: Global, words: &'a [&'a str]) -> Result<Request<'a>, Tr
     }
 }
 
-/// The bytes of a file.
-fn bytes_of<'a, F: Files + AllocGlobal>(rt: &F, path: &'a str) -> Result<Vec<u8>, Trouble<'a>>
-    ensures { IfErr result (λ trouble. (kind : IoKind) × (trouble ≡ of_unread kind path.entry)) }
+/// The tokens of a file.
+fn tokens_of<'a, F: Files + AllocGlobal>(
+    rt: &F,
+    tables: &Tables,
+    path: &'a str,
+) -> Result<Tokens, Trouble<'a>>
+    ensures tokens { IfOk result (λ tokens. (bytes : List ℕ) × TokensOf tables.now bytes (Ok (symbols_of tokens))) }
+    ensures fits { IfOk result (λ tokens. Fits tables.now (symbols_of tokens)) }
+    ensures fails { IfErr result (λ trouble. (source : List ℕ) → AreTablesOf source tables.now → TokensFail path.entry trouble) }
 {
-    match fs::read(rt, path) {
-        Ok(bytes) => Ok(bytes),
-        Err(error) => Err(Trouble::of_file(path, error)),
-    }
+    let bytes = bytes_of(rt, path, u64::MAX)?;
+    Ok(read_tokens(rt.alloc(), tables, &bytes)?)
 }
 
 /// A session over a grammar file and a tokens file, which is read only once the tables stand.
@@ -65,9 +68,8 @@ fn session_of<'a, F: Files + AllocGlobal>(
     ensures fails { IfErr result (FilesFail words.entry) }
 {
     let alloc = rt.alloc();
-    let grammar = read_grammar(alloc, &bytes_of(rt, words.grammar())?)?;
-    let tables = build_thin(alloc, grammar)?;
-    let tokens = read_tokens(alloc, &tables, &bytes_of(rt, words.tokens())?)?;
+    let tables = tables_of(rt, words.grammar())?;
+    let tokens = tokens_of(rt, &tables, words.tokens())?;
     Ok(Session::new(alloc, tables, tokens))
 }
 
@@ -113,7 +115,7 @@ pub fn ystep_run<'a, F: Files + AllocGlobal, R: Read, W: Write, E: Write>(
     match obey(rt, words, reader, writer) {
         Ok(()) => 0,
         Err(trouble) => {
-            let _ = trouble.put(errors);
+            let _ = trouble.put(errors, Program::Ystep);
             let _ = errors.flush();
             trouble.status()
         }

@@ -2,8 +2,8 @@
 
 ghost use Rattle.std.specs.Prelude.{◌≡◌, ◌≢◌, List, ℕ, length, is_some, Some, decimal, map, drop, ◌∷◌, ◌++◌, codes};
 ghost use Rattle.ycli.specs.declared.command.Command.TheVariants as commands;
-ghost use Rattle.ycli.specs.Link.{has_failed};
-ghost use Rattle.ycli.specs.Sends.{Sends};
+ghost use Rattle.ytables.specs.Link.{has_failed};
+ghost use Rattle.ytables.specs.Sends.{Sends};
 ghost use Rattle.ycli.specs.Serving.{chunk_failed};
 ghost use Rattle.ycli.specs.History.{position};
 ghost use Rattle.ycli.specs.Session.{machine_of, history_of};
@@ -11,13 +11,13 @@ ghost use Rattle.ycli.specs.View.{shown_by};
 ghost use Rattle.ycli.specs.Command.{command_of};
 ghost use Rattle.ycli.specs.Reply.{step_line, refusal, kind_word, kind_tail, mode_word, shown, spaced, shown_head, shown_stack, shown_rest, shown_counts, Answers, AnswersLine};
 
-use crate::cell::Sym;
 use crate::command::{Command, command_in};
-use crate::link::Link;
 use crate::machine::{AtStart, Mode, StepFault, StepKind};
-use crate::put::{put, put_all};
 use crate::session::Session;
 use std::io::Write;
+use ygrammar::Sym;
+use ytables::Link;
+use ytables::put::{put, put_all};
 
 /// The words of a step.
 fn kind_word(kind: StepKind) -> &'static [u8]

@@ -1,17 +1,17 @@
 //! A session from bytes to bytes: command lines in, replies out.
 
 ghost use Rattle.std.specs.Prelude.{◌≡◌, ◌<◌, ◌^◌, List, [], ℕ, length, take, Bool, true, false, is_some, IfSome, if◌then◌else◌};
-ghost use Rattle.ycli.specs.Link.{device_of, has_failed};
+ghost use Rattle.ytables.specs.Link.{device_of, has_failed};
 ghost use Rattle.ycli.specs.Session.{machine_of, history_of};
 ghost use Rattle.ycli.specs.Transcript.{Tells, failed_read, failed_write};
 ghost use Rattle.ycli.specs.Serving.{ChunkTells, ReadTells, Ends, chunk_failed, read_failed, write_failed};
 
 use crate::fault::SessionFault;
 use crate::held::Held;
-use crate::link::Link;
 use crate::reply::answer;
 use crate::session::Session;
 use std::io::{Read, Write};
+use ytables::Link;
 
 /// How many bytes are read at once.
 const CHUNK: usize = 4096;

@@ -5,16 +5,17 @@ ghost use Rattle.ycli.specs.History.{IsHistory};
 ghost use Rattle.ycli.specs.Snapshots.{history_from};
 ghost use Rattle.ycli.specs.MachineOver.{machine_over};
 
-use crate::cell::Sym;
 use crate::machine::{AtStart, Mode, StepFault, StepKind};
 use crate::snapshot::{Snapshot, Step, next_of};
-use crate::tables::Tables;
+use crate::tables::name_of;
 use crate::tokens::Tokens;
 use crate::view::View;
 use std::alloc::Global;
+use ygrammar::Sym;
+use ytables::Tables;
 
 /// How many steps may stand.
-pub const MAX_POSITION: usize = 1_000_000;
+pub(crate) const MAX_POSITION: usize = 1_000_000;
 
 /// The configuration of a parse now, and each one before it.
 #[derive(Drop)]
@@ -101,7 +102,7 @@ impl Session {
     pub fn name(&self, symbol: Sym) -> &[u8]
         ensures { result.now ≡ (machine_of self.now).name symbol }
     {
-        self.tables.name(symbol)
+        name_of(&self.tables, symbol)
     }
 
     /// The configuration now.

@@ -7,10 +7,11 @@ ghost use Rattle.ycli.specs.History.{first_configuration};
 ghost use Rattle.ycli.specs.Snapshots.{configuration_of};
 ghost use Rattle.ycli.specs.MachineOver.{machine_over};
 
-use crate::cell::{Action, Sym};
 use crate::machine::{Mode, StepKind};
-use crate::tables::Tables;
+use crate::tables::{cell_after, leads, rule_of};
 use std::alloc::{AllocError, Global};
+use ygrammar::Sym;
+use ytables::{Action, Tables};
 
 /// A configuration: the symbols from the bottom, how many tokens are gone, the recovery counter, the errors
 /// reported, the mode.
@@ -93,10 +94,10 @@ fn reduce(
 ) -> Result<(StepKind, Snapshot), AllocError>
     ensures { (tokens : List ℕ) → IfOk result (λ found. reduced (machine_over tables.now) (configuration_of tokens now.now) number ≡ (found.0, configuration_of tokens found.1)) }
 {
-    let (left, body) = tables.rule(number);
+    let (left, body) = rule_of(tables, number);
     let kept = now.stack.len().saturating_sub(body.len());
     let on_top = &now.stack[kept..] == body;
-    if !on_top || !tables.leads(&now.stack[..kept], left) {
+    if !on_top || !leads(tables, &now.stack[..kept], left) {
         return Ok((StepKind::Fail, now.in_mode(Mode::Failed)?));
     }
     let mut made = now.lowest(kept)?;
@@ -131,6 +132,6 @@ pub(crate) fn next_of(
     ensures { IfOk result (λ found. next (machine_over tables.now) (configuration_of tokens.now now.now) ≡ Some (found.0, configuration_of tokens.now found.1)) }
 {
     let token = tokens.get(now.at).copied().unwrap_or(0);
-    let cell = tables.cell_after(&now.stack, token);
+    let cell = cell_after(tables, &now.stack, token);
     act(tables, tokens, now, cell)
 }

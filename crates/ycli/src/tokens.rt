@@ -7,11 +7,12 @@ ghost use Rattle.ycli.specs.Tokens.{Fits, symbols_of};
 ghost use Rattle.ycli.specs.TokensFile.{named, Comes};
 ghost use Rattle.ycli.specs.Reading.{Gives, Agrees, TokensOf, next_view};
 
-use crate::cell::Sym;
-use crate::tables::Tables;
+use crate::tables::{find, find_literal, is_input};
 use crate::words::{Front, front_of};
 use std::alloc::{AllocFailed, Global};
 use thiserror::Error;
+use ygrammar::Sym;
+use ytables::Tables;
 
 /// The most tokens of an input.
 const MAX_TOKENS: usize = 1_000_000;
@@ -79,7 +80,7 @@ impl Tokens {
     pub fn fits(&self, tables: &Tables) -> bool
         ensures { IsTrue result ↔ Fits tables.now (symbols_of self.now) }
     {
-        self.symbols.iter().all(|symbol| tables.is_input(*symbol))
+        self.symbols.iter().all(|symbol| is_input(tables, *symbol))
     }
 }
 
@@ -100,7 +101,7 @@ fn named<'a>(tables: &Tables, found: Option<Sym>, place: usize, after: &'a [u8])
 {
     match found {
         None => Next::Fault(TokenFault::Unknown(place)),
-        Some(symbol) if tables.is_input(symbol) => Next::Token(symbol, after),
+        Some(symbol) if is_input(tables, symbol) => Next::Token(symbol, after),
         Some(_) => Next::Fault(TokenFault::NotInput(place)),
     }
 }
@@ -115,10 +116,10 @@ fn next_in<'a>(tables: &Tables, read: usize, bytes: &'a [u8]) -> Next<'a>
         Front::Broken if read == MAX_TOKENS => Next::Fault(TokenFault::TooMany),
         Front::Broken => Next::Fault(TokenFault::BadLiteral(read + 1)),
         Front::Word(_, _) if read == MAX_TOKENS => Next::Fault(TokenFault::TooMany),
-        Front::Word(name, after) => named(tables, tables.find(name), read + 1, after),
+        Front::Word(name, after) => named(tables, find(tables, name), read + 1, after),
         Front::Literal(_, _) if read == MAX_TOKENS => Next::Fault(TokenFault::TooMany),
         Front::Literal(value, after) => {
-            named(tables, tables.find_literal(value), read + 1, after)
+            named(tables, find_literal(tables, value), read + 1, after)
         }
     }
 }

@@ -4,9 +4,9 @@ ghost use Rattle.std.specs.Prelude.{◌≡◌, ◌<◌, length, slice_index, sli
 ghost use Rattle.ycli.specs.View.{shown_by};
 ghost use Rattle.ycli.specs.Snapshots.{configuration_of};
 
-use crate::cell::Sym;
 use crate::machine::Mode;
 use crate::snapshot::Snapshot;
+use ygrammar::Sym;
 
 /// A configuration: its stack, the tokens left, the recovery counter, the errors reported, the mode.
 #[derive(Clone, Copy)]

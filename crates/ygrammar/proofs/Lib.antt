@@ -25,6 +25,7 @@ pub mod OwnTables
 pub mod MistakeSteps
 pub mod SymbolNames
 pub mod Wellness
+pub mod LastTokens
 pub mod OneMeaning
 pub mod MarkingSteps
 pub mod FilingSteps
@@ -33,6 +34,8 @@ pub mod DotSteps
 pub mod DrainSteps
 pub mod ReachableSteps
 pub mod ElaborationSteps
+pub mod Once
 pub mod MeaningSteps
 pub mod ReaderSteps
 pub mod SpanSteps
+pub mod InnerSteps

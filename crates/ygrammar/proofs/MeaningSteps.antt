@@ -8,7 +8,7 @@ use Rattle.ygrammar.specs.declared.mistake.Refused.{Refused}
 use Rattle.ygrammar.specs.declared.mistake.Refused.TheVariants as refused
 use Rattle.ygrammar.specs.declared.precedence.Precedence.{Precedence}
 use Rattle.ygrammar.specs.Elaborated.{Fruitful, IsReady}
-use Rattle.ygrammar.specs.Elaboration.{Rule, bare_of, first_rule, lefts, numbered, own_number, precedence_of as precedence_of_name, rule_precedence, rules, rules_from, starts, symbols, token_precedences, tokens}
+use Rattle.ygrammar.specs.Elaboration.{HavePrecedences, Rule, bare_of, first_rule, lefts, numbered, own_number, precedence_of as precedence_of_name, rules, rules_from, starts, symbols, token_precedences, tokens}
 use Rattle.ygrammar.specs.Forms.{IsReachable, Productive}
 use Rattle.ygrammar.specs.Grammar.{ContextFree, Production, RuleValue, blank, precedence_of, production_of}
 use Rattle.ygrammar.specs.Marking.{AreIn, RuleIn, numbered_grammar, rule_at}
@@ -16,12 +16,14 @@ use Rattle.ygrammar.specs.Meaning.{IsMeaning}
 use Rattle.ygrammar.specs.Mistakes.{Holds}
 use Rattle.ygrammar.specs.Names.{Name}
 use Rattle.ygrammar.specs.NameTexts.{texts, value_of}
-use Rattle.ygrammar.specs.Numbered.{rule_numbers}
+use Rattle.ygrammar.specs.Numbered.{rule_numbers, rule_precedence}
 use Rattle.ygrammar.specs.Numbers.{AreNumbers}
 use Rattle.ygrammar.specs.Owned.{Refuses}
 use Rattle.ygrammar.specs.Spans.{rule_text}
 use Rattle.ygrammar.specs.Tree.{Clause, Identifier, IsTree, Tree}
-use Rattle.ygrammar.specs.WellFormed.{IsWhole, WellFormed}
+use Rattle.ygrammar.specs.WellFormed.{IsWhole, StandOnce, WellFormed}
+use Rattle.ygrammar.proofs.LastTokens.{have_precedences}
+use Rattle.ygrammar.proofs.Once.{end_name, error_name, numbers_once, symbols_once}
 use Rattle.ygrammar.proofs.Wellness.{in_range}
 
 rules_bare : (ns : List Name) (given : List (Option Precedence)) (rs : List Rule) → map production_of (map (rule_numbers ns given) rs) ≡ map (numbered ns) rs
@@ -71,15 +73,19 @@ rules_are t ns given is ls cs vs a b c d e h =
     ∙ ap (λ (x : List Clause). map (rule_numbers (symbols t) (token_precedences t)) (first_rule (starts t) (lefts t) ∷ rules_from [] 1 x)) e
 
 -- the lists of a grammar have each number
-pub whole_of : (t : Tree) (n : Named) (vs : List RuleValue) (ts : List (Option (List ℕ))) (numbers : List ℕ) (marks : List Bool) → IsReady t n vs ts → length numbers ≡ length n.own.numbers.items → length marks ≡ length (texts n.names) → IsWhole (value_of n.names n.tokens numbers n.given.items vs ts marks)
+pub whole_of : (t : Tree) (n : Named) (vs : List RuleValue) (ts : List (Option (List ℕ))) (numbers : List ℕ) (marks : List Bool) → IsReady t n vs ts → AreNumbers n.own.numbers.items numbers → length marks ≡ length (texts n.names) → IsWhole (value_of n.names n.tokens numbers n.given.items vs ts marks)
 whole_of t n vs ts numbers marks r a b = record {
   bare = subst WellFormed (sym (bare_same t n.tokens (length (texts n.names)) vs r.named.tokens_first (ap (λ (x : List Name). length x) r.named.names) r.numbered)) r.well_formed;
   names = refl;
-  numbers = a ∙ ap (λ (x : List (Option ℕ)). length x) r.named.own.numbers ∙ length-map (tokens t) (own_number t) ∙ sym r.named.tokens_first;
+  numbers = a.each ∙ ap (λ (x : List (Option ℕ)). length x) r.named.own.numbers ∙ length-map (tokens t) (own_number t) ∙ sym r.named.tokens_first;
   token_precedences = ap (λ (x : List (Option Precedence)). length x) r.named.given ∙ length-map (tokens t) (precedence_of_name t) ∙ sym r.named.tokens_first;
   rule_precedences = length-map vs precedence_of ∙ sym (length-map vs production_of);
   texts = ap (λ (x : List (Option (List ℕ))). length x) r.texts ∙ length-map (rules t) rule_text ∙ sym (length-map (rules t) (rule_numbers (symbols t) (token_precedences t))) ∙ ap (λ (x : List RuleValue). length x) (sym r.numbered) ∙ sym (length-map vs production_of);
   reachable = b;
+  end = ap (λ (x : List Name). get_or x 0 []) r.named.names ∙ end_name t;
+  error = ap (λ (x : List Name). get_or x 1 []) r.named.names ∙ error_name t;
+  names_once = subst StandOnce (sym r.named.names) (symbols_once t);
+  numbers_once = numbers_once t n.own.numbers.items numbers r.sound r.named.own.numbers a;
 }
 
 -- the parts are the meaning of the tree
@@ -93,7 +99,7 @@ meaning_of t n vs ws ts numbers marks k r a b e w h =
       names = r.named.names;
       numbers = subst (λ (x : List (Option ℕ)). AreNumbers x numbers) r.named.own.numbers a;
       precedences = r.named.given;
-      of_rules = ap (λ (x : List RuleValue). map precedence_of x) r.numbered ∙ rules_chosen (symbols t) (token_precedences t) (rules t);
+      of_rules = subst (HavePrecedences (symbols t) (token_precedences t) (rules t)) (sym (ap (λ (x : List RuleValue). map precedence_of x) r.numbered ∙ rules_chosen (symbols t) (token_precedences t) (rules t))) (have_precedences (symbols t) (token_precedences t) (rules t));
       texts = r.texts;
       reachable = record {
         each = b ∙ l;

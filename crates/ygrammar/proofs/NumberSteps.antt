@@ -12,7 +12,7 @@ pub record Marking (count : ℕ) (own : List (Option ℕ)) (marks : List Bool) (
   pub exact : (m : ℕ) → (get_or marks m false ≡ true) ↔ ((j : ℕ) × (j < i) × (slice_get own j ≡ Some (Some m)))
   pub apart : (a b m : ℕ) → a < b → b < i → slice_get own a ≡ Some (Some m) → slice_get own b ≡ Some (Some m) → ⊥
 
-some_one : {a b : ℕ} → (x y : Option ℕ) → x ≡ Some a → y ≡ Some b → x ≡ y → a ≡ b
+pub some_one : {a b : ℕ} → (x y : Option ℕ) → x ≡ Some a → y ≡ Some b → x ≡ y → a ≡ b
 some_one {a = a} {b = b} x y e f h = ap (λ (o : Option ℕ). elim o [ None ↦ a | Some n ↦ n ]) (sym e ∙ h ∙ f)
 
 one_number : (own : List (Option ℕ)) (i a b : ℕ) → slice_get own i ≡ Some (Some a) → slice_get own i ≡ Some (Some b) → a ≡ b

@@ -4,13 +4,14 @@ use Rattle.std.specs.List.{slice_get}
 use Rattle.std.proofs.lemmas.Bool.{cases_order}
 use Rattle.ygrammar.specs.declared.mistake.Mistake.{Mistake}
 use Rattle.ygrammar.specs.declared.precedence.Precedence.{Precedence}
-use Rattle.ygrammar.specs.Elaboration.{bare_of, own_numbers, symbols}
+use Rattle.ygrammar.specs.Elaboration.{bare_of, own_numbers, rules, symbols, token_precedences}
 use Rattle.ygrammar.specs.Forms.{IsReachable}
 use Rattle.ygrammar.specs.Grammar.{ContextFree, GrammarValue}
 use Rattle.ygrammar.specs.Meaning.{IsMeaning}
 use Rattle.ygrammar.specs.Mistakes.{HasNone, Holds, IsFirst}
 use Rattle.ygrammar.specs.Numbers.{AreNumbers, IsLeast, IsOwn}
 use Rattle.ygrammar.specs.Tree.{Tree}
+use Rattle.ygrammar.proofs.LastTokens.{one_precedences}
 
 -- ---- lists
 
@@ -108,7 +109,7 @@ same_value g h a b c d e f i =
 
 -- a tree means one grammar
 pub one_meaning : (t : Tree) (g h : GrammarValue) → IsMeaning t g → IsMeaning t h → g ≡ h
-one_meaning t g h x y = same_value g h (x.bare ∙ sym y.bare) (x.names ∙ sym y.names) (one_numbers (own_numbers t) g.numbers h.numbers x.numbers y.numbers) (x.precedences ∙ sym y.precedences) (x.of_rules ∙ sym y.of_rules) (x.texts ∙ sym y.texts) (one_marks (IsReachable (bare_of t)) (length (symbols t)) g.reachable h.reachable x.reachable.each y.reachable.each x.reachable.exact y.reachable.exact)
+one_meaning t g h x y = same_value g h (x.bare ∙ sym y.bare) (x.names ∙ sym y.names) (one_numbers (own_numbers t) g.numbers h.numbers x.numbers y.numbers) (x.precedences ∙ sym y.precedences) (one_precedences (symbols t) (token_precedences t) (rules t) g.rule_precedences x.of_rules ∙ sym (one_precedences (symbols t) (token_precedences t) (rules t) h.rule_precedences y.of_rules)) (x.texts ∙ sym y.texts) (one_marks (IsReachable (bare_of t)) (length (symbols t)) g.reachable h.reachable x.reachable.each y.reachable.each x.reachable.exact y.reachable.exact)
 
 -- ---- the first mistake
 

@@ -11,9 +11,9 @@ use Rattle.ygrammar.specs.declared.mistake.Refused.{Refused}
 use Rattle.ygrammar.specs.declared.mistake.Refused.TheVariants as refused
 use Rattle.ygrammar.specs.Cuttings.{Refusal}
 use Rattle.ygrammar.specs.Elaborated.{IsFirstRefused}
-use Rattle.ygrammar.specs.Faults.{IsRefusal, line_of, mistake_at, of_syntax}
+use Rattle.ygrammar.specs.Faults.{IsRefusal, line_of, of_syntax}
 use Rattle.ygrammar.specs.Grammar.{GrammarValue}
-use Rattle.ygrammar.specs.GrammarOf.{AnswersGrammar, AnswersMistake, AnswersRefusal, HasTree, IsFaultOf, IsMistaken}
+use Rattle.ygrammar.specs.GrammarOf.{AnswersGrammar, AnswersMistake, AnswersRefusal, HasTree, IsFaultOf, IsMistaken, mistake_at}
 use Rattle.ygrammar.specs.Lexemes.{Lexeme}
 use Rattle.ygrammar.specs.Meaning.{IsMeaning}
 use Rattle.ygrammar.specs.Mistakes.{IsFirst, order}

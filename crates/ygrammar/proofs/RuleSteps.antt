@@ -6,10 +6,10 @@ use Rattle.ygrammar.specs.declared.tree.Item.TheVariants as items
 use Rattle.ygrammar.specs.declared.tree.Mention.{Mention}
 use Rattle.ygrammar.specs.Tree.{Item, symbol, action, Identifier, Clause}
 use Rattle.ygrammar.specs.TreeViews.{item_view, mention_view, text_view}
-use Rattle.ygrammar.specs.Elaboration.{split_last, final_of, Body, Rule, body_from, chosen_token, inner_rule, or_else, precedence_at, rule_precedence, rules_from}
+use Rattle.ygrammar.specs.Elaboration.{split_last, final_of, Body, Rule, body_from, inner_rule, or_else, precedence_at, rules_from}
 use Rattle.ygrammar.specs.declared.precedence.Precedence.{Precedence}
 use Rattle.ygrammar.specs.Names.{Name, number_in}
-use Rattle.ygrammar.specs.Numbered.{inner_numbers, rule_numbers}
+use Rattle.ygrammar.specs.Numbered.{chosen_token, inner_numbers, rule_numbers, rule_precedence}
 use Rattle.ygrammar.specs.Grammar.{RuleValue}
 
 last_action : (xs : List Item) (t : List ℕ) → split_last (xs ++ action t ∷ []) ≡ (xs, Some t)

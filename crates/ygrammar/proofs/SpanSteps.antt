@@ -22,11 +22,11 @@ use Rattle.ygrammar.specs.Views.{lexeme_view}
 
 -- ---- the kept texts of a rule of the file
 
-abbrev item_text : Item → List (List ℕ)
+abbrev pub item_text : Item → List (List ℕ)
 item_text (symbol i) = []
 item_text (action t) = t ∷ []
 
-abbrev clause_texts : Clause → List (List ℕ)
+abbrev pub clause_texts : Clause → List (List ℕ)
 clause_texts c = flat_map item_text c.body ++ option_list c.last
 
 identifier_none : (i : Identifier) → kept_text (identifier_yield i) ≡ []
@@ -62,7 +62,7 @@ yield_texts c =
     ∙ ap (λ (x : List (List ℕ)). x ++ kept_texts (end_yield c.prec c.last c.semicolons)) (body_texts c.body)
     ∙ ap (λ (x : List (List ℕ)). flat_map item_text c.body ++ x) (end_texts c.prec c.last c.semicolons)
 
-clauses_texts : (cs : List Clause) (b : Bool) → kept_texts (flat_map clause_yield cs ++ mark_yield b) ≡ flat_map clause_texts cs
+pub clauses_texts : (cs : List Clause) (b : Bool) → kept_texts (flat_map clause_yield cs ++ mark_yield b) ≡ flat_map clause_texts cs
 clauses_texts [] true = refl
 clauses_texts [] false = refl
 clauses_texts (c ∷ cs) b =
@@ -85,7 +85,7 @@ split_texts (action t ∷ []) = refl
 split_texts (symbol i ∷ j ∷ is) = split_texts (j ∷ is)
 split_texts (action t ∷ j ∷ is) = ap (λ (x : List (List ℕ)). t ∷ x) (split_texts (j ∷ is))
 
-final_texts : (last : Option (List ℕ)) (is : List Item) → flat_map item_text (final_of last is).0 ++ option_list (final_of last is).1 ≡ flat_map item_text is ++ option_list last
+pub final_texts : (last : Option (List ℕ)) (is : List Item) → flat_map item_text (final_of last is).0 ++ option_list (final_of last is).1 ≡ flat_map item_text is ++ option_list last
 final_texts (Some t) is = refl
 final_texts None is = split_texts is ∙ sym (append-nil (flat_map item_text is))
 

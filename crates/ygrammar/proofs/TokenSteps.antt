@@ -6,8 +6,7 @@ use Rattle.std.specs.Cmp.Lexicographic.{same_text}
 use Rattle.std.proofs.lemmas.List.{length-map, map-append}
 use Rattle.std.proofs.lemmas.List.Folds.{list_any-append}
 use Rattle.ygrammar.specs.Elaboration.{Listing, appearances, declared, is_literal, is_token, level_at, given_by, listed_name, listing_of, listings, listings_from, option_list, said_of, token_names_of, tokens, uses, who_of}
-use Rattle.ygrammar.specs.Names.{Name, is_among, noted, noted_all, number_in, printed}
-use Rattle.ygrammar.specs.NameTexts.{find_in}
+use Rattle.ygrammar.specs.Names.{Name, find_in, is_among, noted, noted_all, number_in, printed}
 use Rattle.ygrammar.specs.Tree.{Definition, Entry, Identifier, Tree, start, union, block, listing, types}
 use Rattle.ygrammar.proofs.NameSteps.{among_all, eq_self}
 use Rattle.ygrammar.proofs.TellingSteps.{false_true}

@@ -57,8 +57,8 @@ end_first x y =
     let b = noted_behind (noted_all (codes "$end" ∷ codes "error" ∷ []) x) y in
     ap (λ (ns : List Name). number_in ns (codes "$end")) (b.1 ∙ ap (λ (ns : List Name). ns ++ b.0) a.1)
 
-some_tokens : (x : List Name) → 0 < length (noted_all (codes "$end" ∷ codes "error" ∷ []) x)
-some_tokens x = let a = noted_length (codes "$end" ∷ codes "error" ∷ []) x in let two : 2 ≤ length (noted_all (codes "$end" ∷ codes "error" ∷ []) x) = a in omega arith
+two_tokens : (x : List Name) → 1 < length (noted_all (codes "$end" ∷ codes "error" ∷ []) x)
+two_tokens x = let a = noted_length (codes "$end" ∷ codes "error" ∷ []) x in let two : 2 ≤ length (noted_all (codes "$end" ∷ codes "error" ∷ []) x) = a in omega arith
 
 -- the names and literals that are tokens, as they appear
 abbrev appeared : Tree → List Name
@@ -296,7 +296,7 @@ grammar_of k ns first rs = record { tokens = k; symbols = length ns; rules = map
 
 -- What is known of the names of a grammar's rules.
 record Known (k : ℕ) (ns : List Name) (first : Name) (rs : List Rule) : Type 0 where
-  ends : 0 < k
+  recovers : 1 < k
   within : k ≤ length ns
   zeroth : number_in ns (codes "$end") ≡ 0
   lefts_in : AllByRecursion (λ r. Member ns r.left) (opening first ∷ rs)
@@ -321,7 +321,8 @@ both ns body Q f a b = All-from_recursion Q (map (number_in ns) body) (each_to_m
 
 known_well : (k : ℕ) (ns : List Name) (first : Name) (rs : List Rule) → Known k ns first rs → ((s : ℕ) → k ≤ s → s < length ns → Productive (grammar_of k ns first rs) s) → WellFormed (grammar_of k ns first rs)
 known_well k ns first rs h p = record {
-  ends = h.ends;
+  ends = let two : 1 < k = h.recovers in omega arith;
+  recovers = h.recovers;
   within = h.within;
   some = omega arith;
   left = λ r l. (rule_each ns all (InRange (length ns)) (rules_range ns all h.lefts_in h.bodies_in) r l).left;
@@ -376,7 +377,7 @@ well_formed_of t s n h p = known_well (length (tokens t)) (symbols t) (start_sym
 
     known : Known (length (tokens t)) (symbols t) (start_symbol (starts t) (lefts t)) (rules_from [] 1 t.clauses)
     known = record {
-      ends = some_tokens (appeared t);
+      recovers = two_tokens (appeared t);
       within = tokens_within t;
       zeroth = end_number t;
       lefts_in = lefts_among t;

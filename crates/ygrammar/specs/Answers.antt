@@ -11,7 +11,8 @@ use Rattle.ygrammar.specs.declared.part.LexicalFault.TheVariants as lexical
 use Rattle.ygrammar.specs.declared.fault.SyntaxFault.{SyntaxFault}
 use Rattle.ygrammar.specs.declared.fault.SyntaxFault.TheVariants as faults
 use Rattle.ygrammar.specs.Lexemes.{Lexeme}
-use Rattle.ygrammar.specs.Cuttings.{kinds, lexeme, PartAt, ComesTo, unfinished, bad_literal, foreign, syntax, refusal, Refusal, Outcome}
+use Rattle.ygrammar.specs.Cuttings.{kinds, lexeme, PartAt, ComesTo, unfinished, bad_literal}
+use Rattle.ygrammar.specs.Cuttings.{foreign, syntax, refusal, Refusal, Outcome}
 use Rattle.ygrammar.specs.Views.{lexeme_view}
 
 abbrev pub fault_at : LexicalFault → ℕ → SyntaxFault
@@ -48,7 +49,8 @@ Gives bytes (Err e) = Fails e bytes
 
 -- the part at the place of a lexeme is that lexeme
 abbrev pub StandsIn : List ℕ → Placed → Type 0
-StandsIn source p = (rest : List ℕ) × PartAt (drop p.at source) (lexeme (lexeme_view p.lexeme)) rest
+StandsIn source p = (rest : List ℕ)
+    × PartAt (drop p.at source) (lexeme (lexeme_view p.lexeme)) rest
 
 -- reading has come to the rest, in this state
 pub record Comes (bytes : List ℕ) (ls : List Placed) (rest : List ℕ) (state : State) : Type 0 where

@@ -1,5 +1,7 @@
--- Bytes of a grammar file, blanks and comments (POSIX.1-2017, yacc, Lexical Structure of the Grammar).
-use Rattle.std.specs.Prelude.{ℕ, ◌≡◌, Bool, true, false, ◌&&◌, ◌||◌, ◌==◌, nat_le, List, [], ◌∷◌, ◌++◌}
+-- Bytes of a grammar file, blanks and comments (POSIX.1-2017, yacc, Lexical Structure of the
+-- Grammar).
+use Rattle.std.specs.Prelude.{ℕ, ◌≡◌, Bool, true, false, ◌&&◌, ◌||◌, ◌==◌, nat_le, List, [], ◌∷◌}
+use Rattle.std.specs.Prelude.{◌++◌}
 
 abbrev pub is_blank : ℕ → Bool
 is_blank b = b == 32 || b == 9 || b == 10 || b == 13 || b == 12
@@ -9,7 +11,8 @@ is_digit b = nat_le 48 b && nat_le b 57
 
 -- a letter, a period or an underscore
 abbrev pub is_name_start : ℕ → Bool
-is_name_start b = (nat_le 65 b && nat_le b 90) || (nat_le 97 b && nat_le b 122) || b == 46 || b == 95
+is_name_start b = (nat_le 65 b && nat_le b 90) || (nat_le 97 b && nat_le b 122) || b == 46
+    || b == 95
 
 abbrev pub is_name_byte : ℕ → Bool
 is_name_byte b = is_name_start b || is_digit b

@@ -1,5 +1,7 @@
--- A file cut into blanks, comments and lexemes, each lexeme as long as it can be (Aho, Sethi and Ullman, section 3.5: the longest match).
-use Rattle.std.specs.Prelude.{ℕ, suc, count_by, ◌≡◌, ◌≤◌, ◌<◌, Result, Ok, Err, ◌+◌, Bool, true, false, cond, ◌==◌, List, [], ◌∷◌, ◌++◌, length, map, ◌⊎◌, codes}
+-- A file cut into blanks, comments and lexemes, each lexeme as long as it can be (Aho, Sethi and
+-- Ullman, section 3.5: the longest match).
+use Rattle.std.specs.Prelude.{ℕ, suc, count_by, ◌≡◌, ◌≤◌, ◌<◌, Result, Ok, Err, ◌+◌, Bool, true}
+use Rattle.std.specs.Prelude.{false, cond, ◌==◌, List, [], ◌∷◌, ◌++◌, length, map, ◌⊎◌, codes}
 use Rattle.ygrammar.specs.declared.kind.Kind.{Kind}
 use Rattle.ygrammar.specs.declared.kind.Kind.TheVariants as kind
 use Rattle.ygrammar.specs.declared.kind.Sign.TheVariants as sign
@@ -24,18 +26,22 @@ pub record IsPercentWord (text : List ℕ) : Type 0 where
   pub whole : text ≡ 37 ∷ word
   pub each : all_pass is_name_byte word ≡ true
 
--- The part at the front of the bytes, and what follows it. No lexeme, and no percent word, could be taken longer.
+-- The part at the front of the bytes, and what follows it. No lexeme, and no percent word, could
+-- be taken longer.
 pub record PartAt (bytes : List ℕ) (part : Part) (rest : List ℕ) : Type 0 where
   pub text : List ℕ
   pub whole : bytes ≡ text ++ rest
   pub spelled : IsPart part text
-  pub longest : (l : Lexeme) (longer after : List ℕ) → bytes ≡ longer ++ after → Spells l longer → length longer ≤ length text
-  pub longest_word : (longer after : List ℕ) → bytes ≡ longer ++ after → IsPercentWord longer → length longer ≤ length text
+  pub longest : (l : Lexeme) (longer after : List ℕ) → bytes ≡ longer ++ after → Spells l longer →
+      length longer ≤ length text
+  pub longest_word : (longer after : List ℕ) → bytes ≡ longer ++ after → IsPercentWord longer →
+      length longer ≤ length text
 
 -- the front of the bytes is cut into these parts
 abbrev pub Cuts : List ℕ → List Part → List ℕ → Type 0
 Cuts bytes [] rest = bytes ≡ rest
-Cuts bytes (part ∷ parts) rest = (middle : List ℕ) × PartAt bytes part middle × Cuts middle parts rest
+Cuts bytes (part ∷ parts) rest = (middle : List ℕ) × PartAt bytes part middle
+    × Cuts middle parts rest
 
 -- the lexemes among the parts
 abbrev pub lexemes : List Part → List Lexeme
@@ -57,7 +63,8 @@ abbrev pub marks : List Lexeme → ℕ
 marks [] = 0
 marks (l ∷ ls) = cond (is_mark (kind_of l)) (suc (marks ls)) (marks ls)
 
--- A place that reading comes to: these lexemes stand before it, and fewer than two of them are marks.
+-- A place that reading comes to: these lexemes stand before it, and fewer than two of them are
+-- marks.
 pub record ComesTo (bytes : List ℕ) (ls : List Lexeme) (rest : List ℕ) : Type 0 where
   pub parts : List Part
   pub cut : Cuts bytes parts rest
@@ -67,7 +74,8 @@ pub record ComesTo (bytes : List ℕ) (ls : List Lexeme) (rest : List ℕ) : Typ
 -- the whole file is cut, or the file up to and with its second mark
 pub data IsCut (bytes : List ℕ) : List Lexeme → Type 0 where
   at_end : {ls : List Lexeme} → ComesTo bytes ls [] → IsCut bytes ls
-  at_mark : {ls : List Lexeme} {before rest : List ℕ} → ComesTo bytes ls before → marks ls ≡ 1 → PartAt before (lexeme (fixed sign.Mark)) rest → IsCut bytes (ls ++ fixed sign.Mark ∷ [])
+  at_mark : {ls : List Lexeme} {before rest : List ℕ} → ComesTo bytes ls before → marks ls ≡ 1 →
+      PartAt before (lexeme (fixed sign.Mark)) rest → IsCut bytes (ls ++ fixed sign.Mark ∷ [])
 
 -- the file spells the syntax of these lexemes
 pub record SpellsSyntax (bytes : List ℕ) (ls : List Lexeme) : Type 0 where
@@ -123,12 +131,16 @@ pub record IsLine (bytes rest : List ℕ) (line : ℕ) : Type 0 where
   pub counted : line ≡ newlines before + 1
 
 -- Why reading stops behind these lexemes, and with which outcome.
-pub data Stops (ls : List Lexeme) (rest : List ℕ) (line : ℕ) : Result (List Lexeme) Refusal → Type 0 where
+pub data Stops (ls : List Lexeme) (rest : List ℕ) (line : ℕ) : Result (List Lexeme) Refusal →
+    Type 0 where
   ended : rest ≡ [] → IsSpec (kinds ls) → Stops ls rest line (Ok ls)
-  marked : {after : List ℕ} → PartAt rest (lexeme (fixed sign.Mark)) after → marks ls ≡ 1 → IsSpec (kinds (ls ++ fixed sign.Mark ∷ [])) → Stops ls rest line (Ok (ls ++ fixed sign.Mark ∷ []))
+  marked : {after : List ℕ} → PartAt rest (lexeme (fixed sign.Mark)) after → marks ls ≡ 1 →
+      IsSpec (kinds (ls ++ fixed sign.Mark ∷ [])) →
+      Stops ls rest line (Ok (ls ++ fixed sign.Mark ∷ []))
   lexical : {fault : Fault} → FaultAt rest fault → Stops ls rest line (Err (refusal fault line))
   -- with the lexeme there they begin no grammar file
-  stray : {l : Lexeme} {after : List ℕ} → PartAt rest (lexeme l) after → (BeginsSpec (kinds (ls ++ l ∷ [])) → ⊥) → Stops ls rest line (Err (refusal syntax line))
+  stray : {l : Lexeme} {after : List ℕ} → PartAt rest (lexeme l) after →
+      (BeginsSpec (kinds (ls ++ l ∷ [])) → ⊥) → Stops ls rest line (Err (refusal syntax line))
   -- the file ends too early
   early : rest ≡ [] → (IsSpec (kinds ls) → ⊥) → Stops ls rest line (Err (refusal syntax line))
 

@@ -1,7 +1,8 @@
 -- What elaboration gives: the grammar that a tree means, or its first mistake.
 use Rattle.std.specs.Prelude.{ℕ, ◌≡◌, ◌<◌, ◌≤◌, List, length, map, Option, Result, Ok, Err}
 use Rattle.ygrammar.specs.declared.elaboration.Named.{Named}
-use Rattle.ygrammar.specs.declared.mistake.Mistake.TheVariants.{TokenLeft, Undefined, TwicePrecedence, Unproductive}
+use Rattle.ygrammar.specs.declared.mistake.Mistake.TheVariants.{TokenLeft, Undefined}
+use Rattle.ygrammar.specs.declared.mistake.Mistake.TheVariants.{TwicePrecedence, Unproductive}
 use Rattle.ygrammar.specs.declared.mistake.Refused.{Refused}
 use Rattle.ygrammar.specs.declared.mistake.Refused.TheVariants as refused
 use Rattle.ygrammar.specs.Elaboration.{bare_of, rules, symbols, token_precedences, tokens}
@@ -44,11 +45,13 @@ Elaborates t (Err e) = IsFirstRefused t e
 -- every nonterminal of the grammar derives a list of tokens, or one that does not is the mistake
 abbrev pub Fruitful : {A : Type 0} → ContextFree → Result A Refused → Type 0
 Fruitful g (Ok v) = (s : ℕ) → g.tokens ≤ s → s < g.symbols → Productive g s
-Fruitful g (Err (refused.Mistake what at)) = (what ≡ Unproductive) × ((s : ℕ) × (g.tokens ≤ s) × (s < g.symbols) × (Productive g s → ⊥))
+Fruitful g (Err (refused.Mistake what at)) = (what ≡ Unproductive)
+    × ((s : ℕ) × (g.tokens ≤ s) × (s < g.symbols) × (Productive g s → ⊥))
 Fruitful g (Err refused.Memory) = Unit {0}
 
 -- The rules are numbered and have their texts, and no mistake stands in the tree.
-pub record IsReady (t : Tree) (n : Named) (vs : List RuleValue) (ts : List (Option (List ℕ))) : Type 0 where
+pub record IsReady (t : Tree) (n : Named) (vs : List RuleValue) (ts : List (Option (List ℕ))) :
+    Type 0 where
   pub named : AreNamed t n
   pub numbered : vs ≡ map (rule_numbers (symbols t) (token_precedences t)) (rules t)
   pub texts : ts ≡ map rule_text (rules t)

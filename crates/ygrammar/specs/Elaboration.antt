@@ -1,12 +1,17 @@
--- What a grammar file means: its symbols, its rules and their precedences (POSIX yacc, "Declarations Section" and "Grammar Rules in yacc").
-use Rattle.std.specs.Prelude.{ℕ, suc, nat_lt, fold, slice_index_or, Bool, true, false, List, [], ◌∷◌, ◌++◌, length, map, filter, Option, Some, None, codes, if◌then◌else◌}
-use Rattle.std.specs.List.{flat_map}
+-- What a grammar file means: its symbols, its rules and their precedences (POSIX yacc,
+-- "Declarations Section" and "Grammar Rules in yacc").
+use Rattle.std.specs.Prelude.{ℕ, ◌≡◌, ◌<◌, ◌≤◌, suc, slice_index_or, Bool, true, false, List, []}
+use Rattle.std.specs.Prelude.{◌∷◌, ◌++◌, length, map, filter, Option, Some, None, codes}
+use Rattle.std.specs.Prelude.{if◌then◌else◌}
+use Rattle.std.specs.List.{All, flat_map}
 use Rattle.std.specs.Str.{bytes_eq}
 use Rattle.std.specs.Str.Parse.{digits_value}
 use Rattle.std.specs.Fmt.{decimal}
 use Rattle.ygrammar.specs.declared.precedence.Associativity.TheVariants as associativity
 use Rattle.ygrammar.specs.declared.precedence.Precedence.{Precedence}
-use Rattle.ygrammar.specs.Tree.{Identifier, named, quoted, Word, token, left, right, nonassoc, Entry, Definition, start, union, block, listing, types, Item, symbol, action, Clause, Tree}
+use Rattle.ygrammar.specs.Tree.{Identifier, named, quoted, Word, token, left, right, nonassoc}
+use Rattle.ygrammar.specs.Tree.{Entry, Definition, start, union, block, listing, types, Item}
+use Rattle.ygrammar.specs.Tree.{symbol, action, Clause, Tree}
 use Rattle.ygrammar.specs.Names.{Name, printed, printed_literal, is_among, noted_all, number_in}
 use Rattle.ygrammar.specs.Grammar.{ContextFree, Production}
 
@@ -33,7 +38,8 @@ given_by left n = Some (record { level = n; kind = associativity.Left })
 given_by right n = Some (record { level = n; kind = associativity.Right })
 given_by nonassoc n = Some (record { level = n; kind = associativity.Nonassoc })
 
--- the level of a line, and of what follows it: a line that gives precedences is one level above those before it
+-- the level of a line, and of what follows it: a line that gives precedences is one level above
+-- those before it
 abbrev pub level_at : Word → ℕ → ℕ
 level_at token n = n
 level_at _ n = suc n
@@ -44,7 +50,8 @@ listing_of gives e = record { gives = gives; who = e.who; digits = e.digits }
 -- the listings in the order of the file, n lines that give precedences before them
 abbrev pub listings_from : ℕ → List Definition → List Listing
 listings_from n [] = []
-listings_from n (listing w tag es ∷ ds) = map (listing_of (given_by w (level_at w n))) es ++ listings_from (level_at w n) ds
+listings_from n (listing w tag es ∷ ds) = map (listing_of (given_by w (level_at w n))) es
+    ++ listings_from (level_at w n) ds
 listings_from n (start i ∷ ds) = listings_from n ds
 listings_from n (union t ∷ ds) = listings_from n ds
 listings_from n (block ∷ ds) = listings_from n ds
@@ -126,14 +133,16 @@ listed_name l = printed l.who
 
 -- the names of the tokens: the end, `error`, what is listed, and every literal that appears
 abbrev pub token_names_of : List Listing → List Identifier → List Name
-token_names_of ls is = codes "$end" ∷ codes "error" ∷ (map listed_name ls ++ map printed (filter is_literal is))
+token_names_of ls is = codes "$end" ∷ codes "error"
+    ∷ (map listed_name ls ++ map printed (filter is_literal is))
 
 abbrev pub is_token : Tree → Name → Bool
 is_token t n = is_among (token_names_of (listings t) (appearances t)) n
 
 -- the tokens by number: the end, `error`, and the others in the order of their first appearance
 abbrev pub tokens_of : List Listing → List Identifier → List Name
-tokens_of ls is = noted_all (codes "$end" ∷ codes "error" ∷ []) (filter (is_among (token_names_of ls is)) (map printed is))
+tokens_of ls is = noted_all (codes "$end" ∷ codes "error" ∷ [])
+    (filter (is_among (token_names_of ls is)) (map printed is))
 
 abbrev pub tokens : Tree → List Name
 tokens t = tokens_of (listings t) (appearances t)
@@ -154,7 +163,8 @@ inner_name k = codes "$$" ++ decimal k
 abbrev pub inner_rule : ℕ → List ℕ → Rule
 inner_rule k text = record { left = inner_name k; body = []; prec = None; text = Some text }
 
--- A body without its final action: the rules of its inner actions, numbered from k on, its symbols, and the next such number.
+-- A body without its final action: the rules of its inner actions, numbered from k on, its
+-- symbols, and the next such number.
 pub record Body : Type 0 where
   pub inner : List Rule
   pub symbols : List Name
@@ -162,8 +172,12 @@ pub record Body : Type 0 where
 
 abbrev pub body_from : ℕ → List Item → Body
 body_from k [] = record { inner = []; symbols = []; next = k }
-body_from k (symbol i ∷ items) = let b = body_from k items in record { inner = b.inner; symbols = printed i ∷ b.symbols; next = b.next }
-body_from k (action text ∷ items) = let b = body_from (suc k) items in record { inner = inner_rule k text ∷ b.inner; symbols = inner_name k ∷ b.symbols; next = b.next }
+body_from k (symbol i ∷ items) =
+    let b = body_from k items in
+    record { inner = b.inner; symbols = printed i ∷ b.symbols; next = b.next }
+body_from k (action text ∷ items) =
+    let b = body_from (suc k) items in
+    record { inner = inner_rule k text ∷ b.inner; symbols = inner_name k ∷ b.symbols; next = b.next }
 
 -- a body and the action that is its last part, where it is one
 abbrev pub split_last : List Item → List Item × Option (List ℕ)
@@ -177,13 +191,15 @@ abbrev pub final_of : Option (List ℕ) → List Item → List Item × Option (L
 final_of (Some text) items = (items, Some text)
 final_of None items = split_last items
 
--- the rules from a rule of the file on, with the left side before it and the next number of an inner action
+-- the rules from a rule of the file on, with the left side before it and the next number of an
+-- inner action
 abbrev pub rules_from : Name → ℕ → List Clause → List Rule
 rules_from before k [] = []
 rules_from before k (c ∷ cs) =
     let f = final_of c.last c.body in
     let b = body_from k f.0 in
-    b.inner ++ record { left = or_else c.left before; body = b.symbols; prec = c.prec; text = f.1 } ∷ rules_from (or_else c.left before) b.next cs
+    b.inner ++ record { left = or_else c.left before; body = b.symbols; prec = c.prec; text = f.1 }
+    ∷ rules_from (or_else c.left before) b.next cs
 
 -- the start symbol: the one that `%start` names, or the first left side
 abbrev pub start_symbol : List Identifier → List Name → Name
@@ -193,7 +209,12 @@ start_symbol [] [] = []
 
 -- rule 0, by what `%start` names and the left sides
 abbrev pub first_rule : List Identifier → List Name → Rule
-first_rule is ls = record { left = codes "$accept"; body = start_symbol is ls ∷ codes "$end" ∷ []; prec = None; text = None }
+first_rule is ls = record {
+  left = codes "$accept";
+  body = start_symbol is ls ∷ codes "$end" ∷ [];
+  prec = None;
+  text = None;
+}
 
 abbrev pub rules : Tree → List Rule
 rules t = first_rule (starts t) (lefts t) ∷ rules_from [] 1 t.clauses
@@ -217,24 +238,45 @@ numbered ns r = record { left = number_in ns r.left; body = map (number_in ns) r
 
 -- the bare grammar of a file
 abbrev pub bare_of : Tree → ContextFree
-bare_of t = record { tokens = length (tokens t); symbols = length (symbols t); rules = map (numbered (symbols t)) (rules t) }
+bare_of t = record {
+  tokens = length (tokens t);
+  symbols = length (symbols t);
+  rules = map (numbered (symbols t)) (rules t);
+}
 
--- the last token of a body, where there are so many tokens
-abbrev pub last_token : ℕ → List ℕ → Option ℕ
-last_token tokens body = fold (λ last s. if nat_lt s tokens then Some s else last) None body
+-- The token s is the last of a body: no token stands behind it.
+pub record IsLastToken (tokens : ℕ) (body : List ℕ) (s : ℕ) : Type 0 where
+  pub before : List ℕ
+  pub after : List ℕ
+  pub whole : body ≡ before ++ s ∷ after
+  pub token : s < tokens
+  pub last : All (λ x. tokens ≤ x) after
 
--- the token whose precedence a rule has: the one named, or else the last of the body
-abbrev pub chosen_token : List Name → ℕ → Option Identifier → List ℕ → Option ℕ
-chosen_token ns tokens (Some i) body = Some (number_in ns (printed i))
-chosen_token ns tokens None body = last_token tokens body
+-- the token whose precedence a rule has: the one named, or else the last of its body, where there
+-- is one
+abbrev pub IsChosenToken : List Name → ℕ → Option Identifier → List ℕ → Option ℕ → Type 0
+IsChosenToken ns tokens (Some i) body chosen = chosen ≡ Some (number_in ns (printed i))
+IsChosenToken ns tokens None body (Some s) = IsLastToken tokens body s
+IsChosenToken ns tokens None body None = All (λ x. tokens ≤ x) body
 
 abbrev pub precedence_at : List (Option Precedence) → Option ℕ → Option Precedence
 precedence_at given None = None
 precedence_at given (Some k) = slice_index_or given k None
 
--- the precedence of the token that is named, or else of the last token of the body; given are those of the tokens by number
-abbrev pub rule_precedence : List Name → List (Option Precedence) → Rule → Option Precedence
-rule_precedence ns given r = precedence_at given (chosen_token ns (length given) r.prec (map (number_in ns) r.body))
+-- The rule has this precedence: that of its token; given are those of the tokens by number.
+abbrev pub HasPrecedence : List Name → List (Option Precedence) → Rule → Option Precedence → Type 0
+HasPrecedence ns given r p = (chosen : Option ℕ)
+    × IsChosenToken ns (length given) r.prec (map (number_in ns) r.body) chosen
+    × (p ≡ precedence_at given chosen)
+
+-- each rule has the precedence at its place
+abbrev pub HavePrecedences : List Name → List (Option Precedence) → List Rule →
+    List (Option Precedence) → Type 0
+HavePrecedences ns given [] [] = Unit {0}
+HavePrecedences ns given (r ∷ rs) (p ∷ ps) =
+    HasPrecedence ns given r p × HavePrecedences ns given rs ps
+HavePrecedences ns given [] (p ∷ ps) = ⊥
+HavePrecedences ns given (r ∷ rs) [] = ⊥
 
 -- ---- numbers and precedences
 
@@ -268,7 +310,8 @@ first_or (x ∷ xs) y = Some x
 abbrev pub literal_value : List Identifier → Name → Option ℕ
 literal_value [] n = None
 literal_value (named m ∷ is) n = literal_value is n
-literal_value (quoted v ∷ is) n = if bytes_eq n (printed_literal v) then Some v else literal_value is n
+literal_value (quoted v ∷ is) n =
+    if bytes_eq n (printed_literal v) then Some v else literal_value is n
 
 -- the number that a token has where none is given: the end, `error`, and a literal
 abbrev pub usual_of : List Identifier → Name → Option ℕ

@@ -4,11 +4,10 @@ use Rattle.ygrammar.specs.declared.fault.GrammarFault.{GrammarFault}
 use Rattle.ygrammar.specs.declared.fault.GrammarFault.TheVariants as faults
 use Rattle.ygrammar.specs.declared.fault.SyntaxFault.{SyntaxFault}
 use Rattle.ygrammar.specs.declared.fault.SyntaxFault.TheVariants as syntax
-use Rattle.ygrammar.specs.declared.mistake.Mistake.{Mistake}
-use Rattle.ygrammar.specs.declared.mistake.Mistake.TheVariants as mistakes
 use Rattle.ygrammar.specs.declared.mistake.Refused.{Refused}
 use Rattle.ygrammar.specs.declared.mistake.Refused.TheVariants as refused
 use Rattle.ygrammar.specs.Cuttings.{newlines}
+use Rattle.ygrammar.specs.GrammarOf.{mistake_at}
 
 abbrev pub of_syntax : SyntaxFault → GrammarFault
 of_syntax syntax.TooLong = faults.TooLong
@@ -17,16 +16,6 @@ of_syntax (syntax.BadLiteral line) = faults.BadLiteral line
 of_syntax (syntax.Foreign line) = faults.Foreign line
 of_syntax (syntax.Syntax line) = faults.Syntax line
 of_syntax syntax.Memory = faults.Memory
-
-abbrev pub mistake_at : Mistake → ℕ → GrammarFault
-mistake_at mistakes.TokenLeft line = faults.TokenLeft line
-mistake_at mistakes.Undefined line = faults.Undefined line
-mistake_at mistakes.TwicePrecedence line = faults.TwicePrecedence line
-mistake_at mistakes.BadNumber line = faults.BadNumber line
-mistake_at mistakes.BadStart line = faults.BadStart line
-mistake_at mistakes.Unproductive line = faults.Unproductive line
-mistake_at mistakes.BadPrec line = faults.BadPrec line
-mistake_at mistakes.Limit line = faults.Limit line
 
 -- the line of the place with so many bytes before it
 abbrev pub line_of : List ℕ → ℕ → ℕ

@@ -1,4 +1,5 @@
--- Derivations by the rules of a grammar (Aho, Sethi, Ullman, section 4.2). A form is a list of symbols.
+-- Derivations by the rules of a grammar (Aho, Sethi, Ullman, section 4.2). A form is a list of
+-- symbols.
 use Rattle.std.specs.Prelude.{ℕ, ◌≡◌, ◌<◌, List, [], ◌∷◌, ◌++◌, length, Contains, refl}
 use Rattle.std.specs.List.{All}
 use Rattle.ygrammar.specs.Grammar.{ContextFree, left_of, body_of, IsToken}
@@ -33,10 +34,12 @@ pub record Productive (g : ContextFree) (s : ℕ) : Type 0 where
   pub tokens : All (IsToken g) word
   pub derives : Derives g (s ∷ []) word
 
--- The symbols that can be reached: the first left side, and the symbols of the bodies of those that can.
+-- The symbols that can be reached: the first left side, and the symbols of the bodies of those
+-- that can.
 pub data IsReachable (g : ContextFree) : ℕ → Type 0 where
   first : IsReachable g (left_of g 0)
-  further : {r s : ℕ} → r < length g.rules → IsReachable g (left_of g r) → Contains (body_of g r) s → IsReachable g s
+  further : {r s : ℕ} → r < length g.rules → IsReachable g (left_of g r) →
+      Contains (body_of g r) s → IsReachable g s
 
 -- the last of x and the forms listed
 abbrev pub last_of : List ℕ → List (List ℕ) → List ℕ
@@ -51,19 +54,23 @@ IsRun g x (y ∷ more) = Replaces g x y × IsRun g y more
 -- such a list, in which only tokens stand behind each replaced nonterminal
 abbrev pub IsRightmostRun : ContextFree → List ℕ → List (List ℕ) → Type 0
 IsRightmostRun g x [] = Unit {0}
-IsRightmostRun g x (y ∷ more) = ((s : Replaces g x y) × All (IsToken g) s.after) × IsRightmostRun g y more
+IsRightmostRun g x (y ∷ more) = ((s : Replaces g x y) × All (IsToken g) s.after)
+    × IsRightmostRun g y more
 
 -- A list of forms and `Derives` say the same.
-pub derives_from_run : (g : ContextFree) (x : List ℕ) (more : List (List ℕ)) → IsRun g x more → Derives g x (last_of x more)
+pub derives_from_run : (g : ContextFree) (x : List ℕ) (more : List (List ℕ)) → IsRun g x more →
+    Derives g x (last_of x more)
 derives_from_run g x [] h = done
 derives_from_run g x (y ∷ more) h = step h.0 (derives_from_run g y more h.1)
 
-pub run_from_derives : {g : ContextFree} {x y : List ℕ} → Derives g x y → (more : List (List ℕ)) × IsRun g x more × (last_of x more ≡ y)
+pub run_from_derives : {g : ContextFree} {x y : List ℕ} → Derives g x y →
+    (more : List (List ℕ)) × IsRun g x more × (last_of x more ≡ y)
 run_from_derives done = ([], tt, refl)
 run_from_derives (step {y = y} s d) =
     let r = run_from_derives d in
     (y ∷ r.0, (s, r.1), r.2)
 
-pub run_from_rightmost : (g : ContextFree) (x : List ℕ) (more : List (List ℕ)) → IsRightmostRun g x more → IsRun g x more
+pub run_from_rightmost : (g : ContextFree) (x : List ℕ) (more : List (List ℕ)) →
+    IsRightmostRun g x more → IsRun g x more
 run_from_rightmost g x [] h = tt
 run_from_rightmost g x (y ∷ more) h = (h.0.0, run_from_rightmost g y more h.1)

@@ -33,6 +33,23 @@ pub record GrammarValue : Type 0 where
   -- which symbols can be reached from the first rule
   pub reachable : List Bool
 
+-- the limits of this project's profile: symbols, rules, symbols in a body, the number of a token,
+-- bytes of a file
+abbrev pub most_symbols : ℕ
+most_symbols = 4096
+
+abbrev pub most_rules : ℕ
+most_rules = 8192
+
+abbrev pub longest_body : ℕ
+longest_body = 255
+
+abbrev pub greatest_number : ℕ
+greatest_number = 32767
+
+abbrev pub longest_file : ℕ
+longest_file = 1048576
+
 abbrev pub blank : Production
 blank = record { left = 0; body = [] }
 
@@ -60,6 +77,10 @@ IsToken g s = s < g.tokens
 -- the number of the end token, `$end`
 abbrev pub end_token : ℕ
 end_token = 0
+
+-- the number of the token `error`, which recovery shifts (POSIX yacc, "Error Handling")
+abbrev pub error_token : ℕ
+error_token = 1
 
 -- the start symbol: the first symbol of the body of rule 0, `$accept : S $end`
 abbrev pub start_of : ContextFree → ℕ

@@ -3,17 +3,20 @@ use Rattle.std.specs.Prelude.{ℕ, ◌≡◌, ◌<◌, ◌≤◌, List, length, 
 use Rattle.ygrammar.specs.declared.fault.GrammarFault.{GrammarFault}
 use Rattle.ygrammar.specs.declared.fault.GrammarFault.TheVariants as faults
 use Rattle.ygrammar.specs.declared.mistake.Mistake.{Mistake}
-use Rattle.ygrammar.specs.declared.mistake.Mistake.TheVariants.{TokenLeft, Undefined, TwicePrecedence, BadNumber, BadStart, Unproductive, BadPrec, Limit}
-use Rattle.ygrammar.specs.Cuttings.{Fault, Refusal, Outcome, SpellsSyntax, refusal, unfinished, bad_literal, foreign, syntax}
-use Rattle.ygrammar.specs.Faults.{mistake_at}
-use Rattle.ygrammar.specs.Grammar.{GrammarValue}
+use Rattle.ygrammar.specs.declared.mistake.Mistake.TheVariants.{TokenLeft, Undefined}
+use Rattle.ygrammar.specs.declared.mistake.Mistake.TheVariants.{TwicePrecedence, BadNumber}
+use Rattle.ygrammar.specs.declared.mistake.Mistake.TheVariants.{BadStart, Unproductive, BadPrec}
+use Rattle.ygrammar.specs.declared.mistake.Mistake.TheVariants.{Limit}
+use Rattle.ygrammar.specs.Cuttings.{Fault, Refusal, Outcome, SpellsSyntax, refusal, unfinished}
+use Rattle.ygrammar.specs.Cuttings.{bad_literal, foreign, syntax}
+use Rattle.ygrammar.specs.Grammar.{GrammarValue, longest_file}
 use Rattle.ygrammar.specs.Meaning.{IsMeaning}
 use Rattle.ygrammar.specs.Mistakes.{IsFirst, order}
 use Rattle.ygrammar.specs.Tree.{IsTree, Tree, yield}
 
 -- the file is not too long, and spells the syntax of this tree
 pub record HasTree (source : List ℕ) (t : Tree) : Type 0 where
-  pub short : length source ≤ 1048576
+  pub short : length source ≤ longest_file
   pub spelled : SpellsSyntax source (yield t)
   pub shaped : IsTree t
 
@@ -27,11 +30,11 @@ IsMistaken source m = (t : Tree) × HasTree source t × IsFirst t order m
 
 -- the file is not too long, and has no syntax for this reason
 abbrev pub IsRefused : List ℕ → Refusal → Type 0
-IsRefused source r = (length source ≤ 1048576) × Outcome source (Err r)
+IsRefused source r = (length source ≤ longest_file) × Outcome source (Err r)
 
 -- the fault is one of the file; only want of memory is no matter of the file
 abbrev pub IsFaultOf : List ℕ → GrammarFault → Type 0
-IsFaultOf source faults.TooLong = 1048576 < length source
+IsFaultOf source faults.TooLong = longest_file < length source
 IsFaultOf source (faults.Unfinished line) = IsRefused source (refusal unfinished line)
 IsFaultOf source (faults.BadLiteral line) = IsRefused source (refusal bad_literal line)
 IsFaultOf source (faults.Foreign line) = IsRefused source (refusal foreign line)
@@ -56,6 +59,17 @@ abbrev pub AnswersGrammar : Result GrammarValue GrammarFault → GrammarValue �
 AnswersGrammar (Ok h) g = h ≡ g
 AnswersGrammar (Err faults.Memory) g = Unit {0}
 AnswersGrammar (Err _) g = ⊥
+
+-- a mistake as a fault, on a line
+abbrev pub mistake_at : Mistake → ℕ → GrammarFault
+mistake_at TokenLeft line = faults.TokenLeft line
+mistake_at Undefined line = faults.Undefined line
+mistake_at TwicePrecedence line = faults.TwicePrecedence line
+mistake_at BadNumber line = faults.BadNumber line
+mistake_at BadStart line = faults.BadStart line
+mistake_at Unproductive line = faults.Unproductive line
+mistake_at BadPrec line = faults.BadPrec line
+mistake_at Limit line = faults.Limit line
 
 -- the answer is this mistake, on some line, or want of memory
 abbrev pub AnswersMistake : Result GrammarValue GrammarFault → Mistake → Type 0

@@ -1,13 +1,16 @@
 -- Reading a kept text byte by byte, as functions of lists.
-use Rattle.std.specs.Prelude.{ℕ, zero, suc, ◌==◌, ◌-◌, ◌&&◌, ◌||◌, Bool, true, false, cond, List, [], ◌∷◌, Option, Some, None}
+use Rattle.std.specs.Prelude.{ℕ, zero, suc, ◌==◌, ◌-◌, ◌&&◌, ◌||◌, Bool, true, false, cond, List}
+use Rattle.std.specs.Prelude.{[], ◌∷◌, Option, Some, None}
 use Rattle.ygrammar.specs.declared.kept.Mode.{Mode}
-use Rattle.ygrammar.specs.declared.kept.Mode.TheVariants.{Outside, Quoted, Escaped, Opening, Commented, Closing, Lined}
+use Rattle.ygrammar.specs.declared.kept.Mode.TheVariants.{Outside, Quoted, Escaped, Opening}
+use Rattle.ygrammar.specs.declared.kept.Mode.TheVariants.{Commented, Closing, Lined}
 use Rattle.ygrammar.specs.Bytes.{begins}
 
 -- the mode after a byte outside strings and comments that is no brace, with what follows it
 abbrev pub outside_mode : ℕ → List ℕ → Mode
 outside_mode b bs =
-    cond (b == 34 || b == 39) (Quoted b) (cond (b == 47 && begins (λ y. y == 42) bs) Opening (cond (b == 47 && begins (λ y. y == 47) bs) Lined Outside))
+    cond (b == 34 || b == 39) (Quoted b) (cond (b == 47 && begins (λ y. y == 42) bs) Opening
+    (cond (b == 47 && begins (λ y. y == 47) bs) Lined Outside))
 
 abbrev pub next_mode : Mode → ℕ → List ℕ → Mode
 next_mode Outside b bs = outside_mode b bs
@@ -31,4 +34,5 @@ abbrev pub closes : Mode → ℕ → List ℕ → Option (List ℕ)
 closes m depth [] = None
 closes m depth (b ∷ bs) =
     cond (is_outside m && b == 125) (close depth bs (closes m (depth - 1) bs))
-    (cond (is_outside m && b == 123) (closes m (suc depth) bs) (closes (next_mode m b bs) depth bs))
+    (cond (is_outside m && b == 123) (closes m (suc depth) bs)
+    (closes (next_mode m b bs) depth bs))

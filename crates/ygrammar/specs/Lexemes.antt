@@ -1,11 +1,15 @@
--- The lexemes of a grammar file, and which bytes spell each (POSIX.1-2017, yacc, Lexical Structure of the Grammar, in this project's profile).
-use Rattle.std.specs.Prelude.{ℕ, ◌≡◌, ◌≢◌, ◌<◌, ◌≤◌, ◌||◌, ◌==◌, true, false, List, [], ◌∷◌, ◌++◌, length, Option, Some, None, codes, if◌then◌else◌}
+-- The lexemes of a grammar file, and which bytes spell each (POSIX.1-2017, yacc, Lexical Structure
+-- of the Grammar, in this project's profile).
+use Rattle.std.specs.Prelude.{ℕ, ◌≡◌, ◌≢◌, ◌<◌, ◌≤◌, ◌||◌, ◌==◌, true, false, List, [], ◌∷◌, ◌++◌}
+use Rattle.std.specs.Prelude.{length, Option, Some, None, codes, if◌then◌else◌}
+use Rattle.std.specs.Borrow.{Bor}
 use Rattle.std.specs.Str.Parse.{AllDigits, digits_value}
 use Rattle.ygrammar.specs.declared.kind.Kind.{Kind}
 use Rattle.ygrammar.specs.declared.kind.Kind.TheVariants as kind
 use Rattle.ygrammar.specs.declared.kind.Sign.{Sign}
 use Rattle.ygrammar.specs.declared.kind.Sign.TheVariants as sign
-use Rattle.ygrammar.specs.Bytes.{is_name_start, is_name_byte, is_digit, all_pass, begins, IsBetween, IsComment, IsGap}
+use Rattle.ygrammar.specs.Bytes.{is_name_start, is_name_byte, is_digit, all_pass, begins}
+use Rattle.ygrammar.specs.Bytes.{IsBetween, IsComment, IsGap}
 
 -- what the bytes of a lexeme stand for
 pub data Lexeme : Type 0 where
@@ -46,10 +50,15 @@ escape_value b =
 
 -- the body of a literal, and its value
 pub data IsCharacter (body : List ℕ) (value : ℕ) : Type 0 where
-  plain : body ≡ value ∷ [] → 32 ≤ value → value ≤ 126 → value ≢ 39 → value ≢ 92 → IsCharacter body value
+  plain : body ≡ value ∷ [] → 32 ≤ value → value ≤ 126 → value ≢ 39 → value ≢ 92 →
+      IsCharacter body value
   escape : {b : ℕ} → body ≡ 92 ∷ b ∷ [] → escape_value b ≡ Some value → IsCharacter body value
-  octal : {digits : List ℕ} → body ≡ 92 ∷ digits → 1 ≤ length digits → length digits ≤ 3 → AllDigits 8 digits → value ≡ digits_value 8 digits → 1 ≤ value → value ≤ 255 → IsCharacter body value
-  hexadecimal : {digits : List ℕ} → body ≡ 92 ∷ 120 ∷ digits → 1 ≤ length digits → AllDigits 16 digits → value ≡ digits_value 16 digits → 1 ≤ value → value ≤ 255 → IsCharacter body value
+  octal : {digits : List ℕ} → body ≡ 92 ∷ digits → 1 ≤ length digits → length digits ≤ 3 →
+      AllDigits 8 digits → value ≡ digits_value 8 digits → 1 ≤ value → value ≤ 255 →
+      IsCharacter body value
+  hexadecimal : {digits : List ℕ} → body ≡ 92 ∷ 120 ∷ digits → 1 ≤ length digits →
+      AllDigits 16 digits → value ≡ digits_value 16 digits → 1 ≤ value → value ≤ 255 →
+      IsCharacter body value
 
 -- a quote, one character, a quote
 pub record IsLiteral (text : List ℕ) (value : ℕ) : Type 0 where
@@ -60,6 +69,11 @@ pub record IsLiteral (text : List ℕ) (value : ℕ) : Type 0 where
 -- a literal of this value stands at the front, and this follows it
 abbrev pub LiteralAt : List ℕ → ℕ → List ℕ → Type 0
 LiteralAt bytes value rest = (text : List ℕ) × IsLiteral text value × (bytes ≡ text ++ rest)
+
+-- the literal at the front, with what follows it, is found where one stands there
+abbrev pub FindsLiteral : List ℕ → Option (ℕ × Bor (List ℕ)) → Type 0
+FindsLiteral bytes None = (value : ℕ) (rest : List ℕ) → LiteralAt bytes value rest → ⊥
+FindsLiteral bytes (Some (value, rest)) = LiteralAt bytes value rest.now
 
 -- what stands between two quotes q, a backslash taking the byte behind it along
 pub data IsInside (q : ℕ) : List ℕ → Type 0 where
@@ -82,9 +96,12 @@ pub record IsLineComment (text : List ℕ) : Type 0 where
 -- what stands between the braces of a kept text
 pub data IsKept : List ℕ → Type 0 where
   nothing : IsKept []
-  byte : {b : ℕ} {text : List ℕ} → b ≢ 123 → b ≢ 125 → b ≢ 34 → b ≢ 39 → b ≢ 47 → IsKept text → IsKept (b ∷ text)
-  slash : {text : List ℕ} → begins (λ b. b == 42 || b == 47) text ≡ false → IsKept text → IsKept (47 ∷ text)
-  braces : {inside text : List ℕ} → IsKept inside → IsKept text → IsKept (123 ∷ inside ++ 125 ∷ text)
+  byte : {b : ℕ} {text : List ℕ} → b ≢ 123 → b ≢ 125 → b ≢ 34 → b ≢ 39 → b ≢ 47 → IsKept text →
+      IsKept (b ∷ text)
+  slash : {text : List ℕ} → begins (λ b. b == 42 || b == 47) text ≡ false → IsKept text →
+      IsKept (47 ∷ text)
+  braces : {inside text : List ℕ} → IsKept inside → IsKept text →
+      IsKept (123 ∷ inside ++ 125 ∷ text)
   string : {quoted text : List ℕ} → IsQuoted 34 quoted → IsKept text → IsKept (quoted ++ text)
   character : {quoted text : List ℕ} → IsQuoted 39 quoted → IsKept text → IsKept (quoted ++ text)
   comment : {skipped text : List ℕ} → IsComment skipped → IsKept text → IsKept (skipped ++ text)

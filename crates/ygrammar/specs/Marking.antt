@@ -1,5 +1,6 @@
 -- Marking the symbols that can be reached, and those that derive a list of tokens, by worklists.
-use Rattle.std.specs.Prelude.{ℕ, ◌≡◌, ◌<◌, ◌≤◌, ◌+◌, ◌⊎◌, Bool, true, false, cond, List, [], ◌∷◌, length, map, slice_index, slice_index_or, EachIndex, Vec}
+use Rattle.std.specs.Prelude.{ℕ, ◌≡◌, ◌<◌, ◌≤◌, ◌+◌, ◌⊎◌, Bool, true, false, cond, List, [], ◌∷◌}
+use Rattle.std.specs.Prelude.{length, map, slice_index, slice_index_or, EachIndex, Vec}
 use Rattle.std.specs.Global.{Global}
 use Rattle.std.specs.List.{Contains}
 use Rattle.ygrammar.specs.Grammar.{ContextFree, Production, RuleValue, blank}
@@ -10,7 +11,11 @@ bare_rule r = r.production
 
 -- the bare grammar of rules by number
 abbrev pub numbered_grammar : ℕ → ℕ → List RuleValue → ContextFree
-numbered_grammar tokens symbols rules = record { tokens = tokens; symbols = symbols; rules = map bare_rule rules }
+numbered_grammar tokens symbols rules = record {
+  tokens = tokens;
+  symbols = symbols;
+  rules = map bare_rule rules;
+}
 
 -- rule r by number, bare
 abbrev pub rule_at : List RuleValue → ℕ → Production
@@ -54,7 +59,8 @@ pub record Grows (m : List Bool) (order : List ℕ) (m2 : List Bool) (order2 : L
   pub longer : length order ≤ length order2
   pub kept : (s : ℕ) → IsMarked m s → IsMarked m2 s
   pub ahead : (done s : ℕ) → IsWaiting order done s → IsWaiting order2 done s
-  pub waits : (done s : ℕ) → done ≤ length order → IsMarked m2 s → IsMarked m s ⊎ IsWaiting order2 done s
+  pub waits : (done s : ℕ) → done ≤ length order → IsMarked m2 s →
+      IsMarked m s ⊎ IsWaiting order2 done s
   pub list : IsWorklist m order → IsWorklist m2 order2
 
 -- what stands before the dot of a body is marked
@@ -70,8 +76,10 @@ pub record AreDots (rules : List RuleValue) (dots : List ℕ) (m : List Bool) : 
 -- the left side of a rule is marked, or a symbol of its body is not, or one is still to be taken
 pub data IsSettled (p : Production) (m : List Bool) (order : List ℕ) (done : ℕ) : Type 0 where
   left : IsMarked m p.left → IsSettled p m order done
-  stuck : (k : ℕ) → k < length p.body → IsUnmarked m (slice_index p.body k) → IsSettled p m order done
-  ahead : (k : ℕ) → k < length p.body → IsWaiting order done (slice_index p.body k) → IsSettled p m order done
+  stuck : (k : ℕ) → k < length p.body → IsUnmarked m (slice_index p.body k) →
+      IsSettled p m order done
+  ahead : (k : ℕ) → k < length p.body → IsWaiting order done (slice_index p.body k) →
+      IsSettled p m order done
 
 -- the left side of a rule is not marked, or is still to be taken, or all of its body is marked
 pub data IsSpread (p : Production) (m : List Bool) (order : List ℕ) (done : ℕ) : Type 0 where
@@ -102,7 +110,8 @@ pub record IsFiled (s r : ℕ) (lists lists2 : List (List ℕ)) : Type 0 where
   pub sized : length lists2 ≡ length lists
   pub here : Contains (list_at lists2 s) r
   pub kept : (t q : ℕ) → Contains (list_at lists t) q → Contains (list_at lists2 t) q
-  pub only : (t q : ℕ) → Contains (list_at lists2 t) q → Contains (list_at lists t) q ⊎ ((t ≡ s) × (q ≡ r))
+  pub only : (t q : ℕ) → Contains (list_at lists2 t) q →
+      Contains (list_at lists t) q ⊎ ((t ≡ s) × (q ≡ r))
 
 -- r was added to the list of each symbol of the body
 pub record IsFiledEach (body : List ℕ) (r : ℕ) (lists lists2 : List (List ℕ)) : Type 0 where
@@ -112,13 +121,17 @@ pub record IsFiledEach (body : List ℕ) (r : ℕ) (lists lists2 : List (List �
   pub only : (t q : ℕ) → Contains (list_at lists2 t) q → Contains (list_at lists t) q ⊎ (q ≡ r)
 
 -- the rules, in front of the bound, in whose bodies each symbol stands
-pub record AreOccurrences (rules : List RuleValue) (bound symbols : ℕ) (lists : List (List ℕ)) : Type 0 where
+pub record AreOccurrences (rules : List RuleValue) (bound symbols : ℕ) (lists : List (List ℕ)) :
+    Type 0 where
   pub sized : length lists ≡ symbols
   pub within : (s q : ℕ) → Contains (list_at lists s) q → q < bound
-  pub each : (r k : ℕ) → r < bound → k < length (rule_at rules r).body → Contains (list_at lists (slice_index (rule_at rules r).body k)) r
+  pub each : (r k : ℕ) → r < bound → k < length (rule_at rules r).body →
+      Contains (list_at lists (slice_index (rule_at rules r).body k)) r
 
 -- the rules, in front of the bound, of which each symbol is the left side
-pub record AreByLeft (rules : List RuleValue) (bound symbols : ℕ) (lists : List (List ℕ)) : Type 0 where
+pub record AreByLeft (rules : List RuleValue) (bound symbols : ℕ)
+    (lists : List (List ℕ)) : Type 0 where
   pub sized : length lists ≡ symbols
-  pub within : (s q : ℕ) → Contains (list_at lists s) q → (q < bound) × ((rule_at rules q).left ≡ s)
+  pub within : (s q : ℕ) → Contains (list_at lists s) q →
+      (q < bound) × ((rule_at rules q).left ≡ s)
   pub each : (r : ℕ) → r < bound → Contains (list_at lists (rule_at rules r).left) r

@@ -1,8 +1,7 @@
--- The names that a set of texts has, in order, and the value of a grammar.
-use Rattle.std.specs.Prelude.{ℕ, Bool, List, length, map, Option, Some, None, if◌then◌else◌}
+-- The names that a set of texts has, in order, and the value of a grammar of the code's parts.
+use Rattle.std.specs.Prelude.{ℕ, Bool, List, length, map, Option}
 use Rattle.ygrammar.specs.declared.precedence.Precedence.{Precedence}
 use Rattle.ygrammar.specs.Grammar.{GrammarValue, RuleValue, precedence_of, production_of}
-use Rattle.ygrammar.specs.Names.{Name, is_among, number_in}
 use Rattle.std.specs.Global.{Vec}
 use Rattle.indexmap.specs.IndexSet.{IndexSet}
 
@@ -12,14 +11,15 @@ texts_of vs = map (λ v. v.items) vs
 abbrev pub texts : {S : Type 0} → IndexSet (Vec ℕ) S → List (List ℕ)
 texts s = texts_of s.keys
 
--- the number of a name, where it is there
-abbrev pub find_in : List Name → Name → Option ℕ
-find_in ns n = if is_among ns n then Some (number_in ns n) else None
-
 -- the value of a grammar of these parts
-abbrev pub value_of : {S : Type 0} → IndexSet (Vec ℕ) S → ℕ → List ℕ → List (Option Precedence) → List RuleValue → List (Option (List ℕ)) → List Bool → GrammarValue
+abbrev pub value_of : {S : Type 0} → IndexSet (Vec ℕ) S → ℕ → List ℕ → List (Option Precedence) →
+    List RuleValue → List (Option (List ℕ)) → List Bool → GrammarValue
 value_of names tokens numbers precedences rules kept reachable = record {
-  bare = record { tokens = tokens; symbols = length (texts names); rules = map production_of rules };
+  bare = record {
+    tokens = tokens;
+    symbols = length (texts names);
+    rules = map production_of rules;
+  };
   names = texts names;
   numbers = numbers;
   token_precedences = precedences;

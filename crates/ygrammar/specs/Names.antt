@@ -1,5 +1,7 @@
--- Symbols by their printed names (POSIX yacc, "Lexical Structure of the Grammar"). No name has a quote or a dollar sign in it.
-use Rattle.std.specs.Prelude.{ℕ, suc, ◌+◌, ◌/◌, ◌%◌, Bool, not, ◌&&◌, ◌==◌, nat_le, List, [], ◌∷◌, ◌++◌, fold, if◌then◌else◌}
+-- Symbols by their printed names (POSIX yacc, "Lexical Structure of the Grammar"). No name has a
+-- quote or a dollar sign in it.
+use Rattle.std.specs.Prelude.{ℕ, suc, ◌+◌, ◌/◌, ◌%◌, Bool, not, ◌&&◌, ◌==◌, nat_le, List, [], ◌∷◌}
+use Rattle.std.specs.Prelude.{◌++◌, Option, Some, None, fold, if◌then◌else◌}
 use Rattle.std.specs.List.{list_any}
 use Rattle.std.specs.Str.{bytes_eq}
 use Rattle.ygrammar.specs.Tree.{Identifier, named, quoted}
@@ -33,3 +35,7 @@ noted_all ns more = fold noted ns more
 abbrev pub number_in : List Name → Name → ℕ
 number_in [] n = 0
 number_in (m ∷ ns) n = if bytes_eq n m then 0 else suc (number_in ns n)
+
+-- the number of a name, where it is there
+abbrev pub find_in : List Name → Name → Option ℕ
+find_in ns n = if is_among ns n then Some (number_in ns n) else None

@@ -1,5 +1,6 @@
 -- Numbers for those tokens that have none of their own: in order, the least unused from 257 on.
-use Rattle.std.specs.Prelude.{ℕ, ◌≡◌, ◌<◌, ◌≤◌, ◌⊎◌, ◌↔◌, Bool, true, false, List, length, Option, Some, None, slice_get, slice_index_or}
+use Rattle.std.specs.Prelude.{ℕ, ◌≡◌, ◌<◌, ◌≤◌, ◌⊎◌, ◌↔◌, Bool, true, false, List, length, Option}
+use Rattle.std.specs.Prelude.{Some, None, slice_get, slice_index_or}
 
 -- a number that some token has by itself
 abbrev pub IsOwn : List (Option ℕ) → ℕ → Type 0
@@ -10,13 +11,15 @@ pub record IsLeast (own : List (Option ℕ)) (ns : List ℕ) (i m : ℕ) : Type 
   pub low : 257 ≤ m
   pub free : IsOwn own m → ⊥
   pub above : (j p : ℕ) → j < i → slice_get own j ≡ Some None → slice_get ns j ≡ Some p → p < m
-  pub least : (u : ℕ) → 257 ≤ u → u < m → IsOwn own u ⊎ ((j : ℕ) × (j < i) × (slice_get own j ≡ Some None) × (slice_get ns j ≡ Some u))
+  pub least : (u : ℕ) → 257 ≤ u → u < m →
+      IsOwn own u ⊎ ((j : ℕ) × (j < i) × (slice_get own j ≡ Some None) × (slice_get ns j ≡ Some u))
 
 -- The numbers of the tokens: their own, and for the others the least unused.
 pub record AreNumbers (own : List (Option ℕ)) (ns : List ℕ) : Type 0 where
   pub each : length ns ≡ length own
   pub kept : (i m : ℕ) → slice_get own i ≡ Some (Some m) → slice_get ns i ≡ Some m
-  pub given : (i m : ℕ) → slice_get own i ≡ Some None → slice_get ns i ≡ Some m → IsLeast own ns i m
+  pub given : (i m : ℕ) → slice_get own i ≡ Some None → slice_get ns i ≡ Some m →
+      IsLeast own ns i m
 
 -- own numbers are below 32,768
 abbrev pub AreSmall : List (Option ℕ) → Type 0
@@ -24,7 +27,8 @@ AreSmall own = (m : ℕ) → IsOwn own m → m < 32768
 
 -- two tokens have one number by themselves
 abbrev pub Clashes : List (Option ℕ) → Type 0
-Clashes own = (i : ℕ) × (j : ℕ) × (m : ℕ) × (i < j) × (slice_get own i ≡ Some (Some m)) × (slice_get own j ≡ Some (Some m))
+Clashes own = (i : ℕ) × (j : ℕ) × (m : ℕ) × (i < j) × (slice_get own i ≡ Some (Some m))
+    × (slice_get own j ≡ Some (Some m))
 
 -- No two tokens have one number, and these marks tell the numbers below count that some token has.
 pub record MarksBelow (count : ℕ) (own : List (Option ℕ)) (marks : List Bool) : Type 0 where

@@ -6,10 +6,15 @@ use Rattle.ygrammar.specs.declared.outline.Started.{Started}
 use Rattle.ygrammar.specs.declared.outline.Outline.{Outline}
 use Rattle.ygrammar.specs.Tree.{Identifier, Tree}
 use Rattle.ygrammar.specs.TreeViews.{digits_view, mention_view, name_view, option_view}
-use Rattle.ygrammar.specs.Elaboration.{Listing, declared, lefts, listings, precs, starts, types_of, uses}
+use Rattle.ygrammar.specs.Elaboration.{Listing, declared, lefts, listings, precs, starts, types_of}
+use Rattle.ygrammar.specs.Elaboration.{uses}
 
 abbrev pub listed_view : Listed → Listing
-listed_view l = record { gives = l.gives; who = mention_view l.who; digits = option_view digits_view l.digits }
+listed_view l = record {
+  gives = l.gives;
+  who = mention_view l.who;
+  digits = option_view digits_view l.digits;
+}
 
 abbrev pub start_view : Started → Identifier
 start_view s = mention_view s.who

@@ -1,5 +1,7 @@
 -- Tables of the numbers that tokens have by themselves.
-use Rattle.std.specs.Prelude.{ℕ, ◌≡◌, ◌<◌, ◌≤◌, ◌⊎◌, ◌&&◌, not, nat_lt, is_some, cond, List, length, Contains, Option, Some, None, Result, Ok, Err, slice_index_or, slice_set}
+use Rattle.std.specs.Prelude.{ℕ, ◌≡◌, ◌<◌, ◌≤◌, ◌⊎◌, ◌&&◌, not, nat_lt, is_some, cond, List}
+use Rattle.std.specs.Prelude.{length, Contains, Option, Some, None, Result, Ok, Err}
+use Rattle.std.specs.Prelude.{slice_index_or, slice_set}
 use Rattle.std.specs.Global.{Vec}
 use Rattle.ygrammar.specs.declared.mistake.Mistake.{Mistake}
 use Rattle.ygrammar.specs.declared.mistake.Mistake.TheVariants as mistakes
@@ -7,20 +9,23 @@ use Rattle.ygrammar.specs.declared.mistake.Refused.{Refused}
 use Rattle.ygrammar.specs.declared.mistake.Refused.TheVariants as refused
 use Rattle.ygrammar.specs.declared.given.OwnTable.{OwnTable}
 use Rattle.ygrammar.specs.declared.precedence.Precedence.{Precedence}
-use Rattle.ygrammar.specs.Elaboration.{Listing, said_of, digits_number, own_numbers, token_precedences}
+use Rattle.ygrammar.specs.Elaboration.{Listing, said_of, digits_number, own_numbers}
+use Rattle.ygrammar.specs.Elaboration.{token_precedences}
 use Rattle.ygrammar.specs.Mistakes.{Holds}
 use Rattle.ygrammar.specs.Numbers.{MarksOwn}
 use Rattle.ygrammar.specs.Tree.{Tree}
+use Rattle.ygrammar.specs.Grammar.{greatest_number}
 use Rattle.ygrammar.specs.Names.{Name, number_in}
 use Rattle.ygrammar.specs.Told.{IsTold, SaidTwice}
 
 -- numbers that may be given
 abbrev pub IsFit : ℕ → Type 0
-IsFit m = (1 ≤ m) × (m ≤ 32767)
+IsFit m = (1 ≤ m) × (m ≤ greatest_number)
 
 -- a number out of range is given
 abbrev pub GivesUnfit : List Listing → Type 0
-GivesUnfit ls = (n : Name) × (m : ℕ) × Contains (said_of digits_number ls n) m × ((m ≡ 0) ⊎ (32767 < m))
+GivesUnfit ls = (n : Name) × (m : ℕ) × Contains (said_of digits_number ls n) m
+    × ((m ≡ 0) ⊎ (greatest_number < m))
 
 abbrev pub IsBadNumber : Mistake → List Listing → Type 0
 IsBadNumber mistakes.BadNumber ls = GivesUnfit ls ⊎ SaidTwice digits_number ls
@@ -41,13 +46,16 @@ keep (Some x) y = Some x
 keep None y = y
 
 -- What the table has, or else what is left for a name, is the own number.
-pub record OwnSoFar (ns : List Name) (table : List (Option ℕ)) (left own : Name → Option ℕ) : Type 0 where
+pub record OwnSoFar (ns : List Name) (table : List (Option ℕ))
+    (left own : Name → Option ℕ) : Type 0 where
   pub each : length table ≡ length ns
-  pub said : (n : Name) → number_in ns n < length ns → keep (slice_index_or table (number_in ns n) None) (left n) ≡ own n
+  pub said : (n : Name) → number_in ns n < length ns →
+      keep (slice_index_or table (number_in ns n) None) (left n) ≡ own n
 
 -- the table with a number for a token that has none
 abbrev pub filled : List (Option ℕ) → ℕ → ℕ → List (Option ℕ)
-filled table k v = cond (nat_lt k (length table) && not (is_some (slice_index_or table k None))) (slice_set table k (Some v)) table
+filled table k v = cond (nat_lt k (length table) && not (is_some (slice_index_or table k None)))
+    (slice_set table k (Some v)) table
 
 -- the mistake is this one, and it holds; or memory was refused
 abbrev pub Refuses : Tree → Mistake → Refused → Type 0

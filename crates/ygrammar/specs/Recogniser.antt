@@ -1,9 +1,18 @@
 -- The recogniser's states and moves.
 use Rattle.std.specs.Prelude.{List, [], ◌∷◌, Option, Some, None, Bool, true, false}
 use Rattle.ygrammar.specs.declared.kind.Kind.{Kind}
-use Rattle.ygrammar.specs.declared.kind.Kind.TheVariants.{Name, Head, Literal, Number, Mark, Token, Left, Right, Nonassoc, Types, Start, Union, Prec, Code, Act, Less, Greater, Bar, Semicolon}
+use Rattle.ygrammar.specs.declared.kind.Kind.TheVariants.{Name, Head, Literal, Number, Mark, Token}
+use Rattle.ygrammar.specs.declared.kind.Kind.TheVariants.{Left, Right, Nonassoc, Types, Start}
+use Rattle.ygrammar.specs.declared.kind.Kind.TheVariants.{Union, Prec, Code, Act, Less, Greater}
+use Rattle.ygrammar.specs.declared.kind.Kind.TheVariants.{Bar, Semicolon}
 use Rattle.ygrammar.specs.declared.recogniser.State.{State}
-use Rattle.ygrammar.specs.declared.recogniser.State.TheVariants.{Declarations, StartWord, UnionWord, ListWord, ListTagOpen, ListTagName, ListTagged, Listed, Numbered, TypeWord, TypeTagOpen, TypeTagName, TypeTagged, Typed, RulesMark, Body, PrecWord, PrecNamed, Semicolons, End}
+use Rattle.ygrammar.specs.declared.recogniser.State.TheVariants.{Declarations, StartWord}
+use Rattle.ygrammar.specs.declared.recogniser.State.TheVariants.{UnionWord, ListWord, ListTagOpen}
+use Rattle.ygrammar.specs.declared.recogniser.State.TheVariants.{ListTagName, ListTagged, Listed}
+use Rattle.ygrammar.specs.declared.recogniser.State.TheVariants.{Numbered, TypeWord, TypeTagOpen}
+use Rattle.ygrammar.specs.declared.recogniser.State.TheVariants.{TypeTagName, TypeTagged, Typed}
+use Rattle.ygrammar.specs.declared.recogniser.State.TheVariants.{RulesMark, Body, PrecWord}
+use Rattle.ygrammar.specs.declared.recogniser.State.TheVariants.{PrecNamed, Semicolons, End}
 
 abbrev pub after_definition : Kind → Option State
 after_definition Start = Some StartWord

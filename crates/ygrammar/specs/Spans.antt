@@ -1,5 +1,6 @@
 -- Kept texts by their places in the source.
-use Rattle.std.specs.Prelude.{ℕ, Bool, true, false, List, [], ◌∷◌, ◌++◌, take, drop, length, slice_get, is_some, Option, None}
+use Rattle.std.specs.Prelude.{ℕ, Bool, true, false, List, [], ◌∷◌, ◌++◌, take, drop, length}
+use Rattle.std.specs.Prelude.{slice_get, is_some, Option, None}
 use Rattle.std.specs.List.{flat_map}
 use Rattle.ygrammar.specs.declared.cutting.Placed.{Placed}
 use Rattle.ygrammar.specs.declared.part.Lexeme.{Lexeme as CodeLexeme}
@@ -7,7 +8,8 @@ use Rattle.ygrammar.specs.declared.part.Lexeme.TheVariants as lexemes
 use Rattle.ygrammar.specs.declared.texts.Span.{Span}
 use Rattle.ygrammar.specs.Elaboration.{Rule, final_of}
 use Rattle.ygrammar.specs.Lexemes.{Lexeme, name, head, literal, number, act, code, fixed}
-use Rattle.ygrammar.specs.Tree.{Clause, Definition, start, union, block, listing, types, Item, symbol, action}
+use Rattle.ygrammar.specs.Tree.{Clause, Definition, start, union, block, listing, types, Item}
+use Rattle.ygrammar.specs.Tree.{symbol, action}
 
 -- the part of the source there
 abbrev pub part_of : List ℕ → Span → List ℕ

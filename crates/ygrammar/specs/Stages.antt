@@ -1,8 +1,10 @@
 -- Reading a literal byte by byte, as functions of lists.
-use Rattle.std.specs.Prelude.{ℕ, ◌+◌, ◌*◌, ◌==◌, nat_lt, nat_le, Bool, ◌&&◌, ◌||◌, not, List, [], ◌∷◌, Option, Some, None, if◌then◌else◌}
+use Rattle.std.specs.Prelude.{ℕ, ◌+◌, ◌*◌, ◌==◌, nat_lt, nat_le, Bool, ◌&&◌, ◌||◌, not, List, []}
+use Rattle.std.specs.Prelude.{◌∷◌, Option, Some, None, if◌then◌else◌}
 use Rattle.std.specs.Char.{digit_value}
 use Rattle.ygrammar.specs.declared.literal.Stage.{Stage}
-use Rattle.ygrammar.specs.declared.literal.Stage.TheVariants.{Opened, Backslash, Shut, Octals, HexMark, Hexed}
+use Rattle.ygrammar.specs.declared.literal.Stage.TheVariants.{Opened, Backslash, Shut, Octals}
+use Rattle.ygrammar.specs.declared.literal.Stage.TheVariants.{HexMark, Hexed}
 use Rattle.ygrammar.specs.declared.literal.Scan.{Scan}
 use Rattle.ygrammar.specs.declared.literal.Scan.TheVariants as scans
 use Rattle.ygrammar.specs.Lexemes.{escape_value}
@@ -23,14 +25,16 @@ octal_fits digits more = nat_lt digits 3 && nat_le more 255 && (nat_lt digits 2 
 
 abbrev pub octal_with : ℕ → ℕ → Option ℕ → Option Stage
 octal_with digits value None = None
-octal_with digits value (Some d) = if octal_fits digits (value * 8 + d) then Some (Octals (digits + 1) (value * 8 + d)) else None
+octal_with digits value (Some d) =
+    if octal_fits digits (value * 8 + d) then Some (Octals (digits + 1) (value * 8 + d)) else None
 
 abbrev pub more_octals : ℕ → ℕ → ℕ → Option Stage
 more_octals digits value b = octal_with digits value (digit_in 8 b)
 
 abbrev pub hex_with : ℕ → Option ℕ → Option Stage
 hex_with value None = None
-hex_with value (Some d) = if nat_le (value * 16 + d) 255 then Some (Hexed (value * 16 + d)) else None
+hex_with value (Some d) =
+    if nat_le (value * 16 + d) 255 then Some (Hexed (value * 16 + d)) else None
 
 abbrev pub more_hex : ℕ → ℕ → Option Stage
 more_hex value b = hex_with value (digit_in 16 b)

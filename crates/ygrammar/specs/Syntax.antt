@@ -1,4 +1,5 @@
--- The productions of a grammar file (POSIX.1-2017, yacc, Input Grammar, in this project's profile).
+-- The productions of a grammar file (POSIX.1-2017, yacc, Input Grammar, in this project's
+-- profile).
 use Rattle.std.specs.Prelude.{List, [], ◌∷◌, ◌++◌, map}
 use Rattle.ygrammar.specs.Derivation.{Derives}
 use Rattle.ygrammar.specs.declared.kind.Kind.{Kind}
@@ -20,7 +21,8 @@ pub data Production : Symbol → List Symbol → Type 0 where
   def_union : Production def (lexeme kind.Union ∷ lexeme kind.Act ∷ [])
   def_code : Production def (lexeme kind.Code ∷ [])
   def_list : Production def (rword ∷ tag ∷ nlist ∷ [])
-  def_type : Production def (lexeme kind.Types ∷ lexeme kind.Less ∷ lexeme kind.Name ∷ lexeme kind.Greater ∷ tlist ∷ [])
+  def_type : Production def (lexeme kind.Types ∷ lexeme kind.Less ∷ lexeme kind.Name
+      ∷ lexeme kind.Greater ∷ tlist ∷ [])
   rword_token : Production rword (lexeme kind.Token ∷ [])
   rword_left : Production rword (lexeme kind.Left ∷ [])
   rword_right : Production rword (lexeme kind.Right ∷ [])

@@ -1,5 +1,7 @@
--- The syntax of a grammar file as a tree, and the lexemes that it stands for, its yield (Aho, Sethi and Ullman, section 2.2).
-use Rattle.std.specs.Prelude.{ℕ, ◌≡◌, ◌<◌, Bool, true, false, List, [], ◌∷◌, ◌++◌, length, map, Option, Some, None, IsSome, replicate}
+-- The syntax of a grammar file as a tree, and the lexemes that it stands for, its yield (Aho,
+-- Sethi and Ullman, section 2.2).
+use Rattle.std.specs.Prelude.{ℕ, ◌≡◌, ◌<◌, Bool, true, false, List, [], ◌∷◌, ◌++◌, length, map}
+use Rattle.std.specs.Prelude.{Option, Some, None, IsSome, replicate}
 use Rattle.std.specs.List.{flat_map, AllByRecursion}
 use Rattle.ygrammar.specs.declared.kind.Sign.{Sign}
 use Rattle.ygrammar.specs.declared.kind.Sign.TheVariants as sign
@@ -74,7 +76,8 @@ abbrev pub definition_yield : Definition → List Lexeme
 definition_yield (start i) = fixed sign.Start ∷ identifier_yield i ∷ []
 definition_yield (union t) = fixed sign.Union ∷ act t ∷ []
 definition_yield block = code ∷ []
-definition_yield (listing w tag es) = fixed (word_sign w) ∷ (option_yield tag_yield tag ++ flat_map entry_yield es)
+definition_yield (listing w tag es) = fixed (word_sign w)
+    ∷ (option_yield tag_yield tag ++ flat_map entry_yield es)
 definition_yield (types tag ns) = fixed sign.Types ∷ (tag_yield tag ++ map name ns)
 
 abbrev pub item_yield : Item → Lexeme
@@ -87,17 +90,20 @@ left_yield (Some n) = head n
 
 -- what stands behind a body: a precedence, an action and semicolons
 abbrev pub end_yield : Option Identifier → Option (List ℕ) → ℕ → List Lexeme
-end_yield prec last semicolons = option_yield (λ i. fixed sign.Prec ∷ identifier_yield i ∷ []) prec ++ (option_yield (λ t. act t ∷ []) last ++ replicate semicolons (fixed sign.Semicolon))
+end_yield prec last semicolons = option_yield (λ i. fixed sign.Prec ∷ identifier_yield i ∷ []) prec
+    ++ (option_yield (λ t. act t ∷ []) last ++ replicate semicolons (fixed sign.Semicolon))
 
 abbrev pub clause_yield : Clause → List Lexeme
-clause_yield c = left_yield c.left ∷ (map item_yield c.body ++ end_yield c.prec c.last c.semicolons)
+clause_yield c = left_yield c.left
+    ∷ (map item_yield c.body ++ end_yield c.prec c.last c.semicolons)
 
 abbrev pub mark_yield : Bool → List Lexeme
 mark_yield true = fixed sign.Mark ∷ []
 mark_yield false = []
 
 abbrev pub yield : Tree → List Lexeme
-yield t = flat_map definition_yield t.definitions ++ fixed sign.Mark ∷ (flat_map clause_yield t.clauses ++ mark_yield t.second_mark)
+yield t = flat_map definition_yield t.definitions ++ fixed sign.Mark
+    ∷ (flat_map clause_yield t.clauses ++ mark_yield t.second_mark)
 
 -- ---- which trees a grammar file has
 
@@ -114,7 +120,8 @@ abbrev pub BeginsWithName : List Clause → Type 0
 BeginsWithName [] = ⊥
 BeginsWithName (c ∷ cs) = IsSome c.left
 
--- a list has no empty listing, an action stands behind a precedence alone, and the first clause has a name
+-- a list has no empty listing, an action stands behind a precedence alone, and the first clause
+-- has a name
 pub record IsTree (t : Tree) : Type 0 where
   pub definitions : AllByRecursion IsDefinition t.definitions
   pub clauses : AllByRecursion IsClause t.clauses

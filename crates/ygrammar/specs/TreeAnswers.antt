@@ -1,7 +1,7 @@
 -- What reading a file's syntax tree gives.
 use Rattle.std.specs.Prelude.{ℕ, ◌≡◌, List, Result, Ok, Err}
 use Rattle.ygrammar.specs.declared.fault.SyntaxFault.{SyntaxFault}
-use Rattle.ygrammar.specs.declared.building.Syntax.{Syntax}
+use Rattle.ygrammar.specs.declared.syntax_tree.Syntax.{Syntax}
 use Rattle.ygrammar.specs.Answers.{Answers, Gives}
 use Rattle.ygrammar.specs.Cuttings.{Refusal, Outcome}
 use Rattle.ygrammar.specs.Lexemes.{Lexeme}

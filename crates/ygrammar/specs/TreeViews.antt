@@ -15,7 +15,9 @@ use Rattle.ygrammar.specs.declared.tree.Item.{Item as CodeItem}
 use Rattle.ygrammar.specs.declared.tree.Item.TheVariants as items
 use Rattle.ygrammar.specs.declared.tree.Clause.{Clause as CodeClause}
 use Rattle.ygrammar.specs.declared.tree.Tree.{Tree as CodeTree}
-use Rattle.ygrammar.specs.Tree.{Identifier, named, quoted, Word, token, left, right, nonassoc, Entry, Definition, start, union, block, listing, types, Item, symbol, action, Clause, Tree}
+use Rattle.ygrammar.specs.Tree.{Identifier, named, quoted, Word, token, left, right, nonassoc}
+use Rattle.ygrammar.specs.Tree.{Entry, Definition, start, union, block, listing, types, Item}
+use Rattle.ygrammar.specs.Tree.{symbol, action, Clause, Tree}
 
 abbrev pub identifier_view : CodeIdentifier → Identifier
 identifier_view (identifiers.Named n) = named n.now
@@ -51,7 +53,8 @@ abbrev pub definition_view : CodeDefinition → Definition
 definition_view (definitions.Start m at) = start (mention_view m)
 definition_view (definitions.Union t) = union t.now
 definition_view definitions.Block = block
-definition_view (definitions.Listing l) = listing (word_view l.word) (text_view l.tag) (map entry_view l.entries.items)
+definition_view (definitions.Listing l) = listing (word_view l.word) (text_view l.tag)
+    (map entry_view l.entries.items)
 definition_view (definitions.Types t) = types t.tag.now (map name_view t.names.items)
 
 abbrev pub item_view : CodeItem → Item
@@ -68,4 +71,8 @@ clause_view c = record {
 }
 
 abbrev pub tree_view : CodeTree → Tree
-tree_view t = record { definitions = map definition_view t.definitions.items; clauses = map clause_view t.clauses.items; second_mark = t.second_mark }
+tree_view t = record {
+  definitions = map definition_view t.definitions.items;
+  clauses = map clause_view t.clauses.items;
+  second_mark = t.second_mark;
+}

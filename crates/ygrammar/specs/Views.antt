@@ -1,5 +1,6 @@
 -- What the readers of the code give, as functions of lists.
-use Rattle.std.specs.Prelude.{ℕ, ◌≡◌, not, ◌||◌, codes, if◌then◌else◌, Bool, false, cond, ◌&&◌, ◌==◌, List, [], ◌∷◌, ◌++◌, drop, Option, Some, None, Result, Ok, Err}
+use Rattle.std.specs.Prelude.{ℕ, ◌≡◌, not, ◌||◌, codes, if◌then◌else◌, Bool, false, cond, ◌&&◌}
+use Rattle.std.specs.Prelude.{◌==◌, List, [], ◌∷◌, ◌++◌, drop, Option, Some, None, Result, Ok, Err}
 use Rattle.std.specs.Borrow.{Bor}
 use Rattle.std.specs.Str.{bytes_eq}
 use Rattle.ygrammar.specs.declared.kind.Sign.{Sign}
@@ -11,8 +12,9 @@ use Rattle.ygrammar.specs.declared.part.Lexeme.TheVariants as lexemes
 use Rattle.ygrammar.specs.declared.part.LexicalFault.{LexicalFault}
 use Rattle.ygrammar.specs.declared.part.LexicalFault.TheVariants as faults
 use Rattle.ygrammar.specs.Bytes.{is_digit, is_blank, is_name_start, begins, IsComment, IsGap}
-use Rattle.ygrammar.specs.Lexemes.{Lexeme, LiteralAt, name, head, literal, number, act, code, fixed}
-use Rattle.ygrammar.specs.Cuttings.{Part, blank, comment, lexeme, PartAt, Fault, unfinished, bad_literal, foreign, FaultAt}
+use Rattle.ygrammar.specs.Lexemes.{Lexeme, name, head, literal, number, act, code, fixed}
+use Rattle.ygrammar.specs.Cuttings.{Part, blank, comment, lexeme, PartAt, Fault, unfinished}
+use Rattle.ygrammar.specs.Cuttings.{bad_literal, foreign, FaultAt}
 
 abbrev pub slice_of : Option (Bor (List ℕ)) → Option (List ℕ)
 slice_of None = None
@@ -21,7 +23,8 @@ slice_of (Some s) = Some s.now
 -- what follows the first a that has b behind it
 abbrev pub pair_after : ℕ → ℕ → List ℕ → Option (List ℕ)
 pair_after a b [] = None
-pair_after a b (x ∷ xs) = cond (x == a && begins (λ y. y == b) xs) (Some (drop 1 xs)) (pair_after a b xs)
+pair_after a b (x ∷ xs) = cond (x == a && begins (λ y. y == b) xs) (Some (drop 1 xs))
+    (pair_after a b xs)
 
 abbrev pub lexeme_view : CodeLexeme → Lexeme
 lexeme_view (lexemes.Name n) = name n.now
@@ -46,11 +49,6 @@ fault_view faults.Foreign = foreign
 abbrev pub Reads : List ℕ → Result (CodePart × Bor (List ℕ)) LexicalFault → Type 0
 Reads bytes (Ok (part, rest)) = PartAt bytes (part_view part) rest.now
 Reads bytes (Err fault) = FaultAt bytes (fault_view fault)
-
--- the literal at the front is found where one stands there
-abbrev pub FindsLiteral : List ℕ → Option (ℕ × Bor (List ℕ)) → Type 0
-FindsLiteral bytes None = (value : ℕ) (rest : List ℕ) → LiteralAt bytes value rest → ⊥
-FindsLiteral bytes (Some (value, rest)) = LiteralAt bytes value rest.now
 
 abbrev pub begins_digit : List ℕ → Bool
 begins_digit bytes = begins is_digit bytes

@@ -1,29 +1,37 @@
 //! The syntax tree of a grammar file's lexemes.
 //!
-//! Each function takes what it makes off the front of the lexemes, and asks that they go on with a grammar file.
-//! So no lexeme can be one that doesn't fit, and only memory can be wanting.
+//! Each function takes what it makes off the front of the lexemes, and asks that they go on with a
+//! grammar file. So no lexeme can be one that doesn't fit, and only memory can be wanting.
 
-ghost use Rattle.std.specs.Prelude.{ℕ, ◌≡◌, ◌≢◌, ◌++◌, ◌∷◌, ◌<◌, ◌≤◌, ◌↔◌, Bool, true, List, Option, map, length, replicate, Ok, Err, IfOk, IfSome, IsErrOf, IsSome};
+ghost use Rattle.std.specs.Prelude.{ℕ, ◌≡◌, ◌≢◌, ◌++◌, ◌∷◌, ◌<◌, ◌≤◌, ◌↔◌, Bool, true, List};
+ghost use Rattle.std.specs.Prelude.{Option, map, length, replicate, IfOk, IfSome, IsSome};
 ghost use Rattle.std.specs.List.{flat_map, AllByRecursion};
 ghost use Rattle.ygrammar.specs.declared.kind.Sign.TheVariants as sign;
 ghost use Rattle.ygrammar.specs.declared.kind.Sign.TheVariants.{Mark, Greater, Semicolon};
-ghost use Rattle.ygrammar.specs.declared.recogniser.State.TheVariants.{Declarations, StartWord, UnionWord, ListWord, ListTagged, Listed, Numbered, TypeWord, TypeTagged, RulesMark, Body, Semicolons};
+ghost use Rattle.ygrammar.specs.declared.recogniser.State.TheVariants.{Declarations, StartWord};
+ghost use Rattle.ygrammar.specs.declared.recogniser.State.TheVariants.{UnionWord, ListWord};
+ghost use Rattle.ygrammar.specs.declared.recogniser.State.TheVariants.{ListTagged, Listed};
+ghost use Rattle.ygrammar.specs.declared.recogniser.State.TheVariants.{Numbered, TypeWord};
+ghost use Rattle.ygrammar.specs.declared.recogniser.State.TheVariants.{TypeTagged, RulesMark};
+ghost use Rattle.ygrammar.specs.declared.recogniser.State.TheVariants.{Body, Semicolons};
 ghost use Rattle.ygrammar.specs.Answers.{views};
-ghost use Rattle.ygrammar.specs.Building.{GoesOn, NoItem, NoSign, Takes, TakesSign, EndsTag, place_of, DefinitionAt};
-ghost use Rattle.ygrammar.specs.Cuttings.{kinds, SpellsSyntax, Refusal, Outcome};
+ghost use Rattle.ygrammar.specs.Building.{GoesOn, NoItem, NoSign, Takes, TakesSign, EndsTag};
+ghost use Rattle.ygrammar.specs.Building.{place_of, DefinitionAt};
+ghost use Rattle.ygrammar.specs.Cuttings.{kinds};
 ghost use Rattle.ygrammar.specs.Lexemes.{Lexeme as LexemeOf, name, number, act, fixed, sign_kind};
 ghost use Rattle.ygrammar.specs.Recogniser.{run};
-ghost use Rattle.ygrammar.specs.Spans.{kept_texts, part_of, span_of};
 ghost use Rattle.ygrammar.specs.Syntax.{IsSpec};
-ghost use Rattle.ygrammar.specs.Tree.{IsDefinition, IsClause, BeginsWithName, IsTree, identifier_yield, option_yield, entry_yield, word_sign, tag_yield, definition_yield, item_yield, left_yield, end_yield, clause_yield, mark_yield, yield};
-ghost use Rattle.ygrammar.specs.TreeAnswers.{TreeAnswers, GivesTree};
-ghost use Rattle.ygrammar.specs.TreeViews.{name_view, mention_view, digits_view, text_view, word_view, entry_view, definition_view, item_view, clause_view, tree_view, option_view};
+ghost use Rattle.ygrammar.specs.Tree.{IsDefinition, IsClause, BeginsWithName, IsTree};
+ghost use Rattle.ygrammar.specs.Tree.{identifier_yield, option_yield, entry_yield, word_sign};
+ghost use Rattle.ygrammar.specs.Tree.{tag_yield, definition_yield, item_yield, left_yield};
+ghost use Rattle.ygrammar.specs.Tree.{end_yield, clause_yield, mark_yield, yield};
+ghost use Rattle.ygrammar.specs.TreeViews.{name_view, mention_view, digits_view, text_view};
+ghost use Rattle.ygrammar.specs.TreeViews.{word_view, entry_view, definition_view, item_view};
+ghost use Rattle.ygrammar.specs.TreeViews.{clause_view, tree_view, option_view};
 
-use crate::cutting::{Placed, read_syntax};
-use crate::fault::SyntaxFault;
+use crate::cutting::Placed;
 use crate::kind::Sign;
 use crate::part::Lexeme;
-use crate::texts::{Span, kept_spans};
 use crate::tree::{
     Clause, Definition, Digits, Entry, Identifier, Item, Listing, Mention, NameAt, Tree, Types,
     Word,
@@ -51,7 +59,8 @@ impl<'s, 'a> Model for Lexemes<'s, 'a> {
 impl<'a> Lexemes<'_, 'a> {
     fn name(&mut self) -> Option<NameAt<'a>>
         ensures place { IfSome result (λ n. n.at ≡ place_of self.old) }
-        ensures taken { Takes name (option_view name_view result) (views self.old) (views self.new) }
+        ensures taken { Takes name (option_view name_view result) (views self.old)
+            (views self.new) }
     {
         let [first, rest @ ..] = self.rest else {
             return None;
@@ -67,7 +76,8 @@ impl<'a> Lexemes<'_, 'a> {
 
     fn digits(&mut self) -> Option<Digits<'a>>
         ensures place { IfSome result (λ d. d.at ≡ place_of self.old) }
-        ensures taken { Takes number (option_view digits_view result) (views self.old) (views self.new) }
+        ensures taken { Takes number (option_view digits_view result) (views self.old)
+            (views self.new) }
     {
         let [first, rest @ ..] = self.rest else {
             return None;
@@ -101,7 +111,8 @@ impl<'a> Lexemes<'_, 'a> {
 
     fn mention(&mut self) -> Option<Mention<'a>>
         ensures place { IfSome result (λ m. m.at ≡ place_of self.old) }
-        ensures taken { Takes identifier_yield (option_view mention_view result) (views self.old) (views self.new) }
+        ensures taken { Takes identifier_yield (option_view mention_view result) (views self.old)
+            (views self.new) }
     {
         let [first, rest @ ..] = self.rest else {
             return None;
@@ -116,7 +127,8 @@ impl<'a> Lexemes<'_, 'a> {
     }
 
     fn item(&mut self) -> Option<Item<'a>>
-        ensures { Takes item_yield (option_view item_view result) (views self.old) (views self.new) }
+        ensures { Takes item_yield (option_view item_view result) (views self.old)
+            (views self.new) }
     {
         match self.text() {
             Some(text) => Some(Item::Action(text)),
@@ -130,7 +142,8 @@ impl<'a> Lexemes<'_, 'a> {
     /// What a rule begins with: a name and its colon, or a bar.
     fn left(&mut self) -> Option<Option<NameAt<'a>>>
         ensures place { IfSome result (λ left. IfSome left (λ n. n.at ≡ place_of self.old)) }
-        ensures taken { Takes left_yield (option_view (λ n. option_view name_view n) result) (views self.old) (views self.new) }
+        ensures taken { Takes left_yield (option_view (λ n. option_view name_view n) result)
+            (views self.old) (views self.new) }
     {
         let [first, rest @ ..] = self.rest else {
             return None;
@@ -181,7 +194,8 @@ impl<'a> Lexemes<'_, 'a> {
     /// The tag of a listing, where it has one.
     fn tag(&mut self) -> Option<&'a [u8]>
         requires { GoesOn ListWord self.old }
-        ensures whole { views self.old ≡ option_yield tag_yield (text_view result) ++ views self.new }
+        ensures whole { views self.old ≡ option_yield tag_yield (text_view result)
+            ++ views self.new }
         ensures goes_on { GoesOn ListTagged self.new }
     {
         if self.sign(Sign::Less) {
@@ -196,7 +210,8 @@ impl<'a> Lexemes<'_, 'a> {
         requires { GoesOn Listed self.old }
         ensures who { result.who ≡ who.entry }
         ensures place { IfSome result.digits (λ d. d.at ≡ place_of self.old) }
-        ensures whole { identifier_yield (mention_view who.entry) ∷ views self.old ≡ entry_yield (entry_view result) ++ views self.new }
+        ensures whole { identifier_yield (mention_view who.entry) ∷ views self.old
+            ≡ entry_yield (entry_view result) ++ views self.new }
         ensures goes_on { GoesOn Numbered self.new }
     {
         let digits = self.digits();
@@ -206,7 +221,8 @@ impl<'a> Lexemes<'_, 'a> {
     /// The entries of a listing.
     fn entries(&mut self, alloc: Global) -> Result<Vec<Entry<'a>>, AllocError>
         requires { GoesOn ListTagged self.old }
-        ensures whole { IfOk result (λ v. views self.old ≡ flat_map entry_yield (map entry_view v.items) ++ views self.new) }
+        ensures whole { IfOk result (λ v. views self.old
+            ≡ flat_map entry_yield (map entry_view v.items) ++ views self.new) }
         ensures some { IfOk result (λ v. 0 < length v.items) }
         ensures goes_on { IfOk result (λ v. GoesOn Declarations self.new) }
     {
@@ -221,7 +237,8 @@ impl<'a> Lexemes<'_, 'a> {
     /// The names that a tag is given to.
     fn names(&mut self, alloc: Global) -> Result<Vec<NameAt<'a>>, AllocError>
         requires { GoesOn TypeTagged self.old }
-        ensures whole { IfOk result (λ v. views self.old ≡ map name (map name_view v.items) ++ views self.new) }
+        ensures whole { IfOk result (λ v. views self.old
+            ≡ map name (map name_view v.items) ++ views self.new) }
         ensures some { IfOk result (λ v. 0 < length v.items) }
         ensures goes_on { IfOk result (λ v. GoesOn Declarations self.new) }
     {
@@ -235,7 +252,8 @@ impl<'a> Lexemes<'_, 'a> {
     /// A listing, behind its word.
     fn listing(&mut self, alloc: Global, word: Word) -> Result<Definition<'a>, AllocError>
         requires { GoesOn ListWord self.old }
-        ensures whole { IfOk result (λ d. fixed (word_sign (word_view word)) ∷ views self.old ≡ definition_yield (definition_view d) ++ views self.new) }
+        ensures whole { IfOk result (λ d. fixed (word_sign (word_view word)) ∷ views self.old
+            ≡ definition_yield (definition_view d) ++ views self.new) }
         ensures shaped { IfOk result (λ d. IsDefinition (definition_view d)) }
         ensures goes_on { IfOk result (λ d. GoesOn Declarations self.new) }
     {
@@ -247,7 +265,8 @@ impl<'a> Lexemes<'_, 'a> {
     /// A tag and its names, behind `%type`.
     fn types(&mut self, alloc: Global) -> Result<Definition<'a>, AllocError>
         requires { GoesOn TypeWord self.old }
-        ensures whole { IfOk result (λ d. fixed sign.Types ∷ views self.old ≡ definition_yield (definition_view d) ++ views self.new) }
+        ensures whole { IfOk result (λ d. fixed sign.Types ∷ views self.old
+            ≡ definition_yield (definition_view d) ++ views self.new) }
         ensures shaped { IfOk result (λ d. IsDefinition (definition_view d)) }
         ensures goes_on { IfOk result (λ d. GoesOn Declarations self.new) }
     {
@@ -263,7 +282,8 @@ impl<'a> Lexemes<'_, 'a> {
     fn start(&mut self, at: usize) -> Definition<'a>
         requires { GoesOn StartWord self.old }
         ensures place { DefinitionAt at result }
-        ensures whole { fixed sign.Start ∷ views self.old ≡ definition_yield (definition_view result) ++ views self.new }
+        ensures whole { fixed sign.Start ∷ views self.old
+            ≡ definition_yield (definition_view result) ++ views self.new }
         ensures shaped { IsDefinition (definition_view result) }
         ensures goes_on { GoesOn Declarations self.new }
     {
@@ -276,7 +296,8 @@ impl<'a> Lexemes<'_, 'a> {
     /// A kept text, behind `%union`.
     fn union_text(&mut self) -> Definition<'a>
         requires { GoesOn UnionWord self.old }
-        ensures whole { fixed sign.Union ∷ views self.old ≡ definition_yield (definition_view result) ++ views self.new }
+        ensures whole { fixed sign.Union ∷ views self.old
+            ≡ definition_yield (definition_view result) ++ views self.new }
         ensures shaped { IsDefinition (definition_view result) }
         ensures goes_on { GoesOn Declarations self.new }
     {
@@ -296,7 +317,8 @@ impl<'a> Lexemes<'_, 'a> {
         requires other { word ≢ Mark }
         requires goes_on { run Declarations (sign_kind word ∷ kinds (views self.old)) ≡ true }
         ensures place { IfOk result (λ d. DefinitionAt at d) }
-        ensures whole { IfOk result (λ d. fixed word ∷ views self.old ≡ definition_yield (definition_view d) ++ views self.new) }
+        ensures whole { IfOk result (λ d. fixed word ∷ views self.old
+            ≡ definition_yield (definition_view d) ++ views self.new) }
         ensures shaped { IfOk result (λ d. IsDefinition (definition_view d)) }
         ensures goes_on { IfOk result (λ d. GoesOn Declarations self.new) }
     {
@@ -316,7 +338,8 @@ impl<'a> Lexemes<'_, 'a> {
         requires other { NoSign Mark (views self.old) }
         requires goes_on { GoesOn Declarations self.old }
         ensures place { IfOk result (λ d. DefinitionAt (place_of self.old) d) }
-        ensures whole { IfOk result (λ d. views self.old ≡ definition_yield (definition_view d) ++ views self.new) }
+        ensures whole { IfOk result (λ d. views self.old
+            ≡ definition_yield (definition_view d) ++ views self.new) }
         ensures shaped { IfOk result (λ d. IsDefinition (definition_view d)) }
         ensures goes_on { IfOk result (λ d. GoesOn Declarations self.new) }
     {
@@ -334,8 +357,11 @@ impl<'a> Lexemes<'_, 'a> {
     /// The declarations, and the mark behind them.
     fn definitions(&mut self, alloc: Global) -> Result<Vec<Definition<'a>>, AllocError>
         requires { GoesOn Declarations self.old }
-        ensures whole { IfOk result (λ v. views self.old ≡ flat_map definition_yield (map definition_view v.items) ++ fixed Mark ∷ views self.new) }
-        ensures shaped { IfOk result (λ v. AllByRecursion IsDefinition (map definition_view v.items)) }
+        ensures whole { IfOk result (λ v. views self.old
+            ≡ flat_map definition_yield (map definition_view v.items) ++ fixed Mark
+            ∷ views self.new) }
+        ensures shaped { IfOk result
+            (λ v. AllByRecursion IsDefinition (map definition_view v.items)) }
         ensures goes_on { IfOk result (λ v. GoesOn RulesMark self.new) }
     {
         let mut definitions = Vec::new(alloc);
@@ -352,7 +378,8 @@ impl<'a> Lexemes<'_, 'a> {
 impl<'a> Lexemes<'_, 'a> {
     fn body(&mut self, alloc: Global) -> Result<Vec<Item<'a>>, AllocError>
         requires { GoesOn Body self.old }
-        ensures whole { IfOk result (λ v. views self.old ≡ map item_yield (map item_view v.items) ++ views self.new) }
+        ensures whole { IfOk result (λ v. views self.old ≡ map item_yield (map item_view v.items)
+            ++ views self.new) }
         ensures ended { IfOk result (λ v. NoItem (views self.new)) }
         ensures goes_on { IfOk result (λ v. GoesOn Body self.new) }
     {
@@ -367,7 +394,9 @@ impl<'a> Lexemes<'_, 'a> {
     fn precedence(&mut self) -> (Option<Mention<'a>>, Option<&'a [u8]>)
         requires ended { NoItem (views self.old) }
         requires goes_on { GoesOn Body self.old }
-        ensures whole { views self.old ≡ end_yield (option_view mention_view result.0) (text_view result.1) 0 ++ views self.new }
+        ensures whole { views self.old
+            ≡ end_yield (option_view mention_view result.0) (text_view result.1) 0
+            ++ views self.new }
         ensures shaped { IsSome (text_view result.1) → IsSome (option_view mention_view result.0) }
         ensures goes_on { GoesOn Semicolons self.new }
     {
@@ -396,7 +425,8 @@ impl<'a> Lexemes<'_, 'a> {
     /// A rule, behind what it begins with.
     fn clause(&mut self, alloc: Global, left: Option<NameAt<'a>>) -> Result<Clause<'a>, AllocError>
         requires { GoesOn Body self.old }
-        ensures whole { IfOk result (λ c. left_yield (option_view name_view left.entry) ∷ views self.old ≡ clause_yield (clause_view c) ++ views self.new) }
+        ensures whole { IfOk result (λ c. left_yield (option_view name_view left.entry)
+            ∷ views self.old ≡ clause_yield (clause_view c) ++ views self.new) }
         ensures left { IfOk result (λ c. c.left ≡ left.entry) }
         ensures shaped { IfOk result (λ c. IsClause (clause_view c)) }
         ensures ended { IfOk result (λ c. NoSign Semicolon (views self.new)) }
@@ -417,7 +447,8 @@ impl<'a> Lexemes<'_, 'a> {
     /// The rules. Behind them nothing is left, or the second mark.
     fn clauses(&mut self, alloc: Global) -> Result<Vec<Clause<'a>>, AllocError>
         requires { GoesOn RulesMark self.old }
-        ensures whole { IfOk result (λ v. views self.old ≡ flat_map clause_yield (map clause_view v.items) ++ views self.new) }
+        ensures whole { IfOk result (λ v. views self.old
+            ≡ flat_map clause_yield (map clause_view v.items) ++ views self.new) }
         ensures shaped { IfOk result (λ v. AllByRecursion IsClause (map clause_view v.items)) }
         ensures first { IfOk result (λ v. BeginsWithName (map clause_view v.items)) }
         ensures ended { IfOk result (λ v. (b : Bool) × (views self.new ≡ mark_yield b)) }
@@ -445,48 +476,4 @@ pub fn build_tree<'a>(alloc: Global, lexemes: &[Placed<'a>]) -> Result<Tree<'a>,
         clauses,
         second_mark: !rest.rest.is_empty(),
     })
-}
-
-/// The syntax tree of a file, and where the kept texts of its lexemes stand, in their order.
-#[derive(Drop)]
-pub struct Syntax<'a> {
-    pub tree: Tree<'a>,
-    pub kept: Vec<Span>,
-}
-
-/// The tree of lexemes, and the places of the kept texts among them.
-fn build_syntax<'a>(alloc: Global, lexemes: &[Placed<'a>]) -> Result<Syntax<'a>, AllocError>
-    requires { IsSpec (kinds (views lexemes.now)) }
-    ensures whole { IfOk result (λ s. views lexemes.now ≡ yield (tree_view s.tree)) }
-    ensures shaped { IfOk result (λ s. IsTree (tree_view s.tree)) }
-    ensures kept { IfOk result (λ s. s.kept.items ≡ flat_map span_of lexemes.now) }
-{
-    let tree = build_tree(alloc, lexemes)?;
-    let kept = kept_spans(alloc, lexemes)?;
-    Ok(Syntax { tree, kept })
-}
-
-/// The syntax tree of a grammar file, or the file's first fault.
-///
-/// Want of memory may come in place of any answer but `TooLong`.
-pub fn read_tree<'a>(alloc: Global, bytes: &'a [u8]) -> Result<Syntax<'a>, SyntaxFault>
-    // It comes before every other answer.
-    ensures too_long { IsErrOf result SyntaxFault.TooLong ↔ (1048576 < length bytes.now) }
-    // The tree stands for what the file spells.
-    ensures found { IfOk result (λ s. SpellsSyntax bytes.now (yield (tree_view s.tree))) }
-    ensures shaped { IfOk result (λ s. IsTree (tree_view s.tree)) }
-    // Its kept texts stand at these places.
-    ensures kept { IfOk result (λ s. map (part_of bytes.now) s.kept.items ≡ kept_texts (yield (tree_view s.tree))) }
-    // What is spelled is read.
-    ensures only { (ls : List LexemeOf) → length bytes.now ≤ 1048576 → SpellsSyntax bytes.now ls → TreeAnswers result (Ok ls) }
-    // The first fault of the file is answered, with its line.
-    ensures fault { (r : Refusal) → length bytes.now ≤ 1048576 → Outcome bytes.now (Err r) → TreeAnswers result (Err r) }
-    // There is no other answer.
-    ensures exact { length bytes.now ≤ 1048576 → GivesTree bytes.now result }
-{
-    let lexemes = read_syntax(alloc, bytes)?;
-    match build_syntax(alloc, lexemes.as_slice()) {
-        Ok(syntax) => Ok(syntax),
-        Err(_) => Err(SyntaxFault::Memory),
-    }
 }

@@ -1,7 +1,8 @@
 //! Runs of bytes, texts and comments at the front of bytes.
 
 ghost use Rattle.std.specs.Prelude.{◌≡◌, ◌++◌, ◌∷◌, [], true, false, length, List, ℕ, MatchOption};
-ghost use Rattle.ygrammar.specs.Bytes.{is_blank, is_digit, is_name_start, is_name_byte, all_pass, begins, IsComment};
+ghost use Rattle.ygrammar.specs.Bytes.{is_blank, is_digit, is_name_start, is_name_byte, all_pass};
+ghost use Rattle.ygrammar.specs.Bytes.{begins, IsComment};
 ghost use Rattle.ygrammar.specs.Views.{pair_after, slice_of, SkipsGap};
 
 pub fn is_blank(b: u8) -> bool
@@ -70,7 +71,9 @@ pub fn after_pair<'a>(bytes: &'a [u8], first: u8, second: u8) -> Option<&'a [u8]
 
 /// What follows a text at the front.
 pub fn after_text<'a>(bytes: &'a [u8], text: &[u8]) -> Option<&'a [u8]>
-    ensures { MatchOption result ((rest : List ℕ) → bytes.now ≡ text.now ++ rest → ⊥) (λ rest. bytes.now ≡ text.now ++ rest.now) }
+    ensures { MatchOption result
+        ((rest : List ℕ) → bytes.now ≡ text.now ++ rest → ⊥)
+        (λ rest. bytes.now ≡ text.now ++ rest.now) }
 {
     bytes.strip_prefix(text)
 }
@@ -95,7 +98,9 @@ pub fn after_gap(bytes: &[u8]) -> &[u8]
 
 /// What follows a comment at the front.
 pub fn after_comment<'a>(bytes: &'a [u8]) -> Option<&'a [u8]>
-    ensures { MatchOption result ((text rest : List ℕ) → IsComment text → bytes.now ≡ text ++ rest → ⊥) (λ rest. (text : List ℕ) × IsComment text × (bytes.now ≡ text ++ rest.now)) }
+    ensures { MatchOption result
+        ((text rest : List ℕ) → IsComment text → bytes.now ≡ text ++ rest → ⊥)
+        (λ rest. (text : List ℕ) × IsComment text × (bytes.now ≡ text ++ rest.now)) }
 {
     match after_text(bytes, b"/*") {
         None => None,

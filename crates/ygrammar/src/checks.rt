@@ -1,6 +1,8 @@
-//! Tests for mistakes, each over one list of the file. An answer is how many bytes stand before the first name at fault.
+//! Tests for mistakes, each over one list of the file. An answer is how many bytes stand before
+//! the first name at fault.
 
-ghost use Rattle.std.specs.Prelude.{◌≡◌, ◌||◌, ◌&&◌, None, Some, is_some, length, map, nat_le, nat_lt, not, IfSome};
+ghost use Rattle.std.specs.Prelude.{◌≡◌, ◌||◌, ◌&&◌, None, Some, is_some, length, map, nat_le};
+ghost use Rattle.std.specs.Prelude.{nat_lt, not, IfSome};
 ghost use Rattle.std.specs.List.{find, last_or, list_any};
 ghost use Rattle.ygrammar.specs.NameTexts.{texts};
 ghost use Rattle.ygrammar.specs.Names.{is_among, number_in, printed};
@@ -9,14 +11,18 @@ ghost use Rattle.ygrammar.specs.Outline.{start_view};
 ghost use Rattle.ygrammar.specs.TreeViews.{identifier_view, mention_view, name_view, option_view};
 
 use crate::grammar::Rule;
+use crate::limits::LONGEST_BODY;
 use crate::names::{Names, is_among, is_named, number_of};
 use crate::outline::Started;
 use crate::tree::{Identifier, Mention, NameAt};
 
 /// The first of some names that is a token.
 pub fn first_token(names: &[NameAt], tokens: &Names) -> Option<usize>
-    ensures found { is_some result ≡ list_any (is_among (texts tokens.now)) (map name_view names.now) }
-    ensures place { result ≡ option_view (λ n. n.at) (find (λ n. is_among (texts tokens.now) (name_view n)) names.now) }
+    ensures found { is_some result
+        ≡ list_any (is_among (texts tokens.now)) (map name_view names.now) }
+    ensures place { result
+        ≡ option_view (λ n. n.at) (find (λ n. is_among (texts tokens.now) (name_view n))
+        names.now) }
 {
     for name in names {
         if is_among(tokens, name.name) {
@@ -28,8 +34,11 @@ pub fn first_token(names: &[NameAt], tokens: &Names) -> Option<usize>
 
 /// The first of some names that is no symbol.
 pub fn first_unknown(names: &[NameAt], symbols: &Names) -> Option<usize>
-    ensures found { is_some result ≡ list_any (λ n. not (is_among (texts symbols.now) n)) (map name_view names.now) }
-    ensures place { result ≡ option_view (λ n. n.at) (find (λ n. not (is_among (texts symbols.now) (name_view n))) names.now) }
+    ensures found { is_some result
+        ≡ list_any (λ n. not (is_among (texts symbols.now) n)) (map name_view names.now) }
+    ensures place { result
+        ≡ option_view (λ n. n.at) (find (λ n. not (is_among (texts symbols.now) (name_view n)))
+        names.now) }
 {
     for name in names {
         if !is_among(symbols, name.name) {
@@ -41,8 +50,12 @@ pub fn first_unknown(names: &[NameAt], symbols: &Names) -> Option<usize>
 
 /// The first of some names and literals that is no symbol.
 pub fn first_undefined(mentions: &[Mention], symbols: &Names) -> Option<usize>
-    ensures found { is_some result ≡ list_any (λ i. not (is_among (texts symbols.now) (printed i))) (map mention_view mentions.now) }
-    ensures place { result ≡ option_view (λ m. m.at) (find (λ m. not (is_among (texts symbols.now) (printed (mention_view m)))) mentions.now) }
+    ensures found { is_some result
+        ≡ list_any (λ i. not (is_among (texts symbols.now) (printed i)))
+        (map mention_view mentions.now) }
+    ensures place { result
+        ≡ option_view (λ m. m.at)
+        (find (λ m. not (is_among (texts symbols.now) (printed (mention_view m)))) mentions.now) }
 {
     for mention in mentions {
         if !is_named(symbols, mention.who) {
@@ -54,7 +67,9 @@ pub fn first_undefined(mentions: &[Mention], symbols: &Names) -> Option<usize>
 
 /// Whether a name or literal is a symbol, but none of the first `tokens`.
 fn is_nonterminal(who: Identifier, symbols: &Names, tokens: usize) -> bool
-    ensures { result ≡ is_between tokens (length (texts symbols.now)) (number_in (texts symbols.now) (printed (identifier_view who.entry))) }
+    ensures { result
+        ≡ is_between tokens (length (texts symbols.now))
+        (number_in (texts symbols.now) (printed (identifier_view who.entry))) }
 {
     let number = number_of(symbols, who);
     tokens <= number && number < symbols.len()
@@ -62,8 +77,13 @@ fn is_nonterminal(who: Identifier, symbols: &Names, tokens: usize) -> bool
 
 /// The first of some names and literals that is a nonterminal.
 pub fn first_nonterminal(mentions: &[Mention], symbols: &Names, tokens: usize) -> Option<usize>
-    ensures found { is_some result ≡ list_any (λ i. is_between tokens (length (texts symbols.now)) (number_in (texts symbols.now) (printed i))) (map mention_view mentions.now) }
-    ensures place { result ≡ option_view (λ m. m.at) (find (λ m. is_between tokens (length (texts symbols.now)) (number_in (texts symbols.now) (printed (mention_view m)))) mentions.now) }
+    ensures found { is_some result
+        ≡ list_any (λ i. is_between tokens (length (texts symbols.now))
+        (number_in (texts symbols.now) (printed i))) (map mention_view mentions.now) }
+    ensures place { result
+        ≡ option_view (λ m. m.at)
+        (find (λ m. is_between tokens (length (texts symbols.now))
+        (number_in (texts symbols.now) (printed (mention_view m)))) mentions.now) }
 {
     for mention in mentions {
         if is_nonterminal(mention.who, symbols, tokens) {
@@ -75,8 +95,12 @@ pub fn first_nonterminal(mentions: &[Mention], symbols: &Names, tokens: usize) -
 
 /// The last `%start`, where one stands twice or names no nonterminal.
 pub fn bad_start(starts: &[Started], symbols: &Names, tokens: usize) -> Option<usize>
-    ensures found { is_some result ≡ (nat_le 2 (length starts.now) || list_any (λ i. not (is_between tokens (length (texts symbols.now)) (number_in (texts symbols.now) (printed i)))) (map start_view starts.now)) }
-    ensures place { IfSome result (λ at. option_view (λ s. s.at) (last_or None starts.now) ≡ Some at) }
+    ensures found { is_some result
+        ≡ (nat_le 2 (length starts.now)
+        || list_any (λ i. not (is_between tokens (length (texts symbols.now))
+        (number_in (texts symbols.now) (printed i)))) (map start_view starts.now)) }
+    ensures place { IfSome result (λ at. option_view (λ s. s.at) (last_or None starts.now)
+        ≡ Some at) }
 {
     match starts {
         [] => None,
@@ -96,7 +120,7 @@ pub fn any_long(rules: &[Rule]) -> bool
     ensures { result ≡ list_any is_long rules.now }
 {
     for rule in rules {
-        if rule.body().len() > 255 {
+        if rule.body().len() > LONGEST_BODY {
             return true;
         }
     }

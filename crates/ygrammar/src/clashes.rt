@@ -1,4 +1,5 @@
-//! Where a mistake in the numbers of tokens stands: at the first number of the file that is at fault.
+//! Where a mistake in the numbers of tokens stands: at the first number of the file that is at
+//! fault.
 
 ghost use Rattle.std.specs.Prelude.{◌≡◌};
 ghost use Rattle.ygrammar.specs.Elaboration.{tokens as tokens_of_tree};
@@ -13,7 +14,8 @@ use crate::names::{Names, number_of};
 use crate::outline::{Listed, Outline};
 use std::alloc::{AllocError, Global};
 
-/// For each number that may be given the first token found to have it, and whether another has it too.
+/// For each number that may be given the first token found to have it, and whether another has it
+/// too.
 #[derive(Drop)]
 struct Holders {
     first: Vec<Option<usize>>,
@@ -85,7 +87,8 @@ fn hold_own(holders: &mut Holders, own: &[Option<u32>]) {
     }
 }
 
-/// The first number that is out of range, a second one for its token, or held by another token too; 0 where there is none.
+/// The first number that is out of range, a second one for its token, or held by another token
+/// too; 0 where there is none.
 fn first_at_fault(
     alloc: Global,
     tokens: &Names,
@@ -119,9 +122,11 @@ fn bad_number_at(alloc: Global, tokens: &Names, outline: &Outline) -> Result<usi
     first_at_fault(alloc, tokens, &outline.listed, &holders)
 }
 
-/// The numbers that the tokens have by themselves; a mistake in them stands at the first number at fault.
+/// The numbers that the tokens have by themselves; a mistake in them stands at the first number at
+/// fault.
 pub fn placed_table(alloc: Global, tokens: &Names, outline: &Outline) -> Result<OwnTable, Refused>
-    ensures { (t : TreeOf) → Outlines outline.now t → texts tokens.now ≡ tokens_of_tree t → Owns t result }
+    ensures { (t : TreeOf) → Outlines outline.now t → texts tokens.now ≡ tokens_of_tree t →
+        Owns t result }
 {
     match own_table(alloc, tokens, outline) {
         Ok(table) => Ok(table),

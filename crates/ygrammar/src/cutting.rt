@@ -1,13 +1,16 @@
 //! A grammar file cut into lexemes, up to its first fault.
 
-ghost use Rattle.std.specs.Prelude.{◌≡◌, ◌++◌, ◌<◌, ◌≤◌, ◌↔◌, ℕ, List, length, Ok, Err, IfOk, IsErrOf};
+ghost use Rattle.std.specs.Prelude.{◌≡◌, ◌++◌, ◌<◌, ◌≤◌, ◌↔◌, ℕ, List, length, Ok, Err, IfOk};
+ghost use Rattle.std.specs.Prelude.{IsErrOf};
 ghost use Rattle.std.specs.List.{AllByRecursion};
 ghost use Rattle.ygrammar.specs.Answers.{Gives, Answers, StandsIn, views};
 ghost use Rattle.ygrammar.specs.Cuttings.{IsLine, SpellsSyntax, Outcome, Refusal};
+ghost use Rattle.ygrammar.specs.Grammar.{longest_file};
 ghost use Rattle.ygrammar.specs.Lexemes.{Lexeme as LexemeOf};
 ghost use Rattle.ygrammar.specs.Tree.{HasOneTree};
 
 use crate::fault::SyntaxFault;
+use crate::limits::LONGEST_FILE;
 use crate::part::{Lexeme, Part};
 use crate::reading::part_at;
 use crate::recogniser::State;
@@ -70,29 +73,28 @@ pub fn read_lexemes<'a>(alloc: Global, bytes: &'a [u8]) -> Result<Vec<Placed<'a>
     }
 }
 
-/// The most bytes that a grammar file may have.
-pub const FILE_LIMIT: usize = 1_048_576;
-
 /// The lexemes of a grammar file, or its first fault.
 ///
 /// Want of memory may come in place of any answer but `TooLong`.
 pub fn read_syntax<'a>(alloc: Global, bytes: &'a [u8]) -> Result<Vec<Placed<'a>>, SyntaxFault>
     // It comes before every other answer.
-    ensures too_long { IsErrOf result SyntaxFault.TooLong ↔ (1048576 < length bytes.now) }
+    ensures too_long { IsErrOf result SyntaxFault.TooLong ↔ (longest_file < length bytes.now) }
     // What is read is spelled.
     ensures found { IfOk result (λ v. SpellsSyntax bytes.now (views v.items)) }
     // Its lexemes are those of exactly one syntax tree.
     ensures tree { IfOk result (λ v. HasOneTree (views v.items)) }
     // What is spelled is read.
-    ensures only { (ls : List LexemeOf) → length bytes.now ≤ 1048576 → SpellsSyntax bytes.now ls → Answers result (Ok ls) }
+    ensures only { (ls : List LexemeOf) → length bytes.now ≤ longest_file →
+        SpellsSyntax bytes.now ls → Answers result (Ok ls) }
     // The first fault of the file is answered, with its line.
-    ensures fault { (r : Refusal) → length bytes.now ≤ 1048576 → Outcome bytes.now (Err r) → Answers result (Err r) }
+    ensures fault { (r : Refusal) → length bytes.now ≤ longest_file → Outcome bytes.now (Err r) →
+        Answers result (Err r) }
     // There is no other answer.
-    ensures exact { length bytes.now ≤ 1048576 → Gives bytes.now result }
+    ensures exact { length bytes.now ≤ longest_file → Gives bytes.now result }
     // Each lexeme stands at its place.
     ensures placed { IfOk result (λ v. AllByRecursion (StandsIn bytes.now) v.items) }
 {
-    if bytes.len() > FILE_LIMIT {
+    if bytes.len() > LONGEST_FILE {
         return Err(SyntaxFault::TooLong);
     }
     read_lexemes(alloc, bytes)

@@ -1,6 +1,7 @@
 //! What a syntax tree means: the grammar, or the first mistake.
 
-ghost use Rattle.std.specs.Prelude.{◌≡◌, ◌≤◌, ℕ, true, IfOk, List, map, not, slice_index_or, unwrap_or};
+ghost use Rattle.std.specs.Prelude.{◌≡◌, ◌<◌, ◌≤◌, ◌^◌, ℕ, true, IfOk, List, map, not};
+ghost use Rattle.std.specs.Prelude.{slice_index_or, unwrap_or};
 ghost use Rattle.std.specs.List.{find};
 ghost use Rattle.ygrammar.specs.Cuttings.{SpellsSyntax};
 ghost use Rattle.ygrammar.specs.Elaborated.{Elaborates, Fruitful, GivesNamed, IsReady};
@@ -8,6 +9,7 @@ ghost use Rattle.ygrammar.specs.Marking.{AreIn, numbered_grammar};
 ghost use Rattle.ygrammar.specs.Meaning.{IsMeaning};
 ghost use Rattle.ygrammar.specs.NameTexts.{texts};
 ghost use Rattle.ygrammar.specs.Names.{number_in};
+ghost use Rattle.ygrammar.specs.Numbered.{inner_after};
 ghost use Rattle.ygrammar.specs.Spans.{kept_texts, part_of};
 ghost use Rattle.ygrammar.specs.Tree.{IsTree, Tree as TreeOf, yield};
 ghost use Rattle.ygrammar.specs.Outline.{Outlines};
@@ -43,7 +45,8 @@ pub struct Named {
 
 /// The symbols of a tree, or the first of the mistakes that can stand in them.
 fn name_symbols(alloc: Global, tree: &Tree, outline: &Outline) -> Result<Named, Refused>
-    requires { Outlines outline.now (tree_view tree.now) }
+    requires outline { Outlines outline.now (tree_view tree.now) }
+    requires counted { inner_after 1 (tree_view tree.now).clauses < 2 ^ 64 }
     ensures { GivesNamed (tree_view tree.now) result }
 {
     let mut names = tokens(alloc, outline)?;
@@ -65,7 +68,10 @@ fn name_symbols(alloc: Global, tree: &Tree, outline: &Outline) -> Result<Named, 
 
 /// The place of the first left side that isn't marked.
 fn unmarked_left(lefts: &[NameAt], names: &Names, marks: &[bool]) -> usize
-    ensures { result ≡ unwrap_or (option_view (λ l. l.at) (find (λ l. not (slice_index_or marks.now (number_in (texts names.now) (name_view l)) true)) lefts.now)) 0 }
+    ensures { result
+        ≡ unwrap_or (option_view (λ l. l.at)
+        (find (λ l. not (slice_index_or marks.now (number_in (texts names.now) (name_view l))
+        true)) lefts.now)) 0 }
 {
     for left in lefts {
         let s = number_in(names, left.name);
@@ -122,7 +128,8 @@ fn grammar_of(
     Ok(Grammar::of(names, tokens, numbers, given, rules, texts, reachable))
 }
 
-/// What a tree means: the grammar, or the first mistake. The kept texts among its lexemes stand at these places of the source.
+/// What a tree means: the grammar, or the first mistake. The kept texts among its lexemes stand at
+/// these places of the source.
 pub fn elaborate(
     alloc: Global,
     source: &[u8],
@@ -132,6 +139,7 @@ pub fn elaborate(
     requires spelled { (bytes : List ℕ) × SpellsSyntax bytes (yield (tree_view tree.now)) }
     requires shaped { IsTree (tree_view tree.now) }
     requires kept { map (part_of source.now) kept.now ≡ kept_texts (yield (tree_view tree.now)) }
+    requires counted { inner_after 1 (tree_view tree.now).clauses < 2 ^ 64 }
     ensures { Elaborates (tree_view tree.now) result }
 {
     let outline = Outline::new(alloc, tree)?;

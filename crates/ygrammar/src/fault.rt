@@ -2,7 +2,8 @@
 
 ghost use Rattle.std.specs.Prelude.{◌≡◌};
 ghost use Rattle.ygrammar.specs.Answers.{fault_at};
-ghost use Rattle.ygrammar.specs.Faults.{IsRefusal, line_of, mistake_at, of_syntax};
+ghost use Rattle.ygrammar.specs.Faults.{IsRefusal, line_of, of_syntax};
+ghost use Rattle.ygrammar.specs.GrammarOf.{mistake_at};
 ghost use Rattle.ygrammar.specs.declared.fault.SyntaxFault.TheVariants.{Memory};
 
 use crate::mistake::{Mistake, Refused};
@@ -10,7 +11,8 @@ use crate::part::LexicalFault;
 use std::alloc::AllocFailed;
 use thiserror::Error;
 
-/// The fault of a grammar file's syntax. A line is one more than the newlines before the place at fault.
+/// The fault of a grammar file's syntax. A line is one more than the newlines before the place at
+/// fault.
 #[derive(Clone, Copy, Debug, PartialEq, Eq, Drop, Error)]
 pub enum SyntaxFault {
     /// G1: the file has more than 1,048,576 bytes.
@@ -60,7 +62,8 @@ pub enum GrammarFault {
     /// G8: a token is given a precedence twice.
     #[error("G8 at line {line}")]
     TwicePrecedence { line: usize },
-    /// G9: an explicit number is out of range, a token is given two, or two tokens have one.
+    /// G9: a number that is given is not in 1 to 32,767, a token is given two, or two tokens have
+    /// one.
     #[error("G9 at line {line}")]
     BadNumber { line: usize },
     /// G10: `%start` names no nonterminal, or stands twice.
@@ -72,7 +75,7 @@ pub enum GrammarFault {
     /// G12: `%prec` names a nonterminal.
     #[error("G12 at line {line}")]
     BadPrec { line: usize },
-    /// G13: more symbols, rules or symbols in a body than the limits.
+    /// G13: more than 4,096 symbols, 8,192 rules, or 255 symbols in a body; on line 1.
     #[error("G13 at line {line}")]
     Limit { line: usize },
     /// G14: memory was refused.

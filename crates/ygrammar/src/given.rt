@@ -1,17 +1,20 @@
 //! What the listings give to the tokens: precedences and numbers, by the number of the token.
 
-ghost use Rattle.std.specs.Prelude.{◌≡◌, ◌<◌, ◌≤◌, ◌++◌, ◌∷◌, ℕ, List, Option, None, map, MatchOption};
+ghost use Rattle.std.specs.Prelude.{◌≡◌, ◌<◌, ◌≤◌, ◌++◌, ◌∷◌, ℕ, List, Option, None, map};
+ghost use Rattle.std.specs.Prelude.{MatchOption};
 ghost use Rattle.std.specs.Char.{digit_value};
 ghost use Rattle.std.specs.Str.Parse.{digits_value};
 ghost use Rattle.ygrammar.specs.Elaboration.{literal_value, tokens as tokens_of_tree, usual_of};
 ghost use Rattle.ygrammar.specs.Names.{Name};
-ghost use Rattle.ygrammar.specs.Owned.{AllSmall, IsFit, OwnSoFar, Owns, Precedes, TellsNumbers, filled};
+ghost use Rattle.ygrammar.specs.Owned.{AllSmall, IsFit, OwnSoFar, Owns, Precedes, TellsNumbers};
+ghost use Rattle.ygrammar.specs.Owned.{filled};
 ghost use Rattle.ygrammar.specs.Tree.{Identifier as IdentifierOf, Tree as TreeOf};
 ghost use Rattle.ygrammar.specs.TreeViews.{identifier_view, mention_view};
 ghost use Rattle.ygrammar.specs.NameTexts.{texts};
 ghost use Rattle.ygrammar.specs.Outline.{Outlines, listed_view};
 ghost use Rattle.ygrammar.specs.Told.{TellsPrecedences};
 
+use crate::limits::GREATEST_NUMBER;
 use crate::mistake::{Mistake, Refused};
 use crate::names::{Names, number_in, number_of};
 use crate::numbers::own_marks;
@@ -58,12 +61,14 @@ fn digit(b: u8) -> u32
 
 /// The number that digits write, where it may be given to a token.
 pub fn fit_number(digits: &[u8]) -> Option<u32>
-    ensures { MatchOption result (IsFit (digits_value 10 digits.now) → ⊥) (λ v. (v ≡ digits_value 10 digits.now) × IsFit v) }
+    ensures { MatchOption result
+        (IsFit (digits_value 10 digits.now) → ⊥)
+        (λ v. (v ≡ digits_value 10 digits.now) × IsFit v) }
 {
     let mut value: u32 = 0;
     for b in digits {
         value = value * 10 + digit(*b);
-        if value > 32767 {
+        if value > GREATEST_NUMBER {
             return None;
         }
     }
@@ -118,7 +123,9 @@ pub fn fill(table: &mut Vec<Option<u32>>, token: usize, number: u32)
 /// Gives a literal that has no number its value.
 fn fill_literal(table: &mut Vec<Option<u32>>, tokens: &Names, who: Identifier)
     ensures small { AllSmall table.old.items → AllSmall table.new.items }
-    ensures told { (rest : List IdentifierOf) (own : Name → Option ℕ) → OwnSoFar (texts tokens.now) table.old.items (literal_value (identifier_view who.entry ∷ rest)) own → OwnSoFar (texts tokens.now) table.new.items (literal_value rest) own }
+    ensures told { (rest : List IdentifierOf) (own : Name → Option ℕ) →
+        OwnSoFar (texts tokens.now) table.old.items (literal_value (identifier_view who.entry
+        ∷ rest)) own → OwnSoFar (texts tokens.now) table.new.items (literal_value rest) own }
 {
     match who {
         Identifier::Named(_) => {}
@@ -129,14 +136,17 @@ fn fill_literal(table: &mut Vec<Option<u32>>, tokens: &Names, who: Identifier)
 /// Gives literals that have no number their values.
 fn fill_literals(table: &mut Vec<Option<u32>>, tokens: &Names, mentions: &[Mention])
     ensures small { AllSmall table.old.items → AllSmall table.new.items }
-    ensures told { (more : List IdentifierOf) (own : Name → Option ℕ) → OwnSoFar (texts tokens.now) table.old.items (literal_value (map mention_view mentions.now ++ more)) own → OwnSoFar (texts tokens.now) table.new.items (literal_value more) own }
+    ensures told { (more : List IdentifierOf) (own : Name → Option ℕ) →
+        OwnSoFar (texts tokens.now) table.old.items (literal_value (map mention_view mentions.now
+        ++ more)) own → OwnSoFar (texts tokens.now) table.new.items (literal_value more) own }
 {
     for mention in mentions {
         fill_literal(table, tokens, mention.who);
     }
 }
 
-/// The numbers that the tokens have by themselves: those given, that of the end, that of `error`, and the values of literals.
+/// The numbers that the tokens have by themselves: those given, that of the end, that of `error`,
+/// and the values of literals.
 pub fn own_numbers(
     tokens: &Names,
     given: Vec<Option<u32>>,
@@ -144,7 +154,10 @@ pub fn own_numbers(
     used: &[Mention],
 ) -> Vec<Option<u32>>
     ensures small { AllSmall given.items → AllSmall result.items }
-    ensures told { (own : Name → Option ℕ) → OwnSoFar (texts tokens.now) given.items (usual_of (map mention_view declared.now ++ map mention_view used.now)) own → OwnSoFar (texts tokens.now) result.items (λ _. None) own }
+    ensures told { (own : Name → Option ℕ) →
+        OwnSoFar (texts tokens.now) given.items (usual_of (map mention_view declared.now
+        ++ map mention_view used.now)) own →
+        OwnSoFar (texts tokens.now) result.items (λ _. None) own }
 {
     let mut own = given;
     fill(&mut own, number_in(tokens, b"$end"), 0);
@@ -167,14 +180,16 @@ pub fn precedences(
     tokens: &Names,
     outline: &Outline,
 ) -> Result<Vec<Option<Precedence>>, Refused>
-    ensures { (t : TreeOf) → Outlines outline.now t → texts tokens.now ≡ tokens_of_tree t → Precedes t result }
+    ensures { (t : TreeOf) → Outlines outline.now t → texts tokens.now ≡ tokens_of_tree t →
+        Precedes t result }
 {
     told_precedences(alloc, tokens, &outline.listed)
 }
 
 /// The numbers that the tokens have by themselves.
 pub fn own_table(alloc: Global, tokens: &Names, outline: &Outline) -> Result<OwnTable, Refused>
-    ensures { (t : TreeOf) → Outlines outline.now t → texts tokens.now ≡ tokens_of_tree t → Owns t result }
+    ensures { (t : TreeOf) → Outlines outline.now t → texts tokens.now ≡ tokens_of_tree t →
+        Owns t result }
 {
     let given = given_numbers(alloc, tokens, &outline.listed)?;
     let numbers = own_numbers(tokens, given, &outline.declared, &outline.used);

@@ -1,9 +1,10 @@
 //! The value that stands between the reader and the automaton: a grammar that is well formed.
 
-ghost use Rattle.std.specs.Prelude.{◌≡◌, ◌<◌, ◌↔◌, [], None, IsTrue, false, length, slice_get, slice_index_or};
+ghost use Rattle.std.specs.Prelude.{◌≡◌, ◌<◌, ◌↔◌, [], None, IsTrue, false, length, slice_get};
+ghost use Rattle.std.specs.Prelude.{slice_index_or};
 ghost use Rattle.ygrammar.specs.Grammar.{IsToken, rule_of};
-ghost use Rattle.ygrammar.specs.NameTexts.{find_in, value_of};
-ghost use Rattle.ygrammar.specs.Names.{printed_literal};
+ghost use Rattle.ygrammar.specs.NameTexts.{value_of};
+ghost use Rattle.ygrammar.specs.Names.{find_in, printed_literal};
 ghost use Rattle.ygrammar.specs.TreeViews.{text_view};
 ghost use Rattle.ygrammar.specs.WellFormed.{IsWhole, WellFormed};
 
@@ -12,10 +13,14 @@ use crate::precedence::Precedence;
 use crate::texts::Texts;
 use std::marker::Model;
 
-/// The number of a symbol. The tokens come first, `$end` is 0.
+/// The number of a symbol, below `Grammar::symbols`. The tokens come first: 0 is `$end`, 1 is
+/// `error`.
+///
+/// Each has a name of its own, and each token a number of its own (POSIX yacc, "Declarations
+/// Section").
 pub type Sym = usize;
 
-/// A rule: its left side, its body and its precedence.
+/// A rule: its left side, its body and its precedence (POSIX yacc, "Grammar Rules in yacc").
 #[derive(Drop)]
 pub struct Rule {
     left: Sym,
@@ -28,13 +33,20 @@ impl Model for Rule {
 
     ghost Value = { RuleValue };
 
-    ghost view = { λ r. record { production = record { left = r.left; body = r.body.items }; precedence = r.precedence } };
+    ghost view = { λ r. record {
+      production = record { left = r.left; body = r.body.items };
+      precedence = r.precedence;
+    } };
 }
 
 impl Rule {
     /// A rule of these parts.
     pub(crate) fn of(left: Sym, body: Vec<Sym>, precedence: Option<Precedence>) -> Rule
-        ensures { result ≡ record { production = record { left = left; body = body.items }; precedence = precedence } }
+        ensures { result
+            ≡ record {
+              production = record { left = left; body = body.items };
+              precedence = precedence;
+            } }
     {
         Rule {
             left,
@@ -43,21 +55,23 @@ impl Rule {
         }
     }
 
-    /// The nonterminal that the rule replaces.
+    /// The nonterminal that the rule replaces: a symbol of its grammar that is no token.
     pub fn left(&self) -> Sym
         ensures { result ≡ self.now.production.left }
     {
         self.left
     }
 
-    /// What the nonterminal is replaced by.
+    /// What the nonterminal is replaced by: at most 255 symbols, none for an empty rule.
+    /// An action that isn't the final one stands as a nonterminal `$$k` with one empty rule.
     pub fn body(&self) -> &[Sym]
         ensures { result.now ≡ self.now.production.body }
     {
         self.body.as_slice()
     }
 
-    /// The precedence of the rule, where it has one.
+    /// The precedence of the rule, where it has one: that of the token behind its `%prec`, or else
+    /// of the last token of its body.
     pub fn precedence(&self) -> Option<Precedence>
         ensures { result ≡ self.now.precedence }
     {
@@ -65,8 +79,8 @@ impl Rule {
     }
 }
 
-/// A grammar. Every one is well formed; `symbols` tells so to its callers. It owns what it keeps: names, and the source once, of which
-/// kept texts are parts.
+/// A grammar. Every one is well formed; `symbols` tells so to its callers. It owns what it keeps:
+/// names, and the source once, of which kept texts are parts.
 #[derive(Drop)]
 pub struct Grammar {
     /// The symbols by their printed names, the tokens first.
@@ -92,7 +106,11 @@ impl Model for Grammar {
     ghost Value = { GrammarValue };
 
     ghost view = { λ g. record {
-      bare = record { tokens = g.tokens; symbols = length (texts g.names); rules = map production_of g.rules.items };
+      bare = record {
+        tokens = g.tokens;
+        symbols = length (texts g.names);
+        rules = map production_of g.rules.items;
+      };
       names = texts g.names;
       numbers = g.numbers.items;
       token_precedences = g.precedences.items;
@@ -102,7 +120,11 @@ impl Model for Grammar {
     } };
 
     ghost invariant = { λ g. IsWhole (record {
-      bare = record { tokens = g.tokens; symbols = length (texts g.names); rules = map production_of g.rules.items };
+      bare = record {
+        tokens = g.tokens;
+        symbols = length (texts g.names);
+        rules = map production_of g.rules.items;
+      };
       names = texts g.names;
       numbers = g.numbers.items;
       token_precedences = g.precedences.items;
@@ -123,8 +145,11 @@ impl Grammar {
         kept: Texts,
         reachable: Vec<bool>,
     ) -> Grammar
-        requires { IsWhole (value_of names tokens numbers.items precedences.items rules.items kept reachable.items) }
-        ensures { result ≡ value_of names tokens numbers.items precedences.items rules.items kept reachable.items }
+        requires { IsWhole (value_of names tokens numbers.items precedences.items rules.items kept
+            reachable.items) }
+        ensures { result
+            ≡ value_of names tokens numbers.items precedences.items rules.items kept
+            reachable.items }
     {
         Grammar {
             names,
@@ -137,7 +162,11 @@ impl Grammar {
         }
     }
 
-    /// How many symbols there are; each is a number below this. This call also says that the grammar is well formed.
+    /// How many symbols there are, 4 to 4,096; each is a number below this.
+    ///
+    /// This call also says what every grammar keeps: its rules have symbols in range, rule 0 is
+    /// `$accept : S $end`, every nonterminal derives a list of tokens, `$end` and `error` are the
+    /// first two tokens, no two symbols have one name and no two tokens one number.
     pub fn symbols(&self) -> usize
         ensures value { result ≡ self.now.bare.symbols }
         ensures well_formed { WellFormed self.now.bare }
@@ -146,14 +175,17 @@ impl Grammar {
         self.names.len()
     }
 
-    /// Whether the symbol is a token. The tokens are the numbers from 0 on.
+    /// Whether the symbol is a token. The tokens are the numbers from 0 on; the nonterminals and
+    /// all numbers above them are none.
     pub fn is_token(&self, s: Sym) -> bool
         ensures { IsTrue result ↔ IsToken self.now.bare s }
     {
         s < self.tokens
     }
 
-    /// The printed name of a symbol.
+    /// The printed name of a symbol below `symbols()`: a name as it stands in the file, a literal
+    /// by its value, so that it has one name in all its spellings (POSIX yacc, "Lexical Structure
+    /// of the Grammar").
     pub fn name(&self, s: Sym) -> &[u8]
         requires { s < self.now.bare.symbols }
         ensures { result.now ≡ slice_index_or self.now.names s [] }
@@ -164,7 +196,7 @@ impl Grammar {
         }
     }
 
-    /// The symbol that is printed so, where there is one.
+    /// The symbol that is printed so, or `None` where there is none.
     pub fn find(&self, name: &[u8]) -> Option<Sym>
         ensures { result ≡ find_in self.now.names name.now }
     {
@@ -172,14 +204,16 @@ impl Grammar {
         if s < self.names.len() { Some(s) } else { None }
     }
 
-    /// The token that is the literal of this value, where the grammar has it.
+    /// The token that is the literal of this value, or `None` where the grammar lacks it.
     pub fn find_literal(&self, value: u8) -> Option<Sym>
         ensures { result ≡ find_in self.now.names (printed_literal value) }
     {
         self.find(Printed::new(value).as_slice())
     }
 
-    /// The number of a token; a nonterminal has none.
+    /// The number of a token: the one that the file gives it, 1 to 32,767, or else 0 for `$end`,
+    /// 256 for `error`, the value of a literal, and for others the least that is free from 257 on
+    /// (POSIX yacc, "Declarations Section"). `None` for a nonterminal.
     pub fn number(&self, s: Sym) -> Option<u32>
         requires { s < self.now.bare.symbols }
         ensures { result ≡ slice_get self.now.numbers s }
@@ -187,7 +221,8 @@ impl Grammar {
         self.numbers.get(s).copied()
     }
 
-    /// The precedence of a token, where it has one.
+    /// The precedence that the file gives a token (POSIX yacc, "Declarations Section"). `None` for
+    /// a token without one and for a nonterminal.
     pub fn precedence(&self, s: Sym) -> Option<Precedence>
         requires { s < self.now.bare.symbols }
         ensures { result ≡ slice_index_or self.now.token_precedences s None }
@@ -199,7 +234,8 @@ impl Grammar {
         }
     }
 
-    /// Whether the symbol can be reached from the first rule.
+    /// Whether the symbol below `symbols()` can be reached from the left side of rule 0 (Aho,
+    /// Sethi, Ullman, section 4.2).
     pub fn reachable(&self, s: Sym) -> bool
         requires { s < self.now.bare.symbols }
         ensures { result ≡ slice_index_or self.now.reachable s false }
@@ -207,23 +243,26 @@ impl Grammar {
         self.reachable[s]
     }
 
-    /// How many rules there are, `$accept : S $end` among them.
+    /// How many rules there are, `$accept : S $end` among them: 2 to 8,192.
     pub fn rules(&self) -> usize
         ensures { result ≡ length self.now.bare.rules }
     {
         self.rules.len()
     }
 
-    /// The rule of this number. Rule 0 is `$accept : S $end`.
+    /// The rule of a number below `rules()`. Rule 0 is `$accept : S $end`; the others stand in the
+    /// order of the file, those of inner actions before the rule that they stand in.
     pub fn rule(&self, r: usize) -> &Rule
         requires { r < length self.now.bare.rules }
         ensures production { result.now.production ≡ rule_of self.now.bare r }
-        ensures precedence { result.now.precedence ≡ slice_index_or self.now.rule_precedences r None }
+        ensures precedence { result.now.precedence
+            ≡ slice_index_or self.now.rule_precedences r None }
     {
         &self.rules[r]
     }
 
-    /// The kept text of a rule's action with its braces, where it has one.
+    /// The kept text of the action of a rule below `rules()`, byte for byte with its braces (POSIX
+    /// yacc, "Grammar Rules in yacc"). `None` for a rule without an action.
     pub fn action_text(&self, r: usize) -> Option<&[u8]>
         requires { r < length self.now.bare.rules }
         ensures { text_view result ≡ slice_index_or self.now.texts r None }

@@ -1,4 +1,5 @@
-//! The reader of grammar files, bytes to lexemes and lexemes to a syntax; and grammars as the layers above see them.
+//! The reader of grammar files, bytes to lexemes and lexemes to a syntax; and grammars as the
+//! layers above see them.
 #![tactic(auto)]
 
 mod building;
@@ -9,9 +10,10 @@ mod cutting;
 mod elaboration;
 mod fault;
 mod given;
-pub mod grammar;
+mod grammar;
 mod kept;
 mod kind;
+mod limits;
 mod literal;
 mod mistake;
 mod names;
@@ -20,7 +22,7 @@ mod occurrences;
 mod outline;
 mod part;
 mod percent;
-pub mod precedence;
+mod precedence;
 mod productive;
 mod reachable;
 mod reader;
@@ -28,6 +30,7 @@ mod reading;
 mod recogniser;
 mod refusals;
 mod rules;
+mod syntax_tree;
 mod texts;
 mod tokens;
 mod tree;
@@ -38,10 +41,3 @@ pub use grammar::{Grammar, Rule, Sym};
 pub use literal::literal_at;
 pub use precedence::{Associativity, Precedence};
 pub use reader::read_grammar;
-
-#[cfg(test)]
-mod grammar_tests;
-#[cfg(test)]
-mod tests;
-#[cfg(test)]
-mod tree_tests;

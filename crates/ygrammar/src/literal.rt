@@ -1,9 +1,11 @@
 //! Literals: one character between quotes, plain or escaped.
 
 ghost use Rattle.std.specs.Prelude.{◌≡◌, ◌≤◌, true};
-ghost use Rattle.ygrammar.specs.Lexemes.{escape_value};
-ghost use Rattle.ygrammar.specs.Stages.{is_plain, digit_in, opened, escaped, more_octals, more_hex, next_stage, closed_stage, shut_scan, scan, scan_view};
-ghost use Rattle.ygrammar.specs.Views.{FindsLiteral, Reads, begins_quote};
+ghost use Rattle.ygrammar.specs.Lexemes.{FindsLiteral, escape_value};
+ghost use Rattle.ygrammar.specs.Stages.{is_plain, digit_in, opened, escaped, more_octals};
+ghost use Rattle.ygrammar.specs.Stages.{more_hex, next_stage, closed_stage, shut_scan, scan};
+ghost use Rattle.ygrammar.specs.Stages.{scan_view};
+ghost use Rattle.ygrammar.specs.Views.{Reads, begins_quote};
 
 use crate::part::{Lexeme, LexicalFault, Part};
 
@@ -200,7 +202,11 @@ pub(crate) fn read_literal<'a>(bytes: &'a [u8]) -> Result<(Part<'a>, &'a [u8]), 
     }
 }
 
-/// The value of the literal at the front, 1 to 255, and what follows it, where a literal stands there.
+/// The value of the literal at the front, 1 to 255, and what follows it (POSIX yacc, "Lexical
+/// Structure of the Grammar"): one character between quotes, plain, `\n` and the like, up to three
+/// octal digits, or hexadecimal ones behind `\x`.
+///
+/// `None` where no literal stands at the front, also where the bytes end within one.
 pub fn literal_at(bytes: &[u8]) -> Option<(u8, &[u8])>
     ensures { FindsLiteral bytes.now result }
 {

@@ -26,7 +26,8 @@ pub enum Mistake {
     Limit,
 }
 
-/// Why a syntax means no grammar: a mistake, and how many bytes stand before the place at fault; or memory was refused.
+/// Why a syntax means no grammar: a mistake, and how many bytes stand before the place at fault;
+/// or memory was refused.
 #[derive(Clone, Copy, Debug, PartialEq, Eq, Drop)]
 pub enum Refused {
     Mistake { what: Mistake, at: usize },

@@ -1,7 +1,8 @@
 //! Symbols by their printed names: each name once, its number the place where it was noted.
 
 ghost use Rattle.std.specs.Prelude.{◌≡◌, ◌≤◌, ℕ, List, length, map, take, OnOk, IfOk, [], ◌∷◌};
-ghost use Rattle.ygrammar.specs.Names.{is_among, noted, noted_all, number_in, printed, printed_literal};
+ghost use Rattle.ygrammar.specs.Names.{is_among, noted, noted_all, number_in, printed};
+ghost use Rattle.ygrammar.specs.Names.{printed_literal};
 ghost use Rattle.ygrammar.specs.NameTexts.{texts};
 ghost use Rattle.ygrammar.specs.TreeViews.{identifier_view, mention_view, name_view};
 
@@ -107,7 +108,8 @@ pub fn is_named(names: &Names, who: Identifier) -> bool
 
 /// Notes a name or literal, unless it is there.
 pub fn note_identifier(alloc: Global, names: &mut Names, who: Identifier) -> Result<(), AllocError>
-    ensures { OnOk result (texts names.new ≡ noted (texts names.old) (printed (identifier_view who.entry))) }
+    ensures { OnOk result (texts names.new
+        ≡ noted (texts names.old) (printed (identifier_view who.entry))) }
 {
     match who {
         Identifier::Named(name) => note(alloc, names, name),

@@ -1,21 +1,25 @@
 //! The numbers of the tokens: their own, and for the others the least unused from 257 on.
 
-ghost use Rattle.std.specs.Prelude.{◌≡◌, ◌<◌, ◌≤◌, ◌↔◌, ℕ, IfOk, MatchOption, length, false, max, slice_index_or, true};
-ghost use Rattle.ygrammar.specs.Numbers.{AreNumbers, AreSmall, Clashes, IsOwn, MarksBelow, MarksOwn};
+ghost use Rattle.std.specs.Prelude.{◌≡◌, ◌<◌, ◌≤◌, ◌↔◌, ℕ, IfOk, MatchOption, length, false, max};
+ghost use Rattle.std.specs.Prelude.{slice_index_or, true};
+ghost use Rattle.ygrammar.specs.Numbers.{AreNumbers, AreSmall, Clashes, IsOwn, MarksBelow};
+ghost use Rattle.ygrammar.specs.Numbers.{MarksOwn};
 
 use std::alloc::{AllocError, Global};
 
 /// Numbers that may be given are below this.
 const NUMBERS: usize = 32768;
 
-/// Marks for the numbers that tokens have by themselves, all below `count`, or `None` where two have one.
+/// Marks for the numbers that tokens have by themselves, all below `count`, or `None` where two
+/// have one.
 fn marks_below(
     alloc: Global,
     own: &[Option<u32>],
     count: usize,
 ) -> Result<Option<Vec<bool>>, AllocError>
     requires { (m : ℕ) → IsOwn own.now m → m < count }
-    ensures { IfOk result (λ o. MatchOption o (Clashes own.now) (λ marks. MarksBelow count own.now marks.items)) }
+    ensures { IfOk result
+        (λ o. MatchOption o (Clashes own.now) (λ marks. MarksBelow count own.now marks.items)) }
 {
     let mut marks = vec![in alloc; false; count]?;
     for one in own {
@@ -36,7 +40,8 @@ fn marks_below(
 /// Marks for the numbers that tokens have by themselves, or `None` where two have one.
 pub fn own_marks(alloc: Global, own: &[Option<u32>]) -> Result<Option<Vec<bool>>, AllocError>
     requires { AreSmall own.now }
-    ensures { IfOk result (λ o. MatchOption o (Clashes own.now) (λ marks. MarksOwn own.now marks.items)) }
+    ensures { IfOk result
+        (λ o. MatchOption o (Clashes own.now) (λ marks. MarksOwn own.now marks.items)) }
 {
     marks_below(alloc, own, NUMBERS)
 }

@@ -1,7 +1,9 @@
-//! Lists of rules, one for each symbol: those in whose bodies it stands, and those of which it is the left side.
+//! Lists of rules, one for each symbol: those in whose bodies it stands, and those of which it is
+//! the left side.
 
 ghost use Rattle.std.specs.Prelude.{◌≡◌, ◌<◌, [], ℕ, length, slice_index, EachIndex, IfOk, OnOk};
-ghost use Rattle.ygrammar.specs.Marking.{AreByLeft, AreIn, AreOccurrences, IsFiled, IsFiledEach, list_at, lists_of, rule_at};
+ghost use Rattle.ygrammar.specs.Marking.{AreByLeft, AreIn, AreOccurrences, IsFiled, IsFiledEach};
+ghost use Rattle.ygrammar.specs.Marking.{list_at, lists_of, rule_at};
 
 use crate::grammar::{Rule, Sym};
 use std::alloc::{AllocError, Global};
@@ -48,7 +50,8 @@ fn file(lists: &mut Vec<Vec<usize>>, s: Sym, r: usize) -> Result<(), AllocError>
 fn file_body(lists: &mut Vec<Vec<usize>>, body: &[Sym], r: usize) -> Result<(), AllocError>
     requires { EachIndex body.now (λ k. slice_index body.now k < length lists.old.items) }
     ensures sized { OnOk result (length lists.new.items ≡ length lists.old.items) }
-    ensures filed { OnOk result (IsFiledEach body.now r (lists_of lists.old) (lists_of lists.new)) }
+    ensures filed { OnOk result (IsFiledEach body.now r (lists_of lists.old)
+        (lists_of lists.new)) }
 {
     for s in body {
         file(lists, *s, r)?;

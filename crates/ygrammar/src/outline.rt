@@ -1,10 +1,15 @@
-//! What stands in a file, list by list: what is listed, started, typed, declared and used, and the left sides.
+//! What stands in a file, list by list: what is listed, started, typed, declared and used, and the
+//! left sides.
 
 ghost use Rattle.std.specs.Prelude.{◌≡◌, ◌++◌, ℕ, map, IfOk, OnOk, length};
 ghost use Rattle.std.specs.List.{flat_map};
-ghost use Rattle.ygrammar.specs.Elaboration.{clause_left, declared, given_by, item_identifier, level_at, listing_of, listings_from, option_list, prec_of, started, typed, used, who_of};
+ghost use Rattle.ygrammar.specs.Elaboration.{clause_left, declared, given_by, item_identifier};
+ghost use Rattle.ygrammar.specs.Elaboration.{level_at, listing_of, listings_from, option_list};
+ghost use Rattle.ygrammar.specs.Elaboration.{prec_of, started, typed, used, who_of};
 ghost use Rattle.ygrammar.specs.Outline.{Outlines, listed_view, start_view};
-ghost use Rattle.ygrammar.specs.TreeViews.{clause_view, definition_view, entry_view, item_view, mention_view, name_view, option_view, tree_view, word_view};
+ghost use Rattle.ygrammar.specs.TreeViews.{clause_view, definition_view, entry_view, item_view};
+ghost use Rattle.ygrammar.specs.TreeViews.{mention_view, name_view, option_view, tree_view};
+ghost use Rattle.ygrammar.specs.TreeViews.{word_view};
 
 use crate::precedence::{Associativity, Precedence};
 use crate::tree::{Clause, Definition, Digits, Entry, Item, Mention, NameAt, Tree, Word};
@@ -44,7 +49,8 @@ pub struct Outline<'a> {
 
 /// Adds the tokens of a line.
 fn push_entries<'a>(found: &mut Vec<Mention<'a>>, entries: &[Entry<'a>]) -> Result<(), AllocError>
-    ensures { OnOk result (map mention_view found.new.items ≡ map mention_view found.old.items ++ map who_of (map entry_view entries.now)) }
+    ensures { OnOk result (map mention_view found.new.items
+        ≡ map mention_view found.old.items ++ map who_of (map entry_view entries.now)) }
 {
     for entry in entries {
         found.push(entry.who)?;
@@ -57,7 +63,8 @@ fn push_declared<'a>(
     found: &mut Vec<Mention<'a>>,
     definition: &Definition<'a>,
 ) -> Result<(), AllocError>
-    ensures { OnOk result (map mention_view found.new.items ≡ map mention_view found.old.items ++ declared (definition_view definition.now)) }
+    ensures { OnOk result (map mention_view found.new.items
+        ≡ map mention_view found.old.items ++ declared (definition_view definition.now)) }
 {
     match definition {
         Definition::Start(who, _) => found.push(*who)?,
@@ -73,7 +80,8 @@ fn all_declared<'a>(
     alloc: Global,
     definitions: &[Definition<'a>],
 ) -> Result<Vec<Mention<'a>>, AllocError>
-    ensures { IfOk result (λ v. map mention_view v.items ≡ flat_map declared (map definition_view definitions.now)) }
+    ensures { IfOk result (λ v. map mention_view v.items
+        ≡ flat_map declared (map definition_view definitions.now)) }
 {
     let mut found = Vec::new(alloc);
     for definition in definitions {
@@ -86,7 +94,8 @@ fn all_starts<'a>(
     alloc: Global,
     definitions: &[Definition<'a>],
 ) -> Result<Vec<Started<'a>>, AllocError>
-    ensures { IfOk result (λ v. map start_view v.items ≡ flat_map started (map definition_view definitions.now)) }
+    ensures { IfOk result (λ v. map start_view v.items
+        ≡ flat_map started (map definition_view definitions.now)) }
 {
     let mut found = Vec::new(alloc);
     for definition in definitions {
@@ -103,7 +112,8 @@ fn all_starts<'a>(
 
 /// Adds names.
 fn push_names<'a>(found: &mut Vec<NameAt<'a>>, names: &[NameAt<'a>]) -> Result<(), AllocError>
-    ensures { OnOk result (map name_view found.new.items ≡ map name_view found.old.items ++ map name_view names.now) }
+    ensures { OnOk result (map name_view found.new.items
+        ≡ map name_view found.old.items ++ map name_view names.now) }
 {
     for name in names {
         found.push(*name)?;
@@ -115,7 +125,8 @@ fn all_typed<'a>(
     alloc: Global,
     definitions: &[Definition<'a>],
 ) -> Result<Vec<NameAt<'a>>, AllocError>
-    ensures { IfOk result (λ v. map name_view v.items ≡ flat_map typed (map definition_view definitions.now)) }
+    ensures { IfOk result (λ v. map name_view v.items
+        ≡ flat_map typed (map definition_view definitions.now)) }
 {
     let mut found = Vec::new(alloc);
     for definition in definitions {
@@ -149,7 +160,8 @@ fn push_listed<'a>(
     gives: Option<Precedence>,
     entries: &[Entry<'a>],
 ) -> Result<(), AllocError>
-    ensures { OnOk result (map listed_view found.new.items ≡ map listed_view found.old.items ++ map (listing_of gives) (map entry_view entries.now)) }
+    ensures { OnOk result (map listed_view found.new.items
+        ≡ map listed_view found.old.items ++ map (listing_of gives) (map entry_view entries.now)) }
 {
     for entry in entries {
         found.push(Listed {
@@ -165,7 +177,8 @@ fn all_listed<'a>(
     alloc: Global,
     definitions: &[Definition<'a>],
 ) -> Result<Vec<Listed<'a>>, AllocError>
-    ensures { IfOk result (λ v. map listed_view v.items ≡ listings_from 0 (map definition_view definitions.now)) }
+    ensures { IfOk result (λ v. map listed_view v.items
+        ≡ listings_from 0 (map definition_view definitions.now)) }
 {
     let mut found = Vec::new(alloc);
     let mut level: usize = 0;
@@ -187,7 +200,8 @@ fn all_listed<'a>(
 }
 
 fn all_lefts<'a>(alloc: Global, clauses: &[Clause<'a>]) -> Result<Vec<NameAt<'a>>, AllocError>
-    ensures { IfOk result (λ v. map name_view v.items ≡ flat_map clause_left (map clause_view clauses.now)) }
+    ensures { IfOk result (λ v. map name_view v.items
+        ≡ flat_map clause_left (map clause_view clauses.now)) }
 {
     let mut found = Vec::new(alloc);
     for clause in clauses {
@@ -201,7 +215,8 @@ fn all_lefts<'a>(alloc: Global, clauses: &[Clause<'a>]) -> Result<Vec<NameAt<'a>
 
 /// Adds the names and literals of a body.
 fn push_items<'a>(found: &mut Vec<Mention<'a>>, items: &[Item<'a>]) -> Result<(), AllocError>
-    ensures { OnOk result (map mention_view found.new.items ≡ map mention_view found.old.items ++ flat_map item_identifier (map item_view items.now)) }
+    ensures { OnOk result (map mention_view found.new.items
+        ≡ map mention_view found.old.items ++ flat_map item_identifier (map item_view items.now)) }
 {
     for item in items {
         match item {
@@ -214,7 +229,8 @@ fn push_items<'a>(found: &mut Vec<Mention<'a>>, items: &[Item<'a>]) -> Result<()
 
 /// Adds the name or literal behind a `%prec`, where there is one.
 fn push_prec<'a>(found: &mut Vec<Mention<'a>>, prec: Option<Mention<'a>>) -> Result<(), AllocError>
-    ensures { OnOk result (map mention_view found.new.items ≡ map mention_view found.old.items ++ option_list (option_view mention_view prec.entry)) }
+    ensures { OnOk result (map mention_view found.new.items
+        ≡ map mention_view found.old.items ++ option_list (option_view mention_view prec.entry)) }
 {
     match prec {
         Some(who) => found.push(who)?,
@@ -224,7 +240,8 @@ fn push_prec<'a>(found: &mut Vec<Mention<'a>>, prec: Option<Mention<'a>>) -> Res
 }
 
 fn all_used<'a>(alloc: Global, clauses: &[Clause<'a>]) -> Result<Vec<Mention<'a>>, AllocError>
-    ensures { IfOk result (λ v. map mention_view v.items ≡ flat_map used (map clause_view clauses.now)) }
+    ensures { IfOk result (λ v. map mention_view v.items
+        ≡ flat_map used (map clause_view clauses.now)) }
 {
     let mut found = Vec::new(alloc);
     for clause in clauses {
@@ -235,7 +252,8 @@ fn all_used<'a>(alloc: Global, clauses: &[Clause<'a>]) -> Result<Vec<Mention<'a>
 }
 
 fn all_precs<'a>(alloc: Global, clauses: &[Clause<'a>]) -> Result<Vec<Mention<'a>>, AllocError>
-    ensures { IfOk result (λ v. map mention_view v.items ≡ flat_map prec_of (map clause_view clauses.now)) }
+    ensures { IfOk result (λ v. map mention_view v.items
+        ≡ flat_map prec_of (map clause_view clauses.now)) }
 {
     let mut found = Vec::new(alloc);
     for clause in clauses {

@@ -1,6 +1,6 @@
 //! Precedences of tokens and rules (POSIX yacc, "Declarations Section").
 
-/// Which of two equal levels wins.
+/// What follows where two levels are equal: the reduction, the shift, or an error.
 #[derive(Clone, Copy, Debug, Drop, PartialEq, Eq)]
 pub enum Associativity {
     Left,
@@ -8,9 +8,10 @@ pub enum Associativity {
     Nonassoc,
 }
 
-/// A precedence: the line that gave it, counted from 1, where a later line binds tighter, and its kind.
+/// A precedence of a token or a rule.
 #[derive(Clone, Copy, Debug, Drop, PartialEq, Eq)]
 pub struct Precedence {
+    /// Which line of precedences gave it, counted from 1: a later line binds tighter.
     pub level: usize,
     pub kind: Associativity,
 }

@@ -1,8 +1,11 @@
 //! Which symbols derive a list of tokens, by a worklist over the places where symbols stand.
 
-ghost use Rattle.std.specs.Prelude.{◌≡◌, ◌≤◌, ◌<◌, ◌↔◌, ℕ, length, slice_index, slice_index_or, EachIndex, false, IfOk, OnOk, vec_len};
+ghost use Rattle.std.specs.Prelude.{◌≡◌, ◌≤◌, ◌<◌, ◌↔◌, ℕ, length, slice_index, slice_index_or};
+ghost use Rattle.std.specs.Prelude.{EachIndex, false, IfOk, OnOk, vec_len};
 ghost use Rattle.ygrammar.specs.Forms.{Productive};
-ghost use Rattle.ygrammar.specs.Marking.{AreDots, AreIn, DotFits, Grows, IsMarked, IsSettled, IsUnmarked, IsWorklist, MarksProductive, numbered_grammar, rule_at, unmarked};
+ghost use Rattle.ygrammar.specs.Marking.{AreDots, AreIn, DotFits, Grows, IsMarked, IsSettled};
+ghost use Rattle.ygrammar.specs.Marking.{IsUnmarked, IsWorklist, MarksProductive};
+ghost use Rattle.ygrammar.specs.Marking.{numbered_grammar, rule_at, unmarked};
 
 use crate::grammar::{Rule, Sym};
 use crate::occurrences::{body_at, left_at, occurrences};
@@ -35,10 +38,14 @@ fn visit(
     requires within { r < length rules.now }
     requires in_range { AreIn (length marks.old.items) rules.now }
     requires dots { AreDots rules.now dots.old.items marks.old.items }
-    ensures grows { OnOk result (Grows marks.old.items order.old.items marks.new.items order.new.items) }
+    ensures grows { OnOk result (Grows marks.old.items order.old.items marks.new.items
+        order.new.items) }
     ensures dots { OnOk result (AreDots rules.now dots.new.items marks.new.items) }
-    ensures settled { OnOk result ((done : ℕ) → IsSettled (rule_at rules.now r) marks.new.items order.new.items done) }
-    ensures sound { OnOk result ((tokens symbols : ℕ) → MarksProductive (numbered_grammar tokens symbols rules.now) marks.old.items → MarksProductive (numbered_grammar tokens symbols rules.now) marks.new.items) }
+    ensures settled { OnOk result ((done : ℕ) →
+        IsSettled (rule_at rules.now r) marks.new.items order.new.items done) }
+    ensures sound { OnOk result ((tokens symbols : ℕ) →
+        MarksProductive (numbered_grammar tokens symbols rules.now) marks.old.items →
+        MarksProductive (numbered_grammar tokens symbols rules.now) marks.new.items) }
 {
     let body = body_at(rules, r);
     let dot = advance(body, marks, dots[r]);
@@ -60,10 +67,15 @@ fn visit_listed(
     requires listed { EachIndex listed.now (λ k. slice_index listed.now k < length rules.now) }
     requires in_range { AreIn (length marks.old.items) rules.now }
     requires dots { AreDots rules.now dots.old.items marks.old.items }
-    ensures grows { OnOk result (Grows marks.old.items order.old.items marks.new.items order.new.items) }
+    ensures grows { OnOk result (Grows marks.old.items order.old.items marks.new.items
+        order.new.items) }
     ensures dots { OnOk result (AreDots rules.now dots.new.items marks.new.items) }
-    ensures settled { OnOk result ((done : ℕ) → done ≤ length order.old.items → EachIndex listed.now (λ k. IsSettled (rule_at rules.now (slice_index listed.now k)) marks.new.items order.new.items done)) }
-    ensures sound { OnOk result ((tokens symbols : ℕ) → MarksProductive (numbered_grammar tokens symbols rules.now) marks.old.items → MarksProductive (numbered_grammar tokens symbols rules.now) marks.new.items) }
+    ensures settled { OnOk result ((done : ℕ) → done ≤ length order.old.items →
+        EachIndex listed.now (λ k. IsSettled (rule_at rules.now (slice_index listed.now k))
+        marks.new.items order.new.items done)) }
+    ensures sound { OnOk result ((tokens symbols : ℕ) →
+        MarksProductive (numbered_grammar tokens symbols rules.now) marks.old.items →
+        MarksProductive (numbered_grammar tokens symbols rules.now) marks.new.items) }
 {
     for r in listed {
         visit(rules, *r, dots, marks, order)?;
@@ -80,10 +92,14 @@ fn visit_each(
 ) -> Result<(), AllocError>
     requires in_range { AreIn (length marks.old.items) rules.now }
     requires dots { AreDots rules.now dots.old.items marks.old.items }
-    ensures grows { OnOk result (Grows marks.old.items order.old.items marks.new.items order.new.items) }
+    ensures grows { OnOk result (Grows marks.old.items order.old.items marks.new.items
+        order.new.items) }
     ensures dots { OnOk result (AreDots rules.now dots.new.items marks.new.items) }
-    ensures settled { OnOk result ((r : ℕ) → r < length rules.now → IsSettled (rule_at rules.now r) marks.new.items order.new.items 0) }
-    ensures sound { OnOk result ((tokens symbols : ℕ) → MarksProductive (numbered_grammar tokens symbols rules.now) marks.old.items → MarksProductive (numbered_grammar tokens symbols rules.now) marks.new.items) }
+    ensures settled { OnOk result ((r : ℕ) → r < length rules.now →
+        IsSettled (rule_at rules.now r) marks.new.items order.new.items 0) }
+    ensures sound { OnOk result ((tokens symbols : ℕ) →
+        MarksProductive (numbered_grammar tokens symbols rules.now) marks.old.items →
+        MarksProductive (numbered_grammar tokens symbols rules.now) marks.new.items) }
 {
     for r in 0..rules.len() {
         visit(rules, r, dots, marks, order)?;
@@ -102,10 +118,15 @@ fn drain(
     requires in_range { AreIn (length marks.old.items) rules.now }
     requires dots { AreDots rules.now dots.old.items marks.old.items }
     requires list { IsWorklist marks.old.items order.old.items }
-    requires settled { (r : ℕ) → r < length rules.now → IsSettled (rule_at rules.now r) marks.old.items order.old.items 0 }
-    ensures grows { OnOk result (Grows marks.old.items order.old.items marks.new.items order.new.items) }
-    ensures settled { OnOk result ((r : ℕ) → r < length rules.now → IsSettled (rule_at rules.now r) marks.new.items order.new.items (length order.new.items)) }
-    ensures sound { OnOk result ((tokens symbols : ℕ) → MarksProductive (numbered_grammar tokens symbols rules.now) marks.old.items → MarksProductive (numbered_grammar tokens symbols rules.now) marks.new.items) }
+    requires settled { (r : ℕ) → r < length rules.now →
+        IsSettled (rule_at rules.now r) marks.old.items order.old.items 0 }
+    ensures grows { OnOk result (Grows marks.old.items order.old.items marks.new.items
+        order.new.items) }
+    ensures settled { OnOk result ((r : ℕ) → r < length rules.now →
+        IsSettled (rule_at rules.now r) marks.new.items order.new.items (length order.new.items)) }
+    ensures sound { OnOk result ((tokens symbols : ℕ) →
+        MarksProductive (numbered_grammar tokens symbols rules.now) marks.old.items →
+        MarksProductive (numbered_grammar tokens symbols rules.now) marks.new.items) }
 {
     let places = occurrences(alloc, rules, marks.len())?;
     let mut done = 0;
@@ -140,7 +161,8 @@ pub fn productive(
     requires within { tokens ≤ symbols }
     requires in_range { AreIn symbols rules.now }
     ensures sized { IfOk result (λ marks. vec_len marks ≡ symbols) }
-    ensures exact { IfOk result (λ marks. (s : ℕ) → s < symbols → (IsMarked marks.items s ↔ Productive (numbered_grammar tokens symbols rules.now) s)) }
+    ensures exact { IfOk result (λ marks. (s : ℕ) → s < symbols →
+        (IsMarked marks.items s ↔ Productive (numbered_grammar tokens symbols rules.now) s)) }
 {
     let mut marks = token_marks(alloc, tokens, symbols)?;
     let mut order = Vec::new(alloc);

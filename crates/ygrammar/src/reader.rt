@@ -1,24 +1,29 @@
 //! The reader of grammar files.
 
 ghost use Rattle.std.specs.Prelude.{◌<◌, ◌↔◌, IfErr, IfOk, IsErrOf, length};
-ghost use Rattle.ygrammar.specs.Grammar.{GrammarValue};
+ghost use Rattle.ygrammar.specs.Grammar.{GrammarValue, longest_file};
 ghost use Rattle.ygrammar.specs.Cuttings.{Refusal};
-ghost use Rattle.ygrammar.specs.GrammarOf.{AnswersGrammar, AnswersMistake, AnswersRefusal, GivesGrammar, IsFaultOf, IsGrammarOf, IsMistaken, IsRefused};
+ghost use Rattle.ygrammar.specs.GrammarOf.{AnswersGrammar, AnswersMistake, AnswersRefusal};
+ghost use Rattle.ygrammar.specs.GrammarOf.{GivesGrammar, IsFaultOf, IsGrammarOf, IsMistaken};
+ghost use Rattle.ygrammar.specs.GrammarOf.{IsRefused};
 ghost use Rattle.ygrammar.specs.declared.mistake.Mistake.{Mistake};
 
-use crate::building::read_tree;
 use crate::elaboration::elaborate;
 use crate::fault::GrammarFault;
 use crate::grammar::Grammar;
+use crate::syntax_tree::read_tree;
 use std::alloc::Global;
 
-/// The grammar of a grammar file, or the file's first fault.
+/// The grammar of a grammar file, or the file's first fault (POSIX yacc, "Input Files" and
+/// "Extended Description").
 ///
-/// A file above the limit is `TooLong` before all else. Then the first place decides at which the file has no syntax. A file with a
-/// syntax has the first of the faults from `TokenLeft` to `Limit` that holds. Want of memory may come in place of any answer but `TooLong`.
+/// A file of more than 1,048,576 bytes is `TooLong` before all else. Then the first place decides
+/// at which the file has no syntax: `Unfinished`, `BadLiteral`, `Foreign` or `Syntax`, with its
+/// line. A file with a syntax has the first of the faults from `TokenLeft` to `Limit` that holds.
+/// `Memory` may come in place of any answer but `TooLong`.
 pub fn read_grammar(alloc: Global, source: &[u8]) -> Result<Grammar, GrammarFault>
     // It comes before every other answer, and for no other file.
-    ensures too_long { IsErrOf result GrammarFault.TooLong ↔ (1048576 < length source.now) }
+    ensures too_long { IsErrOf result GrammarFault.TooLong ↔ (longest_file < length source.now) }
     // What is read is the grammar of the file.
     ensures found { IfOk result (λ g. IsGrammarOf source.now g) }
     // A file that has a grammar is read.

@@ -3,7 +3,8 @@
 ghost use Rattle.std.specs.Prelude.{◌≡◌, ◌∷◌, ◌++◌, ◌<◌, List, true, length, MatchResult};
 ghost use Rattle.ygrammar.specs.Cuttings.{PartAt, FaultAt};
 ghost use Rattle.ygrammar.specs.Bytes.{begins};
-ghost use Rattle.ygrammar.specs.Views.{Reads, begins_digit, begins_slash, begins_name, is_other, is_lone, sign_of};
+ghost use Rattle.ygrammar.specs.Views.{Reads, begins_digit, begins_slash, begins_name, is_other};
+ghost use Rattle.ygrammar.specs.Views.{is_lone, sign_of};
 
 use crate::bytes::{
     after_gap, after_pair, after_text, digit_run, is_blank, is_digit, is_name_start, name_run,

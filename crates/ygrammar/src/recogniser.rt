@@ -1,7 +1,10 @@
 //! A grammar file's syntax is a regular language: a table of states decides it, with no stack.
 
 ghost use Rattle.std.specs.Prelude.{◌≡◌};
-ghost use Rattle.ygrammar.specs.Recogniser.{after_definition, on_name, on_identifier, on_less, on_greater, on_act, on_head, after_list_word, after_number, after_listed, after_typed, after_rule, after_body, after_prec, next_state, is_final, is_end};
+ghost use Rattle.ygrammar.specs.Recogniser.{after_definition, on_name, on_identifier, on_less};
+ghost use Rattle.ygrammar.specs.Recogniser.{on_greater, on_act, on_head, after_list_word};
+ghost use Rattle.ygrammar.specs.Recogniser.{after_number, after_listed, after_typed, after_rule};
+ghost use Rattle.ygrammar.specs.Recogniser.{after_body, after_prec, next_state, is_final, is_end};
 
 use crate::kind::Kind;
 

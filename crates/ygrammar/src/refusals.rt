@@ -1,25 +1,29 @@
 //! The mistakes of a file, one by one: each call answers its own, or says that there is none.
 
 ghost use Rattle.std.specs.Prelude.{◌≡◌, ◌∷◌, length, map};
-ghost use Rattle.ygrammar.specs.Elaboration.{rules as rules_of_tree, rule_precedence, symbols as symbols_of_tree, token_precedences, tokens as tokens_of_tree};
+ghost use Rattle.ygrammar.specs.Elaboration.{rules as rules_of_tree, symbols as symbols_of_tree};
+ghost use Rattle.ygrammar.specs.Elaboration.{token_precedences, tokens as tokens_of_tree};
 ghost use Rattle.ygrammar.specs.NameTexts.{texts};
 ghost use Rattle.ygrammar.specs.Numbered.{rule_numbers};
 ghost use Rattle.ygrammar.specs.Outline.{Outlines};
 ghost use Rattle.ygrammar.specs.Owned.{Clears};
 ghost use Rattle.ygrammar.specs.Tree.{Tree as TreeOf};
-ghost use Rattle.ygrammar.specs.declared.mistake.Mistake.TheVariants.{BadPrec, BadStart, Limit, TokenLeft, Undefined};
+ghost use Rattle.ygrammar.specs.declared.mistake.Mistake.TheVariants.{BadPrec, BadStart, Limit};
+ghost use Rattle.ygrammar.specs.declared.mistake.Mistake.TheVariants.{TokenLeft, Undefined};
 
 use crate::checks::{
     any_long, bad_start, first_nonterminal, first_token, first_undefined, first_unknown,
 };
 use crate::grammar::Rule;
+use crate::limits::{MOST_RULES, MOST_SYMBOLS};
 use crate::mistake::{Mistake, Refused};
 use crate::names::Names;
 use crate::outline::Outline;
 
 /// A token that is a left side, or is named by `%type`.
 pub fn refuse_token_left(outline: &Outline, tokens: &Names) -> Result<(), Refused>
-    ensures { (t : TreeOf) → Outlines outline.now t → texts tokens.now ≡ tokens_of_tree t → Clears t TokenLeft result }
+    ensures { (t : TreeOf) → Outlines outline.now t → texts tokens.now ≡ tokens_of_tree t →
+        Clears t TokenLeft result }
 {
     let what = Mistake::TokenLeft;
     match first_token(&outline.typed, tokens) {
@@ -34,7 +38,8 @@ pub fn refuse_token_left(outline: &Outline, tokens: &Names) -> Result<(), Refuse
 
 /// A name in a body, a `%prec` or a `%type` that is no symbol.
 pub fn refuse_undefined(outline: &Outline, symbols: &Names) -> Result<(), Refused>
-    ensures { (t : TreeOf) → Outlines outline.now t → texts symbols.now ≡ symbols_of_tree t → Clears t Undefined result }
+    ensures { (t : TreeOf) → Outlines outline.now t → texts symbols.now ≡ symbols_of_tree t →
+        Clears t Undefined result }
 {
     let what = Mistake::Undefined;
     match first_unknown(&outline.typed, symbols) {
@@ -49,7 +54,8 @@ pub fn refuse_undefined(outline: &Outline, symbols: &Names) -> Result<(), Refuse
 
 /// A `%start` that stands twice or names no nonterminal.
 pub fn refuse_start(outline: &Outline, symbols: &Names, tokens: usize) -> Result<(), Refused>
-    ensures { (t : TreeOf) → Outlines outline.now t → texts symbols.now ≡ symbols_of_tree t → tokens ≡ length (tokens_of_tree t) → Clears t BadStart result }
+    ensures { (t : TreeOf) → Outlines outline.now t → texts symbols.now ≡ symbols_of_tree t →
+        tokens ≡ length (tokens_of_tree t) → Clears t BadStart result }
 {
     match bad_start(&outline.starts, symbols, tokens) {
         Some(at) => Err(Refused::Mistake {
@@ -62,7 +68,8 @@ pub fn refuse_start(outline: &Outline, symbols: &Names, tokens: usize) -> Result
 
 /// A `%prec` that names a nonterminal.
 pub fn refuse_prec(outline: &Outline, symbols: &Names, tokens: usize) -> Result<(), Refused>
-    ensures { (t : TreeOf) → Outlines outline.now t → texts symbols.now ≡ symbols_of_tree t → tokens ≡ length (tokens_of_tree t) → Clears t BadPrec result }
+    ensures { (t : TreeOf) → Outlines outline.now t → texts symbols.now ≡ symbols_of_tree t →
+        tokens ≡ length (tokens_of_tree t) → Clears t BadPrec result }
 {
     match first_nonterminal(&outline.precs, symbols, tokens) {
         Some(at) => Err(Refused::Mistake {
@@ -75,16 +82,19 @@ pub fn refuse_prec(outline: &Outline, symbols: &Names, tokens: usize) -> Result<
 
 /// More symbols, rules or symbols in a body than the limits.
 pub fn refuse_limit(symbols: &Names, rules: &[Rule]) -> Result<(), Refused>
-    ensures { (t : TreeOf) → texts symbols.now ≡ symbols_of_tree t → rules.now ≡ map (rule_numbers (symbols_of_tree t) (token_precedences t)) (rules_of_tree t) → Clears t Limit result }
+    ensures { (t : TreeOf) → texts symbols.now ≡ symbols_of_tree t →
+        rules.now
+        ≡ map (rule_numbers (symbols_of_tree t) (token_precedences t)) (rules_of_tree t) →
+        Clears t Limit result }
 {
     let refused = Err(Refused::Mistake {
         what: Mistake::Limit,
         at: 0,
     });
-    if symbols.len() > 4096 {
+    if symbols.len() > MOST_SYMBOLS {
         return refused;
     }
-    if rules.len() > 8192 {
+    if rules.len() > MOST_RULES {
         return refused;
     }
     if any_long(rules) {

@@ -1,12 +1,17 @@
 //! The rules of a file by number.
 
-ghost use Rattle.std.specs.Prelude.{◌≡◌, ◌+◌, ◌++◌, ◌∷◌, [], List, Option, map, length, codes, IfOk, OnOk};
-ghost use Rattle.ygrammar.specs.Elaboration.{body_from, chosen_token, final_of, first_rule, inner_name, inner_rule, last_token, or_else, precedence_at, rule_left, rules_from, start_symbol};
+ghost use Rattle.std.specs.Prelude.{◌≡◌, ◌<◌, ◌^◌, ◌++◌, ◌∷◌, [], List, Option, map, length};
+ghost use Rattle.std.specs.Prelude.{codes, IfOk, OnOk};
+ghost use Rattle.ygrammar.specs.Elaboration.{body_from, final_of, first_rule, inner_name};
+ghost use Rattle.ygrammar.specs.Elaboration.{inner_rule, or_else, precedence_at, rule_left};
+ghost use Rattle.ygrammar.specs.Elaboration.{rules_from, start_symbol};
 ghost use Rattle.ygrammar.specs.NameTexts.{texts};
 ghost use Rattle.ygrammar.specs.Names.{noted_all, number_in};
 ghost use Rattle.ygrammar.specs.Outline.{start_view};
-ghost use Rattle.ygrammar.specs.Numbered.{inner_numbers, rule_numbers};
-ghost use Rattle.ygrammar.specs.TreeViews.{clause_view, item_view, mention_view, name_view, option_view, text_view};
+ghost use Rattle.ygrammar.specs.Numbered.{chosen_token, inner_after, inner_numbers, last_token};
+ghost use Rattle.ygrammar.specs.Numbered.{rule_numbers};
+ghost use Rattle.ygrammar.specs.TreeViews.{clause_view, item_view, mention_view, name_view};
+ghost use Rattle.ygrammar.specs.TreeViews.{option_view, text_view};
 
 use crate::grammar::{Rule, Sym};
 use crate::names::{Names, note, number_in, number_of};
@@ -26,20 +31,13 @@ fn inner_name(alloc: Global, k: usize) -> Result<Vec<u8>, AllocError>
     Ok(name)
 }
 
-/// The number after `k`; so many actions as to have none do not fit into memory.
-fn next_inner(k: usize) -> Result<usize, AllocError>
-    ensures { IfOk result (λ n. n ≡ k + 1) }
-{
-    match k.checked_add(1) {
-        Some(next) => Ok(next),
-        None => Err(AllocError),
-    }
-}
-
-/// A body without its final action, and that action: the one behind the precedence, or else the last part of the body.
+/// A body without its final action, and that action: the one behind the precedence, or else the
+/// last part of the body.
 pub fn final_parts<'t, 'a>(clause: &'t Clause<'a>) -> (&'t [Item<'a>], Option<&'a [u8]>)
-    ensures items { map item_view result.0.now ≡ (final_of (text_view clause.now.last) (map item_view clause.now.body.items)).0 }
-    ensures text { text_view result.1 ≡ (final_of (text_view clause.now.last) (map item_view clause.now.body.items)).1 }
+    ensures items { map item_view result.0.now
+        ≡ (final_of (text_view clause.now.last) (map item_view clause.now.body.items)).0 }
+    ensures text { text_view result.1
+        ≡ (final_of (text_view clause.now.last) (map item_view clause.now.body.items)).1 }
 {
     let body = clause.body.as_slice();
     match clause.last {
@@ -52,14 +50,18 @@ pub fn final_parts<'t, 'a>(clause: &'t Clause<'a>) -> (&'t [Item<'a>], Option<&'
     }
 }
 
-/// Notes the nonterminals of the inner actions, numbered from `k` on, and answers the next such number.
+/// Notes the nonterminals of the inner actions, numbered from `k` on, and answers the next such
+/// number.
 fn note_inner(
     alloc: Global,
     names: &mut Names,
     items: &[Item],
     k: usize,
 ) -> Result<usize, AllocError>
-    ensures names { OnOk result (texts names.new ≡ noted_all (texts names.old) (map rule_left (body_from k (map item_view items.now)).inner)) }
+    requires { (body_from k (map item_view items.now)).next < 2 ^ 64 }
+    ensures names { OnOk result (texts names.new
+        ≡ noted_all (texts names.old)
+        (map rule_left (body_from k (map item_view items.now)).inner)) }
     ensures next { IfOk result (λ n. n ≡ (body_from k (map item_view items.now)).next) }
 {
     let mut next = k;
@@ -69,7 +71,7 @@ fn note_inner(
             Item::Action(_) => {
                 let name = inner_name(alloc, next)?;
                 note(alloc, names, &name)?;
-                next = next_inner(next)?;
+                next += 1;
             }
         }
     }
@@ -87,7 +89,10 @@ fn left_name<'a>(clause: &Clause<'a>, before: &'a [u8]) -> &'a [u8]
 }
 
 fn note_lefts(alloc: Global, names: &mut Names, clauses: &[Clause]) -> Result<(), AllocError>
-    ensures { OnOk result (texts names.new ≡ noted_all (texts names.old) (map rule_left (rules_from [] 1 (map clause_view clauses.now)))) }
+    requires { inner_after 1 (map clause_view clauses.now) < 2 ^ 64 }
+    ensures { OnOk result (texts names.new
+        ≡ noted_all (texts names.old)
+        (map rule_left (rules_from [] 1 (map clause_view clauses.now)))) }
 {
     let mut before: &[u8] = b"";
     let mut next: usize = 1;
@@ -106,7 +111,10 @@ pub fn note_nonterminals(
     names: &mut Names,
     clauses: &[Clause],
 ) -> Result<(), AllocError>
-    ensures { OnOk result (texts names.new ≡ noted_all (texts names.old) (codes "$accept" ∷ map rule_left (rules_from [] 1 (map clause_view clauses.now)))) }
+    requires { inner_after 1 (map clause_view clauses.now) < 2 ^ 64 }
+    ensures { OnOk result (texts names.new
+        ≡ noted_all (texts names.old) (codes "$accept"
+        ∷ map rule_left (rules_from [] 1 (map clause_view clauses.now)))) }
 {
     note(alloc, names, b"$accept")?;
     note_lefts(alloc, names, clauses)
@@ -119,7 +127,8 @@ fn push_inner(
     k: usize,
     rules: &mut Vec<Rule>,
 ) -> Result<Sym, AllocError>
-    ensures rules { OnOk result (rules.new.items ≡ rules.old.items ++ inner_numbers (texts names.now) (inner_rule k []) ∷ []) }
+    ensures rules { OnOk result (rules.new.items
+        ≡ rules.old.items ++ inner_numbers (texts names.now) (inner_rule k []) ∷ []) }
     ensures left { IfOk result (λ s. s ≡ number_in (texts names.now) (inner_name k)) }
 {
     let name = inner_name(alloc, k)?;
@@ -135,7 +144,8 @@ struct NumberedBody {
     next: usize,
 }
 
-/// The symbols of a body; the rules of its inner actions, numbered from `k` on, are added to `rules`.
+/// The symbols of a body; the rules of its inner actions, numbered from `k` on, are added to
+/// `rules`.
 fn number_body(
     alloc: Global,
     names: &Names,
@@ -143,8 +153,12 @@ fn number_body(
     k: usize,
     rules: &mut Vec<Rule>,
 ) -> Result<NumberedBody, AllocError>
-    ensures rules { OnOk result (rules.new.items ≡ rules.old.items ++ map (inner_numbers (texts names.now)) (body_from k (map item_view items.now)).inner) }
-    ensures symbols { IfOk result (λ b. b.symbols.items ≡ map (number_in (texts names.now)) (body_from k (map item_view items.now)).symbols) }
+    requires { (body_from k (map item_view items.now)).next < 2 ^ 64 }
+    ensures rules { OnOk result (rules.new.items
+        ≡ rules.old.items
+        ++ map (inner_numbers (texts names.now)) (body_from k (map item_view items.now)).inner) }
+    ensures symbols { IfOk result (λ b. b.symbols.items
+        ≡ map (number_in (texts names.now)) (body_from k (map item_view items.now)).symbols) }
     ensures next { IfOk result (λ b. b.next ≡ (body_from k (map item_view items.now)).next) }
 {
     let mut symbols = Vec::new(alloc);
@@ -154,7 +168,7 @@ fn number_body(
             Item::Symbol(mention) => symbols.push(number_of(names, mention.who))?,
             Item::Action(_) => {
                 symbols.push(push_inner(alloc, names, next, rules)?)?;
-                next = next_inner(next)?;
+                next += 1;
             }
         }
     }
@@ -174,14 +188,17 @@ fn last_token(tokens: usize, body: &[Sym]) -> Option<Sym>
     last
 }
 
-/// The precedence of a rule: that of the token behind its `%prec`, or else of the last token of its body.
+/// The precedence of a rule: that of the token behind its `%prec`, or else of the last token of
+/// its body.
 fn rule_precedence(
     names: &Names,
     given: &[Option<Precedence>],
     prec: Option<Mention>,
     body: &[Sym],
 ) -> Option<Precedence>
-    ensures { result ≡ precedence_at given.now (chosen_token (texts names.now) (length given.now) (option_view mention_view prec.entry) body.now) }
+    ensures { result
+        ≡ precedence_at given.now (chosen_token (texts names.now) (length given.now)
+        (option_view mention_view prec.entry) body.now) }
 {
     let token = match prec {
         Some(mention) => number_of(names, mention.who),
@@ -202,7 +219,10 @@ fn push_rules(
     clauses: &[Clause],
     rules: &mut Vec<Rule>,
 ) -> Result<(), AllocError>
-    ensures { OnOk result (rules.new.items ≡ rules.old.items ++ map (rule_numbers (texts names.now) given.now) (rules_from [] 1 (map clause_view clauses.now))) }
+    requires { inner_after 1 (map clause_view clauses.now) < 2 ^ 64 }
+    ensures { OnOk result (rules.new.items
+        ≡ rules.old.items ++ map (rule_numbers (texts names.now) given.now)
+        (rules_from [] 1 (map clause_view clauses.now))) }
 {
     let mut before: &[u8] = b"";
     let mut next: usize = 1;
@@ -220,7 +240,9 @@ fn push_rules(
 
 /// The number of the start symbol: the one that `%start` names, or the first left side.
 fn start_symbol(names: &Names, starts: &[Started], lefts: &[NameAt]) -> Sym
-    ensures { result ≡ number_in (texts names.now) (start_symbol (map start_view starts.now) (map name_view lefts.now)) }
+    ensures { result
+        ≡ number_in (texts names.now)
+        (start_symbol (map start_view starts.now) (map name_view lefts.now)) }
 {
     match starts {
         [first, ..] => number_of(names, first.who.who),
@@ -238,7 +260,10 @@ fn first_rule(
     given: &[Option<Precedence>],
     outline: &Outline,
 ) -> Result<Rule, AllocError>
-    ensures { IfOk result (λ r. r ≡ rule_numbers (texts names.now) given.now (first_rule (map start_view outline.now.starts.items) (map name_view outline.now.lefts.items))) }
+    ensures { IfOk result (λ r. r
+        ≡ rule_numbers (texts names.now) given.now
+        (first_rule (map start_view outline.now.starts.items)
+        (map name_view outline.now.lefts.items))) }
 {
     let mut body = Vec::new(alloc);
     body.push(start_symbol(names, &outline.starts, &outline.lefts))?;
@@ -256,7 +281,11 @@ pub fn number_rules(
     outline: &Outline,
     clauses: &[Clause],
 ) -> Result<Vec<Rule>, AllocError>
-    ensures { IfOk result (λ v. v.items ≡ map (rule_numbers (texts names.now) given.now) (first_rule (map start_view outline.now.starts.items) (map name_view outline.now.lefts.items) ∷ rules_from [] 1 (map clause_view clauses.now))) }
+    requires { inner_after 1 (map clause_view clauses.now) < 2 ^ 64 }
+    ensures { IfOk result (λ v. v.items
+        ≡ map (rule_numbers (texts names.now) given.now)
+        (first_rule (map start_view outline.now.starts.items)
+        (map name_view outline.now.lefts.items) ∷ rules_from [] 1 (map clause_view clauses.now))) }
 {
     let mut rules = Vec::new(alloc);
     rules.push(first_rule(alloc, names, given, outline)?)?;

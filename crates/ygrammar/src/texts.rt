@@ -1,11 +1,14 @@
 //! The kept texts of a grammar, as parts of its source.
 
-ghost use Rattle.std.specs.Prelude.{◌≡◌, ◌++◌, Bool, List, None, drop, map, slice_get, slice_index_or, IfOk, OnOk};
+ghost use Rattle.std.specs.Prelude.{◌≡◌, ◌++◌, Bool, List, None, drop, map, slice_get};
+ghost use Rattle.std.specs.Prelude.{slice_index_or, IfOk, OnOk};
 ghost use Rattle.std.specs.List.{flat_map};
 ghost use Rattle.ygrammar.specs.Elaboration.{rules};
-ghost use Rattle.ygrammar.specs.Spans.{behind, clause_flags, given_out, item_flags, kept_texts, part_of, rule_text, span_of};
+ghost use Rattle.ygrammar.specs.Spans.{behind, clause_flags, given_out, item_flags, kept_texts};
+ghost use Rattle.ygrammar.specs.Spans.{part_of, rule_text, span_of};
 ghost use Rattle.ygrammar.specs.Tree.{yield};
-ghost use Rattle.ygrammar.specs.TreeViews.{clause_view, definition_view, item_view, text_view, tree_view};
+ghost use Rattle.ygrammar.specs.TreeViews.{clause_view, definition_view, item_view, text_view};
+ghost use Rattle.ygrammar.specs.TreeViews.{tree_view};
 
 use crate::cutting::Placed;
 use crate::part::Lexeme;
@@ -105,7 +108,9 @@ impl Spans<'_> {
         items: &[Item],
         texts: &mut Vec<Option<Span>>,
     ) -> Result<(), AllocError>
-        ensures { OnOk result ((more : List Bool) → texts.new.items ++ given_out more self.new ≡ texts.old.items ++ given_out (flat_map item_flags (map item_view items.now) ++ more) self.old) }
+        ensures { OnOk result ((more : List Bool) → texts.new.items ++ given_out more self.new
+            ≡ texts.old.items ++ given_out (flat_map item_flags (map item_view items.now) ++ more)
+            self.old) }
     {
         for item in items {
             match item {
@@ -118,7 +123,9 @@ impl Spans<'_> {
 
     /// Gives the rules of the file their places, in their order.
     fn give(&mut self, clauses: &[Clause], texts: &mut Vec<Option<Span>>) -> Result<(), AllocError>
-        ensures { OnOk result (texts.new.items ≡ texts.old.items ++ given_out (flat_map clause_flags (map clause_view clauses.now)) self.old) }
+        ensures { OnOk result (texts.new.items
+            ≡ texts.old.items ++ given_out (flat_map clause_flags (map clause_view clauses.now))
+            self.old) }
     {
         for clause in clauses {
             let (items, text) = final_parts(clause);
@@ -150,7 +157,8 @@ impl Model for Texts {
 }
 
 impl Texts {
-    /// The kept texts of a file's rules, where the kept texts of its lexemes stand at these places.
+    /// The kept texts of a file's rules, where the kept texts of its lexemes stand at these
+    /// places.
     pub fn of(alloc: Global, source: &[u8], kept: &[Span], tree: &Tree) -> Result<Texts, AllocError>
         requires { map (part_of source.now) kept.now ≡ kept_texts (yield (tree_view tree.now)) }
         ensures { IfOk result (λ t. t ≡ map rule_text (rules (tree_view tree.now))) }

@@ -24,7 +24,8 @@ fn first_tokens(alloc: Global) -> Result<Names, AllocError>
 }
 
 fn note_listed(alloc: Global, names: &mut Names, listed: &[Listed]) -> Result<(), AllocError>
-    ensures { OnOk result (texts names.new ≡ noted_all (texts names.old) (map listed_name (map listed_view listed.now))) }
+    ensures { OnOk result (texts names.new
+        ≡ noted_all (texts names.old) (map listed_name (map listed_view listed.now))) }
 {
     for one in listed {
         note_identifier(alloc, names, one.who.who)?;
@@ -33,7 +34,9 @@ fn note_listed(alloc: Global, names: &mut Names, listed: &[Listed]) -> Result<()
 }
 
 fn note_literals(alloc: Global, names: &mut Names, mentions: &[Mention]) -> Result<(), AllocError>
-    ensures { OnOk result (texts names.new ≡ noted_all (texts names.old) (map printed (filter is_literal (map mention_view mentions.now)))) }
+    ensures { OnOk result (texts names.new
+        ≡ noted_all (texts names.old)
+        (map printed (filter is_literal (map mention_view mentions.now)))) }
 {
     for mention in mentions {
         match mention.who {
@@ -46,7 +49,10 @@ fn note_literals(alloc: Global, names: &mut Names, mentions: &[Mention]) -> Resu
 
 /// The names of the tokens, in any order.
 fn token_names(alloc: Global, outline: &Outline) -> Result<Names, AllocError>
-    ensures { IfOk result (λ v. texts v ≡ noted_all [] (token_names_of (map listed_view outline.now.listed.items) (map mention_view outline.now.declared.items ++ map mention_view outline.now.used.items))) }
+    ensures { IfOk result (λ v. texts v
+        ≡ noted_all [] (token_names_of (map listed_view outline.now.listed.items)
+        (map mention_view outline.now.declared.items
+        ++ map mention_view outline.now.used.items))) }
 {
     let mut names = first_tokens(alloc)?;
     note_listed(alloc, &mut names, &outline.listed)?;
@@ -62,7 +68,9 @@ fn note_those(
     names: &Names,
     mentions: &[Mention],
 ) -> Result<(), AllocError>
-    ensures { OnOk result (texts tokens.new ≡ noted_all (texts tokens.old) (filter (is_among (texts names.now)) (map printed (map mention_view mentions.now)))) }
+    ensures { OnOk result (texts tokens.new
+        ≡ noted_all (texts tokens.old)
+        (filter (is_among (texts names.now)) (map printed (map mention_view mentions.now)))) }
 {
     for mention in mentions {
         if is_named(names, mention.who) {
@@ -74,7 +82,9 @@ fn note_those(
 
 /// The tokens by number: the end, `error`, and the others in the order of their first appearance.
 pub fn tokens(alloc: Global, outline: &Outline) -> Result<Names, AllocError>
-    ensures { IfOk result (λ v. texts v ≡ tokens_of (map listed_view outline.now.listed.items) (map mention_view outline.now.declared.items ++ map mention_view outline.now.used.items)) }
+    ensures { IfOk result (λ v. texts v
+        ≡ tokens_of (map listed_view outline.now.listed.items)
+        (map mention_view outline.now.declared.items ++ map mention_view outline.now.used.items)) }
 {
     let names = token_names(alloc, outline)?;
     let mut tokens = first_tokens(alloc)?;

@@ -3,7 +3,7 @@ use Rattle.std.proofs.Common.{ℕ, Bool, ◌≡◌, ◌<◌, ◌+◌, ◌⊎◌,
 use Rattle.std.specs.List.{All}
 use Rattle.ylalr.specs.Marks.{marked}
 use Rattle.ylalr.specs.Rows.{BitRows, Holds, AddsFrom}
-use Rattle.ylalr.specs.Looks.{FormHas, FormGives}
+use Rattle.ylalr.specs.Looks.{FormHas}
 use Rattle.ylalr.proofs.FirstSteps.{unmarked_end}
 
 order : (j k : ℕ) → (j < k) ⊎ ((j ≡ k) ⊎ (k < j))
@@ -37,34 +37,14 @@ adding_more n f x m o v to k s h e p a i = record { sound = sound; every = every
         go (inr (inr w)) = absurd (omega arith)
 
 -- a symbol that can't vanish ends the form
-pub stop_sound : (n : List Bool) (f : BitRows) (x : List ℕ) (m v : BitRows) (to from k : ℕ) → Adding n f x m v to k → (r b : ℕ) → Holds v r b → Holds m r b ⊎ ((r ≡ to) × FormGives n f x m from b)
-stop_sound n f x m v to from k i r b z = go (i.sound r b z)
-  where
-    go : Holds m r b ⊎ ((r ≡ to) × FormHas n f x b) → Holds m r b ⊎ ((r ≡ to) × FormGives n f x m from b)
-    go (inl w) = inl w
-    go (inr w) = inr (w.0, inl w.1)
-
-pub stop_every : (n : List Bool) (f : BitRows) (x : List ℕ) (m v : BitRows) (to from k : ℕ) → k < length x → (marked n (get_or x k 0) → ⊥) → Adding n f x m v to (k + 1) → (b : ℕ) → FormGives n f x m from b → Holds v to b
-stop_every n f x m v to from k h u i b (inl w) = go (order w.place k)
+pub stop_every : (n : List Bool) (f : BitRows) (x : List ℕ) (m v : BitRows) (to k : ℕ) → k < length x → (marked n (get_or x k 0) → ⊥) → Adding n f x m v to (k + 1) → (b : ℕ) → FormHas n f x b → Holds v to b
+stop_every n f x m v to k h u i b w = go (order w.place k)
   where
     go : (w.place < k) ⊎ ((w.place ≡ k) ⊎ (k < w.place)) → Holds v to b
     go (inl l) = i.every w.place b (omega arith) w.there
     go (inr (inl l)) = i.every w.place b (omega arith) w.there
     go (inr (inr l)) = absurd (unmarked_end n x k w.place l w.within u w.before)
-stop_every n f x m v to from k h u i b (inr w) = absurd (u (w.0 k 0 h))
 
--- the whole form vanishes, and the row itself was added
-pub whole_sound : (n : List Bool) (f : BitRows) (x : List ℕ) (m o v : BitRows) (to from k : ℕ) → All (marked n) x → AddsFrom o v to o from → Adding n f x m o to k → (r b : ℕ) → Holds v r b → Holds m r b ⊎ ((r ≡ to) × FormGives n f x m from b)
-whole_sound n f x m o v to from k p a i r b z = go ((a r b).0 z)
-  where
-    step : (r ≡ to) → Holds m from b ⊎ ((from ≡ to) × FormHas n f x b) → Holds m r b ⊎ ((r ≡ to) × FormGives n f x m from b)
-    step e (inl w) = inr (e, inr (p, w))
-    step e (inr w) = inr (e, inl w.1)
-
-    go : Holds o r b ⊎ ((r ≡ to) × Holds o from b) → Holds m r b ⊎ ((r ≡ to) × FormGives n f x m from b)
-    go (inl w) = stop_sound n f x m o to from k i r b w
-    go (inr w) = step w.0 (i.sound from b w.1)
-
-pub whole_every : (n : List Bool) (f : BitRows) (x : List ℕ) (m o v : BitRows) (to from k : ℕ) → k ≡ length x → AddsFrom o v to o from → Adding n f x m o to k → (b : ℕ) → FormGives n f x m from b → Holds v to b
-whole_every n f x m o v to from k e a i b (inl w) = (a to b).1 (inl (i.every w.place b (subst (λ t. w.place < t) (sym e) w.within) w.there))
-whole_every n f x m o v to from k e a i b (inr w) = (a to b).1 (inr (refl, i.kept from b w.1))
+-- the whole form vanishes
+pub whole_every : (n : List Bool) (f : BitRows) (x : List ℕ) (m v : BitRows) (to k : ℕ) → k ≡ length x → Adding n f x m v to k → (b : ℕ) → FormHas n f x b → Holds v to b
+whole_every n f x m v to k e i b w = i.every w.place b (subst (λ t. w.place < t) (sym e) w.within) w.there

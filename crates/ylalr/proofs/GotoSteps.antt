@@ -9,7 +9,8 @@ use Rattle.ygrammar.specs.WellFormed.{WellFormed}
 use Rattle.ylalr.specs.declared.items.Item.{Item}
 use Rattle.ylalr.specs.declared.gotos.Goto.{Goto}
 use Rattle.ylalr.specs.Sets.{Moved, ItemsOf, IsAdvanced}
-use Rattle.ylalr.specs.States.{StateLists, set_at, AreStates, Extends, MayJoin, IsKernel, GotoIs, lookup, IsAscendingRow, RowIs, RowsAre}
+use Rattle.ylalr.specs.Gotos.{lookup, IsAscendingRow}
+use Rattle.ylalr.specs.States.{StateLists, set_at, AreStates, Extends, MayJoin, IsKernel, GotoIs, RowIs, RowsAre}
 use Rattle.ylalr.proofs.Cores.{may_join, moved_dot}
 use Rattle.ylalr.proofs.StateSteps.{push_old, push_new, last_or}
 

@@ -1,5 +1,5 @@
 -- Closed rows of lookaheads have all that the rules give, which is what prefixes give.
-use Rattle.std.proofs.Common.{ℕ, suc, ◌≡◌, ◌≢◌, ◌<◌, ◌+◌, ◌↔◌, List, [], ◌∷◌, length, drop, slice_index, refl, subst, Option, Some, None}
+use Rattle.std.proofs.Common.{ℕ, suc, ◌≡◌, ◌≢◌, ◌<◌, ◌↔◌, List, [], ◌∷◌, length, drop, get_or, refl, subst, Option, Some, None}
 use Rattle.std.specs.List.{Contains, All}
 use Rattle.std.proofs.lemmas.List.Elements.{All-head, All-drop}
 use Rattle.ygrammar.specs.Grammar.{ContextFree, body_of, IsToken, end_token}
@@ -9,7 +9,8 @@ use Rattle.ylalr.specs.Rows.{BitRows, Holds}
 use Rattle.ylalr.specs.Items.{Valid, start, closure, move, IsCore, Lookahead}
 use Rattle.ylalr.specs.Sets.{moved, IsClosure}
 use Rattle.ylalr.specs.States.{StateLists, set_at, AreStates, GotoIs}
-use Rattle.ylalr.specs.Looks.{Spread, starts, closes, moves, Places, IsPlace, SoundLooks, ClosedLooks}
+use Rattle.ylalr.specs.Looks.{Spread, starts, closes, moves, SoundLooks, ClosedLooks}
+use Rattle.ylalr.specs.Places.{Places, IsPlace, rows_at}
 use Rattle.ylalr.proofs.Cores.{every, once, core_start, core_goto}
 use Rattle.ylalr.proofs.Fruitful.{valid_rule, valid_token}
 
@@ -71,7 +72,7 @@ module _ (g : ContextFree) (f : WellFormed g) (t : StateLists) (to : ℕ → ℕ
     place_from {q = q} {r = r} {d = d} {a = a} s =
         let z = found s in
         let c = (z.core (record { rule = r; dot = d })).1 (a, z.valid) in
-        (slice_index l.starts q + c.0, record { state = z.within; index = c.0; within = c.1; here = c.2; place = refl })
+        (get_or (rows_at l q) c.0 0, record { state = z.within; at = record { index = c.0; within = c.1; here = c.2; row = refl } })
 
     pub spread_holds : {q r d a : ℕ} → Spread g to q r d a → (p : ℕ) → IsPlace t l q (record { rule = r; dot = d }) p → Holds m p a
     spread_holds starts p h = shut.start p h

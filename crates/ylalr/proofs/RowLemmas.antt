@@ -1,9 +1,11 @@
 -- What a word united with another does to the bits of rows, and to the room that is left.
 use Rattle.std.proofs.Common.{ℕ, ◌≡◌, ◌≢◌, ◌<◌, ◌≤◌, ◌+◌, ◌-◌, ◌*◌, ◌/◌, ◌%◌, ◌^◌, ◌⊎◌, ◌↔◌, length, get_or, sym, ◌∙◌, ap, subst, inl, inr, arith, max, bit_or, get_or-set_same, get_or-set_other}
-use Rattle.std.specs.Int.{bit_at}
+use Rattle.std.specs.Int.{bit_at, trailing_zeros, w64}
+use Rattle.std.specs.Int.Count.{trailing_of_zero}
+use Rattle.std.proofs.Math.Nat.{div-div-eq-div-mul}
 use Rattle.std.proofs.Math.ListN.{set, length-set}
-use Rattle.std.proofs.lemmas.Nat.{le_or_l, same_from_place, one_shl, div-add-mod', mod_below, mul-add-lt}
-use Rattle.std.proofs.lemmas.Nat.Bits.{bit_at_or, bit_at-lt, bit_at-pow_same, bit_at-pow_other}
+use Rattle.std.proofs.lemmas.Nat.{le_or_l, same_from_place, one_shl, div-add-mod', mod_below, mul-add-lt, pow-add}
+use Rattle.std.proofs.lemmas.Nat.Bits.{bit_at_or, bit_at-lt, bit_at-pow_same, bit_at-pow_other, bit_at-zero, bit_at-trailing_zeros}
 use Rattle.std.proofs.lemmas.List.Sums.{sum_by-set}
 use Rattle.ylalr.specs.Rows.{BitRows, IsBitRows, Holds, word_of, room, united, AddsFrom}
 
@@ -42,7 +44,7 @@ max_right a b k e = omega arith
 same_or : (a b : ℕ) → (a ≡ b) ⊎ (a ≢ b)
 same_or a b = grind arith
 
-in_span : (m : BitRows) → IsBitRows m → (c : ℕ) → c < m.width → c / 64 < m.span
+pub in_span : (m : BitRows) → IsBitRows m → (c : ℕ) → c < m.width → c / 64 < m.span
 in_span m f c h =
     let w = f.wide in
     let a = div-add-mod' c 64 in
@@ -216,3 +218,43 @@ shared_span m n f h e = f.wide ∙ ap (λ (t : ℕ). t / 64 + 1) e ∙ sym h.wid
 
 pub word_within : (m : BitRows) → IsBitRows m → (r j : ℕ) → r < m.height → j < m.span → r * m.span + j < length m.words
 word_within m f r j hr hj = let e = f.sized in let z = mul-add-lt r m.span j m.height hr hj in grind arith
+
+shifted_bit : (n s i : ℕ) → bit_at (n / 2 ^ s) i ≡ bit_at n (s + i)
+shifted_bit n s i = ap (λ (t : ℕ). t % 2) (div-div-eq-div-mul n (2 ^ s) (2 ^ i) ∙ ap (λ (t : ℕ). n / t) (sym (pow-add 2 s i)))
+
+zero_or : (n : ℕ) → (n ≡ 0) ⊎ (0 < n)
+zero_or n = grind arith
+
+-- the zero bits of a word below its first one
+clear_bits : (n i : ℕ) → n < 2 ^ 64 → i < trailing_zeros w64 n → bit_at n i ≡ 0
+clear_bits n i h l = go (zero_or n)
+  where
+    go : (n ≡ 0) ⊎ (0 < n) → bit_at n i ≡ 0
+    go (inl e) = ap (λ (t : ℕ). bit_at t i) e ∙ bit_at-zero i
+    go (inr p) = (bit_at-trailing_zeros w64 n p h).2 i l
+
+-- a row has no column before the next set bit of the word, nor before the word ends
+pub after_none : (m : BitRows) (r c k step : ℕ) → word_of m r c / 2 ^ (c % 64) < 2 ^ 64 → step ≤ trailing_zeros w64 (word_of m r c / 2 ^ (c % 64)) → step ≤ 64 - c % 64 → c ≤ k → k < c + step → Holds m r k → ⊥
+after_none m r c k step hw hz hs le lt h =
+    let a = div-add-mod' c 64 in
+    let b = div-add-mod' k 64 in
+    let x = mod_below c 64 (omega arith) in
+    let y = mod_below k 64 (omega arith) in
+    let same : k / 64 ≡ c / 64 = omega arith in
+    let on : k % 64 ≡ c % 64 + (k - c) = omega arith in
+    let w : bit_at (word_of m r c) (c % 64 + (k - c)) ≡ 0 = sym (shifted_bit (word_of m r c) (c % 64) (k - c)) ∙ clear_bits (word_of m r c / 2 ^ (c % 64)) (k - c) hw (omega arith) in
+    let z : bit_at (word_of m r c) (c % 64 + (k - c)) ≡ 1 = ap (λ (t : ℕ). bit_at (word_of m r c) t) (sym on) ∙ ap (λ (t : ℕ). bit_at (get_or m.words (r * m.span + t) 0) (k % 64)) (sym same) ∙ h.bit in
+    omega (arith, w, z)
+
+-- where the row lacks the column, the next set bit stands behind it
+pub after_further : (m : BitRows) (r c : ℕ) → r < m.height → c < m.width → word_of m r c / 2 ^ (c % 64) < 2 ^ 64 → (Holds m r c → ⊥) → 0 < trailing_zeros w64 (word_of m r c / 2 ^ (c % 64))
+after_further m r c hr hc hw absent = go (zero_or (word_of m r c / 2 ^ (c % 64))) (zero_or (trailing_zeros w64 (word_of m r c / 2 ^ (c % 64))))
+  where
+    go : (word_of m r c / 2 ^ (c % 64) ≡ 0) ⊎ (0 < word_of m r c / 2 ^ (c % 64)) → (trailing_zeros w64 (word_of m r c / 2 ^ (c % 64)) ≡ 0) ⊎ (0 < trailing_zeros w64 (word_of m r c / 2 ^ (c % 64))) → 0 < trailing_zeros w64 (word_of m r c / 2 ^ (c % 64))
+    go a (inr h) = h
+    go (inl e) (inl z) = absurd (let y : trailing_zeros w64 (word_of m r c / 2 ^ (c % 64)) ≡ 64 = ap (λ (t : ℕ). trailing_zeros w64 t) e ∙ trailing_of_zero 64 in omega (arith, y, z))
+    go (inr p) (inl z) =
+        let b = (bit_at-trailing_zeros w64 (word_of m r c / 2 ^ (c % 64)) p hw).1 in
+        let d : bit_at (word_of m r c) (c % 64 + 0) ≡ 1 = sym (shifted_bit (word_of m r c) (c % 64) 0) ∙ ap (λ (t : ℕ). bit_at (word_of m r c / 2 ^ (c % 64)) t) (sym z) ∙ b in
+        let e : c % 64 + 0 ≡ c % 64 = omega arith in
+        absurd (absent (record { row = hr; column = hc; bit = subst (λ t. bit_at (word_of m r c) t ≡ 1) e d }))

@@ -6,7 +6,7 @@ use Rattle.std.proofs.lemmas.List.{get_or_read}
 use Rattle.ylalr.specs.declared.items.Item.{Item}
 use Rattle.ylalr.specs.declared.gotos.Goto.{Goto}
 use Rattle.ylalr.specs.Sets.{Before, IsAscending}
-use Rattle.ylalr.specs.States.{lookup, IsAscendingRow}
+use Rattle.ylalr.specs.Gotos.{lookup, IsAscendingRow}
 
 order : (j k : ℕ) → (j < k) ⊎ ((j ≡ k) ⊎ (k < j))
 order j k = grind arith

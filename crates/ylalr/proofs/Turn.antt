@@ -1,7 +1,7 @@
 -- One more turn of a pass: what held of the turns before still holds, where this turn changed nothing.
 use Rattle.std.proofs.Common.{ℕ, ◌≡◌, ◌<◌, ◌+◌, ◌-◌, ◌⊎◌, inl, inr, sym, subst, arith}
 
-below_or_is : (k i : ℕ) → k < i + 1 → (k < i) ⊎ (k ≡ i)
+pub below_or_is : (k i : ℕ) → k < i + 1 → (k < i) ⊎ (k ≡ i)
 below_or_is k i h = grind arith
 
 pub one_more : {S : Type 0} (P : S → ℕ → Type 0) (m n : S) (i : ℕ) → n ≡ m → ((k : ℕ) → k < i → P m k) → P n i → (k : ℕ) → k < i + 1 → P n k

@@ -2,13 +2,17 @@
 use Rattle.std.specs.Prelude.{ℕ, ◌≡◌, ◌<◌, ◌≤◌, ◌↔◌, Bool, List, [], ◌∷◌, length, slice_index_or, Option, MatchOption, IsTrue}
 use Rattle.ygrammar.specs.Grammar.{ContextFree, GrammarValue}
 use Rattle.ylalr.specs.declared.items.Item.{Item}
+use Rattle.ylalr.specs.declared.gotos.Goto.{Goto}
+use Rattle.ylalr.specs.Gotos.{goto_of}
+use Rattle.ylalr.specs.declared.fault.BuildFault.{BuildFault}
 use Rattle.ylalr.specs.Items.{InCore, IsCore, Lookahead}
 use Rattle.ylalr.specs.Sets.{IsAscending, InRange}
 
--- the whole grammar, and the list of states
+-- the whole grammar, the list of states, and the gotos of each state
 pub record Collection : Type 0 where
   pub grammar : GrammarValue
   pub states : List (List Item)
+  pub gotos : List (List Goto)
 
 -- the bare grammar
 abbrev pub bare_of : Collection → ContextFree
@@ -18,7 +22,16 @@ bare_of m = m.grammar.bare
 abbrev pub state_of : Collection → ℕ → List Item
 state_of m q = slice_index_or m.states q []
 
--- The list has each state, a core that is not empty, once; at most 16,384.
+-- the goto from state q over x
+abbrev pub goto_in : Collection → ℕ → ℕ → Option ℕ
+goto_in m q x = goto_of m.gotos q x
+
+-- The answer to a goto from state q over x: the state of each prefix followed by x, or none where that core is empty.
+abbrev pub IsGoto : Collection → ℕ → ℕ → Option ℕ → Type 0
+IsGoto m q x to = (p : List ℕ) → IsCore (bare_of m) p (state_of m q) →
+    MatchOption to ((i : Item) → InCore (bare_of m) (x ∷ p) i → ⊥) (λ n. (n < length m.states) × IsCore (bare_of m) (x ∷ p) (state_of m n))
+
+-- The list has each state, a core that is not empty, once; at most 16,384; and the gotos are right.
 pub record HasStates (m : Collection) : Type 0 where
   pub first : IsCore (bare_of m) [] (state_of m 0)
   pub core : (q : ℕ) → q < length m.states → (p : List ℕ) × IsCore (bare_of m) p (state_of m q)
@@ -28,11 +41,7 @@ pub record HasStates (m : Collection) : Type 0 where
   pub ordered : (q : ℕ) → q < length m.states → IsAscending (state_of m q)
   pub range : (q : ℕ) → q < length m.states → InRange (bare_of m) (state_of m q)
   pub few : length m.states ≤ 16384
-
--- The answer to a goto from state q over x: the state of each prefix followed by x, or none where that core is empty.
-abbrev pub IsGoto : Collection → ℕ → ℕ → Option ℕ → Type 0
-IsGoto m q x to = (p : List ℕ) → IsCore (bare_of m) p (state_of m q) →
-    MatchOption to ((i : Item) → InCore (bare_of m) (x ∷ p) i → ⊥) (λ n. (n < length m.states) × IsCore (bare_of m) (x ∷ p) (state_of m n))
+  pub leads : (q x : ℕ) → q < length m.states → x < (bare_of m).symbols → IsGoto m q x (goto_in m q x)
 
 -- The gotos and the lookaheads of a collection, as functions.
 pub record Guide : Type 0 where
@@ -51,3 +60,7 @@ pub record TooMany (g : ContextFree) : Type 0 where
   pub core : (q : ℕ) → q < length states → (p : List ℕ) × IsCore g p (slice_index_or states q [])
   pub filled : (q : ℕ) → q < length states → 0 < length (slice_index_or states q [])
   pub once : (p : List ℕ) (q n : ℕ) → q < length states → n < length states → IsCore g p (slice_index_or states q []) → IsCore g p (slice_index_or states n []) → q ≡ n
+
+-- If the fault says that there are too many states, then there are.
+abbrev pub IsFault : ContextFree → BuildFault → Type 0
+IsFault g e = e ≡ BuildFault.TooManySets → TooMany g

@@ -1,10 +1,17 @@
 pub mod Collection
+pub mod Draft
+pub mod Finder
 pub mod First
+pub mod Gotos
 pub mod Items
+pub mod Links
 pub mod Looks
 pub mod Marks
 pub mod Nullable
 pub mod Parts
+pub mod Places
 pub mod Rows
 pub mod Sets
+pub mod Spread
 pub mod States
+pub mod Waiting

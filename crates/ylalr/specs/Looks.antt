@@ -1,6 +1,5 @@
 -- The lookaheads on numbered states: one row for each item of each state (Aho, Sethi, Ullman, section 4.7).
-use Rattle.std.specs.Prelude.{ℕ, suc, Bool, ◌≡◌, ◌≢◌, ◌<◌, ◌≤◌, ◌+◌, ◌^◌, ◌⊎◌, List, [], ◌∷◌, ◌++◌, length, slice_index, slice_index_or, drop, take, All, Option, Some}
-use Rattle.std.specs.List.{Contains}
+use Rattle.std.specs.Prelude.{ℕ, suc, Bool, ◌≡◌, ◌≢◌, ◌<◌, ◌≤◌, List, [], ◌∷◌, ◌++◌, length, slice_index, drop, take, All, Option, Some}
 use Rattle.ygrammar.specs.Grammar.{ContextFree, left_of, body_of, end_token}
 use Rattle.ygrammar.specs.Forms.{First}
 use Rattle.ylalr.specs.declared.items.Item.{Item}
@@ -9,33 +8,14 @@ use Rattle.ylalr.specs.Marks.{marked}
 use Rattle.ylalr.specs.Rows.{BitRows, Holds, IsSized}
 use Rattle.ylalr.specs.First.{IsNullable, IsFirst}
 use Rattle.ylalr.specs.Sets.{step_of}
-use Rattle.ylalr.specs.States.{StateLists, AreStates, RowsAre, set_at, start_item}
+use Rattle.ylalr.specs.Places.{Places, ArePlaces, IsPlace}
+use Rattle.ylalr.specs.States.{StateLists, AreStates, RowsAre, start_item}
 
 -- what the rules of lookaheads give on numbered states
 pub data Spread (g : ContextFree) (to : ℕ → ℕ → Option ℕ) : ℕ → ℕ → ℕ → ℕ → Type 0 where
   starts : Spread g to 0 0 0 end_token
   closes : {q r d a s b : ℕ} {y : List ℕ} → Spread g to q r d a → drop d (body_of g r) ≡ left_of g s ∷ y → s < length g.rules → First g (y ++ a ∷ []) b → Spread g to q s 0 b
   moves : {q n r d a x : ℕ} {y : List ℕ} → Spread g to q r d a → drop d (body_of g r) ≡ x ∷ y → x ≢ end_token → to q x ≡ Some n → Spread g to n r (suc d) a
-
--- where the items of each state begin among all items, and how many those are
-pub record Places : Type 0 where
-  pub starts : List ℕ
-  pub total : ℕ
-
--- the items of the states follow one another
-pub record ArePlaces (s : StateLists) (l : Places) : Type 0 where
-  pub sized : length l.starts ≡ length s.closures
-  pub apart : (q n : ℕ) → q < n → n < length s.closures → slice_index l.starts q + length (set_at s.closures q) ≤ slice_index l.starts n
-  pub within : (q : ℕ) → q < length s.closures → slice_index l.starts q + length (set_at s.closures q) ≤ l.total
-  pub small : l.total < 2 ^ 64
-
--- p is the place of the item i of state q
-pub record IsPlace (s : StateLists) (l : Places) (q : ℕ) (i : Item) (p : ℕ) : Type 0 where
-  pub state : q < length s.closures
-  pub index : ℕ
-  pub within : index < length (set_at s.closures q)
-  pub here : slice_index_or (set_at s.closures q) index i ≡ i
-  pub place : p ≡ slice_index l.starts q + index
 
 -- the rows are sound: each lookahead is one that the rules give
 abbrev pub SoundLooks : ContextFree → (ℕ → ℕ → Option ℕ) → StateLists → Places → BitRows → Type 0
@@ -63,11 +43,7 @@ pub record PlaceClosed (g : ContextFree) (to : ℕ → ℕ → Option ℕ) (s : 
   pub closes : ClosesAt g s l m q i p
   pub moves : MovesAt g to s l m q i p
 
--- neither rule adds anything from item j of state q
-abbrev pub IndexClosed : ContextFree → (ℕ → ℕ → Option ℕ) → StateLists → Places → BitRows → ℕ → ℕ → Type 0
-IndexClosed g to s l m q j = (i : Item) (p : ℕ) (z : IsPlace s l q i p) → z.index ≡ j → PlaceClosed g to s l m q i p
-
--- nor from any item of state q
+-- neither rule adds anything from any item of state q
 abbrev pub StateClosed : ContextFree → (ℕ → ℕ → Option ℕ) → StateLists → Places → BitRows → ℕ → Type 0
 StateClosed g to s l m q = (i : Item) (p : ℕ) → IsPlace s l q i p → PlaceClosed g to s l m q i p
 
@@ -82,18 +58,8 @@ pub record FormHas (n : List Bool) (m : BitRows) (x : List ℕ) (t : ℕ) : Type
   pub before : All (marked n) (take place x)
   pub there : Holds m (slice_index x place) t
 
--- b begins the form x, or the form vanishes and row p of m has b
-abbrev pub FormGives : List Bool → BitRows → List ℕ → BitRows → ℕ → ℕ → Type 0
-FormGives n f x m p b = FormHas n f x b ⊎ (All (marked n) x × Holds m p b)
-
--- the rules of each left side
-pub record HasRules (g : ContextFree) (lists : List (List ℕ)) : Type 0 where
-  pub sized : length lists ≡ g.symbols
-  pub sound : (s n : ℕ) → Contains (slice_index_or lists s []) n → (n < length g.rules) × (s ≡ left_of g n)
-  pub every : (n : ℕ) → n < length g.rules → Contains (slice_index_or lists (left_of g n) []) n
-
 -- what holds of all that the lookaheads are made from
-pub record Fit (g : ContextFree) (nullable : List Bool) (first : BitRows) (s : StateLists) (rows : List (List Goto)) (l : Places) (lists : List (List ℕ)) : Type 0 where
+pub record Fit (g : ContextFree) (nullable : List Bool) (first : BitRows) (s : StateLists) (rows : List (List Goto)) (l : Places) : Type 0 where
   pub marks : length nullable ≡ g.symbols
   pub nullable_exact : IsNullable g nullable
   pub first_sized : IsSized g.symbols g.tokens first
@@ -102,5 +68,4 @@ pub record Fit (g : ContextFree) (nullable : List Bool) (first : BitRows) (s : S
   pub few : length s.closures ≤ 16384
   pub counted : length rows ≡ length s.closures
   pub gotos : RowsAre g s (length s.closures) rows
-  pub places : ArePlaces s l
-  pub rules : HasRules g lists
+  pub places : ArePlaces g s l

@@ -1,9 +1,9 @@
 -- Sets of items without lookaheads: closure and goto (Aho, Sethi, Ullman, section 4.7).
-use Rattle.std.specs.Prelude.{ℕ, suc, ◌≡◌, ◌≢◌, ◌<◌, ◌≤◌, ◌⊎◌, ◌↔◌, List, ◌∷◌, length, drop, All, AllPairs}
+use Rattle.std.specs.Prelude.{ℕ, suc, ◌≡◌, ◌≢◌, ◌<◌, ◌≤◌, ◌⊎◌, ◌↔◌, List, ◌∷◌, length, slice_index_or, drop, All, AllPairs}
 use Rattle.std.specs.List.{Contains}
 use Rattle.ygrammar.specs.Grammar.{ContextFree, left_of, body_of, end_token}
 use Rattle.ylalr.specs.declared.items.Item.{Item}
-use Rattle.ylalr.specs.Rows.{BitRows, Holds}
+use Rattle.ylalr.specs.Rows.{BitRows, Holds, IsSized}
 
 -- the items that a set of items leads to at one prefix
 pub data Closed (g : ContextFree) (K : ℕ → ℕ → Type 0) : ℕ → ℕ → Type 0 where
@@ -60,6 +60,19 @@ pub record OpenedBy (g : ContextFree) (K : ℕ → ℕ → Type 0) (r : ℕ) : T
 abbrev pub IsOpens : ContextFree → BitRows → Type 0
 IsOpens g m = (s r : ℕ) → Holds m s r ↔ Opens g s r
 
+-- so many rows, with a column for each rule
+abbrev pub HasRules : ContextFree → ℕ → BitRows → Type 0
+HasRules g n m = IsSized n (length g.rules) m
+
+-- a row for each symbol, and it has the rules that the symbol leads to
+pub record AreOpens (g : ContextFree) (m : BitRows) : Type 0 where
+  pub sized : HasRules g g.symbols m
+  pub exact : IsOpens g m
+
+-- the row has the rules that the items of k lead to
+abbrev pub Wants : ContextFree → List Item → BitRows → Type 0
+Wants g k m = (r : ℕ) → Holds m 0 r ↔ OpenedBy g (ItemsOf k) r
+
 abbrev pub SoundOpens : ContextFree → BitRows → Type 0
 SoundOpens g m = (s r : ℕ) → Holds m s r → Opens g s r
 
@@ -80,3 +93,23 @@ Moves g i x = (y : List ℕ) × (drop i.dot (body_of g i.rule) ≡ x ∷ y) × (
 
 abbrev pub step_of : Item → Item
 step_of i = record { rule = i.rule; dot = suc i.dot }
+
+-- s stands after the dot
+abbrev pub IsNext : ContextFree → Item → ℕ → Type 0
+IsNext g i s = (s < g.symbols) × (drop i.dot (body_of g i.rule) ≡ s ∷ drop (suc i.dot) (body_of g i.rule)) × (i.dot < length (body_of g i.rule))
+
+-- the dot moves over s, and stays within the longest body
+abbrev pub IsMove : ContextFree → Item → ℕ → Type 0
+IsMove g i s = (s < g.symbols) × Moves g i s × (i.dot < length (body_of g i.rule)) × (i.dot < 255)
+
+-- the item is at place k
+abbrev pub IsAt : List Item → Item → ℕ → Type 0
+IsAt w i k = (k < length w) × (slice_index_or w k i ≡ i)
+
+-- w has the items of k, and the first items of the rules in the row
+abbrev pub IsMerged : BitRows → List Item → List Item → Type 0
+IsMerged m k w = (i : Item) → Contains w i ↔ (Contains k i ⊎ ((i.dot ≡ 0) × Holds m 0 i.rule))
+
+-- w has the items of v, and the first items of those rules in the row that are from n on and below z
+abbrev pub AddsOpened : BitRows → ℕ → ℕ → List Item → List Item → Type 0
+AddsOpened m n z v w = (i : Item) → Contains w i ↔ (Contains v i ⊎ ((i.dot ≡ 0) × (n ≤ i.rule) × (i.rule < z) × Holds m 0 i.rule))

@@ -1,9 +1,10 @@
 //! The automaton of a grammar: its states, their gotos, and the lookaheads of their items.
 
-ghost use Rattle.std.specs.Prelude.{ℕ, ◌≡◌, ◌<◌, ◌≤◌, ◌↔◌, [], ◌∷◌, length, IsTrue, IfOk, IfErr};
+ghost use Rattle.std.specs.Prelude.{◌≡◌, ◌<◌, ◌≤◌, ◌↔◌, [], ◌∷◌, length, IsTrue, IfOk, IfErr};
 ghost use Rattle.ygrammar.specs.Forms.{Nullable, First};
 ghost use Rattle.ylalr.specs.Items.{Lookahead};
-ghost use Rattle.ylalr.specs.Collection.{Collection, HasStates, IsGoto, Guide, IsGuide, TooMany, bare_of, state_of};
+ghost use Rattle.ylalr.specs.Collection.{Collection, HasStates, IsGoto, goto_in, Guide, IsGuide};
+ghost use Rattle.ylalr.specs.Collection.{TooMany, bare_of, state_of};
 ghost use Rattle.ylalr.specs.Parts.{FitParts};
 ghost use Rattle.ylalr.specs.declared.fault.BuildFault.{BuildFault};
 
@@ -13,9 +14,8 @@ use crate::first::first_tokens;
 use crate::items::Item;
 use crate::looks::{Parts, all_looks, has_look};
 use crate::nullable::nullable_symbols;
-use crate::places::Offsets;
+use crate::places::Places;
 use crate::rows::Rows;
-use crate::rules::RulesOf;
 use std::alloc::Global;
 use std::marker::Model;
 use ygrammar::{Grammar, Sym};
@@ -29,11 +29,11 @@ pub struct Automaton {
 
 impl Model for Automaton {
     ghost use Rattle.ylalr.specs.Collection.{Collection};
-    ghost use Rattle.ylalr.specs.Parts.{Whole};
+    ghost use Rattle.ylalr.specs.Parts.{Whole, collection_of};
 
     ghost Value = { Collection };
 
-    ghost view = { λ a. record { grammar = a.parts.grammar; states = a.parts.states.closures } };
+    ghost view = { λ a. collection_of a.parts };
 
     ghost invariant = { λ a. Whole a.parts a.looks };
 }
@@ -47,24 +47,25 @@ fn prepare(alloc: Global, grammar: Grammar) -> Result<Parts, BuildFault>
     let nullable = nullable_symbols(alloc, &grammar)?;
     let first = first_tokens(alloc, &grammar, &nullable)?;
     let (states, gotos) = all_states(alloc, &grammar)?;
-    let offsets = Offsets::of(alloc, &states)?;
-    let rules = RulesOf::all(alloc, &grammar)?;
+    let places = Places::of(alloc, &grammar, &states)?;
     Ok(Parts {
         grammar,
         nullable,
         first,
         states,
         gotos,
-        offsets,
-        rules,
+        places,
     })
 }
 
-/// The automaton of a grammar. B1 comes only where the grammar has more than 16,384 states, and then always, unless
-/// B2, which stands for a growth that was refused, comes in its place.
+/// The automaton of a grammar: the canonical collection of its sets of LR(0) items with merged
+/// LR(1) lookaheads (Aho, Sethi, Ullman, section 4.7). B1 comes only where the grammar has more
+/// than 16,384 states, and no automaton has more; B2 stands for a growth that was refused, and
+/// comes for nothing else.
 pub fn build(alloc: Global, grammar: Grammar) -> Result<Automaton, BuildFault>
     ensures grammar { IfOk result (λ a. a.grammar ≡ grammar) }
     ensures states { IfOk result (λ a. HasStates a) }
+    ensures few { IfOk result (λ a. length a.states ≤ 16384) }
     ensures too_many { IfErr result (λ e. e ≡ BuildFault.TooManySets → TooMany grammar.bare) }
 {
     let _symbols = grammar.symbols();
@@ -74,15 +75,17 @@ pub fn build(alloc: Global, grammar: Grammar) -> Result<Automaton, BuildFault>
 }
 
 impl Automaton {
-    /// The grammar that the automaton was built from.
+    /// The grammar that the automaton was built from, as it was.
     pub fn grammar(&self) -> &Grammar
         ensures { result.now ≡ self.now.grammar }
     {
         &self.parts.grammar
     }
 
-    /// How many states there are. They are the numbers below this, and state 0 is the core of the empty prefix. This
-    /// call also says that they are right, and that there is a pair of functions with the gotos and the lookaheads.
+    /// How many states there are, from 1 to 16,384. They are the numbers below this, and state 0
+    /// is the core of the empty prefix. This call also says that states and gotos are right, and
+    /// that there is a pair of functions with the gotos and the lookaheads (Aho, Sethi, Ullman,
+    /// section 4.7, the canonical collection).
     pub fn states(&self) -> usize
         ensures count { result ≡ length self.now.states }
         ensures states { HasStates self.now }
@@ -92,7 +95,8 @@ impl Automaton {
         self.parts.states.count()
     }
 
-    /// All items of a state, by rule and then dot.
+    /// All items of a state, each once, by rule and then dot; `q` is below the number of states
+    /// (section 4.7, closure).
     pub fn items(&self, q: usize) -> &[Item]
         requires { q < length self.now.states }
         ensures { result.now ≡ state_of self.now q }
@@ -100,26 +104,33 @@ impl Automaton {
         self.parts.states.items(q)
     }
 
-    /// The state of a prefix of state `q` followed by `x`, or `None` where no item moves over `x`.
+    /// The state of a prefix of state `q` followed by `x`, or `None` where no item moves over
+    /// `x`; none moves over `$end`. `q` is below the number of states, and `x` is any symbol of
+    /// the grammar (section 4.7, goto).
     pub fn goto(&self, q: usize, x: Sym) -> Option<usize>
         requires state { q < length self.now.states }
         requires symbol { x < (bare_of self.now).symbols }
-        ensures { IsGoto self.now q x result }
+        ensures value { result ≡ goto_in self.now q x }
+        ensures exact { IsGoto self.now q x result }
     {
         let _symbols = self.parts.grammar.symbols();
         self.parts.gotos.get(q, x)
     }
 
-    /// Whether the token is a lookahead of the item in the state; false where the state doesn't have the item.
+    /// Whether the symbol is a lookahead of the item in the state: a token for which the item is
+    /// valid at some prefix of the state. False where the state doesn't have the item, and for a
+    /// nonterminal. `q` is below the number of states, the item is any, and `t` is any symbol of
+    /// the grammar (section 4.7, LALR(1) lookaheads).
     pub fn looks(&self, q: usize, item: Item, t: Sym) -> bool
         requires state { q < length self.now.states }
-        requires token { t < (bare_of self.now).tokens }
+        requires symbol { t < (bare_of self.now).symbols }
         ensures { IsTrue result ↔ Lookahead (bare_of self.now) (state_of self.now q) item t }
     {
         has_look(&self.parts, &self.looks, q, item, t)
     }
 
-    /// Whether the symbol derives the empty form.
+    /// Whether the symbol derives the empty form; `s` is any symbol of the grammar, and no token
+    /// does (section 4.4).
     pub fn nullable(&self, s: Sym) -> bool
         requires { s < (bare_of self.now).symbols }
         ensures { IsTrue result ↔ Nullable (bare_of self.now) (s ∷ []) }
@@ -127,12 +138,13 @@ impl Automaton {
         self.parts.nullable.has(s)
     }
 
-    /// Whether the symbol derives a form that begins with the token.
+    /// Whether the symbol `s` derives a form that begins with the token `t`; false where `t` is a
+    /// nonterminal. Both are any symbols of the grammar (section 4.4, FIRST).
     pub fn in_first(&self, s: Sym, t: Sym) -> bool
         requires symbol { s < (bare_of self.now).symbols }
-        requires token { t < (bare_of self.now).tokens }
+        requires token { t < (bare_of self.now).symbols }
         ensures { IsTrue result ↔ First (bare_of self.now) (s ∷ []) t }
     {
-        self.parts.first.has(s, t)
+        self.parts.grammar.is_token(t) && self.parts.first.has(s, t)
     }
 }

@@ -1,10 +1,9 @@
 //! The closure of a kernel: its items and the first items of the rules that they lead to.
 
-ghost use Rattle.std.specs.Prelude.{ℕ, ◌≡◌, ◌<◌, ◌≤◌, ◌↔◌, ◌⊎◌, ◌+◌, ◌^◌, length, All, OnOk, IfOk};
-ghost use Rattle.std.specs.List.{Contains};
-ghost use Rattle.ylalr.specs.Rows.{Holds, IsSized};
-ghost use Rattle.ylalr.specs.Sets.{IsOpens, IsClosure, IsAscending, InRange, OpenedBy, ItemsOf};
-ghost use Rattle.ylalr.specs.declared.items.Item.{Item};
+ghost use Rattle.std.specs.Prelude.{◌≡◌, ◌<◌, ◌≤◌, ◌+◌, ◌^◌, All, OnOk, IfOk};
+ghost use Rattle.ylalr.specs.Rows.{IsSized};
+ghost use Rattle.ylalr.specs.Sets.{AreOpens, HasRules, Wants, IsClosure, IsAscending, InRange};
+ghost use Rattle.ylalr.specs.Sets.{AddsOpened, IsMerged};
 
 use crate::items::{Item, ItemList, symbol_after};
 use crate::rows::Rows;
@@ -13,12 +12,11 @@ use ygrammar::Grammar;
 
 /// Sets the row of rules that the kernel's items lead to.
 fn want(grammar: &Grammar, opens: &Rows, kernel: &[Item], wanted: &mut Rows)
-    requires opens_sized { IsSized grammar.now.bare.symbols (length grammar.now.bare.rules) opens.now }
-    requires opens_exact { IsOpens grammar.now.bare opens.now }
+    requires opens { AreOpens grammar.now.bare opens.now }
     requires range { InRange grammar.now.bare kernel.now }
-    requires wanted_sized { IsSized 1 (length grammar.now.bare.rules) wanted.old }
-    ensures sized { IsSized 1 (length grammar.now.bare.rules) wanted.new }
-    ensures exact { (r : ℕ) → Holds wanted.new 0 r ↔ OpenedBy grammar.now.bare (ItemsOf kernel.now) r }
+    requires wanted { HasRules grammar.now.bare 1 wanted.old }
+    ensures sized { HasRules grammar.now.bare 1 wanted.new }
+    ensures exact { Wants grammar.now.bare kernel.now wanted.new }
 {
     wanted.clear();
     for item in kernel {
@@ -42,7 +40,7 @@ fn push_opened(
     requires below { All (λ i. i.rule < from) items.old }
     ensures ascending { OnOk result (IsAscending items.new) }
     ensures below { OnOk result (All (λ i. i.rule < to) items.new) }
-    ensures exact { OnOk result ((i : Item) → Contains items.new i ↔ (Contains items.old i ⊎ ((i.dot ≡ 0) × (from ≤ i.rule) × (i.rule < to) × Holds wanted.now 0 i.rule))) }
+    ensures exact { OnOk result (AddsOpened wanted.now from to items.old items.new) }
 {
     let mut r = from;
     while r < to {
@@ -81,7 +79,7 @@ fn merge(
     requires ascending { IsAscending kernel.now }
     requires range { All (λ i. i.rule < rules) kernel.now }
     ensures ascending { IfOk result (λ w. IsAscending w) }
-    ensures exact { IfOk result (λ w. (i : Item) → Contains w i ↔ (Contains kernel.now i ⊎ ((i.dot ≡ 0) × Holds wanted.now 0 i.rule))) }
+    ensures exact { IfOk result (λ w. IsMerged wanted.now kernel.now w) }
 {
     let mut items = ItemList::new(alloc);
     let mut at = 0;
@@ -102,12 +100,11 @@ pub fn closure(
     wanted: &mut Rows,
     kernel: &[Item],
 ) -> Result<ItemList, AllocError>
-    requires opens_sized { IsSized grammar.now.bare.symbols (length grammar.now.bare.rules) opens.now }
-    requires opens_exact { IsOpens grammar.now.bare opens.now }
+    requires opens { AreOpens grammar.now.bare opens.now }
     requires range { InRange grammar.now.bare kernel.now }
     requires ascending { IsAscending kernel.now }
-    requires wanted_sized { IsSized 1 (length grammar.now.bare.rules) wanted.old }
-    ensures wanted_sized { IsSized 1 (length grammar.now.bare.rules) wanted.new }
+    requires wanted { HasRules grammar.now.bare 1 wanted.old }
+    ensures wanted { HasRules grammar.now.bare 1 wanted.new }
     ensures closure { IfOk result (λ w. IsClosure grammar.now.bare kernel.now w) }
     ensures ascending { IfOk result (λ w. IsAscending w) }
     ensures range { IfOk result (λ w. InRange grammar.now.bare w) }

@@ -1,10 +1,9 @@
 //! The tokens that a symbol can begin with, by saturation over the rules.
 
-ghost use Rattle.std.specs.Prelude.{ℕ, ◌≡◌, ◌<◌, ◌≤◌, ◌↔◌, false, true, length, take, All, slice_index, IfOk};
-ghost use Rattle.ygrammar.specs.Grammar.{left_of, body_of};
-ghost use Rattle.ylalr.specs.Marks.{marked};
-ghost use Rattle.ylalr.specs.Rows.{Holds, IsSized, Grown, room};
-ghost use Rattle.ylalr.specs.First.{IsNullable, IsFirst, SoundFirst, RuleFirstClosed, FirstClosed, TokensClosed};
+ghost use Rattle.std.specs.Prelude.{◌≡◌, ◌<◌, false, length, IfOk};
+ghost use Rattle.ylalr.specs.Rows.{IsSized, Grown};
+ghost use Rattle.ylalr.specs.First.{IsNullable, IsFirst, SoundFirst, RuleFirstClosed, FirstClosed};
+ghost use Rattle.ylalr.specs.First.{TokensClosed};
 
 use crate::marks::Marks;
 use crate::rows::Rows;
@@ -12,7 +11,8 @@ use crate::tokens::token_count;
 use std::alloc::{AllocError, Global};
 use ygrammar::Grammar;
 
-/// Adds to the left side of a rule what its body begins with, symbol by symbol up to one that can't vanish.
+/// Adds to the left side of a rule what its body begins with, symbol by symbol up to one that
+/// can't vanish.
 fn visit(grammar: &Grammar, nullable: &Marks, rule: usize, first: &mut Rows) -> bool
     requires within { rule < length grammar.now.bare.rules }
     requires marks { length nullable.now ≡ grammar.now.bare.symbols }

@@ -1,7 +1,7 @@
 //! The gotos of states: for each state a list by symbol.
 
 ghost use Rattle.std.specs.Prelude.{◌≡◌, ◌<◌, ◌++◌, [], ◌∷◌, length, slice_index_or, OnOk};
-ghost use Rattle.ylalr.specs.States.{lookup, goto_of, IsAscendingRow};
+ghost use Rattle.ylalr.specs.Gotos.{lookup, goto_of, IsAscendingRow};
 
 use std::alloc::{AllocError, Global};
 use std::marker::Model;

@@ -1,9 +1,10 @@
 //! Items, and lists of them.
 
-ghost use Rattle.std.specs.Prelude.{ℕ, ◌≡◌, ◌<◌, ◌≤◌, ◌++◌, [], ◌∷◌, suc, drop, length, slice_index_or, List, OnOk, IsTrue, ◌↔◌, MatchOption, All};
+ghost use Rattle.std.specs.Prelude.{ℕ, ◌≡◌, ◌<◌, ◌≤◌, ◌++◌, [], ◌∷◌, suc, drop, length, List, OnOk};
+ghost use Rattle.std.specs.Prelude.{IsTrue, ◌↔◌, MatchOption, All};
 ghost use Rattle.ygrammar.specs.Grammar.{body_of};
 ghost use Rattle.std.specs.List.{Contains};
-ghost use Rattle.ylalr.specs.Sets.{Before, Moves, IsAscending};
+ghost use Rattle.ylalr.specs.Sets.{Before, Moves, IsAscending, IsNext, IsMove, IsAt};
 
 use std::alloc::{AllocError, Global};
 use std::marker::Model;
@@ -23,7 +24,7 @@ pub struct Item {
 pub fn symbol_after(grammar: &Grammar, item: Item) -> Option<Sym>
     requires { item.rule < length grammar.now.bare.rules }
     ensures { MatchOption result (length (body_of grammar.now.bare item.rule) ≤ item.dot)
-        (λ s. (s < grammar.now.bare.symbols) × (drop item.dot (body_of grammar.now.bare item.rule) ≡ s ∷ drop (suc item.dot) (body_of grammar.now.bare item.rule)) × (item.dot < length (body_of grammar.now.bare item.rule))) }
+        (λ s. IsNext grammar.now.bare item s) }
 {
     let _symbols = grammar.symbols();
     let body = grammar.rule(item.rule).body();
@@ -50,7 +51,7 @@ pub fn form_after(grammar: &Grammar, item: Item) -> &[Sym]
 pub fn moves_over(grammar: &Grammar, item: Item) -> Option<Sym>
     requires { item.rule < length grammar.now.bare.rules }
     ensures { MatchOption result ((z : ℕ) → Moves grammar.now.bare item z → ⊥)
-        (λ x. (x < grammar.now.bare.symbols) × Moves grammar.now.bare item x × (item.dot < length (body_of grammar.now.bare item.rule)) × (item.dot < 255)) }
+        (λ x. IsMove grammar.now.bare item x) }
 {
     let _symbols = grammar.symbols();
     let next = symbol_after(grammar, item)?;
@@ -122,7 +123,7 @@ fn comes_before(i: Item, j: Item) -> bool
 /// Where the item stands in an ascending list.
 pub fn find(items: &[Item], item: Item) -> Option<usize>
     requires { IsAscending items.now }
-    ensures { MatchOption result (Contains items.now item → ⊥) (λ k. (k < length items.now) × (slice_index_or items.now k item ≡ item)) }
+    ensures { MatchOption result (Contains items.now item → ⊥) (λ k. IsAt items.now item k) }
 {
     let mut low = 0;
     let mut high = items.len();

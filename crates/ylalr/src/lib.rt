@@ -1,4 +1,24 @@
-//! The item sets of a grammar and their lookaheads: the merged canonical LR(1) items.
+//! The item sets of a grammar and their lookaheads: the merged canonical LR(1) items (Aho, Sethi,
+//! Ullman, section 4.7).
+//!
+//! `build` goes one way. From the rules: which symbols vanish (`nullable`), what each begins with
+//! (`first`), and which rules a symbol after a dot opens (`opens`). From these the states
+//! (`collection`): a state is its kernel, by which an `indexmap` numbers it, and the closure of
+//! that, a list of items by rule and dot. The items of a state sorted by the symbol after the dot
+//! (`buckets`) are the kernels of its gotos, and each state has a list of those by symbol
+//! (`gotos`).
+//!
+//! Lookaheads are rows of bits, one bit for each token (`rows`). In each state every item of the
+//! kernel has a row of its own, and the items of one left side with the dot at 0, whose
+//! lookaheads are the same, share one (`places`, `lefts`). One pass over the items (`looks`) puts
+//! into the row of the left side after a dot what the form behind it begins with, and links rows
+//! (`links`): an item's row to that of the item with its dot moved, in the goto's state, and to
+//! that of the left side after its dot, where the form behind vanishes. Then rows give along
+//! their links until none grows (`spread`): a row that grew waits in a queue, at most once, until
+//! it is taken from the front (`waiting`).
+//!
+//! Of the definitions in specs/, public clauses rest on `Collection`, `Gotos`, `Items` and
+//! `Sets`; the others are between modules.
 #![tactic(auto)]
 
 mod automaton;
@@ -9,20 +29,20 @@ mod fault;
 mod first;
 mod gotos;
 mod items;
+mod lefts;
+mod links;
 mod looks;
 mod marks;
 mod nullable;
 mod opens;
 mod places;
-#[cfg(test)]
-mod reference;
 mod rows;
-mod rules;
+mod spread;
 mod states;
-#[cfg(test)]
-mod tests;
 mod tokens;
+mod waiting;
 
 pub use automaton::{Automaton, build};
 pub use fault::BuildFault;
 pub use items::Item;
+pub use tokens::token_count;

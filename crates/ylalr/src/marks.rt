@@ -1,6 +1,7 @@
-//! A list of marks, one for each symbol, that are only ever set.
+//! A list of marks by number.
 
-ghost use Rattle.std.specs.Prelude.{◌≡◌, ◌+◌, ◌<◌, true, false, length, replicate, slice_set, slice_index_or, IfOk, if◌then◌else◌};
+ghost use Rattle.std.specs.Prelude.{◌≡◌, ◌+◌, ◌<◌, true, false, length, replicate, slice_set};
+ghost use Rattle.std.specs.Prelude.{slice_index_or, IfOk, if◌then◌else◌};
 ghost use Rattle.ylalr.specs.Marks.{unmarked};
 
 use std::alloc::{AllocError, Global};
@@ -47,5 +48,13 @@ impl Marks {
         let before = self.places[i];
         self.places[i] = true;
         !before
+    }
+
+    /// Unmarks place `i`.
+    pub fn unmark(&mut self, i: usize)
+        requires { i < length self.old }
+        ensures { self.new ≡ slice_set self.old i false }
+    {
+        self.places[i] = false;
     }
 }

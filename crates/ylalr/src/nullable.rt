@@ -1,9 +1,10 @@
 //! The symbols that derive the empty form, by saturation over the rules.
 
-ghost use Rattle.std.specs.Prelude.{ℕ, ◌≡◌, ◌+◌, ◌<◌, ◌≤◌, ◌↔◌, false, true, [], ◌∷◌, length, All, IsTrue, IfOk, if◌then◌else◌};
-ghost use Rattle.ygrammar.specs.Forms.{Nullable};
+ghost use Rattle.std.specs.Prelude.{◌≡◌, ◌+◌, ◌<◌, ◌≤◌, ◌↔◌, false, true, length, All, IsTrue};
+ghost use Rattle.std.specs.Prelude.{IfOk, if◌then◌else◌};
 ghost use Rattle.ylalr.specs.Marks.{marked, unmarked};
 ghost use Rattle.ylalr.specs.Nullable.{SoundNullable, ClosedAt, ClosedNullable};
+ghost use Rattle.ylalr.specs.First.{IsNullable};
 
 use crate::marks::Marks;
 use std::alloc::{AllocError, Global};
@@ -75,7 +76,7 @@ fn pass_on(grammar: &Grammar, marks: &mut Marks)
 /// The symbols that derive the empty form.
 pub fn nullable_symbols(alloc: Global, grammar: &Grammar) -> Result<Marks, AllocError>
     ensures sized { IfOk result (λ marks. length marks ≡ grammar.now.bare.symbols) }
-    ensures exact { IfOk result (λ marks. (s : ℕ) → marked marks s ↔ Nullable grammar.now.bare (s ∷ [])) }
+    ensures exact { IfOk result (λ marks. IsNullable grammar.now.bare marks) }
 {
     let mut marks = Marks::new(alloc, grammar.symbols())?;
     pass(grammar, &mut marks);

@@ -1,8 +1,9 @@
 //! The rules that a symbol after a dot leads to, by saturation over the rules.
 
-ghost use Rattle.std.specs.Prelude.{ℕ, ◌≡◌, ◌<◌, ◌≤◌, false, true, length, IfOk};
-ghost use Rattle.ylalr.specs.Rows.{Holds, IsSized, Grown, room};
-ghost use Rattle.ylalr.specs.Sets.{IsOpens, SoundOpens, OwnOpens, OpensClosedAt, OpensClosed};
+ghost use Rattle.std.specs.Prelude.{◌≡◌, ◌<◌, false, length, IfOk};
+ghost use Rattle.ylalr.specs.Rows.{Grown};
+ghost use Rattle.ylalr.specs.Sets.{HasRules, IsOpens, SoundOpens, OwnOpens, OpensClosedAt};
+ghost use Rattle.ylalr.specs.Sets.{OpensClosed};
 
 use crate::rows::Rows;
 use std::alloc::{AllocError, Global};
@@ -11,7 +12,7 @@ use ygrammar::Grammar;
 /// Adds to the left side of a rule what the first symbol of its body leads to.
 fn visit(grammar: &Grammar, rule: usize, opens: &mut Rows) -> bool
     requires within { rule < length grammar.now.bare.rules }
-    requires sized { IsSized grammar.now.bare.symbols (length grammar.now.bare.rules) opens.old }
+    requires sized { HasRules grammar.now.bare grammar.now.bare.symbols opens.old }
     requires sound { SoundOpens grammar.now.bare opens.old }
     ensures sound { SoundOpens grammar.now.bare opens.new }
     ensures grown { Grown opens.old opens.new result }
@@ -29,7 +30,7 @@ fn visit(grammar: &Grammar, rule: usize, opens: &mut Rows) -> bool
 
 /// Visits each rule, the last one first, and says whether any row grew.
 fn pass(grammar: &Grammar, opens: &mut Rows) -> bool
-    requires sized { IsSized grammar.now.bare.symbols (length grammar.now.bare.rules) opens.old }
+    requires sized { HasRules grammar.now.bare grammar.now.bare.symbols opens.old }
     requires sound { SoundOpens grammar.now.bare opens.old }
     ensures sound { SoundOpens grammar.now.bare opens.new }
     ensures grown { Grown opens.old opens.new result }
@@ -45,7 +46,7 @@ fn pass(grammar: &Grammar, opens: &mut Rows) -> bool
 
 /// Visits each rule, the first one first.
 fn pass_on(grammar: &Grammar, opens: &mut Rows) -> bool
-    requires sized { IsSized grammar.now.bare.symbols (length grammar.now.bare.rules) opens.old }
+    requires sized { HasRules grammar.now.bare grammar.now.bare.symbols opens.old }
     requires sound { SoundOpens grammar.now.bare opens.old }
     ensures sound { SoundOpens grammar.now.bare opens.new }
     ensures grown { Grown opens.old opens.new result }
@@ -59,7 +60,7 @@ fn pass_on(grammar: &Grammar, opens: &mut Rows) -> bool
 
 /// Rows in which each left side has its own rules.
 fn own_rules(alloc: Global, grammar: &Grammar) -> Result<Rows, AllocError>
-    ensures sized { IfOk result (λ m. IsSized grammar.now.bare.symbols (length grammar.now.bare.rules) m) }
+    ensures sized { IfOk result (λ m. HasRules grammar.now.bare grammar.now.bare.symbols m) }
     ensures sound { IfOk result (λ m. SoundOpens grammar.now.bare m) }
     ensures own { IfOk result (λ m. OwnOpens grammar.now.bare m) }
 {
@@ -72,7 +73,7 @@ fn own_rules(alloc: Global, grammar: &Grammar) -> Result<Rows, AllocError>
 
 /// The rules that each symbol leads to.
 pub fn opened_rules(alloc: Global, grammar: &Grammar) -> Result<Rows, AllocError>
-    ensures sized { IfOk result (λ m. IsSized grammar.now.bare.symbols (length grammar.now.bare.rules) m) }
+    ensures sized { IfOk result (λ m. HasRules grammar.now.bare grammar.now.bare.symbols m) }
     ensures exact { IfOk result (λ m. IsOpens grammar.now.bare m) }
 {
     let mut opens = own_rules(alloc, grammar)?;

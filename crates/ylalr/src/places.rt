@@ -1,71 +1,136 @@
-//! The place of each item among the items of all states.
+//! The rows of the items of all states: in each state the items of one left side with the dot at
+//! 0 share one.
 
-ghost use Rattle.std.specs.Prelude.{ℕ, ◌≡◌, ◌<◌, length, slice_index, IfOk, MatchOption};
-ghost use Rattle.ylalr.specs.Looks.{ArePlaces, IsPlace};
-ghost use Rattle.ylalr.specs.States.{set_at};
-ghost use Rattle.ylalr.specs.Sets.{IsAscending};
+ghost use Rattle.std.specs.Prelude.{ℕ, ◌≡◌, ◌<◌, ◌≤◌, ◌+◌, ◌^◌, [], ◌∷◌, ◌++◌, length, IfOk, OnOk};
+ghost use Rattle.ylalr.specs.Places.{ArePlaces, FillRows, rows_at, IsPlaceOf};
+ghost use Rattle.ylalr.specs.Sets.{InRange, IsAscending};
+ghost use Rattle.ylalr.specs.States.{AreStates, set_at};
 
 use crate::items::{Item, find};
+use crate::lefts::Lefts;
 use crate::states::States;
 use std::alloc::{AllocError, Global};
 use std::marker::Model;
+use ygrammar::Grammar;
 
-/// Where the items of each state begin, and how many items there are.
+/// The rows of the items of one state.
 #[derive(Drop)]
-pub struct Offsets {
-    starts: Vec<usize>,
+struct RowList {
+    rows: Vec<usize>,
+}
+
+impl Model for RowList {
+    ghost use Rattle.std.specs.Prelude.{ℕ, List};
+
+    ghost Value = { List ℕ };
+
+    ghost view = { λ l. l.rows.items };
+}
+
+impl RowList {
+    /// No rows.
+    fn new(alloc: Global) -> RowList
+        ensures { result ≡ [] }
+    {
+        RowList {
+            rows: Vec::new(alloc),
+        }
+    }
+
+    /// Adds a row at the end.
+    fn push(&mut self, row: usize) -> Result<(), AllocError>
+        ensures { OnOk result (self.new ≡ self.old ++ row ∷ []) }
+    {
+        self.rows.push(row)?;
+        Ok(())
+    }
+}
+
+/// The rows of the items of each state, and how many rows there are.
+#[derive(Drop)]
+pub struct Places {
+    rows: Vec<RowList>,
     total: usize,
 }
 
-impl Model for Offsets {
-    ghost use Rattle.ylalr.specs.Looks.{Places};
+impl Model for Places {
+    ghost use Rattle.ylalr.specs.Places.{Places as PlaceLists};
 
-    ghost Value = { Places };
+    ghost Value = { PlaceLists };
 
-    ghost view = { λ o. record { starts = o.starts.items; total = o.total } };
+    ghost view = { λ o. record { rows = o.rows.items; total = o.total } };
 }
 
-impl Offsets {
-    /// The items of the states one after another. More than a machine can number are refused as want of memory.
-    pub fn of(alloc: Global, states: &States) -> Result<Offsets, AllocError>
-        ensures { IfOk result (λ l. ArePlaces states.now l) }
+/// The rows of the items of a state, from row `first` on, and the first row behind them.
+fn rows_of(
+    alloc: Global,
+    grammar: &Grammar,
+    items: &[Item],
+    lefts: &mut Lefts,
+    first: usize,
+) -> Result<(RowList, usize), AllocError>
+    requires sized { length lefts.old ≡ grammar.now.bare.symbols }
+    requires range { InRange grammar.now.bare items.now }
+    requires room { first + length items.now < 2 ^ 63 }
+    ensures sized { OnOk result (length lefts.new ≡ grammar.now.bare.symbols) }
+    ensures rows { IfOk result (λ r. FillRows grammar.now.bare items.now r.0 first r.1) }
+{
+    let _symbols = grammar.symbols();
+    lefts.clear();
+    let mut rows = RowList::new(alloc);
+    let mut end = first;
+    for item in items {
+        let row = lefts.row_of(grammar, *item, end);
+        rows.push(row)?;
+        if row == end {
+            end += 1;
+        }
+    }
+    Ok((rows, end))
+}
+
+impl Places {
+    /// The rows of the items of the states, each state's after those of the state before.
+    pub fn of(alloc: Global, grammar: &Grammar, states: &States) -> Result<Places, AllocError>
+        requires states { AreStates grammar.now.bare states.now }
+        requires few { length states.now.closures ≤ 16384 }
+        ensures { IfOk result (λ l. ArePlaces grammar.now.bare states.now l) }
     {
-        let mut starts = Vec::new(alloc);
+        let mut lefts = Lefts::new(alloc, grammar.symbols())?;
+        let mut rows = Vec::new(alloc);
         let mut total: usize = 0;
         for q in 0..states.count() {
-            let more = states.items(q).len();
-            starts.push(total)?;
-            let Some(next) = total.checked_add(more) else {
-                return Err(AllocError);
-            };
-            total = next;
+            let (list, end) = rows_of(alloc, grammar, states.items(q), &mut lefts, total)?;
+            rows.push(list)?;
+            total = end;
         }
-        Ok(Offsets { starts, total })
+        Ok(Places { rows, total })
     }
 
-    /// How many items there are.
+    /// How many rows there are.
     pub fn total(&self) -> usize
         ensures { result ≡ self.now.total }
     {
         self.total
     }
 
-    /// Where the items of state `q` begin.
-    pub fn start(&self, q: usize) -> usize
-        requires { q < length self.now.starts }
-        ensures { result ≡ slice_index self.now.starts q }
+    /// The rows of the items of state `q`, in the order of the items.
+    pub fn rows(&self, q: usize) -> &[usize]
+        requires { q < length self.now.rows }
+        ensures { result.now ≡ rows_at self.now q }
     {
-        self.starts[q]
+        self.rows[q].rows.as_slice()
     }
 }
 
-/// The place of an item of a state.
-pub fn place_of(states: &States, offsets: &Offsets, q: usize, item: Item) -> Option<usize>
+/// The row of an item of a state.
+pub fn place_of(states: &States, places: &Places, q: usize, item: Item) -> Option<usize>
     requires state { q < length states.now.closures }
     requires order { IsAscending (set_at states.now.closures q) }
-    requires places { ArePlaces states.now offsets.now }
-    ensures { MatchOption result ((p : ℕ) → IsPlace states.now offsets.now q item p → ⊥) (λ p. IsPlace states.now offsets.now q item p) }
+    requires places { length places.now.rows ≡ length states.now.closures }
+    requires rows { length (rows_at places.now q) ≡ length (set_at states.now.closures q) }
+    ensures { IsPlaceOf states.now places.now q item result }
 {
     let index = find(states.items(q), item)?;
-    Some(offsets.start(q) + index)
+    Some(places.rows(q)[index])
 }

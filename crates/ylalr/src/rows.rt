@@ -1,6 +1,7 @@
 //! Rows of bits, in words of 64: sets of numbers that are united word by word.
 
-ghost use Rattle.std.specs.Prelude.{ℕ, ◌≡◌, ◌+◌, ◌*◌, ◌<◌, ◌≤◌, ◌↔◌, ◌⊎◌, true, false, length, IfOk, IsTrue};
+ghost use Rattle.std.specs.Prelude.{ℕ, ◌≡◌, ◌+◌, ◌*◌, ◌<◌, ◌≤◌, ◌↔◌, ◌⊎◌, true, false, length};
+ghost use Rattle.std.specs.Prelude.{IfOk, IsTrue};
 ghost use Rattle.ylalr.specs.Rows.{BitRows, Holds, IsSized, AddsFrom, Grown, room, united};
 
 use std::alloc::{AllocError, Global};
@@ -23,28 +24,36 @@ impl Model for Rows {
 
     ghost Value = { BitRows };
 
-    ghost view = { λ m. record { height = m.height; width = m.width; span = m.span; words = m.words.items } };
+    ghost view = { λ m.
+        record { height = m.height; width = m.width; span = m.span; words = m.words.items } };
 
-    ghost invariant = { λ m. IsBitRows (record { height = m.height; width = m.width; span = m.span; words = m.words.items }) };
+    ghost invariant = { λ m. IsBitRows (
+        record { height = m.height; width = m.width; span = m.span; words = m.words.items }) };
 }
 
 impl Rows {
-    /// Rows with no bit set. More words than a machine can number are refused as want of memory.
+    /// Rows with no bit set.
     pub fn new(alloc: Global, height: usize, width: usize) -> Result<Rows, AllocError>
+        requires tall { height ≤ 34359738368 }
+        requires wide { width ≤ 8192 }
         ensures sized { IfOk result (λ m. IsSized height width m) }
         ensures empty { IfOk result (λ m. (r c : ℕ) → Holds m r c → ⊥) }
     {
         let span = width / BITS + 1;
-        let Some(count) = height.checked_mul(span) else {
-            return Err(AllocError);
-        };
-        let words = vec![in alloc; 0; count]?;
+        let words = vec![in alloc; 0; height * span]?;
         Ok(Rows {
             height,
             width,
             span,
             words,
         })
+    }
+
+    /// How many rows there are.
+    pub fn height(&self) -> usize
+        ensures { result ≡ self.now.height }
+    {
+        self.height
     }
 
     /// Whether row `r` has column `c`.
@@ -57,8 +66,8 @@ impl Rows {
         (word >> (c % BITS)) & 1 == 1
     }
 
-    /// A column behind `c`, which row `r` lacks, such that the row has none from `c` up to it. An empty word is passed
-    /// over as a whole.
+    /// A column behind `c`, which row `r` lacks, such that the row has none from `c` up to it:
+    /// the next one that it has in the word, or else where the word ends.
     pub fn after(&self, r: usize, c: usize) -> usize
         requires row { r < self.now.height }
         requires column { c < self.now.width }
@@ -67,15 +76,9 @@ impl Rows {
         ensures within { result ≤ self.now.width }
         ensures none { (k : ℕ) → c ≤ k → k < result → Holds self.now r k → ⊥ }
     {
-        let width = self.width;
-        let start = c / BITS * BITS;
-        if self.words[r * self.span + c / BITS] != 0 {
-            c + 1
-        } else if width - start > BITS {
-            start + BITS
-        } else {
-            width
-        }
+        let rest = self.words[r * self.span + c / BITS] >> (c % BITS);
+        let step = (rest.trailing_zeros() as usize).min(BITS - c % BITS);
+        c + step.min(self.width - c)
     }
 
     /// Unsets all bits.
@@ -105,7 +108,8 @@ impl Rows {
     pub fn mark(&mut self, r: usize, c: usize) -> bool
         requires row { r < self.old.height }
         requires column { c < self.old.width }
-        ensures exact { (i k : ℕ) → Holds self.new i k ↔ (Holds self.old i k ⊎ ((i ≡ r) × (k ≡ c))) }
+        ensures exact { (i k : ℕ) →
+            Holds self.new i k ↔ (Holds self.old i k ⊎ ((i ≡ r) × (k ≡ c))) }
         ensures grown { Grown self.old self.new result }
     {
         let at = r * self.span + c / BITS;

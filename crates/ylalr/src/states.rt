@@ -1,20 +1,13 @@
 //! The states found so far, numbered by their kernels.
 
-ghost use Rattle.std.specs.Prelude.{ℕ, ◌≡◌, ◌<◌, ◌≤◌, length, IfOk, IfErr, OnOk, IfSome, IfNone};
+ghost use Rattle.std.specs.Prelude.{◌≡◌, ◌<◌, length, IfOk, OnOk, IfSome, IfNone};
 ghost use Rattle.ylalr.specs.States.{IsFresh, HasKernel, set_at, with_state};
-ghost use Rattle.ylalr.specs.Sets.{IsOpens};
-ghost use Rattle.ylalr.specs.Rows.{IsSized};
-ghost use Rattle.ylalr.specs.declared.fault.BuildFault.{BuildFault};
 
-use crate::closure::closure;
-use crate::fault::BuildFault;
 use crate::items::{Item, ItemList};
-use crate::rows::Rows;
 use indexmap::IndexSet;
 use smallvec::SmallVec;
 use std::alloc::{AllocError, Global};
 use std::marker::Model;
-use ygrammar::Grammar;
 
 /// How many states there may be.
 pub const LIMIT: usize = 16_384;
@@ -35,7 +28,8 @@ impl Model for States {
 
     ghost Value = { StateLists };
 
-    ghost view = { λ s. record { kernels = map (λ k. k.items) s.kernels.keys; closures = s.closures.items } };
+    ghost view = { λ s.
+        record { kernels = map (λ k. k.items) s.kernels.keys; closures = s.closures.items } };
 }
 
 impl States {

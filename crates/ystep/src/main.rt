@@ -4,8 +4,8 @@
 use std::env;
 use std::io::{self, BufWriter, ErrorKind, Write};
 use std::process::ExitCode;
-use ycli::link::Link;
 use ycli::programs::ystep_run;
+use ytables::Link;
 
 /// Passes on the words and the standard streams, and gives the exit status.
 fn status(rt: &HostRuntime) -> io::Result<u8> {
@@ -21,12 +21,21 @@ fn status(rt: &HostRuntime) -> io::Result<u8> {
     Ok(ystep_run(rt, &words, &mut reader, &mut writer, &mut errors))
 }
 
-fn main(rt: HostRuntime) -> io::Result<ExitCode> {
+/// What is written where there is no run, and the status: want of memory, or a word that is no text.
+fn refusal(error: &io::Error) -> (&'static [u8], u8) {
+    match error.kind() {
+        ErrorKind::OutOfMemory => (b"ystep: no memory\n", 3),
+        _ => (b"usage: ystep grammar tokens\n", 2),
+    }
+}
+
+fn main(rt: HostRuntime) -> ExitCode {
     match status(&rt) {
-        Err(error) if error.kind() == ErrorKind::OutOfMemory => {
-            let _ = rt.stderr().write_all(b"ystep: no memory\n");
-            Ok(ExitCode::from(3))
+        Ok(status) => ExitCode::from(status),
+        Err(error) => {
+            let (message, status) = refusal(&error);
+            let _ = rt.stderr().write_all(message);
+            ExitCode::from(status)
         }
-        answer => Ok(ExitCode::from(answer?)),
     }
 }

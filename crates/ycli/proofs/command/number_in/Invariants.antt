@@ -1,10 +1,12 @@
 use Rattle.std.proofs.Common.{◌≡◌, ◌<◌, ◌^◌, drop}
-use Rattle.ycli.specs.Command.{value_from}
+use Rattle.std.specs.Str.{all_ascii_digits}
+use Rattle.std.specs.Str.Parse.{digits_value, digits_value_after}
 use Rattle.ycli.proofs.command.number_in.Given as goal
 
--- the value so far, and those digits that are left
+-- digits so far with this value, and what is left is as it was
 abbrev pub invariant-loop-digit : goal.invariant-loop-digit
 invariant-loop-digit l = record {
   small : l.number < 10 ^ l.digit-index;
-  same : value_from l.number (drop l.digit-index l.digits) ≡ value_from 0 l.digits;
+  value : digits_value_after 10 l.number (drop l.digit-index l.digits) ≡ digits_value 10 l.digits;
+  digits : all_ascii_digits (drop l.digit-index l.digits) ≡ all_ascii_digits l.digits;
 }

@@ -1,5 +1,5 @@
 use Rattle.std.proofs.Common.{true, false, subst, ap, ◌∙◌, Bool, if◌then◌else◌}
-use Rattle.ycli.specs.Link.{has_failed}
+use Rattle.ytables.specs.Link.{has_failed}
 use Rattle.ycli.specs.declared.command.Command.{Command}
 use Rattle.ycli.specs.Session.{machine_of, history_of}
 use Rattle.ycli.specs.Reply.{Answers}

@@ -1,10 +1,10 @@
 use Rattle.std.proofs.Common.{◌≡◌, ◌+◌, ◌-◌, ◌++◌, ℕ, suc, List, [], Bool, true, false, is_some, if◌then◌else◌, codes, arith, refl, ap, sym, ◌∙◌, subst, append_assoc, append-nil}
-use Rattle.ycli.specs.Sends.{Sends}
+use Rattle.ytables.specs.Sends.{Sends}
 use Rattle.ycli.specs.Machine.{Machine}
 use Rattle.ycli.specs.History.{History, position}
 use Rattle.ycli.specs.Session.{machine_of, history_of}
 use Rattle.ycli.specs.Reply.{undo_text, undone, step_line}
-use Rattle.ycli.proofs.Sent.{Sends-then, Sends-stop, Sends-none}
+use Rattle.ytables.proofs.Sent.{Sends-then, Sends-stop, Sends-none}
 use Rattle.ycli.proofs.Replying.{answered, answered-part, undo_text-on, undone-on, undo_text-off, undone-off}
 use Rattle.ycli.proofs.reply.back.Goals as goal
 

@@ -1,5 +1,5 @@
 use Rattle.std.proofs.Common.{ℕ, List, ◌≡◌, ◌++◌, ◌-◌, true, false}
-use Rattle.ycli.specs.Sends.{Sends}
+use Rattle.ytables.specs.Sends.{Sends}
 use Rattle.ycli.specs.Session.{machine_of, history_of}
 use Rattle.ycli.specs.Reply.{undo_text, undone}
 use Rattle.ycli.proofs.reply.back.Given as goal

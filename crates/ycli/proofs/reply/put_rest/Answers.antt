@@ -1,11 +1,11 @@
 use Rattle.std.proofs.Common.{ap, is_some, ◌≡◌, ◌+◌, suc, length, get_or, take, map, subst, List, ◌∷◌, ℕ, true, false, sym, ◌∙◌, arith}
 use Rattle.std.proofs.lemmas.List.{length-map}
 use Rattle.std.proofs.Math.ListN.{get_or-map}
-use Rattle.ycli.specs.Sends.{Sends}
+use Rattle.ytables.specs.Sends.{Sends}
 use Rattle.ycli.specs.Machine.{Configuration, Machine}
 use Rattle.ycli.specs.Reply.{spaced}
 use Rattle.ycli.specs.Session.{machine_of, history_of}
-use Rattle.ycli.proofs.Sent.{Sends-part, Sends-next}
+use Rattle.ytables.proofs.Sent.{Sends-part, Sends-next}
 use Rattle.ycli.proofs.reply.put_rest.Goals as goal
 
 pub returns-in_err-put_name : goal.returns-in_err-put_name

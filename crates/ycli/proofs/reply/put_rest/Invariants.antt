@@ -1,5 +1,5 @@
 use Rattle.std.proofs.Common.{true, take, map}
-use Rattle.ycli.specs.Sends.{Sends}
+use Rattle.ytables.specs.Sends.{Sends}
 use Rattle.ycli.specs.Session.{machine_of, history_of}
 use Rattle.ycli.specs.Reply.{spaced}
 use Rattle.ycli.proofs.reply.put_rest.Given as goal

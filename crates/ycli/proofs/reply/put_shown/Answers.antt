@@ -1,7 +1,7 @@
 use Rattle.std.proofs.Common.{◌++◌, false, codes}
 use Rattle.ycli.specs.Session.{machine_of, history_of}
 use Rattle.ycli.specs.Reply.{shown_head, shown_stack, shown_rest, shown_counts, shown}
-use Rattle.ycli.proofs.Sent.{Sends-then, Sends-stop, Sends-none}
+use Rattle.ytables.proofs.Sent.{Sends-then, Sends-stop, Sends-none}
 use Rattle.ycli.proofs.reply.put_shown.Goals as goal
 
 pub returns-in_err-put_head : goal.returns-in_err-put_head

@@ -1,8 +1,8 @@
 use Rattle.std.proofs.Common.{ap, is_some, ◌≡◌, length, get_or, subst, List, ◌∷◌, ℕ, false, ◌∙◌, arith}
-use Rattle.ycli.specs.Sends.{Sends}
+use Rattle.ytables.specs.Sends.{Sends}
 use Rattle.ycli.specs.Machine.{Configuration}
 use Rattle.ycli.specs.Session.{machine_of, history_of}
-use Rattle.ycli.proofs.Sent.{Sends-part}
+use Rattle.ytables.proofs.Sent.{Sends-part}
 use Rattle.ycli.proofs.reply.put_stack.Goals as goal
 
 pub returns-in_err-put_name : goal.returns-in_err-put_name

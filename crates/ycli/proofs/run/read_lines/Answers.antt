@@ -2,9 +2,8 @@ use Rattle.std.proofs.Common.{◌≡◌, ◌++◌, ℕ, List, Bool, true, false,
 use Rattle.std.proofs.KnownBytes.{Consumes-trans}
 use Rattle.ycli.specs.Machine.{Machine}
 use Rattle.ycli.specs.History.{History}
-use Rattle.ycli.specs.Lines.{rest_line}
 use Rattle.ycli.specs.Session.{machine_of, history_of}
-use Rattle.ycli.specs.Serving.{ChunkTells}
+use Rattle.ycli.specs.Serving.{rest_line, ChunkTells}
 use Rattle.ycli.proofs.Transcripts.{read_on, read_quit, read_fault}
 use Rattle.ycli.proofs.run.read_lines.Goals as goal
 

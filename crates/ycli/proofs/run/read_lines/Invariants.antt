@@ -1,10 +1,9 @@
 use Rattle.std.proofs.Common.{ℕ, List, ◌≡◌, ◌≤◌, length, take, true}
 use Rattle.std.specs.Io.KnownBytes.{Consumes}
-use Rattle.ycli.specs.Link.{device_of, has_failed}
-use Rattle.ycli.specs.Sends.{Sends}
+use Rattle.ytables.specs.Link.{device_of, has_failed}
+use Rattle.ytables.specs.Sends.{Sends}
 use Rattle.ycli.specs.Session.{machine_of, history_of}
-use Rattle.ycli.specs.Lines.{whole_lines, rest_line}
-use Rattle.ycli.specs.Transcript.{Replies}
+use Rattle.ycli.specs.Serving.{whole_lines, rest_line, Replies}
 use Rattle.ycli.proofs.run.read_lines.Given as goal
 
 -- what was taken was answered, and each read took some bytes

@@ -2,12 +2,13 @@ use Rattle.std.proofs.Common.{◌≡◌, ◌<◌, ◌^◌, ℕ, List, Bool, true
 use Rattle.std.proofs.lemmas.Result.{err_from_is_err_and}
 use Rattle.ycli.specs.declared.fault.SessionFault.{SessionFault}
 use Rattle.ycli.specs.declared.fault.SessionFault.TheVariants as faults
-use Rattle.ycli.specs.Link.{device_of}
+use Rattle.ytables.specs.Link.{device_of}
 use Rattle.ycli.specs.Machine.{Machine}
 use Rattle.ycli.specs.History.{History}
 use Rattle.ycli.specs.Session.{machine_of, history_of}
-use Rattle.ycli.specs.Serving.{ReadTells, Ends}
+use Rattle.ycli.specs.Serving.{lines_of, ReadTells, Ends}
 use Rattle.ycli.specs.Transcript.{Tells}
+use Rattle.ycli.proofs.Lines.{are_lines}
 use Rattle.ycli.proofs.Transcripts.{if_some, tells_err, tells_quit, tells_last}
 use Rattle.ycli.proofs.run.serve.Goals as goal
 
@@ -56,7 +57,7 @@ returns-in-Some-clause-tells g c =
     c.in-Some.ensures.tells in
     let f : (input : List ℕ) → before ≡ Some input → length input < 2 ^ 63 → Tells m h input left (w (device_of c.args.writer.now)) (w (device_of c.answer_last.new.writer)) (Ok tt) = λ input e small.
     let r = tells_last w c.args.writer.now c.read_lines.new.writer c.answer_last.new.writer true m h now input c.read_lines.new.held before left e small told ends in
-    (r.0, r.1, r.2.bytes) in
+    (lines_of input, r.0, are_lines input, r.1, r.2.bytes) in
     if_some before (λ input. length input < 2 ^ 63 → Tells m h input left (w (device_of c.args.writer.now)) (w (device_of c.answer_last.new.writer)) (Ok tt)) f
 
 pub returns-in-None-clause-tells : goal.returns-in-None-clause-tells
@@ -74,5 +75,5 @@ returns-in-None-clause-tells g c =
     c.in-None.ensures.tells in
     let f : (input : List ℕ) → before ≡ Some input → length input < 2 ^ 63 → Tells m h input left (w (device_of c.args.writer.now)) (w (device_of c.answer_last.new.writer)) (Err faults.Write) = λ input e small.
     let r = tells_last w c.args.writer.now c.read_lines.new.writer c.answer_last.new.writer false m h now input c.read_lines.new.held before left e small told ends in
-    (r.0, r.1, r.2.bytes) in
+    (lines_of input, r.0, are_lines input, r.1, r.2.bytes) in
     if_some before (λ input. length input < 2 ^ 63 → Tells m h input left (w (device_of c.args.writer.now)) (w (device_of c.answer_last.new.writer)) (Err faults.Write)) f

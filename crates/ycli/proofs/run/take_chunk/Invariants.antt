@@ -1,5 +1,5 @@
 use Rattle.std.proofs.Common.{ℕ, List, ◌≡◌, take, Some, true}
-use Rattle.ycli.specs.Link.{has_failed}
+use Rattle.ytables.specs.Link.{has_failed}
 use Rattle.ycli.specs.Session.{machine_of, history_of}
 use Rattle.ycli.specs.Serving.{ChunkTells}
 use Rattle.ycli.proofs.run.take_chunk.Given as goal

@@ -13,7 +13,7 @@ of-requires c =
     let (t, r) = c.requires in
     let n : AreNumbers c.args.named.own.numbers.items c.in_ok-numbers.numbers.items = subst (λ (x : List (Option ℕ)). AreNumbers x c.in_ok-numbers.numbers.items) c.deref.ensures.value c.in_ok-numbers.ensures in
     let m : length c.in_ok-reachable.reachable.items ≡ c.len.result = search rules in
-    whole_of t c.args.named c.args.rules.items c.args.texts c.in_ok-numbers.numbers.items c.in_ok-reachable.reachable.items r n.each (m ∙ c.len.ensures.len ∙ sym (length_texts c.args.named.names.keys))
+    whole_of t c.args.named c.args.rules.items c.args.texts c.in_ok-numbers.numbers.items c.in_ok-reachable.reachable.items r n (m ∙ c.len.ensures.len ∙ sym (length_texts c.args.named.names.keys))
 
 pub reachable-requires-clause-in_range : goal.reachable-requires-clause-in_range
 reachable-requires-clause-in_range c =

@@ -25,7 +25,7 @@ symbols_are t ns ms cs tree k h e f = h ∙ ap (λ (xs : List (List ℕ)). noted
 pub returns-in_err-refuse_token_left : goal.returns-in_err-refuse_token_left
 returns-in_err-refuse_token_left c =
     let t = tree_view c.args.tree.now in
-    let o = c.requires in
+    let o = c.requires.outline in
     let k : texts c.in_ok-names.names ≡ tokens t = names_are c.args.outline.now t o (texts c.in_ok-names.names) c.in_ok-names.ensures in
     let is = err_from_is_err_and c.from_residual-in_err-refuse_token_left.result c.from_residual-in_err-refuse_token_left.ensures.1 in
     subst (λ (r : _). GivesNamed t r) (sym is.1) (subst (λ (e : Refused). IsFirstRefused t e) (sym is.2) (first_0 t c.in_err-refuse_token_left.field-0.0 (c.in_err-refuse_token_left.ensures t o k)))
@@ -33,7 +33,7 @@ returns-in_err-refuse_token_left c =
 pub returns-in_err-refuse_undefined : goal.returns-in_err-refuse_undefined
 returns-in_err-refuse_undefined c =
     let t = tree_view c.args.tree.now in
-    let o = c.requires in
+    let o = c.requires.outline in
     let k : texts c.in_ok-names.names ≡ tokens t = names_are c.args.outline.now t o (texts c.in_ok-names.names) c.in_ok-names.ensures in
     let is = err_from_is_err_and c.from_residual-in_err-refuse_undefined.result c.from_residual-in_err-refuse_undefined.ensures.1 in
     subst (λ (r : _). GivesNamed t r) (sym is.1) (subst (λ (e : Refused). IsFirstRefused t e) (sym is.2) (first_1 t c.in_err-refuse_undefined.field-0.0 (c.in_ok-refuse_token_left.ensures t o k) (c.in_err-refuse_undefined.ensures t o (symbols_are t (texts c.in_ok-names.names) (texts c.note_nonterminals.new.names) c.deref.result.now c.args.tree.now k c.in_ok-note_nonterminals.ensures c.deref.ensures.value refl))))
@@ -41,7 +41,7 @@ returns-in_err-refuse_undefined c =
 pub returns-in_err-given : goal.returns-in_err-given
 returns-in_err-given c =
     let t = tree_view c.args.tree.now in
-    let o = c.requires in
+    let o = c.requires.outline in
     let k : texts c.in_ok-names.names ≡ tokens t = names_are c.args.outline.now t o (texts c.in_ok-names.names) c.in_ok-names.ensures in
     let is = err_from_is_err_and c.from_residual-in_err-given.result c.from_residual-in_err-given.ensures.1 in
     subst (λ (r : _). GivesNamed t r) (sym is.1) (subst (λ (e : Refused). IsFirstRefused t e) (sym is.2) (first_2 t c.in_err-given.field-0.0 (c.in_ok-refuse_token_left.ensures t o k) (c.in_ok-refuse_undefined.ensures t o (symbols_are t (texts c.in_ok-names.names) (texts c.note_nonterminals.new.names) c.deref.result.now c.args.tree.now k c.in_ok-note_nonterminals.ensures c.deref.ensures.value refl)) (c.in_err-given.ensures t o k)))
@@ -49,7 +49,7 @@ returns-in_err-given c =
 pub returns-in_err-own : goal.returns-in_err-own
 returns-in_err-own c =
     let t = tree_view c.args.tree.now in
-    let o = c.requires in
+    let o = c.requires.outline in
     let k : texts c.in_ok-names.names ≡ tokens t = names_are c.args.outline.now t o (texts c.in_ok-names.names) c.in_ok-names.ensures in
     let is = err_from_is_err_and c.from_residual-in_err-own.result c.from_residual-in_err-own.ensures.1 in
     subst (λ (r : _). GivesNamed t r) (sym is.1) (subst (λ (e : Refused). IsFirstRefused t e) (sym is.2) (first_3 t c.in_err-own.field-0.0 (c.in_ok-refuse_token_left.ensures t o k) (c.in_ok-refuse_undefined.ensures t o (symbols_are t (texts c.in_ok-names.names) (texts c.note_nonterminals.new.names) c.deref.result.now c.args.tree.now k c.in_ok-note_nonterminals.ensures c.deref.ensures.value refl)) (c.in_ok-given.ensures t o k).sound (c.in_err-own.ensures t o k)))
@@ -57,7 +57,7 @@ returns-in_err-own c =
 pub returns : goal.returns
 returns c =
     let t = tree_view c.args.tree.now in
-    let o = c.requires in
+    let o = c.requires.outline in
     let k : texts c.in_ok-names.names ≡ tokens t = names_are c.args.outline.now t o (texts c.in_ok-names.names) c.in_ok-names.ensures in
     let s : texts c.note_nonterminals.new.names ≡ symbols t = symbols_are t (texts c.in_ok-names.names) (texts c.note_nonterminals.new.names) c.deref.result.now c.args.tree.now k c.in_ok-note_nonterminals.ensures c.deref.ensures.value refl in
     let given = c.in_ok-given.ensures t o k in

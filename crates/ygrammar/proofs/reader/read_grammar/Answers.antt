@@ -1,11 +1,16 @@
-use Rattle.std.proofs.Common.{◌≤◌, length, Err, subst, sym}
+use Rattle.std.proofs.Common.{◌≡◌, ◌≤◌, ◌+◌, ◌∙◌, ℕ, List, length, Err, ap, subst, sym, arith}
+use Rattle.std.proofs.lemmas.List.{length-map}
 use Rattle.std.proofs.lemmas.Result.{err_from_is_err_and}
 use Rattle.ygrammar.specs.declared.fault.GrammarFault.{GrammarFault}
 use Rattle.ygrammar.specs.declared.fault.SyntaxFault.TheVariants as SyntaxFault
+use Rattle.ygrammar.specs.declared.texts.Span.{Span}
 use Rattle.ygrammar.specs.GrammarOf.{AnswersRefusal, HasTree}
 use Rattle.ygrammar.specs.Mistakes.{IsFirst, order}
+use Rattle.ygrammar.specs.Numbered.{inner_after}
+use Rattle.ygrammar.specs.Spans.{kept_texts, part_of}
 use Rattle.ygrammar.specs.TreeViews.{tree_view}
 use Rattle.ygrammar.specs.Tree.{yield}
+use Rattle.ygrammar.proofs.InnerSteps.{few_inner}
 use Rattle.ygrammar.proofs.OneMeaning.{none_first}
 use Rattle.ygrammar.proofs.ReaderSteps.{fault_of, no_grammar, not_long, ok_err, read_no_fault, same_grammar, same_mistake, same_refusal, same_tree}
 use Rattle.ygrammar.proofs.reader.read_grammar.Goals as goal
@@ -55,3 +60,12 @@ pub returns-clause-mistaken : goal.returns-clause-mistaken
 returns-clause-mistaken c = λ m (u, h, first).
     let t = tree_view c.in_ok-syntax.syntax.tree in
     same_mistake c.args.source.now t u c.in-Err.refused c.in_file.result m (same_tree t u c.in_ok-syntax.ensures.shaped h.shaped (c.in_ok-syntax.ensures.only (yield u) h.short h.spelled)) c.in-Err.ensures c.in_file.ensures first
+
+pub elaborate-requires-clause-counted : goal.elaborate-requires-clause-counted
+elaborate-requires-clause-counted c =
+    let t = tree_view c.in_ok-syntax.syntax.tree in
+    let kept : List Span = c.in_ok-syntax.syntax.kept.items in
+    let e : length kept ≡ length (kept_texts (yield t)) = sym (length-map kept (part_of c.args.source.now)) ∙ ap (λ (ts : List (List ℕ)). length ts) c.in_ok-syntax.ensures.kept in
+    let l : inner_after 1 t.clauses ≤ 1 + length kept = few_inner t (length kept) e in
+    let k = c.in_ok-syntax.syntax.kept.len in
+    omega arith

@@ -1,6 +1,6 @@
 use Rattle.std.proofs.Common.{◌≡◌, fold, drop, Some, nat_lt}
 use Rattle.std.specs.Prelude.{if◌then◌else◌}
-use Rattle.ygrammar.specs.Elaboration.{last_token}
+use Rattle.ygrammar.specs.Numbered.{last_token}
 use Rattle.ygrammar.proofs.rules.last_token.Given as goal
 
 abbrev pub invariant-loop-s : goal.invariant-loop-s

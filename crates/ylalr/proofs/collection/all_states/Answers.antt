@@ -8,8 +8,8 @@ use Rattle.ylalr.proofs.collection.all_states.Goals as goal
 pub loop-alloc-preserved : goal.loop-alloc-preserved
 loop-alloc-preserved c =
     let g = c.args.grammar.now.bare in
-    let s = c.loop-alloc.states in
-    let t = c.gotos_of.new.states in
+    let s = c.loop-alloc.finder.states in
+    let t = c.gotos_of.new.finder.states in
     let xs = c.loop-alloc.gotos in
     let i = c.loop-alloc.invariant in
     let e = c.in_ok-row.ensures in
@@ -20,18 +20,20 @@ loop-alloc-preserved c =
     let r : RowIs g t (length xs) row = subst (λ q. RowIs g t q row) c.count-in-loop-alloc-2.ensures e.row in
     let p = rows_push g s t (length xs) xs row e.extends i.within refl i.rows r e.order in
     record {
-      wanted_sized = e.wanted_sized;
-      kernels_sorted = e.kernels_sorted;
-      states = e.states;
-      few = e.few;
+      fit = e.fit;
+      sorted = e.sorted;
       within = (let l = e.extends.longer in omega arith);
       rows = subst (λ (ys : List (List Goto)). RowsAre g t (length ys) ys) (sym c.in_ok-push.ensures) (subst (λ n. RowsAre g t n (xs ++ row ∷ [])) (sym z) p);
     }
 
-pub returns-clause-gotos : goal.returns-clause-gotos
-returns-clause-gotos c =
-    let s = c.loop-alloc.states in
+pub returns-clause-collected : goal.returns-clause-collected
+returns-clause-collected c =
+    let s = c.loop-alloc.finder.states in
     let i = c.loop-alloc.invariant in
     let w = i.within in
     let e : length c.loop-alloc.gotos ≡ length s.closures = omega arith in
-    subst (λ n. RowsAre c.args.grammar.now.bare s n c.loop-alloc.gotos) e i.rows
+    record {
+      states = i.fit.states;
+      gotos = subst (λ n. RowsAre c.args.grammar.now.bare s n c.loop-alloc.gotos) e i.rows;
+      counted = e;
+    }

@@ -1,6 +1,7 @@
 use Rattle.std.proofs.Common.{◌∙◌, sym, ap}
 use Rattle.ygrammar.specs.Grammar.{GrammarValue}
-use Rattle.ygrammar.specs.NameTexts.{find_in, texts}
+use Rattle.ygrammar.specs.Names.{find_in}
+use Rattle.ygrammar.specs.NameTexts.{texts}
 use Rattle.ygrammar.proofs.NameSteps.{length_texts}
 use Rattle.ygrammar.proofs.TokenSteps.{found_number, missed_number}
 use Rattle.ygrammar.proofs.grammar.Grammar.find.Goals as goal

@@ -1,0 +1,97 @@
+-- The line that a program writes to standard error.
+use Rattle.std.specs.Prelude.{ℕ, ◌++◌, ◌==◌, ◌&&◌, [], List, decimal, codes, Option, Some, None, if◌then◌else◌}
+use Rattle.ygrammar.specs.declared.fault.GrammarFault.{GrammarFault}
+use Rattle.ygrammar.specs.declared.fault.GrammarFault.TheVariants as grammars
+use Rattle.ycli.specs.declared.tokens.TokenFault.{TokenFault}
+use Rattle.ycli.specs.declared.tokens.TokenFault.TheVariants as tokens
+use Rattle.ycli.specs.declared.fault.SessionFault.{SessionFault}
+use Rattle.ycli.specs.declared.fault.SessionFault.TheVariants as streams
+use Rattle.ytables.specs.declared.tables.Counts.{Counts}
+use Rattle.ycli.specs.declared.message.Program.{Program}
+use Rattle.ycli.specs.declared.message.Program.TheVariants.{Yacc, Ystep}
+use Rattle.ycli.specs.declared.message.Trouble.{Trouble}
+use Rattle.ycli.specs.declared.message.Trouble.TheVariants.{Usage, Grammar, Tokens, TooManySets, NoMemory, CannotRead, CannotWrite, Session}
+
+abbrev pub name_of : Program → List ℕ
+name_of Yacc = codes "yacc"
+name_of Ystep = codes "ystep"
+
+-- what is said of words that are refused
+abbrev pub usage_of : Program → List ℕ
+usage_of Yacc = codes "usage: yacc [-v] [-b prefix] grammar\n"
+usage_of Ystep = codes "usage: ystep grammar tokens\n"
+
+-- the code of a fault of a grammar file, and its line
+abbrev pub grammar_code : GrammarFault → List ℕ
+grammar_code grammars.TooLong = codes "G1"
+grammar_code (grammars.Unfinished line) = codes "G2"
+grammar_code (grammars.BadLiteral line) = codes "G3"
+grammar_code (grammars.Foreign line) = codes "G4"
+grammar_code (grammars.Syntax line) = codes "G5"
+grammar_code (grammars.TokenLeft line) = codes "G6"
+grammar_code (grammars.Undefined line) = codes "G7"
+grammar_code (grammars.TwicePrecedence line) = codes "G8"
+grammar_code (grammars.BadNumber line) = codes "G9"
+grammar_code (grammars.BadStart line) = codes "G10"
+grammar_code (grammars.Unproductive line) = codes "G11"
+grammar_code (grammars.BadPrec line) = codes "G12"
+grammar_code (grammars.Limit line) = codes "G13"
+grammar_code grammars.Memory = codes "no memory"
+
+abbrev pub grammar_line : GrammarFault → Option ℕ
+grammar_line grammars.TooLong = None
+grammar_line (grammars.Unfinished line) = Some line
+grammar_line (grammars.BadLiteral line) = Some line
+grammar_line (grammars.Foreign line) = Some line
+grammar_line (grammars.Syntax line) = Some line
+grammar_line (grammars.TokenLeft line) = Some line
+grammar_line (grammars.Undefined line) = Some line
+grammar_line (grammars.TwicePrecedence line) = Some line
+grammar_line (grammars.BadNumber line) = Some line
+grammar_line (grammars.BadStart line) = Some line
+grammar_line (grammars.Unproductive line) = Some line
+grammar_line (grammars.BadPrec line) = Some line
+grammar_line (grammars.Limit line) = Some line
+grammar_line grammars.Memory = None
+
+-- the code of a fault of a tokens file, and the place of its token
+abbrev pub token_code : TokenFault → List ℕ
+token_code (tokens.Unknown place) = codes "K1"
+token_code (tokens.NotInput place) = codes "K2"
+token_code tokens.TooMany = codes "K3"
+token_code tokens.Memory = codes "no memory"
+token_code (tokens.BadLiteral place) = codes "K5"
+
+abbrev pub token_place : TokenFault → Option ℕ
+token_place (tokens.Unknown place) = Some place
+token_place (tokens.NotInput place) = Some place
+token_place tokens.TooMany = None
+token_place tokens.Memory = None
+token_place (tokens.BadLiteral place) = Some place
+
+-- what a fault of a session's streams is told as
+abbrev pub session_word : SessionFault → List ℕ
+session_word streams.Read = codes "read fault"
+session_word streams.Write = codes "write fault"
+
+-- the program, what it says, and where
+abbrev pub said : Program → List ℕ → List ℕ → Option ℕ → List ℕ
+said p what where_ None = name_of p ++ (codes ": " ++ (what ++ codes "\n"))
+said p what where_ (Some n) = name_of p ++ (codes ": " ++ (what ++ (where_ ++ (decimal n ++ codes "\n"))))
+
+abbrev pub message : Program → Trouble → List ℕ
+message p Usage = usage_of p
+message p (Grammar fault) = said p (grammar_code fault) (codes " at line ") (grammar_line fault)
+message p (Tokens fault) = said p (token_code fault) (codes " at token ") (token_place fault)
+message p TooManySets = said p (codes "B1") [] None
+message p NoMemory = said p (codes "no memory") [] None
+message p (CannotRead path) = name_of p ++ (codes ": cannot read " ++ (path.now ++ codes "\n"))
+message p (CannotWrite prefix ending) =
+    name_of p ++ (codes ": cannot write " ++ (prefix.now ++ (ending.now ++ codes "\n")))
+message p (Session fault) = said p (session_word fault) [] None
+
+-- the line on conflicts, where there is one
+abbrev pub conflicts_line : Counts → List ℕ
+conflicts_line c =
+    if c.shift_reduce == 0 && c.reduce_reduce == 0 then []
+    else codes "conflicts: " ++ (decimal c.shift_reduce ++ (codes " shift/reduce, " ++ (decimal c.reduce_reduce ++ codes " reduce/reduce\n")))

@@ -1,0 +1,16 @@
+//! The limits of grammars and of their files.
+
+/// The symbols of a grammar.
+pub const MOST_SYMBOLS: usize = 4_096;
+
+/// The rules of a grammar.
+pub const MOST_RULES: usize = 8_192;
+
+/// The symbols in the body of a rule.
+pub const LONGEST_BODY: usize = 255;
+
+/// The number of a token.
+pub const GREATEST_NUMBER: u32 = 32_767;
+
+/// The bytes of a grammar file.
+pub const LONGEST_FILE: usize = 1_048_576;

@@ -1,0 +1,11 @@
+use Rattle.std.proofs.Common.{ℕ, ◌≡◌, ◌<◌, length}
+use Rattle.ylalr.specs.Draft.{SoundDraft, StartsDraft, ServesState}
+use Rattle.ylalr.proofs.looks.draft_of.Given as goal
+
+abbrev pub invariant-loop-q : goal.invariant-loop-q
+invariant-loop-q l = record {
+  lefts : length l.lefts ≡ l.parts.grammar.bare.symbols;
+  sound : SoundDraft l.parts l.draft;
+  start : StartsDraft l.parts l.draft;
+  serves : (n : ℕ) → n < l.q → ServesState l.parts l.draft n;
+}

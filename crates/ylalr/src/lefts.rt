@@ -1,0 +1,108 @@
+//! The rows that the left sides of one state have: each is that of all items of the left side
+//! with the dot at 0.
+
+ghost use Rattle.std.specs.Prelude.{ℕ, ◌≡◌, ◌<◌, Some, None, length, slice_index_or, slice_set};
+ghost use Rattle.std.specs.Prelude.{IfOk};
+ghost use Rattle.ygrammar.specs.Grammar.{left_of};
+ghost use Rattle.ylalr.specs.Places.{AreLefts, AreRows, TakesRow};
+ghost use Rattle.ylalr.specs.Sets.{InRange};
+
+use crate::items::Item;
+use std::alloc::{AllocError, Global};
+use std::marker::Model;
+use ygrammar::{Grammar, Sym};
+
+/// For each symbol the row of the items that it is the left side of.
+#[derive(Drop)]
+pub struct Lefts {
+    rows: Vec<Option<usize>>,
+}
+
+impl Model for Lefts {
+    ghost use Rattle.std.specs.Prelude.{ℕ, List, Option};
+
+    ghost Value = { List (Option ℕ) };
+
+    ghost view = { λ l. l.rows.items };
+}
+
+impl Lefts {
+    /// No rows, for so many symbols.
+    pub fn new(alloc: Global, symbols: usize) -> Result<Lefts, AllocError>
+        ensures { IfOk result (λ l. length l ≡ symbols) }
+    {
+        let rows = vec![in alloc; None; symbols]?;
+        Ok(Lefts { rows })
+    }
+
+    /// Forgets all rows.
+    pub fn clear(&mut self)
+        ensures sized { length self.new ≡ length self.old }
+        ensures empty { (s : ℕ) → slice_index_or self.new s None ≡ None }
+    {
+        self.rows.fill(None);
+    }
+
+    /// The row of the items with this left side.
+    pub fn get(&self, s: Sym) -> Option<usize>
+        requires { s < length self.now }
+        ensures { result ≡ slice_index_or self.now s None }
+    {
+        self.rows[s]
+    }
+
+    /// Gives a row to a left side.
+    fn set(&mut self, s: Sym, row: usize)
+        requires { s < length self.old }
+        ensures { self.new ≡ slice_set self.old s (Some row) }
+    {
+        self.rows[s] = Some(row);
+    }
+
+    /// The row of an item: that of its left side, where the dot is at 0 and the left side has
+    /// one; or else `fresh`, which the left side of an item with the dot at 0 then has.
+    pub fn row_of(&mut self, grammar: &Grammar, item: Item, fresh: usize) -> usize
+        requires sized { length self.old ≡ grammar.now.bare.symbols }
+        requires rule { item.rule < length grammar.now.bare.rules }
+        ensures { TakesRow grammar.now.bare item fresh self.old self.new result }
+    {
+        let _symbols = grammar.symbols();
+        if item.dot > 0 {
+            return fresh;
+        }
+        let left = grammar.rule(item.rule).left();
+        if let Some(row) = self.get(left) {
+            return row;
+        }
+        self.set(left, fresh);
+        fresh
+    }
+
+    /// Gives the left side of an item with the dot at 0 its row.
+    fn note(&mut self, grammar: &Grammar, item: Item, row: usize)
+        requires sized { length self.old ≡ grammar.now.bare.symbols }
+        requires rule { item.rule < length grammar.now.bare.rules }
+        ensures first { item.dot ≡ 0 →
+            self.new ≡ slice_set self.old (left_of grammar.now.bare item.rule) (Some row) }
+        ensures moved { 0 < item.dot → self.new ≡ self.old }
+    {
+        let _symbols = grammar.symbols();
+        if item.dot == 0 {
+            self.set(grammar.rule(item.rule).left(), row);
+        }
+    }
+
+    /// Has each left side of a state the row of its items with the dot at 0.
+    pub fn fill(&mut self, grammar: &Grammar, items: &[Item], rows: &[usize])
+        requires sized { length self.old ≡ grammar.now.bare.symbols }
+        requires range { InRange grammar.now.bare items.now }
+        requires rows { AreRows grammar.now.bare items.now rows.now }
+        ensures { AreLefts grammar.now.bare items.now rows.now self.new }
+    {
+        let _symbols = grammar.symbols();
+        self.clear();
+        for k in 0..items.len() {
+            self.note(grammar, items[k], rows[k]);
+        }
+    }
+}

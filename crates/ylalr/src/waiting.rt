@@ -1,0 +1,78 @@
+//! Numbers that wait: the one that waits longest is taken first, and none waits twice.
+
+ghost use Rattle.std.specs.Prelude.{ℕ, ◌≡◌, ◌<◌, ◌≤◌, [], ◌∷◌, length, IfOk, OnOk, MatchOption};
+ghost use Rattle.std.specs.List.{Contains};
+
+use crate::marks::Marks;
+use std::alloc::{AllocError, Global};
+use std::collections::VecDeque;
+use std::marker::Model;
+
+/// A queue, and a mark for each number that stands in it.
+#[derive(Drop)]
+pub struct Waiting {
+    queue: VecDeque<usize>,
+    marks: Marks,
+}
+
+impl Model for Waiting {
+    ghost use Rattle.ylalr.specs.Waiting.{Line, IsLine};
+
+    ghost Value = { Line };
+
+    ghost view = { λ w. record { queue = w.queue.items; marks = w.marks } };
+
+    ghost invariant = { λ w. IsLine (record { queue = w.queue.items; marks = w.marks }) };
+}
+
+impl Waiting {
+    /// None of the numbers below `n`.
+    fn none(alloc: Global, n: usize) -> Result<Waiting, AllocError>
+        ensures { IfOk result (λ w. length w.marks ≡ n) }
+    {
+        Ok(Waiting {
+            queue: VecDeque::new(alloc),
+            marks: Marks::new(alloc, n)?,
+        })
+    }
+
+    /// All numbers below `n`, in order.
+    pub fn all(alloc: Global, n: usize) -> Result<Waiting, AllocError>
+        ensures sized { IfOk result (λ w. length w.marks ≡ n) }
+        ensures every { IfOk result (λ w. (p : ℕ) → p < n → Contains w.queue p) }
+    {
+        let mut waiting = Waiting::none(alloc, n)?;
+        for p in 0..n {
+            waiting.put(p)?;
+        }
+        Ok(waiting)
+    }
+
+    /// Takes the number that waits longest; from then on it can be put back.
+    pub fn take(&mut self) -> Option<usize>
+        ensures sized { length self.new.marks ≡ length self.old.marks }
+        ensures few { length self.new.queue ≤ length self.new.marks }
+        ensures taken { MatchOption result (self.old.queue ≡ [])
+            (λ p. (self.old.queue ≡ p ∷ self.new.queue) × (p < length self.old.marks)) }
+    {
+        let p = self.queue.pop_front()?;
+        self.marks.unmark(p);
+        Some(p)
+    }
+
+    /// Has a number wait, at the end, unless it does.
+    pub fn put(&mut self, p: usize) -> Result<(), AllocError>
+        requires { p < length self.old.marks }
+        ensures sized { OnOk result (length self.new.marks ≡ length self.old.marks) }
+        ensures few { OnOk result (length self.new.queue ≤ length self.new.marks) }
+        ensures there { OnOk result (Contains self.new.queue p) }
+        ensures kept { OnOk result
+            ((x : ℕ) → Contains self.old.queue x → Contains self.new.queue x) }
+    {
+        if !self.marks.has(p) {
+            self.queue.push_back(p)?;
+            self.marks.mark(p);
+        }
+        Ok(())
+    }
+}

@@ -1,0 +1,10 @@
+use Rattle.std.proofs.Common.{true, flat_map, take, ◌-◌}
+use Rattle.std.specs.List.{range_with_len}
+use Rattle.ytables.specs.Sends.{Sends}
+use Rattle.ytables.specs.Report.{action_line}
+use Rattle.ytables.specs.Tables.{action_at}
+use Rattle.ytables.proofs.report.put_actions.Given as goal
+
+-- the lines so far were sent
+abbrev pub invariant-loop-t : goal.invariant-loop-t
+invariant-loop-t g l = Sends g.W.Write.contents l.initial.link l.link true (flat_map (λ t. action_line l.tables.built.grammar t (action_at l.tables l.q t)) (range_with_len 0 l.t))

@@ -1,0 +1,11 @@
+use Rattle.std.proofs.Common.{true, flat_map, take, ◌-◌}
+use Rattle.std.specs.List.{range_with_len}
+use Rattle.ylalr.specs.Collection.{Guide, IsGuide}
+use Rattle.ytables.specs.Sends.{Sends}
+use Rattle.ytables.specs.Report.{conflict_line}
+use Rattle.ytables.specs.Tables.{cell_in}
+use Rattle.ytables.proofs.report.put_all_conflicts.Given as goal
+
+-- the lines so far were sent
+abbrev pub invariant-loop-t : goal.invariant-loop-t
+invariant-loop-t g l = (u : Guide) → IsGuide l.tables.built u → Sends g.W.Write.contents l.initial.link l.link true (flat_map (λ t. conflict_line l.tables.built.grammar t (cell_in l.tables.built u l.q t)) (range_with_len 0 l.t))

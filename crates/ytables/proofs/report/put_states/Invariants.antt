@@ -1,0 +1,10 @@
+use Rattle.std.proofs.Common.{true, flat_map, take, ◌-◌}
+use Rattle.std.specs.List.{range_with_len}
+use Rattle.ylalr.specs.Collection.{Guide, IsGuide}
+use Rattle.ytables.specs.Sends.{Sends}
+use Rattle.ytables.specs.Report.{state_text}
+use Rattle.ytables.proofs.report.put_states.Given as goal
+
+-- the lines so far were sent
+abbrev pub invariant-loop-q : goal.invariant-loop-q
+invariant-loop-q g l = (u : Guide) → IsGuide l.tables.built u → Sends g.W.Write.contents l.initial.link l.link true (flat_map (state_text l.tables u) (range_with_len 0 l.q))

@@ -1,0 +1,9 @@
+use Rattle.std.proofs.Common.{true, flat_map, take, ◌-◌}
+use Rattle.std.specs.List.{range_with_len}
+use Rattle.ytables.specs.Sends.{Sends}
+use Rattle.ytables.specs.Report.{unreachable_line}
+use Rattle.ytables.proofs.report.put_unreachables.Given as goal
+
+-- the lines so far were sent
+abbrev pub invariant-loop-r : goal.invariant-loop-r
+invariant-loop-r g l = Sends g.W.Write.contents l.initial.link l.link true (flat_map (unreachable_line l.grammar) (range_with_len 0 l.r))

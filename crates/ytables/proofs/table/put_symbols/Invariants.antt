@@ -1,0 +1,9 @@
+use Rattle.std.proofs.Common.{true, flat_map}
+use Rattle.std.specs.List.{range_with_len}
+use Rattle.ytables.specs.Sends.{Sends}
+use Rattle.ytables.specs.Table.{symbol_line}
+use Rattle.ytables.proofs.table.put_symbols.Given as goal
+
+-- the lines so far were sent
+abbrev pub invariant-loop-s : goal.invariant-loop-s
+invariant-loop-s g l = Sends g.W.Write.contents l.initial.link l.link true (flat_map (symbol_line l.grammar) (range_with_len 0 l.s))

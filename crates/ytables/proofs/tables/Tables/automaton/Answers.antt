@@ -1,0 +1,27 @@
+use Rattle.std.proofs.Common.{ℕ, ◌≡◌, ◌<◌, sym, subst}
+use Rattle.ygrammar.specs.Grammar.{GrammarValue}
+use Rattle.ygrammar.specs.WellFormed.{WellFormed}
+use Rattle.ylalr.specs.Collection.{Collection, bare_of, state_of}
+use Rattle.ytables.specs.declared.cell.Action.{Action}
+use Rattle.ytables.specs.Tables.{TablesValue, action_at, action_in}
+use Rattle.ytables.specs.Allowed.{Allows, CellsAllow}
+use Rattle.ytables.proofs.AllowedSteps.{action_allowed}
+use Rattle.ytables.proofs.tables.Tables.automaton.Goals as goal
+
+pub returns-clause-allowed : goal.returns-clause-allowed
+returns-clause-allowed c =
+    let I = c.self.inside in
+    let m = I.automaton in
+    let v : TablesValue = record {
+      built = m;
+      actions = I.actions.rows;
+      defaults = I.defaults.items;
+      shift_reduce = I.counts.shift_reduce;
+      reduce_reduce = I.counts.reduce_reduce;
+      choice = I.chosen;
+    } in
+    let guide = c.states-states.ensures.guide in
+    let well : WellFormed m.grammar.bare = subst (λ (x : GrammarValue). WellFormed x.bare) c.grammar.ensures c.symbols-symbols.ensures.well_formed in
+    let follows = c.self.invariant.tables guide.0 guide.1 in
+    let all : CellsAllow v = λ q t h l. subst (Allows (bare_of m) (state_of m q) t) (sym (follows.rows.action q t h l)) (action_allowed m guide.0 q t well c.states-states.ensures.states h) in
+    subst CellsAllow c.self.view_is all

@@ -1,0 +1,9 @@
+use Rattle.ytables.proofs.tables.resolve.Goals as goal
+
+pub invariant_of-result : goal.invariant_of-result
+invariant_of-result c = record {
+  rows = c.in-Ok.ensures.actions;
+  defaults = c.in-Ok.ensures.defaults;
+  width = c.in-Ok.ensures.width;
+  tables = λ u h. record { rows = c.in-Ok.ensures.rows u h; sums = c.in-Ok.ensures.sums u h };
+}

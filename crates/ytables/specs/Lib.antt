@@ -1,0 +1,11 @@
+pub mod Allowed
+pub mod Cell
+pub mod Link
+pub mod Packed
+pub mod Report
+pub mod Rows
+pub mod Sends
+pub mod Table
+pub mod Tables
+pub mod Tally
+pub mod Text

@@ -1,0 +1,49 @@
+//! How a rule stands against the shift of a token (POSIX yacc, "Conflicts").
+
+ghost use Rattle.std.specs.Prelude.{◌≡◌};
+ghost use Rattle.ytables.specs.Cell.{class_of, class_of_kind};
+
+use ygrammar::{Associativity, Precedence};
+
+/// How a rule stands against the shift of a token.
+#[derive(Clone, Copy, Debug, Drop, PartialEq, Eq)]
+pub enum Class {
+    /// The rule wins.
+    Beat,
+    /// The shift wins.
+    Lose,
+    /// Neither may be done.
+    Ban,
+    /// A precedence is missing.
+    Rest,
+}
+
+/// Which of two equal levels wins.
+fn class_of_kind(kind: Associativity) -> Class
+    ensures { result ≡ class_of_kind kind }
+{
+    match kind {
+        Associativity::Left => Class::Beat,
+        Associativity::Right => Class::Lose,
+        Associativity::Nonassoc => Class::Ban,
+    }
+}
+
+/// A rule against the shift, by the precedences of the token and of the rule.
+pub fn class_between(token: Option<Precedence>, rule: Option<Precedence>) -> Class
+    ensures { result ≡ class_of token rule }
+{
+    let Some(token) = token else {
+        return Class::Rest;
+    };
+    let Some(rule) = rule else {
+        return Class::Rest;
+    };
+    if token.level < rule.level {
+        Class::Beat
+    } else if rule.level < token.level {
+        Class::Lose
+    } else {
+        class_of_kind(token.kind)
+    }
+}

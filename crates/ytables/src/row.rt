@@ -1,0 +1,318 @@
+//! The cells of one state.
+
+ghost use Rattle.std.specs.Prelude.{ℕ, ◌≡◌, ◌<◌, ◌≤◌, ◌+◌, ◌&&◌, [], ◌∷◌, List, length, drop};
+ghost use Rattle.std.specs.Prelude.{false, None, slice_index_or, IfOk, MatchOption};
+ghost use Rattle.std.specs.Prelude.{if◌then◌else◌};
+ghost use Rattle.std.specs.List.{filter, list_any};
+ghost use Rattle.ygrammar.specs.Grammar.{body_of};
+ghost use Rattle.ylalr.specs.Collection.{Guide, IsGuide, bare_of, state_of, goto_in};
+ghost use Rattle.ytables.specs.Cell.{common, is_filled};
+ghost use Rattle.ytables.specs.Rows.{InGrammar, IsRowTo, IsRow};
+ghost use Rattle.ytables.specs.Tables.{after_dot, is_ready, has_before, ready_in, class_at};
+ghost use Rattle.ytables.specs.Tables.{rules_by, shift_of, cell_in, default_in};
+ghost use Rattle.ytables.specs.Tally.{IsTally};
+
+use crate::cell::{Action, Cell, Tally};
+use crate::class::class_between;
+use std::alloc::{AllocError, Global};
+use ygrammar::{Grammar, Precedence, Sym};
+use ylalr::{Automaton, Item, token_count};
+
+/// The number of `$end`.
+const END: Sym = 0;
+
+/// The symbol after the dot.
+fn next_symbol(grammar: &Grammar, item: Item) -> Option<Sym>
+    requires { item.rule < length grammar.now.bare.rules }
+    ensures { MatchOption result (after_dot grammar.now.bare item ≡ [])
+        (λ s. after_dot grammar.now.bare item ≡ s ∷ drop (item.dot + 1)
+        (body_of grammar.now.bare item.rule)) }
+{
+    let body = grammar.rule(item.rule).body();
+    if item.dot < body.len() {
+        Some(body[item.dot])
+    } else {
+        None
+    }
+}
+
+/// Whether the item is complete, and of another rule than rule 0.
+fn is_ready(grammar: &Grammar, item: Item) -> bool
+    requires { item.rule < length grammar.now.bare.rules }
+    ensures { result ≡ is_ready grammar.now.bare item }
+{
+    item.rule != 0 && next_symbol(grammar, item).is_none()
+}
+
+/// The complete items of a list, but for rule 0.
+fn ready_items(alloc: Global, grammar: &Grammar, items: &[Item]) -> Result<Vec<Item>, AllocError>
+    requires { InGrammar grammar.now.bare items.now }
+    ensures { IfOk result (λ v. v.items ≡ ready_in grammar.now.bare items.now) }
+{
+    let mut found = Vec::new(alloc);
+    for item in items {
+        if is_ready(grammar, *item) {
+            found.push(*item)?;
+        }
+    }
+    Ok(found)
+}
+
+/// For each token, whether an item of the list has its dot before it.
+fn tokens_before(
+    alloc: Global,
+    grammar: &Grammar,
+    tokens: usize,
+    items: &[Item],
+) -> Result<Vec<bool>, AllocError>
+    requires { InGrammar grammar.now.bare items.now }
+    ensures len { IfOk result (λ v. length v.items ≡ tokens) }
+    ensures marks { IfOk result (λ v. (t : ℕ) → t < tokens
+        → slice_index_or v.items t false ≡ has_before grammar.now.bare items.now t) }
+{
+    let mut marks = vec![in alloc; false; tokens]?;
+    for item in items {
+        if let Some(s) = next_symbol(grammar, *item) {
+            if s < tokens {
+                marks[s] = true;
+            }
+        }
+    }
+    Ok(marks)
+}
+
+/// The rules whose complete items look at the token, tallied.
+fn tally_at(
+    automaton: &Automaton,
+    q: usize,
+    t: Sym,
+    level: Option<Precedence>,
+    items: &[Item],
+) -> Tally
+    requires state { q < length automaton.now.states }
+    requires token { t < automaton.now.grammar.bare.tokens }
+    requires within { InGrammar automaton.now.grammar.bare items.now }
+    ensures tally { (u : Guide) → IsGuide automaton.now u
+        → IsTally (class_at automaton.now.grammar level) (rules_by
+        (λ i. is_ready automaton.now.grammar.bare i && u.looks q i t) items.now) result }
+    ensures rests { result.rests ≤ result.all }
+    ensures kept { result.kept ≤ result.all }
+    ensures all { result.all ≤ length items.now }
+{
+    let grammar = automaton.grammar();
+    let _symbols = grammar.symbols();
+    let mut tally = Tally::new();
+    for item in items {
+        if !is_ready(grammar, *item) {
+            continue;
+        }
+        if !automaton.looks(q, *item, t) {
+            continue;
+        }
+        let rule = grammar.rule(item.rule).precedence();
+        tally.add(item.rule, class_between(level, rule));
+    }
+    tally
+}
+
+/// The shift of a token before which a dot stands.
+fn shift_at(automaton: &Automaton, q: usize, t: Sym) -> Action
+    requires state { q < length automaton.now.states }
+    requires token { t < automaton.now.grammar.bare.tokens }
+    ensures { result ≡ shift_of (goto_in automaton.now q) t }
+{
+    let _symbols = automaton.grammar().symbols();
+    if t == END {
+        return Action::Accept;
+    }
+    match automaton.goto(q, t) {
+        Some(n) => Action::Shift(n),
+        None => Action::Error,
+    }
+}
+
+/// The cell of a state and a token, by a list of items that has its complete ones.
+fn cell_at(automaton: &Automaton, q: usize, t: Sym, shifts: bool, items: &[Item]) -> Cell
+    requires state { q < length automaton.now.states }
+    requires token { t < automaton.now.grammar.bare.tokens }
+    requires ready { ready_in (bare_of automaton.now) items.now ≡ ready_in
+        (bare_of automaton.now) (state_of automaton.now q) }
+    requires within { InGrammar automaton.now.grammar.bare items.now }
+    requires shifts { shifts ≡ has_before (bare_of automaton.now) (state_of automaton.now q) t }
+    ensures cell { (u : Guide) → IsGuide automaton.now u → result ≡ cell_in automaton.now u q t }
+    ensures shift_reduce { result.shift_reduce ≤ length items.now }
+    ensures reduce_reduce { result.reduce_reduce ≤ length items.now }
+{
+    let grammar = automaton.grammar();
+    let _symbols = grammar.symbols();
+    if shifts {
+        let tally = tally_at(automaton, q, t, grammar.precedence(t), items);
+        return tally.settle(Some(shift_at(automaton, q, t)));
+    }
+    tally_at(automaton, q, t, None, items).settle(None)
+}
+
+/// Whether the list has a complete item of another rule than rule 0.
+pub fn has_ready(grammar: &Grammar, items: &[Item]) -> bool
+    requires { InGrammar grammar.now.bare items.now }
+    ensures { result ≡ false → ready_in grammar.now.bare items.now ≡ [] }
+{
+    for item in items {
+        if is_ready(grammar, *item) {
+            return true;
+        }
+    }
+    false
+}
+
+/// Whether an item of the list has its dot before the token.
+fn stands_before(grammar: &Grammar, items: &[Item], t: Sym) -> bool
+    requires { InGrammar grammar.now.bare items.now }
+    ensures { result ≡ has_before grammar.now.bare items.now t }
+{
+    for item in items {
+        if next_symbol(grammar, *item) == Some(t) {
+            return true;
+        }
+    }
+    false
+}
+
+/// The cell of a state and a token, without memory.
+pub fn cell_of(automaton: &Automaton, q: usize, t: Sym) -> Cell
+    requires state { q < length automaton.now.states }
+    requires token { t < automaton.now.grammar.bare.tokens }
+    ensures { (u : Guide) → IsGuide automaton.now u → result ≡ cell_in automaton.now u q t }
+{
+    let _states = automaton.states();
+    let items = automaton.items(q);
+    let shifts = stands_before(automaton.grammar(), items, t);
+    cell_at(automaton, q, t, shifts, items)
+}
+
+/// The rule by which all filled cells of a row reduce, where there is one.
+fn common_rule(actions: &[Action]) -> Option<usize>
+    ensures { result ≡ common (filter is_filled actions.now) }
+{
+    let mut found = None;
+    for action in actions {
+        match (*action, found) {
+            (Action::Error, _) => {}
+            (Action::Reduce(r), None) => found = Some(r),
+            (Action::Reduce(r), Some(s)) if r == s => {}
+            _ => return None,
+        }
+    }
+    found
+}
+
+/// The actions of one state by its cells, and what these count.
+#[derive(Drop)]
+struct Cells {
+    actions: Vec<Action>,
+    shift_reduce: u64,
+    reduce_reduce: u64,
+    choice: bool,
+}
+
+/// The cells of one state, by its complete items and the tokens before which a dot stands.
+fn cells_of(
+    alloc: Global,
+    automaton: &Automaton,
+    q: usize,
+    before: &[bool],
+    ready: &[Item],
+) -> Result<Cells, AllocError>
+    requires state { q < length automaton.now.states }
+    requires tokens { length before.now ≡ automaton.now.grammar.bare.tokens }
+    requires ready { ready.now ≡ ready_in (bare_of automaton.now) (state_of automaton.now q) }
+    requires before { (t : ℕ) → t < length before.now
+        → slice_index_or before.now t false ≡ has_before (bare_of automaton.now)
+        (state_of automaton.now q) t }
+    ensures cells { IfOk result (λ c. (u : Guide) → IsGuide automaton.now u
+        → IsRowTo automaton.now u q
+        (length before.now) c.actions.items c.shift_reduce c.reduce_reduce c.choice) }
+    ensures len { IfOk result (λ c. length c.actions.items ≡ length before.now) }
+    ensures shift_reduce { IfOk result (λ c. c.shift_reduce ≤ 33554432) }
+    ensures reduce_reduce { IfOk result (λ c. c.reduce_reduce ≤ 33554432) }
+{
+    let _states = automaton.states();
+    let _symbols = automaton.grammar().symbols();
+    let mut actions = Vec::with_capacity(alloc, before.len())?;
+    let mut shift_reduce = 0;
+    let mut reduce_reduce = 0;
+    let mut choice = false;
+    for t in 0..before.len() {
+        let cell = cell_at(automaton, q, t, before[t], ready);
+        actions.push(cell.action)?;
+        shift_reduce += cell.shift_reduce as u64;
+        reduce_reduce += cell.reduce_reduce as u64;
+        choice |= cell.choice;
+    }
+    Ok(Cells {
+        actions,
+        shift_reduce,
+        reduce_reduce,
+        choice,
+    })
+}
+
+/// The rule of a consistent state: no dot stands before a token, and all filled cells reduce by
+/// it.
+fn default_of(before: &[bool], actions: &[Action]) -> Option<usize>
+    ensures { result ≡ (if list_any (λ b. b) before.now then None else common
+        (filter is_filled actions.now)) }
+{
+    if before.contains(&true) {
+        return None;
+    }
+    common_rule(actions)
+}
+
+/// What the tables keep of one state, and what its cells count.
+#[derive(Drop)]
+pub struct Row {
+    pub actions: Vec<Action>,
+    pub default: Option<usize>,
+    pub shift_reduce: u64,
+    pub reduce_reduce: u64,
+    pub choice: bool,
+}
+
+/// The row of one state.
+pub fn row_of(
+    alloc: Global,
+    automaton: &Automaton,
+    q: usize,
+    tokens: usize,
+) -> Result<Row, AllocError>
+    requires state { q < length automaton.now.states }
+    requires tokens { tokens ≡ automaton.now.grammar.bare.tokens }
+    ensures row { IfOk result (λ r. (u : Guide) → IsGuide automaton.now u
+        → IsRow automaton.now u q r.actions.items r.default r.shift_reduce r.reduce_reduce
+        r.choice) }
+    ensures len { IfOk result (λ r. length r.actions.items ≡ tokens) }
+    ensures shift_reduce { IfOk result (λ r. r.shift_reduce ≤ 33554432) }
+    ensures reduce_reduce { IfOk result (λ r. r.reduce_reduce ≤ 33554432) }
+{
+    let _states = automaton.states();
+    let grammar = automaton.grammar();
+    let items = automaton.items(q);
+    let ready = ready_items(alloc, grammar, items)?;
+    let before = tokens_before(alloc, grammar, tokens, items)?;
+    let cells = cells_of(alloc, automaton, q, &before, &ready)?;
+    let default = default_of(&before, &cells.actions);
+    let Cells {
+        actions,
+        shift_reduce,
+        reduce_reduce,
+        choice,
+    } = cells;
+    Ok(Row {
+        actions,
+        default,
+        shift_reduce,
+        reduce_reduce,
+        choice,
+    })
+}

@@ -1,0 +1,254 @@
+//! The tables of an automaton.
+
+ghost use Rattle.std.specs.Prelude.{ℕ, ◌≡◌, ◌<◌, ◌≤◌, ◌↔◌, length, false, slice_index_or, None};
+ghost use Rattle.std.specs.Prelude.{IsTrue, IfOk, IfErr, unwrap_or};
+ghost use Rattle.ylalr.specs.Collection.{Guide, IsGuide, IsGoto, goto_in};
+ghost use Rattle.ytables.specs.declared.cell.Action.TheVariants.{Error};
+ghost use Rattle.ytables.specs.declared.fault.TableFault.{TableFault};
+ghost use Rattle.ytables.specs.Allowed.{CellsAllow};
+ghost use Rattle.ytables.specs.Cell.{by_default};
+ghost use Rattle.ytables.specs.Tables.{AreRowsTo, AreSumsTo, AreTables, action_at, default_at};
+ghost use Rattle.ytables.specs.Tables.{action_in, default_in, act_at, rule_at};
+
+use crate::cell::Action;
+use crate::fault::TableFault;
+use crate::packed::Packed;
+use crate::row::row_of;
+use std::alloc::{AllocError, Global};
+use std::marker::Model;
+use ygrammar::Sym;
+use ylalr::{Automaton, token_count};
+
+/// How many conflicts the cells count.
+#[derive(Clone, Copy, Debug, Drop, PartialEq, Eq)]
+pub struct Counts {
+    pub shift_reduce: u64,
+    pub reduce_reduce: u64,
+}
+
+/// An automaton with its cells.
+#[derive(Drop)]
+pub struct Tables {
+    automaton: Automaton,
+    actions: Packed<Action>,
+    defaults: Vec<Option<usize>>,
+    counts: Counts,
+    chosen: bool,
+}
+
+impl Model for Tables {
+    ghost use Rattle.ytables.specs.Tables.{TablesValue, IsTables};
+
+    ghost Value = { TablesValue };
+
+    ghost view = { λ t. record {
+      built = t.automaton;
+      actions = t.actions.rows;
+      defaults = t.defaults.items;
+      shift_reduce = t.counts.shift_reduce;
+      reduce_reduce = t.counts.reduce_reduce;
+      choice = t.chosen;
+    } };
+
+    ghost invariant = { λ t. IsTables (record {
+      built = t.automaton;
+      actions = t.actions.rows;
+      defaults = t.defaults.items;
+      shift_reduce = t.counts.shift_reduce;
+      reduce_reduce = t.counts.reduce_reduce;
+      choice = t.chosen;
+    }) t.actions.width };
+}
+
+/// The entries of a row: its actions but for errors, and none where a default rule stands in for
+/// them.
+fn entries_of(
+    alloc: Global,
+    actions: &[Action],
+    default: Option<usize>,
+) -> Result<Vec<Option<Action>>, AllocError>
+    ensures len { IfOk result (λ v. length v.items ≡ length actions.now) }
+    ensures entries { IfOk result (λ v. (t : ℕ) → t < length actions.now
+        → by_default default (unwrap_or (slice_index_or v.items t None) Error)
+        ≡ by_default default (slice_index_or actions.now t Error)) }
+{
+    let mut entries = vec![in alloc; None; actions.len()]?;
+    if default.is_some() {
+        return Ok(entries);
+    }
+    for t in 0..actions.len() {
+        if actions[t] != Action::Error {
+            entries[t] = Some(actions[t]);
+        }
+    }
+    Ok(entries)
+}
+
+/// The rows of all states, and what their cells count.
+#[derive(Drop)]
+struct Found {
+    actions: Packed<Action>,
+    defaults: Vec<Option<usize>>,
+    counts: Counts,
+    chosen: bool,
+}
+
+/// The rows of all states, and what their cells count.
+fn all_rows(alloc: Global, automaton: &Automaton) -> Result<Found, AllocError>
+    ensures actions { IfOk result (λ f. length f.actions.rows ≡ length automaton.now.states) }
+    ensures width { IfOk result (λ f. f.actions.width ≡ automaton.now.grammar.bare.tokens) }
+    ensures defaults { IfOk result (λ f. length f.defaults.items ≡ length automaton.now.states) }
+    ensures rows { IfOk result (λ f. (u : Guide) → IsGuide automaton.now u
+        → AreRowsTo automaton.now u (length automaton.now.states)
+        (act_at f.actions.rows f.defaults.items) (rule_at f.defaults.items)) }
+    ensures sums { IfOk result (λ f. (u : Guide) → IsGuide automaton.now u
+        → AreSumsTo automaton.now u
+        (length automaton.now.states) f.counts.shift_reduce f.counts.reduce_reduce f.chosen) }
+{
+    let grammar = automaton.grammar();
+    let _symbols = grammar.symbols();
+    let tokens = token_count(grammar);
+    let states = automaton.states();
+    let mut actions = Packed::new(alloc, tokens);
+    let mut defaults = Vec::with_capacity(alloc, states)?;
+    let mut shift_reduce = 0;
+    let mut reduce_reduce = 0;
+    let mut chosen = false;
+    for q in 0..states {
+        let row = row_of(alloc, automaton, q, tokens)?;
+        let entries = entries_of(alloc, &row.actions, row.default)?;
+        actions.push(alloc, &entries)?;
+        defaults.push(row.default)?;
+        shift_reduce += row.shift_reduce;
+        reduce_reduce += row.reduce_reduce;
+        chosen |= row.choice;
+    }
+    let counts = Counts {
+        shift_reduce,
+        reduce_reduce,
+    };
+    Ok(Found {
+        actions,
+        defaults,
+        counts,
+        chosen,
+    })
+}
+
+/// The tables of an automaton. The one fault is T1: a growth was refused.
+pub fn resolve(alloc: Global, automaton: Automaton) -> Result<Tables, TableFault>
+    ensures automaton { IfOk result (λ t. t.built ≡ automaton) }
+    ensures tables { IfOk result (λ t. AreTables t) }
+    ensures fault { IfErr result (λ e. e ≡ TableFault.Memory) }
+{
+    let Ok(found) = all_rows(alloc, &automaton) else {
+        return Err(TableFault::Memory);
+    };
+    let Found {
+        actions,
+        defaults,
+        counts,
+        chosen,
+    } = found;
+    Ok(Tables {
+        automaton,
+        actions,
+        defaults,
+        counts,
+        chosen,
+    })
+}
+
+impl Tables {
+    /// The automaton that the tables were made from, as it was. This call also says that they are
+    /// its tables, and that each action is one that the items of its state allow.
+    pub fn automaton(&self) -> &Automaton
+        ensures value { result.now ≡ self.now.built }
+        ensures tables { AreTables self.now }
+        ensures allowed { CellsAllow self.now }
+    {
+        let _states = self.automaton.states();
+        let _symbols = self.automaton.grammar().symbols();
+        &self.automaton
+    }
+
+    /// What is done in state `q` at the token `t`: by the default rule of the state, where it is
+    /// consistent, and else by the cell. `q` is below the number of states, and `t` is a token.
+    pub fn action(&self, q: usize, t: Sym) -> Action
+        requires state { q < length self.now.built.states }
+        requires token { t < self.now.built.grammar.bare.tokens }
+        ensures value { result ≡ action_at self.now q t }
+        ensures exact { (u : Guide) → IsGuide self.now.built u → result
+            ≡ action_in self.now.built u q t }
+    {
+        match self.defaults[q] {
+            Some(rule) => Action::Reduce(rule),
+            None => self.actions.get(q, t).unwrap_or(Action::Error),
+        }
+    }
+
+    /// The goto of the automaton from state `q` over `x`, a nonterminal.
+    pub fn goto(&self, q: usize, x: Sym) -> Option<usize>
+        requires state { q < length self.now.built.states }
+        requires nonterminal { self.now.built.grammar.bare.tokens ≤ x }
+        requires symbol { x < self.now.built.grammar.bare.symbols }
+        ensures value { result ≡ goto_in self.now.built q x }
+        ensures exact { IsGoto self.now.built q x result }
+    {
+        self.automaton.goto(q, x)
+    }
+
+    /// The rule by which state `q` reduces at every token, where the state is consistent: none of
+    /// its items has the dot before a token, and all its filled cells, of which there are some,
+    /// reduce by this rule.
+    pub fn default_rule(&self, q: usize) -> Option<usize>
+        requires { q < length self.now.built.states }
+        ensures value { result ≡ default_at self.now q }
+        ensures exact { (u : Guide) → IsGuide self.now.built u → result
+            ≡ default_in self.now.built u q }
+    {
+        self.defaults[q]
+    }
+
+    /// How many conflicts the cells of all states and tokens count.
+    pub fn conflicts(&self) -> Counts
+        ensures shift_reduce { result.shift_reduce ≡ self.now.shift_reduce }
+        ensures reduce_reduce { result.reduce_reduce ≡ self.now.reduce_reduce }
+    {
+        self.counts
+    }
+
+    /// Whether no cell has a choice between two candidates.
+    pub fn choice_free(&self) -> bool
+        ensures { IsTrue result ↔ (self.now.choice ≡ false) }
+    {
+        !self.chosen
+    }
+}
+
+#[cfg(test)]
+mod tests {
+    use super::*;
+    use std::test::Fail;
+    use ygrammar::read_grammar;
+    use ylalr::build;
+
+    fn tables_of(alloc: Global, file: &[u8]) -> Result<Tables, Fail> {
+        let grammar = read_grammar(alloc, file)?;
+        Ok(resolve(alloc, build(alloc, grammar)?)?)
+    }
+
+    #[test]
+    fn rows_that_do_not_meet_begin_at_the_front(rt: HostRuntime) -> Result<(), Fail> {
+        let tables = tables_of(rt.alloc(), b"%% s : 'x' ;")?;
+        assert_eq!(rt; tables.actions.displacements(), [0, 0, 0].as_slice());
+        Ok(())
+    }
+
+    #[test]
+    fn a_row_that_meets_another_begins_behind(rt: HostRuntime) -> Result<(), Fail> {
+        let tables = tables_of(rt.alloc(), b"%% s : s 'x' | 'x' ;")?;
+        assert_eq!(rt; tables.actions.displacements(), [0, 0, 1, 0].as_slice());
+        Ok(())
+    }
+}
