@@ -5,6 +5,7 @@
 
 Each kind grows with N in its own way; docs/FIGURES.md has their sizes.
 """
+import random
 import sys
 
 
@@ -39,6 +40,13 @@ def ring(n, step=1):
 def ring_back(n):
     """The same ring, its rules in the other order."""
     return ring(n, -1)
+
+
+def ring_mixed(n):
+    """The same ring, its rules in no order at all."""
+    head, *rules = ring(n).split("%%\n")[1].splitlines(keepends=True)
+    random.Random(n).shuffle(rules)
+    return declared(["WORD", "AND"], n) + head + "".join(rules)
 
 
 def limit(n):
@@ -88,7 +96,7 @@ def queries(n):
 
 KINDS = {
     "levels": levels, "statements": statements, "options": options, "ring": ring, "ring-back": ring_back,
-    "limit": limit, "symbols": symbols, "text": text, "queries": queries,
+    "ring-mixed": ring_mixed,    "limit": limit, "symbols": symbols, "text": text, "queries": queries,
 }
 
 if __name__ == "__main__":

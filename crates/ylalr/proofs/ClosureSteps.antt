@@ -1,8 +1,7 @@
 -- Which rules a closure opens.
-use Rattle.std.proofs.Common.{ℕ, ◌≡◌, ◌<◌, ◌⊎◌, ◌↔◌, List, [], ◌∷◌, length, get_or, drop, refl, sym, ◌∙◌, ap, subst, inl, inr, arith}
+use Rattle.std.proofs.Common.{ℕ, ◌≡◌, ◌<◌, ◌⊎◌, ◌∷◌, List, length, drop, refl, ◌∙◌, ap, subst, inl, inr}
 use Rattle.ygrammar.specs.Grammar.{ContextFree, left_of, body_of}
-use Rattle.ylalr.specs.Rows.{BitRows, Holds, AddsFrom}
-use Rattle.ylalr.specs.Sets.{Closed, given, opened, Opens, itself, through, OpenedBy, IsOpens, SoundOpens, OwnOpens, OpensClosed}
+use Rattle.ylalr.specs.Sets.{Closed, given, opened, Opens, itself, through, OpenedBy}
 
 -- an item with its dot before a symbol leads to all that the symbol opens
 pub closed_opens : {g : ContextFree} {K : ℕ → ℕ → Type 0} {s n : ℕ} (r d : ℕ) (y : List ℕ) → Closed g K r d → drop d (body_of g r) ≡ s ∷ y → Opens g s n → Closed g K n 0
@@ -32,29 +31,3 @@ closed_cases {g = g} {K = K} (opened {r = r} {d = d} {s = s} {y = y} c e h) = go
 
 pub closed_from_opened : {g : ContextFree} {K : ℕ → ℕ → Type 0} (r : ℕ) → OpenedBy g K r → Closed g K r 0
 closed_from_opened r o = closed_opens o.rule o.dot o.rest (given o.item) o.next o.opens
-
--- one more row added is sound
-pub sound_opens_add : (g : ContextFree) (m o : BitRows) (n t : ℕ) (y : List ℕ) → SoundOpens g m → n < length g.rules → body_of g n ≡ t ∷ y → AddsFrom m o (left_of g n) m t → SoundOpens g o
-sound_opens_add g m o n t y f h b a s r z = go ((a s r).0 z)
-  where
-    go : Holds m s r ⊎ ((s ≡ left_of g n) × Holds m t r) → Opens g s r
-    go (inl x) = f s r x
-    go (inr x) = through h x.0 b (f t r x.1)
-
-pub sound_opens_own : (g : ContextFree) (m o : BitRows) (n : ℕ) → SoundOpens g m → n < length g.rules → ((s r : ℕ) → Holds o s r ↔ (Holds m s r ⊎ ((s ≡ left_of g n) × (r ≡ n)))) → SoundOpens g o
-sound_opens_own g m o n f h a s r z = go ((a s r).0 z)
-  where
-    go : Holds m s r ⊎ ((s ≡ left_of g n) × (r ≡ n)) → Opens g s r
-    go (inl x) = f s r x
-    go (inr x) = itself (subst (λ t. t < length g.rules) (sym x.1) h) (x.0 ∙ ap (λ t. left_of g t) (sym x.1))
-
-complete : {g : ContextFree} {s r : ℕ} (m : BitRows) → OwnOpens g m → OpensClosed g m → Opens g s r → Holds m s r
-complete {r = r} m w c (itself h e) = subst (λ t. Holds m t r) (sym e) (w r h)
-complete {g = g} {r = r} m w c (through {t = t} {n = n} {y = y} h e b o) = subst (λ u. Holds m u r) (sym e) (c n h t y b r (complete m w c o))
-
-pub opens_exact : (g : ContextFree) (m : BitRows) → SoundOpens g m → OwnOpens g m → OpensClosed g m → IsOpens g m
-opens_exact g m f w c s r = (f s r, complete m w c)
-
-pub head_tail : (x : List ℕ) → 0 < length x → x ≡ get_or x 0 0 ∷ drop 1 x
-head_tail [] h = absurd (omega arith)
-head_tail (s ∷ x) h = refl

@@ -21,6 +21,7 @@ use Rattle.ylalr.specs.Draft.{DraftValue, PlaceIn, IsHere, LeftsIn, SpreadIn, Ca
 use Rattle.ylalr.specs.Parts.{FitParts}
 use Rattle.ylalr.proofs.BeginsWith.{found_first, last_first, cases}
 use Rattle.ylalr.proofs.ListSteps.{same_default}
+use Rattle.ylalr.proofs.LinkSteps.{link_cases, links_push, no_link, are_links_none}
 use Rattle.ylalr.proofs.LookSteps.{some_spread, spread_token}
 
 order : (j k : ℕ) → (j < k) ⊎ ((j ≡ k) ⊎ (k < j))
@@ -249,55 +250,13 @@ module _ (P : Parts) (f : WellFormed P.grammar.bare) (fit : FitParts P) where
   moved_match h x n None mv e z = λ t m. z t (subst (λ (v : Item). PlaceIn P n v t) (sym (step_is h.item)) (one_target h t x n m mv e))
   moved_match h x n (Some p) mv e z = record { symbol = x; target = n; moves = mv; leads = e; place = subst (λ (v : Item). PlaceIn P n v p) (step_is h.item) z }
 
--- one more link
-module _ (n : ℕ) (l more : List (List ℕ)) (from to : ℕ) (a : AreLinks n l) (hf : from < n) (ht : to < n) (e : more ≡ set l from (get_or l from [] ++ to ∷ [])) where
-  pub link_there : Linked more from to
-  link_there = subst (λ xs. Contains xs to) (sym (ap (λ (v : List (List ℕ)). get_or v from []) e ∙ get_or-set_same l from (get_or l from [] ++ to ∷ []) [] (subst (λ k. from < k) (sym a.sized) hf))) (Contains-push (get_or l from []) to)
-
-  same_or : (x y : ℕ) → (x ≡ y) ⊎ (x ≢ y)
-  same_or x y = grind arith
-
-  at_from : (p : ℕ) → p ≡ from → get_or more p [] ≡ get_or l p [] ++ to ∷ []
-  at_from p q = subst (λ k. get_or more k [] ≡ get_or l k [] ++ to ∷ []) (sym q) (ap (λ (v : List (List ℕ)). get_or v from []) e ∙ get_or-set_same l from (get_or l from [] ++ to ∷ []) [] (subst (λ k. from < k) (sym a.sized) hf))
-
-  elsewhere : (p : ℕ) → p ≢ from → get_or more p [] ≡ get_or l p []
-  elsewhere p q = ap (λ (v : List (List ℕ)). get_or v p []) e ∙ get_or-set_other l from p (get_or l from [] ++ to ∷ []) [] q
-
-  pub link_kept : (p t : ℕ) → Linked l p t → Linked more p t
-  link_kept p t h = go (same_or p from)
-    where
-      go : (p ≡ from) ⊎ (p ≢ from) → Linked more p t
-      go (inl q) = subst (λ xs. Contains xs t) (sym (at_from p q)) (Contains-append_left (get_or l p []) (to ∷ []) t h)
-      go (inr q) = subst (λ xs. Contains xs t) (sym (elsewhere p q)) h
-
-  pub link_cases : (p t : ℕ) → Linked more p t → Linked l p t ⊎ ((p ≡ from) × (t ≡ to))
-  link_cases p t h = go (same_or p from)
-    where
-      two : (p ≡ from) → Contains (get_or l p []) t ⊎ (to ≡ t) → Linked l p t ⊎ ((p ≡ from) × (t ≡ to))
-      two q (inl c) = inl c
-      two q (inr c) = inr (q, sym c)
-
-      go : (p ≡ from) ⊎ (p ≢ from) → Linked l p t ⊎ ((p ≡ from) × (t ≡ to))
-      go (inl q) = two q (Contains-push_cases (get_or l p []) to t (subst (λ xs. Contains xs t) (at_from p q) h))
-      go (inr q) = inl (subst (λ xs. Contains xs t) (elsewhere p q) h)
-
-  pub links_push : AreLinks n more
-  links_push = record {
-    sized = ap (λ (v : List (List ℕ)). length v) e ∙ length-set l from (get_or l from [] ++ to ∷ []) ∙ a.sized;
-    within = λ p t h. within p t (link_cases p t h);
-  }
-    where
-      within : (p t : ℕ) → Linked l p t ⊎ ((p ≡ from) × (t ≡ to)) → t < n
-      within p t (inl h) = a.within p t h
-      within p t (inr h) = subst (λ k. k < n) (sym h.1) ht
-
 -- rows with more, and one more link along which lookaheads are carried
 pub sound_linked : (P : Parts) (d : DraftValue) (m : BitRows) (more : List (List ℕ)) (from to : ℕ) → SoundDraft P d → IsSized P.places.total P.grammar.bare.tokens m → SoundLooks P.grammar.bare (goto_of P.gotos) P.states P.places m → from < P.places.total → to < P.places.total → more ≡ set d.links from (get_or d.links from [] ++ to ∷ []) → Carries P from to → SoundDraft P (record { looks = m; links = more })
 sound_linked P d m more from to s z w hf ht e c = record {
   sized = z;
-  links = links_push P.places.total d.links more from to s.links hf ht e;
+  links = links_push d.links more from to (subst (λ k. from < k) (sym s.links.sized) hf) e P.places.total s.links ht;
   looks = w;
-  carried = λ p t h. go p t (link_cases P.places.total d.links more from to s.links hf ht e p t h);
+  carried = λ p t h. go p t (link_cases d.links more from to (subst (λ k. from < k) (sym s.links.sized) hf) e p t h);
 }
   where
     go : (p t : ℕ) → Linked d.links p t ⊎ ((p ≡ from) × (t ≡ to)) → Carries P p t
@@ -312,18 +271,10 @@ sound_rows P d m s z w = record { sized = z; links = s.links; looks = w; carried
 pub no_links : (P : Parts) (m : BitRows) (l : List (List ℕ)) → length l ≡ P.places.total → All (λ r. r ≡ []) l → IsSized P.places.total P.grammar.bare.tokens m → SoundLooks P.grammar.bare (goto_of P.gotos) P.states P.places m → SoundDraft P (record { looks = m; links = l })
 no_links P m l e none z w = record {
   sized = z;
-  links = record { sized = e; within = λ p t h. absurd (nothing p t h) };
+  links = are_links_none P.places.total l e none;
   looks = w;
-  carried = λ p t h. absurd (nothing p t h);
+  carried = λ p t h. absurd (no_link l none p t h);
 }
-  where
-    empty_at : (l : List (List ℕ)) (p : ℕ) → All (λ r. r ≡ []) l → get_or l p [] ≡ []
-    empty_at [] p a = refl
-    empty_at (x ∷ l) zero a = a 0 [] (omega arith)
-    empty_at (x ∷ l) (suc p) a = empty_at l p (λ k d h. a (suc k) d (omega arith))
-
-    nothing : (p t : ℕ) → Linked l p t → ⊥
-    nothing p t h = let c = subst (λ xs. Contains xs t) (empty_at l p none) h in let k = c.1 in omega arith
 
 below_or : (k i : ℕ) → k < i + 1 → (k < i) ⊎ (k ≡ i)
 below_or k i h = grind arith

@@ -11,10 +11,12 @@ pub mod GotoSteps
 pub mod Growth
 pub mod KeySteps
 pub mod LeftSteps
+pub mod LinkSteps
 pub mod ListSteps
 pub mod Live
 pub mod LookSteps
 pub mod NullableSteps
+pub mod OpenSteps
 pub mod PlaceSteps
 pub mod RowLemmas
 pub mod SearchSteps

@@ -2,11 +2,11 @@
 use Rattle.std.proofs.Common.{ℕ, zero, suc, ◌≡◌, ◌≢◌, ◌<◌, ◌≤◌, ◌+◌, ◌*◌, ◌⊎◌, ◌↔◌, List, [], ◌∷◌, ◌++◌, length, get_or, take, refl, sym, ◌∙◌, ap, subst, inl, inr, arith}
 use Rattle.std.specs.List.{Contains}
 use Rattle.std.proofs.lemmas.List.Elements.{Contains-push, Contains-push_cases, Contains-append_left}
-use Rattle.std.proofs.lemmas.Nat.{mul-add-lt}
 use Rattle.ylalr.specs.Rows.{BitRows, Holds, IsSized, room, AddsFrom}
 use Rattle.ylalr.specs.Waiting.{Line}
 use Rattle.ylalr.specs.Links.{AreLinks, Reaches, given, passed, PassedOn, IsSpread}
 use Rattle.ylalr.specs.Spread.{SameRow, Gives}
+use Rattle.ylalr.proofs.WaitingSteps.{head_or, line_nearer}
 
 pub record Spreading (l : List (List ℕ)) (m n : BitRows) (w : Line) : Type 0 where
   pub sized : IsSized m.height m.width n
@@ -27,10 +27,6 @@ spreading_none l m w e every = record {
 
 same_or : (a b : ℕ) → (a ≡ b) ⊎ (a ≢ b)
 same_or a b = grind arith
-
-head_or : (xs : List ℕ) (x y : ℕ) → Contains (x ∷ xs) y → (y ≡ x) ⊎ Contains xs y
-head_or xs x y (zero, h, e) = inl (sym e)
-head_or xs x y (suc k, h, e) = inr (k, omega arith, e)
 
 -- the row in front has given
 pub spreading_give : (l : List (List ℕ)) (m n o : BitRows) (v w x : Line) (p : ℕ) → Spreading l m n v → v.queue ≡ p ∷ w.queue → length w.marks ≡ length v.marks → Gives (get_or l p []) p n w o x → Spreading l m o x
@@ -86,11 +82,6 @@ spreading_end l m n w s e r c = (s.sound r c, back)
 
     back : Reaches l m r c → Holds n r c
     back z = go z
-
--- the list gets shorter where no row grows
-pub nearer : (r s k a b : ℕ) → (s < r) ⊎ (s ≡ r) → (s < r → b ≤ k) → (s ≡ r → b < a) → s * (k + 1) + b < r * (k + 1) + a
-nearer r s k a b (inl h) f g = let z = f h in let y = mul-add-lt s (k + 1) b r h (omega arith) in omega arith
-nearer r s k a b (inr h) f g = let z = g h in let y = ap (λ (t : ℕ). t * (k + 1)) h in omega arith
 
 -- no list yet
 pub gives_none : (p : ℕ) (m : BitRows) (v : Line) → length v.queue ≤ length v.marks → Gives [] p m v m v
@@ -175,19 +166,7 @@ gives_grew to p t m n o v w x g a es less line few there kept = record {
 
 -- taking a row that waits, and having it give, brings the end nearer
 pub spread_nearer : (l : List (List ℕ)) (n o : BitRows) (v w x : Line) (p : ℕ) → v.queue ≡ p ∷ w.queue → length w.marks ≡ length v.marks → Gives (get_or l p []) p n w o x → room o * (length x.marks + 1) + length x.queue < room n * (length v.marks + 1) + length v.queue
-spread_nearer l n o v w x p e ew g =
-    let em : length x.marks ≡ length v.marks = g.line ∙ ew in
-    let ev = ap (λ (xs : List ℕ). length xs) e in
-    subst (λ k. room o * (k + 1) + length x.queue < room n * (length v.marks + 1) + length v.queue) (sym em) (go g.calm (subst (λ k. length x.queue ≤ k) em g.few) ev)
-  where
-    go : (room o < room n) ⊎ (x ≡ w) → length x.queue ≤ length v.marks → length v.queue ≡ length (p ∷ w.queue) → room o * (length v.marks + 1) + length x.queue < room n * (length v.marks + 1) + length v.queue
-    go (inl h) few ev = nearer (room n) (room o) (length v.marks) (length v.queue) (length x.queue) (inl h) (λ _. few) (λ e. absurd (omega arith))
-    go (inr h) few ev =
-        let eq = ap (λ (y : Line). length y.queue) h in
-        nearer (room n) (room o) (length v.marks) (length v.queue) (length x.queue) (le_or (room o) (room n) g.fewer) (λ _. few) (λ _. omega arith)
-      where
-        le_or : (a b : ℕ) → a ≤ b → (a < b) ⊎ (a ≡ b)
-        le_or a b h = grind arith
+spread_nearer l n o v w x p e ew g = line_nearer (room n) (room o) v w x p e ew g.line g.few g.fewer g.calm
 
 pub linked_at : (n : ℕ) (l : List (List ℕ)) (p k : ℕ) (xs : List ℕ) → AreLinks n l → xs ≡ get_or l p [] → k < length xs → get_or xs k 0 < n
 linked_at n l p k xs a e h = a.within p (get_or xs k 0) (subst (λ ys. Contains ys (get_or xs k 0)) e (k, h, default xs k (get_or xs k 0) 0 h))

@@ -1,11 +1,12 @@
 -- A queue with marks: one number more at its end, one fewer at its front.
-use Rattle.std.proofs.Common.{ℕ, zero, suc, Bool, true, false, not, ◌≡◌, ◌≢◌, ◌<◌, ◌≤◌, ◌+◌, ◌⊎◌, List, [], ◌∷◌, ◌++◌, length, get_or, refl, sym, ◌∙◌, ap, subst, inl, inr, arith, cond, get_or-set_same, get_or-set_other}
+use Rattle.std.proofs.Common.{ℕ, zero, suc, Bool, true, false, not, ◌≡◌, ◌≢◌, ◌<◌, ◌≤◌, ◌+◌, ◌*◌, ◌⊎◌, List, [], ◌∷◌, ◌++◌, length, get_or, refl, sym, ◌∙◌, ap, subst, inl, inr, arith, cond, get_or-set_same, get_or-set_other}
 use Rattle.std.proofs.Math.ListN.{set, length-set}
 use Rattle.std.specs.List.{Contains, AllPairs}
 use Rattle.std.proofs.lemmas.List.{length_push}
 use Rattle.std.proofs.lemmas.List.Elements.{Contains-push, Contains-push_cases, Contains-append_left}
 use Rattle.std.proofs.lemmas.List.Quantifiers.{all_pairs_push}
 use Rattle.std.proofs.lemmas.List.Sums.{sum_by-set}
+use Rattle.std.proofs.lemmas.Nat.{mul-add-lt}
 use Rattle.ylalr.specs.Marks.{marked, unmarked}
 use Rattle.ylalr.specs.Waiting.{Line, IsLine}
 
@@ -92,3 +93,27 @@ line_pop w p rest l e = record {
         go : Contains (p ∷ rest) q → Contains rest q
         go (zero, h, z) = absurd (s (sym z))
         go (suc k, h, z) = (k, omega arith, z)
+
+pub head_or : (xs : List ℕ) (x y : ℕ) → Contains (x ∷ xs) y → (y ≡ x) ⊎ Contains xs y
+head_or xs x y (zero, h, e) = inl (sym e)
+head_or xs x y (suc k, h, e) = inr (k, omega arith, e)
+
+nearer : (r s k a b : ℕ) → (s < r) ⊎ (s ≡ r) → (s < r → b ≤ k) → (s ≡ r → b < a) → s * (k + 1) + b < r * (k + 1) + a
+nearer r s k a b (inl h) f g = let z = f h in let y = mul-add-lt s (k + 1) b r h (omega arith) in omega arith
+nearer r s k a b (inr h) f g = let z = g h in let y = ap (λ (t : ℕ). t * (k + 1)) h in omega arith
+
+-- One was taken, and others were put: what is left of the work gets less, or no more and nothing was put.
+pub line_nearer : (a b : ℕ) (v w x : Line) (p : ℕ) → v.queue ≡ p ∷ w.queue → length w.marks ≡ length v.marks → length x.marks ≡ length w.marks → length x.queue ≤ length x.marks → b ≤ a → (b < a) ⊎ (x ≡ w) → b * (length x.marks + 1) + length x.queue < a * (length v.marks + 1) + length v.queue
+line_nearer a b v w x p e ew ex few fewer calm =
+    let em : length x.marks ≡ length v.marks = ex ∙ ew in
+    let ev = ap (λ (xs : List ℕ). length xs) e in
+    subst (λ k. b * (k + 1) + length x.queue < a * (length v.marks + 1) + length v.queue) (sym em) (go calm (subst (λ k. length x.queue ≤ k) em few) ev)
+  where
+    go : (b < a) ⊎ (x ≡ w) → length x.queue ≤ length v.marks → length v.queue ≡ length (p ∷ w.queue) → b * (length v.marks + 1) + length x.queue < a * (length v.marks + 1) + length v.queue
+    go (inl h) small ev = nearer a b (length v.marks) (length v.queue) (length x.queue) (inl h) (λ _. small) (λ q. absurd (omega arith))
+    go (inr h) small ev =
+        let eq = ap (λ (y : Line). length y.queue) h in
+        nearer a b (length v.marks) (length v.queue) (length x.queue) (le_or b a fewer) (λ _. small) (λ _. omega arith)
+      where
+        le_or : (a b : ℕ) → a ≤ b → (a < b) ⊎ (a ≡ b)
+        le_or a b h = grind arith

@@ -2,6 +2,7 @@
 use Rattle.std.specs.Prelude.{ℕ, Bool, List, [], ◌∷◌, ◌<◌, ◌↔◌, length, All, take, slice_index}
 use Rattle.ygrammar.specs.Grammar.{ContextFree, left_of, body_of}
 use Rattle.ygrammar.specs.Forms.{Nullable, First}
+use Rattle.ylalr.specs.Links.{AreLinks, Linked}
 use Rattle.ylalr.specs.Marks.{marked}
 use Rattle.ylalr.specs.Rows.{BitRows, Holds}
 
@@ -16,16 +17,24 @@ IsFirst g m = (s t : ℕ) → Holds m s t ↔ First g (s ∷ []) t
 abbrev pub SoundFirst : ContextFree → BitRows → Type 0
 SoundFirst g m = (s t : ℕ) → Holds m s t → First g (s ∷ []) t
 
--- place k of the body of rule r adds nothing
-abbrev pub FirstClosedAt : ContextFree → List Bool → BitRows → ℕ → ℕ → Type 0
-FirstClosedAt g n m r k = k < length (body_of g r) → All (marked n) (take k (body_of g r)) → (t : ℕ) → Holds m (slice_index (body_of g r) k) t → Holds m (left_of g r) t
-
+-- each token has itself
 abbrev pub TokensClosed : ContextFree → BitRows → Type 0
 TokensClosed g m = (t : ℕ) → t < g.tokens → Holds m t t
 
--- no place of the body of rule r adds anything
-abbrev pub RuleFirstClosed : ContextFree → List Bool → BitRows → ℕ → Type 0
-RuleFirstClosed g n m r = (k : ℕ) → FirstClosedAt g n m r k
+-- what a symbol begins with, those to which it has a link begin with too
+abbrev pub CarryFirst : ContextFree → List (List ℕ) → Type 0
+CarryFirst g l = (s n t : ℕ) → Linked l s n → First g (s ∷ []) t → First g (n ∷ []) t
 
-abbrev pub FirstClosed : ContextFree → List Bool → BitRows → Type 0
-FirstClosed g n m = (r : ℕ) → r < length g.rules → RuleFirstClosed g n m r
+-- there is a link to the left side of rule r from place k of its body, if all before it vanish
+abbrev pub PlaceLinked : ContextFree → List Bool → List (List ℕ) → ℕ → ℕ → Type 0
+PlaceLinked g n l r k = k < length (body_of g r) → All (marked n) (take k (body_of g r)) → Linked l (slice_index (body_of g r) k) (left_of g r)
+
+-- from each such place
+abbrev pub RuleLinked : ContextFree → List Bool → List (List ℕ) → ℕ → Type 0
+RuleLinked g n l r = (k : ℕ) → PlaceLinked g n l r k
+
+-- the links along which left sides get what their bodies begin with
+pub record AreFirstLinks (g : ContextFree) (n : List Bool) (l : List (List ℕ)) : Type 0 where
+  pub links : AreLinks g.symbols l
+  pub sound : CarryFirst g l
+  pub rules : (r : ℕ) → r < length g.rules → RuleLinked g n l r

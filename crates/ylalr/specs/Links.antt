@@ -16,6 +16,10 @@ pub record AreLinks (n : ℕ) (l : List (List ℕ)) : Type 0 where
   pub sized : length l ≡ n
   pub within : (p t : ℕ) → Linked l p t → t < n
 
+-- links were only added
+abbrev pub MoreLinks : List (List ℕ) → List (List ℕ) → Type 0
+MoreLinks l n = (p t : ℕ) → Linked l p t → Linked n p t
+
 -- row t gets c along the links from a row that has it
 pub data Reaches (l : List (List ℕ)) (m : BitRows) : ℕ → ℕ → Type 0 where
   given : {p c : ℕ} → Holds m p c → Reaches l m p c

@@ -3,6 +3,7 @@ use Rattle.std.specs.Prelude.{ℕ, suc, ◌≡◌, ◌≢◌, ◌<◌, ◌≤◌
 use Rattle.std.specs.List.{Contains}
 use Rattle.ygrammar.specs.Grammar.{ContextFree, left_of, body_of, end_token}
 use Rattle.ylalr.specs.declared.items.Item.{Item}
+use Rattle.ylalr.specs.Links.{AreLinks, Linked}
 use Rattle.ylalr.specs.Rows.{BitRows, Holds, IsSized}
 
 -- the items that a set of items leads to at one prefix
@@ -80,12 +81,19 @@ SoundOpens g m = (s r : ℕ) → Holds m s r → Opens g s r
 abbrev pub OwnOpens : ContextFree → BitRows → Type 0
 OwnOpens g m = (r : ℕ) → r < length g.rules → Holds m (left_of g r) r
 
--- the rule n adds nothing
-abbrev pub OpensClosedAt : ContextFree → BitRows → ℕ → Type 0
-OpensClosedAt g m n = (t : ℕ) (y : List ℕ) → body_of g n ≡ t ∷ y → (r : ℕ) → Holds m t r → Holds m (left_of g n) r
+-- what a symbol leads to, those to which it has a link lead to too
+abbrev pub CarryOpens : ContextFree → List (List ℕ) → Type 0
+CarryOpens g l = (s n r : ℕ) → Linked l s n → Opens g s r → Opens g n r
 
-abbrev pub OpensClosed : ContextFree → BitRows → Type 0
-OpensClosed g m = (n : ℕ) → n < length g.rules → OpensClosedAt g m n
+-- there is a link to the left side of rule n from the first symbol of its body
+abbrev pub FrontLinked : ContextFree → List (List ℕ) → ℕ → Type 0
+FrontLinked g l n = (t : ℕ) (y : List ℕ) → body_of g n ≡ t ∷ y → Linked l t (left_of g n)
+
+-- the links along which left sides get what their bodies lead to
+pub record AreOpenLinks (g : ContextFree) (l : List (List ℕ)) : Type 0 where
+  pub links : AreLinks g.symbols l
+  pub sound : CarryOpens g l
+  pub rules : (n : ℕ) → n < length g.rules → FrontLinked g l n
 
 -- the dot of i moves over x
 abbrev pub Moves : ContextFree → Item → ℕ → Type 0

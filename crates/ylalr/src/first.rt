@@ -1,74 +1,61 @@
-//! The tokens that a symbol can begin with, by saturation over the rules.
+//! The tokens that a symbol can begin with: rows that are passed on to left sides.
 
-ghost use Rattle.std.specs.Prelude.{◌≡◌, ◌<◌, false, length, IfOk};
-ghost use Rattle.ylalr.specs.Rows.{IsSized, Grown};
-ghost use Rattle.ylalr.specs.First.{IsNullable, IsFirst, SoundFirst, RuleFirstClosed, FirstClosed};
-ghost use Rattle.ylalr.specs.First.{TokensClosed};
+ghost use Rattle.std.specs.Prelude.{◌≡◌, ◌<◌, length, IfOk, OnOk};
+ghost use Rattle.ylalr.specs.Rows.{IsSized};
+ghost use Rattle.ylalr.specs.First.{IsNullable, IsFirst, SoundFirst, TokensClosed, RuleLinked};
+ghost use Rattle.ylalr.specs.First.{CarryFirst, AreFirstLinks};
+ghost use Rattle.ylalr.specs.Links.{AreLinks, MoreLinks};
 
+use crate::links::Links;
 use crate::marks::Marks;
 use crate::rows::Rows;
+use crate::spread::spread;
 use crate::tokens::token_count;
 use std::alloc::{AllocError, Global};
 use ygrammar::Grammar;
 
-/// Adds to the left side of a rule what its body begins with, symbol by symbol up to one that
-/// can't vanish.
-fn visit(grammar: &Grammar, nullable: &Marks, rule: usize, first: &mut Rows) -> bool
+/// Links to the left side of a rule from the symbols that its body can begin with: each up to one
+/// that can't vanish.
+fn link_rule(
+    grammar: &Grammar,
+    nullable: &Marks,
+    rule: usize,
+    links: &mut Links,
+) -> Result<(), AllocError>
     requires within { rule < length grammar.now.bare.rules }
     requires marks { length nullable.now ≡ grammar.now.bare.symbols }
     requires exact { IsNullable grammar.now.bare nullable.now }
-    requires sized { IsSized grammar.now.bare.symbols grammar.now.bare.tokens first.old }
-    requires sound { SoundFirst grammar.now.bare first.old }
-    ensures sound { SoundFirst grammar.now.bare first.new }
-    ensures grown { Grown first.old first.new result }
-    ensures closed { result ≡ false → RuleFirstClosed grammar.now.bare nullable.now first.new rule }
+    requires links { AreLinks grammar.now.bare.symbols links.old }
+    requires sound { CarryFirst grammar.now.bare links.old }
+    ensures links { OnOk result (AreLinks grammar.now.bare.symbols links.new) }
+    ensures sound { OnOk result (CarryFirst grammar.now.bare links.new) }
+    ensures more { OnOk result (MoreLinks links.old links.new) }
+    ensures linked { OnOk result (RuleLinked grammar.now.bare nullable.now links.new rule) }
 {
     let _symbols = grammar.symbols();
     let r = grammar.rule(rule);
     let left = r.left();
     let body = r.body();
-    let mut grew = false;
     for s in body {
-        grew |= first.add_row(left, *s);
+        links.push(*s, left)?;
         if !nullable.has(*s) {
-            return grew;
+            return Ok(());
         }
     }
-    grew
+    Ok(())
 }
 
-/// Visits each rule, the last one first, and says whether any row grew.
-fn pass(grammar: &Grammar, nullable: &Marks, first: &mut Rows) -> bool
+/// Such links for all rules.
+fn first_links(alloc: Global, grammar: &Grammar, nullable: &Marks) -> Result<Links, AllocError>
     requires marks { length nullable.now ≡ grammar.now.bare.symbols }
     requires exact { IsNullable grammar.now.bare nullable.now }
-    requires sized { IsSized grammar.now.bare.symbols grammar.now.bare.tokens first.old }
-    requires sound { SoundFirst grammar.now.bare first.old }
-    ensures sound { SoundFirst grammar.now.bare first.new }
-    ensures grown { Grown first.old first.new result }
-    ensures closed { result ≡ false → FirstClosed grammar.now.bare nullable.now first.new }
+    ensures { IfOk result (λ l. AreFirstLinks grammar.now.bare nullable.now l) }
 {
-    let rules = grammar.rules();
-    let mut grew = false;
-    for i in 0..rules {
-        grew |= visit(grammar, nullable, rules - 1 - i, first);
-    }
-    grew
-}
-
-/// Visits each rule, the first one first.
-fn pass_on(grammar: &Grammar, nullable: &Marks, first: &mut Rows) -> bool
-    requires marks { length nullable.now ≡ grammar.now.bare.symbols }
-    requires exact { IsNullable grammar.now.bare nullable.now }
-    requires sized { IsSized grammar.now.bare.symbols grammar.now.bare.tokens first.old }
-    requires sound { SoundFirst grammar.now.bare first.old }
-    ensures sound { SoundFirst grammar.now.bare first.new }
-    ensures grown { Grown first.old first.new result }
-{
-    let mut grew = false;
+    let mut links = Links::new(alloc, grammar.symbols())?;
     for r in 0..grammar.rules() {
-        grew |= visit(grammar, nullable, r, first);
+        link_rule(grammar, nullable, r, &mut links)?;
     }
-    grew
+    Ok(links)
 }
 
 /// Rows in which each token has itself.
@@ -93,9 +80,7 @@ pub fn first_tokens(alloc: Global, grammar: &Grammar, nullable: &Marks) -> Resul
     ensures exact { IfOk result (λ m. IsFirst grammar.now.bare m) }
 {
     let mut first = own_tokens(alloc, grammar)?;
-    pass(grammar, nullable, &mut first);
-    while pass(grammar, nullable, &mut first) {
-        pass_on(grammar, nullable, &mut first);
-    }
+    let links = first_links(alloc, grammar, nullable)?;
+    spread(alloc, &links, &mut first)?;
     Ok(first)
 }

@@ -1,12 +1,13 @@
-//! The symbols that derive the empty form, by saturation over the rules.
+//! The symbols that derive the empty form, by a list of waiting rules.
 
-ghost use Rattle.std.specs.Prelude.{◌≡◌, ◌+◌, ◌<◌, ◌≤◌, ◌↔◌, false, true, length, All, IsTrue};
-ghost use Rattle.std.specs.Prelude.{IfOk, if◌then◌else◌};
-ghost use Rattle.ylalr.specs.Marks.{marked, unmarked};
-ghost use Rattle.ylalr.specs.Nullable.{SoundNullable, ClosedAt, ClosedNullable};
+ghost use Rattle.std.specs.Prelude.{◌≡◌, ◌<◌, ◌≤◌, ◌↔◌, length, All, IsTrue, IfOk, OnOk};
+ghost use Rattle.ylalr.specs.Marks.{marked};
+ghost use Rattle.ylalr.specs.Nullable.{SoundNullable, AreUsers, HasUses, UsesMore, Visits};
 ghost use Rattle.ylalr.specs.First.{IsNullable};
 
+use crate::links::Links;
 use crate::marks::Marks;
+use crate::waiting::Waiting;
 use std::alloc::{AllocError, Global};
 use ygrammar::{Grammar, Sym};
 
@@ -23,65 +24,70 @@ fn all_marked(form: &[Sym], marks: &Marks) -> bool
     true
 }
 
-/// Marks the left side of one rule where its whole body is marked, and says whether that was new.
-fn visit(grammar: &Grammar, rule: usize, marks: &mut Marks) -> bool
+/// Lists a rule at each symbol of its body.
+fn list_rule(grammar: &Grammar, rule: usize, users: &mut Links) -> Result<(), AllocError>
     requires within { rule < length grammar.now.bare.rules }
+    requires sized { length users.old ≡ grammar.now.bare.symbols }
+    ensures more { OnOk result (UsesMore grammar.now.bare rule users.old users.new) }
+    ensures uses { OnOk result (HasUses grammar.now.bare users.new rule) }
+{
+    let _symbols = grammar.symbols();
+    let body = grammar.rule(rule).body();
+    for s in body {
+        users.push(*s, rule)?;
+    }
+    Ok(())
+}
+
+/// For each symbol the rules in whose bodies it stands.
+fn users_of(alloc: Global, grammar: &Grammar) -> Result<Links, AllocError>
+    ensures { IfOk result (λ l. AreUsers grammar.now.bare l) }
+{
+    let mut users = Links::new(alloc, grammar.symbols())?;
+    for r in 0..grammar.rules() {
+        list_rule(grammar, r, &mut users)?;
+    }
+    Ok(users)
+}
+
+/// Marks the left side of a rule where its whole body is marked. Where that is new, the rules in
+/// whose bodies it stands have to wait.
+fn visit(
+    grammar: &Grammar,
+    users: &Links,
+    rule: usize,
+    marks: &mut Marks,
+    waiting: &mut Waiting,
+) -> Result<(), AllocError>
+    requires within { rule < length grammar.now.bare.rules }
+    requires users { AreUsers grammar.now.bare users.now }
     requires sized { length marks.old ≡ grammar.now.bare.symbols }
     requires sound { SoundNullable grammar.now.bare marks.old }
-    ensures sized { length marks.new ≡ grammar.now.bare.symbols }
-    ensures sound { SoundNullable grammar.now.bare marks.new }
-    ensures fewer { unmarked marks.new + (if result then 1 else 0) ≡ unmarked marks.old }
-    ensures unchanged { result ≡ false → marks.new ≡ marks.old }
-    ensures closed { result ≡ false → ClosedAt grammar.now.bare marks.new rule }
+    requires line { length waiting.old.marks ≡ length grammar.now.bare.rules }
+    requires few { length waiting.old.queue ≤ length waiting.old.marks }
+    ensures sound { OnOk result (SoundNullable grammar.now.bare marks.new) }
+    ensures visits { OnOk result
+        (Visits grammar.now.bare rule marks.old waiting.old marks.new waiting.new) }
 {
     let _symbols = grammar.symbols();
     let r = grammar.rule(rule);
-    if all_marked(r.body(), marks) {
-        marks.mark(r.left())
-    } else {
-        false
+    if all_marked(r.body(), marks) && marks.mark(r.left()) {
+        waiting.put_each(users.of(r.left()))?;
     }
+    Ok(())
 }
 
-/// Visits each rule, the last one first, and says whether anything was marked.
-fn pass(grammar: &Grammar, marks: &mut Marks) -> bool
-    requires sized { length marks.old ≡ grammar.now.bare.symbols }
-    requires sound { SoundNullable grammar.now.bare marks.old }
-    ensures sized { length marks.new ≡ grammar.now.bare.symbols }
-    ensures sound { SoundNullable grammar.now.bare marks.new }
-    ensures fewer { result ≡ true → unmarked marks.new < unmarked marks.old }
-    ensures closed { result ≡ false → ClosedNullable grammar.now.bare marks.new }
-{
-    let rules = grammar.rules();
-    let mut grew = false;
-    for i in 0..rules {
-        grew |= visit(grammar, rules - 1 - i, marks);
-    }
-    grew
-}
-
-/// Visits each rule, the first one first.
-fn pass_on(grammar: &Grammar, marks: &mut Marks)
-    requires sized { length marks.old ≡ grammar.now.bare.symbols }
-    requires sound { SoundNullable grammar.now.bare marks.old }
-    ensures sized { length marks.new ≡ grammar.now.bare.symbols }
-    ensures sound { SoundNullable grammar.now.bare marks.new }
-    ensures less { unmarked marks.new ≤ unmarked marks.old }
-{
-    for r in 0..grammar.rules() {
-        visit(grammar, r, marks);
-    }
-}
-
-/// The symbols that derive the empty form.
+/// The symbols that derive the empty form: each rule waits at first, and again where a symbol of
+/// its body was marked.
 pub fn nullable_symbols(alloc: Global, grammar: &Grammar) -> Result<Marks, AllocError>
     ensures sized { IfOk result (λ marks. length marks ≡ grammar.now.bare.symbols) }
     ensures exact { IfOk result (λ marks. IsNullable grammar.now.bare marks) }
 {
     let mut marks = Marks::new(alloc, grammar.symbols())?;
-    pass(grammar, &mut marks);
-    while pass(grammar, &mut marks) {
-        pass_on(grammar, &mut marks);
+    let users = users_of(alloc, grammar)?;
+    let mut waiting = Waiting::all(alloc, grammar.rules())?;
+    while let Some(r) = waiting.take() {
+        visit(grammar, &users, r, &mut marks, &mut waiting)?;
     }
     Ok(marks)
 }

@@ -1,61 +1,44 @@
-//! The rules that a symbol after a dot leads to, by saturation over the rules.
+//! The rules that a symbol after a dot leads to: rows that are passed on to left sides.
 
-ghost use Rattle.std.specs.Prelude.{◌≡◌, ◌<◌, false, length, IfOk};
-ghost use Rattle.ylalr.specs.Rows.{Grown};
-ghost use Rattle.ylalr.specs.Sets.{HasRules, IsOpens, SoundOpens, OwnOpens, OpensClosedAt};
-ghost use Rattle.ylalr.specs.Sets.{OpensClosed};
+ghost use Rattle.std.specs.Prelude.{◌≡◌, ◌<◌, length, IfOk, OnOk};
+ghost use Rattle.ylalr.specs.Links.{AreLinks, MoreLinks};
+ghost use Rattle.ylalr.specs.Sets.{HasRules, IsOpens, SoundOpens, OwnOpens, CarryOpens};
+ghost use Rattle.ylalr.specs.Sets.{FrontLinked, AreOpenLinks};
 
+use crate::links::Links;
 use crate::rows::Rows;
+use crate::spread::spread;
 use std::alloc::{AllocError, Global};
 use ygrammar::Grammar;
 
-/// Adds to the left side of a rule what the first symbol of its body leads to.
-fn visit(grammar: &Grammar, rule: usize, opens: &mut Rows) -> bool
+/// A link to the left side of a rule from the first symbol of its body.
+fn link_rule(grammar: &Grammar, rule: usize, links: &mut Links) -> Result<(), AllocError>
     requires within { rule < length grammar.now.bare.rules }
-    requires sized { HasRules grammar.now.bare grammar.now.bare.symbols opens.old }
-    requires sound { SoundOpens grammar.now.bare opens.old }
-    ensures sound { SoundOpens grammar.now.bare opens.new }
-    ensures grown { Grown opens.old opens.new result }
-    ensures closed { result ≡ false → OpensClosedAt grammar.now.bare opens.new rule }
+    requires links { AreLinks grammar.now.bare.symbols links.old }
+    requires sound { CarryOpens grammar.now.bare links.old }
+    ensures links { OnOk result (AreLinks grammar.now.bare.symbols links.new) }
+    ensures sound { OnOk result (CarryOpens grammar.now.bare links.new) }
+    ensures more { OnOk result (MoreLinks links.old links.new) }
+    ensures linked { OnOk result (FrontLinked grammar.now.bare links.new rule) }
 {
     let _symbols = grammar.symbols();
     let r = grammar.rule(rule);
     let body = r.body();
-    if body.is_empty() {
-        false
-    } else {
-        opens.add_row(r.left(), body[0])
+    if !body.is_empty() {
+        links.push(body[0], r.left())?;
     }
+    Ok(())
 }
 
-/// Visits each rule, the last one first, and says whether any row grew.
-fn pass(grammar: &Grammar, opens: &mut Rows) -> bool
-    requires sized { HasRules grammar.now.bare grammar.now.bare.symbols opens.old }
-    requires sound { SoundOpens grammar.now.bare opens.old }
-    ensures sound { SoundOpens grammar.now.bare opens.new }
-    ensures grown { Grown opens.old opens.new result }
-    ensures closed { result ≡ false → OpensClosed grammar.now.bare opens.new }
+/// Such links for all rules.
+fn open_links(alloc: Global, grammar: &Grammar) -> Result<Links, AllocError>
+    ensures { IfOk result (λ l. AreOpenLinks grammar.now.bare l) }
 {
-    let rules = grammar.rules();
-    let mut grew = false;
-    for i in 0..rules {
-        grew |= visit(grammar, rules - 1 - i, opens);
-    }
-    grew
-}
-
-/// Visits each rule, the first one first.
-fn pass_on(grammar: &Grammar, opens: &mut Rows) -> bool
-    requires sized { HasRules grammar.now.bare grammar.now.bare.symbols opens.old }
-    requires sound { SoundOpens grammar.now.bare opens.old }
-    ensures sound { SoundOpens grammar.now.bare opens.new }
-    ensures grown { Grown opens.old opens.new result }
-{
-    let mut grew = false;
+    let mut links = Links::new(alloc, grammar.symbols())?;
     for r in 0..grammar.rules() {
-        grew |= visit(grammar, r, opens);
+        link_rule(grammar, r, &mut links)?;
     }
-    grew
+    Ok(links)
 }
 
 /// Rows in which each left side has its own rules.
@@ -77,9 +60,7 @@ pub fn opened_rules(alloc: Global, grammar: &Grammar) -> Result<Rows, AllocError
     ensures exact { IfOk result (λ m. IsOpens grammar.now.bare m) }
 {
     let mut opens = own_rules(alloc, grammar)?;
-    pass(grammar, &mut opens);
-    while pass(grammar, &mut opens) {
-        pass_on(grammar, &mut opens);
-    }
+    let links = open_links(alloc, grammar)?;
+    spread(alloc, &links, &mut opens)?;
     Ok(opens)
 }

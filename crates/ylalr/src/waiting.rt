@@ -1,6 +1,7 @@
 //! Numbers that wait: the one that waits longest is taken first, and none waits twice.
 
-ghost use Rattle.std.specs.Prelude.{ℕ, ◌≡◌, ◌<◌, ◌≤◌, [], ◌∷◌, length, IfOk, OnOk, MatchOption};
+ghost use Rattle.std.specs.Prelude.{ℕ, ◌≡◌, ◌<◌, ◌≤◌, [], ◌∷◌, length, All, IfOk, OnOk};
+ghost use Rattle.std.specs.Prelude.{MatchOption};
 ghost use Rattle.std.specs.List.{Contains};
 
 use crate::marks::Marks;
@@ -72,6 +73,22 @@ impl Waiting {
         if !self.marks.has(p) {
             self.queue.push_back(p)?;
             self.marks.mark(p);
+        }
+        Ok(())
+    }
+
+    /// Has each number of a list wait.
+    pub fn put_each(&mut self, list: &[usize]) -> Result<(), AllocError>
+        requires within { All (λ p. p < length self.old.marks) list.now }
+        requires few { length self.old.queue ≤ length self.old.marks }
+        ensures sized { OnOk result (length self.new.marks ≡ length self.old.marks) }
+        ensures few { OnOk result (length self.new.queue ≤ length self.new.marks) }
+        ensures there { OnOk result (All (λ p. Contains self.new.queue p) list.now) }
+        ensures kept { OnOk result
+            ((x : ℕ) → Contains self.old.queue x → Contains self.new.queue x) }
+    {
+        for p in list {
+            self.put(*p)?;
         }
         Ok(())
     }

@@ -1,5 +1,5 @@
-use Rattle.ylalr.proofs.FirstSteps.{first_complete}
+use Rattle.ylalr.proofs.FirstSteps.{first_spread}
 use Rattle.ylalr.proofs.first.first_tokens.Goals as goal
 
 pub returns-clause-exact : goal.returns-clause-exact
-returns-clause-exact c = first_complete c.args.grammar.now.bare c.args.nullable.now c.pass-in-loop-first.new.first c.requires.exact c.pass-in-loop-first.ensures.sound (c.pass-in-loop-first.ensures.closed c.loop-first-test.false) (λ t h. c.pass-in-loop-first.ensures.grown.grows t t (c.loop-first.invariant.tokens t h))
+returns-clause-exact c = first_spread c.args.grammar.now.bare c.args.nullable.now c.in_ok-links.links c.in_ok-first.first c.spread.new.rows c.requires.exact c.in_ok-links.ensures c.in_ok-first.ensures.sound c.in_ok-first.ensures.tokens c.in_ok-spread.ensures.exact

@@ -2,7 +2,8 @@ use Rattle.std.proofs.Common.{ℕ, ◌≡◌, ◌<◌, ◌∷◌, ◌∙◌, Lis
 use Rattle.ygrammar.specs.Grammar.{body_of}
 use Rattle.ylalr.specs.Draft.{DraftValue, SoundDraft, Further, PlaceIn}
 use Rattle.ylalr.specs.Rows.{IsSized}
-use Rattle.ylalr.proofs.DraftSteps.{rule_below, place_below, opens_none, opens_nowhere, opens_by, sound_begun, carries_open, sound_linked, sound_rows, link_there, link_kept}
+use Rattle.ylalr.proofs.DraftSteps.{rule_below, place_below, opens_none, opens_nowhere, opens_by, sound_begun, carries_open, sound_linked, sound_rows}
+use Rattle.ylalr.proofs.LinkSteps.{link_there, link_kept}
 use Rattle.ylalr.proofs.looks.open.Goals as goal
 
 pub symbol_after-requires : goal.symbol_after-requires
@@ -66,9 +67,8 @@ returns-in_ok-push-clause-further c =
     let pk : PlaceIn P h.state z.0 to = record { state = c.requires.here.state; at = z.1 } in
     let a = c.add_form.ensures in
     let hf = place_below P f fit h.state h.item h.row c.requires.here in
-    let ht = place_below P f fit h.state z.0 to pk in
     let n : DraftValue = record { looks = c.add_form.new.looks; links = c.push.new.self } in
-    subst (λ (v : DraftValue). Further v n) c.draft.view_is (record { looks = a.grows; links = λ p t l. link_kept P.places.total d.links c.push.new.self h.row to sd.links hf ht c.in_ok-push.ensures p t l })
+    subst (λ (v : DraftValue). Further v n) c.draft.view_is (record { looks = a.grows; links = λ p t l. link_kept d.links c.push.new.self h.row to (subst (λ k. h.row < k) (sym sd.links.sized) hf) c.in_ok-push.ensures p t l })
 
 pub returns-in_ok-push-clause-opens : goal.returns-in_ok-push-clause-opens
 returns-in_ok-push-clause-opens c =
@@ -85,9 +85,8 @@ returns-in_ok-push-clause-opens c =
     let pk : PlaceIn P h.state z.0 to = record { state = c.requires.here.state; at = z.1 } in
     let a = c.add_form.ensures in
     let hf = place_below P f fit h.state h.item h.row c.requires.here in
-    let ht = place_below P f fit h.state z.0 to pk in
     let n : DraftValue = record { looks = c.add_form.new.looks; links = c.push.new.self } in
-    opens_by P f fit n h z.0 c.in-Some.next to y e pk z.2 (record { begun = a.every; linked = λ _. link_there P.places.total d.links c.push.new.self h.row to sd.links hf ht c.in_ok-push.ensures })
+    opens_by P f fit n h z.0 c.in-Some.next to y e pk z.2 (record { begun = a.every; linked = λ _. link_there d.links c.push.new.self h.row to (subst (λ k. h.row < k) (sym sd.links.sized) hf) c.in_ok-push.ensures })
 
 pub returns-else-add_form-clause-sound : goal.returns-else-add_form-clause-sound
 returns-else-add_form-clause-sound c =

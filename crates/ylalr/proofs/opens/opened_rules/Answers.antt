@@ -1,6 +1,5 @@
-use Rattle.ygrammar.specs.Grammar.{left_of}
-use Rattle.ylalr.proofs.ClosureSteps.{opens_exact}
+use Rattle.ylalr.proofs.OpenSteps.{opens_spread}
 use Rattle.ylalr.proofs.opens.opened_rules.Goals as goal
 
 pub returns-clause-exact : goal.returns-clause-exact
-returns-clause-exact c = let g = c.args.grammar.now.bare in opens_exact g c.pass-in-loop-opens.new.opens c.pass-in-loop-opens.ensures.sound (λ r h. c.pass-in-loop-opens.ensures.grown.grows (left_of g r) r (c.loop-opens.invariant.own r h)) (c.pass-in-loop-opens.ensures.closed c.loop-opens-test.false)
+returns-clause-exact c = opens_spread c.args.grammar.now.bare c.in_ok-links.links c.in_ok-opens.opens c.spread.new.rows c.in_ok-links.ensures c.in_ok-opens.ensures.sound c.in_ok-opens.ensures.own c.in_ok-spread.ensures.exact

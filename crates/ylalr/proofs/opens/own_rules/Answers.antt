@@ -1,7 +1,7 @@
 use Rattle.std.proofs.Common.{ℕ, ◌≡◌, ◌∙◌, ◌⊎◌, ◌↔◌, ap, subst, length, arith}
 use Rattle.ygrammar.specs.Grammar.{Production, left_of}
 use Rattle.ylalr.specs.Rows.{Holds}
-use Rattle.ylalr.proofs.ClosureSteps.{sound_opens_own}
+use Rattle.ylalr.proofs.OpenSteps.{sound_opens_own}
 use Rattle.ylalr.proofs.FirstSteps.{own_more}
 use Rattle.ylalr.proofs.Growth.{sized_grown}
 use Rattle.ylalr.proofs.opens.own_rules.Goals as goal
