@@ -17,6 +17,7 @@ pub mod Live
 pub mod LookSteps
 pub mod NullableSteps
 pub mod OpenSteps
+pub mod OrderSteps
 pub mod PlaceSteps
 pub mod RowLemmas
 pub mod SearchSteps

@@ -4,6 +4,7 @@ use Rattle.std.proofs.Math.ListN.{set, length-set}
 use Rattle.std.proofs.lemmas.List.Elements.{Contains-push, Contains-push_cases, Contains-append_left}
 use Rattle.std.specs.List.{Contains, All}
 use Rattle.ylalr.specs.Links.{AreLinks, Linked}
+use Rattle.ylalr.proofs.ListSteps.{same_default}
 
 same_or : (x y : ℕ) → (x ≡ y) ⊎ (x ≢ y)
 same_or x y = grind arith
@@ -56,3 +57,6 @@ no_link l none p t h = let c = subst (λ xs. Contains xs t) (empty_at l p none) 
 
 pub are_links_none : (n : ℕ) (l : List (List ℕ)) → length l ≡ n → All (λ r. r ≡ []) l → AreLinks n l
 are_links_none n l e none = record { sized = e; within = λ p t h. absurd (no_link l none p t h) }
+
+pub links_below : (n : ℕ) (l : List (List ℕ)) (p : ℕ) → AreLinks n l → All (λ k. k < n) (get_or l p [])
+links_below n l p a k d h = a.within p (get_or (get_or l p []) k d) (k, h, same_default (get_or l p []) k (get_or (get_or l p []) k d) d h)

@@ -8,6 +8,7 @@ pub mod Links
 pub mod Looks
 pub mod Marks
 pub mod Nullable
+pub mod Order
 pub mod Parts
 pub mod Places
 pub mod Rows

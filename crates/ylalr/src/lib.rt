@@ -8,14 +8,18 @@
 //! (`buckets`) are the kernels of its gotos, and each state has a list of those by symbol
 //! (`gotos`).
 //!
-//! Lookaheads are rows of bits, one bit for each token (`rows`). In each state every item of the
-//! kernel has a row of its own, and the items of one left side with the dot at 0, whose
-//! lookaheads are the same, share one (`places`, `lefts`). One pass over the items (`looks`) puts
-//! into the row of the left side after a dot what the form behind it begins with, and links rows
-//! (`links`): an item's row to that of the item with its dot moved, in the goto's state, and to
-//! that of the left side after its dot, where the form behind vanishes. Then rows give along
-//! their links until none grows (`spread`): a row that grew waits in a queue, at most once, until
-//! it is taken from the front (`waiting`).
+//! What is passed on from one to another stands in rows of bits (`rows`), with links between the
+//! rows (`links`): rows give along their links until none grows (`spread`). A row that grew waits
+//! in a queue, at most once, until it is taken from the front (`waiting`); at first all wait, most
+//! in front of those to which they lead (`order`). So left sides get the first tokens of what
+//! their bodies can begin with, and the rules that the first symbols of their bodies open.
+//!
+//! Lookaheads go the same way, one bit for each token. In each state every item of the kernel has
+//! a row of its own, and the items of one left side with the dot at 0, whose lookaheads are the
+//! same, share one (`places`, `lefts`). One pass over the items (`looks`) puts into the row of the
+//! left side after a dot what the form behind it begins with, and links an item's row to that of
+//! the item with its dot moved, in the goto's state, and to that of the left side after its dot,
+//! where the form behind vanishes.
 //!
 //! Of the definitions in specs/, public clauses rest on `Collection`, `Gotos`, `Items` and
 //! `Sets`; the others are between modules.
@@ -35,6 +39,7 @@ mod looks;
 mod marks;
 mod nullable;
 mod opens;
+mod order;
 mod places;
 mod rows;
 mod spread;

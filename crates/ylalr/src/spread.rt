@@ -1,5 +1,5 @@
 //! Rows that give what they have along links, until nothing is new: a list of waiting rows, each
-//! taken from the front.
+//! taken from the front, which begins with rows in front of those to which they lead.
 
 ghost use Rattle.std.specs.Prelude.{◌≡◌, ◌<◌, ◌≤◌, [], length, slice_index_or, OnOk};
 ghost use Rattle.ylalr.specs.Rows.{IsSized};
@@ -7,6 +7,7 @@ ghost use Rattle.ylalr.specs.Links.{AreLinks, IsSpread};
 ghost use Rattle.ylalr.specs.Spread.{Gives};
 
 use crate::links::Links;
+use crate::order::order_of;
 use crate::rows::Rows;
 use crate::waiting::Waiting;
 use std::alloc::{AllocError, Global};
@@ -29,13 +30,16 @@ fn give(links: &Links, p: usize, rows: &mut Rows, waiting: &mut Waiting) -> Resu
 }
 
 /// Has each row give along its links, until no row grows any more. A row that grew waits until it
-/// is taken, at most once at a time, and the one that waits longest is taken first.
+/// is taken, at most once at a time, and the one that waits longest is taken first. At first all
+/// wait, in an order in which only links that lead back have rows given to that were taken.
 pub fn spread(alloc: Global, links: &Links, rows: &mut Rows) -> Result<(), AllocError>
     requires { AreLinks rows.old.height links.now }
     ensures sized { OnOk result (IsSized rows.old.height rows.old.width rows.new) }
     ensures exact { OnOk result (IsSpread links.now rows.old rows.new) }
 {
-    let mut waiting = Waiting::all(alloc, rows.height())?;
+    let count = rows.height();
+    let order = order_of(alloc, links, count)?;
+    let mut waiting = Waiting::from_back(alloc, count, &order)?;
     while let Some(p) = waiting.take() {
         give(links, p, rows, &mut waiting)?;
     }

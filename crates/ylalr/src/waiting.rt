@@ -49,6 +49,19 @@ impl Waiting {
         Ok(waiting)
     }
 
+    /// The numbers of a list, all below `n`, the last one first.
+    pub fn from_back(alloc: Global, n: usize, list: &[usize]) -> Result<Waiting, AllocError>
+        requires { All (λ p. p < n) list.now }
+        ensures sized { IfOk result (λ w. length w.marks ≡ n) }
+        ensures every { IfOk result (λ w. (p : ℕ) → Contains list.now p → Contains w.queue p) }
+    {
+        let mut waiting = Waiting::none(alloc, n)?;
+        for i in 0..list.len() {
+            waiting.put(list[list.len() - 1 - i])?;
+        }
+        Ok(waiting)
+    }
+
     /// Takes the number that waits longest; from then on it can be put back.
     pub fn take(&mut self) -> Option<usize>
         ensures sized { length self.new.marks ≡ length self.old.marks }
