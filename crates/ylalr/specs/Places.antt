@@ -2,6 +2,7 @@
 use Rattle.std.specs.Prelude.{ℕ, ◌≡◌, ◌<◌, ◌≤◌, ◌+◌, ◌⊎◌, List, [], length, slice_index_or, slice_set, Option, Some, None, MatchOption}
 use Rattle.ygrammar.specs.Grammar.{ContextFree, left_of}
 use Rattle.ylalr.specs.declared.items.Item.{Item}
+use Rattle.ylalr.specs.Rows.{BitRows, Holds, IsSized}
 use Rattle.ylalr.specs.States.{StateLists, set_at}
 
 -- the rows of the items of each state, and how many rows there are
@@ -45,6 +46,11 @@ pub record AreLefts (g : ContextFree) (items : List Item) (rows : List ℕ) (lef
   pub sized : length lefts ≡ g.symbols
   pub found : (s p : ℕ) → slice_index_or lefts s None ≡ Some p → (i : Item) × At items rows i p × Opened g s i
   pub every : (i : Item) (p : ℕ) → At items rows i p → i.dot ≡ 0 → slice_index_or lefts (left_of g i.rule) None ≡ Some p
+
+-- the row of bits has each symbol that has a row
+pub record HasUsed (lefts : List (Option ℕ)) (m : BitRows) : Type 0 where
+  pub sized : IsSized 1 (length lefts) m
+  pub empty : (s : ℕ) → (Holds m 0 s → ⊥) → slice_index_or lefts s None ≡ None
 
 -- the item i gets the row p: that of its left side, or a fresh one, which the left side of an item with the dot at 0 then has
 abbrev pub TakesRow : ContextFree → Item → ℕ → List (Option ℕ) → List (Option ℕ) → ℕ → Type 0

@@ -1,38 +1,60 @@
 //! The rows that the left sides of one state have: each is that of all items of the left side
 //! with the dot at 0.
 
-ghost use Rattle.std.specs.Prelude.{ℕ, ◌≡◌, ◌<◌, Some, None, length, slice_index_or, slice_set};
+ghost use Rattle.std.specs.Prelude.{ℕ, ◌≡◌, ◌<◌, ◌≤◌, Some, None, length, slice_index_or, slice_set};
 ghost use Rattle.std.specs.Prelude.{IfOk};
 ghost use Rattle.ygrammar.specs.Grammar.{left_of};
 ghost use Rattle.ylalr.specs.Places.{AreLefts, AreRows, TakesRow};
 ghost use Rattle.ylalr.specs.Sets.{InRange};
 
 use crate::items::Item;
+use crate::rows::Rows;
 use std::alloc::{AllocError, Global};
 use std::marker::Model;
 use ygrammar::{Grammar, Sym};
 
-/// For each symbol the row of the items that it is the left side of.
+/// For each symbol the row of the items that it is the left side of, and a row of bits with all
+/// symbols that have one: there are many more symbols than left sides in a state.
 #[derive(Drop)]
 pub struct Lefts {
     rows: Vec<Option<usize>>,
+    used: Rows,
 }
 
 impl Model for Lefts {
     ghost use Rattle.std.specs.Prelude.{ℕ, List, Option};
+    ghost use Rattle.ylalr.specs.Places.{HasUsed};
 
     ghost Value = { List (Option ℕ) };
 
     ghost view = { λ l. l.rows.items };
+
+    ghost invariant = { λ l. HasUsed l.rows.items l.used };
 }
 
 impl Lefts {
     /// No rows, for so many symbols.
     pub fn new(alloc: Global, symbols: usize) -> Result<Lefts, AllocError>
+        requires { symbols ≤ 8192 }
         ensures { IfOk result (λ l. length l ≡ symbols) }
     {
         let rows = vec![in alloc; None; symbols]?;
-        Ok(Lefts { rows })
+        let used = Rows::new(alloc, 1, symbols)?;
+        Ok(Lefts { rows, used })
+    }
+
+    /// A symbol behind `s`, such that none between has a row.
+    fn after(&self, s: Sym) -> Sym
+        requires { s < length self.now }
+        ensures further { s < result }
+        ensures within { result ≤ length self.now }
+        ensures none { (k : ℕ) → s < k → k < result → slice_index_or self.now k None ≡ None }
+    {
+        if self.used.has(0, s) {
+            s + 1
+        } else {
+            self.used.after(0, s)
+        }
     }
 
     /// Forgets all rows.
@@ -40,7 +62,12 @@ impl Lefts {
         ensures sized { length self.new ≡ length self.old }
         ensures empty { (s : ℕ) → slice_index_or self.new s None ≡ None }
     {
-        self.rows.fill(None);
+        let mut s = 0;
+        while s < self.rows.len() {
+            self.rows[s] = None;
+            s = self.after(s);
+        }
+        self.used.clear();
     }
 
     /// The row of the items with this left side.
@@ -56,6 +83,7 @@ impl Lefts {
         requires { s < length self.old }
         ensures { self.new ≡ slice_set self.old s (Some row) }
     {
+        self.used.mark(0, s);
         self.rows[s] = Some(row);
     }
 
