@@ -1,10 +1,9 @@
 //! Runs of `yacc` on files.
 
 use std::alloc::Global;
-use std::fs;
-use std::io;
 use std::os::unix::fs::symlink;
 use std::test::Fail;
+use std::{fs, io};
 use ycli::generator::yacc_run;
 use ytables::Link;
 
