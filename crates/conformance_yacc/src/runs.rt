@@ -1,8 +1,9 @@
 //! Runs of `yacc` on files.
 
 use std::alloc::Global;
-use std::fs;
+use std::os::unix::fs::symlink;
 use std::test::Fail;
+use std::{fs, io};
 use ycli::generator::yacc_run;
 use ytables::Link;
 
@@ -117,5 +118,25 @@ fn files_are_refused(rt: HostRuntime) -> Result<(), Fail> {
         )
     );
     assert!(rt; ends(&rt, &["yacc", "/dev/zero"], 1, b"yacc: G1\n"));
+    Ok(())
+}
+
+/// Links the path to a device that takes no byte.
+fn fill(rt: &HostRuntime, path: &str) -> io::Result<()> {
+    let _ = fs::remove_file(rt, path);
+    symlink(rt, "/dev/full", path)
+}
+
+#[test]
+fn a_full_device_is_told(rt: HostRuntime) -> Result<(), Fail> {
+    fs::write(&rt, "full.y", "%% s : 'x' ;\n")?;
+    fill(&rt, "full.tab")?;
+    let told = b"yacc: cannot write full.tab\n";
+    assert!(rt; ends(&rt, &["yacc", "-v", "-b", "full", "full.y"], 3, told));
+    assert!(rt; fs::read(&rt, "full.output").is_err());
+    fill(&rt, "half.output")?;
+    let told = b"yacc: cannot write half.output\n";
+    assert!(rt; ends(&rt, &["yacc", "-v", "-b", "half", "full.y"], 3, told));
+    assert_eq!(rt; fs::read(&rt, "half.tab")?.as_slice(), TABLE);
     Ok(())
 }

@@ -2,7 +2,8 @@
 use Rattle.std.specs.Prelude.{ℕ, ◌≡◌, List, Some, codes, is_some, true, false, unwrap_or}
 use Rattle.std.specs.Option.{option_map_or}
 use Rattle.std.specs.Str.{bytes_eq}
-use Rattle.clap.specs.Words.{App, Rule, new_app, new_rule, with_rule, matches_of, first_of, first_value, found_of}
+use Rattle.clap.specs.Words.{App, Rule, new_app, new_rule, with_rule, matches_of, first_of}
+use Rattle.clap.specs.Words.{first_value, found_of}
 use Rattle.clap.specs.declared.parser.matches.ArgMatches.{ArgMatches}
 use Rattle.clap.specs.declared.builder.action.ArgAction.TheVariants.{Set, SetTrue}
 use Rattle.ycli.specs.declared.arguments.YstepWords.{YstepWords}
@@ -14,7 +15,9 @@ wanted id = record (new_rule id) { action = Some Set; required = true }
 
 -- `ystep grammar tokens`
 unfoldable pub ystep_app : App
-ystep_app = with_rule (with_rule (new_app (codes "ystep")) (wanted (codes "grammar"))) (wanted (codes "tokens"))
+ystep_app =
+    with_rule (with_rule (new_app (codes "ystep")) (wanted (codes "grammar")))
+    (wanted (codes "tokens"))
 
 -- the paths are the values that these words give the two arguments
 abbrev pub ArePathsIn : List (List ℕ) → YstepWords → Type 0
@@ -24,7 +27,9 @@ ArePathsIn words paths =
 
 -- a value was found for each of the two
 abbrev pub HasBoth : ArgMatches → Type 0
-HasBoth found = (is_some (first_value (found_of found) (codes "grammar")) ≡ true) × (is_some (first_value (found_of found) (codes "tokens")) ≡ true)
+HasBoth found =
+    (is_some (first_value (found_of found) (codes "grammar")) ≡ true)
+    × (is_some (first_value (found_of found) (codes "tokens")) ≡ true)
 
 -- a flag of one letter, with a value or without
 abbrev pub lettered : List ℕ → ℕ → Rule
@@ -36,13 +41,16 @@ flagged id letter = record (new_rule id) { action = Some SetTrue; short = Some l
 -- `yacc [-v] [-b prefix] grammar`: 118 is `v`, 98 is `b`
 unfoldable pub yacc_app : App
 yacc_app =
-    with_rule (with_rule (with_rule (new_app (codes "yacc")) (flagged (codes "verbose") 118)) (lettered (codes "prefix") 98)) (wanted (codes "grammar"))
+    with_rule (with_rule (with_rule (new_app (codes "yacc")) (flagged (codes "verbose") 118))
+    (lettered (codes "prefix") 98)) (wanted (codes "grammar"))
 
 -- what these words give: a grammar, a prefix or else `y`, and whether the flag stands among them
 pub record AreYaccWordsIn (words : List (List ℕ)) (said : YaccWords) : Type 0 where
   pub grammar : first_of (codes "grammar") (matches_of yacc_app words) ≡ Some said.grammar.now
-  pub prefix : said.prefix.now ≡ unwrap_or (first_of (codes "prefix") (matches_of yacc_app words)) (codes "y")
-  pub verbose : said.verbose ≡ option_map_or (λ word. bytes_eq word (codes "true")) (first_of (codes "verbose") (matches_of yacc_app words)) false
+  pub prefix : said.prefix.now ≡ unwrap_or (first_of (codes "prefix") (matches_of yacc_app words))
+      (codes "y")
+  pub verbose : said.verbose ≡ option_map_or (λ word. bytes_eq word (codes "true"))
+      (first_of (codes "verbose") (matches_of yacc_app words)) false
 
 -- a value was found for the grammar
 abbrev pub HasGrammar : ArgMatches → Type 0

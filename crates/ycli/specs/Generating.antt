@@ -10,7 +10,9 @@ use Rattle.ytables.specs.Report.{report_of}
 use Rattle.ycli.specs.declared.arguments.YaccWords.{YaccWords}
 use Rattle.ycli.specs.declared.message.Program.TheVariants.{Yacc}
 use Rattle.ycli.specs.declared.message.Trouble.{Trouble}
-use Rattle.ycli.specs.declared.message.Trouble.TheVariants.{Usage, Grammar, Tokens, TooManySets, NoMemory, CannotRead, CannotWrite, Session}
+use Rattle.ycli.specs.declared.message.Trouble.TheVariants.{Usage, Grammar, Tokens, TooManySets}
+use Rattle.ycli.specs.declared.message.Trouble.TheVariants.{NoMemory, CannotRead, CannotWrite}
+use Rattle.ycli.specs.declared.message.Trouble.TheVariants.{Session}
 use Rattle.ycli.specs.declared.generator.Done.{Done}
 use Rattle.ycli.specs.declared.generator.Done.TheVariants.{Helped, Wrote}
 use Rattle.ycli.specs.declared.generator.Text.{Text}
@@ -19,7 +21,8 @@ use Rattle.ycli.specs.declared.generator.Request.{Request}
 use Rattle.ycli.specs.declared.generator.Request.TheVariants as requests
 use Rattle.ycli.specs.Arguments.{yacc_app, AreYaccWordsIn}
 use Rattle.ycli.specs.Messages.{message, conflicts_line}
-use Rattle.ycli.specs.Programs.{AreMistaken, AreTablesOf, AreTaken, AskHelp, GrammarFails, Says, status}
+use Rattle.ycli.specs.Programs.{AreMistaken, AreTablesOf, AreTaken, AskHelp, GrammarFails, Says}
+use Rattle.ycli.specs.Programs.{status}
 
 -- the text of a file that is written
 abbrev pub text_of : Tables → Guide → Text → List ℕ
@@ -64,7 +67,8 @@ WriteFails said (Session fault) = ⊥
 
 -- why no files were written for these words
 abbrev pub FilesFail : YaccWords → Trouble → Type 0
-FilesFail said (CannotWrite prefix ending) = (prefix ≡ said.prefix) × ((source : List ℕ) × (t : Tables) × AreTablesOf source t)
+FilesFail said (CannotWrite prefix ending) =
+    (prefix ≡ said.prefix) × ((source : List ℕ) × (t : Tables) × AreTablesOf source t)
 FilesFail said (Grammar fault) = GrammarFails said.grammar (Grammar fault)
 FilesFail said TooManySets = GrammarFails said.grammar TooManySets
 FilesFail said NoMemory = Unit {0}
@@ -77,14 +81,19 @@ module _ {W : Type 0} (words : List (List ℕ)) (w : W) (writer : Link W) where
   -- A run over these words ended so; but for help, nothing went to the writer.
   abbrev pub EndsIn : Result Done Trouble → Type 0
   EndsIn (Ok Helped) = AskHelp yacc_app words
-  EndsIn (Ok (Wrote counts)) = ((said : YaccWords) × Said words said) × Generates counts × (device_of writer ≡ w)
+  EndsIn (Ok (Wrote counts)) = ((said : YaccWords) × Said words said) × Generates counts
+      × (device_of writer ≡ w)
   EndsIn (Err Usage) = AreMistaken yacc_app words × (device_of writer ≡ w)
   EndsIn (Err NoMemory) = device_of writer ≡ w
-  EndsIn (Err (Grammar fault)) = ((said : YaccWords) × Said words said × FilesFail said (Grammar fault)) × (device_of writer ≡ w)
-  EndsIn (Err TooManySets) = ((said : YaccWords) × Said words said × FilesFail said TooManySets) × (device_of writer ≡ w)
-  EndsIn (Err (CannotRead path)) = ((said : YaccWords) × Said words said × FilesFail said (CannotRead path)) × (device_of writer ≡ w)
+  EndsIn (Err (Grammar fault)) = ((said : YaccWords) × Said words said × FilesFail said
+      (Grammar fault)) × (device_of writer ≡ w)
+  EndsIn (Err TooManySets) = ((said : YaccWords) × Said words said × FilesFail said TooManySets)
+      × (device_of writer ≡ w)
+  EndsIn (Err (CannotRead path)) = ((said : YaccWords) × Said words said × FilesFail said
+      (CannotRead path)) × (device_of writer ≡ w)
   EndsIn (Err (CannotWrite prefix ending)) =
-      ((said : YaccWords) × Said words said × FilesFail said (CannotWrite prefix ending)) × (device_of writer ≡ w)
+      ((said : YaccWords) × Said words said × FilesFail said (CannotWrite prefix ending))
+      × (device_of writer ≡ w)
   EndsIn (Err (Tokens fault)) = ⊥
   EndsIn (Err (Session fault)) = ⊥
 

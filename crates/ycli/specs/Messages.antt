@@ -1,5 +1,6 @@
 -- The line that a program writes to standard error.
-use Rattle.std.specs.Prelude.{ℕ, ◌++◌, ◌==◌, ◌&&◌, [], List, decimal, codes, Option, Some, None, if◌then◌else◌}
+use Rattle.std.specs.Prelude.{ℕ, ◌++◌, ◌==◌, ◌&&◌, [], List, decimal, codes, Option, Some, None}
+use Rattle.std.specs.Prelude.{if◌then◌else◌}
 use Rattle.ygrammar.specs.declared.fault.GrammarFault.{GrammarFault}
 use Rattle.ygrammar.specs.declared.fault.GrammarFault.TheVariants as grammars
 use Rattle.ycli.specs.declared.tokens.TokenFault.{TokenFault}
@@ -10,7 +11,9 @@ use Rattle.ytables.specs.declared.tables.Counts.{Counts}
 use Rattle.ycli.specs.declared.message.Program.{Program}
 use Rattle.ycli.specs.declared.message.Program.TheVariants.{Yacc, Ystep}
 use Rattle.ycli.specs.declared.message.Trouble.{Trouble}
-use Rattle.ycli.specs.declared.message.Trouble.TheVariants.{Usage, Grammar, Tokens, TooManySets, NoMemory, CannotRead, CannotWrite, Session}
+use Rattle.ycli.specs.declared.message.Trouble.TheVariants.{Usage, Grammar, Tokens, TooManySets}
+use Rattle.ycli.specs.declared.message.Trouble.TheVariants.{NoMemory, CannotRead, CannotWrite}
+use Rattle.ycli.specs.declared.message.Trouble.TheVariants.{Session}
 
 abbrev pub name_of : Program → List ℕ
 name_of Yacc = codes "yacc"
@@ -77,7 +80,8 @@ session_word streams.Write = codes "write fault"
 -- the program, what it says, and where
 abbrev pub said : Program → List ℕ → List ℕ → Option ℕ → List ℕ
 said p what where_ None = name_of p ++ (codes ": " ++ (what ++ codes "\n"))
-said p what where_ (Some n) = name_of p ++ (codes ": " ++ (what ++ (where_ ++ (decimal n ++ codes "\n"))))
+said p what where_ (Some n) =
+    name_of p ++ (codes ": " ++ (what ++ (where_ ++ (decimal n ++ codes "\n"))))
 
 abbrev pub message : Program → Trouble → List ℕ
 message p Usage = usage_of p
@@ -94,4 +98,5 @@ message p (Session fault) = said p (session_word fault) [] None
 abbrev pub conflicts_line : Counts → List ℕ
 conflicts_line c =
     if c.shift_reduce == 0 && c.reduce_reduce == 0 then []
-    else codes "conflicts: " ++ (decimal c.shift_reduce ++ (codes " shift/reduce, " ++ (decimal c.reduce_reduce ++ codes " reduce/reduce\n")))
+    else codes "conflicts: " ++ (decimal c.shift_reduce
+    ++ (codes " shift/reduce, " ++ (decimal c.reduce_reduce ++ codes " reduce/reduce\n")))

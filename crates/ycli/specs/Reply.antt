@@ -1,5 +1,7 @@
 -- What a command replies, and the history that it leaves.
-use Rattle.std.specs.Prelude.{ℕ, suc, ◌≡◌, Bool, true, false, List, [], ◌∷◌, ◌++◌, length, map, flat_map, decimal, codes, if◌then◌else◌, Result, Ok, Err, Option, Some, None}
+use Rattle.std.specs.Prelude.{ℕ, suc, ◌≡◌, Bool, true, false, List, [], ◌∷◌, ◌++◌, length, map}
+use Rattle.std.specs.Prelude.{flat_map, decimal, codes, if◌then◌else◌, Result, Ok, Err, Option}
+use Rattle.std.specs.Prelude.{Some, None}
 use Prim.Native.Nat.{zero}
 use Rattle.ycli.specs.declared.machine.Mode.{Mode}
 use Rattle.ycli.specs.declared.machine.Mode.TheVariants.{Running, Popping, Accepted, Failed}
@@ -38,7 +40,8 @@ kind_tail m kinds.Fail = []
 
 -- a position, a separator, the words of a step
 abbrev pub step_line : Machine → ℕ → List ℕ → StepKind → List ℕ
-step_line m at between kind = decimal at ++ (between ++ (kind_word kind ++ (kind_tail m kind ++ codes "\n")))
+step_line m at between kind =
+    decimal at ++ (between ++ (kind_word kind ++ (kind_tail m kind ++ codes "\n")))
 
 -- what a refused step writes
 abbrev pub refusal : StepFault → List ℕ
@@ -51,11 +54,13 @@ abbrev pub step_text : Machine → History → Result StepKind StepFault → Lis
 step_text m new (Ok kind) = step_line m (position new) (codes " ") kind
 step_text m new (Err fault) = refusal fault
 
--- the lines of at most n undos, each with the position after it; `at start` only where none was made
+-- the lines of at most n undos, each with the position after it; `at start` only where none was
+-- made
 abbrev pub undo_text : Machine → ℕ → Bool → List (StepKind × Configuration) → List ℕ
 undo_text m zero made past = []
 undo_text m (suc n) made [] = if made then [] else codes "at start\n"
-undo_text m (suc n) made (s ∷ past) = step_line m (length past) (codes " undo ") s.0 ++ undo_text m n true past
+undo_text m (suc n) made (s ∷ past) =
+    step_line m (length past) (codes " undo ") s.0 ++ undo_text m n true past
 
 -- the history after at most n undos
 abbrev pub undone : ℕ → Configuration → List (StepKind × Configuration) → History
@@ -84,27 +89,40 @@ abbrev pub shown_rest : Machine → History → List ℕ
 shown_rest m h = spaced m (map (λ token. token.0) h.now.rest)
 
 abbrev pub shown_counts : History → List ℕ
-shown_counts h = codes "\ncounter: " ++ (decimal h.now.counter ++ (codes "\nerrors: " ++ (decimal h.now.errors ++ codes "\n")))
+shown_counts h =
+    codes "\ncounter: " ++ (decimal h.now.counter
+    ++ (codes "\nerrors: " ++ (decimal h.now.errors ++ codes "\n")))
 
 -- the five lines of a configuration
 abbrev pub shown : Machine → History → List ℕ
-shown m h = shown_head h ++ (shown_stack m h ++ (codes "\nrest:" ++ (shown_rest m h ++ shown_counts h)))
+shown m h =
+    shown_head h ++ (shown_stack m h ++ (codes "\nrest:" ++ (shown_rest m h ++ shown_counts h)))
 
--- Where history h is, the command may reply this text and leave the history new. `quit` has no reply.
+-- Where history h is, the command may reply this text and leave the history new. `quit` has no
+-- reply.
 abbrev pub Reply : Machine → History → Command → List ℕ → History → Type 0
-Reply m h Step text new = (result : Result StepKind StepFault) × Steps m h result new × (text ≡ step_text m new result)
+Reply m h Step text new =
+    (result : Result StepKind StepFault) × Steps m h result new × (text ≡ step_text m new result)
 Reply m h (Back n) text new = (text ≡ undo_text m n false h.past) × (new ≡ undone n h.now h.past)
 Reply m h Show text new = (text ≡ shown m h) × (new ≡ h)
 Reply m h Quit text new = ⊥
 Reply m h Unknown text new = (text ≡ codes "unknown command\n") × (new ≡ h)
 
--- A reply to the command was sent, and the history is as it leaves it; or a beginning of one, where the link failed.
-abbrev pub Answers : {W : Type 0} → (W → Option (List ℕ)) → Link W → Link W → Bool → Machine → History → Command → History → Type 0
-Answers contents old new true m h command now = (text : List ℕ) × Reply m h command text now × Sends contents old new true text
-Answers contents old new false m h command now = (text : List ℕ) × (left : History) × Reply m h command text left × Sends contents old new false text
+-- A reply to the command was sent, and the history is as it leaves it; or a beginning of one, where
+-- the link failed.
+abbrev pub Answers : {W : Type 0} → (W → Option (List ℕ)) → Link W → Link W → Bool → Machine
+    → History → Command → History → Type 0
+Answers contents old new true m h command now =
+    (text : List ℕ) × Reply m h command text now × Sends contents old new true text
+Answers contents old new false m h command now =
+    (text : List ℕ) × (left : History) × Reply m h command text left × Sends contents old new false
+    text
 
 -- A line was answered; or it is `quit`, and nothing was written; or a beginning of its reply was.
-abbrev pub AnswersLine : {W : Type 0} → (W → Option (List ℕ)) → Link W → Link W → Option Bool → Machine → History → Command → History → Type 0
-AnswersLine contents old new (Some true) m h command now = Answers contents old new true m h command now
-AnswersLine contents old new (Some false) m h command now = (command ≡ Quit) × (now ≡ h) × (new ≡ old)
+abbrev pub AnswersLine : {W : Type 0} → (W → Option (List ℕ)) → Link W → Link W → Option Bool
+    → Machine → History → Command → History → Type 0
+AnswersLine contents old new (Some true) m h command now =
+    Answers contents old new true m h command now
+AnswersLine contents old new (Some false) m h command now =
+    (command ≡ Quit) × (now ≡ h) × (new ≡ old)
 AnswersLine contents old new None m h command now = Answers contents old new false m h command now

@@ -1,5 +1,6 @@
 -- What a session writes: the words that its promise is read by.
-use Rattle.std.specs.Prelude.{ℕ, ◌≡◌, ◌⊎◌, Bool, true, false, List, [], ◌∷◌, ◌++◌, Option, Some, Result, Ok, Err}
+use Rattle.std.specs.Prelude.{ℕ, ◌≡◌, ◌⊎◌, Bool, true, false, List, [], ◌∷◌, ◌++◌, Option, Some}
+use Rattle.std.specs.Prelude.{Result, Ok, Err}
 use Rattle.std.specs.Io.KnownBytes.{Appends, Consumes}
 use Rattle.ycli.specs.declared.fault.SessionFault.{SessionFault}
 use Rattle.ycli.specs.declared.fault.SessionFault.TheVariants as faults
@@ -11,24 +12,32 @@ use Rattle.ycli.specs.Command.{command_of}
 use Rattle.ycli.specs.Lines.{IsCut, AreLines}
 use Rattle.ycli.specs.Reply.{Reply}
 
--- From history h, a text of a session for these lines: the replies, one after another, each from the history that the one before
+-- From history h, a text of a session for these lines: the replies, one after another, each from
+-- the history that the one before
 -- left, up to a `quit` or to the end.
 abbrev pub Transcript : Machine → History → List (List ℕ) → List ℕ → Type 0
 Transcript m h [] text = text ≡ []
 Transcript m h (line ∷ lines) text =
     ((command_of line ≡ Quit) × (text ≡ []))
-    ⊎ ((reply : List ℕ) × (more : List ℕ) × (mid : History) × Reply m h (command_of line) reply mid × (text ≡ reply ++ more) × Transcript m mid lines more)
+    ⊎ ((reply : List ℕ) × (more : List ℕ) × (mid : History) × Reply m h (command_of line) reply mid
+    × (text ≡ reply ++ more) × Transcript m mid lines more)
 
--- What was written from history h on, where the input and what the writer held are known: a text of the session for the input; after
--- a failed read one for the lines whose newline was read; after a failed write a beginning of one for the input.
-abbrev pub Tells : Machine → History → List ℕ → Option (List ℕ) → Option (List ℕ) → Option (List ℕ) → Result (Unit {0}) SessionFault → Type 0
+-- What was written from history h on, where the input and what the writer held are known: a text of
+-- the session for the input; after
+-- a failed read one for the lines whose newline was read; after a failed write a beginning of one
+-- for the input.
+abbrev pub Tells : Machine → History → List ℕ → Option (List ℕ) → Option (List ℕ) → Option (List ℕ)
+    → Result (Unit {0}) SessionFault → Type 0
 Tells m h input left old new (Ok done) =
-    (lines : List (List ℕ)) × (text : List ℕ) × AreLines input lines × Transcript m h lines text × Appends old new text
+    (lines : List (List ℕ)) × (text : List ℕ) × AreLines input lines × Transcript m h lines text
+    × Appends old new text
 Tells m h input left old new (Err faults.Read) =
     (taken : List ℕ) × (lines : List (List ℕ)) × (rest : List ℕ) × (text : List ℕ)
-    × Consumes (Some input) left taken × IsCut taken lines rest × Transcript m h lines text × Appends old new text
+    × Consumes (Some input) left taken × IsCut taken lines rest × Transcript m h lines text
+    × Appends old new text
 Tells m h input left old new (Err faults.Write) =
-    (lines : List (List ℕ)) × (text : List ℕ) × AreLines input lines × Transcript m h lines text × Begins old new text
+    (lines : List (List ℕ)) × (text : List ℕ) × AreLines input lines × Transcript m h lines text
+    × Begins old new text
 
 -- whether the fault is that of the reader, or of the writer
 abbrev pub failed_read : Result (Unit {0}) SessionFault → Bool

@@ -7,7 +7,8 @@ ghost use Rattle.std.specs.Str.{bytes_eq};
 ghost use Rattle.clap.specs.Words.{FailsBy, IsParsedFrom, app_of, fault_of, kind_of, takes};
 ghost use Rattle.clap.specs.declared.error.kind.ErrorKind.TheVariants.{OutOfMemory};
 ghost use Rattle.clap.specs.declared.parser.matches.ArgMatches.{ArgMatches};
-ghost use Rattle.ycli.specs.Arguments.{ystep_app, yacc_app, ArePathsIn, AreYaccWordsIn, HasBoth, HasGrammar};
+ghost use Rattle.ycli.specs.Arguments.{ystep_app, yacc_app, ArePathsIn, AreYaccWordsIn, HasBoth};
+ghost use Rattle.ycli.specs.Arguments.{HasGrammar};
 
 use clap::{Arg, ArgAction, Command, Error};
 use std::alloc::{AllocError, Global};
@@ -39,7 +40,8 @@ impl<'a> YstepWords<'a> {
 #[tactic(auto, unfolding(crate::specs::Arguments::ystep_app))]
 fn ystep_command<'a>(alloc: Global) -> Result<Command<'a>, AllocError>
     ensures app { IfOk result (λ command. app_of command ≡ ystep_app) }
-    ensures both { IfOk result (λ command. (found : ArgMatches) → IsParsedFrom command found → HasBoth found) }
+    ensures both { IfOk result (λ command. (found : ArgMatches) → IsParsedFrom command found
+        → HasBoth found) }
 {
     let grammar = Arg::new(alloc, "grammar")
         .required(true)
@@ -57,11 +59,13 @@ fn ystep_command<'a>(alloc: Global) -> Result<Command<'a>, AllocError>
 
 /// Reads the words of `ystep`, the program's name first among them.
 ///
-/// The error is that of the command line's own crate: a request for help, a mistake in the words, or want of memory.
+/// The error is that of the command line's own crate: a request for help, a mistake in the words,
+/// or want of memory.
 pub fn ystep_words<'a>(alloc: Global, words: &'a [&'a str]) -> Result<YstepWords<'a>, Error>
     // The paths are the values that the words give the two arguments.
     ensures paths { IfOk result (ArePathsIn (map (λ word. word.now) words.entry.now)) }
-    // An error is the first fault of the words or want of memory, and words with a fault are refused.
+    // An error is the first fault of the words or want of memory, and words with a fault are
+    // refused.
     ensures faults { FailsBy (fault_of ystep_app (map (λ word. word.now) words.entry.now)) result }
     // Where the command line takes the words, want of memory is the one error.
     ensures taken { IfErr result (λ e.
@@ -73,7 +77,8 @@ pub fn ystep_words<'a>(alloc: Global, words: &'a [&'a str]) -> Result<YstepWords
     Ok(YstepWords { grammar, tokens })
 }
 
-/// The words of `yacc`: the path of a grammar file, the prefix of the files to write, and whether a report is wanted.
+/// The words of `yacc`: the path of a grammar file, the prefix of the files to write, and whether a
+/// report is wanted.
 #[derive(Clone, Copy, Debug)]
 pub struct YaccWords<'a> {
     grammar: &'a str,
@@ -108,7 +113,8 @@ impl<'a> YaccWords<'a> {
 #[tactic(auto, unfolding(crate::specs::Arguments::yacc_app))]
 fn yacc_command<'a>(alloc: Global) -> Result<Command<'a>, AllocError>
     ensures app { IfOk result (λ command. app_of command ≡ yacc_app) }
-    ensures given { IfOk result (λ command. (found : ArgMatches) → IsParsedFrom command found → HasGrammar found) }
+    ensures given { IfOk result (λ command. (found : ArgMatches) → IsParsedFrom command found
+        → HasGrammar found) }
 {
     let verbose = Arg::new(alloc, "verbose")
         .short('v')
@@ -131,7 +137,8 @@ fn yacc_command<'a>(alloc: Global) -> Result<Command<'a>, AllocError>
 
 /// Whether the value of a flag says that it was given.
 fn is_set(value: Option<&str>) -> bool
-    ensures { result ≡ option_map_or (λ (word : Bor (List ℕ)). bytes_eq word.now (codes "true")) value.entry false }
+    ensures { result ≡ option_map_or (λ (word : Bor (List ℕ)). bytes_eq word.now (codes "true"))
+        value.entry false }
 {
     match value {
         Some(word) => word == "true",
@@ -141,11 +148,13 @@ fn is_set(value: Option<&str>) -> bool
 
 /// Reads the words of `yacc`, the program's name first among them.
 ///
-/// The error is that of the command line's own crate: a request for help, a mistake in the words, or want of memory.
+/// The error is that of the command line's own crate: a request for help, a mistake in the words,
+/// or want of memory.
 pub fn yacc_words<'a>(alloc: Global, words: &'a [&'a str]) -> Result<YaccWords<'a>, Error>
     // The values are those that the words give.
     ensures values { IfOk result (AreYaccWordsIn (map (λ word. word.now) words.entry.now)) }
-    // An error is the first fault of the words or want of memory, and words with a fault are refused.
+    // An error is the first fault of the words or want of memory, and words with a fault are
+    // refused.
     ensures faults { FailsBy (fault_of yacc_app (map (λ word. word.now) words.entry.now)) result }
     // Where the command line takes the words, want of memory is the one error.
     ensures taken { IfErr result (λ e.

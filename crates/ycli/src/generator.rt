@@ -4,7 +4,8 @@ ghost use Rattle.std.specs.Prelude.{◌≡◌, IfOk, IfErr, map, is_some};
 ghost use Rattle.ylalr.specs.Collection.{Guide, IsGuide};
 ghost use Rattle.ytables.specs.Link.{device_of};
 ghost use Rattle.ytables.specs.Sends.{Grows, Sends};
-ghost use Rattle.ycli.specs.Generating.{Asks, EndsIn, FilesFail, Generates, Runs, WriteFails, said_of, text_of};
+ghost use Rattle.ycli.specs.Generating.{Asks, EndsIn, FilesFail, Generates, Runs, WriteFails};
+ghost use Rattle.ycli.specs.Generating.{said_of, text_of};
 
 use crate::arguments::{YaccWords, yacc_words};
 use crate::files::tables_of;
@@ -85,7 +86,8 @@ fn request_of<'a>(alloc: Global, words: &'a [&'a str]) -> Result<Request<'a>, Tr
 /// Writes a text whole, or a beginning of it where the link failed.
 fn put_text<W: Write>(tables: &Tables, text: Text, link: &mut Link<W>) -> Option<()>
     ensures { (u : Guide) → IsGuide tables.now.built u
-        → Grows (W.contents (device_of link.old)) (W.contents (device_of link.new)) (is_some result) (text_of tables.now u text) }
+        → Grows (W.contents (device_of link.old)) (W.contents (device_of link.new)) (is_some result)
+        (text_of tables.now u text) }
 {
     match text {
         Text::Table => tables.write_table(link).ok(),
@@ -93,7 +95,8 @@ fn put_text<W: Write>(tables: &Tables, text: Text, link: &mut Link<W>) -> Option
     }
 }
 
-/// Writes a text to the file at this path, through a buffer. What was written of it is left as it is.
+/// Writes a text to the file at this path, through a buffer. What was written of it is left as it
+/// is.
 fn write_file<F: Files + AllocGlobal>(
     rt: &F,
     tables: &Tables,
@@ -145,7 +148,8 @@ fn obey<'a, F: Files + AllocGlobal, W: Write>(
     words: &'a [&'a str],
     writer: &mut Link<W>,
 ) -> Result<Done, Trouble<'a>>
-    ensures { EndsIn (map (λ word. word.now) words.entry.now) (device_of writer.old) writer.new result }
+    ensures { EndsIn (map (λ word. word.now) words.entry.now) (device_of writer.old) writer.new
+        result }
 {
     match request_of(rt.alloc(), words)? {
         Request::Generate(words) => Ok(Done::Wrote(generate(rt, words)?)),
@@ -157,10 +161,11 @@ fn obey<'a, F: Files + AllocGlobal, W: Write>(
     }
 }
 
-/// All that `yacc` does but for its exit: `yacc [-v] [-b prefix] grammar` writes the table of the grammar to the file
-/// `prefix.tab`, with `-v` its report to `prefix.output`, and a line on conflicts, where there are some, to the last link,
-/// as it does messages. Help goes to the writer. The answer is the exit status: 0 where it is done, 1 where the grammar
-/// file is refused, 2 where the words are, 3 for what comes from outside, for want of memory and for too many item sets. A
+/// All that `yacc` does but for its exit: `yacc [-v] [-b prefix] grammar` writes the table of the
+/// grammar to the file `prefix.tab`, with `-v` its report to `prefix.output`, and a line on
+/// conflicts, where there are some, to the last link, as it does messages. Help goes to the writer.
+/// The answer is the exit status: 0 where it is done, 1 where the grammar file is refused, 2 where
+/// the words are, 3 for what comes from outside, for want of memory and for too many item sets. A
 /// message or a help text that can't be written is passed over.
 pub fn yacc_run<'a, F: Files + AllocGlobal, W: Write, E: Write>(
     rt: &F,

@@ -2,7 +2,8 @@
 
 ghost use Rattle.std.specs.Prelude.{◌≡◌, ◌++◌, ◌==◌, ◌&&◌, is_some, codes};
 ghost use Rattle.ytables.specs.Sends.{Sends};
-ghost use Rattle.ycli.specs.Messages.{conflicts_line, grammar_code, grammar_line, message, name_of, said, session_word, token_code, token_place, usage_of};
+ghost use Rattle.ycli.specs.Messages.{conflicts_line, grammar_code, grammar_line, message, name_of};
+ghost use Rattle.ycli.specs.Messages.{said, session_word, token_code, token_place, usage_of};
 ghost use Rattle.ycli.specs.Programs.{status};
 
 use crate::fault::SessionFault;
@@ -51,7 +52,8 @@ impl Program {
         at: &[u8],
         number: Option<usize>,
     ) -> Option<()>
-        ensures { Sends E.contents link.old link.new (is_some result) (said self what.now at.now number) }
+        ensures { Sends E.contents link.old link.new (is_some result)
+            (said self what.now at.now number) }
     {
         let Some(number) = number else {
             return put_line(link, self.name(), b": ", what);
@@ -69,7 +71,8 @@ fn put_line<'a, E: Write>(
     between: &'a [u8],
     what: &'a [u8],
 ) -> Option<()>
-    ensures { Sends E.contents link.old link.new (is_some result) (name.now ++ (between.now ++ (what.now ++ codes "\n"))) }
+    ensures { Sends E.contents link.old link.new (is_some result)
+        (name.now ++ (between.now ++ (what.now ++ codes "\n"))) }
 {
     put_all(link, &[name, between, what, b"\n"])
 }
@@ -81,7 +84,8 @@ fn put_unwritten<'a, E: Write>(
     prefix: &'a [u8],
     ending: &'a [u8],
 ) -> Option<()>
-    ensures { Sends E.contents link.old link.new (is_some result) (name.now ++ (codes ": cannot write " ++ (prefix.now ++ (ending.now ++ codes "\n")))) }
+    ensures { Sends E.contents link.old link.new (is_some result)
+        (name.now ++ (codes ": cannot write " ++ (prefix.now ++ (ending.now ++ codes "\n")))) }
 {
     put_all(link, &[name, b": cannot write ", prefix, ending, b"\n"])
 }
@@ -111,7 +115,9 @@ pub(crate) fn put_conflicts<E: Write>(link: &mut Link<E>, counts: Counts) -> Opt
 
 /// That line, with its two counts.
 fn put_counts<'a, E: Write>(link: &mut Link<E>, first: &'a [u8], second: &'a [u8]) -> Option<()>
-    ensures { Sends E.contents link.old link.new (is_some result) (codes "conflicts: " ++ (first.now ++ (codes " shift/reduce, " ++ (second.now ++ codes " reduce/reduce\n")))) }
+    ensures { Sends E.contents link.old link.new (is_some result)
+        (codes "conflicts: " ++ (first.now ++ (codes " shift/reduce, "
+        ++ (second.now ++ codes " reduce/reduce\n")))) }
 {
     put_all(
         link,
@@ -133,7 +139,8 @@ fn put_numbered<'a, E: Write>(
     at: &'a [u8],
     digits: &'a [u8],
 ) -> Option<()>
-    ensures { Sends E.contents link.old link.new (is_some result) (name.now ++ (codes ": " ++ (what.now ++ (at.now ++ (digits.now ++ codes "\n"))))) }
+    ensures { Sends E.contents link.old link.new (is_some result)
+        (name.now ++ (codes ": " ++ (what.now ++ (at.now ++ (digits.now ++ codes "\n"))))) }
 {
     put_all(link, &[name, b": ", what, at, digits, b"\n"])
 }
@@ -222,7 +229,8 @@ impl<'a> Trouble<'a> {
         }
     }
 
-    /// The exit status: 1 for a file that is refused, 2 for words, 3 for what comes from outside and for limits.
+    /// The exit status: 1 for a file that is refused, 2 for words, 3 for what comes from outside
+    /// and for limits.
     pub(crate) fn status(&self) -> u8
         ensures { result ≡ status self.now }
     {

@@ -1,6 +1,7 @@
 //! The replies to commands.
 
-ghost use Rattle.std.specs.Prelude.{◌≡◌, ◌≢◌, List, ℕ, length, is_some, Some, decimal, map, drop, ◌∷◌, ◌++◌, codes};
+ghost use Rattle.std.specs.Prelude.{◌≡◌, ◌≢◌, List, ℕ, length, is_some, Some, decimal, map, drop};
+ghost use Rattle.std.specs.Prelude.{◌∷◌, ◌++◌, codes};
 ghost use Rattle.ycli.specs.declared.command.Command.TheVariants as commands;
 ghost use Rattle.ytables.specs.Link.{has_failed};
 ghost use Rattle.ytables.specs.Sends.{Sends};
@@ -9,7 +10,9 @@ ghost use Rattle.ycli.specs.History.{position};
 ghost use Rattle.ycli.specs.Session.{machine_of, history_of};
 ghost use Rattle.ycli.specs.View.{shown_by};
 ghost use Rattle.ycli.specs.Command.{command_of};
-ghost use Rattle.ycli.specs.Reply.{step_line, refusal, kind_word, kind_tail, mode_word, shown, spaced, shown_head, shown_stack, shown_rest, shown_counts, Answers, AnswersLine};
+ghost use Rattle.ycli.specs.Reply.{step_line, refusal, kind_word, kind_tail, mode_word, shown};
+ghost use Rattle.ycli.specs.Reply.{spaced, shown_head, shown_stack, shown_rest, shown_counts};
+ghost use Rattle.ycli.specs.Reply.{Answers, AnswersLine};
 
 use crate::command::{Command, command_in};
 use crate::machine::{AtStart, Mode, StepFault, StepKind};
@@ -81,7 +84,8 @@ fn put_line<'a, W: Write>(
     words: &'a [u8],
     tail: &'a [u8],
 ) -> Option<()>
-    ensures { Sends W.contents writer.old writer.new (is_some result) (at.now ++ (between.now ++ (words.now ++ (tail.now ++ codes "\n")))) }
+    ensures { Sends W.contents writer.old writer.new (is_some result)
+        (at.now ++ (between.now ++ (words.now ++ (tail.now ++ codes "\n")))) }
 {
     put_all(writer, &[at, between, words, tail, b"\n"])
 }
@@ -93,7 +97,8 @@ fn put_step<W: Write>(
     between: &[u8],
     kind: StepKind,
 ) -> Option<()>
-    ensures { Sends W.contents writer.old writer.new (is_some result) (step_line (machine_of session.now) (position (history_of session.now)) between.now kind) }
+    ensures { Sends W.contents writer.old writer.new (is_some result)
+        (step_line (machine_of session.now) (position (history_of session.now)) between.now kind) }
 {
     let mut at = itoa::Buffer::new();
     let mut rule = itoa::Buffer::new();
@@ -104,7 +109,8 @@ fn put_step<W: Write>(
 
 /// One step, with its line, or with the reason for which there is none.
 fn step<W: Write>(session: &mut Session, writer: &mut Link<W>) -> Option<()>
-    ensures answers { Answers W.contents writer.old writer.new (is_some result) (machine_of session.old) (history_of session.old) commands.Step (history_of session.new) }
+    ensures answers { Answers W.contents writer.old writer.new (is_some result)
+        (machine_of session.old) (history_of session.old) commands.Step (history_of session.new) }
     ensures machine { machine_of session.new ≡ machine_of session.old }
 {
     match session.step() {
@@ -115,7 +121,9 @@ fn step<W: Write>(session: &mut Session, writer: &mut Link<W>) -> Option<()>
 
 /// At most so many undos, with a line for each.
 fn back<W: Write>(session: &mut Session, writer: &mut Link<W>, count: usize) -> Option<()>
-    ensures answers { Answers W.contents writer.old writer.new (is_some result) (machine_of session.old) (history_of session.old) (commands.Back count) (history_of session.new) }
+    ensures answers { Answers W.contents writer.old writer.new (is_some result)
+        (machine_of session.old) (history_of session.old) (commands.Back count)
+        (history_of session.new) }
     ensures machine { machine_of session.new ≡ machine_of session.old }
 {
     let mut made = false;
@@ -132,7 +140,8 @@ fn back<W: Write>(session: &mut Session, writer: &mut Link<W>, count: usize) -> 
 
 /// The position and the mode.
 fn put_head<W: Write>(session: &Session, writer: &mut Link<W>) -> Option<()>
-    ensures { Sends W.contents writer.old writer.new (is_some result) (shown_head (history_of session.now)) }
+    ensures { Sends W.contents writer.old writer.new (is_some result)
+        (shown_head (history_of session.now)) }
 {
     let mut at = itoa::Buffer::new();
     let digits = at.format(session.position()).as_bytes();
@@ -144,14 +153,16 @@ fn put_head<W: Write>(session: &Session, writer: &mut Link<W>) -> Option<()>
 
 /// A space and a name.
 fn put_name<W: Write>(session: &Session, writer: &mut Link<W>, symbol: Sym) -> Option<()>
-    ensures { Sends W.contents writer.old writer.new (is_some result) (32 ∷ (machine_of session.now).name symbol) }
+    ensures { Sends W.contents writer.old writer.new (is_some result)
+        (32 ∷ (machine_of session.now).name symbol) }
 {
     put_all(writer, &[b" ", session.name(symbol)])
 }
 
 /// The symbols of the stack from the bottom.
 fn put_stack<W: Write>(session: &Session, writer: &mut Link<W>) -> Option<()>
-    ensures { Sends W.contents writer.old writer.new (is_some result) (shown_stack (machine_of session.now) (history_of session.now)) }
+    ensures { Sends W.contents writer.old writer.new (is_some result)
+        (shown_stack (machine_of session.now) (history_of session.now)) }
 {
     let view = session.view();
     for index in 0..view.stack_len() {
@@ -162,7 +173,8 @@ fn put_stack<W: Write>(session: &Session, writer: &mut Link<W>) -> Option<()>
 
 /// The tokens that are left.
 fn put_rest<W: Write>(session: &Session, writer: &mut Link<W>) -> Option<()>
-    ensures { Sends W.contents writer.old writer.new (is_some result) (shown_rest (machine_of session.now) (history_of session.now)) }
+    ensures { Sends W.contents writer.old writer.new (is_some result)
+        (shown_rest (machine_of session.now) (history_of session.now)) }
 {
     let view = session.view();
     for index in 0..view.rest_len() {
@@ -174,7 +186,8 @@ fn put_rest<W: Write>(session: &Session, writer: &mut Link<W>) -> Option<()>
 
 /// The recovery counter and the errors reported.
 fn put_counts<W: Write>(session: &Session, writer: &mut Link<W>) -> Option<()>
-    ensures { Sends W.contents writer.old writer.new (is_some result) (shown_counts (history_of session.now)) }
+    ensures { Sends W.contents writer.old writer.new (is_some result)
+        (shown_counts (history_of session.now)) }
 {
     let view = session.view();
     let mut counter = itoa::Buffer::new();
@@ -189,7 +202,8 @@ fn put_counts<W: Write>(session: &Session, writer: &mut Link<W>) -> Option<()>
 
 /// The five lines of the configuration now.
 fn put_shown<W: Write>(session: &Session, writer: &mut Link<W>) -> Option<()>
-    ensures { Sends W.contents writer.old writer.new (is_some result) (shown (machine_of session.now) (history_of session.now)) }
+    ensures { Sends W.contents writer.old writer.new (is_some result)
+        (shown (machine_of session.now) (history_of session.now)) }
 {
     put_head(session, writer)?;
     put_stack(session, writer)?;
@@ -201,7 +215,8 @@ fn put_shown<W: Write>(session: &Session, writer: &mut Link<W>) -> Option<()>
 /// The reply to a command other than `quit`.
 fn reply<W: Write>(session: &mut Session, command: Command, writer: &mut Link<W>) -> Option<()>
     requires { command ≢ commands.Quit }
-    ensures answers { Answers W.contents writer.old writer.new (is_some result) (machine_of session.old) (history_of session.old) command (history_of session.new) }
+    ensures answers { Answers W.contents writer.old writer.new (is_some result)
+        (machine_of session.old) (history_of session.old) command (history_of session.new) }
     ensures machine { machine_of session.new ≡ machine_of session.old }
 {
     match command {
@@ -219,7 +234,8 @@ pub(crate) fn answer<W: Write>(
     line: &[u8],
     writer: &mut Link<W>,
 ) -> Option<bool>
-    ensures answers { AnswersLine W.contents writer.old writer.new result (machine_of session.old) (history_of session.old) (command_of line.now) (history_of session.new) }
+    ensures answers { AnswersLine W.contents writer.old writer.new result (machine_of session.old)
+        (history_of session.old) (command_of line.now) (history_of session.new) }
     ensures machine { machine_of session.new ≡ machine_of session.old }
     ensures failed { has_failed writer.new ≡ chunk_failed result (has_failed writer.old) }
 {

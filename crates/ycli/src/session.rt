@@ -24,7 +24,8 @@ pub struct Session {
     tokens: Tokens,
     current: Snapshot,
     past: Vec<Step>,
-    ghost steps: { ∥ IsHistory (machine_over tables) tokens.symbols.items (history_from tokens.symbols.items current past.items) ∥₁ },
+    ghost steps: { ∥ IsHistory (machine_over tables) tokens.symbols.items
+        (history_from tokens.symbols.items current past.items) ∥₁ },
 }
 
 impl Session {
@@ -50,11 +51,12 @@ impl Session {
         }
     }
 
-    /// One step forward, and its kind. An `Err` changes nothing: S1 where the parse has halted, else S2 where the
-    /// position is 1,000,000, else S3 where memory is refused.
+    /// One step forward, and its kind. An `Err` changes nothing: S1 where the parse has halted,
+    /// else S2 where the position is 1,000,000, else S3 where memory is refused.
     #[tactic(auto, unfolding(crate::specs::Session::machine_of, crate::specs::Session::history_of, crate::specs::Session::tokens_of, crate::specs::Machine::next))]
     pub fn step(&mut self) -> Result<StepKind, StepFault>
-        ensures steps { Steps (machine_of self.old) (history_of self.old) result (history_of self.new) }
+        ensures steps { Steps (machine_of self.old) (history_of self.old) result
+            (history_of self.new) }
         ensures machine { machine_of self.new ≡ machine_of self.old }
         ensures tokens { tokens_of self.new ≡ tokens_of self.old }
     {
@@ -71,8 +73,8 @@ impl Session {
         Ok(kind)
     }
 
-    /// One step back, to the whole earlier configuration, and the kind of the step undone. It takes no memory, and is
-    /// refused at position 0 alone.
+    /// One step back, to the whole earlier configuration, and the kind of the step undone. It takes
+    /// no memory, and is refused at position 0 alone.
     #[tactic(auto, unfolding(crate::specs::Session::machine_of, crate::specs::Session::history_of, crate::specs::Session::tokens_of))]
     pub fn back(&mut self) -> Result<StepKind, AtStart>
         ensures undoes { Undoes (history_of self.old) result (history_of self.new) }
@@ -88,11 +90,13 @@ impl Session {
         }
     }
 
-    /// How many steps stand, 0 to 1,000,000. Each configuration of the past is the next of the one before.
+    /// How many steps stand, 0 to 1,000,000. Each configuration of the past is the next of the one
+    /// before.
     #[tactic(auto, unfolding(crate::specs::Session::machine_of, crate::specs::Session::history_of, crate::specs::Session::tokens_of))]
     pub fn position(&self) -> usize
         ensures position { result ≡ position (history_of self.now) }
-        ensures history { ∥ IsHistory (machine_of self.now) (tokens_of self.now) (history_of self.now) ∥₁ }
+        ensures history { ∥ IsHistory (machine_of self.now) (tokens_of self.now)
+            (history_of self.now) ∥₁ }
     {
         self.past.len()
     }

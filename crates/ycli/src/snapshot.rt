@@ -13,8 +13,8 @@ use std::alloc::{AllocError, Global};
 use ygrammar::Sym;
 use ytables::{Action, Tables};
 
-/// A configuration: the symbols from the bottom, how many tokens are gone, the recovery counter, the errors
-/// reported, the mode.
+/// A configuration: the symbols from the bottom, how many tokens are gone, the recovery counter,
+/// the errors reported, the mode.
 #[derive(Drop)]
 pub struct Snapshot {
     pub(crate) stack: Vec<Sym>,
@@ -48,7 +48,9 @@ impl Snapshot {
     /// The same with the lowest `len` symbols alone, and room for one more.
     fn lowest(&self, len: usize) -> Result<Snapshot, AllocError>
         requires { len ≤ vec_len self.now.stack }
-        ensures { IfOk result (λ made. (made.stack.items ≡ take len self.now.stack.items) × (made.at ≡ self.now.at) × (made.counter ≡ self.now.counter) × (made.errors ≡ self.now.errors) × (made.mode ≡ self.now.mode)) }
+        ensures { IfOk result (λ made. (made.stack.items ≡ take len self.now.stack.items) ×
+            (made.at ≡ self.now.at) × (made.counter ≡ self.now.counter) ×
+            (made.errors ≡ self.now.errors) × (made.mode ≡ self.now.mode)) }
     {
         let mut stack = Vec::with_capacity(*self.stack.allocator(), len + 1)?;
         stack.extend_from_slice(&self.stack[..len])?;
@@ -63,7 +65,9 @@ impl Snapshot {
 
     /// The same in another mode.
     fn in_mode(&self, mode: Mode) -> Result<Snapshot, AllocError>
-        ensures { (tokens : List ℕ) → IfOk result (λ made. configuration_of tokens made ≡ record (configuration_of tokens self.now) { mode = mode }) }
+        ensures { (tokens : List ℕ) → IfOk result
+            (λ made. configuration_of tokens made ≡ record (configuration_of tokens self.now)
+            { mode = mode }) }
     {
         let mut made = self.lowest(self.stack.len())?;
         made.mode = mode;
@@ -73,7 +77,9 @@ impl Snapshot {
 
 /// The first token left goes to the stack.
 fn shift(tokens: &[Sym], now: &Snapshot) -> Result<(StepKind, Snapshot), AllocError>
-    ensures { IfOk result (λ found. shifted (configuration_of tokens.now now.now) (configuration_of tokens.now now.now).rest ≡ (found.0, configuration_of tokens.now found.1)) }
+    ensures { IfOk result (λ found. shifted (configuration_of tokens.now now.now)
+        (configuration_of tokens.now now.now).rest
+        ≡ (found.0, configuration_of tokens.now found.1)) }
 {
     let Some(token) = tokens.get(now.at) else {
         return Ok((StepKind::Fail, now.in_mode(Mode::Failed)?));
@@ -92,7 +98,9 @@ fn reduce(
     now: &Snapshot,
     number: usize,
 ) -> Result<(StepKind, Snapshot), AllocError>
-    ensures { (tokens : List ℕ) → IfOk result (λ found. reduced (machine_over tables.now) (configuration_of tokens now.now) number ≡ (found.0, configuration_of tokens found.1)) }
+    ensures { (tokens : List ℕ) → IfOk result
+        (λ found. reduced (machine_over tables.now) (configuration_of tokens now.now) number
+        ≡ (found.0, configuration_of tokens found.1)) }
 {
     let (left, body) = rule_of(tables, number);
     let kept = now.stack.len().saturating_sub(body.len());
@@ -112,7 +120,9 @@ fn act(
     now: &Snapshot,
     cell: Action,
 ) -> Result<(StepKind, Snapshot), AllocError>
-    ensures { IfOk result (λ found. step_by (machine_over tables.now) (configuration_of tokens.now now.now) cell ≡ (found.0, configuration_of tokens.now found.1)) }
+    ensures { IfOk result (λ found. step_by (machine_over tables.now)
+        (configuration_of tokens.now now.now) cell
+        ≡ (found.0, configuration_of tokens.now found.1)) }
 {
     match cell {
         Action::Shift(_) => shift(tokens, now),
@@ -129,7 +139,9 @@ pub(crate) fn next_of(
     now: &Snapshot,
 ) -> Result<(StepKind, Snapshot), AllocError>
     requires { now.now.mode ≡ Running }
-    ensures { IfOk result (λ found. next (machine_over tables.now) (configuration_of tokens.now now.now) ≡ Some (found.0, configuration_of tokens.now found.1)) }
+    ensures { IfOk result (λ found. next (machine_over tables.now)
+        (configuration_of tokens.now now.now) ≡ Some
+        (found.0, configuration_of tokens.now found.1)) }
 {
     let token = tokens.get(now.at).copied().unwrap_or(0);
     let cell = cell_after(tables, &now.stack, token);

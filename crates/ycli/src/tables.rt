@@ -2,7 +2,8 @@
 
 ghost use Rattle.std.specs.Prelude.{◌≡◌, is_some, Some};
 ghost use Rattle.ygrammar.specs.Names.{printed_literal};
-ghost use Rattle.ycli.specs.Tables.{name_of, symbol_named, token_count, is_input, rule_of, goto_at, goto_from, cell_at, cell_in, state_after};
+ghost use Rattle.ycli.specs.Tables.{name_of, symbol_named, token_count, is_input, rule_of, goto_at};
+ghost use Rattle.ycli.specs.Tables.{goto_from, cell_at, cell_in, state_after};
 
 use ygrammar::{Grammar, Sym};
 use ytables::{Action, Tables};

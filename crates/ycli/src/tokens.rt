@@ -1,6 +1,7 @@
 //! The tokens of an input.
 
-ghost use Rattle.std.specs.Prelude.{◌≡◌, ◌<◌, ◌≤◌, ◌↔◌, IsTrue, IfOk, List, ℕ, length, slice_index, Result};
+ghost use Rattle.std.specs.Prelude.{◌≡◌, ◌<◌, ◌≤◌, ◌↔◌, IsTrue, IfOk, List, ℕ, length, slice_index};
+ghost use Rattle.std.specs.Prelude.{Result};
 ghost use Rattle.ycli.specs.declared.tokens.TokenFault.{TokenFault as Fault};
 ghost use Rattle.ycli.specs.Tables.{symbol_named, token_count};
 ghost use Rattle.ycli.specs.Tokens.{Fits, symbols_of};
@@ -95,7 +96,8 @@ pub(crate) enum Next<'a> {
     Fault(TokenFault),
 }
 
-/// The symbol that was found, where it is an input token, and what follows it; else K1 or K2 at this place.
+/// The symbol that was found, where it is an input token, and what follows it; else K1 or K2 at
+/// this place.
 fn named<'a>(tables: &Tables, found: Option<Sym>, place: usize, after: &'a [u8]) -> Next<'a>
     ensures { next_view result ≡ named (token_count tables.now) place found after.entry.now }
 {
@@ -109,7 +111,8 @@ fn named<'a>(tables: &Tables, found: Option<Sym>, place: usize, after: &'a [u8])
 /// What comes next behind so many tokens.
 fn next_in<'a>(tables: &Tables, read: usize, bytes: &'a [u8]) -> Next<'a>
     requires { read ≤ 1000000 }
-    ensures { Comes (symbol_named tables.now) (token_count tables.now) read bytes.entry.now (next_view result) }
+    ensures { Comes (symbol_named tables.now) (token_count tables.now) read bytes.entry.now
+        (next_view result) }
 {
     match front_of(bytes) {
         Front::Nothing => Next::End,
@@ -143,11 +146,13 @@ fn read_all(alloc: Global, tables: &Tables, bytes: &[u8]) -> Result<Tokens, Toke
     }
 }
 
-/// Reads a tokens file: words between blanks, each the printed name of a token other than `error` and `$end`.
+/// Reads a tokens file: words between blanks, each the printed name of a token other than `error`
+/// and `$end`.
 ///
-/// A literal is looked up by its value, so its spelling is free; what follows it may touch it. The first place at fault
-/// decides: K1 for a word that is no symbol, K2 for one that is no input token, K5 for a quote that begins no literal; K3 at the start of a further word after 1,000,000 tokens. K4 may stand in place of
-/// any answer.
+/// A literal is looked up by its value, so its spelling is free; what follows it may touch it. The
+/// first place at fault decides: K1 for a word that is no symbol, K2 for one that is no input
+/// token, K5 for a quote that begins no literal; K3 at the start of a further word after 1,000,000
+/// tokens. K4 may stand in place of any answer.
 pub fn read_tokens(alloc: Global, tables: &Tables, bytes: &[u8]) -> Result<Tokens, TokenFault>
     // What is answered is what the file has.
     ensures exact { Gives tables.now bytes.now result }

@@ -8,7 +8,8 @@ use crate::machine::Mode;
 use crate::snapshot::Snapshot;
 use ygrammar::Sym;
 
-/// A configuration: its stack, the tokens left, the recovery counter, the errors reported, the mode.
+/// A configuration: its stack, the tokens left, the recovery counter, the errors reported, the
+/// mode.
 #[derive(Clone, Copy)]
 pub struct View<'a> {
     current: &'a Snapshot,

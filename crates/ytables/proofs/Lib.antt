@@ -1,4 +1,5 @@
 pub mod AllowedSteps
+pub mod GotoSteps
 pub mod GuideSteps
 pub mod LineSteps
 pub mod PackedSteps

@@ -1,5 +1,5 @@
 -- What the tables of an automaton say: its cells, with default reductions in consistent states.
-use Rattle.std.specs.Prelude.{ℕ, ◌≡◌, ◌<◌, Bool, true, false, not, ◌&&◌, List, [], ◌∷◌, length, map, drop, Option, Some, None, if◌then◌else◌, nat_eq, slice_index_or, unwrap_or}
+use Rattle.std.specs.Prelude.{ℕ, ◌≡◌, ◌+◌, ◌-◌, ◌<◌, ◌≤◌, Bool, true, false, not, ◌&&◌, List, [], ◌∷◌, length, map, drop, Option, Some, None, if◌then◌else◌, nat_eq, slice_index_or, unwrap_or}
 use Rattle.std.specs.List.{All, filter, list_any, sum_by, range_with_len}
 use Rattle.ygrammar.specs.declared.precedence.Precedence.{Precedence}
 use Rattle.ygrammar.specs.Grammar.{ContextFree, GrammarValue, body_of, end_token}
@@ -9,7 +9,7 @@ use Rattle.ytables.specs.declared.class.Class.{Class}
 use Rattle.ytables.specs.declared.cell.Action.{Action}
 use Rattle.ytables.specs.declared.cell.Action.TheVariants.{Shift, Reduce, Accept, Error}
 use Rattle.ytables.specs.declared.cell.Cell.{Cell}
-use Rattle.ytables.specs.Packed.{entry_of}
+use Rattle.ytables.specs.Packed.{PackedRows, entry_of}
 use Rattle.ytables.specs.Cell.{class_of, cell_of, is_filled, common, by_default}
 
 -- the symbols from the dot on
@@ -144,9 +144,21 @@ pub record FollowsGuide (v : TablesValue) (u : Guide) : Type 0 where
 abbrev pub AreTables : TablesValue → Type 0
 AreTables v = (u : Guide) → IsGuide v.built u → FollowsGuide v u
 
--- What holds of tables: a row and a default rule for each state, and what these say.
-pub record IsTables (v : TablesValue) (columns : ℕ) : Type 0 where
+-- The rows of the states below n are their gotos over nonterminals, the first of which has the first column.
+abbrev pub AreGotosTo : Collection → ℕ → List (List (Option ℕ)) → Type 0
+AreGotosTo m n rows =
+    (q x : ℕ) → q < n → m.grammar.bare.tokens ≤ x → x < m.grammar.bare.symbols → entry_of rows q (x - m.grammar.bare.tokens) ≡ goto_in m q x
+
+-- the gotos of all states
+pub record AreGotos (m : Collection) (packed : PackedRows ℕ) : Type 0 where
+  pub rows : length packed.rows ≡ length m.states
+  pub width : packed.width + m.grammar.bare.tokens ≡ m.grammar.bare.symbols
+  pub gotos : AreGotosTo m (length m.states) packed.rows
+
+-- What holds of tables: a row, a default rule and gotos for each state, and what these say.
+pub record IsTables (v : TablesValue) (columns : ℕ) (packed : PackedRows ℕ) : Type 0 where
   pub rows : length v.actions ≡ length v.built.states
   pub defaults : length v.defaults ≡ length v.built.states
   pub width : columns ≡ v.built.grammar.bare.tokens
+  pub gotos : AreGotos v.built packed
   pub tables : AreTables v

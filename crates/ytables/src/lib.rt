@@ -4,6 +4,7 @@
 mod cell;
 mod class;
 mod fault;
+mod gotos;
 pub mod link;
 mod packed;
 pub mod put;

@@ -40,7 +40,8 @@ impl<D> Link<D> {
     pub fn failed(&self) -> bool
         ensures { result ≡ has_failed self.now }
     {
-        self.failed
+        let Link { device: _, failed } = self;
+        *failed
     }
 
     /// Unsets the flag.

@@ -150,6 +150,13 @@ impl<T: Copy> Packed<T> {
         }
     }
 
+    /// How many columns a row has.
+    pub fn width(&self) -> usize
+        ensures { result ≡ self.now.width }
+    {
+        self.width
+    }
+
     /// Where the columns of each row begin.
     #[cfg(test)]
     pub fn displacements(&self) -> &[usize] {

@@ -22,7 +22,7 @@ use ylalr::{Automaton, Item, token_count};
 const END: Sym = 0;
 
 /// The symbol after the dot.
-fn next_symbol(grammar: &Grammar, item: Item) -> Option<Sym>
+pub fn next_symbol(grammar: &Grammar, item: Item) -> Option<Sym>
     requires { item.rule < length grammar.now.bare.rules }
     ensures { MatchOption result (after_dot grammar.now.bare item ≡ [])
         (λ s. after_dot grammar.now.bare item ≡ s ∷ drop (item.dot + 1)
@@ -81,6 +81,16 @@ fn tokens_before(
     Ok(marks)
 }
 
+/// Whether the token is a lookahead of the item in the state.
+fn looks(automaton: &Automaton, q: usize, item: Item, t: Sym) -> bool
+    requires state { q < length automaton.now.states }
+    requires token { t < automaton.now.grammar.bare.tokens }
+    ensures { (u : Guide) → IsGuide automaton.now u → result ≡ u.looks q item t }
+{
+    let _symbols = automaton.grammar().symbols();
+    automaton.looks(q, item, t)
+}
+
 /// The rules whose complete items look at the token, tallied.
 fn tally_at(
     automaton: &Automaton,
@@ -106,7 +116,7 @@ fn tally_at(
         if !is_ready(grammar, *item) {
             continue;
         }
-        if !automaton.looks(q, *item, t) {
+        if !looks(automaton, q, *item, t) {
             continue;
         }
         let rule = grammar.rule(item.rule).precedence();

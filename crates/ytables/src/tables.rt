@@ -12,6 +12,7 @@ ghost use Rattle.ytables.specs.Tables.{action_in, default_in, act_at, rule_at};
 
 use crate::cell::Action;
 use crate::fault::TableFault;
+use crate::gotos::all_gotos;
 use crate::packed::Packed;
 use crate::row::row_of;
 use std::alloc::{AllocError, Global};
@@ -31,6 +32,7 @@ pub struct Counts {
 pub struct Tables {
     automaton: Automaton,
     actions: Packed<Action>,
+    gotos: Packed<usize>,
     defaults: Vec<Option<usize>>,
     counts: Counts,
     chosen: bool,
@@ -57,7 +59,7 @@ impl Model for Tables {
       shift_reduce = t.counts.shift_reduce;
       reduce_reduce = t.counts.reduce_reduce;
       choice = t.chosen;
-    }) t.actions.width };
+    }) t.actions.width t.gotos };
 }
 
 /// The entries of a row: its actions but for errors, and none where a default rule stands in for
@@ -144,6 +146,9 @@ pub fn resolve(alloc: Global, automaton: Automaton) -> Result<Tables, TableFault
     let Ok(found) = all_rows(alloc, &automaton) else {
         return Err(TableFault::Memory);
     };
+    let Ok(gotos) = all_gotos(alloc, &automaton) else {
+        return Err(TableFault::Memory);
+    };
     let Found {
         actions,
         defaults,
@@ -153,6 +158,7 @@ pub fn resolve(alloc: Global, automaton: Automaton) -> Result<Tables, TableFault
     Ok(Tables {
         automaton,
         actions,
+        gotos,
         defaults,
         counts,
         chosen,
@@ -195,7 +201,8 @@ impl Tables {
         ensures value { result ≡ goto_in self.now.built q x }
         ensures exact { IsGoto self.now.built q x result }
     {
-        self.automaton.goto(q, x)
+        let _states = self.automaton.states();
+        self.gotos.get(q, x - self.actions.width())
     }
 
     /// The rule by which state `q` reduces at every token, where the state is consistent: none of
@@ -233,22 +240,35 @@ mod tests {
     use ygrammar::read_grammar;
     use ylalr::build;
 
-    fn tables_of(alloc: Global, file: &[u8]) -> Result<Tables, Fail> {
-        let grammar = read_grammar(alloc, file)?;
-        Ok(resolve(alloc, build(alloc, grammar)?)?)
+    /// Whether the rows of actions and those of gotos begin there.
+    fn begin_at(
+        alloc: Global,
+        file: &[u8],
+        actions: &[usize],
+        gotos: &[usize],
+    ) -> Result<bool, Fail> {
+        let tables = resolve(alloc, build(alloc, read_grammar(alloc, file)?)?)?;
+        Ok(tables.actions.displacements() == actions && tables.gotos.displacements() == gotos)
     }
 
     #[test]
     fn rows_that_do_not_meet_begin_at_the_front(rt: HostRuntime) -> Result<(), Fail> {
-        let tables = tables_of(rt.alloc(), b"%% s : 'x' ;")?;
-        assert_eq!(rt; tables.actions.displacements(), [0, 0, 0].as_slice());
+        assert!(rt; begin_at(rt.alloc(), b"%% s : 'x' ;", &[0, 0, 0], &[0, 0, 0])?);
         Ok(())
     }
 
     #[test]
     fn a_row_that_meets_another_begins_behind(rt: HostRuntime) -> Result<(), Fail> {
-        let tables = tables_of(rt.alloc(), b"%% s : s 'x' | 'x' ;")?;
-        assert_eq!(rt; tables.actions.displacements(), [0, 0, 1, 0].as_slice());
+        let file = b"%% s : s 'x' | 'x' ;";
+        assert!(rt; begin_at(rt.alloc(), file, &[0, 0, 1, 0], &[0, 0, 0, 0])?);
+        Ok(())
+    }
+
+    #[test]
+    fn rows_of_gotos_that_meet(rt: HostRuntime) -> Result<(), Fail> {
+        let file = b"%% s : 'i' s | 'i' s 'e' s | 'x' ;";
+        let actions = [0, 1, 0, 0, 6, 6, 0];
+        assert!(rt; begin_at(rt.alloc(), file, &actions, &[0, 1, 0, 0, 0, 2, 0])?);
         Ok(())
     }
 }

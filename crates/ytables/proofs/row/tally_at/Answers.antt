@@ -5,7 +5,6 @@ use Rattle.ytables.specs.declared.cell.Tally.{Tally}
 use Rattle.ytables.specs.Cell.{class_of}
 use Rattle.ytables.specs.Tables.{class_at, rules_by, is_ready}
 use Rattle.ytables.specs.Tally.{IsTally, tally_more}
-use Rattle.ytables.proofs.GuideSteps.{looks_is}
 use Rattle.ytables.proofs.RowSteps.{tally_skip, tally_take, tally_room, no_left, yes_left}
 use Rattle.ytables.proofs.row.tally_at.Goals as goal
 
@@ -38,7 +37,7 @@ loop-item-preserved-then-not-looks c =
       kept = inv.kept;
       all = omega arith;
       tally = λ u h. tally_skip (class_at m.grammar c.args.level) (λ i. is_ready g i && u.looks c.args.q i c.args.t) c.args.items.now c.loop-item.item-index d c.loop-item.tally c.loop-item-test.true (inv.tally u h)
-          (yes_left (is_ready g i) (u.looks c.args.q i c.args.t) false ready (sym (looks_is m u c.args.q i c.args.t c.looks.result h c.requires.state c.requires.token c.looks.ensures) ∙ c.if-not-looks.true));
+          (yes_left (is_ready g i) (u.looks c.args.q i c.args.t) false ready (sym (c.looks.ensures u h) ∙ c.if-not-looks.true));
     }
 
 pub loop-item-preserved : goal.loop-item-preserved
@@ -60,7 +59,7 @@ loop-item-preserved c =
       kept = subst (λ (y : Tally). y.kept ≤ y.all) (sym added) room.1;
       all = subst (λ (y : Tally). y.all ≤ c.loop-item.item-index + 1) (sym added) room.2;
       tally = λ u h.
-          let e = yes_left (is_ready g i) (u.looks c.args.q i c.args.t) true ready (sym (looks_is m u c.args.q i c.args.t c.looks.result h c.requires.state c.requires.token c.looks.ensures) ∙ c.if-not-looks.false) in
+          let e = yes_left (is_ready g i) (u.looks c.args.q i c.args.t) true ready (sym (c.looks.ensures u h) ∙ c.if-not-looks.false) in
           let test = λ (i : Item). is_ready g i && u.looks c.args.q i c.args.t in
           let t = tally_take (class_at m.grammar c.args.level) test c.args.items.now c.loop-item.item-index d c.loop-item.tally c.loop-item-test.true (inv.tally u h) e in
           subst (IsTally (class_at m.grammar c.args.level) (rules_by test (take (c.loop-item.item-index + 1) c.args.items.now))) (sym (added ∙ ap (tally_more c.loop-item.tally i.rule) kind)) t;

@@ -5,5 +5,6 @@ invariant_of-result c = record {
   rows = c.in-Ok.ensures.actions;
   defaults = c.in-Ok.ensures.defaults;
   width = c.in-Ok.ensures.width;
+  gotos = c.in-Ok-all_gotos.ensures;
   tables = λ u h. record { rows = c.in-Ok.ensures.rows u h; sums = c.in-Ok.ensures.sums u h };
 }
