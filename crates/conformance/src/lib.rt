@@ -5,9 +5,13 @@ pub mod devices;
 #[cfg(test)]
 mod programs;
 #[cfg(test)]
+mod recovery;
+#[cfg(test)]
 mod sessions;
 pub mod setting;
 #[cfg(test)]
 mod streams;
 #[cfg(test)]
 mod tokens;
+#[cfg(test)]
+mod trees;

@@ -4,7 +4,7 @@ use crate::devices::{Refusal, Sink, Source};
 use crate::setting::{COMMANDS, ONE, REPLIES, replies, served, session_of};
 use std::alloc::{AllocError, Global};
 use std::test::Fail;
-use ycli::machine::{AtStart, Mode, StepFault, StepKind};
+use yparse::machine::{AtStart, Mode, StepFault, StepKind};
 
 #[test]
 fn one_rule(rt: HostRuntime) -> Result<(), Fail> {
@@ -23,20 +23,6 @@ fn an_empty_rule(rt: HostRuntime) -> Result<(), Fail> {
     )?;
     let want =
         b"1 reduce 1\n2 accept\nhalted\n1 undo accept\n0 undo reduce 1\n0 running\nstack:\nrest:\ncounter: 0\nerrors: 0\n";
-    assert_eq!(rt; sink.text(), want.as_slice());
-    Ok(())
-}
-
-#[test]
-fn an_error_fails(rt: HostRuntime) -> Result<(), Fail> {
-    let sink = replies(
-        rt.alloc(),
-        ONE,
-        b"'x' 'x'",
-        b"step\nstep\nshow\nstep\nstep\nback 1\n",
-    )?;
-    let want =
-        b"1 shift 'x'\n2 reduce 1\n2 running\nstack: s\nrest: 'x'\ncounter: 0\nerrors: 0\n3 fail\nhalted\n2 undo fail\n";
     assert_eq!(rt; sink.text(), want.as_slice());
     Ok(())
 }
@@ -63,19 +49,12 @@ fn a_nullable_rest_is_looked_through(rt: HostRuntime) -> Result<(), Fail> {
         rt.alloc(),
         b"%% s : p q 'x' ; p : 'y' ; q : ;",
         b"'y' 'x'",
-        b"step\nstep\nstep\nstep\nstep\nstep\n",
+        b"run 9\n",
     )?;
     let want = b"1 shift 'y'\n2 reduce 2\n3 reduce 3\n4 shift 'x'\n5 reduce 1\n6 accept\n";
     assert_eq!(rt; sink.text(), want.as_slice());
     Ok(())
 }
-
-// So many steps.
-const STEPS: &[u8] = b"step\nstep\nstep\nstep\nstep\nstep\nstep\nstep\n";
-
-const FIVE: &[u8] = b"step\nstep\nstep\nstep\nstep\n";
-
-const ELEVEN: &[u8] = b"step\nstep\nstep\nstep\nstep\nstep\nstep\nstep\nstep\nstep\nstep\n";
 
 #[test]
 fn precedences_decide(rt: HostRuntime) -> Result<(), Fail> {
@@ -83,19 +62,11 @@ fn precedences_decide(rt: HostRuntime) -> Result<(), Fail> {
         rt.alloc(),
         b"%token NUM %left '+' %left '*' %% e : e '+' e | e '*' e | NUM ;",
         b"NUM '+' NUM '*' NUM",
-        ELEVEN,
+        b"run 20\n",
     )?;
     let want =
         b"1 shift NUM\n2 reduce 3\n3 shift '+'\n4 shift NUM\n5 reduce 3\n6 shift '*'\n7 shift NUM\n8 reduce 3\n9 reduce 2\n10 reduce 1\n11 accept\n";
     assert_eq!(rt; sums.text(), want.as_slice());
-    let less = replies(
-        rt.alloc(),
-        b"%token NUM %nonassoc '<' %% e : e '<' e | NUM ;",
-        b"NUM '<' NUM '<' NUM",
-        FIVE,
-    )?;
-    let want = b"1 shift NUM\n2 reduce 2\n3 shift '<'\n4 shift NUM\n5 reduce 2\n";
-    assert_eq!(rt; less.text(), want.as_slice());
     Ok(())
 }
 
@@ -105,13 +76,13 @@ fn conflicts_take_the_shift_or_the_least_rule(rt: HostRuntime) -> Result<(), Fai
         rt.alloc(),
         b"%token IF ELSE X %% s : IF s | IF s ELSE s | X ;",
         b"IF IF X ELSE X",
-        ELEVEN,
+        b"run 10\nstep\n",
     )?;
     let want =
         b"1 shift IF\n2 shift IF\n3 shift X\n4 reduce 3\n5 shift ELSE\n6 shift X\n7 reduce 3\n8 reduce 2\n9 reduce 1\n10 accept\nhalted\n";
     assert_eq!(rt; dangling.text(), want.as_slice());
-    let accepted = replies(rt.alloc(), b"%% s : s | 'x' ;", b"'x'", FIVE)?;
-    let want = b"1 shift 'x'\n2 reduce 2\n3 accept\nhalted\nhalted\n";
+    let accepted = replies(rt.alloc(), b"%% s : s | 'x' ;", b"'x'", b"run 9\n")?;
+    let want = b"1 shift 'x'\n2 reduce 2\n3 accept\n";
     assert_eq!(rt; accepted.text(), want.as_slice());
     Ok(())
 }
@@ -119,12 +90,7 @@ fn conflicts_take_the_shift_or_the_least_rule(rt: HostRuntime) -> Result<(), Fai
 #[test]
 fn a_reduction_without_end(rt: HostRuntime) -> Result<(), Fail> {
     let grammar = b"%left 'x' %left HI %% s : e s | 'x' ; e : %prec HI ;";
-    let sink = replies(
-        rt.alloc(),
-        grammar,
-        b"'x'",
-        b"step\nstep\nstep\nstep\nstep\nback 5\n",
-    )?;
+    let sink = replies(rt.alloc(), grammar, b"'x'", b"run 5\nback 5\n")?;
     let want =
         b"1 reduce 3\n2 reduce 3\n3 reduce 3\n4 reduce 3\n5 reduce 3\n4 undo reduce 3\n3 undo reduce 3\n2 undo reduce 3\n1 undo reduce 3\n0 undo reduce 3\n";
     assert_eq!(rt; sink.text(), want.as_slice());
@@ -137,19 +103,19 @@ fn inner_actions_are_rules(rt: HostRuntime) -> Result<(), Fail> {
         rt.alloc(),
         b"%% s : 'a' { x } 'b' { y } ;",
         b"'a' 'b'",
-        STEPS,
+        b"run 9\nunwind\n",
     )?;
     let want =
-        b"1 shift 'a'\n2 reduce 1\n3 shift 'b'\n4 reduce 2\n5 accept\nhalted\nhalted\nhalted\n";
+        b"1 shift 'a'\n2 reduce 1\n3 shift 'b'\n4 reduce 2\n5 accept\ns\n'a' $$1 'b'\n'a' 'b'\n";
     assert_eq!(rt; one.text(), want.as_slice());
     let more = replies(
         rt.alloc(),
         b"%% s : { a } 'x' { b } t { c } ; t : { d } %prec 'x' { e } ;",
         b"'x'",
-        STEPS,
+        b"run 9\n",
     )?;
     let want =
-        b"1 reduce 1\n2 shift 'x'\n3 reduce 2\n4 reduce 4\n5 reduce 5\n6 reduce 3\n7 accept\nhalted\n";
+        b"1 reduce 1\n2 shift 'x'\n3 reduce 2\n4 reduce 4\n5 reduce 5\n6 reduce 3\n7 accept\n";
     assert_eq!(rt; more.text(), want.as_slice());
     Ok(())
 }
@@ -160,10 +126,9 @@ fn tokens_are_named_and_quoted(rt: HostRuntime) -> Result<(), Fail> {
         rt.alloc(),
         b"%token A 300 B %% s : A B '\\x41' 'A' ;",
         b"A B '\\101' 'A'",
-        STEPS,
+        b"run 9\n",
     )?;
-    let want =
-        b"1 shift A\n2 shift B\n3 shift 'A'\n4 shift 'A'\n5 reduce 1\n6 accept\nhalted\nhalted\n";
+    let want = b"1 shift A\n2 shift B\n3 shift 'A'\n4 shift 'A'\n5 reduce 1\n6 accept\n";
     assert_eq!(rt; sink.text(), want.as_slice());
     Ok(())
 }
@@ -171,11 +136,11 @@ fn tokens_are_named_and_quoted(rt: HostRuntime) -> Result<(), Fail> {
 #[test]
 fn other_lines_are_unknown(rt: HostRuntime) -> Result<(), Fail> {
     let lines =
-        b"\nstep \n step\nSTEP\nstepp\nback\nback \nback 0\nback 1000001\nback 00000001\nback  1\nback 1 \nback -1\nback x\nshow 1\nrun 1\nto 0\ntree\nunwind\nstep\r\nquit now\n";
+        b"\nstep \n step\nSTEP\nstepp\nback\nback \nback 0\nback 1000001\nback 00000001\nback  1\nback 1 \nback -1\nback x\nshow 1\nrun 0\nrun 00000001\nto 1000001\ntree \nunwind 1\nstep\r\nquit now\n";
     let sink = replies(rt.alloc(), ONE, b"'x'", lines)?;
     let text = sink.text();
     let unknown = b"unknown command\n";
-    assert_eq!(rt; text.len(), 21 * unknown.len());
+    assert_eq!(rt; text.len(), 22 * unknown.len());
     assert!(rt;
         text.chunks(unknown.len())
             .all(|line| line == unknown.as_slice())
@@ -185,7 +150,12 @@ fn other_lines_are_unknown(rt: HostRuntime) -> Result<(), Fail> {
 
 #[test]
 fn a_number_may_have_seven_digits(rt: HostRuntime) -> Result<(), Fail> {
-    let sink = replies(rt.alloc(), ONE, b"'x'", b"step\nback 0000001\nback 1000000")?;
+    let sink = replies(
+        rt.alloc(),
+        ONE,
+        b"'x'",
+        b"run 0000001\nback 0000001\nto 0\nback 1000000",
+    )?;
     assert_eq!(rt;
         sink.text(),
         b"1 shift 'x'\n0 undo shift 'x'\nat start\n".as_slice()

@@ -5,10 +5,9 @@ use std::alloc::Global;
 use std::test::Fail;
 use ycli::fault::SessionFault;
 use ycli::run::run_session;
-use ycli::session::Session;
-use ycli::tokens::read_tokens;
 use ygrammar::read_grammar;
 use ylalr::build;
+use yparse::{Session, read_tokens};
 use ytables::{Link, Tables, resolve};
 
 /// The grammar of the first sessions: one rule of one token.

@@ -3,8 +3,8 @@
 use crate::setting::{ONE, tables_of};
 use std::alloc::{AllocError, Global};
 use std::test::Fail;
-use ycli::tokens::{TokenFault, read_tokens};
 use ygrammar::Sym;
+use yparse::{TokenFault, read_tokens};
 
 const SUM: &[u8] = b"%% e : e '+' t | t ; t : 'n' ;";
 

@@ -1,15 +1,20 @@
 -- How replies join.
-use Rattle.std.proofs.Common.{ℕ, zero, suc, ◌≡◌, ◌++◌, Bool, true, false, List, [], Option, codes, if◌then◌else◌, refl, sym, ap, ◌∙◌, append-nil}
-use Rattle.ycli.specs.declared.machine.StepKind.{StepKind}
+use Rattle.std.proofs.Common.{ℕ, zero, arith, suc, ◌≡◌, ◌<◌, ◌≤◌, ◌-◌, ◌++◌, ◌⊎◌, inl, inr, nat_lt, Bool, true, false, List, [], ◌∷◌, Option, Some, None, IsSome, Ok, Err, codes, if◌then◌else◌, refl, sym, ap, subst, ◌∙◌, append-nil}
+use Rattle.std.proofs.lemmas.Bool.{cases_lt, lt-ltb, false_from_ne_true, ltb-true}
+use Rattle.yparse.specs.declared.machine.StepKind.{StepKind}
+use Rattle.yparse.specs.declared.machine.StepFault.{StepFault}
+use Rattle.yparse.specs.declared.machine.StepFault.TheVariants.{Halted, Limit, Memory}
 use Rattle.ycli.specs.declared.command.Command.{Command}
+use Rattle.ycli.specs.declared.command.Command.TheVariants.{To}
 use Rattle.ytables.specs.declared.link.Link.{Link}
-use Rattle.std.specs.Io.KnownBytes.{Keeps}
-use Rattle.std.proofs.KnownBytes.{Appends-kept}
+use Rattle.std.specs.Io.KnownBytes.{Appends, Keeps}
+use Rattle.std.proofs.KnownBytes.{Appends-nil, Appends-kept}
 use Rattle.ytables.specs.Link.{device_of, has_failed}
 use Rattle.ytables.specs.Sends.{Sends}
-use Rattle.ycli.specs.Machine.{Machine, Configuration}
-use Rattle.ycli.specs.History.{History, pushed, position}
-use Rattle.ycli.specs.Reply.{Reply, Answers, undo_text, undone, step_line}
+use Rattle.yparse.specs.Machine.{Machine, Configuration, next}
+use Rattle.yparse.specs.Past.{Steps, position, undone, undone_from}
+use Rattle.yparse.specs.History.{History}
+use Rattle.ycli.specs.Reply.{Reply, Answers, Runs, GoesBack, GoesTo, refusal, undo_text, step_line}
 
 module _ {W : Type 0} (contents : W → Option (List ℕ)) where
   -- a reply of which all or a beginning was sent
@@ -27,39 +32,79 @@ module _ {W : Type 0} (contents : W → Option (List ℕ)) where
 -- ---- undos
 
 -- an undo: what it leaves of the text, and of the history
-pub undo_text-step : (m : Machine) (n : ℕ) (made : Bool) (h new : History) (kind : StepKind) → h ≡ pushed new (kind, h.now)
-    → undo_text m (suc n) made h.past ≡ step_line m (position new) (codes " undo ") kind ++ undo_text m n true new.past
-undo_text-step m n made h new kind e = ap (λ (x : History). undo_text m (suc n) made x.past) e
+undo_text-step : (m : Machine) (n : ℕ) (made : Bool) (h new : History) (kind : StepKind) → h.earlier ≡ (kind, new.now) ∷ new.earlier
+    → undo_text m (suc n) made h.earlier ≡ step_line m (position new) (codes " undo ") kind ++ undo_text m n true new.earlier
+undo_text-step m n made h new kind e = ap (undo_text m (suc n) made) e
 
-pub undone-step : (n : ℕ) (h new : History) (kind : StepKind) → h ≡ pushed new (kind, h.now) → undone (suc n) h.now h.past ≡ undone n new.now new.past
-undone-step n h new kind e = ap (λ (x : History). undone (suc n) h.now x.past) e
+undone-step : (n : ℕ) (h new : History) (kind : StepKind) → h.earlier ≡ (kind, new.now) ∷ new.earlier → undone (suc n) h ≡ undone n new
+undone-step n h new kind e = ap (undone_from (suc n) h.now) e
 
-pub undo_text-none : (m : Machine) (n : ℕ) (made : Bool) (past : List (StepKind × Configuration)) → past ≡ [] → undo_text m (suc n) made past ≡ (if made then [] else codes "at start\n")
+undo_text-none : (m : Machine) (n : ℕ) (made : Bool) (past : List (StepKind × Configuration)) → past ≡ [] → undo_text m (suc n) made past ≡ (if made then [] else codes "at start\n")
 undo_text-none m n made past e = ap (undo_text m (suc n) made) e
 
-pub undone-none : (n : ℕ) (h : History) → h.past ≡ [] → undone n h.now h.past ≡ h
+undone-none : (n : ℕ) (h : History) → h.earlier ≡ [] → undone n h ≡ h
 undone-none zero h e = refl
-undone-none (suc n) h e = ap (undone (suc n) h.now) e ∙ ap (λ (p : List (StepKind × Configuration)). let x : History = record { now = h.now; past = p } in x) (sym e)
+undone-none (suc n) h e = ap (undone_from (suc n) h.now) e ∙ ap (λ (p : List (StepKind × Configuration)). let x : History = record { now = h.now; earlier = p } in x) (sym e)
 
 -- one more undo, of those that are left
-pub undo_text-on : (m : Machine) (count k n : ℕ) (made : Bool) (h hi new : History) (kind : StepKind) (text : List ℕ) → k ≡ suc n → hi ≡ pushed new (kind, hi.now)
-    → undo_text m count false h.past ≡ text ++ undo_text m k made hi.past
-    → undo_text m count false h.past ≡ text ++ (step_line m (position new) (codes " undo ") kind ++ undo_text m n true new.past)
+pub undo_text-on : (m : Machine) (count k n : ℕ) (made : Bool) (h hi new : History) (kind : StepKind) (text : List ℕ) → k ≡ suc n → hi.earlier ≡ (kind, new.now) ∷ new.earlier
+    → undo_text m count false h.earlier ≡ text ++ undo_text m k made hi.earlier
+    → undo_text m count false h.earlier ≡ text ++ (step_line m (position new) (codes " undo ") kind ++ undo_text m n true new.earlier)
 undo_text-on m count k n made h hi new kind text e f r =
-    r ∙ ap (λ (j : ℕ). text ++ undo_text m j made hi.past) e ∙ ap (λ (l : List ℕ). text ++ l) (undo_text-step m n made hi new kind f)
+    r ∙ ap (λ (j : ℕ). text ++ undo_text m j made hi.earlier) e ∙ ap (λ (l : List ℕ). text ++ l) (undo_text-step m n made hi new kind f)
 
-pub undone-on : (count k n : ℕ) (h hi new : History) (kind : StepKind) → k ≡ suc n → hi ≡ pushed new (kind, hi.now)
-    → undone count h.now h.past ≡ undone k hi.now hi.past → undone count h.now h.past ≡ undone n new.now new.past
-undone-on count k n h hi new kind e f r = r ∙ ap (λ (j : ℕ). undone j hi.now hi.past) e ∙ undone-step n hi new kind f
+pub undone-on : (count k n : ℕ) (h hi new : History) (kind : StepKind) → k ≡ suc n → hi.earlier ≡ (kind, new.now) ∷ new.earlier
+    → undone count h ≡ undone k hi → undone count h ≡ undone n new
+undone-on count k n h hi new kind e f r = r ∙ ap (λ (j : ℕ). undone j hi) e ∙ undone-step n hi new kind f
 
 -- no step is left to undo
-pub undo_text-off : (m : Machine) (count k n : ℕ) (made : Bool) (h hi : History) (text : List ℕ) → k ≡ suc n → hi.past ≡ []
-    → undo_text m count false h.past ≡ text ++ undo_text m k made hi.past → undo_text m count false h.past ≡ text ++ (if made then [] else codes "at start\n")
+pub undo_text-off : (m : Machine) (count k n : ℕ) (made : Bool) (h hi : History) (text : List ℕ) → k ≡ suc n → hi.earlier ≡ []
+    → undo_text m count false h.earlier ≡ text ++ undo_text m k made hi.earlier → undo_text m count false h.earlier ≡ text ++ (if made then [] else codes "at start\n")
 undo_text-off m count k n made h hi text e f r =
-    r ∙ ap (λ (j : ℕ). text ++ undo_text m j made hi.past) e ∙ ap (λ (l : List ℕ). text ++ l) (undo_text-none m n made hi.past f)
+    r ∙ ap (λ (j : ℕ). text ++ undo_text m j made hi.earlier) e ∙ ap (λ (l : List ℕ). text ++ l) (undo_text-none m n made hi.earlier f)
 
-pub undone-off : (count k : ℕ) (h hi new : History) → hi.past ≡ [] → new ≡ hi → undone count h.now h.past ≡ undone k hi.now hi.past → new ≡ undone count h.now h.past
+pub undone-off : (count k : ℕ) (h hi new : History) → hi.earlier ≡ [] → new ≡ hi → undone count h ≡ undone k hi → new ≡ undone count h
 undone-off count k h hi new f e r = e ∙ sym (r ∙ undone-none k hi f)
+
+-- ---- steps
+
+-- a step with its line, and then what comes later
+pub runs-step : (m : Machine) (k n : ℕ) (made : Bool) (h mid new : History) (kind : StepKind) (more : List ℕ) → k ≡ suc n → Steps (next m) h (Ok kind) mid → Runs m n true mid more new
+    → Runs m k made h (step_line m (position mid) (codes " ") kind ++ more) new
+runs-step m k n made h mid new kind more e s r =
+    subst (λ (j : ℕ). Runs m j made h (step_line m (position mid) (codes " ") kind ++ more) new) (sym e) (Ok kind, mid, s, (more, refl, r))
+
+-- a step that is refused ends it
+pub runs-fault : (m : Machine) (k n : ℕ) (made : Bool) (h mid : History) (fault : StepFault) → k ≡ suc n → Steps (next m) h (Err fault) mid → Runs m k made h (refusal made fault) mid
+runs-fault m k n made h mid fault e s =
+    subst (λ (j : ℕ). Runs m j made h (refusal made fault) mid) (sym e) (Err fault, mid, s, (refl, refl))
+
+-- no step is left to make
+pub runs-off : (m : Machine) (k : ℕ) (made : Bool) (h : History) → k ≡ 0 → Runs m k made h [] h
+runs-off m k made h e = subst (λ (j : ℕ). Runs m j made h [] h) (sym e) (refl, refl)
+
+steps_some : (m : Machine) (h : History) (o : Option (StepKind × Configuration)) → next m h.now ≡ o → (position h < 1000000) ⊎ (1000000 ≤ position h)
+    → (fault : StepFault) × Steps (next m) h (Err fault) h
+steps_some m h None e p = (Halted, (e, refl))
+steps_some m h (Some s) e (inl p) = (Memory, ((subst (λ (x : Option (StepKind × Configuration)). IsSome x) (sym e) refl, p), refl))
+steps_some m h (Some s) e (inr p) = (Limit, ((subst (λ (x : Option (StepKind × Configuration)). IsSome x) (sym e) refl, p), refl))
+
+-- there is always a reply to so many steps
+pub runs_some : (m : Machine) (n : ℕ) (made : Bool) (h : History) → (text : List ℕ) × (new : History) × Runs m n made h text new
+runs_some m zero made h = ([], h, (refl, refl))
+runs_some m (suc n) made h =
+    let (fault, s) = steps_some m h (next m h.now) refl (cases_lt (position h) 1000000) in
+    (refusal made fault, h, (Err fault, h, s, (refl, refl)))
+
+le-not-ltb : (k n : ℕ) → k ≤ n → nat_lt n k ≡ false
+le-not-ltb k n h = false_from_ne_true (nat_lt n k) (λ e. let l = ltb-true n k e in omega (arith, l, h))
+
+-- steps or undos to a position
+pub to_run : (m : Machine) (k : ℕ) (h new : History) (text : List ℕ) → position h < k → Runs m (k - position h) false h text new → Reply m h (To k) text new
+to_run m k h new text l r = subst (λ (b : Bool). GoesTo m k b h text new) (sym (lt-ltb (position h) k l)) r
+
+pub to_back : (m : Machine) (k : ℕ) (h new : History) (text : List ℕ) → k ≤ position h → GoesBack m (position h - k) h text new → Reply m h (To k) text new
+to_back m k h new text l r = subst (λ (b : Bool). GoesTo m k b h text new) (sym (le-not-ltb k (position h) l)) r
 
 module _ {W : Type 0} (contents : W → Option (List ℕ)) where
   -- a reply that was sent, and not flushed
@@ -67,3 +112,10 @@ module _ {W : Type 0} (contents : W → Option (List ℕ)) where
       → Keeps (contents (device_of b)) (contents (device_of c)) → has_failed c ≡ true → Answers contents a c false m h command now
   answered-unflushed a b c m h now command (text, r, s) k f =
       (text, now, r, record { bytes = record { front = text; back = []; parts = sym (append-nil text); written = Appends-kept _ _ _ text s.bytes k }; failed = f })
+
+  -- nothing was sent, and no link failed
+  pub kept_link : (a b : Link W) → contents (device_of b) ≡ contents (device_of a) → has_failed a ≡ false → has_failed b ≡ false → Sends contents a b true []
+  kept_link a b same unset still = record {
+    bytes = subst (λ (x : Option (List ℕ)). Appends (contents (device_of a)) x []) (sym same) (Appends-nil (contents (device_of a)));
+    failed = still ∙ sym unset;
+  }

@@ -14,17 +14,17 @@ use Rattle.ylalr.specs.declared.fault.BuildFault.{BuildFault}
 use Rattle.ylalr.specs.declared.fault.BuildFault.TheVariants as building
 use Rattle.ytables.specs.declared.link.Link.{Link}
 use Rattle.ytables.specs.Tables.{TablesValue as Tables}
-use Rattle.ycli.specs.declared.tokens.TokenFault.{TokenFault}
-use Rattle.ycli.specs.declared.tokens.TokenFault.TheVariants as faults
+use Rattle.yparse.specs.declared.tokens.TokenFault.{TokenFault}
+use Rattle.yparse.specs.declared.tokens.TokenFault.TheVariants as faults
 use Rattle.ycli.specs.declared.arguments.YstepWords.{YstepWords}
 use Rattle.ycli.specs.declared.message.Trouble.{Trouble}
 use Rattle.ytables.specs.Link.{device_of, has_failed}
 use Rattle.ytables.specs.Sends.{Sends}
-use Rattle.ycli.specs.Reading.{Gives}
+use Rattle.yparse.specs.Reading.{Gives}
 use Rattle.ycli.specs.Programs.{AreTablesOf, GrammarFails, TokensFail, Says, of_grammar, of_tables, of_tokens, of_unread}
 
 -- a refused tokens file
-pub tokens_fail : (path : Bor (List ℕ)) (source : List ℕ) (t : Tables) (bytes : List ℕ) (fault : TokenFault) → AreTablesOf source t → Gives t bytes (Err fault)
+pub tokens_fail : (path : Bor (List ℕ)) (source : List ℕ) (t : Tables) (bytes : List ℕ) (fault : TokenFault) → AreTablesOf source t → Gives t.built.grammar bytes (Err fault)
     → TokensFail path (of_tokens fault)
 tokens_fail path source t bytes (faults.Unknown place) are given = (source, t, bytes, are, given)
 tokens_fail path source t bytes (faults.NotInput place) are given = (source, t, bytes, are, given)

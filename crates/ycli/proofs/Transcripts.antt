@@ -1,37 +1,31 @@
 -- How the replies to lines make the text of a session.
-use Rattle.std.proofs.Common.{ℕ, ◌≡◌, ◌-◌, ◌^◌, ◌<◌, ◌≤◌, ◌++◌, ◌==◌, Bool, true, false, List, [], ◌∷◌, Option, Some, None, Result, Ok, Err, length, take, refl, sym, ap, ◌∙◌, subst, arith, append_assoc, append-nil, inl, inr, ◌⊎◌, IsSome, IfSome, codes, length-append}
-use Rattle.std.proofs.lemmas.Bool.{cases_lt}
-use Rattle.ycli.specs.declared.machine.StepKind.{StepKind}
-use Rattle.ycli.specs.declared.machine.StepFault.{StepFault}
-use Rattle.ycli.specs.declared.machine.StepFault.TheVariants.{Halted, Limit, Memory}
+use Rattle.std.proofs.Common.{ℕ, ◌≡◌, ◌≢◌, nat_lt, ◌-◌, ◌^◌, ◌<◌, ◌≤◌, ◌++◌, ◌==◌, Bool, true, false, List, [], ◌∷◌, Option, Some, None, Result, Ok, Err, length, take, refl, sym, ap, ◌∙◌, subst, arith, append_assoc, append-nil, inl, inr, ◌⊎◌, IsSome, IfSome, codes, length-append}
+use Rattle.std.proofs.lemmas.List.Elements.{All-nil, All-cons, All-head, All-tail}
+use Rattle.yparse.specs.declared.machine.StepKind.{StepKind}
+use Rattle.yparse.specs.declared.machine.Mode.{Mode}
+use Rattle.yparse.specs.declared.machine.Mode.TheVariants.{Running, Popping, Accepted, Failed}
 use Rattle.ycli.specs.declared.command.Command.{Command}
-use Rattle.ycli.specs.declared.command.Command.TheVariants.{Step, Back, Show, Quit, Unknown}
+use Rattle.ycli.specs.declared.command.Command.TheVariants.{Run, Back, To, Show, Tree, Unwind, Quit, Unknown}
 use Rattle.ytables.specs.declared.link.Link.{Link}
 use Rattle.ycli.specs.declared.fault.SessionFault.{SessionFault}
 use Rattle.ycli.specs.declared.fault.SessionFault.TheVariants as faults
 use Rattle.std.specs.Io.KnownBytes.{Consumes, IsAtEnd}
 use Rattle.ytables.specs.Link.{device_of}
 use Rattle.ytables.specs.Sends.{Sends}
-use Rattle.ycli.specs.Machine.{Machine, Configuration, next}
-use Rattle.ycli.specs.History.{History, Steps, position}
+use Rattle.yparse.specs.Machine.{Machine, Configuration}
+use Rattle.yparse.specs.History.{History}
+use Rattle.yparse.specs.Past.{position, undone, rewound}
+use Rattle.yparse.specs.Unwinding.{NoErrors, is_error_step, tree_lines, unwound_text}
 use Rattle.ycli.specs.Command.{command_of}
 use Rattle.ycli.specs.Lines.{last_line}
-use Rattle.ycli.specs.Reply.{Reply, Answers, AnswersLine, step_text, undo_text, undone, shown}
+use Rattle.ycli.specs.Reply.{Reply, Answers, AnswersLine, GoesTo, Unwinds, undo_text, shown}
 use Rattle.ycli.specs.Transcript.{Transcript, Tells}
 use Rattle.ycli.specs.Serving.{whole_after, rest_after, whole_lines, rest_line, lines_of, Replies, ChunkTells, ReadTells, Ends}
 use Rattle.ytables.proofs.Sent.{Sends-then, Sends-stop, Sends-nothing}
+use Rattle.ycli.proofs.Replying.{runs_some}
 use Rattle.ycli.proofs.Lines.{whole_after-append, rest_after-append, whole_after-newline, rest_after-newline, whole_after-byte, rest_after-byte, take-front, command_of-front, is_cut, are_lines}
 
 -- ---- there is always a text
-
-pub steps_some : (m : Machine) (h : History) (o : Option (StepKind × Configuration)) → next m h.now ≡ o → (position h < 1000000) ⊎ (1000000 ≤ position h)
-    → (result : Result StepKind StepFault) × (new : History) × Steps m h result new
-steps_some m h None e p = (Err Halted, h, (e, refl))
-steps_some m h (Some s) e (inl p) = (Err Memory, h, (subst (λ (x : Option (StepKind × Configuration)). IsSome x) (sym e) refl, p, refl))
-steps_some m h (Some s) e (inr p) = (Err Limit, h, (subst (λ (x : Option (StepKind × Configuration)). IsSome x) (sym e) refl, p, refl))
-
-pub step_replies : (m : Machine) (h : History) → (text : List ℕ) × (new : History) × Reply m h Step text new
-step_replies m h = let (result, new, s) = steps_some m h (next m h.now) refl (cases_lt (position h) 1000000) in (step_text m new result, new, (result, s, refl))
 
 -- a line's reply, and what comes after it
 pub goes_on : (m : Machine) (h mid : History) (line : List ℕ) (lines : List (List ℕ)) (text reply more : List ℕ) → Reply m h (command_of line) reply mid → text ≡ reply ++ more → Transcript m mid lines more
@@ -41,11 +35,48 @@ goes_on m h mid line lines text reply more r e t = inr (reply, more, mid, r, e, 
 pub quits : (m : Machine) (h : History) (line : List ℕ) (lines : List (List ℕ)) → command_of line ≡ Quit → Transcript m h (line ∷ lines) []
 quits m h line lines e = inl (e, refl)
 
+abbrev IsNoError : StepKind × Configuration → Type 0
+IsNoError step = is_error_step step.0 ≡ false
+
+abbrev mode_number : Mode → ℕ
+mode_number Running = 0
+mode_number Popping = 1
+mode_number Accepted = 2
+mode_number Failed = 3
+
+other : {a b c : Mode} → a ≡ b → (b ≡ c → ⊥) → a ≢ c
+other e f g = f (sym e ∙ g)
+
+to_some : (m : Machine) (h : History) (k : ℕ) (above : Bool) → (text : List ℕ) × (new : History) × GoesTo m k above h text new
+to_some m h k true = runs_some m (k - position h) false h
+to_some m h k false = (undo_text m (position h - k) false h.earlier, undone (position h - k) h, (refl, refl))
+
+-- a past has an error step or none
+errors_known : (earlier : List (StepKind × Configuration)) → NoErrors earlier ⊎ (NoErrors earlier → ⊥)
+errors_known [] = inl (All-nil IsNoError)
+errors_known (step ∷ earlier) = one_known step earlier (is_error_step step.0) refl (errors_known earlier)
+  where
+    one_known : (step : StepKind × Configuration) (earlier : List (StepKind × Configuration)) (b : Bool) → is_error_step step.0 ≡ b → NoErrors earlier ⊎ (NoErrors earlier → ⊥) → NoErrors (step ∷ earlier) ⊎ (NoErrors (step ∷ earlier) → ⊥)
+    one_known step earlier true e known = inr (λ all. let bad : true ≡ false = sym e ∙ All-head IsNoError step earlier all in cc)
+    one_known step earlier false e (inl none) = inl (All-cons IsNoError step earlier e none)
+    one_known step earlier false e (inr some) = inr (λ all. some (All-tail IsNoError step earlier all))
+
+-- whatever the mode, an unwinding has a reply
+unwinds_some : (m : Machine) (h : History) (mode : Mode) → h.now.mode ≡ mode → NoErrors h.earlier ⊎ (NoErrors h.earlier → ⊥) → (text : List ℕ) × (new : History) × Unwinds m h text new
+unwinds_some m h Accepted e (inl none) = (unwound_text m h, rewound h, inr (inr (e, none, refl, refl)))
+unwinds_some m h Accepted e (inr some) = (codes "had error\n", h, inr (inl (e, some, refl, refl)))
+unwinds_some m h Running e known = (codes "not accepted\n", h, inl (other e (λ bad. let wrong : 0 ≡ 2 = ap mode_number bad in omega (arith, wrong)), refl, refl))
+unwinds_some m h Popping e known = (codes "not accepted\n", h, inl (other e (λ bad. let wrong : 1 ≡ 2 = ap mode_number bad in omega (arith, wrong)), refl, refl))
+unwinds_some m h Failed e known = (codes "not accepted\n", h, inl (other e (λ bad. let wrong : 3 ≡ 2 = ap mode_number bad in omega (arith, wrong)), refl, refl))
+
 -- a command is `quit`, or has a reply
 pub replies_some : (m : Machine) (h : History) (command : Command) → (command ≡ Quit) ⊎ ((text : List ℕ) × (new : History) × Reply m h command text new)
-replies_some m h Step = inr (step_replies m h)
-replies_some m h (Back n) = inr (undo_text m n false h.past, undone n h.now h.past, (refl, refl))
+replies_some m h (Run n) = inr (runs_some m n false h)
+replies_some m h (Back n) = inr (undo_text m n false h.earlier, undone n h, (refl, refl))
+replies_some m h (To k) = inr (to_some m h k (nat_lt (position h) k))
 replies_some m h Show = inr (shown m h, h, (refl, refl))
+replies_some m h Tree = inr (tree_lines m h.now.stack, h, (refl, refl))
+replies_some m h Unwind = inr (unwinds_some m h h.now.mode refl (errors_known h.earlier))
 replies_some m h Unknown = inr (codes "unknown command\n", h, (refl, refl))
 replies_some m h Quit = inl refl
 

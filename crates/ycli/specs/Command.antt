@@ -1,33 +1,41 @@
 -- What a command line says.
-use Rattle.std.specs.Prelude.{ℕ, nat_le, nat_lt, ◌==◌, ◌&&◌, ◌||◌, not, List, length, take, drop}
-use Rattle.std.specs.Prelude.{Option, Some, None, codes, if◌then◌else◌}
+use Rattle.std.specs.Prelude.{ℕ, nat_le, nat_lt, ◌&&◌, ◌||◌, List, length, take, drop, Option, Some, None, codes, if◌then◌else◌}
 use Rattle.std.specs.Option.{option_map_or}
 use Rattle.std.specs.Str.{bytes_eq, all_ascii_digits}
 use Rattle.std.specs.Str.Parse.{digits_value}
 use Rattle.ycli.specs.declared.command.Command.{Command}
-use Rattle.ycli.specs.declared.command.Command.TheVariants.{Step, Back, Show, Quit, Unknown}
+use Rattle.ycli.specs.declared.command.Command.TheVariants.{Run, Back, To, Show, Tree, Unwind, Quit, Unknown}
 
--- a number from 1 to 1,000,000
-abbrev pub counted : ℕ → Option ℕ
-counted n = if n == 0 || nat_lt 1000000 n then None else Some n
+-- a number from the least one to 1,000,000
+abbrev pub counted : ℕ → ℕ → Option ℕ
+counted least n = if nat_lt n least || nat_lt 1000000 n then None else Some n
 
 -- one to seven decimal digits with such a value
-abbrev pub number_in : List ℕ → Option ℕ
-number_in digits =
+abbrev pub number_in : ℕ → List ℕ → Option ℕ
+number_in least digits =
     if nat_lt 0 (length digits) && (nat_le (length digits) 7 && all_ascii_digits digits)
-    then counted (digits_value 10 digits) else None
+    then counted least (digits_value 10 digits) else None
 
 -- the number after a word
-abbrev pub number_after : List ℕ → List ℕ → Option ℕ
-number_after word line =
+abbrev pub number_after : ℕ → List ℕ → List ℕ → Option ℕ
+number_after least word line =
     if nat_le (length word) (length line) && bytes_eq (take (length word) line) word
-    then number_in (drop (length word) line) else None
+    then number_in least (drop (length word) line) else None
+
+-- a command with a number after it
+abbrev pub counting : List ℕ → Command
+counting line =
+    option_map_or Run (number_after 1 (codes "run ") line)
+    (option_map_or Back (number_after 1 (codes "back ") line)
+    (option_map_or To (number_after 0 (codes "to ") line) Unknown))
 
 -- exactly one of the commands; any other line is unknown, also one of more than 4,096 bytes
 unfoldable pub command_of : List ℕ → Command
 command_of line =
     if nat_lt 4096 (length line) then Unknown
-    else (if bytes_eq line (codes "step") then Step
+    else (if bytes_eq line (codes "step") then Run 1
     else (if bytes_eq line (codes "show") then Show
+    else (if bytes_eq line (codes "tree") then Tree
+    else (if bytes_eq line (codes "unwind") then Unwind
     else (if bytes_eq line (codes "quit") then Quit
-    else option_map_or Back (number_after (codes "back ") line) Unknown)))
+    else counting line)))))

@@ -1,16 +1,6 @@
-pub mod Tables
-pub mod Tokens
-pub mod Machine
 pub mod Messages
-pub mod MachineOver
-pub mod History
-pub mod Snapshots
-pub mod View
-pub mod Session
 pub mod Command
 pub mod Lines
-pub mod TokensFile
-pub mod Reading
 pub mod Reply
 pub mod Transcript
 pub mod Serving

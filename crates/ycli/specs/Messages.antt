@@ -3,8 +3,8 @@ use Rattle.std.specs.Prelude.{ℕ, ◌++◌, ◌==◌, ◌&&◌, [], List, decim
 use Rattle.std.specs.Prelude.{if◌then◌else◌}
 use Rattle.ygrammar.specs.declared.fault.GrammarFault.{GrammarFault}
 use Rattle.ygrammar.specs.declared.fault.GrammarFault.TheVariants as grammars
-use Rattle.ycli.specs.declared.tokens.TokenFault.{TokenFault}
-use Rattle.ycli.specs.declared.tokens.TokenFault.TheVariants as tokens
+use Rattle.yparse.specs.declared.tokens.TokenFault.{TokenFault}
+use Rattle.yparse.specs.declared.tokens.TokenFault.TheVariants as tokens
 use Rattle.ycli.specs.declared.fault.SessionFault.{SessionFault}
 use Rattle.ycli.specs.declared.fault.SessionFault.TheVariants as streams
 use Rattle.ytables.specs.declared.tables.Counts.{Counts}

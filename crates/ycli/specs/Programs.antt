@@ -1,6 +1,5 @@
 -- What a program does but for its exit: what it was asked for, its message and its exit status.
-use Rattle.std.specs.Prelude.{ℕ, ◌≡◌, ◌≢◌, ◌<◌, ◌^◌, ◌⊎◌, ◌++◌, false, List, [], length, decimal}
-use Rattle.std.specs.Prelude.{codes, Option, IfSome, Result, Ok, Err}
+use Rattle.std.specs.Prelude.{ℕ, ◌≡◌, ◌≢◌, ◌<◌, ◌^◌, ◌⊎◌, ◌++◌, false, List, [], length, decimal, codes, Option, IfSome, Result, Ok, Err}
 use Rattle.std.specs.Borrow.{Bor}
 use Rattle.std.specs.Io.KnownBytes.{Appends}
 use Rattle.std.specs.declared.io.ErrorKind.{ErrorKind as IoKind}
@@ -18,26 +17,24 @@ use Rattle.ylalr.specs.Collection.{HasStates, TooMany}
 use Rattle.ytables.specs.Tables.{AreTables}
 use Rattle.ylalr.specs.declared.fault.BuildFault.{BuildFault}
 use Rattle.ylalr.specs.declared.fault.BuildFault.TheVariants as building
-use Rattle.ycli.specs.declared.tokens.TokenFault.{TokenFault}
-use Rattle.ycli.specs.declared.tokens.TokenFault.TheVariants as tokens
+use Rattle.yparse.specs.declared.tokens.TokenFault.{TokenFault}
+use Rattle.yparse.specs.declared.tokens.TokenFault.TheVariants as tokens
 use Rattle.ycli.specs.declared.fault.SessionFault.{SessionFault}
 use Rattle.ycli.specs.declared.fault.SessionFault.TheVariants as streams
 use Rattle.ycli.specs.declared.arguments.YstepWords.{YstepWords}
 use Rattle.ycli.specs.declared.message.Program.{Program}
 use Rattle.ycli.specs.declared.message.Program.TheVariants.{Ystep}
 use Rattle.ycli.specs.declared.message.Trouble.{Trouble}
-use Rattle.ycli.specs.declared.message.Trouble.TheVariants.{Usage, Grammar, Tokens, TooManySets}
-use Rattle.ycli.specs.declared.message.Trouble.TheVariants.{NoMemory, CannotRead, CannotWrite}
-use Rattle.ycli.specs.declared.message.Trouble.TheVariants.{Session}
+use Rattle.ycli.specs.declared.message.Trouble.TheVariants.{Usage, Grammar, Tokens, TooManySets, NoMemory, CannotRead, CannotWrite, Session}
 use Rattle.ycli.specs.declared.programs.Request.{Request}
 use Rattle.ycli.specs.declared.programs.Request.TheVariants as requests
 use Rattle.ytables.specs.Link.{device_of, has_failed}
 use Rattle.ycli.specs.Messages.{message}
 use Rattle.ytables.specs.Sends.{Begins}
-use Rattle.ycli.specs.Reading.{TokensOf}
-use Rattle.ycli.specs.Machine.{Machine}
-use Rattle.ycli.specs.MachineOver.{machine_over}
-use Rattle.ycli.specs.History.{History, first_history}
+use Rattle.yparse.specs.Reading.{TokensOf}
+use Rattle.yparse.specs.Machine.{Machine}
+use Rattle.yparse.specs.MachineOver.{machine_over}
+use Rattle.yparse.specs.History.{History, first_history}
 use Rattle.ycli.specs.Transcript.{Tells, failed_read, failed_write}
 use Rattle.ycli.specs.Arguments.{ystep_app, ArePathsIn}
 
@@ -108,8 +105,7 @@ AskHelp app words = IsAmong kinds.DisplayHelp (fault_of app words)
 
 -- the words have a fault that is no request for help
 abbrev pub AreMistaken : App → List (List ℕ) → Type 0
-AreMistaken app words =
-    (kind : ErrorKind) × IsAmong kind (fault_of app words) × (kind ≢ kinds.DisplayHelp)
+AreMistaken app words = (kind : ErrorKind) × IsAmong kind (fault_of app words) × (kind ≢ kinds.DisplayHelp)
 
 -- what the words ask `ystep` for
 abbrev pub Asks : List (List ℕ) → Result Request Trouble → Type 0
@@ -136,8 +132,7 @@ pub record AreTablesOf (source : List ℕ) (t : Tables) : Type 0 where
 abbrev pub GrammarFails : Bor (List ℕ) → Trouble → Type 0
 GrammarFails path (Grammar grammars.Memory) = ⊥
 GrammarFails path (Grammar fault) = (source : List ℕ) × IsFaultOf source fault
-GrammarFails path TooManySets =
-    (source : List ℕ) × (v : GrammarValue) × IsGrammarOf source v × TooMany v.bare
+GrammarFails path TooManySets = (source : List ℕ) × (v : GrammarValue) × IsGrammarOf source v × TooMany v.bare
 GrammarFails path NoMemory = Unit {0}
 GrammarFails path (CannotRead unread) = unread ≡ path
 GrammarFails path (Tokens fault) = ⊥
@@ -149,8 +144,7 @@ GrammarFails path (CannotWrite prefix ending) = ⊥
 abbrev pub TokensFail : Bor (List ℕ) → Trouble → Type 0
 TokensFail path (Tokens tokens.Memory) = ⊥
 TokensFail path (Tokens fault) =
-    (source : List ℕ) × (t : Tables) × (bytes : List ℕ) × AreTablesOf source t × TokensOf t bytes
-    (Err fault)
+    (source : List ℕ) × (t : Tables) × (bytes : List ℕ) × AreTablesOf source t × TokensOf t.built.grammar bytes (Err fault)
 TokensFail path NoMemory = Unit {0}
 TokensFail path (CannotRead unread) = unread ≡ path
 TokensFail path (Grammar fault) = ⊥
@@ -170,19 +164,16 @@ pub record Starts (m : Machine) (h : History) : Type 0 where
   pub are : AreTablesOf source tables
   pub bytes : List ℕ
   pub symbols : List ℕ
-  pub tokens : TokensOf tables bytes (Ok symbols)
+  pub tokens : TokensOf tables.built.grammar bytes (Ok symbols)
   pub machine : m ≡ machine_over tables
   pub history : h ≡ first_history symbols
 
 -- a session was served from its start
-pub record Serves {R W : Type 0} (remaining : R → Option (List ℕ)) (contents : W → Option (List ℕ))
-    (r : R) (reader : Link R) (w : W) (writer : Link W) (ending : Result (Unit {0}) SessionFault) :
-    Type 0 where
+pub record Serves {R W : Type 0} (remaining : R → Option (List ℕ)) (contents : W → Option (List ℕ)) (r : R) (reader : Link R) (w : W) (writer : Link W) (ending : Result (Unit {0}) SessionFault) : Type 0 where
   pub machine : Machine
   pub history : History
   pub starts : Starts machine history
-  pub tells : IfSome (remaining r) (λ input. length input < 2 ^ 63 → Tells machine history input
-      (remaining (device_of reader)) (contents w) (contents (device_of writer)) ending)
+  pub tells : IfSome (remaining r) (λ input. length input < 2 ^ 63 → Tells machine history input (remaining (device_of reader)) (contents w) (contents (device_of writer)) ending)
   pub read_fault : has_failed reader ≡ failed_read ending
   pub write_fault : has_failed writer ≡ failed_write ending
 
@@ -198,14 +189,11 @@ pub record Fails (words : List (List ℕ)) (trouble : Trouble) : Type 0 where
   pub given : ArePathsIn words paths
   pub files : FilesFail paths trouble
 
-module _ {R W : Type 0} (remaining : R → Option (List ℕ)) (contents : W → Option (List ℕ))
-    (words : List (List ℕ)) (r : R) (reader : Link R) (w : W) (writer : Link W) where
+module _ {R W : Type 0} (remaining : R → Option (List ℕ)) (contents : W → Option (List ℕ)) (words : List (List ℕ)) (r : R) (reader : Link R) (w : W) (writer : Link W) where
   -- a run over these words ended so
   abbrev pub EndsIn : Result (Unit {0}) Trouble → Type 0
-  EndsIn (Ok done) = AskHelp ystep_app words ⊎
-      (AreTaken ystep_app words × Serves remaining contents r reader w writer (Ok done))
-  EndsIn (Err (Session fault)) = AreTaken ystep_app words × Serves remaining contents r reader w
-      writer (Err fault)
+  EndsIn (Ok done) = AskHelp ystep_app words ⊎ (AreTaken ystep_app words × Serves remaining contents r reader w writer (Ok done))
+  EndsIn (Err (Session fault)) = AreTaken ystep_app words × Serves remaining contents r reader w writer (Err fault)
   EndsIn (Err Usage) = AreMistaken ystep_app words × Rests r reader w writer
   EndsIn (Err NoMemory) = Rests r reader w writer
   EndsIn (Err (Grammar fault)) = Fails words (Grammar fault) × Rests r reader w writer
@@ -215,16 +203,13 @@ module _ {R W : Type 0} (remaining : R → Option (List ℕ)) (contents : W → 
   EndsIn (Err (CannotWrite prefix ending)) = ⊥
 
 -- a message went to a link: its whole, or a beginning of it where the link failed
-pub record Says {E : Type 0} (contents : E → Option (List ℕ)) (e : E) (errors : Link E)
-    (text : List ℕ) : Type 0 where
+pub record Says {E : Type 0} (contents : E → Option (List ℕ)) (e : E) (errors : Link E) (text : List ℕ) : Type 0 where
   pub begins : Begins (contents e) (contents (device_of errors)) text
   pub whole : has_failed errors ≡ false → Appends (contents e) (contents (device_of errors)) text
 
 -- what a run answers and does: its end, with the status and the message of that end
-pub record Runs {R W E : Type 0} (remaining : R → Option (List ℕ)) (contents : W → Option (List ℕ))
-    (messages : E → Option (List ℕ)) (words : List (List ℕ))
-    (r : R) (reader : Link R) (w : W) (writer : Link W) (e : E) (errors : Link E) (answer : ℕ) :
-    Type 0 where
+pub record Runs {R W E : Type 0} (remaining : R → Option (List ℕ)) (contents : W → Option (List ℕ)) (messages : E → Option (List ℕ)) (words : List (List ℕ))
+    (r : R) (reader : Link R) (w : W) (writer : Link W) (e : E) (errors : Link E) (answer : ℕ) : Type 0 where
   pub ending : Result (Unit {0}) Trouble
   pub ends : EndsIn remaining contents words r reader w writer ending
   pub answers : answer ≡ status_after ending

@@ -1,20 +1,20 @@
 -- What a command replies, and the history that it leaves.
-use Rattle.std.specs.Prelude.{ℕ, suc, ◌≡◌, Bool, true, false, List, [], ◌∷◌, ◌++◌, length, map}
-use Rattle.std.specs.Prelude.{flat_map, decimal, codes, if◌then◌else◌, Result, Ok, Err, Option}
-use Rattle.std.specs.Prelude.{Some, None}
+use Rattle.std.specs.Prelude.{ℕ, suc, ◌≡◌, ◌≢◌, ◌⊎◌, ◌-◌, nat_lt, Bool, true, false, List, [], ◌∷◌, ◌++◌, length, map, flat_map, decimal, codes, if◌then◌else◌, Result, Ok, Err, Option, Some, None}
 use Prim.Native.Nat.{zero}
-use Rattle.ycli.specs.declared.machine.Mode.{Mode}
-use Rattle.ycli.specs.declared.machine.Mode.TheVariants.{Running, Popping, Accepted, Failed}
-use Rattle.ycli.specs.declared.machine.StepKind.{StepKind}
-use Rattle.ycli.specs.declared.machine.StepKind.TheVariants as kinds
-use Rattle.ycli.specs.declared.machine.StepFault.{StepFault}
-use Rattle.ycli.specs.declared.machine.StepFault.TheVariants.{Halted, Limit, Memory}
+use Rattle.yparse.specs.declared.machine.Mode.{Mode}
+use Rattle.yparse.specs.declared.machine.Mode.TheVariants.{Running, Popping, Accepted, Failed}
+use Rattle.yparse.specs.declared.machine.StepKind.{StepKind}
+use Rattle.yparse.specs.declared.machine.StepKind.TheVariants as kinds
+use Rattle.yparse.specs.declared.machine.StepFault.{StepFault}
+use Rattle.yparse.specs.declared.machine.StepFault.TheVariants.{Halted, Limit, Memory}
 use Rattle.ycli.specs.declared.command.Command.{Command}
-use Rattle.ycli.specs.declared.command.Command.TheVariants.{Step, Back, Show, Quit, Unknown}
+use Rattle.ycli.specs.declared.command.Command.TheVariants.{Run, Back, To, Show, Tree, Unwind, Quit, Unknown}
 use Rattle.ytables.specs.declared.link.Link.{Link}
 use Rattle.ytables.specs.Sends.{Sends}
-use Rattle.ycli.specs.Machine.{Machine, Configuration}
-use Rattle.ycli.specs.History.{History, Steps, position}
+use Rattle.yparse.specs.Machine.{Machine, Configuration, symbols, next}
+use Rattle.yparse.specs.Past.{Steps, position, undone, rewound}
+use Rattle.yparse.specs.History.{History}
+use Rattle.yparse.specs.Unwinding.{NoErrors, tokens_left, tree_lines, unwound_text}
 
 -- the words of a step
 abbrev pub kind_word : StepKind → List ℕ
@@ -40,33 +40,38 @@ kind_tail m kinds.Fail = []
 
 -- a position, a separator, the words of a step
 abbrev pub step_line : Machine → ℕ → List ℕ → StepKind → List ℕ
-step_line m at between kind =
-    decimal at ++ (between ++ (kind_word kind ++ (kind_tail m kind ++ codes "\n")))
+step_line m at between kind = decimal at ++ (between ++ (kind_word kind ++ (kind_tail m kind ++ codes "\n")))
 
--- what a refused step writes
-abbrev pub refusal : StepFault → List ℕ
-refusal Halted = codes "halted\n"
-refusal Limit = codes "limit\n"
-refusal Memory = codes "no memory\n"
+-- what a refused step writes, where steps were made before or not
+abbrev pub refusal : Bool → StepFault → List ℕ
+refusal made Halted = if made then [] else codes "halted\n"
+refusal made Limit = codes "limit\n"
+refusal made Memory = codes "no memory\n"
 
--- the line of a step with the position after it, or why there is none
-abbrev pub step_text : Machine → History → Result StepKind StepFault → List ℕ
-step_text m new (Ok kind) = step_line m (position new) (codes " ") kind
-step_text m new (Err fault) = refusal fault
+-- a step's line, and then what comes later; or why there is no step, which ends the command
+abbrev pub GoesOn : Machine → Bool → (History → List ℕ → History → Type 0) → Result StepKind StepFault → History → List ℕ → History → Type 0
+GoesOn m made later (Ok kind) mid text new = (more : List ℕ) × (text ≡ step_line m (position mid) (codes " ") kind ++ more) × later mid more new
+GoesOn m made later (Err fault) mid text new = (text ≡ refusal made fault) × (new ≡ mid)
 
--- the lines of at most n undos, each with the position after it; `at start` only where none was
--- made
+-- at most n steps with a line for each, some having been made before or none
+abbrev pub Runs : Machine → ℕ → Bool → History → List ℕ → History → Type 0
+Runs m zero made h text new = (text ≡ []) × (new ≡ h)
+Runs m (suc n) made h text new = (result : Result StepKind StepFault) × (mid : History) × Steps (next m) h result mid × GoesOn m made (Runs m n true) result mid text new
+
+-- the lines of at most n undos, each with the position after it; `at start` only where none was made
 abbrev pub undo_text : Machine → ℕ → Bool → List (StepKind × Configuration) → List ℕ
 undo_text m zero made past = []
 undo_text m (suc n) made [] = if made then [] else codes "at start\n"
-undo_text m (suc n) made (s ∷ past) =
-    step_line m (length past) (codes " undo ") s.0 ++ undo_text m n true past
+undo_text m (suc n) made (s ∷ past) = step_line m (length past) (codes " undo ") s.0 ++ undo_text m n true past
 
--- the history after at most n undos
-abbrev pub undone : ℕ → Configuration → List (StepKind × Configuration) → History
-undone zero now past = record { now = now; past = past }
-undone (suc n) now [] = record { now = now; past = [] }
-undone (suc n) now (s ∷ past) = undone n s.1 past
+-- at most n undos with a line for each
+abbrev pub GoesBack : Machine → ℕ → History → List ℕ → History → Type 0
+GoesBack m n h text new = (text ≡ undo_text m n false h.earlier) × (new ≡ undone n h)
+
+-- to a position: as many steps as it is above the one now, or as many undos as it is below
+abbrev pub GoesTo : Machine → ℕ → Bool → History → List ℕ → History → Type 0
+GoesTo m k true h text new = Runs m (k - position h) false h text new
+GoesTo m k false h text new = GoesBack m (position h - k) h text new
 
 abbrev pub mode_word : Mode → List ℕ
 mode_word Running = codes "running"
@@ -76,53 +81,50 @@ mode_word Failed = codes "failed"
 
 -- each name after a space
 abbrev pub spaced : Machine → List ℕ → List ℕ
-spaced m symbols = flat_map (λ symbol. 32 ∷ m.name symbol) symbols
+spaced m form = flat_map (λ symbol. 32 ∷ m.name symbol) form
 
 -- the position, the mode, and what begins the line of the stack
 abbrev pub shown_head : History → List ℕ
-shown_head h = decimal (length h.past) ++ (codes " " ++ (mode_word h.now.mode ++ codes "\nstack:"))
+shown_head h = decimal (position h) ++ (codes " " ++ (mode_word h.now.mode ++ codes "\nstack:"))
 
 abbrev pub shown_stack : Machine → History → List ℕ
-shown_stack m h = spaced m h.now.stack
+shown_stack m h = spaced m (symbols h.now.stack)
 
 abbrev pub shown_rest : Machine → History → List ℕ
-shown_rest m h = spaced m (map (λ token. token.0) h.now.rest)
+shown_rest m h = spaced m (tokens_left h.now.rest)
 
 abbrev pub shown_counts : History → List ℕ
-shown_counts h =
-    codes "\ncounter: " ++ (decimal h.now.counter
-    ++ (codes "\nerrors: " ++ (decimal h.now.errors ++ codes "\n")))
+shown_counts h = codes "\ncounter: " ++ (decimal h.now.counter ++ (codes "\nerrors: " ++ (decimal h.now.errors ++ codes "\n")))
 
 -- the five lines of a configuration
 abbrev pub shown : Machine → History → List ℕ
-shown m h =
-    shown_head h ++ (shown_stack m h ++ (codes "\nrest:" ++ (shown_rest m h ++ shown_counts h)))
+shown m h = shown_head h ++ (shown_stack m h ++ (codes "\nrest:" ++ (shown_rest m h ++ shown_counts h)))
 
--- Where history h is, the command may reply this text and leave the history new. `quit` has no
--- reply.
+-- the forms of an accepted parse without error steps, from the last to the first, and then its start; else why there are none
+abbrev pub Unwinds : Machine → History → List ℕ → History → Type 0
+Unwinds m h text new =
+    ((h.now.mode ≢ Accepted) × (text ≡ codes "not accepted\n") × (new ≡ h))
+    ⊎ (((h.now.mode ≡ Accepted) × (NoErrors h.earlier → ⊥) × (text ≡ codes "had error\n") × (new ≡ h))
+    ⊎ ((h.now.mode ≡ Accepted) × NoErrors h.earlier × (text ≡ unwound_text m h) × (new ≡ rewound h)))
+
+-- Where history h is, the command may reply this text and leave the history new. `quit` has no reply.
 abbrev pub Reply : Machine → History → Command → List ℕ → History → Type 0
-Reply m h Step text new =
-    (result : Result StepKind StepFault) × Steps m h result new × (text ≡ step_text m new result)
-Reply m h (Back n) text new = (text ≡ undo_text m n false h.past) × (new ≡ undone n h.now h.past)
+Reply m h (Run n) text new = Runs m n false h text new
+Reply m h (Back n) text new = GoesBack m n h text new
+Reply m h (To k) text new = GoesTo m k (nat_lt (position h) k) h text new
 Reply m h Show text new = (text ≡ shown m h) × (new ≡ h)
+Reply m h Tree text new = (text ≡ tree_lines m h.now.stack) × (new ≡ h)
+Reply m h Unwind text new = Unwinds m h text new
 Reply m h Quit text new = ⊥
 Reply m h Unknown text new = (text ≡ codes "unknown command\n") × (new ≡ h)
 
--- A reply to the command was sent, and the history is as it leaves it; or a beginning of one, where
--- the link failed.
-abbrev pub Answers : {W : Type 0} → (W → Option (List ℕ)) → Link W → Link W → Bool → Machine
-    → History → Command → History → Type 0
-Answers contents old new true m h command now =
-    (text : List ℕ) × Reply m h command text now × Sends contents old new true text
-Answers contents old new false m h command now =
-    (text : List ℕ) × (left : History) × Reply m h command text left × Sends contents old new false
-    text
+-- A reply to the command was sent, and the history is as it leaves it; or a beginning of one, where the link failed.
+abbrev pub Answers : {W : Type 0} → (W → Option (List ℕ)) → Link W → Link W → Bool → Machine → History → Command → History → Type 0
+Answers contents old new true m h command now = (text : List ℕ) × Reply m h command text now × Sends contents old new true text
+Answers contents old new false m h command now = (text : List ℕ) × (left : History) × Reply m h command text left × Sends contents old new false text
 
 -- A line was answered; or it is `quit`, and nothing was written; or a beginning of its reply was.
-abbrev pub AnswersLine : {W : Type 0} → (W → Option (List ℕ)) → Link W → Link W → Option Bool
-    → Machine → History → Command → History → Type 0
-AnswersLine contents old new (Some true) m h command now =
-    Answers contents old new true m h command now
-AnswersLine contents old new (Some false) m h command now =
-    (command ≡ Quit) × (now ≡ h) × (new ≡ old)
+abbrev pub AnswersLine : {W : Type 0} → (W → Option (List ℕ)) → Link W → Link W → Option Bool → Machine → History → Command → History → Type 0
+AnswersLine contents old new (Some true) m h command now = Answers contents old new true m h command now
+AnswersLine contents old new (Some false) m h command now = (command ≡ Quit) × (now ≡ h) × (new ≡ old)
 AnswersLine contents old new None m h command now = Answers contents old new false m h command now

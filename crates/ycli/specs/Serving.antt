@@ -7,8 +7,8 @@ use Rattle.ytables.specs.declared.link.Link.{Link}
 use Rattle.ycli.specs.declared.fault.SessionFault.{SessionFault}
 use Rattle.ycli.specs.declared.fault.SessionFault.TheVariants as faults
 use Rattle.ytables.specs.Sends.{Sends}
-use Rattle.ycli.specs.Machine.{Machine}
-use Rattle.ycli.specs.History.{History}
+use Rattle.yparse.specs.Machine.{Machine}
+use Rattle.yparse.specs.History.{History}
 use Rattle.ycli.specs.Command.{command_of}
 use Rattle.ycli.specs.Lines.{last_line}
 use Rattle.ycli.specs.Reply.{Reply}

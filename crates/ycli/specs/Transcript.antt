@@ -6,8 +6,8 @@ use Rattle.ycli.specs.declared.fault.SessionFault.{SessionFault}
 use Rattle.ycli.specs.declared.fault.SessionFault.TheVariants as faults
 use Rattle.ycli.specs.declared.command.Command.TheVariants.{Quit}
 use Rattle.ytables.specs.Sends.{Begins}
-use Rattle.ycli.specs.Machine.{Machine}
-use Rattle.ycli.specs.History.{History}
+use Rattle.yparse.specs.Machine.{Machine}
+use Rattle.yparse.specs.History.{History}
 use Rattle.ycli.specs.Command.{command_of}
 use Rattle.ycli.specs.Lines.{IsCut, AreLines}
 use Rattle.ycli.specs.Reply.{Reply}

@@ -1,7 +1,7 @@
 //! What a command line says.
 
 ghost use Rattle.std.specs.Prelude.{◌≡◌};
-ghost use Rattle.ycli.specs.Command.{command_of, number_after, number_in};
+ghost use Rattle.ycli.specs.Command.{command_of, counting, number_after, number_in};
 
 /// The most bytes that a command line may have.
 pub(crate) const MAX_LINE: usize = 4096;
@@ -12,12 +12,18 @@ const MAX_NUMBER: usize = 1_000_000;
 /// A command.
 #[derive(Clone, Copy, Debug, PartialEq, Eq)]
 pub enum Command {
-    /// One step forward.
-    Step,
+    /// At most so many steps forward.
+    Run(usize),
     /// At most so many steps back.
     Back(usize),
+    /// Steps forward or back to this position.
+    To(usize),
     /// The configuration now.
     Show,
+    /// The trees of the stack.
+    Tree,
+    /// The rightmost derivation of an accepted parse, back to its start.
+    Unwind,
     /// The end of the session.
     Quit,
     /// Any other line.
@@ -32,33 +38,50 @@ pub(crate) fn command_in(line: &[u8]) -> Command
     if line.len() > MAX_LINE {
         Command::Unknown
     } else if line == b"step".as_slice() {
-        Command::Step
+        Command::Run(1)
     } else if line == b"show".as_slice() {
         Command::Show
+    } else if line == b"tree".as_slice() {
+        Command::Tree
+    } else if line == b"unwind".as_slice() {
+        Command::Unwind
     } else if line == b"quit".as_slice() {
         Command::Quit
     } else {
-        match number_after(b"back ", line) {
-            Some(count) => Command::Back(count),
-            None => Command::Unknown,
-        }
+        counting(line)
     }
 }
 
-/// The number after a word, 1 to 1,000,000.
-fn number_after(word: &[u8], line: &[u8]) -> Option<usize>
-    ensures { result ≡ number_after word.now line.now }
+/// A command with a number after it.
+fn counting(line: &[u8]) -> Command
+    ensures { result ≡ counting line.now }
+{
+    if let Some(count) = number_after(1, b"run ", line) {
+        return Command::Run(count);
+    }
+    if let Some(count) = number_after(1, b"back ", line) {
+        return Command::Back(count);
+    }
+    match number_after(0, b"to ", line) {
+        Some(position) => Command::To(position),
+        None => Command::Unknown,
+    }
+}
+
+/// The number after a word, from the least one to 1,000,000.
+fn number_after(least: usize, word: &[u8], line: &[u8]) -> Option<usize>
+    ensures { result ≡ number_after least word.now line.now }
 {
     if line.len() >= word.len() && &line[..word.len()] == word {
-        number_in(&line[word.len()..])
+        number_in(least, &line[word.len()..])
     } else {
         None
     }
 }
 
-/// One to seven digits, with a value from 1 to 1,000,000.
-fn number_in(digits: &[u8]) -> Option<usize>
-    ensures { result ≡ number_in digits.now }
+/// One to seven digits, with a value from the least one to 1,000,000.
+fn number_in(least: usize, digits: &[u8]) -> Option<usize>
+    ensures { result ≡ number_in least digits.now }
 {
     if digits.is_empty() || digits.len() > 7 {
         return None;
@@ -70,7 +93,7 @@ fn number_in(digits: &[u8]) -> Option<usize>
         }
         number = number * 10 + usize::from(*digit - b'0');
     }
-    if number == 0 || number > MAX_NUMBER {
+    if number < least || number > MAX_NUMBER {
         None
     } else {
         Some(number)

@@ -7,10 +7,10 @@ ghost use Rattle.ycli.specs.Messages.{said, session_word, token_code, token_plac
 ghost use Rattle.ycli.specs.Programs.{status};
 
 use crate::fault::SessionFault;
-use crate::tokens::TokenFault;
 use std::io::{self, Write};
 use ygrammar::GrammarFault;
 use ylalr::BuildFault;
+use yparse::TokenFault;
 use ytables::put::{put, put_all};
 use ytables::{Counts, Link};
 

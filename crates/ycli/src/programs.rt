@@ -2,22 +2,20 @@
 
 ghost use Rattle.std.specs.Prelude.{ℕ, List, Ok, IfOk, IfErr, map};
 ghost use Rattle.ytables.specs.Link.{device_of};
-ghost use Rattle.ycli.specs.Session.{machine_of, history_of};
-ghost use Rattle.ycli.specs.Reading.{TokensOf};
-ghost use Rattle.ycli.specs.Tokens.{Fits, symbols_of};
-ghost use Rattle.ycli.specs.Programs.{AreTablesOf, Asks, Starts, FilesFail, TokensFail, EndsIn};
-ghost use Rattle.ycli.specs.Programs.{Runs};
+ghost use Rattle.yparse.specs.Session.{machine_of, history_of};
+ghost use Rattle.yparse.specs.Reading.{TokensOf};
+ghost use Rattle.yparse.specs.Tokens.{Fits, symbols_of};
+ghost use Rattle.ycli.specs.Programs.{AreTablesOf, Asks, Starts, FilesFail, TokensFail, EndsIn, Runs};
 
 use crate::arguments::{YstepWords, ystep_words};
 use crate::files::{bytes_of, tables_of};
 use crate::message::{Program, Trouble};
 use crate::run::run_session;
-use crate::session::Session;
-use crate::tokens::{Tokens, read_tokens};
 use clap::error::ErrorKind;
 use std::alloc::Global;
 use std::io::{Read, Write};
 use std::rt::Files;
+use yparse::{Session, Tokens, read_tokens};
 use ytables::put::put;
 use ytables::{Link, Tables};
 
@@ -52,11 +50,9 @@ fn tokens_of<'a, F: Files + AllocGlobal>(
     tables: &Tables,
     path: &'a str,
 ) -> Result<Tokens, Trouble<'a>>
-    ensures tokens { IfOk result (λ tokens. (bytes : List ℕ) × TokensOf tables.now bytes
-        (Ok (symbols_of tokens))) }
-    ensures fits { IfOk result (λ tokens. Fits tables.now (symbols_of tokens)) }
-    ensures fails { IfErr result (λ trouble. (source : List ℕ) → AreTablesOf source tables.now
-        → TokensFail path.entry trouble) }
+    ensures tokens { IfOk result (λ tokens. (bytes : List ℕ) × TokensOf tables.now.built.grammar bytes (Ok (symbols_of tokens))) }
+    ensures fits { IfOk result (λ tokens. Fits tables.now.built.grammar (symbols_of tokens)) }
+    ensures fails { IfErr result (λ trouble. (source : List ℕ) → AreTablesOf source tables.now → TokensFail path.entry trouble) }
 {
     let bytes = bytes_of(rt, path, u64::MAX)?;
     Ok(read_tokens(rt.alloc(), tables, &bytes)?)
@@ -83,8 +79,7 @@ fn obey<'a, F: Files + AllocGlobal, R: Read, W: Write>(
     reader: &mut Link<R>,
     writer: &mut Link<W>,
 ) -> Result<(), Trouble<'a>>
-    ensures { EndsIn R.remaining W.contents (map (λ word. word.now) words.entry.now)
-        (device_of reader.old) reader.new (device_of writer.old) writer.new result }
+    ensures { EndsIn R.remaining W.contents (map (λ word. word.now) words.entry.now) (device_of reader.old) reader.new (device_of writer.old) writer.new result }
 {
     match request_of(rt.alloc(), words)? {
         Request::Session(words) => {
@@ -99,11 +94,10 @@ fn obey<'a, F: Files + AllocGlobal, R: Read, W: Write>(
     }
 }
 
-/// All that `ystep` does but for its exit: `ystep grammar tokens` runs a session with command lines
-/// from the reader and replies to the writer. Messages go to the last link. The answer is the exit
-/// status: 0 where the session was served or help was asked for, 1 where a file is refused, 2 where
-/// the words are, 3 for what comes from outside, for want of memory and for too many item sets. A
-/// message or a help text that can't be written is passed over.
+/// All that `ystep` does but for its exit: `ystep grammar tokens` runs a session with command lines from the reader
+/// and replies to the writer. Messages go to the last link. The answer is the exit status: 0 where the session was
+/// served or help was asked for, 1 where a file is refused, 2 where the words are, 3 for what comes from outside, for
+/// want of memory and for too many item sets. A message or a help text that can't be written is passed over.
 pub fn ystep_run<'a, F: Files + AllocGlobal, R: Read, W: Write, E: Write>(
     rt: &F,
     words: &'a [&'a str],
@@ -112,8 +106,7 @@ pub fn ystep_run<'a, F: Files + AllocGlobal, R: Read, W: Write, E: Write>(
     errors: &mut Link<E>,
 ) -> u8
     ensures { Runs R.remaining W.contents E.contents (map (λ word. word.now) words.entry.now)
-        (device_of reader.old) reader.new (device_of writer.old) writer.new (device_of errors.old)
-        errors.new result }
+        (device_of reader.old) reader.new (device_of writer.old) writer.new (device_of errors.old) errors.new result }
 {
     reader.clear();
     writer.clear();

@@ -1,24 +1,21 @@
 //! The replies to commands.
 
-ghost use Rattle.std.specs.Prelude.{◌≡◌, ◌≢◌, List, ℕ, length, is_some, Some, decimal, map, drop};
-ghost use Rattle.std.specs.Prelude.{◌∷◌, ◌++◌, codes};
+ghost use Rattle.std.specs.Prelude.{◌≡◌, ◌≢◌, false, List, ℕ, length, is_some, Some, decimal, map, drop, ◌∷◌, ◌++◌, codes};
 ghost use Rattle.ycli.specs.declared.command.Command.TheVariants as commands;
 ghost use Rattle.ytables.specs.Link.{has_failed};
 ghost use Rattle.ytables.specs.Sends.{Sends};
 ghost use Rattle.ycli.specs.Serving.{chunk_failed};
-ghost use Rattle.ycli.specs.History.{position};
-ghost use Rattle.ycli.specs.Session.{machine_of, history_of};
-ghost use Rattle.ycli.specs.View.{shown_by};
+ghost use Rattle.yparse.specs.Past.{position};
+ghost use Rattle.yparse.specs.Session.{machine_of, history_of};
+ghost use Rattle.yparse.specs.View.{shown_by};
 ghost use Rattle.ycli.specs.Command.{command_of};
-ghost use Rattle.ycli.specs.Reply.{step_line, refusal, kind_word, kind_tail, mode_word, shown};
-ghost use Rattle.ycli.specs.Reply.{spaced, shown_head, shown_stack, shown_rest, shown_counts};
-ghost use Rattle.ycli.specs.Reply.{Answers, AnswersLine};
+ghost use Rattle.ycli.specs.Reply.{step_line, refusal, kind_word, kind_tail, mode_word, shown, spaced, shown_head, shown_stack, shown_rest, shown_counts, Answers, AnswersLine};
 
 use crate::command::{Command, command_in};
-use crate::machine::{AtStart, Mode, StepFault, StepKind};
-use crate::session::Session;
 use std::io::Write;
 use ygrammar::Sym;
+use yparse::Session;
+use yparse::machine::{AtStart, Mode, StepFault, StepKind, UnwindFault};
 use ytables::Link;
 use ytables::put::{put, put_all};
 
@@ -49,11 +46,12 @@ fn mode_word(mode: Mode) -> &'static [u8]
     }
 }
 
-/// What a refused step writes.
-fn refusal(fault: StepFault) -> &'static [u8]
-    ensures { result.now ≡ refusal fault }
+/// What a refused step writes, where steps were made before or not.
+fn refusal(made: bool, fault: StepFault) -> &'static [u8]
+    ensures { result.now ≡ refusal made fault }
 {
     match fault {
+        StepFault::Halted if made => b"",
         StepFault::Halted => b"halted\n",
         StepFault::Limit => b"limit\n",
         StepFault::Memory => b"no memory\n",
@@ -84,8 +82,7 @@ fn put_line<'a, W: Write>(
     words: &'a [u8],
     tail: &'a [u8],
 ) -> Option<()>
-    ensures { Sends W.contents writer.old writer.new (is_some result)
-        (at.now ++ (between.now ++ (words.now ++ (tail.now ++ codes "\n")))) }
+    ensures { Sends W.contents writer.old writer.new (is_some result) (at.now ++ (between.now ++ (words.now ++ (tail.now ++ codes "\n")))) }
 {
     put_all(writer, &[at, between, words, tail, b"\n"])
 }
@@ -97,8 +94,7 @@ fn put_step<W: Write>(
     between: &[u8],
     kind: StepKind,
 ) -> Option<()>
-    ensures { Sends W.contents writer.old writer.new (is_some result)
-        (step_line (machine_of session.now) (position (history_of session.now)) between.now kind) }
+    ensures { Sends W.contents writer.old writer.new (is_some result) (step_line (machine_of session.now) (position (history_of session.now)) between.now kind) }
 {
     let mut at = itoa::Buffer::new();
     let mut rule = itoa::Buffer::new();
@@ -107,23 +103,25 @@ fn put_step<W: Write>(
     put_line(writer, digits, between, kind_word(kind), tail)
 }
 
-/// One step, with its line, or with the reason for which there is none.
-fn step<W: Write>(session: &mut Session, writer: &mut Link<W>) -> Option<()>
-    ensures answers { Answers W.contents writer.old writer.new (is_some result)
-        (machine_of session.old) (history_of session.old) commands.Step (history_of session.new) }
+/// At most so many steps, with a line for each, and the reason where there are fewer.
+fn run<W: Write>(session: &mut Session, writer: &mut Link<W>, count: usize) -> Option<()>
+    ensures answers { Answers W.contents writer.old writer.new (is_some result) (machine_of session.old) (history_of session.old) (commands.Run count) (history_of session.new) }
     ensures machine { machine_of session.new ≡ machine_of session.old }
 {
-    match session.step() {
-        Ok(kind) => put_step(session, writer, b" ", kind),
-        Err(fault) => put(writer, refusal(fault)),
+    let mut made = false;
+    for _i in 0..count {
+        match session.step() {
+            Ok(kind) => put_step(session, writer, b" ", kind)?,
+            Err(fault) => return put(writer, refusal(made, fault)),
+        }
+        made = true;
     }
+    Some(())
 }
 
 /// At most so many undos, with a line for each.
 fn back<W: Write>(session: &mut Session, writer: &mut Link<W>, count: usize) -> Option<()>
-    ensures answers { Answers W.contents writer.old writer.new (is_some result)
-        (machine_of session.old) (history_of session.old) (commands.Back count)
-        (history_of session.new) }
+    ensures answers { Answers W.contents writer.old writer.new (is_some result) (machine_of session.old) (history_of session.old) (commands.Back count) (history_of session.new) }
     ensures machine { machine_of session.new ≡ machine_of session.old }
 {
     let mut made = false;
@@ -138,10 +136,22 @@ fn back<W: Write>(session: &mut Session, writer: &mut Link<W>, count: usize) -> 
     Some(())
 }
 
+/// Steps or undos to a position.
+fn to<W: Write>(session: &mut Session, writer: &mut Link<W>, position: usize) -> Option<()>
+    ensures answers { Answers W.contents writer.old writer.new (is_some result) (machine_of session.old) (history_of session.old) (commands.To position) (history_of session.new) }
+    ensures machine { machine_of session.new ≡ machine_of session.old }
+{
+    let now = session.position();
+    if now < position {
+        run(session, writer, position - now)
+    } else {
+        back(session, writer, now - position)
+    }
+}
+
 /// The position and the mode.
 fn put_head<W: Write>(session: &Session, writer: &mut Link<W>) -> Option<()>
-    ensures { Sends W.contents writer.old writer.new (is_some result)
-        (shown_head (history_of session.now)) }
+    ensures { Sends W.contents writer.old writer.new (is_some result) (shown_head (history_of session.now)) }
 {
     let mut at = itoa::Buffer::new();
     let digits = at.format(session.position()).as_bytes();
@@ -153,16 +163,14 @@ fn put_head<W: Write>(session: &Session, writer: &mut Link<W>) -> Option<()>
 
 /// A space and a name.
 fn put_name<W: Write>(session: &Session, writer: &mut Link<W>, symbol: Sym) -> Option<()>
-    ensures { Sends W.contents writer.old writer.new (is_some result)
-        (32 ∷ (machine_of session.now).name symbol) }
+    ensures { Sends W.contents writer.old writer.new (is_some result) (32 ∷ (machine_of session.now).name symbol) }
 {
     put_all(writer, &[b" ", session.name(symbol)])
 }
 
 /// The symbols of the stack from the bottom.
 fn put_stack<W: Write>(session: &Session, writer: &mut Link<W>) -> Option<()>
-    ensures { Sends W.contents writer.old writer.new (is_some result)
-        (shown_stack (machine_of session.now) (history_of session.now)) }
+    ensures { Sends W.contents writer.old writer.new (is_some result) (shown_stack (machine_of session.now) (history_of session.now)) }
 {
     let view = session.view();
     for index in 0..view.stack_len() {
@@ -173,8 +181,7 @@ fn put_stack<W: Write>(session: &Session, writer: &mut Link<W>) -> Option<()>
 
 /// The tokens that are left.
 fn put_rest<W: Write>(session: &Session, writer: &mut Link<W>) -> Option<()>
-    ensures { Sends W.contents writer.old writer.new (is_some result)
-        (shown_rest (machine_of session.now) (history_of session.now)) }
+    ensures { Sends W.contents writer.old writer.new (is_some result) (shown_rest (machine_of session.now) (history_of session.now)) }
 {
     let view = session.view();
     for index in 0..view.rest_len() {
@@ -186,8 +193,7 @@ fn put_rest<W: Write>(session: &Session, writer: &mut Link<W>) -> Option<()>
 
 /// The recovery counter and the errors reported.
 fn put_counts<W: Write>(session: &Session, writer: &mut Link<W>) -> Option<()>
-    ensures { Sends W.contents writer.old writer.new (is_some result)
-        (shown_counts (history_of session.now)) }
+    ensures { Sends W.contents writer.old writer.new (is_some result) (shown_counts (history_of session.now)) }
 {
     let view = session.view();
     let mut counter = itoa::Buffer::new();
@@ -202,8 +208,7 @@ fn put_counts<W: Write>(session: &Session, writer: &mut Link<W>) -> Option<()>
 
 /// The five lines of the configuration now.
 fn put_shown<W: Write>(session: &Session, writer: &mut Link<W>) -> Option<()>
-    ensures { Sends W.contents writer.old writer.new (is_some result)
-        (shown (machine_of session.now) (history_of session.now)) }
+    ensures { Sends W.contents writer.old writer.new (is_some result) (shown (machine_of session.now) (history_of session.now)) }
 {
     put_head(session, writer)?;
     put_stack(session, writer)?;
@@ -212,17 +217,46 @@ fn put_shown<W: Write>(session: &Session, writer: &mut Link<W>) -> Option<()>
     put_counts(session, writer)
 }
 
+/// A line for each tree of the stack.
+fn tree<W: Write>(session: &mut Session, writer: &mut Link<W>) -> Option<()>
+    requires { has_failed writer.old ≡ false }
+    ensures answers { Answers W.contents writer.old writer.new (is_some result) (machine_of session.old) (history_of session.old) commands.Tree (history_of session.new) }
+    ensures machine { machine_of session.new ≡ machine_of session.old }
+{
+    match session.write_trees(writer) {
+        Ok(()) => Some(()),
+        Err(_) => None,
+    }
+}
+
+/// The forms of an accepted parse without error steps, or why there are none.
+fn unwind<W: Write>(session: &mut Session, writer: &mut Link<W>) -> Option<()>
+    requires { has_failed writer.old ≡ false }
+    ensures answers { Answers W.contents writer.old writer.new (is_some result) (machine_of session.old) (history_of session.old) commands.Unwind (history_of session.new) }
+    ensures machine { machine_of session.new ≡ machine_of session.old }
+{
+    match session.unwind(writer) {
+        Ok(()) => Some(()),
+        Err(UnwindFault::NotAccepted) => put(writer, b"not accepted\n"),
+        Err(UnwindFault::HadError) => put(writer, b"had error\n"),
+        Err(UnwindFault::Write) => None,
+    }
+}
+
 /// The reply to a command other than `quit`.
 fn reply<W: Write>(session: &mut Session, command: Command, writer: &mut Link<W>) -> Option<()>
-    requires { command ≢ commands.Quit }
-    ensures answers { Answers W.contents writer.old writer.new (is_some result)
-        (machine_of session.old) (history_of session.old) command (history_of session.new) }
+    requires command { command ≢ commands.Quit }
+    requires clear { has_failed writer.old ≡ false }
+    ensures answers { Answers W.contents writer.old writer.new (is_some result) (machine_of session.old) (history_of session.old) command (history_of session.new) }
     ensures machine { machine_of session.new ≡ machine_of session.old }
 {
     match command {
-        Command::Step => step(session, writer),
+        Command::Run(count) => run(session, writer, count),
         Command::Back(count) => back(session, writer, count),
+        Command::To(position) => to(session, writer, position),
         Command::Show => put_shown(session, writer),
+        Command::Tree => tree(session, writer),
+        Command::Unwind => unwind(session, writer),
         Command::Quit => unreachable!(),
         Command::Unknown => put(writer, b"unknown command\n"),
     }
@@ -234,8 +268,8 @@ pub(crate) fn answer<W: Write>(
     line: &[u8],
     writer: &mut Link<W>,
 ) -> Option<bool>
-    ensures answers { AnswersLine W.contents writer.old writer.new result (machine_of session.old)
-        (history_of session.old) (command_of line.now) (history_of session.new) }
+    requires { has_failed writer.old ≡ false }
+    ensures answers { AnswersLine W.contents writer.old writer.new result (machine_of session.old) (history_of session.old) (command_of line.now) (history_of session.new) }
     ensures machine { machine_of session.new ≡ machine_of session.old }
     ensures failed { has_failed writer.new ≡ chunk_failed result (has_failed writer.old) }
 {

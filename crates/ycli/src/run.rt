@@ -1,34 +1,31 @@
 //! A session from bytes to bytes: command lines in, replies out.
 
-ghost use Rattle.std.specs.Prelude.{◌≡◌, ◌<◌, ◌^◌, List, [], ℕ, length, take, Bool, true, false};
-ghost use Rattle.std.specs.Prelude.{is_some, IfSome, if◌then◌else◌};
+ghost use Rattle.std.specs.Prelude.{◌≡◌, ◌<◌, ◌^◌, List, [], ℕ, length, take, Bool, true, false, is_some, IfSome, if◌then◌else◌};
 ghost use Rattle.ytables.specs.Link.{device_of, has_failed};
-ghost use Rattle.ycli.specs.Session.{machine_of, history_of};
+ghost use Rattle.yparse.specs.Session.{machine_of, history_of};
 ghost use Rattle.ycli.specs.Transcript.{Tells, failed_read, failed_write};
-ghost use Rattle.ycli.specs.Serving.{ChunkTells, ReadTells, Ends, chunk_failed, read_failed};
-ghost use Rattle.ycli.specs.Serving.{write_failed};
+ghost use Rattle.ycli.specs.Serving.{ChunkTells, ReadTells, Ends, chunk_failed, read_failed, write_failed};
 
 use crate::fault::SessionFault;
 use crate::held::Held;
 use crate::reply::answer;
-use crate::session::Session;
 use std::io::{Read, Write};
+use yparse::Session;
 use ytables::Link;
 
 /// How many bytes are read at once.
 const CHUNK: usize = 4096;
 
-/// Answers each line that these bytes end, after what is held of the first. `Some(false)` is
-/// `quit`, and `None` a fault of the writer.
+/// Answers each line that these bytes end, after what is held of the first. `Some(false)` is `quit`, and `None` a
+/// fault of the writer.
 fn take_chunk<W: Write>(
     session: &mut Session,
     held: &mut Held,
     bytes: &[u8],
     writer: &mut Link<W>,
 ) -> Option<bool>
-    ensures tells { (line : List ℕ) → held.old ≡ take 4097 line → ChunkTells W.contents writer.old
-        writer.new result (machine_of session.old) (history_of session.old) line bytes.now
-        (history_of session.new) held.new }
+    requires { has_failed writer.old ≡ false }
+    ensures tells { (line : List ℕ) → held.old ≡ take 4097 line → ChunkTells W.contents writer.old writer.new result (machine_of session.old) (history_of session.old) line bytes.now (history_of session.new) held.new }
     ensures machine { machine_of session.new ≡ machine_of session.old }
     ensures failed { has_failed writer.new ≡ chunk_failed result (has_failed writer.old) }
 {
@@ -45,18 +42,16 @@ fn take_chunk<W: Write>(
     Some(true)
 }
 
-/// Answers each line whose newline is read. `Ok(true)` is the end of the input, and `Ok(false)` is
-/// `quit`.
+/// Answers each line whose newline is read. `Ok(true)` is the end of the input, and `Ok(false)` is `quit`.
 fn read_lines<R: Read, W: Write>(
     session: &mut Session,
     held: &mut Held,
     reader: &mut Link<R>,
     writer: &mut Link<W>,
 ) -> Result<bool, SessionFault>
-    requires { held.old ≡ [] }
-    ensures tells { ReadTells W.contents writer.old writer.new (R.remaining (device_of reader.old))
-        (R.remaining (device_of reader.new)) result (machine_of session.old)
-        (history_of session.old) (history_of session.new) held.new }
+    requires held { held.old ≡ [] }
+    requires clear { has_failed writer.old ≡ false }
+    ensures tells { ReadTells W.contents writer.old writer.new (R.remaining (device_of reader.old)) (R.remaining (device_of reader.new)) result (machine_of session.old) (history_of session.old) (history_of session.new) held.new }
     ensures machine { machine_of session.new ≡ machine_of session.old }
     ensures read_failed { has_failed reader.new ≡ read_failed result (has_failed reader.old) }
     ensures write_failed { has_failed writer.new ≡ write_failed result (has_failed writer.old) }
@@ -80,10 +75,9 @@ fn read_lines<R: Read, W: Write>(
 
 /// Answers a last line that lacks its newline.
 fn answer_last<W: Write>(session: &mut Session, held: &Held, writer: &mut Link<W>) -> Option<()>
-    ensures tells { (line : List ℕ) → held.now ≡ take 4097 line → Ends W.contents writer.old
-        writer.new (is_some result) (machine_of session.old) (history_of session.old) line }
-    ensures failed { has_failed writer.new ≡ (if is_some result then has_failed writer.old else
-        true) }
+    requires { has_failed writer.old ≡ false }
+    ensures tells { (line : List ℕ) → held.now ≡ take 4097 line → Ends W.contents writer.old writer.new (is_some result) (machine_of session.old) (history_of session.old) line }
+    ensures failed { has_failed writer.new ≡ (if is_some result then has_failed writer.old else true) }
 {
     let last = held.as_slice();
     if last.is_empty() {
@@ -99,14 +93,11 @@ fn serve<R: Read, W: Write>(
     reader: &mut Link<R>,
     writer: &mut Link<W>,
 ) -> Result<(), SessionFault>
+    requires { has_failed writer.old ≡ false }
     ensures tells { IfSome (R.remaining (device_of reader.old)) (λ input. length input < 2 ^ 63 →
-        Tells (machine_of session.old) (history_of session.old) input
-        (R.remaining (device_of reader.new)) (W.contents (device_of writer.old))
-        (W.contents (device_of writer.new)) result) }
-    ensures read_fault { has_failed reader.old ≡ false → has_failed reader.new ≡ failed_read
-        result }
-    ensures write_fault { has_failed writer.old ≡ false → has_failed writer.new ≡ failed_write
-        result }
+        Tells (machine_of session.old) (history_of session.old) input (R.remaining (device_of reader.new)) (W.contents (device_of writer.old)) (W.contents (device_of writer.new)) result) }
+    ensures read_fault { has_failed reader.old ≡ false → has_failed reader.new ≡ failed_read result }
+    ensures write_fault { has_failed writer.new ≡ failed_write result }
 {
     let mut held = Held::new();
     if !read_lines(session, &mut held, reader, writer)? {
@@ -120,9 +111,8 @@ fn serve<R: Read, W: Write>(
 
 /// Reads command lines and writes their replies, up to a `quit` or to the end of the input.
 ///
-/// X1 is answered exactly where the reader's link failed, and then the replies of all lines whose
-/// newline was read are written. X2 is answered exactly where the writer's link failed, and then a
-/// beginning of the session's text is written.
+/// X1 is answered exactly where the reader's link failed, and then the replies of all lines whose newline was read are
+/// written. X2 is answered exactly where the writer's link failed, and then a beginning of the session's text is written.
 pub fn run_session<R: Read, W: Write>(
     mut session: Session,
     reader: &mut Link<R>,
@@ -130,8 +120,7 @@ pub fn run_session<R: Read, W: Write>(
 ) -> Result<(), SessionFault>
     // What is written for an input that the reader tells.
     ensures tells { IfSome (R.remaining (device_of reader.old)) (λ input. length input < 2 ^ 63 →
-        Tells (machine_of session) (history_of session) input (R.remaining (device_of reader.new))
-        (W.contents (device_of writer.old)) (W.contents (device_of writer.new)) result) }
+        Tells (machine_of session) (history_of session) input (R.remaining (device_of reader.new)) (W.contents (device_of writer.old)) (W.contents (device_of writer.new)) result) }
     // A read fault exactly where the reader's link failed.
     ensures read_fault { has_failed reader.new ≡ failed_read result }
     // A write fault exactly where the writer's did.

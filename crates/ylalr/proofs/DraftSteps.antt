@@ -1,8 +1,7 @@
 -- Lookaheads in the making: what one more item adds is sound, and stays; and what the links make of it.
-use Rattle.std.proofs.Common.{ℕ, zero, suc, ◌≡◌, ◌≢◌, ◌<◌, ◌≤◌, ◌+◌, ◌⊎◌, ◌↔◌, List, [], ◌∷◌, ◌++◌, length, drop, get_or, refl, sym, ◌∙◌, ap, subst, inl, inr, arith, Option, Some, None, MatchOption, get_or-set_same, get_or-set_other}
-use Rattle.std.proofs.Math.ListN.{set, length-set}
-use Rattle.std.proofs.lemmas.List.Elements.{Contains-push, Contains-push_cases, Contains-append_left}
-use Rattle.std.specs.List.{Contains, All}
+use Rattle.std.proofs.Common.{ℕ, zero, suc, ◌≡◌, ◌<◌, ◌≤◌, ◌+◌, ◌⊎◌, ◌↔◌, List, [], ◌∷◌, ◌++◌, length, drop, get_or, refl, sym, ◌∙◌, ap, subst, inl, inr, arith, Option, Some, None, MatchOption}
+use Rattle.std.proofs.Math.ListN.{set}
+use Rattle.std.specs.List.{All}
 use Rattle.ygrammar.specs.Grammar.{ContextFree, left_of, body_of, IsToken, end_token}
 use Rattle.ygrammar.specs.Forms.{First}
 use Rattle.ygrammar.specs.WellFormed.{WellFormed}
@@ -12,7 +11,7 @@ use Rattle.ylalr.specs.declared.looks.Here.{Here}
 use Rattle.ylalr.specs.Gotos.{goto_of}
 use Rattle.ylalr.specs.Marks.{marked}
 use Rattle.ylalr.specs.Rows.{BitRows, Holds, IsSized}
-use Rattle.ylalr.specs.Links.{Linked, AreLinks, Reaches, given, passed, IsSpread}
+use Rattle.ylalr.specs.Links.{Linked, Reaches, given, passed, IsSpread}
 use Rattle.ylalr.specs.Places.{At, Opened, Shares, rows_at}
 use Rattle.ylalr.specs.Sets.{step_of, Moves, IsAscending, Before}
 use Rattle.ylalr.specs.States.{GotoIs, set_at, start_item}

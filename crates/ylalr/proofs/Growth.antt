@@ -1,6 +1,6 @@
 -- One step that may grow something after another.
-use Rattle.std.proofs.Common.{ℕ, Bool, true, false, ◌||◌, ◌≡◌, ◌<◌, ◌≤◌, ◌∙◌, refl, arith}
-use Rattle.ylalr.specs.Rows.{BitRows, Grown, IsSized, room}
+use Rattle.std.proofs.Common.{ℕ, Bool, true, false, ◌||◌, ◌≡◌, ◌<◌, ◌≤◌, ◌∙◌, arith}
+use Rattle.ylalr.specs.Rows.{BitRows, Grown, IsSized}
 
 pub less_then : (a b : Bool) (x y z : ℕ) → (a ≡ true → y < x) → y ≤ x → (b ≡ true → z < y) → z ≤ y → (a || b) ≡ true → z < x
 less_then true b x y z f k g l e = let h = f (λ i. true) in omega arith

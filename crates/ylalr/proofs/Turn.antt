@@ -1,5 +1,5 @@
 -- One more turn of a loop, and a loop that counts down.
-use Rattle.std.proofs.Common.{ℕ, ◌≡◌, ◌<◌, ◌+◌, ◌-◌, ◌⊎◌, inl, inr, sym, subst, arith}
+use Rattle.std.proofs.Common.{ℕ, ◌≡◌, ◌<◌, ◌+◌, ◌-◌, ◌⊎◌, subst, arith}
 
 pub below_or_is : (k i : ℕ) → k < i + 1 → (k < i) ⊎ (k ≡ i)
 below_or_is k i h = grind arith

@@ -11,10 +11,9 @@ use Rattle.ylalr.specs.Collection.{Collection, HasStates, Guide, bare_of, state_
 use Rattle.ytables.specs.declared.class.Class.{Class}
 use Rattle.ytables.specs.declared.cell.Action.{Action}
 use Rattle.ytables.specs.declared.cell.Action.TheVariants.{Shift, Reduce, Accept, Error}
-use Rattle.ytables.specs.declared.cell.Cell.{Cell}
 use Rattle.ytables.specs.Cell.{cell_of, reduced, lone, is_ban, is_beat, is_lose, is_rest, is_filled, is_reduce, common, by_default}
 use Rattle.ytables.specs.Tables.{after_dot, begins_with, is_empty, is_before, is_ready, has_before, ready_in, shift_to, shift_of, shift_by, rules_by, class_in, cell_by, row_by, default_by, tokens_of, action_in}
-use Rattle.ytables.specs.Allowed.{complete_of, accept_item, ShiftsIn, Allows}
+use Rattle.ytables.specs.Allowed.{complete_of, accept_item, Allows}
 use Rattle.ytables.proofs.RowSteps.{complete_dot}
 
 -- x stands in the list

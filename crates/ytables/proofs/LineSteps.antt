@@ -1,5 +1,5 @@
 -- Texts that are sent line by line, and part by part.
-use Rattle.std.proofs.Common.{ℕ, zero, suc, ◌≡◌, ◌+◌, ◌<◌, ◌++◌, ◌∷◌, Bool, true, false, List, [], Option, None, Some, is_some, flat_map, length, get_or, take, refl, sym, ap, ◌∙◌, subst, arith, append-nil}
+use Rattle.std.proofs.Common.{ℕ, zero, suc, ◌≡◌, ◌+◌, ◌<◌, ◌++◌, ◌∷◌, Bool, true, false, List, [], Option, None, is_some, flat_map, length, get_or, take, refl, sym, ap, ◌∙◌, subst, arith, append-nil}
 use Rattle.std.specs.List.{range_with_len}
 use Rattle.std.proofs.lemmas.List.FromFn.{length-range_with_len, get_or-range_with_len}
 use Rattle.ytables.specs.declared.link.Link.{Link}

@@ -1,11 +1,10 @@
 -- The steps of packing a row: room, one cell, the whole row.
-use Rattle.std.proofs.Common.{ℕ, zero, suc, ◌≡◌, ◌≢◌, ◌+◌, ◌<◌, ◌≤◌, ◌^◌, Bool, true, false, nat_eq, nat_lt, List, [], ◌∷◌, ◌++◌, length, take, drop, get_or, set, refl, sym, ap, ◌∙◌, subst, inl, inr, ◌⊎◌, arith, length-append, Option, Some, None, is_some, slice_index, if◌then◌else◌}
-use Rattle.std.specs.List.{range_with_len}
+use Rattle.std.proofs.Common.{ℕ, zero, suc, ◌≡◌, ◌≢◌, ◌+◌, ◌<◌, ◌≤◌, Bool, true, false, nat_eq, nat_lt, List, [], ◌∷◌, ◌++◌, length, take, drop, get_or, set, refl, sym, ap, ◌∙◌, subst, inl, inr, ◌⊎◌, arith, length-append, Option, Some, None, is_some, slice_index, if◌then◌else◌}
 use Rattle.std.proofs.Math.Seq.{get_or-append_seam}
 use Rattle.std.proofs.lemmas.Bool.Decides.{eqb_tells, leb_tells}
 use Rattle.std.proofs.lemmas.List.{get_or-set_same, get_or-set_other, get_or_past, get_or_append_left, take-append-le, take_all}
 use Rattle.std.proofs.lemmas.List.FromFn.{get_or-map-range_with_len, length-map-range_with_len}
-use Rattle.ytables.specs.Packed.{PackedRows, entry_of, held_at, unpacked_row, unpacked, AreOwners, FitsFrom, SameCells, IsWritten, IsPushed, IsPacked}
+use Rattle.ytables.specs.Packed.{entry_of, held_at, unpacked_row, unpacked, AreOwners, FitsFrom, SameCells, IsWritten, IsPushed}
 
 same_yes : (a b : ℕ) → a ≡ b → nat_eq a b ≡ true
 same_yes a b e = go (eqb_tells a b)

@@ -1,7 +1,6 @@
 -- The steps of one state's row: rules that look at a token, complete items, the rule that all actions share.
 use Rattle.std.proofs.Common.{ℕ, zero, suc, ◌≡◌, ◌≢◌, ◌+◌, ◌-◌, ◌<◌, ◌≤◌, Bool, true, false, not, ◌&&◌, ◌||◌, nat_eq, List, [], ◌∷◌, ◌++◌, length, map, take, drop, get_or, refl, sym, ap, ◌∙◌, subst, inl, inr, ◌⊎◌, arith, append-nil, length-drop, Option, Some, None, MatchOption, if◌then◌else◌}
 use Rattle.std.specs.List.{All, AllPairs, filter, flat_map, list_all, list_any, range_with_len}
-use Rattle.std.proofs.lemmas.Bool.{eqb-false}
 use Rattle.std.proofs.lemmas.Bool.Decides.{eqb_tells}
 use Rattle.std.proofs.lemmas.List.{map-append}
 use Rattle.std.proofs.lemmas.List.Elements.{All-filter, filter_more, filter_passes}

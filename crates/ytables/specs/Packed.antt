@@ -1,5 +1,5 @@
 -- Packed rows: all rows over one list of cells, each filled cell with its row as owner.
-use Rattle.std.specs.Prelude.{ℕ, ◌≡◌, ◌+◌, ◌<◌, ◌≤◌, ◌^◌, Bool, true, List, [], length, map, Option, Some, None, is_some, if◌then◌else◌, nat_eq, nat_lt, slice_index, slice_index_or}
+use Rattle.std.specs.Prelude.{ℕ, ◌≡◌, ◌+◌, ◌<◌, ◌≤◌, ◌^◌, true, List, [], length, map, Option, None, is_some, if◌then◌else◌, nat_eq, nat_lt, slice_index, slice_index_or}
 use Rattle.std.specs.List.{range_with_len}
 
 -- rows of so many columns, each with an entry or none at a column

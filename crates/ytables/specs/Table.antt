@@ -2,7 +2,7 @@
 use Rattle.std.specs.Prelude.{ℕ, ◌++◌, List, [], length, codes, decimal, Option, Some, None, slice_get, flat_map}
 use Rattle.std.specs.List.{range_with_len}
 use Rattle.ygrammar.specs.Grammar.{GrammarValue, left_of, body_of}
-use Rattle.ylalr.specs.Collection.{Collection, goto_in}
+use Rattle.ylalr.specs.Collection.{goto_in}
 use Rattle.ytables.specs.declared.cell.Action.{Action}
 use Rattle.ytables.specs.declared.cell.Action.TheVariants.{Shift, Reduce, Accept, Error}
 use Rattle.ytables.specs.Tables.{TablesValue, action_at, default_at, tokens_of, states_of}

@@ -2,7 +2,6 @@
 use Rattle.std.specs.Prelude.{ℕ, ◌-◌, ◌++◌, List, [], length, codes, decimal, slice_index_or}
 use Rattle.std.specs.List.{range_with_len}
 use Rattle.ygrammar.specs.Grammar.{GrammarValue}
-use Rattle.ylalr.specs.Collection.{Collection}
 
 -- the printed name of a symbol
 abbrev pub name_of : GrammarValue → ℕ → List ℕ

@@ -1,6 +1,6 @@
-use Rattle.std.proofs.Common.{rules, zero, suc, ◌≡◌, ◌∙◌, ap, sym, ℕ, true, false, List, [], ◌∷◌, codes, refl, inl, inr, arith, is_some, subst, slice_index}
+use Rattle.std.proofs.Common.{rules, ◌≡◌, ◌∙◌, ap, sym, ℕ, true, List, []}
+use Rattle.std.proofs.Common.{codes, refl, inl, inr, arith, is_some, subst, slice_index}
 use Rattle.std.proofs.lemmas.Result.{IfOk-weaker}
-use Rattle.std.specs.Str.{bytes_eq}
 use Rattle.clap.specs.Built.{FitsChain, TakesValue, IsAuto}
 use Rattle.clap.specs.Matches.{first_value, found_of}
 use Rattle.clap.specs.Words.{App, Rule, app_of, new_app, rule_of, with_rule}
@@ -9,12 +9,15 @@ use Rattle.clap.specs.declared.builder.arg.Arg.{Arg}
 use Rattle.ycli.proofs.Required.{Differ, last_given}
 use Rattle.ycli.proofs.arguments.yacc_command.Goals as goal
 
-three_rules : (a : App) (x y z : Rule) → a ≡ new_app (codes "yacc") → x ≡ flagged (codes "verbose") 118 → y ≡ lettered (codes "prefix") 98 → z ≡ wanted (codes "grammar")
+three_rules : (a : App) (x y z : Rule) → a ≡ new_app (codes "yacc") → x
+    ≡ flagged (codes "verbose") 118 → y ≡ lettered (codes "prefix") 98 → z
+    ≡ wanted (codes "grammar")
     → with_rule (with_rule (with_rule a x) y) z ≡ yacc_app
 unfolding yacc_app
 three_rules a x y z e f g h = rw (e, f, g, h) refl
 
-not_auto : (a : Arg) (w : List ℕ) → a.id.now ≡ w → (slice_index w 3 ≡ 112 → ⊥) → (slice_index w 3 ≡ 115 → ⊥) → IsAuto a → ⊥
+not_auto : (a : Arg) (w : List ℕ) → a.id.now ≡ w → (slice_index w 3 ≡ 112 → ⊥)
+    → (slice_index w 3 ≡ 115 → ⊥) → IsAuto a → ⊥
 not_auto a w e f g (inl h) = f (ap (λ (t : List ℕ). slice_index t 3) (sym e ∙ h))
 not_auto a w e f g (inr h) = g (ap (λ (t : List ℕ). slice_index t 3) (sym e ∙ h))
 
@@ -29,8 +32,11 @@ returns-clause-app c =
     let z : rule_of c.help-grammar.result ≡ wanted (codes "grammar") = search rules in
     IfOk-weaker c.arg-3.result _ _ (λ command added.
     added.shape (search rules) ∙ ap (λ (a : App). with_rule a (rule_of c.help-grammar.result))
-    (c.in_ok-arg-2.ensures.shape (search rules) ∙ ap (λ (a : App). with_rule a (rule_of c.help-prefix.result)) (c.in_ok-arg.ensures.shape (search rules)))
-    ∙ three_rules (app_of c.about.result) (rule_of c.help-verbose.result) (rule_of c.help-prefix.result) (rule_of c.help-grammar.result) start x y z) c.arg-3.ensures
+    (c.in_ok-arg-2.ensures.shape (search rules)
+    ∙ ap (λ (a : App). with_rule a (rule_of c.help-prefix.result))
+    (c.in_ok-arg.ensures.shape (search rules)))
+    ∙ three_rules (app_of c.about.result) (rule_of c.help-verbose.result)
+    (rule_of c.help-prefix.result) (rule_of c.help-grammar.result) start x y z) c.arg-3.ensures
 
 pub returns-clause-given : goal.returns-clause-given
 returns-clause-given c =
@@ -68,6 +74,8 @@ returns-clause-given c =
       zy = rw (y_id, z_id) refl;
     } in
     IfOk-weaker c.arg-3.result _ _ (λ command added m parsed.
-    let given = last_given c.about.result c.in_ok-arg.field-0 c.in_ok-arg-2.field-0 command x y z c.in_ok-arg.ensures c.in_ok-arg-2.ensures added
-    (search rules) (search rules) (search rules) (search rules) fits-x fits-y fits-z takes differ m parsed in
+    let given = last_given c.about.result c.in_ok-arg.field-0 c.in_ok-arg-2.field-0 command x y z
+    c.in_ok-arg.ensures c.in_ok-arg-2.ensures added
+    (search rules) (search rules) (search rules) (search rules) fits-x fits-y fits-z takes differ m
+    parsed in
     subst (λ (t : List ℕ). is_some (first_value (found_of m) t) ≡ true) z_id given) c.arg-3.ensures

@@ -1,6 +1,6 @@
 use Rattle.std.proofs.Common.{ℕ, List, Bor, map, Ok, inr, subst}
 use Rattle.ycli.specs.declared.programs.Request.{Request}
-use Rattle.ycli.specs.Session.{machine_of, history_of}
+use Rattle.yparse.specs.Session.{machine_of, history_of}
 use Rattle.ycli.specs.Programs.{Asks}
 use Rattle.ycli.proofs.programs.obey.Goals as goal
 

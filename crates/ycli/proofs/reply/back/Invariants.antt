@@ -1,7 +1,8 @@
 use Rattle.std.proofs.Common.{ℕ, List, ◌≡◌, ◌++◌, ◌-◌, true, false}
 use Rattle.ytables.specs.Sends.{Sends}
-use Rattle.ycli.specs.Session.{machine_of, history_of}
-use Rattle.ycli.specs.Reply.{undo_text, undone}
+use Rattle.yparse.specs.Session.{machine_of, history_of}
+use Rattle.yparse.specs.Past.{undone}
+use Rattle.ycli.specs.Reply.{undo_text}
 use Rattle.ycli.proofs.reply.back.Given as goal
 
 -- what was sent and what is left are the whole reply
@@ -10,6 +11,6 @@ invariant-loop-i g l = record {
   machine : machine_of l.session ≡ machine_of l.initial.session;
   text : List ℕ;
   sent : Sends g.W.Write.contents l.initial.writer l.writer true text;
-  replied : undo_text (machine_of l.initial.session) l.count false (history_of l.initial.session).past ≡ text ++ undo_text (machine_of l.initial.session) (l.count - l._i) l.made (history_of l.session).past;
-  left : undone l.count (history_of l.initial.session).now (history_of l.initial.session).past ≡ undone (l.count - l._i) (history_of l.session).now (history_of l.session).past;
+  replied : undo_text (machine_of l.initial.session) l.count false (history_of l.initial.session).earlier ≡ text ++ undo_text (machine_of l.initial.session) (l.count - l._i) l.made (history_of l.session).earlier;
+  left : undone l.count (history_of l.initial.session) ≡ undone (l.count - l._i) (history_of l.session);
 }

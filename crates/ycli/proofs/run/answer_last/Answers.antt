@@ -1,7 +1,7 @@
 use Rattle.std.proofs.Common.{◌≡◌, ◌==◌, ℕ, List, [], Bool, true, false, Some, None, is_some, length, refl, ap, sym, ◌∙◌, subst}
-use Rattle.ycli.specs.Machine.{Machine}
-use Rattle.ycli.specs.History.{History}
-use Rattle.ycli.specs.Session.{machine_of, history_of}
+use Rattle.yparse.specs.Machine.{Machine}
+use Rattle.yparse.specs.History.{History}
+use Rattle.yparse.specs.Session.{machine_of, history_of}
 use Rattle.ycli.specs.Serving.{Ends}
 use Rattle.ycli.proofs.Transcripts.{ends_line, ends_fault, answers_held}
 use Rattle.ycli.proofs.run.answer_last.Goals as goal

@@ -2,7 +2,7 @@ use Rattle.std.proofs.Common.{ℕ, List, ◌≡◌, ◌≤◌, length, take, tru
 use Rattle.std.specs.Io.KnownBytes.{Consumes}
 use Rattle.ytables.specs.Link.{device_of, has_failed}
 use Rattle.ytables.specs.Sends.{Sends}
-use Rattle.ycli.specs.Session.{machine_of, history_of}
+use Rattle.yparse.specs.Session.{machine_of, history_of}
 use Rattle.ycli.specs.Serving.{whole_lines, rest_line, Replies}
 use Rattle.ycli.proofs.run.read_lines.Given as goal
 
@@ -14,9 +14,11 @@ invariant-loop-i g l = record {
   write_failed : has_failed l.writer ≡ has_failed l.initial.writer;
   taken : List ℕ;
   text : List ℕ;
-  consumed : Consumes (g.R.Read.remaining (device_of l.initial.reader)) (g.R.Read.remaining (device_of l.reader)) taken;
+  consumed : Consumes (g.R.Read.remaining (device_of l.initial.reader))
+      (g.R.Read.remaining (device_of l.reader)) taken;
   enough : l._i ≤ length taken;
-  replied : Replies (machine_of l.initial.session) (history_of l.initial.session) (whole_lines taken) text (history_of l.session);
+  replied : Replies (machine_of l.initial.session) (history_of l.initial.session)
+      (whole_lines taken) text (history_of l.session);
   sent : Sends g.W.Write.contents l.initial.writer l.writer true text;
   held : l.held ≡ take 4097 (rest_line taken);
 }

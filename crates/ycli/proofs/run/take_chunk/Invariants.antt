@@ -1,6 +1,6 @@
 use Rattle.std.proofs.Common.{ℕ, List, ◌≡◌, take, Some, true}
 use Rattle.ytables.specs.Link.{has_failed}
-use Rattle.ycli.specs.Session.{machine_of, history_of}
+use Rattle.yparse.specs.Session.{machine_of, history_of}
 use Rattle.ycli.specs.Serving.{ChunkTells}
 use Rattle.ycli.proofs.run.take_chunk.Given as goal
 
@@ -9,5 +9,8 @@ abbrev pub invariant-loop-byte : goal.invariant-loop-byte
 invariant-loop-byte g l = record {
   machine : machine_of l.session ≡ machine_of l.initial.session;
   failed : has_failed l.writer ≡ has_failed l.initial.writer;
-  told : (line : List ℕ) → l.initial.held ≡ take 4097 line → ChunkTells g.W.Write.contents l.initial.writer l.writer (Some true) (machine_of l.initial.session) (history_of l.initial.session) line (take l.byte-index l.bytes) (history_of l.session) l.held;
+  told : (line : List ℕ) → l.initial.held ≡ take 4097 line
+      → ChunkTells g.W.Write.contents l.initial.writer l.writer (Some true)
+      (machine_of l.initial.session) (history_of l.initial.session) line (take l.byte-index l.bytes)
+      (history_of l.session) l.held;
 }

@@ -1,7 +1,6 @@
-use Rattle.std.proofs.Common.{◌<◌, length, inl, inr, sym, subst, arith}
+use Rattle.std.proofs.Common.{inl, inr, sym, subst}
 use Rattle.ylalr.specs.First.{RuleLinked}
 use Rattle.ylalr.proofs.FirstSteps.{rule_more}
-use Rattle.ylalr.proofs.LinkSteps.{are_links_none, no_link}
 use Rattle.ylalr.proofs.Turn.{below_or_is}
 use Rattle.ylalr.proofs.first.first_links.Goals as goal
 

@@ -1,6 +1,5 @@
 use Rattle.std.proofs.Common.{ℕ, ◌<◌, take, get_or}
 use Rattle.std.specs.List.{All}
-use Rattle.ygrammar.specs.Grammar.{left_of}
 use Rattle.ylalr.specs.First.{CarryFirst}
 use Rattle.ylalr.specs.Links.{AreLinks, Linked, MoreLinks}
 use Rattle.ylalr.specs.Marks.{marked}

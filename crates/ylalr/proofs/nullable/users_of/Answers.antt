@@ -1,4 +1,4 @@
-use Rattle.std.proofs.Common.{◌≡◌, ◌∙◌, length, arith}
+use Rattle.std.proofs.Common.{◌≡◌, length, arith}
 use Rattle.ylalr.proofs.NullableSteps.{listing_more, users_all}
 use Rattle.ylalr.proofs.nullable.users_of.Goals as goal
 

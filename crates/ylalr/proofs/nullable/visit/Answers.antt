@@ -1,8 +1,7 @@
 use Rattle.std.proofs.Common.{ℕ, ◌≡◌, ◌<◌, ◌∙◌, ap, subst, sym, List, [], length, get_or, arith}
 use Rattle.std.specs.List.{All, Contains}
-use Rattle.ygrammar.specs.Grammar.{Production, left_of, body_of}
-use Rattle.ylalr.specs.Links.{Linked}
-use Rattle.ylalr.specs.Marks.{marked, unmarked}
+use Rattle.ygrammar.specs.Grammar.{Production, left_of}
+use Rattle.ylalr.specs.Marks.{marked}
 use Rattle.ylalr.proofs.NullableSteps.{sound_after, listed_below, visits_marked}
 use Rattle.ylalr.proofs.nullable.visit.Goals as goal
 

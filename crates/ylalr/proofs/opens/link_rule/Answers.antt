@@ -3,7 +3,7 @@ use Rattle.std.proofs.lemmas.Grind.{common_steps}
 use Rattle.ygrammar.specs.Grammar.{Production, body_of, left_of}
 use Rattle.ylalr.specs.Links.{Linked}
 use Rattle.ylalr.proofs.LinkSteps.{link_there, link_kept, links_push}
-use Rattle.ylalr.proofs.OpenSteps.{carry_front, front_linked, front_none, head_tail}
+use Rattle.ylalr.proofs.OpenSteps.{carry_front, front_linked, head_tail}
 use Rattle.ylalr.proofs.opens.link_rule.Goals as goal
 
 pub returns-in_ok-push-clause-links : goal.returns-in_ok-push-clause-links

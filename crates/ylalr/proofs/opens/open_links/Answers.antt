@@ -1,7 +1,6 @@
-use Rattle.std.proofs.Common.{◌<◌, length, inl, inr, sym, subst, arith}
+use Rattle.std.proofs.Common.{inl, inr, sym, subst, arith}
 use Rattle.ygrammar.specs.Grammar.{left_of}
 use Rattle.ylalr.specs.Sets.{FrontLinked}
-use Rattle.ylalr.proofs.LinkSteps.{are_links_none, no_link}
 use Rattle.ylalr.proofs.Turn.{below_or_is}
 use Rattle.ylalr.proofs.opens.open_links.Goals as goal
 

@@ -1,4 +1,4 @@
-use Rattle.std.proofs.Common.{ℕ, ◌≡◌, ◌<◌, [], ◌∙◌, sym, subst, length, get_or, arith}
+use Rattle.std.proofs.Common.{◌<◌, [], sym, subst, length, get_or, arith}
 use Rattle.std.specs.List.{All}
 use Rattle.ylalr.proofs.LinkSteps.{links_below}
 use Rattle.ylalr.proofs.OrderSteps.{turns_enter, turns_over}

@@ -1,4 +1,4 @@
-use Rattle.std.proofs.Common.{ℕ, Bool, ◌≡◌, ◌<◌, ◌++◌, [], ◌∷◌, List, ◌∙◌, ap, sym, subst, length, get_or}
+use Rattle.std.proofs.Common.{Bool, ◌≡◌, ◌<◌, ◌++◌, [], ◌∷◌, List, ◌∙◌, ap, sym, subst, length, get_or}
 use Rattle.std.specs.List.{All}
 use Rattle.ylalr.specs.declared.order.Turn.{Turn}
 use Rattle.ylalr.specs.declared.order.Turn.TheVariants.{Enter, Leave}

@@ -1,4 +1,4 @@
-use Rattle.std.proofs.Common.{ℕ, ◌≡◌, ◌<◌, ◌+◌, ◌-◌, [], ◌∷◌, List, length, get_or, set, drop, None, sym, ap, ◌∙◌, subst, arith, length-set}
+use Rattle.std.proofs.Common.{◌≡◌, ◌<◌, ◌+◌, ◌-◌, [], ◌∷◌, length, get_or, set, drop, sym, ap, ◌∙◌, subst, arith, length-set}
 use Rattle.ygrammar.specs.Grammar.{GrammarValue, body_of}
 use Rattle.ylalr.specs.declared.items.Item.{Item}
 use Rattle.ylalr.specs.Collection.{goto_in}

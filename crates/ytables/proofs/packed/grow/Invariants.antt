@@ -1,4 +1,4 @@
-use Rattle.std.proofs.Common.{◌-◌, length, vec_len}
+use Rattle.std.proofs.Common.{◌-◌, vec_len}
 use Rattle.ytables.specs.Packed.{SameCells}
 use Rattle.ytables.proofs.packed.grow.Given as goal
 

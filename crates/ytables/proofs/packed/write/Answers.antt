@@ -1,4 +1,4 @@
-use Rattle.std.proofs.Common.{ℕ, ◌≡◌, ◌+◌, ◌<◌, ◌≤◌, true, false, Option, None, List, is_some, length, get_or, set, sym, ap, ◌∙◌, subst, arith}
+use Rattle.std.proofs.Common.{◌≡◌, ◌+◌, ◌<◌, ◌≤◌, true, false, Option, None, List, is_some, length, get_or, set, sym, ap, ◌∙◌, subst, arith}
 use Rattle.std.proofs.lemmas.List.{get_or_read}
 use Rattle.ytables.specs.Packed.{IsWritten, FitsFrom}
 use Rattle.ytables.proofs.PackedSteps.{written_more, written_skip, fits_more, fits_skip}

@@ -1,9 +1,9 @@
-use Rattle.std.proofs.Common.{ℕ, ◌≡◌, ◌<◌, ◌≤◌, ◌+◌, ◌-◌, true, false, Bool, List, length, Option, None, sym, ap, ◌∙◌, subst, arith, is_some}
+use Rattle.std.proofs.Common.{◌≡◌, true, false, ap, ◌∙◌, subst, arith}
 use Rattle.ygrammar.specs.Grammar.{GrammarValue}
-use Rattle.ylalr.specs.Collection.{Collection, goto_in}
+use Rattle.ylalr.specs.Collection.{Collection}
 use Rattle.ytables.specs.Sends.{Sends}
 use Rattle.ytables.specs.declared.cell.Action.{Action}
-use Rattle.ytables.specs.Tables.{TablesValue, action_at}
+use Rattle.ytables.specs.Tables.{action_at}
 use Rattle.ytables.specs.Report.{action_line}
 use Rattle.ytables.proofs.LineSteps.{range_cut, range_sent}
 use Rattle.ytables.proofs.report.put_actions.Goals as goal

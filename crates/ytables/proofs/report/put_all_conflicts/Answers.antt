@@ -1,9 +1,7 @@
-use Rattle.std.proofs.Common.{ℕ, ◌≡◌, ◌<◌, ◌≤◌, ◌+◌, ◌-◌, true, false, Bool, List, length, Option, None, sym, ap, ◌∙◌, subst, arith, is_some}
+use Rattle.std.proofs.Common.{◌≡◌, true, false, sym, ap, ◌∙◌, subst, arith}
 use Rattle.ygrammar.specs.Grammar.{GrammarValue}
-use Rattle.ylalr.specs.Collection.{Collection, goto_in}
+use Rattle.ylalr.specs.Collection.{Collection}
 use Rattle.ytables.specs.Sends.{Sends}
-use Rattle.ytables.specs.declared.cell.Action.{Action}
-use Rattle.ytables.specs.Tables.{TablesValue, action_at}
 use Rattle.ytables.specs.Report.{conflict_line}
 use Rattle.ytables.specs.Tables.{cell_in}
 use Rattle.ylalr.specs.Collection.{IsGuide}

@@ -1,4 +1,4 @@
-use Rattle.std.proofs.Common.{true, flat_map, take, ◌-◌}
+use Rattle.std.proofs.Common.{true, flat_map, ◌-◌}
 use Rattle.std.specs.List.{range_with_len}
 use Rattle.ytables.specs.Sends.{Sends}
 use Rattle.ylalr.specs.Collection.{goto_in}

@@ -1,4 +1,4 @@
-use Rattle.std.proofs.Common.{ℕ, ◌≡◌, List, flat_map, is_some, ap, ◌∙◌, subst}
+use Rattle.std.proofs.Common.{◌≡◌, List, flat_map, is_some, ap, ◌∙◌, subst}
 use Rattle.ylalr.specs.declared.items.Item.{Item}
 use Rattle.ylalr.specs.Collection.{Collection, state_of}
 use Rattle.ytables.specs.Sends.{Sends}

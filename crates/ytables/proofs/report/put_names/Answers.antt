@@ -1,4 +1,4 @@
-use Rattle.std.proofs.Common.{ℕ, ◌++◌, ap, is_some, codes}
+use Rattle.std.proofs.Common.{◌++◌, ap, is_some, codes}
 use Rattle.ytables.specs.Text.{name_of}
 use Rattle.ytables.proofs.Sent.{Sends-part}
 use Rattle.ytables.proofs.report.put_names.Goals as goal

@@ -1,5 +1,4 @@
-use Rattle.std.proofs.Common.{true, flat_map, take, ◌-◌}
-use Rattle.std.specs.List.{range_with_len}
+use Rattle.std.proofs.Common.{true, flat_map, take}
 use Rattle.ytables.specs.Sends.{Sends}
 use Rattle.std.proofs.Common.{codes, ◌++◌}
 use Rattle.ytables.specs.Text.{name_of}

@@ -1,4 +1,4 @@
-use Rattle.std.proofs.Common.{ℕ, ◌≡◌, ◌<◌, ◌≤◌, ◌++◌, Bool, true, false, List, [], codes, length, is_some, sym, ap, ◌∙◌, subst, if◌then◌else◌}
+use Rattle.std.proofs.Common.{ℕ, ◌≡◌, ◌<◌, ◌≤◌, ◌++◌, Bool, true, List, [], codes, length, is_some, sym, ap, ◌∙◌, subst, if◌then◌else◌}
 use Rattle.ygrammar.specs.Grammar.{GrammarValue, Production, body_of}
 use Rattle.ylalr.specs.Collection.{Collection}
 use Rattle.ytables.specs.Sends.{Sends}

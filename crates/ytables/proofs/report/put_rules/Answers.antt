@@ -1,9 +1,4 @@
-use Rattle.std.proofs.Common.{ℕ, ◌≡◌, ◌<◌, ◌≤◌, ◌+◌, ◌-◌, true, false, Bool, List, length, Option, None, sym, ap, ◌∙◌, subst, arith, is_some}
-use Rattle.ygrammar.specs.Grammar.{GrammarValue}
-use Rattle.ylalr.specs.Collection.{Collection, goto_in}
-use Rattle.ytables.specs.Sends.{Sends}
-use Rattle.ytables.specs.declared.cell.Action.{Action}
-use Rattle.ytables.specs.Tables.{TablesValue, action_at}
+use Rattle.std.proofs.Common.{◌≡◌, length, arith}
 use Rattle.ytables.specs.Report.{rule_text}
 use Rattle.ytables.proofs.LineSteps.{range_cut, range_sent}
 use Rattle.ytables.proofs.report.put_rules.Goals as goal

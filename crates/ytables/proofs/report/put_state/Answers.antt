@@ -1,11 +1,7 @@
-use Rattle.std.proofs.Common.{ℕ, ◌≡◌, ◌<◌, ◌++◌, true, false, Bool, List, codes, decimal, take, drop, length, is_some, sym, ap, ◌∙◌, subst, arith}
-use Rattle.ygrammar.specs.Grammar.{GrammarValue, body_of, left_of}
-use Rattle.ylalr.specs.Collection.{Collection}
-use Rattle.ytables.specs.Sends.{Sends}
-use Rattle.ytables.specs.Text.{name_of, count_line}
-use Rattle.ytables.specs.Tables.{TablesValue, default_at, after_dot}
+use Rattle.std.proofs.Common.{◌++◌, codes, is_some}
+use Rattle.ytables.specs.Text.{count_line}
 use Rattle.ytables.specs.Report.{items_text, cells_text}
-use Rattle.ytables.proofs.LineSteps.{first_cut, second_cut, two, three}
+use Rattle.ytables.proofs.LineSteps.{first_cut, second_cut, three}
 use Rattle.ytables.proofs.report.put_state.Goals as goal
 
 pub returns-in_err-put_count : goal.returns-in_err-put_count

@@ -1,8 +1,7 @@
-use Rattle.std.proofs.Common.{ℕ, ◌≡◌, ◌≤◌, ◌+◌, ◌*◌, List, ◌∷◌, ◌++◌, ◌||◌, [], length, sym, ap, ◌∙◌, subst, arith, length-append}
+use Rattle.std.proofs.Common.{◌≤◌, ◌+◌, List, ◌∷◌, ◌||◌, [], length, sym, ap, ◌∙◌, subst, arith, length-append}
 use Rattle.ylalr.specs.declared.items.Item.{Item}
-use Rattle.ygrammar.specs.Grammar.{ContextFree, GrammarValue}
-use Rattle.ygrammar.specs.WellFormed.{WellFormed}
-use Rattle.ylalr.specs.Collection.{bare_of, state_of}
+use Rattle.ygrammar.specs.Grammar.{GrammarValue}
+use Rattle.ylalr.specs.Collection.{state_of}
 use Rattle.ytables.specs.declared.cell.Action.{Action}
 use Rattle.ytables.specs.Rows.{InGrammar, IsRowTo}
 use Rattle.ytables.specs.Tables.{ready_in}

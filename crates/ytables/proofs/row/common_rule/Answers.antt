@@ -1,4 +1,4 @@
-use Rattle.std.proofs.Common.{arith, get_or}
+use Rattle.std.proofs.Common.{get_or}
 use Rattle.ytables.specs.declared.cell.Action.TheVariants.{Shift}
 use Rattle.ytables.proofs.RowSteps.{no_common, breaks_all, breaks_other}
 use Rattle.ytables.proofs.row.common_rule.Goals as goal

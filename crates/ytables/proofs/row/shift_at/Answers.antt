@@ -1,7 +1,6 @@
-use Rattle.std.proofs.Common.{ℕ, ◌≡◌, ◌<◌, ◌≤◌, nat_eq, true, false, Option, Some, None, sym, ap, ◌∙◌, subst, arith, inl, inr, ◌⊎◌, if◌then◌else◌}
+use Rattle.std.proofs.Common.{ℕ, ◌≡◌, nat_eq, true, false, Option, sym, ap, ◌∙◌, inl, inr, ◌⊎◌, if◌then◌else◌}
 use Rattle.std.proofs.lemmas.Bool.Decides.{eqb_tells}
 use Rattle.ylalr.specs.Collection.{goto_in}
-use Rattle.ytables.specs.declared.cell.Action.{Action}
 use Rattle.ytables.specs.declared.cell.Action.TheVariants.{Accept}
 use Rattle.ytables.specs.Tables.{shift_of, shift_to}
 use Rattle.ytables.proofs.row.shift_at.Goals as goal

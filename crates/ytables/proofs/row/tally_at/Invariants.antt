@@ -1,4 +1,4 @@
-use Rattle.std.proofs.Common.{ℕ, ◌≤◌, ◌&&◌, take}
+use Rattle.std.proofs.Common.{◌≤◌, ◌&&◌, take}
 use Rattle.ytables.specs.Tables.{class_at, rules_by, is_ready}
 use Rattle.ylalr.specs.Collection.{Guide, IsGuide}
 use Rattle.ytables.specs.Tally.{IsTally}

@@ -1,4 +1,4 @@
-use Rattle.std.proofs.Common.{◌<◌, ◌+◌, ◌∙◌, subst, length, get_or, take, arith}
+use Rattle.std.proofs.Common.{◌∙◌, subst, get_or, take}
 use Rattle.std.specs.List.{All, Contains}
 use Rattle.std.proofs.lemmas.List.Elements.{All-more}
 use Rattle.ylalr.proofs.Spreading.{take_all}

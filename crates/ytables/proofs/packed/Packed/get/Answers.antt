@@ -1,6 +1,6 @@
-use Rattle.std.proofs.Common.{ℕ, ◌≡◌, ◌<◌, ◌≤◌, ◌+◌, ◌^◌, List, length, get_or, None, Option, sym, ap, ◌∙◌, subst, arith, slice_index}
+use Rattle.std.proofs.Common.{◌≡◌, ◌<◌, ◌+◌, List, length, Option, sym, ap, ◌∙◌, arith, slice_index}
 use Rattle.std.proofs.lemmas.List.{get_or_read}
-use Rattle.ytables.specs.Packed.{PackedRows, entry_of, held_at, unpacked}
+use Rattle.ytables.specs.Packed.{PackedRows, entry_of, held_at}
 use Rattle.ytables.proofs.PackedSteps.{entry_is, entry_past, rows_count}
 use Rattle.ytables.proofs.packed.Packed.get.Goals as goal
 

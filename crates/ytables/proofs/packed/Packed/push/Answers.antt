@@ -1,4 +1,4 @@
-use Rattle.std.proofs.Common.{ℕ, ◌≡◌, ◌<◌, ◌≤◌, ◌+◌, List, length, Option, sym, ap, ◌∙◌, subst, arith}
+use Rattle.std.proofs.Common.{ℕ, ◌≡◌, List, length, Option, sym, ap, ◌∙◌, subst, arith}
 use Rattle.std.specs.Vec.{with_items}
 use Rattle.ytables.specs.Packed.{PackedRows, unpacked, IsPushed, IsWritten}
 use Rattle.ytables.proofs.PackedSteps.{pushed, refill_same}

@@ -1,9 +1,8 @@
-use Rattle.std.proofs.Common.{ℕ, ◌≡◌, ◌<◌, sym, subst}
+use Rattle.std.proofs.Common.{sym, subst}
 use Rattle.ygrammar.specs.Grammar.{GrammarValue}
 use Rattle.ygrammar.specs.WellFormed.{WellFormed}
-use Rattle.ylalr.specs.Collection.{Collection, bare_of, state_of}
-use Rattle.ytables.specs.declared.cell.Action.{Action}
-use Rattle.ytables.specs.Tables.{TablesValue, action_at, action_in}
+use Rattle.ylalr.specs.Collection.{bare_of, state_of}
+use Rattle.ytables.specs.Tables.{TablesValue}
 use Rattle.ytables.specs.Allowed.{Allows, CellsAllow}
 use Rattle.ytables.proofs.AllowedSteps.{action_allowed}
 use Rattle.ytables.proofs.tables.Tables.automaton.Goals as goal

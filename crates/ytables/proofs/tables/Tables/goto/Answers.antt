@@ -1,5 +1,5 @@
 use Rattle.std.proofs.Common.{◌≡◌, sym, ap, subst}
-use Rattle.ylalr.specs.Collection.{Collection, HasStates, IsGoto, goto_in}
+use Rattle.ylalr.specs.Collection.{HasStates, IsGoto, goto_in}
 use Rattle.ytables.specs.Tables.{TablesValue}
 use Rattle.ytables.proofs.GotoSteps.{packed_goto}
 use Rattle.ytables.proofs.tables.Tables.goto.Goals as goal

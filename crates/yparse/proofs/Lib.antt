@@ -1,0 +1,20 @@
+pub mod Prefixes
+pub mod StepKinds
+pub mod Machines
+pub mod Sounds
+pub mod Unwindings
+mod OneOutcome
+mod Pasts
+mod Ends
+mod States
+mod Nodes
+mod Rests
+mod Facts
+mod Shown
+mod Moves
+mod Places
+mod Unwound
+mod Walks
+pub mod Headlines
+pub mod OneMachine
+mod Sessions

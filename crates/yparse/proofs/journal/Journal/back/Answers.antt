@@ -1,0 +1,17 @@
+use Rattle.std.proofs.Common.{rules, ◌≡◌, ◌∷◌, [], ◌++◌, ap, sym, ◌∙◌}
+use Rattle.yparse.specs.Reversible.{states_before}
+use Rattle.yparse.proofs.Pasts.{states_before-push}
+use Rattle.yparse.proofs.journal.Journal.back.Goals as goal
+
+pub returns-in-Some : goal.returns-in-Some
+returns-in-Some g c =
+    let before = g.M.Reversible.before in
+    let kind = g.M.Reversible.kind in
+    let now = c.args.self.now.machine in
+    let change = c.in-Some.change in
+    let left = c.pop.new.self.items in
+    let e : c.args.self.now.changes.items ≡ left ++ change ∷ [] = search rules in (
+      kind change,
+      ap (states_before before kind now) e ∙ (states_before-push before kind now left change
+          ∙ ap (λ m. (kind change, m) ∷ states_before before kind m left) (sym c.revert.ensures)),
+    )

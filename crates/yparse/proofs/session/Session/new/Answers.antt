@@ -1,0 +1,18 @@
+use Rattle.std.proofs.Common.{◌≡◌, refl, sym, ◌∙◌, ap, subst}
+use Rattle.yparse.specs.Past.{Past, first_past}
+use Rattle.yparse.specs.declared.machine.StepKind.{StepKind}
+use Rattle.yparse.specs.Tokens.{symbols_of}
+use Rattle.yparse.specs.Content.{Place, first_place}
+use Rattle.yparse.specs.Shown.{past_in}
+use Rattle.yparse.proofs.Sessions.{IsShown}
+use Rattle.yparse.proofs.session.Session.new.Goals as goal
+
+pub invariant_of-result : goal.invariant_of-result
+invariant_of-result c =
+    let r = c.new-2.result in
+    let first : Past StepKind Place =
+    first_past (first_place c.args.tables (symbols_of c.args.tokens)) in
+    let past : past_in r.machine r.changes.items ≡ first =
+    c.new-2.ensures ∙ ap (λ (p : Place). let h : Past StepKind Place = first_past p in h) c.new.ensures in
+    let shown : IsShown first = refl in
+    record { steps = ∣ subst IsShown (sym past) shown ∣₁ }

@@ -1,0 +1,256 @@
+-- What a parse that works in place holds, as flat lists; what its steps make of it, and what was before them.
+use Rattle.std.specs.Prelude.{ℕ, suc, ◌+◌, ◌-◌, ◌==◌, nat_lt, nat_le, Bool, true, false, ◌&&◌, List, [], ◌∷◌, ◌++◌, length, take, drop, map, Option, Some, None, slice_index_or, unwrap_or, if◌then◌else◌}
+use Prim.Native.Nat.{zero}
+use Rattle.std.specs.Option.{option_map}
+use Rattle.ygrammar.specs.Grammar.{error_token}
+use Rattle.ytables.specs.Tables.{TablesValue as Tables}
+use Rattle.ytables.specs.declared.cell.Action.{Action}
+use Rattle.ytables.specs.declared.cell.Action.TheVariants as actions
+use Rattle.yparse.specs.declared.machine.Mode.{Mode}
+use Rattle.yparse.specs.declared.machine.Mode.TheVariants.{Running, Popping, Accepted, Failed}
+use Rattle.yparse.specs.declared.machine.StepKind.{StepKind}
+use Rattle.yparse.specs.declared.machine.StepKind.TheVariants as kinds
+use Rattle.yparse.specs.declared.parts.StackEntry.{StackEntry}
+use Rattle.yparse.specs.declared.parts.Node.{Node}
+use Rattle.yparse.specs.declared.parts.Node.TheVariants as nodes
+use Rattle.yparse.specs.declared.parts.PlaceChange.{PlaceChange}
+use Rattle.yparse.specs.Tree.{Tree, leaf, error_leaf, node, trees_of}
+use Rattle.yparse.specs.Machine.{Configuration, Entry, entry_of, without_last, last_ones, next}
+use Rattle.yparse.specs.History.{places_from}
+use Rattle.yparse.specs.Tables.{goto_at, cell_at, rule_of}
+use Rattle.yparse.specs.MachineOver.{machine_over}
+
+-- the stack from the bottom, the nodes, the entries that became children, the tokens read, the counter, the errors
+-- reported, the mode, and the steps that stand
+pub record Content : Type 0 where
+  pub stack : List StackEntry
+  pub nodes : List Node
+  pub children : List StackEntry
+  pub at : ℕ
+  pub counter : ℕ
+  pub errors : ℕ
+  pub mode : Mode
+  pub steps : ℕ
+
+-- a content with what stays: the tables and the tokens
+pub record Place : Type 0 where
+  pub tables : Tables
+  pub tokens : List ℕ
+  pub content : Content
+
+abbrev pub entry : ℕ → ℕ → ℕ → StackEntry
+entry state symbol number = record { state = state; symbol = symbol; node = number }
+
+-- how many symbols the body of a rule has
+abbrev pub width_of : Tables → ℕ → ℕ
+width_of t rule = length (rule_of t rule).body
+
+-- the state after the first n entries, which begin in this state
+abbrev pub state_from : ℕ → ℕ → List StackEntry → ℕ
+state_from state zero stack = state
+state_from state (suc n) [] = state
+state_from state (suc n) (e ∷ stack) = state_from e.state n stack
+
+abbrev pub top_state : List StackEntry → ℕ
+top_state stack = state_from 0 (length stack) stack
+
+-- where a symbol leads from a state, or state 0
+abbrev pub lead : Tables → ℕ → ℕ → ℕ
+lead t state symbol = unwrap_or (goto_at t state symbol) 0
+
+-- an entry with a node of its own goes on top
+abbrev pub grown : Content → ℕ → ℕ → Node → Content
+grown c state symbol n = record c { stack = c.stack ++ entry state symbol (length c.nodes) ∷ []; nodes = c.nodes ++ n ∷ [] }
+
+-- the entries on top become the children of a new one
+abbrev pub reduced : Content → ℕ → ℕ → ℕ → ℕ → Content
+reduced c state left rule width = record c {
+  stack = without_last width c.stack ++ entry state left (length c.nodes) ∷ [];
+  nodes = c.nodes ++ nodes.Rule rule (length c.children) width ∷ [];
+  children = c.children ++ last_ones width c.stack;
+}
+
+-- an error is reported where the counter is 0
+abbrev pub detected : Content → Content
+detected c = record c { counter = 3; errors = (if c.counter == 0 then c.errors + 1 else c.errors); mode = Popping }
+
+-- what a step of a kind makes of a content
+abbrev pub made_of : Tables → StepKind → Content → Content
+made_of t (kinds.Shift token) c = record (grown c (lead t (top_state c.stack) token) token (nodes.Leaf token (c.at + 1))) { at = c.at + 1; counter = c.counter - 1 }
+made_of t (kinds.Reduce rule) c = reduced c (lead t (top_state (without_last (width_of t rule) c.stack)) (rule_of t rule).left) (rule_of t rule).left rule (width_of t rule)
+made_of t kinds.Accept c = record c { mode = Accepted }
+made_of t kinds.Detect c = detected c
+made_of t (kinds.Pop symbol) c = record c { stack = without_last 1 c.stack }
+made_of t kinds.ShiftError c = record (grown c (lead t (top_state c.stack) error_token) error_token nodes.ErrorLeaf) { mode = Running }
+made_of t (kinds.Discard token) c = record c { at = c.at + 1 }
+made_of t kinds.Fail c = record c { mode = Failed }
+
+abbrev pub one_step : Content → Content
+one_step c = record c { steps = c.steps + 1 }
+
+abbrev pub made : StepKind → Place → Place
+made kind p = record p { content = one_step (made_of p.tables kind p.content) }
+
+-- the entry on top goes, with its node
+abbrev pub ungrown : Content → Content
+ungrown c = record c { stack = without_last 1 c.stack; nodes = without_last 1 c.nodes }
+
+-- the entry on top becomes as many of the last children
+abbrev pub unreduced : Content → ℕ → Content
+unreduced c width = record c { stack = without_last 1 c.stack ++ last_ones width c.children; nodes = without_last 1 c.nodes; children = without_last width c.children }
+
+-- what a change was made of, but for the counter, the mode and the steps
+abbrev pub unmade : Tables → PlaceChange → StepKind → Content → Content
+unmade t change (kinds.Shift token) c = record (ungrown c) { at = c.at - 1 }
+unmade t change (kinds.Reduce rule) c = unreduced c (width_of t rule)
+unmade t change kinds.Accept c = c
+unmade t change kinds.Detect c = record c { errors = (if change.counter == 0 then c.errors - 1 else c.errors) }
+unmade t change (kinds.Pop symbol) c = record c { stack = c.stack ++ entry change.state symbol change.node ∷ [] }
+unmade t change kinds.ShiftError c = ungrown c
+unmade t change (kinds.Discard token) c = record c { at = c.at - 1 }
+unmade t change kinds.Fail c = c
+
+abbrev pub one_back : PlaceChange → Content → Content
+one_back change c = record c { counter = change.counter; mode = change.mode; steps = c.steps - 1 }
+
+-- what was before a change
+abbrev pub place_before : PlaceChange → Place → Place
+place_before change p = record p { content = one_back change (unmade p.tables change change.kind p.content) }
+
+-- the tree of a node, where those of the nodes before it are known
+abbrev pub tree_over : List StackEntry → List Tree → Node → Tree
+tree_over children trees (nodes.Leaf token place) = leaf token place
+tree_over children trees nodes.ErrorLeaf = error_leaf
+tree_over children trees (nodes.Rule rule from count) = node rule (trees_of (map (λ (e : StackEntry). slice_index_or trees e.node error_leaf) (take count (drop from children))))
+
+-- the trees of all nodes
+abbrev pub trees_from : List StackEntry → List Tree → List Node → List Tree
+trees_from children trees [] = trees
+trees_from children trees (n ∷ ns) = trees_from children (trees ++ tree_over children trees n ∷ []) ns
+
+abbrev pub trees_over : List StackEntry → List Node → List Tree
+trees_over children ns = trees_from children [] ns
+
+-- the tree of an entry's node
+abbrev pub node_tree : List Tree → StackEntry → Tree
+node_tree trees e = slice_index_or trees e.node error_leaf
+
+abbrev pub shown_entry : List Tree → StackEntry → Entry
+shown_entry trees e = entry_of e.symbol (node_tree trees e)
+
+abbrev pub rest_of : List ℕ → Content → List (ℕ × ℕ)
+rest_of tokens c = drop c.at (places_from 1 tokens)
+
+-- the configuration that a content shows, over the tokens first read
+abbrev pub configuration_in : List ℕ → Content → Configuration
+configuration_in tokens c = record {
+  stack = map (shown_entry (trees_over c.children c.nodes)) c.stack;
+  rest = rest_of tokens c;
+  counter = c.counter;
+  errors = c.errors;
+  mode = c.mode;
+}
+
+abbrev pub configuration_of : Place → Configuration
+configuration_of p = configuration_in p.tokens p.content
+
+-- the next step is that of the machine, and leaves what a step of its kind makes
+abbrev pub place_next : Place → Option (StepKind × Place)
+place_next p = option_map (λ (step : StepKind × Configuration). (step.0, made step.0 p)) (next (machine_over p.tables) (configuration_of p))
+
+-- the token ahead, or the end
+abbrev pub ahead : List ℕ → ℕ → ℕ
+ahead tokens at = slice_index_or tokens at 0
+
+-- the kind of the step from a running content, by the cell, the token ahead, the counter, and whether a token is left
+abbrev pub kind_running : Action → ℕ → ℕ → Bool → StepKind
+kind_running (actions.Shift q) token counter left = kinds.Shift token
+kind_running (actions.Reduce rule) token counter left = kinds.Reduce rule
+kind_running actions.Accept token counter left = kinds.Accept
+kind_running actions.Error token counter left = if counter == 3 then (if left then kinds.Discard token else kinds.Fail) else kinds.Detect
+
+abbrev pub is_shift : Action → Bool
+is_shift (actions.Shift q) = true
+is_shift _ = false
+
+abbrev pub top_of : List StackEntry → StackEntry
+top_of stack = slice_index_or stack (length stack - 1) (entry 0 0 0)
+
+abbrev pub kind_popping : Action → List StackEntry → StepKind
+kind_popping a stack = if is_shift a then kinds.ShiftError else (if length stack == 0 then kinds.Fail else kinds.Pop (top_of stack).symbol)
+
+-- the same by the tables, in a state
+abbrev pub running_at : Tables → List ℕ → Content → ℕ → StepKind
+running_at t tokens c q = kind_running (cell_at t q (ahead tokens c.at)) (ahead tokens c.at) c.counter (nat_lt c.at (length tokens))
+
+abbrev pub popping_at : Tables → Content → ℕ → StepKind
+popping_at t c q = kind_popping (cell_at t q error_token) c.stack
+
+-- the kind of the next step, by the state on top
+abbrev pub kind_in : Tables → List ℕ → Content → Mode → Option StepKind
+kind_in t tokens c Running = Some (running_at t tokens c (top_state c.stack))
+kind_in t tokens c Popping = Some (popping_at t c (top_state c.stack))
+kind_in t tokens c Accepted = None
+kind_in t tokens c Failed = None
+
+-- whether the states are those to which the symbols lead
+abbrev pub is_state : Option ℕ → ℕ → Bool
+is_state None state = false
+is_state (Some found) state = found == state
+
+abbrev pub leads : Tables → ℕ → List StackEntry → Bool
+leads t state [] = true
+leads t state (e ∷ stack) = is_state (goto_at t state e.symbol) e.state && leads t e.state stack
+
+-- whether each node is below a number
+abbrev pub all_below : ℕ → List StackEntry → Bool
+all_below n [] = true
+all_below n (e ∷ es) = nat_lt e.node n && all_below n es
+
+-- whether a node's children lie in the list, and are below it
+abbrev pub node_fits : List StackEntry → ℕ → Node → Bool
+node_fits children i (nodes.Leaf token place) = true
+node_fits children i nodes.ErrorLeaf = true
+node_fits children i (nodes.Rule rule from count) = nat_le (from + count) (length children) && all_below i (take count (drop from children))
+
+abbrev pub nodes_fit : List StackEntry → ℕ → List Node → Bool
+nodes_fit children i [] = true
+nodes_fit children i (n ∷ ns) = node_fits children i n && nodes_fit children (suc i) ns
+
+-- whether there are no more nodes than steps, and no more entries and children together than nodes
+abbrev pub counts_fit : Content → Bool
+counts_fit c = nat_le (length c.nodes) c.steps && nat_le (length c.stack + length c.children) (length c.nodes)
+
+abbrev pub valid : Place → Bool
+valid p =
+    leads p.tables 0 p.content.stack
+    && (all_below (length p.content.nodes) p.content.stack
+    && (nodes_fit p.content.children 0 p.content.nodes
+    && (counts_fit p.content
+    && (nat_le p.content.errors p.content.steps && nat_le p.content.at (length p.tokens)))))
+
+-- whether a change can be taken back: what was before it is a content of a parse
+abbrev pub place_fits : PlaceChange → Place → Bool
+place_fits change p = valid (place_before change p)
+
+-- the change of a step of this kind
+abbrev pub change_at : StepKind → Content → PlaceChange
+change_at kind c = record { kind = kind; counter = c.counter; mode = c.mode; state = (top_of c.stack).state; node = (top_of c.stack).node }
+
+-- how many entries become children at a step of this kind
+abbrev pub taken_by : Tables → StepKind → ℕ
+taken_by t (kinds.Reduce rule) = width_of t rule
+taken_by t (kinds.Shift token) = 0
+taken_by t kinds.Accept = 0
+taken_by t kinds.Detect = 0
+taken_by t (kinds.Pop symbol) = 0
+taken_by t kinds.ShiftError = 0
+taken_by t (kinds.Discard token) = 0
+taken_by t kinds.Fail = 0
+
+-- nothing was read yet
+abbrev pub first_content : Content
+first_content = record { stack = []; nodes = []; children = []; at = 0; counter = 0; errors = 0; mode = Running; steps = 0 }
+
+abbrev pub first_place : Tables → List ℕ → Place
+first_place t tokens = record { tables = t; tokens = tokens; content = first_content }

@@ -1,0 +1,67 @@
+-- The past of anything that goes by steps: whole contents, each following from the one before.
+use Rattle.std.specs.Prelude.{ℕ, suc, ◌≡◌, ◌<◌, ◌≤◌, List, [], ◌∷◌, length, Option, Some, None, IsSome, Result, Ok, Err}
+use Prim.Native.Nat.{zero}
+use Rattle.yparse.specs.declared.machine.StepFault.{StepFault}
+use Rattle.yparse.specs.declared.machine.StepFault.TheVariants.{Halted, Limit, Memory}
+
+-- the content now, and each one before it with the kind of the step made there, the newest first
+pub record Past (K S : Type 0) : Type 0 where
+  pub now : S
+  pub earlier : List (K × S)
+
+-- how many steps stand
+abbrev pub position : {K S : Type 0} → Past K S → ℕ
+position h = length h.earlier
+
+-- how many steps may stand
+abbrev pub most_steps : ℕ
+most_steps = 1000000
+
+-- no step was made yet
+abbrev pub first_past : {K S : Type 0} → S → Past K S
+first_past now = record { now = now; earlier = [] }
+
+-- after n undos, none of them beyond the first content
+abbrev pub undone_from : {K S : Type 0} → ℕ → S → List (K × S) → Past K S
+undone_from zero now earlier = record { now = now; earlier = earlier }
+undone_from (suc n) now [] = record { now = now; earlier = [] }
+undone_from (suc n) now (step ∷ earlier) = undone_from n step.1 earlier
+
+abbrev pub undone : {K S : Type 0} → ℕ → Past K S → Past K S
+undone n h = undone_from n h.now h.earlier
+
+-- the first content alone
+abbrev pub rewound : {K S : Type 0} → Past K S → Past K S
+rewound h = undone (position h) h
+
+-- the step of this kind leads from one content to the one after it
+abbrev pub Follows : {K S : Type 0} → (S → Option (K × S)) → S → K → S → Type 0
+Follows next before kind after = next before ≡ Some (kind, after)
+
+-- from the first content on, each one follows from the one before
+abbrev pub LeadsTo : {K S : Type 0} → (S → Option (K × S)) → S → S → List (K × S) → Type 0
+LeadsTo next first now [] = now ≡ first
+LeadsTo next first now (step ∷ earlier) = Follows next step.1 step.0 now × LeadsTo next first step.1 earlier
+
+abbrev pub IsPast : {K S : Type 0} → (S → Option (K × S)) → S → Past K S → Type 0
+IsPast next first h = LeadsTo next first h.now h.earlier
+
+-- a step of this kind was made
+abbrev pub Makes : {K S : Type 0} → (S → Option (K × S)) → K → Past K S → Past K S → Type 0
+Makes next kind h new = Follows next h.now kind new.now × (new.earlier ≡ (kind, h.now) ∷ h.earlier)
+
+-- why a step is refused: there is none, or else so many stand, or else memory is wanted
+abbrev pub Refuses : {K S : Type 0} → (S → Option (K × S)) → Past K S → StepFault → Type 0
+Refuses next h Halted = next h.now ≡ None
+Refuses next h Limit = IsSome (next h.now) × (most_steps ≤ position h)
+Refuses next h Memory = IsSome (next h.now) × (position h < most_steps)
+
+-- what a step answers and leaves; a refused one changes nothing
+abbrev pub Steps : {K S : Type 0} → (S → Option (K × S)) → Past K S → Result K StepFault → Past K S → Type 0
+Steps next h (Ok kind) new = (position h < most_steps) × Makes next kind h new
+Steps next h (Err fault) new = Refuses next h fault × (new ≡ h)
+
+-- what an undo answers and leaves: the whole earlier content, or no change at position 0
+abbrev pub Undoes : {K S E : Type 0} → Past K S → Result K E → Past K S → Type 0
+Undoes h (Ok kind) new = h.earlier ≡ (kind, new.now) ∷ new.earlier
+Undoes h (Err e) new = (h.earlier ≡ []) × (new ≡ h)

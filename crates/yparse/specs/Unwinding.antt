@@ -1,0 +1,68 @@
+-- The forms of a parse that is unwound, and what is written of them and of trees.
+use Rattle.std.specs.Prelude.{ℕ, Bool, true, false, ◌≡◌, List, [], ◌∷◌, ◌++◌, map, flat_map, codes, decimal, if◌then◌else◌}
+use Rattle.std.specs.List.{All}
+use Rattle.yparse.specs.declared.machine.StepKind.{StepKind}
+use Rattle.yparse.specs.declared.machine.StepKind.TheVariants as kinds
+use Rattle.yparse.specs.Tree.{Tree, Trees, leaf, error_leaf, node, none, more}
+use Rattle.yparse.specs.Machine.{Machine, Entry, Configuration, symbols}
+use Rattle.yparse.specs.History.{History}
+
+-- the tokens without their places
+abbrev pub tokens_left : List (ℕ × ℕ) → List ℕ
+tokens_left rest = map (λ (token : ℕ × ℕ). token.0) rest
+
+-- the form of a configuration: the symbols of its stack, and the tokens left
+abbrev pub form_of : Configuration → List ℕ
+form_of c = symbols c.stack ++ tokens_left c.rest
+
+abbrev pub is_reduction : StepKind → Bool
+is_reduction (kinds.Reduce r) = true
+is_reduction _ = false
+
+-- detect, pop, shift error and discard
+abbrev pub is_error_step : StepKind → Bool
+is_error_step kinds.Detect = true
+is_error_step (kinds.Pop symbol) = true
+is_error_step kinds.ShiftError = true
+is_error_step (kinds.Discard symbol) = true
+is_error_step _ = false
+
+-- no step of the past is an error step
+abbrev pub NoErrors : List (StepKind × Configuration) → Type 0
+NoErrors earlier = All (λ (step : StepKind × Configuration). is_error_step step.0 ≡ false) earlier
+
+-- the forms before the reductions of the past, the newest first
+abbrev pub forms_before : List (StepKind × Configuration) → List (List ℕ)
+forms_before [] = []
+forms_before (step ∷ earlier) = if is_reduction step.0 then form_of step.1 ∷ forms_before earlier else forms_before earlier
+
+-- the forms that unwinding goes through
+abbrev pub forms_of : History → List (List ℕ)
+forms_of h = form_of h.now ∷ forms_before h.earlier
+
+-- names with one space between
+abbrev pub joined : Machine → List ℕ → List ℕ
+joined m [] = []
+joined m (s ∷ []) = m.name s
+joined m (s ∷ t ∷ form) = m.name s ++ (32 ∷ joined m (t ∷ form))
+
+abbrev pub form_line : Machine → List ℕ → List ℕ
+form_line m form = joined m form ++ codes "\n"
+
+abbrev pub unwound_text : Machine → History → List ℕ
+unwound_text m h = flat_map (form_line m) (forms_of h)
+
+-- a tree as text
+abbrev mutual
+  pub tree_text : Machine → Tree → List ℕ
+  tree_text m (leaf token place) = m.name token ++ (64 ∷ decimal place)
+  tree_text m error_leaf = codes "error"
+  tree_text m (node rule children) = 40 ∷ (decimal rule ++ (trees_text m children ++ 41 ∷ []))
+
+  pub trees_text : Machine → Trees → List ℕ
+  trees_text m none = []
+  trees_text m (more first rest) = 32 ∷ (tree_text m first ++ trees_text m rest)
+
+-- a line for each entry of the stack, from the bottom
+abbrev pub tree_lines : Machine → List Entry → List ℕ
+tree_lines m stack = flat_map (λ (e : Entry). tree_text m e.tree ++ codes "\n") stack

@@ -1,0 +1,226 @@
+//! A parse that goes by tables, and steps forward and back in place.
+
+ghost use Rattle.std.specs.Prelude.{◌≡◌, ◌<◌, IsTrue, is_some, length, slice_index_or};
+ghost use Rattle.yparse.specs.Content.{ahead, running_at, popping_at, kind_in, first_place};
+ghost use Rattle.yparse.specs.Content.{configuration_of};
+ghost use Rattle.yparse.specs.History.{History};
+ghost use Rattle.yparse.specs.MachineOver.{machine_over};
+ghost use Rattle.yparse.specs.Parts.{content_of};
+ghost use Rattle.yparse.specs.Place.{IsKept};
+ghost use Rattle.yparse.specs.Rightmost.{UnwindsRight};
+ghost use Rattle.yparse.specs.Tables.{name_of};
+ghost use Rattle.yparse.specs.Tokens.{Fits, symbols_of};
+ghost use Rattle.yparse.specs.Tree.{error_leaf};
+ghost use Rattle.yparse.specs.Unwinding.{tree_lines};
+ghost use Rattle.yparse.specs.View.{tree_by, trees_in};
+ghost use Rattle.ytables.specs.Sends.{Sends};
+
+use crate::machine::{Mode, StepFault, StepKind};
+use crate::parts::{Parts, PlaceChange, children_of, make, make_room, state_below, unmake};
+use crate::reversible::Reversible;
+use crate::tables::{cell, grammar_of, known, name_of};
+use crate::tokens::Tokens;
+use crate::tree_view::TreeView;
+use crate::walk::{Frame, write_lines};
+use std::alloc::Global;
+use std::io::Write;
+use std::marker::Model;
+use ygrammar::Sym;
+use ytables::{Action, Link, Tables};
+
+/// A parse of some tokens by some tables, as it is now. Trees lie in flat lists, and a step back
+/// cuts their ends off. The walk has room for all nodes that a tree may have open; a step reserves
+/// it, so that trees are written without memory.
+#[derive(Drop)]
+pub struct PlaceParser {
+    tables: Tables,
+    tokens: Tokens,
+    parts: Parts,
+    walk: Vec<Frame>,
+}
+
+impl Model for PlaceParser {
+    ghost use Rattle.yparse.specs.Content.{Place};
+
+    ghost Value = { Place };
+
+    ghost use Rattle.std.specs.Prelude.{vec_capacity};
+    ghost use Rattle.yparse.specs.Place.{place_of, IsPlace};
+
+    ghost view = { λ p. place_of p.tables p.tokens p.parts };
+
+    ghost invariant = { λ p. IsPlace p.tables p.tokens p.parts (vec_capacity p.walk) };
+}
+
+/// The token ahead, or the end.
+fn token_ahead(tokens: &[Sym], at: usize) -> Sym
+    ensures { result ≡ ahead tokens.now at }
+{
+    tokens.get(at).copied().unwrap_or(0)
+}
+
+/// The kind of the step of a running parse.
+fn kind_running(tables: &Tables, tokens: &[Sym], parts: &Parts, state: usize) -> StepKind
+    ensures { result ≡ running_at tables.now tokens.now (content_of parts.now) state }
+{
+    let token = token_ahead(tokens, parts.at);
+    match cell(tables, state, token) {
+        Action::Shift(_) => StepKind::Shift(token),
+        Action::Reduce(rule) => StepKind::Reduce(rule),
+        Action::Accept => StepKind::Accept,
+        Action::Error if parts.counter != 3 => StepKind::Detect,
+        Action::Error if parts.at < tokens.len() => StepKind::Discard(token),
+        Action::Error => StepKind::Fail,
+    }
+}
+
+/// The kind of the step that looks for a state in which `error` can be shifted.
+fn kind_popping(tables: &Tables, parts: &Parts, state: usize) -> StepKind
+    ensures { result ≡ popping_at tables.now (content_of parts.now) state }
+{
+    if let Action::Shift(_) = cell(tables, state, 1) {
+        return StepKind::ShiftError;
+    }
+    let len = parts.stack.len();
+    if len == 0 {
+        StepKind::Fail
+    } else {
+        StepKind::Pop(parts.stack[len - 1].symbol)
+    }
+}
+
+/// The kind of the next step, where there is one.
+fn next_kind(tables: &Tables, tokens: &[Sym], parts: &Parts) -> Option<StepKind>
+    ensures { result ≡ kind_in tables.now tokens.now (content_of parts.now) parts.now.mode }
+{
+    let state = state_below(&parts.stack, parts.stack.len());
+    match parts.mode {
+        Mode::Running => Some(kind_running(tables, tokens, parts, state)),
+        Mode::Popping => Some(kind_popping(tables, parts, state)),
+        Mode::Accepted => None,
+        Mode::Failed => None,
+    }
+}
+
+impl PlaceParser {
+    /// The first configuration. It takes no memory.
+    pub fn new(alloc: Global, tables: Tables, tokens: Tokens) -> PlaceParser
+        requires { Fits tables.built.grammar (symbols_of tokens) }
+        ensures { result ≡ first_place tables (symbols_of tokens) }
+    {
+        PlaceParser {
+            tables,
+            tokens,
+            parts: Parts {
+                stack: Vec::new(alloc),
+                nodes: Vec::new(alloc),
+                children: Vec::new(alloc),
+                at: 0,
+                counter: 0,
+                errors: 0,
+                mode: Mode::Running,
+                steps: 0,
+            },
+            walk: Vec::new(alloc),
+        }
+    }
+
+    /// The printed name of a symbol; empty for a number that is no symbol.
+    pub(crate) fn name(&self, symbol: Sym) -> &[u8]
+        ensures { result.now ≡ name_of self.now.tables.built.grammar symbol }
+    {
+        name_of(grammar_of(&self.tables), symbol)
+    }
+
+    /// What the parse holds.
+    pub(crate) fn parts(&self) -> &Parts
+        ensures { content_of result.now ≡ self.now.content }
+    {
+        &self.parts
+    }
+
+    /// The tokens first read.
+    pub(crate) fn tokens(&self) -> &[Sym]
+        ensures { result.now ≡ self.now.tokens }
+    {
+        &self.tokens.symbols
+    }
+
+    /// The tree of an entry of the stack, counted from the bottom.
+    pub(crate) fn tree_at(&self, index: usize) -> TreeView<'_>
+        requires { index < length self.now.content.stack }
+        ensures { tree_by result
+            ≡ slice_index_or (trees_in (configuration_of self.now).stack) index error_leaf }
+    {
+        let parts = &self.parts;
+        TreeView::new(&parts.nodes, &parts.children, parts.stack[index].node)
+    }
+
+    /// Writes a line for each entry of the stack, from the bottom: its tree.
+    pub(crate) fn write_trees<W: Write>(&mut self, link: &mut Link<W>) -> Option<()>
+        ensures text { Sends W.contents link.old link.new (is_some result)
+            (tree_lines (machine_over self.old.tables) (configuration_of self.old).stack) }
+        ensures place { self.new ≡ self.old }
+    {
+        let parts = &self.parts;
+        write_lines(
+            link,
+            &self.tables,
+            &parts.stack,
+            &parts.nodes,
+            &parts.children,
+            &mut self.walk,
+        )
+    }
+
+    /// That what is accepted without error steps unwinds to a rightmost derivation. The call does
+    /// nothing.
+    pub(crate) fn unwinds(&self)
+        ensures { (h : History) → UnwindsRight self.now.tables.built.grammar.bare
+            (machine_over self.now.tables) self.now.tokens h }
+    {
+        known(&self.tables);
+        let _ = &self.tokens;
+    }
+
+    /// What every parse keeps. The call does nothing.
+    pub(crate) fn kept(&self)
+        ensures { IsKept self.now }
+    {
+        known(&self.tables);
+        let _ = &self.tokens;
+    }
+}
+
+impl Reversible for PlaceParser {
+    ghost use Rattle.yparse.specs.Content.{place_next, place_before, place_fits};
+
+    type Change = PlaceChange;
+
+    type Kind = StepKind;
+
+    ghost next = { place_next };
+
+    ghost before = { place_before };
+
+    ghost kind = { λ change. change.kind };
+
+    ghost fits = { place_fits };
+
+    fn advance(&mut self) -> Result<PlaceChange, StepFault> {
+        known(&self.tables);
+        let kind = match next_kind(&self.tables, &self.tokens.symbols, &self.parts) {
+            None => return Err(StepFault::Halted),
+            Some(kind) => kind,
+        };
+        let count = children_of(&self.tables, kind);
+        if make_room(&mut self.parts, &mut self.walk, count).is_err() {
+            return Err(StepFault::Memory);
+        }
+        Ok(make(&self.tables, &mut self.parts, kind))
+    }
+
+    fn revert(&mut self, change: PlaceChange) {
+        unmake(&self.tables, &mut self.parts, change);
+    }
+}

@@ -1,0 +1,173 @@
+//! Unwinding: the forms of an accepted parse, from the last one back to the input.
+
+ghost use Rattle.std.specs.Prelude.{◌≡◌, ◌↔◌, ◌++◌, All, IsTrue, IfOk, false, true};
+ghost use Rattle.std.specs.Prelude.{is_some, if◌then◌else◌};
+ghost use Rattle.ytables.specs.Link.{device_of, has_failed};
+ghost use Rattle.ytables.specs.Sends.{Sends};
+ghost use Rattle.yparse.specs.Session.{machine_of, history_of, tokens_of, grammar_of};
+ghost use Rattle.yparse.specs.Unwinding.{NoErrors, form_line, form_of, forms_of, is_error_step};
+ghost use Rattle.yparse.specs.Unwinding.{is_reduction, joined};
+ghost use Rattle.yparse.specs.Unwound.{GoesBack, Unwinds, gap, is_write};
+
+use crate::machine::{AtStart, Mode, StepKind, UnwindFault};
+use crate::parts::PlaceChange;
+use crate::session::Session;
+use std::io::Write;
+use ygrammar::Sym;
+use ytables::Link;
+use ytables::put::put;
+
+/// Whether a step of this kind is one of recovery.
+fn is_error_step(kind: StepKind) -> bool
+    ensures { result ≡ is_error_step kind }
+{
+    match kind {
+        StepKind::Detect | StepKind::Pop(_) | StepKind::ShiftError | StepKind::Discard(_) => true,
+        StepKind::Shift(_) | StepKind::Reduce(_) | StepKind::Accept | StepKind::Fail => false,
+    }
+}
+
+fn is_reduction(kind: StepKind) -> bool
+    ensures { result ≡ is_reduction kind }
+{
+    matches!(kind, StepKind::Reduce(_))
+}
+
+/// Whether none of the changes is of a step of recovery.
+fn are_quiet(changes: &[PlaceChange]) -> bool
+    ensures { IsTrue result ↔ All (λ change. is_error_step change.kind ≡ false) changes.now }
+{
+    changes.iter().all(|change| !is_error_step(change.kind))
+}
+
+/// The space before a name that isn't the first.
+fn gap(index: usize) -> &'static [u8]
+    ensures { result.now ≡ gap index }
+{
+    match index {
+        0 => b"",
+        _ => b" ",
+    }
+}
+
+/// A name of a form, with the space before it.
+fn put_name<W: Write>(
+    session: &Session,
+    link: &mut Link<W>,
+    index: usize,
+    symbol: Sym,
+) -> Option<()>
+    ensures { Sends W.contents link.old link.new (is_some result)
+        (gap index ++ (machine_of session.now).name symbol) }
+{
+    put(link, gap(index))?;
+    put(link, session.name(symbol))
+}
+
+/// The names of a form, with one space between.
+fn put_names<W: Write>(session: &Session, link: &mut Link<W>) -> Option<()>
+    ensures { Sends W.contents link.old link.new (is_some result)
+        (joined (machine_of session.now) (form_of (history_of session.now).now)) }
+{
+    let view = session.view();
+    for index in 0..view.form_len() {
+        put_name(session, link, index, view.form(index))?;
+    }
+    Some(())
+}
+
+/// The line of the form that stands now.
+fn put_form<W: Write>(session: &Session, link: &mut Link<W>) -> Option<()>
+    ensures { Sends W.contents link.old link.new (is_some result)
+        (form_line (machine_of session.now) (form_of (history_of session.now).now)) }
+{
+    put_names(session, link)?;
+    put(link, b"\n")
+}
+
+/// The forms from the one that stands now back to the first, each after the undo that restores it.
+fn put_forms<W: Write>(session: &mut Session, link: &mut Link<W>) -> Option<()>
+    ensures forms { GoesBack (W.contents (device_of link.old)) (W.contents (device_of link.new))
+        (machine_of session.old) (history_of session.old) (is_some result)
+        (history_of session.new) }
+    ensures failed { has_failed link.new ≡ (if is_some result then has_failed link.old else true) }
+    ensures machine { machine_of session.new ≡ machine_of session.old }
+    ensures tokens { tokens_of session.new ≡ tokens_of session.old }
+    ensures grammar { grammar_of session.new ≡ grammar_of session.old }
+{
+    put_form(session, link)?;
+    loop {
+        match session.back() {
+            Ok(kind) => {
+                if is_reduction(kind) {
+                    put_form(session, link)?;
+                }
+            }
+            Err(AtStart) => return Some(()),
+        }
+    }
+}
+
+impl Session {
+    ghost use Rattle.ygrammar.specs.Grammar.{start_of};
+    ghost use Rattle.std.specs.Prelude.{[], ◌∷◌};
+    ghost use Rattle.yparse.specs.History.{first_history};
+    ghost use Rattle.yparse.specs.Past.{rewound};
+    ghost use Rattle.yparse.specs.Rightmost.{IsRightmostDerivation};
+    ghost use Rattle.yparse.specs.declared.machine.Mode.TheVariants.{Accepted};
+
+    /// Whether no step that stands is one of recovery.
+    #[tactic(auto, unfolding(crate::specs::Session::history_of))]
+    fn is_quiet(&self) -> bool
+        ensures { IsTrue result ↔ NoErrors (history_of self.now).earlier }
+    {
+        are_quiet(self.journal.changes())
+    }
+
+    /// That a history begins with the first configuration, and unwinds to a rightmost derivation
+    /// where it is accepted without error steps. The call does nothing.
+    #[tactic(auto, unfolding(crate::specs::Session::history_of, crate::specs::Session::machine_of, crate::specs::Session::tokens_of, crate::specs::Session::grammar_of))]
+    fn derivation(&self)
+        ensures first { ∥ rewound (history_of self.now) ≡ first_history (tokens_of self.now) ∥₁ }
+        ensures derives { (history_of self.now).now.mode ≡ Accepted
+            → NoErrors (history_of self.now).earlier
+            → ∥ IsRightmostDerivation (grammar_of self.now).bare
+            (start_of (grammar_of self.now).bare ∷ []) (forms_of (history_of self.now))
+            (tokens_of self.now) ∥₁ }
+    {
+        self.journal.machine().unwinds();
+    }
+
+    /// Writes the form of the accepted configuration, and undoes all steps, writing the form that
+    /// stands after each undone reduction: the parse as a rightmost derivation, the last form
+    /// first. A form is the stack's symbols and the tokens left, their names with one space
+    /// between, on a line of its own.
+    ///
+    /// U1 where the parse isn't accepted, else U2 where an error step was made, both changing
+    /// nothing; U3 exactly where the link failed, at the configuration whose form was being
+    /// written. It takes no memory.
+    pub fn unwind<W: Write>(&mut self, link: &mut Link<W>) -> Result<(), UnwindFault>
+        ensures unwinds { Unwinds (W.contents (device_of link.old))
+            (W.contents (device_of link.new)) (machine_of self.old) (history_of self.old) result
+            (history_of self.new) }
+        ensures derives { IfOk result (λ _. ∥ IsRightmostDerivation (grammar_of self.old).bare
+            (start_of (grammar_of self.old).bare ∷ []) (forms_of (history_of self.old))
+            (tokens_of self.old) ∥₁) }
+        ensures first { IfOk result (λ _. ∥ history_of self.new
+            ≡ first_history (tokens_of self.old) ∥₁) }
+        ensures failed { has_failed link.new ≡ is_write result }
+        ensures machine { machine_of self.new ≡ machine_of self.old }
+        ensures tokens { tokens_of self.new ≡ tokens_of self.old }
+        ensures grammar { grammar_of self.new ≡ grammar_of self.old }
+    {
+        link.clear();
+        if self.view().mode() != Mode::Accepted {
+            return Err(UnwindFault::NotAccepted);
+        }
+        if !self.is_quiet() {
+            return Err(UnwindFault::HadError);
+        }
+        self.derivation();
+        put_forms(self, link).ok_or(UnwindFault::Write)
+    }
+}

@@ -1,0 +1,126 @@
+//! A configuration as callers see it.
+
+ghost use Rattle.std.specs.Prelude.{◌≡◌, ◌<◌, length, slice_index, slice_index_or};
+ghost use Rattle.yparse.specs.Content.{configuration_in};
+ghost use Rattle.yparse.specs.Machine.{symbols};
+ghost use Rattle.yparse.specs.Parts.{content_of};
+ghost use Rattle.yparse.specs.Session.{history_of};
+ghost use Rattle.yparse.specs.Unwinding.{form_of};
+ghost use Rattle.yparse.specs.View.{shown_by};
+
+use crate::machine::Mode;
+use crate::parts::{Parts, StackEntry};
+use crate::session::Session;
+use ygrammar::Sym;
+
+/// A configuration: its stack, the tokens left, the recovery counter, the errors reported, and the
+/// mode.
+#[derive(Clone, Copy)]
+pub struct View<'a> {
+    parts: &'a Parts,
+    tokens: &'a [Sym],
+}
+
+impl<'a> View<'a> {
+    #[tactic(auto, unfolding(crate::specs::View::shown_by))]
+    pub(crate) fn new(parts: &'a Parts, tokens: &'a [Sym]) -> Self
+        ensures { shown_by result ≡ configuration_in tokens.entry.now (content_of parts.entry.now) }
+    {
+        View { parts, tokens }
+    }
+
+    /// How many symbols the stack has.
+    #[tactic(auto, unfolding(crate::specs::View::shown_by))]
+    pub fn stack_len(&self) -> usize
+        ensures { result ≡ length (shown_by self.now).stack }
+    {
+        self.parts.stack.len()
+    }
+
+    /// A symbol of the stack, counted from the bottom.
+    #[tactic(auto, unfolding(crate::specs::View::shown_by))]
+    pub fn stack(&self, index: usize) -> Sym
+        requires { index < length (shown_by self.now).stack }
+        ensures { result ≡ slice_index (symbols (shown_by self.now).stack) index }
+    {
+        self.parts.stack[index].symbol
+    }
+
+    /// How many tokens are left.
+    #[tactic(auto, unfolding(crate::specs::View::shown_by))]
+    pub fn rest_len(&self) -> usize
+        ensures { result ≡ length (shown_by self.now).rest }
+    {
+        self.tokens.len().saturating_sub(self.parts.at)
+    }
+
+    /// A token that is left, and its place in the input, counted from 1.
+    #[tactic(auto, using(crate::proofs::Rests::within_rest), unfolding(crate::specs::View::shown_by))]
+    pub fn rest(&self, index: usize) -> (Sym, usize)
+        requires { index < length (shown_by self.now).rest }
+        ensures { result ≡ slice_index_or (shown_by self.now).rest index (0, 0) }
+    {
+        let rest = &self.tokens[self.parts.at..];
+        let place = self.tokens.len() - rest.len() + index + 1;
+        (rest[index], place)
+    }
+
+    /// How many symbols the form has: those of the stack, and the tokens left.
+    #[tactic(auto, unfolding(crate::specs::View::shown_by))]
+    pub(crate) fn form_len(&self) -> usize
+        ensures { result ≡ length (form_of (shown_by self.now)) }
+    {
+        let stack: &[StackEntry] = &self.parts.stack;
+        let tokens: &[Sym] = self.tokens;
+        stack.len() + tokens.len().saturating_sub(self.parts.at)
+    }
+
+    /// A symbol of the form.
+    #[tactic(auto, unfolding(crate::specs::View::shown_by))]
+    pub(crate) fn form(&self, index: usize) -> Sym
+        requires { index < length (form_of (shown_by self.now)) }
+        ensures { result ≡ slice_index (form_of (shown_by self.now)) index }
+    {
+        let height = self.stack_len();
+        if index < height {
+            self.stack(index)
+        } else {
+            self.rest(index - height).0
+        }
+    }
+
+    /// The recovery counter, 0 to 3.
+    #[tactic(auto, unfolding(crate::specs::View::shown_by))]
+    pub fn counter(&self) -> usize
+        ensures { result ≡ (shown_by self.now).counter }
+    {
+        self.parts.counter
+    }
+
+    /// How many errors were reported.
+    #[tactic(auto, unfolding(crate::specs::View::shown_by))]
+    pub fn errors(&self) -> usize
+        ensures { result ≡ (shown_by self.now).errors }
+    {
+        self.parts.errors
+    }
+
+    /// What the parse is doing.
+    #[tactic(auto, unfolding(crate::specs::View::shown_by))]
+    pub fn mode(&self) -> Mode
+        ensures { result ≡ (shown_by self.now).mode }
+    {
+        self.parts.mode
+    }
+}
+
+impl Session {
+    /// The configuration now. It takes no memory.
+    #[tactic(auto, unfolding(crate::specs::Session::history_of))]
+    pub fn view(&self) -> View<'_>
+        ensures { shown_by result ≡ (history_of self.now).now }
+    {
+        let parse = self.journal.machine();
+        View::new(parse.parts(), parse.tokens())
+    }
+}
