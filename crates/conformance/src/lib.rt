@@ -10,6 +10,8 @@ mod recovery;
 mod sessions;
 pub mod setting;
 #[cfg(test)]
+mod stepper;
+#[cfg(test)]
 mod streams;
 #[cfg(test)]
 mod tokens;

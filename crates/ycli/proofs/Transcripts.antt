@@ -1,5 +1,5 @@
 -- How the replies to lines make the text of a session.
-use Rattle.std.proofs.Common.{ℕ, ◌≡◌, ◌≢◌, nat_lt, ◌-◌, ◌^◌, ◌<◌, ◌≤◌, ◌++◌, ◌==◌, Bool, true, false, List, [], ◌∷◌, Option, Some, None, Result, Ok, Err, length, take, refl, sym, ap, ◌∙◌, subst, arith, append_assoc, append-nil, inl, inr, ◌⊎◌, IsSome, IfSome, codes, length-append}
+use Rattle.std.proofs.Common.{ℕ, ◌≡◌, ◌≢◌, nat_lt, ◌-◌, ◌^◌, ◌<◌, ◌≤◌, ◌++◌, ◌==◌, Bool, true, false, List, [], ◌∷◌, Option, Some, None, Ok, Err, length, take, refl, sym, ap, ◌∙◌, subst, arith, append_assoc, append-nil, inl, inr, ◌⊎◌, IfSome, codes, length-append}
 use Rattle.std.proofs.lemmas.List.Elements.{All-nil, All-cons, All-head, All-tail}
 use Rattle.yparse.specs.declared.machine.StepKind.{StepKind}
 use Rattle.yparse.specs.declared.machine.Mode.{Mode}

@@ -7,3 +7,4 @@ pub mod Serving
 pub mod Arguments
 pub mod Programs
 pub mod Generating
+pub mod Headline

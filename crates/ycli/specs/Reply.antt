@@ -1,5 +1,5 @@
 -- What a command replies, and the history that it leaves.
-use Rattle.std.specs.Prelude.{ℕ, suc, ◌≡◌, ◌≢◌, ◌⊎◌, ◌-◌, nat_lt, Bool, true, false, List, [], ◌∷◌, ◌++◌, length, map, flat_map, decimal, codes, if◌then◌else◌, Result, Ok, Err, Option, Some, None}
+use Rattle.std.specs.Prelude.{ℕ, suc, ◌≡◌, ◌≢◌, ◌⊎◌, ◌-◌, nat_lt, Bool, true, false, List, [], ◌∷◌, ◌++◌, length, flat_map, decimal, codes, if◌then◌else◌, Result, Ok, Err, Option, Some, None}
 use Prim.Native.Nat.{zero}
 use Rattle.yparse.specs.declared.machine.Mode.{Mode}
 use Rattle.yparse.specs.declared.machine.Mode.TheVariants.{Running, Popping, Accepted, Failed}

@@ -11,3 +11,4 @@ mod message;
 pub mod programs;
 mod reply;
 pub mod run;
+pub mod stepper;

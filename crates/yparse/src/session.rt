@@ -8,6 +8,7 @@ ghost use Rattle.yparse.specs.Shown.{shown_past, past_in};
 use crate::journal::Journal;
 use crate::machine::{AtStart, StepFault, StepKind};
 use crate::place::PlaceParser;
+use crate::tables::known;
 use crate::tokens::Tokens;
 use std::alloc::Global;
 use ygrammar::Sym;
@@ -25,6 +26,9 @@ impl Session {
     ghost use Rattle.yparse.specs.Machine.{next};
     ghost use Rattle.yparse.specs.Past.{Steps, Undoes, position, most_steps};
     ghost use Rattle.yparse.specs.History.{first_history};
+    ghost use Rattle.yparse.specs.Headline.{IsMachineOf};
+    ghost use Rattle.yparse.specs.History.{History};
+    ghost use Rattle.yparse.specs.Rightmost.{UnwindsRight};
     ghost use Rattle.yparse.specs.Tokens.{Fits, symbols_of};
     ghost use Rattle.yparse.specs.Session.{machine_of, history_of, tokens_of, grammar_of, past_of};
 
@@ -36,9 +40,15 @@ impl Session {
         ensures tokens { tokens_of result ≡ symbols_of tokens }
         ensures grammar { grammar_of result ≡ tables.built.grammar }
         ensures history { history_of result ≡ first_history (symbols_of tokens) }
+        ensures goes { IsMachineOf tables.built.grammar (machine_over tables) }
+        ensures derives { (h : History) → UnwindsRight tables.built.grammar.bare
+            (machine_over tables) (symbols_of tokens) h }
     {
+        known(&tables);
+        let parse = PlaceParser::new(alloc, tables, tokens);
+        parse.unwinds();
         Session {
-            journal: Journal::new(alloc, PlaceParser::new(alloc, tables, tokens)),
+            journal: Journal::new(alloc, parse),
         }
     }
 

@@ -1,7 +1,5 @@
-use Rattle.std.proofs.Common.{◌≡◌, ◌+◌, ◌-◌, ◌++◌, ℕ, suc, List, [], true, false, is_some, Result, Ok, Err, codes, arith, refl, ap, sym, ◌∙◌, subst, append_assoc, append-nil}
+use Rattle.std.proofs.Common.{◌≡◌, ◌+◌, ◌-◌, ◌++◌, ℕ, suc, List, [], true, false, is_some, Ok, Err, codes, arith, ap, sym, ◌∙◌, subst, append_assoc, append-nil}
 use Rattle.ytables.specs.Sends.{Sends}
-use Rattle.yparse.specs.declared.machine.StepKind.{StepKind}
-use Rattle.yparse.specs.declared.machine.StepFault.{StepFault}
 use Rattle.yparse.specs.Machine.{Machine, next}
 use Rattle.yparse.specs.Past.{Steps, position}
 use Rattle.yparse.specs.History.{History}

@@ -1,6 +1,5 @@
-use Rattle.std.proofs.Common.{◌≡◌, Bool, false, true, List, ℕ, [], Err, is_some, codes, refl, subst, inl, inr}
+use Rattle.std.proofs.Common.{◌≡◌, false, true, [], Err, is_some, codes, refl, subst, inl, inr}
 use Rattle.ytables.specs.Link.{device_of, has_failed}
-use Rattle.ytables.specs.Sends.{Sends}
 use Rattle.ytables.proofs.Sent.{Sends-then}
 use Rattle.yparse.specs.declared.machine.UnwindFault.{UnwindFault}
 use Rattle.yparse.specs.declared.machine.UnwindFault.TheVariants as faults

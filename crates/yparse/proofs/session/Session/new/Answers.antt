@@ -1,6 +1,9 @@
 use Rattle.std.proofs.Common.{◌≡◌, refl, sym, ◌∙◌, ap, subst}
 use Rattle.yparse.specs.Past.{Past, first_past}
 use Rattle.yparse.specs.declared.machine.StepKind.{StepKind}
+use Rattle.yparse.specs.History.{History}
+use Rattle.yparse.specs.MachineOver.{machine_over}
+use Rattle.yparse.specs.Rightmost.{UnwindsRight}
 use Rattle.yparse.specs.Tokens.{symbols_of}
 use Rattle.yparse.specs.Content.{Place, first_place}
 use Rattle.yparse.specs.Shown.{past_in}
@@ -9,10 +12,17 @@ use Rattle.yparse.proofs.session.Session.new.Goals as goal
 
 pub invariant_of-result : goal.invariant_of-result
 invariant_of-result c =
-    let r = c.new-2.result in
+    let r = c.new.result in
     let first : Past StepKind Place =
     first_past (first_place c.args.tables (symbols_of c.args.tokens)) in
     let past : past_in r.machine r.changes.items ≡ first =
-    c.new-2.ensures ∙ ap (λ (p : Place). let h : Past StepKind Place = first_past p in h) c.new.ensures in
+    c.new.ensures ∙ ap (λ (p : Place). let h : Past StepKind Place = first_past p in h) c.new-parse.ensures in
     let shown : IsShown first = refl in
     record { steps = ∣ subst IsShown (sym past) shown ∣₁ }
+
+pub returns-clause-derives : goal.returns-clause-derives
+returns-clause-derives c =
+    λ (h : History).
+    subst
+    (λ (p : Place). UnwindsRight p.tables.built.grammar.bare (machine_over p.tables) p.tokens h)
+    c.new-parse.ensures (c.unwinds.ensures h)
