@@ -29,7 +29,7 @@ byacc_run() {
   done | least
 }
 
-times() {
+time_phases() {
   "$program" size "$2"
   "$program" read "$2"
   "$program" build "$2"
@@ -42,10 +42,10 @@ while read -r kind half whole; do
   for size in $half $whole; do
     echo "--- $kind $size"
     python3 "$top/bench/grammar.py" "$kind" "$size" > "$work/grammar.y"
-    times "$kind $size" "$work/grammar.y"
+    time_phases "$kind $size" "$work/grammar.y"
   done
 done < "$top/bench/grammars"
 for file in "$@"; do
   echo "--- $(basename "$file")"
-  times "$(basename "$file")" "$file"
+  time_phases "$(basename "$file")" "$file"
 done

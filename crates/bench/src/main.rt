@@ -4,15 +4,18 @@
 //!     bench build FILE     makes the automaton of its grammar
 //!     bench resolve FILE   makes the tables of that automaton
 //!     bench size FILE      shows how large that automaton is
+//!     bench step FILE TOKENS N   makes at most N steps over a tokens file, and takes them back
 #![tactic(auto)]
 
 mod building;
 mod reading;
 mod resolving;
+mod stepping;
 
 use crate::building::{show_size, time_build};
 use crate::reading::time_reading;
 use crate::resolving::time_resolve;
+use crate::stepping::time_steps;
 use std::{env, io};
 
 /// The word at this place, or an empty one.
@@ -32,6 +35,10 @@ fn main(rt: HostRuntime) -> io::Result<()> {
         "build" => time_build(&rt, path),
         "resolve" => time_resolve(&rt, path),
         "size" => show_size(&rt, path),
-        _ => println!(&rt; "bench read|build|resolve|size FILE"),
+        "step" => {
+            let most = word_at(&words, 4).parse::<usize>().unwrap_or(1_000_000);
+            time_steps(&rt, path, word_at(&words, 3), most)
+        }
+        _ => println!(&rt; "bench read|build|resolve|size FILE, bench step FILE TOKENS N"),
     }
 }

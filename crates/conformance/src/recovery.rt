@@ -1,10 +1,8 @@
 //! Parses that recover from errors, and those that can't.
 
-use crate::setting::{ONE, replies};
+use conformance_setting::setting::{ONE, replies};
+use conformance_setting::worked::LIST;
 use std::test::Fail;
-
-/// Lists of numbers, each behind it a semicolon; `error` stands for one that is spoiled.
-pub const LIST: &[u8] = b"%token NUM %% list : | list NUM ';' | list error ';' ;";
 
 #[test]
 fn a_token_is_discarded_behind_an_error(rt: HostRuntime) -> Result<(), Fail> {

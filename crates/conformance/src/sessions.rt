@@ -1,7 +1,7 @@
 //! The worked sessions, and what is a command.
 
-use crate::devices::{Refusal, Sink, Source};
-use crate::setting::{COMMANDS, ONE, REPLIES, replies, served, session_of};
+use conformance_setting::devices::{Refusal, Sink, Source};
+use conformance_setting::setting::{COMMANDS, ONE, REPLIES, replies, served, session_of};
 use std::alloc::{AllocError, Global};
 use std::test::Fail;
 use yparse::machine::{AtStart, Mode, StepFault, StepKind};
@@ -27,7 +27,8 @@ fn an_empty_rule(rt: HostRuntime) -> Result<(), Fail> {
     Ok(())
 }
 
-// Five rules, a list of assignments: the states by hand, the lookahead of `l` before `r` decides the reductions.
+// Five rules, a list of assignments: the states by hand, the lookahead of `l` before `r` decides
+// the reductions.
 #[test]
 fn a_lookahead_decides(rt: HostRuntime) -> Result<(), Fail> {
     let grammar = b"%% s : l '=' r | r ; l : '*' r | 'i' ; r : l ;";
@@ -90,9 +91,9 @@ fn conflicts_take_the_shift_or_the_least_rule(rt: HostRuntime) -> Result<(), Fai
 #[test]
 fn a_reduction_without_end(rt: HostRuntime) -> Result<(), Fail> {
     let grammar = b"%left 'x' %left HI %% s : e s | 'x' ; e : %prec HI ;";
-    let sink = replies(rt.alloc(), grammar, b"'x'", b"run 5\nback 5\n")?;
+    let sink = replies(rt.alloc(), grammar, b"'x'", b"run 5\nshow\nback 5\n")?;
     let want =
-        b"1 reduce 3\n2 reduce 3\n3 reduce 3\n4 reduce 3\n5 reduce 3\n4 undo reduce 3\n3 undo reduce 3\n2 undo reduce 3\n1 undo reduce 3\n0 undo reduce 3\n";
+        b"1 reduce 3\n2 reduce 3\n3 reduce 3\n4 reduce 3\n5 reduce 3\n5 running\nstack: e e e e e\nrest: 'x'\ncounter: 0\nerrors: 0\n4 undo reduce 3\n3 undo reduce 3\n2 undo reduce 3\n1 undo reduce 3\n0 undo reduce 3\n";
     assert_eq!(rt; sink.text(), want.as_slice());
     Ok(())
 }
@@ -210,12 +211,14 @@ fn no_bytes_are_no_line(rt: HostRuntime) -> Result<(), Fail> {
 /// Four steps of a session over one rule and one token, where three can be made.
 fn steps(alloc: Global) -> Result<[Result<StepKind, StepFault>; 4], Fail> {
     let mut session = session_of(alloc, ONE, b"'x'")?;
-    Ok([
+    let answers = [
         session.step(),
         session.step(),
         session.step(),
         session.step(),
-    ])
+    ];
+    drop(session);
+    Ok(answers)
 }
 
 /// What an undo answers at the start and behind one step.
@@ -223,7 +226,9 @@ fn undos(alloc: Global) -> Result<[Result<StepKind, AtStart>; 2], Fail> {
     let mut session = session_of(alloc, ONE, b"'x'")?;
     let none = session.back();
     let _ = session.step();
-    Ok([none, session.back()])
+    let one = session.back();
+    drop(session);
+    Ok([none, one])
 }
 
 /// The position, how long the stack and the rest are, and the mode, behind one step.
@@ -231,12 +236,14 @@ fn shown(alloc: Global) -> Result<(usize, usize, usize, Mode), Fail> {
     let mut session = session_of(alloc, ONE, b"'x'")?;
     let _ = session.step();
     let view = session.view();
-    Ok((
+    let shown = (
         session.position(),
         view.stack_len(),
         view.rest_len(),
         view.mode(),
-    ))
+    );
+    drop(session);
+    Ok(shown)
 }
 
 #[test]

@@ -1,19 +1,29 @@
-//! The lookaheads of whole grammars, against plain saturation over the public calls; and the limit of states.
+//! The lookaheads of whole grammars, against plain saturation over the public calls; and the
+//! limit of states.
 
 use crate::asked::automaton;
 use crate::reference::{agrees, lookaheads};
 use std::alloc::{AllocError, Global};
 use std::test::Fail;
 use ygrammar::read_grammar;
-use ylalr::{BuildFault, build};
+use ylalr::{Automaton, BuildFault, build};
+
+/// The number of states, where the lookaheads are those of the reference.
+fn checked_of(alloc: Global, m: &Automaton) -> Result<Option<usize>, AllocError> {
+    let Some(facts) = lookaheads(alloc, m)? else {
+        return Ok(None);
+    };
+    let right = agrees(m, &facts);
+    drop(facts);
+    Ok(right.then_some(m.states()))
+}
 
 /// The number of states, where the lookaheads of the file's grammar are those of the reference.
 fn checked(alloc: Global, source: &[u8]) -> Result<Option<usize>, Fail> {
     let m = automaton(alloc, source)?;
-    match lookaheads(alloc, &m)? {
-        Some(facts) if agrees(&m, &facts) => Ok(Some(m.states())),
-        _ => Ok(None),
-    }
+    let states = checked_of(alloc, &m);
+    drop(m);
+    Ok(states?)
 }
 
 /// The numbers of states of the files, where the lookaheads are those of the reference.
@@ -102,8 +112,8 @@ fn the_limit_of_states(rt: HostRuntime) -> Result<(), Fail> {
 fn one_state_more(rt: HostRuntime) -> Result<(), Fail> {
     let more = rows_of_literals(rt.alloc(), 63)?;
     let grammar = read_grammar(rt.alloc(), more.as_slice())?;
-    let refused = matches!(build(rt.alloc(), grammar), Err(BuildFault::TooManySets));
-    assert!(rt; refused);
+    let fault = build(rt.alloc(), grammar).err();
+    assert!(rt; matches!(fault, Some(BuildFault::TooManySets)));
     Ok(())
 }
 

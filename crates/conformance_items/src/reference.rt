@@ -1,5 +1,6 @@
 //! The reference for lookaheads: plain saturation over single facts, a flag for each item of each
-//! state and token. It goes by the states and gotos that callers see and by nothing of how rows are kept.
+//! state and token. It goes by the states and gotos that callers see and by nothing of how rows
+//! are kept.
 
 use crate::asked::{has_look, token_count};
 use std::alloc::{AllocError, Global};
@@ -169,7 +170,8 @@ fn pass(automaton: &Automaton, facts: &mut Facts) -> bool {
     grew
 }
 
-/// The least lookaheads that both rules lead to from the first item's, or `None` where many passes don't reach them.
+/// The least lookaheads that both rules lead to from the first item's, or `None` where many
+/// passes don't reach them.
 pub fn lookaheads(alloc: Global, automaton: &Automaton) -> Result<Option<Facts>, AllocError> {
     let mut facts = Facts::none(alloc, automaton)?;
     facts.set(0, 0, END);

@@ -6,7 +6,7 @@ use Rattle.ycli.specs.declared.message.Trouble.{Trouble}
 use Rattle.ycli.specs.declared.message.Trouble.TheVariants.{Usage, Grammar, Tokens, TooManySets}
 use Rattle.ycli.specs.declared.message.Trouble.TheVariants.{NoMemory, CannotRead, CannotWrite}
 use Rattle.ycli.specs.declared.message.Trouble.TheVariants.{Session}
-use Rattle.ycli.specs.Programs.{AreTablesOf}
+use Rattle.ycli.specs.Halves.{AreTablesOf}
 use Rattle.ycli.specs.Generating.{FilesFail, WriteFails}
 
 -- a file that wasn't written, for tables that stand

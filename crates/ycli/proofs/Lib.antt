@@ -1,4 +1,5 @@
 mod Lines
+mod Plain
 mod Replying
 mod Transcripts
 mod Required

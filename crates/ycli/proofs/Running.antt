@@ -1,5 +1,6 @@
 -- What became of a run.
-use Rattle.std.proofs.Common.{ℕ, ◌≡◌, ◌∙◌, ◌⊎◌, Bool, true, false, List, [], Option, Err, refl, sym, subst, append-nil, if◌then◌else◌}
+use Rattle.std.proofs.Common.{ℕ, ◌≡◌, ◌∙◌, Bool, true, false, List, [], Option, Err, refl, sym}
+use Rattle.std.proofs.Common.{append-nil, if◌then◌else◌}
 use Rattle.std.specs.Borrow.{Bor}
 use Rattle.std.specs.Io.KnownBytes.{Keeps, Appends}
 use Rattle.std.specs.declared.io.ErrorKind.{ErrorKind as IoKind}
@@ -7,24 +8,24 @@ use Rattle.std.specs.declared.io.ErrorKind.TheVariants as errors
 use Rattle.std.proofs.KnownBytes.{Appends-nil, Appends-kept}
 use Rattle.ygrammar.specs.declared.fault.GrammarFault.{GrammarFault}
 use Rattle.ygrammar.specs.declared.fault.GrammarFault.TheVariants as grammars
-use Rattle.ygrammar.specs.Grammar.{GrammarValue}
-use Rattle.ygrammar.specs.GrammarOf.{IsFaultOf, IsGrammarOf}
-use Rattle.ylalr.specs.Collection.{TooMany}
-use Rattle.ylalr.specs.declared.fault.BuildFault.{BuildFault}
+use Rattle.ygrammar.specs.GrammarOf.{IsFaultOf}
 use Rattle.ylalr.specs.declared.fault.BuildFault.TheVariants as building
 use Rattle.ytables.specs.declared.link.Link.{Link}
 use Rattle.ytables.specs.Tables.{TablesValue as Tables}
 use Rattle.yparse.specs.declared.tokens.TokenFault.{TokenFault}
 use Rattle.yparse.specs.declared.tokens.TokenFault.TheVariants as faults
-use Rattle.ycli.specs.declared.arguments.YstepWords.{YstepWords}
-use Rattle.ycli.specs.declared.message.Trouble.{Trouble}
 use Rattle.ytables.specs.Link.{device_of, has_failed}
 use Rattle.ytables.specs.Sends.{Sends}
 use Rattle.yparse.specs.Reading.{Gives}
-use Rattle.ycli.specs.Programs.{AreTablesOf, GrammarFails, TokensFail, Says, of_grammar, of_tables, of_tokens, of_unread}
+use Rattle.ycli.specs.Programs.{GrammarFails, TokensFail, Says, of_grammar, of_start, of_tokens}
+use Rattle.ycli.specs.Programs.{of_unread}
+use Rattle.ycli.specs.Halves.{AreTablesOf, NoTables}
+use Rattle.ycli.specs.declared.stepper.StepperFault.{StepperFault}
+use Rattle.ycli.specs.declared.stepper.StepperFault.TheVariants as starts
 
 -- a refused tokens file
-pub tokens_fail : (path : Bor (List ℕ)) (source : List ℕ) (t : Tables) (bytes : List ℕ) (fault : TokenFault) → AreTablesOf source t → Gives t.built.grammar bytes (Err fault)
+pub tokens_fail : (path : Bor (List ℕ)) (source : List ℕ) (t : Tables) (bytes : List ℕ)
+    (fault : TokenFault) → AreTablesOf source t → Gives t.built.grammar bytes (Err fault)
     → TokensFail path (of_tokens fault)
 tokens_fail path source t bytes (faults.Unknown place) are given = (source, t, bytes, are, given)
 tokens_fail path source t bytes (faults.NotInput place) are given = (source, t, bytes, are, given)
@@ -33,7 +34,8 @@ tokens_fail path source t bytes faults.Memory are given = tt
 tokens_fail path source t bytes (faults.BadLiteral place) are given = (source, t, bytes, are, given)
 
 -- a refused grammar file
-pub grammar_fails : (path : Bor (List ℕ)) (source : List ℕ) (fault : GrammarFault) → IsFaultOf source fault → GrammarFails path (of_grammar fault)
+pub grammar_fails : (path : Bor (List ℕ)) (source : List ℕ) (fault : GrammarFault)
+    → IsFaultOf source fault → GrammarFails path (of_grammar fault)
 grammar_fails path source grammars.TooLong is = (source, is)
 grammar_fails path source (grammars.Unfinished line) is = (source, is)
 grammar_fails path source (grammars.BadLiteral line) is = (source, is)
@@ -49,11 +51,16 @@ grammar_fails path source (grammars.BadPrec line) is = (source, is)
 grammar_fails path source (grammars.Limit line) is = (source, is)
 grammar_fails path source grammars.Memory is = tt
 
--- a grammar with too many states
-pub build_fails : (path : Bor (List ℕ)) (source : List ℕ) (v : GrammarValue) (fault : BuildFault) → IsGrammarOf source v
-    → (fault ≡ building.TooManySets → TooMany v.bare) → GrammarFails path (of_tables fault)
-build_fails path source v building.TooManySets is many = (source, v, is, many refl)
-build_fails path source v building.Memory is many = tt
+-- a grammar file of which there are no tables
+pub tables_fail : (path : Bor (List ℕ)) (source : List ℕ) (fault : StepperFault)
+    → NoTables source fault → GrammarFails path (of_start fault)
+tables_fail path source (starts.Grammar fault) is = grammar_fails path source fault is
+tables_fail path source (starts.Build building.TooManySets) (v, is, many) =
+    (source, v, is, many refl)
+tables_fail path source (starts.Build building.Memory) is = tt
+tables_fail path source starts.Tables is = tt
+tables_fail path source (starts.Tokens fault) is = absurd is
+tables_fail path source (starts.Session fault) is = absurd is
 
 -- a file that can't be read
 pub grammar_unread : (path : Bor (List ℕ)) (kind : IoKind) → GrammarFails path (of_unread kind path)
@@ -68,24 +75,40 @@ module _ {E : Type 0} (contents : E → Option (List ℕ)) where
   -- nothing was said
   pub Says-nothing : (e : E) (errors : Link E) → device_of errors ≡ e → Says contents e errors []
   Says-nothing e errors same =
-      let none : Appends (contents e) (contents (device_of errors)) [] = rw same (Appends-nil (contents e)) in record {
+      let none : Appends (contents e) (contents (device_of errors)) [] = rw same
+      (Appends-nil (contents e)) in record {
         begins = record { front = []; back = []; parts = refl; written = none };
         whole = λ fine. none;
       }
 
   -- a text was sent, and then the link was flushed
-  pub Says-flushed : (a b c : Link E) (whole fine : Bool) (text : List ℕ) → Sends contents a b whole text → Keeps (contents (device_of b)) (contents (device_of c))
+  pub Says-flushed : (a b c : Link E) (whole fine : Bool) (text : List ℕ) → Sends contents a b whole
+      text → Keeps (contents (device_of b)) (contents (device_of c))
       → has_failed c ≡ (if fine then has_failed b else true) → Says contents (device_of a) c text
   Says-flushed a b c true fine text sent kept flag =
-      let written : Appends (contents (device_of a)) (contents (device_of c)) text = Appends-kept _ _ _ text sent.bytes kept in record {
-        begins = record { front = text; back = []; parts = sym (append-nil text); written = written };
+      let written : Appends (contents (device_of a)) (contents (device_of c)) text = Appends-kept _
+      _ _ text sent.bytes kept in record {
+        begins = record {
+          front = text;
+          back = [];
+          parts = sym (append-nil text);
+          written =
+              written;
+        };
         whole = λ unset. written;
       }
   Says-flushed a b c false fine text sent kept flag = record {
-    begins = record { front = sent.bytes.front; back = sent.bytes.back; parts = sent.bytes.parts; written = Appends-kept _ _ _ sent.bytes.front sent.bytes.written kept };
-    whole = λ unset. let bad : false ≡ true = sym unset ∙ stays_failed c b fine sent.failed flag in cc;
+    begins = record {
+      front = sent.bytes.front;
+      back = sent.bytes.back;
+      parts = sent.bytes.parts;
+      written = Appends-kept _ _ _ sent.bytes.front sent.bytes.written kept;
+    };
+    whole = λ unset. let bad : false ≡ true = sym unset ∙ stays_failed c b fine sent.failed flag in
+        cc;
   }
     where
-      stays_failed : (c b : Link E) (fine : Bool) → has_failed b ≡ true → has_failed c ≡ (if fine then has_failed b else true) → has_failed c ≡ true
+      stays_failed : (c b : Link E) (fine : Bool) → has_failed b ≡ true → has_failed c ≡
+          (if fine then has_failed b else true) → has_failed c ≡ true
       stays_failed c b true failed flag = flag ∙ failed
       stays_failed c b false failed flag = flag

@@ -1,10 +1,32 @@
 -- What a command line says.
-use Rattle.std.specs.Prelude.{ℕ, nat_le, nat_lt, ◌&&◌, ◌||◌, List, length, take, drop, Option, Some, None, codes, if◌then◌else◌}
+use Rattle.std.specs.Prelude.{ℕ, nat_le, nat_lt, ◌&&◌, ◌||◌, List, length, take, drop, Option, Some}
+use Rattle.std.specs.Prelude.{None, codes, if◌then◌else◌}
 use Rattle.std.specs.Option.{option_map_or}
 use Rattle.std.specs.Str.{bytes_eq, all_ascii_digits}
 use Rattle.std.specs.Str.Parse.{digits_value}
-use Rattle.ycli.specs.declared.command.Command.{Command}
-use Rattle.ycli.specs.declared.command.Command.TheVariants.{Run, Back, To, Show, Tree, Unwind, Quit, Unknown}
+use Rattle.ycli.specs.declared.command.Command.{Command as CodeCommand}
+use Rattle.ycli.specs.declared.command.Command.TheVariants as code
+
+-- a command: at most so many steps, or undos; to a position; the configuration, the trees, or the
+-- forms; an edit of the tokens left,
+-- by the bytes that spell the token to insert; and what is none
+pub data Command : Type 0 where
+  Run Back To : (n : ℕ) → Command
+  Show Tree Unwind : Command
+  Insert : (bytes : List ℕ) → Command
+  Drop Unknown : Command
+
+-- what the code has for a command
+abbrev pub command_view : CodeCommand → Command
+command_view (code.Run n) = Run n
+command_view (code.Back n) = Back n
+command_view (code.To n) = To n
+command_view code.Show = Show
+command_view code.Tree = Tree
+command_view code.Unwind = Unwind
+command_view (code.Insert bytes) = Insert bytes.now
+command_view code.Drop = Drop
+command_view code.Unknown = Unknown
 
 -- a number from the least one to 1,000,000
 abbrev pub counted : ℕ → ℕ → Option ℕ
@@ -29,13 +51,18 @@ counting line =
     (option_map_or Back (number_after 1 (codes "back ") line)
     (option_map_or To (number_after 0 (codes "to ") line) Unknown))
 
--- exactly one of the commands; any other line is unknown, also one of more than 4,096 bytes
+-- what follows a word
+abbrev pub text_after : List ℕ → List ℕ → Option (List ℕ)
+text_after word line =
+    if nat_le (length word) (length line) && bytes_eq (take (length word) line) word
+    then Some (drop (length word) line) else None
+
+-- exactly one of the commands; anything else is unknown
 unfoldable pub command_of : List ℕ → Command
 command_of line =
-    if nat_lt 4096 (length line) then Unknown
-    else (if bytes_eq line (codes "step") then Run 1
+    if bytes_eq line (codes "step") then Run 1
     else (if bytes_eq line (codes "show") then Show
     else (if bytes_eq line (codes "tree") then Tree
     else (if bytes_eq line (codes "unwind") then Unwind
-    else (if bytes_eq line (codes "quit") then Quit
-    else counting line)))))
+    else (if bytes_eq line (codes "drop") then Drop
+    else option_map_or Insert (text_after (codes "insert ") line) (counting line)))))

@@ -19,9 +19,10 @@ use Rattle.ycli.specs.declared.generator.Text.{Text}
 use Rattle.ycli.specs.declared.generator.Text.TheVariants as texts
 use Rattle.ycli.specs.declared.generator.Request.{Request}
 use Rattle.ycli.specs.declared.generator.Request.TheVariants as requests
+use Rattle.ycli.specs.Halves.{AreTablesOf}
 use Rattle.ycli.specs.Arguments.{yacc_app, AreYaccWordsIn}
 use Rattle.ycli.specs.Messages.{message, conflicts_line}
-use Rattle.ycli.specs.Programs.{AreMistaken, AreTablesOf, AreTaken, AskHelp, GrammarFails, Says}
+use Rattle.ycli.specs.Programs.{AreMistaken, AreTaken, AskHelp, GrammarFails, Says}
 use Rattle.ycli.specs.Programs.{status}
 
 -- the text of a file that is written

@@ -1,59 +1,59 @@
 -- What the stepper promises from bytes to bytes: the headline.
-use Rattle.std.specs.Prelude.{ℕ, ◌≡◌, ◌<◌, ◌^◌, Bool, true, false, List, length, Option, IfSome, Result, Ok, Err}
+use Rattle.std.specs.Prelude.{ℕ, ◌≡◌, ◌<◌, ◌^◌, Bool, true, false, List, length, Option, IfSome}
+use Rattle.std.specs.Prelude.{Result, Ok, Err}
 use Rattle.ytables.specs.declared.link.Link.{Link}
 use Rattle.ytables.specs.Link.{device_of}
 use Rattle.ygrammar.specs.Grammar.{GrammarValue}
-use Rattle.ygrammar.specs.GrammarOf.{IsGrammarOf, IsFaultOf}
-use Rattle.ylalr.specs.Collection.{IsFault}
-use Rattle.yparse.specs.Reading.{TokensOf, Gives}
+use Rattle.ygrammar.specs.GrammarOf.{IsGrammarOf}
+use Rattle.yparse.specs.Reading.{Gives}
 use Rattle.yparse.specs.Machine.{Machine}
-use Rattle.yparse.specs.History.{History, first_history}
-use Rattle.yparse.specs.Headline.{IsMachineOf}
-use Rattle.yparse.specs.Rightmost.{UnwindsRight}
+use Rattle.yparse.specs.History.{History}
 use Rattle.ycli.specs.declared.fault.SessionFault.{SessionFault}
 use Rattle.ycli.specs.declared.fault.SessionFault.TheVariants as streams
 use Rattle.ycli.specs.declared.stepper.StepperFault.{StepperFault}
-use Rattle.ycli.specs.declared.stepper.StepperFault.TheVariants.{Grammar, Build, Tables, Tokens, Session}
-use Rattle.ycli.specs.Programs.{Rests}
+use Rattle.ycli.specs.declared.stepper.StepperFault.TheVariants.{Tokens}
+use Rattle.ycli.specs.declared.stepper.StepperFault.TheVariants.{Session}
+use Rattle.ycli.specs.Halves.{NoTables, Parses}
+use Rattle.ycli.specs.Plain.{HasOneText}
 use Rattle.ycli.specs.Transcript.{Tells}
 
--- The machine is that of the grammar which the first file means: its cells are those of the merged canonical LR(1) items.
--- The history is the first configuration of the tokens which the second file means. What the machine accepts without
--- error steps unwinds to a rightmost derivation of these tokens from the start symbol.
+-- the machine is that of the grammar which the first file means, the history the start of a parse
+-- of the tokens which the second file means
 pub record Begins (source tokens : List ℕ) (m : Machine) (h : History) : Type 0 where
   pub grammar : GrammarValue
   pub means : IsGrammarOf source grammar
-  pub goes : IsMachineOf grammar m
-  pub symbols : List ℕ
-  pub names : TokensOf grammar tokens (Ok symbols)
-  pub first : h ≡ first_history symbols
-  pub derives : (later : History) → UnwindsRight grammar.bare m symbols later
+  pub parses : Parses grammar tokens m h
 
--- why there is no session: a fault of the grammar file, too many item sets, a fault of the tokens file, want of memory
+-- why there is no session: there are no tables, or it is a fault of the tokens file
 abbrev pub Refuses : List ℕ → List ℕ → StepperFault → Type 0
-Refuses source tokens (Grammar fault) = IsFaultOf source fault
-Refuses source tokens (Build fault) = (v : GrammarValue) × IsGrammarOf source v × IsFault v.bare fault
-Refuses source tokens Tables = Unit {0}
-Refuses source tokens (Tokens fault) = (v : GrammarValue) × IsGrammarOf source v × Gives v tokens (Err fault)
-Refuses source tokens (Session fault) = ⊥
+Refuses source tokens (Tokens fault) =
+    (v : GrammarValue) × IsGrammarOf source v × Gives v tokens (Err fault)
+Refuses source tokens fault = NoTables source fault
 
-module _ {R W : Type 0} (remaining : R → Option (List ℕ)) (contents : W → Option (List ℕ)) (source tokens : List ℕ) (r : R) (reader : Link R) (w : W) (writer : Link W) where
-  -- A session was served from such a beginning: where the reader tells its bytes, what was written is a text of the machine
-  -- for them, after a fault a beginning of one.
+-- nothing was read or written
+pub record Rests {R W : Type 0} (r : R) (reader : Link R) (w : W) (writer : Link W) : Type 0 where
+  pub reader_stays : device_of reader ≡ r
+  pub writer_stays : device_of writer ≡ w
+
+module _ {R W : Type 0} (remaining : R → Option (List ℕ)) (contents : W → Option (List ℕ))
+    (source tokens : List ℕ) (r : R) (reader : Link R) (w : W) (writer : Link W) where
+  -- A session was served from such a beginning: where the reader tells its bytes, what was written
+  -- is a text of the machine for them, after a fault a beginning of one. The text is a function of
+  -- the lines, but for want of memory.
   pub record Served (ending : Result (Unit {0}) SessionFault) : Type 0 where
     pub machine : Machine
     pub history : History
     pub begins : Begins source tokens machine history
-    pub tells : IfSome (remaining r) (λ input. length input < 2 ^ 63 → Tells machine history input (remaining (device_of reader)) (contents w) (contents (device_of writer)) ending)
+    pub plain : (lines : List (List ℕ)) → HasOneText machine history lines
+    pub tells : IfSome (remaining r) (λ input. length input < 2 ^ 63 →
+        Tells machine history input (remaining (device_of reader)) (contents w)
+        (contents (device_of writer)) ending)
 
   -- how it ended: a session was served, or there was none, and nothing was read or written
   abbrev pub Ends : Result (Unit {0}) StepperFault → Type 0
   Ends (Ok done) = Served (Ok done)
   Ends (Err (Session fault)) = Served (Err fault)
-  Ends (Err (Grammar fault)) = Refuses source tokens (Grammar fault) × Rests r reader w writer
-  Ends (Err (Build fault)) = Refuses source tokens (Build fault) × Rests r reader w writer
-  Ends (Err Tables) = Rests r reader w writer
-  Ends (Err (Tokens fault)) = Refuses source tokens (Tokens fault) × Rests r reader w writer
+  Ends (Err fault) = Refuses source tokens fault × Rests r reader w writer
 
 -- whether the link of the reader failed, or that of the writer
 abbrev pub reader_failed : Result (Unit {0}) StepperFault → Bool

@@ -1,10 +1,13 @@
 pub mod Messages
 pub mod Command
+pub mod Line
 pub mod Lines
 pub mod Reply
 pub mod Transcript
+pub mod Plain
 pub mod Serving
 pub mod Arguments
 pub mod Programs
 pub mod Generating
+pub mod Halves
 pub mod Headline

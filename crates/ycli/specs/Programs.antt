@@ -1,5 +1,6 @@
 -- What a program does but for its exit: what it was asked for, its message and its exit status.
-use Rattle.std.specs.Prelude.{ℕ, ◌≡◌, ◌≢◌, ◌<◌, ◌^◌, ◌⊎◌, false, List, [], length, Option, IfSome, Result, Ok, Err}
+use Rattle.std.specs.Prelude.{ℕ, ◌≡◌, ◌≢◌, ◌<◌, ◌^◌, ◌⊎◌, false, List, [], length, Option, IfSome}
+use Rattle.std.specs.Prelude.{Result, Ok, Err}
 use Rattle.std.specs.Borrow.{Bor}
 use Rattle.std.specs.Io.KnownBytes.{Appends}
 use Rattle.std.specs.declared.io.ErrorKind.{ErrorKind as IoKind}
@@ -13,8 +14,7 @@ use Rattle.ygrammar.specs.declared.fault.GrammarFault.{GrammarFault}
 use Rattle.ygrammar.specs.declared.fault.GrammarFault.TheVariants as grammars
 use Rattle.ygrammar.specs.Grammar.{GrammarValue}
 use Rattle.ygrammar.specs.GrammarOf.{IsFaultOf, IsGrammarOf}
-use Rattle.ylalr.specs.Collection.{HasStates, TooMany}
-use Rattle.ytables.specs.Tables.{AreTables}
+use Rattle.ylalr.specs.Collection.{TooMany}
 use Rattle.ylalr.specs.declared.fault.BuildFault.{BuildFault}
 use Rattle.ylalr.specs.declared.fault.BuildFault.TheVariants as building
 use Rattle.yparse.specs.declared.tokens.TokenFault.{TokenFault}
@@ -24,7 +24,9 @@ use Rattle.ycli.specs.declared.arguments.YstepWords.{YstepWords}
 use Rattle.ycli.specs.declared.message.Program.{Program}
 use Rattle.ycli.specs.declared.message.Program.TheVariants.{Ystep}
 use Rattle.ycli.specs.declared.message.Trouble.{Trouble}
-use Rattle.ycli.specs.declared.message.Trouble.TheVariants.{Usage, Grammar, Tokens, TooManySets, NoMemory, CannotRead, CannotWrite, Session}
+use Rattle.ycli.specs.declared.message.Trouble.TheVariants.{Usage, Grammar, Tokens, TooManySets}
+use Rattle.ycli.specs.declared.message.Trouble.TheVariants.{NoMemory, CannotRead, CannotWrite}
+use Rattle.ycli.specs.declared.message.Trouble.TheVariants.{Session}
 use Rattle.ycli.specs.declared.programs.Request.{Request}
 use Rattle.ycli.specs.declared.programs.Request.TheVariants as requests
 use Rattle.ytables.specs.Link.{device_of, has_failed}
@@ -33,7 +35,12 @@ use Rattle.ytables.specs.Sends.{Begins}
 use Rattle.yparse.specs.Reading.{TokensOf}
 use Rattle.yparse.specs.Machine.{Machine}
 use Rattle.yparse.specs.MachineOver.{machine_over}
-use Rattle.yparse.specs.History.{History, first_history}
+use Rattle.yparse.specs.History.{History}
+use Rattle.ycli.specs.declared.stepper.StepperFault.{StepperFault}
+use Rattle.ycli.specs.declared.stepper.StepperFault.TheVariants as starts
+use Rattle.ycli.specs.Halves.{AreTablesOf, Parses}
+use Rattle.ycli.specs.Headline.{Rests}
+use Rattle.ycli.specs.Plain.{HasOneText}
 use Rattle.ycli.specs.Transcript.{Tells, failed_read, failed_write}
 use Rattle.ycli.specs.Arguments.{ystep_app, ArePathsIn}
 
@@ -92,6 +99,13 @@ of_tokens tokens.TooMany = Tokens tokens.TooMany
 of_tokens tokens.Memory = NoMemory
 of_tokens (tokens.BadLiteral place) = Tokens (tokens.BadLiteral place)
 
+abbrev pub of_start : StepperFault → Trouble
+of_start (starts.Grammar fault) = of_grammar fault
+of_start (starts.Build fault) = of_tables fault
+of_start starts.Tables = NoMemory
+of_start (starts.Tokens fault) = of_tokens fault
+of_start (starts.Session fault) = Session fault
+
 -- ---- what was asked for
 
 -- the command line takes the words: they have no fault
@@ -104,7 +118,8 @@ AskHelp app words = IsAmong kinds.DisplayHelp (fault_of app words)
 
 -- the words have a fault that is no request for help
 abbrev pub AreMistaken : App → List (List ℕ) → Type 0
-AreMistaken app words = (kind : ErrorKind) × IsAmong kind (fault_of app words) × (kind ≢ kinds.DisplayHelp)
+AreMistaken app words =
+    (kind : ErrorKind) × IsAmong kind (fault_of app words) × (kind ≢ kinds.DisplayHelp)
 
 -- what the words ask `ystep` for
 abbrev pub Asks : List (List ℕ) → Result Request Trouble → Type 0
@@ -121,17 +136,12 @@ Asks words (Err (Session fault)) = ⊥
 
 -- ---- what became of it
 
--- the tables of the grammar that these bytes mean: the states are right, and so are the cells
-pub record AreTablesOf (source : List ℕ) (t : Tables) : Type 0 where
-  pub grammar : IsGrammarOf source t.built.grammar
-  pub states : HasStates t.built
-  pub cells : AreTables t
-
 -- why there are no tables of the grammar file at this path: a fault is one that some bytes have
 abbrev pub GrammarFails : Bor (List ℕ) → Trouble → Type 0
 GrammarFails path (Grammar grammars.Memory) = ⊥
 GrammarFails path (Grammar fault) = (source : List ℕ) × IsFaultOf source fault
-GrammarFails path TooManySets = (source : List ℕ) × (v : GrammarValue) × IsGrammarOf source v × TooMany v.bare
+GrammarFails path TooManySets =
+    (source : List ℕ) × (v : GrammarValue) × IsGrammarOf source v × TooMany v.bare
 GrammarFails path NoMemory = Unit {0}
 GrammarFails path (CannotRead unread) = unread ≡ path
 GrammarFails path (Tokens fault) = ⊥
@@ -143,7 +153,8 @@ GrammarFails path (CannotWrite prefix ending) = ⊥
 abbrev pub TokensFail : Bor (List ℕ) → Trouble → Type 0
 TokensFail path (Tokens tokens.Memory) = ⊥
 TokensFail path (Tokens fault) =
-    (source : List ℕ) × (t : Tables) × (bytes : List ℕ) × AreTablesOf source t × TokensOf t.built.grammar bytes (Err fault)
+    (source : List ℕ) × (t : Tables) × (bytes : List ℕ) × AreTablesOf source t
+    × TokensOf t.built.grammar bytes (Err fault)
 TokensFail path NoMemory = Unit {0}
 TokensFail path (CannotRead unread) = unread ≡ path
 TokensFail path (Grammar fault) = ⊥
@@ -161,25 +172,23 @@ pub record Starts (m : Machine) (h : History) : Type 0 where
   pub source : List ℕ
   pub tables : Tables
   pub are : AreTablesOf source tables
-  pub bytes : List ℕ
-  pub symbols : List ℕ
-  pub tokens : TokensOf tables.built.grammar bytes (Ok symbols)
   pub machine : m ≡ machine_over tables
-  pub history : h ≡ first_history symbols
+  pub tokens : List ℕ
+  pub parses : Parses tables.built.grammar tokens m h
 
--- a session was served from its start
-pub record Serves {R W : Type 0} (remaining : R → Option (List ℕ)) (contents : W → Option (List ℕ)) (r : R) (reader : Link R) (w : W) (writer : Link W) (ending : Result (Unit {0}) SessionFault) : Type 0 where
+-- a session was served from its start; but for want of memory its text is a function of its lines
+pub record Serves {R W : Type 0} (remaining : R → Option (List ℕ)) (contents : W → Option (List ℕ))
+    (r : R) (reader : Link R) (w : W) (writer : Link W)
+    (ending : Result (Unit {0}) SessionFault) : Type 0 where
   pub machine : Machine
   pub history : History
   pub starts : Starts machine history
-  pub tells : IfSome (remaining r) (λ input. length input < 2 ^ 63 → Tells machine history input (remaining (device_of reader)) (contents w) (contents (device_of writer)) ending)
+  pub plain : (lines : List (List ℕ)) → HasOneText machine history lines
+  pub tells : IfSome (remaining r) (λ input. length input < 2 ^ 63 →
+      Tells machine history input (remaining (device_of reader)) (contents w)
+      (contents (device_of writer)) ending)
   pub read_fault : has_failed reader ≡ failed_read ending
   pub write_fault : has_failed writer ≡ failed_write ending
-
--- nothing was read or written
-pub record Rests {R W : Type 0} (r : R) (reader : Link R) (w : W) (writer : Link W) : Type 0 where
-  pub reader_stays : device_of reader ≡ r
-  pub writer_stays : device_of writer ≡ w
 
 -- no session came of the words
 pub record Fails (words : List (List ℕ)) (trouble : Trouble) : Type 0 where
@@ -188,11 +197,15 @@ pub record Fails (words : List (List ℕ)) (trouble : Trouble) : Type 0 where
   pub given : ArePathsIn words paths
   pub files : FilesFail paths trouble
 
-module _ {R W : Type 0} (remaining : R → Option (List ℕ)) (contents : W → Option (List ℕ)) (words : List (List ℕ)) (r : R) (reader : Link R) (w : W) (writer : Link W) where
+module _ {R W : Type 0} (remaining : R → Option (List ℕ)) (contents : W → Option (List ℕ))
+    (words : List (List ℕ)) (r : R) (reader : Link R) (w : W) (writer : Link W) where
   -- a run over these words ended so
   abbrev pub EndsIn : Result (Unit {0}) Trouble → Type 0
-  EndsIn (Ok done) = AskHelp ystep_app words ⊎ (AreTaken ystep_app words × Serves remaining contents r reader w writer (Ok done))
-  EndsIn (Err (Session fault)) = AreTaken ystep_app words × Serves remaining contents r reader w writer (Err fault)
+  EndsIn (Ok done) =
+      AskHelp ystep_app words
+      ⊎ (AreTaken ystep_app words × Serves remaining contents r reader w writer (Ok done))
+  EndsIn (Err (Session fault)) =
+      AreTaken ystep_app words × Serves remaining contents r reader w writer (Err fault)
   EndsIn (Err Usage) = AreMistaken ystep_app words × Rests r reader w writer
   EndsIn (Err NoMemory) = Rests r reader w writer
   EndsIn (Err (Grammar fault)) = Fails words (Grammar fault) × Rests r reader w writer
@@ -202,13 +215,16 @@ module _ {R W : Type 0} (remaining : R → Option (List ℕ)) (contents : W → 
   EndsIn (Err (CannotWrite prefix ending)) = ⊥
 
 -- a message went to a link: its whole, or a beginning of it where the link failed
-pub record Says {E : Type 0} (contents : E → Option (List ℕ)) (e : E) (errors : Link E) (text : List ℕ) : Type 0 where
+pub record Says {E : Type 0} (contents : E → Option (List ℕ)) (e : E) (errors : Link E)
+    (text : List ℕ) : Type 0 where
   pub begins : Begins (contents e) (contents (device_of errors)) text
   pub whole : has_failed errors ≡ false → Appends (contents e) (contents (device_of errors)) text
 
 -- what a run answers and does: its end, with the status and the message of that end
-pub record Runs {R W E : Type 0} (remaining : R → Option (List ℕ)) (contents : W → Option (List ℕ)) (messages : E → Option (List ℕ)) (words : List (List ℕ))
-    (r : R) (reader : Link R) (w : W) (writer : Link W) (e : E) (errors : Link E) (answer : ℕ) : Type 0 where
+pub record Runs {R W E : Type 0} (remaining : R → Option (List ℕ)) (contents : W → Option (List ℕ))
+    (messages : E → Option (List ℕ)) (words : List (List ℕ))
+    (r : R) (reader : Link R) (w : W) (writer : Link W) (e : E) (errors : Link E)
+    (answer : ℕ) : Type 0 where
   pub ending : Result (Unit {0}) Trouble
   pub ends : EndsIn remaining contents words r reader w writer ending
   pub answers : answer ≡ status_after ending

@@ -1,22 +1,26 @@
 -- What a command replies, and the history that it leaves.
-use Rattle.std.specs.Prelude.{ℕ, suc, ◌≡◌, ◌≢◌, ◌⊎◌, ◌-◌, nat_lt, Bool, true, false, List, [], ◌∷◌, ◌++◌, length, flat_map, decimal, codes, if◌then◌else◌, Result, Ok, Err, Option, Some, None}
+use Rattle.std.specs.Prelude.{ℕ, suc, ◌≡◌, ◌≢◌, ◌⊎◌, ◌-◌, nat_lt, Bool, true, false, List, [], ◌∷◌}
+use Rattle.std.specs.Prelude.{◌++◌, length, flat_map, decimal, codes, if◌then◌else◌, Result, Ok}
+use Rattle.std.specs.Prelude.{Err, Option}
 use Prim.Native.Nat.{zero}
 use Rattle.yparse.specs.declared.machine.Mode.{Mode}
 use Rattle.yparse.specs.declared.machine.Mode.TheVariants.{Running, Popping, Accepted, Failed}
 use Rattle.yparse.specs.declared.machine.StepKind.{StepKind}
 use Rattle.yparse.specs.declared.machine.StepKind.TheVariants as kinds
 use Rattle.yparse.specs.declared.machine.StepFault.{StepFault}
-use Rattle.yparse.specs.declared.machine.StepFault.TheVariants.{Halted, Limit, Memory}
-use Rattle.ycli.specs.declared.command.Command.{Command}
-use Rattle.ycli.specs.declared.command.Command.TheVariants.{Run, Back, To, Show, Tree, Unwind, Quit, Unknown}
+use Rattle.yparse.specs.declared.machine.StepFault.TheVariants.{Halted, NoToken, Limit, Memory}
+use Rattle.yparse.specs.declared.machine.Edit.{Edit}
+use Rattle.yparse.specs.declared.machine.Edit.TheVariants as edit
+use Rattle.ycli.specs.Command.{Command, Run, Back, To, Show, Tree, Unwind, Insert, Drop, Unknown}
 use Rattle.ytables.specs.declared.link.Link.{Link}
 use Rattle.ytables.specs.Sends.{Sends}
-use Rattle.yparse.specs.Machine.{Machine, Configuration, symbols, next}
-use Rattle.yparse.specs.Past.{Steps, position, undone, rewound}
+use Rattle.yparse.specs.Machine.{Machine, Configuration, symbols, next, edited}
+use Rattle.yparse.specs.Past.{Steps, Changes, position, undone, rewound}
 use Rattle.yparse.specs.History.{History}
+use Rattle.yparse.specs.Spelling.{IsSpelled}
 use Rattle.yparse.specs.Unwinding.{NoErrors, tokens_left, tree_lines, unwound_text}
 
--- the words of a step
+-- the words of a step or an edit
 abbrev pub kind_word : StepKind → List ℕ
 kind_word (kinds.Shift symbol) = codes "shift "
 kind_word (kinds.Reduce rule) = codes "reduce "
@@ -26,6 +30,8 @@ kind_word (kinds.Pop symbol) = codes "pop "
 kind_word kinds.ShiftError = codes "shift error"
 kind_word (kinds.Discard symbol) = codes "discard "
 kind_word kinds.Fail = codes "fail"
+kind_word (kinds.Insert symbol) = codes "insert "
+kind_word (kinds.Drop symbol) = codes "drop "
 
 -- the name or the rule number that follows them
 abbrev pub kind_tail : Machine → StepKind → List ℕ
@@ -37,41 +43,44 @@ kind_tail m (kinds.Pop symbol) = m.name symbol
 kind_tail m kinds.ShiftError = []
 kind_tail m (kinds.Discard symbol) = m.name symbol
 kind_tail m kinds.Fail = []
+kind_tail m (kinds.Insert symbol) = m.name symbol
+kind_tail m (kinds.Drop symbol) = m.name symbol
 
 -- a position, a separator, the words of a step
 abbrev pub step_line : Machine → ℕ → List ℕ → StepKind → List ℕ
-step_line m at between kind = decimal at ++ (between ++ (kind_word kind ++ (kind_tail m kind ++ codes "\n")))
+step_line m at between kind =
+    decimal at ++ (between ++ (kind_word kind ++ (kind_tail m kind ++ codes "\n")))
 
--- what a refused step writes, where steps were made before or not
+-- what a refused step or edit writes, where steps were made before or not
 abbrev pub refusal : Bool → StepFault → List ℕ
 refusal made Halted = if made then [] else codes "halted\n"
+refusal made NoToken = codes "no token\n"
 refusal made Limit = codes "limit\n"
 refusal made Memory = codes "no memory\n"
 
 -- a step's line, and then what comes later; or why there is no step, which ends the command
-abbrev pub GoesOn : Machine → Bool → (History → List ℕ → History → Type 0) → Result StepKind StepFault → History → List ℕ → History → Type 0
-GoesOn m made later (Ok kind) mid text new = (more : List ℕ) × (text ≡ step_line m (position mid) (codes " ") kind ++ more) × later mid more new
+abbrev pub GoesOn : Machine → Bool → (History → List ℕ → History → Type 0)
+    → Result StepKind StepFault → History → List ℕ → History → Type 0
+GoesOn m made later (Ok kind) mid text new =
+    (more : List ℕ) × (text ≡ step_line m (position mid) (codes " ") kind ++ more)
+    × later mid more new
 GoesOn m made later (Err fault) mid text new = (text ≡ refusal made fault) × (new ≡ mid)
 
--- at most n steps with a line for each, some having been made before or none
-abbrev pub Runs : Machine → ℕ → Bool → History → List ℕ → History → Type 0
-Runs m zero made h text new = (text ≡ []) × (new ≡ h)
-Runs m (suc n) made h text new = (result : Result StepKind StepFault) × (mid : History) × Steps (next m) h result mid × GoesOn m made (Runs m n true) result mid text new
+-- the line of an edit that was made, or why it was not
+abbrev pub edit_text : Machine → History → Result StepKind StepFault → List ℕ
+edit_text m h (Ok kind) = step_line m (position h) (codes " ") kind
+edit_text m h (Err fault) = refusal false fault
 
--- the lines of at most n undos, each with the position after it; `at start` only where none was made
+-- the lines of at most n undos, each with the position after it; `at start` where there was none
 abbrev pub undo_text : Machine → ℕ → Bool → List (StepKind × Configuration) → List ℕ
 undo_text m zero made past = []
 undo_text m (suc n) made [] = if made then [] else codes "at start\n"
-undo_text m (suc n) made (s ∷ past) = step_line m (length past) (codes " undo ") s.0 ++ undo_text m n true past
+undo_text m (suc n) made (s ∷ past) =
+    step_line m (length past) (codes " undo ") s.0 ++ undo_text m n true past
 
 -- at most n undos with a line for each
 abbrev pub GoesBack : Machine → ℕ → History → List ℕ → History → Type 0
 GoesBack m n h text new = (text ≡ undo_text m n false h.earlier) × (new ≡ undone n h)
-
--- to a position: as many steps as it is above the one now, or as many undos as it is below
-abbrev pub GoesTo : Machine → ℕ → Bool → History → List ℕ → History → Type 0
-GoesTo m k true h text new = Runs m (k - position h) false h text new
-GoesTo m k false h text new = GoesBack m (position h - k) h text new
 
 abbrev pub mode_word : Mode → List ℕ
 mode_word Running = codes "running"
@@ -94,37 +103,85 @@ abbrev pub shown_rest : Machine → History → List ℕ
 shown_rest m h = spaced m (tokens_left h.now.rest)
 
 abbrev pub shown_counts : History → List ℕ
-shown_counts h = codes "\ncounter: " ++ (decimal h.now.counter ++ (codes "\nerrors: " ++ (decimal h.now.errors ++ codes "\n")))
+shown_counts h =
+    codes "\ncounter: " ++ (decimal h.now.counter
+    ++ (codes "\nerrors: " ++ (decimal h.now.errors ++ codes "\n")))
 
 -- the five lines of a configuration
 abbrev pub shown : Machine → History → List ℕ
-shown m h = shown_head h ++ (shown_stack m h ++ (codes "\nrest:" ++ (shown_rest m h ++ shown_counts h)))
+shown m h =
+    shown_head h ++ (shown_stack m h ++ (codes "\nrest:" ++ (shown_rest m h ++ shown_counts h)))
 
--- the forms of an accepted parse without error steps, from the last to the first, and then its start; else why there are none
+-- the forms of an accepted parse without error steps, from the last to the first, and then its
+-- start; else why there are none
 abbrev pub Unwinds : Machine → History → List ℕ → History → Type 0
 Unwinds m h text new =
     ((h.now.mode ≢ Accepted) × (text ≡ codes "not accepted\n") × (new ≡ h))
-    ⊎ (((h.now.mode ≡ Accepted) × (NoErrors h.earlier → ⊥) × (text ≡ codes "had error\n") × (new ≡ h))
-    ⊎ ((h.now.mode ≡ Accepted) × NoErrors h.earlier × (text ≡ unwound_text m h) × (new ≡ rewound h)))
+    ⊎ (((h.now.mode ≡ Accepted) × (NoErrors h.earlier → ⊥) × (text ≡ codes "had error\n")
+    × (new ≡ h))
+    ⊎ ((h.now.mode ≡ Accepted) × NoErrors h.earlier × (text ≡ unwound_text m h)
+    × (new ≡ rewound h)))
 
--- Where history h is, the command may reply this text and leave the history new. `quit` has no reply.
+module _ (takes : History → Result StepKind StepFault → History → Type 0) (m : Machine) where
+  -- at most n steps with a line for each, some having been made before or none
+  abbrev pub RunsBy : ℕ → Bool → History → List ℕ → History → Type 0
+  RunsBy zero made h text new = (text ≡ []) × (new ≡ h)
+  RunsBy (suc n) made h text new =
+      (result : Result StepKind StepFault) × (mid : History) × takes h result mid
+      × GoesOn m made (RunsBy n true) result mid text new
+
+  -- to a position: as many steps as it is above the one now, or as many undos as it is below
+  abbrev pub GoesToBy : ℕ → Bool → History → List ℕ → History → Type 0
+  GoesToBy k true h text new = RunsBy (k - position h) false h text new
+  GoesToBy k false h text new = GoesBack m (position h - k) h text new
+
+module _ (takes : History → Result StepKind StepFault → History → Type 0) (edits : Edit → History
+    → Result StepKind StepFault → History → Type 0) (m : Machine) where
+  -- an edit and its line, or why there is none
+  abbrev pub EditsBy : Edit → History → List ℕ → History → Type 0
+  EditsBy edit h text new =
+      (result : Result StepKind StepFault) × edits edit h result new
+      × (text ≡ edit_text m new result)
+
+  -- the token that the bytes spell is inserted; or they spell none, and nothing changes
+  abbrev pub InsertsBy : List ℕ → History → List ℕ → History → Type 0
+  InsertsBy bytes h text new =
+      ((token : ℕ) × IsSpelled m bytes token × EditsBy (edit.Insert token) h text new)
+      ⊎ (((token : ℕ) → IsSpelled m bytes token → ⊥) × (text ≡ codes "bad token\n") × (new ≡ h))
+
+  -- by what a step and an edit may answer and leave: the command may reply this text and leave the
+  -- history new
+  abbrev pub ReplyBy : History → Command → List ℕ → History → Type 0
+  ReplyBy h (Run n) text new = RunsBy takes m n false h text new
+  ReplyBy h (Back n) text new = GoesBack m n h text new
+  ReplyBy h (To k) text new = GoesToBy takes m k (nat_lt (position h) k) h text new
+  ReplyBy h Show text new = (text ≡ shown m h) × (new ≡ h)
+  ReplyBy h Tree text new = (text ≡ tree_lines m h.now.stack) × (new ≡ h)
+  ReplyBy h Unwind text new = Unwinds m h text new
+  ReplyBy h (Insert bytes) text new = InsertsBy bytes h text new
+  ReplyBy h Drop text new = EditsBy edit.Drop h text new
+  ReplyBy h Unknown text new = (text ≡ codes "unknown command\n") × (new ≡ h)
+
+-- what an edit may answer and leave
+abbrev pub Edits : Machine → Edit → History → Result StepKind StepFault → History → Type 0
+Edits m edit h result new = Changes (next m) (edited m edit) h result new
+
+-- where history h is, the command may reply this text and leave the history new
 abbrev pub Reply : Machine → History → Command → List ℕ → History → Type 0
-Reply m h (Run n) text new = Runs m n false h text new
-Reply m h (Back n) text new = GoesBack m n h text new
-Reply m h (To k) text new = GoesTo m k (nat_lt (position h) k) h text new
-Reply m h Show text new = (text ≡ shown m h) × (new ≡ h)
-Reply m h Tree text new = (text ≡ tree_lines m h.now.stack) × (new ≡ h)
-Reply m h Unwind text new = Unwinds m h text new
-Reply m h Quit text new = ⊥
-Reply m h Unknown text new = (text ≡ codes "unknown command\n") × (new ≡ h)
+Reply m h command text new = ReplyBy (Steps (next m)) (Edits m) m h command text new
 
--- A reply to the command was sent, and the history is as it leaves it; or a beginning of one, where the link failed.
-abbrev pub Answers : {W : Type 0} → (W → Option (List ℕ)) → Link W → Link W → Bool → Machine → History → Command → History → Type 0
-Answers contents old new true m h command now = (text : List ℕ) × Reply m h command text now × Sends contents old new true text
-Answers contents old new false m h command now = (text : List ℕ) × (left : History) × Reply m h command text left × Sends contents old new false text
+abbrev pub Runs : Machine → ℕ → Bool → History → List ℕ → History → Type 0
+Runs m n made h text new = RunsBy (Steps (next m)) m n made h text new
 
--- A line was answered; or it is `quit`, and nothing was written; or a beginning of its reply was.
-abbrev pub AnswersLine : {W : Type 0} → (W → Option (List ℕ)) → Link W → Link W → Option Bool → Machine → History → Command → History → Type 0
-AnswersLine contents old new (Some true) m h command now = Answers contents old new true m h command now
-AnswersLine contents old new (Some false) m h command now = (command ≡ Quit) × (now ≡ h) × (new ≡ old)
-AnswersLine contents old new None m h command now = Answers contents old new false m h command now
+abbrev pub GoesTo : Machine → ℕ → Bool → History → List ℕ → History → Type 0
+GoesTo m k above h text new = GoesToBy (Steps (next m)) m k above h text new
+
+-- A reply to the command was sent, and the history is as it leaves it; or a beginning of one, where
+-- the link failed.
+abbrev pub Answers : {W : Type 0} → (W → Option (List ℕ)) → Link W → Link W → Bool → Machine
+    → History → Command → History → Type 0
+Answers contents old new true m h command now =
+    (text : List ℕ) × Reply m h command text now × Sends contents old new true text
+Answers contents old new false m h command now =
+    (text : List ℕ) × (left : History) × Reply m h command text left
+    × Sends contents old new false text

@@ -1,31 +1,41 @@
 -- What a session writes: the words that its promise is read by.
-use Rattle.std.specs.Prelude.{ℕ, ◌≡◌, ◌⊎◌, Bool, true, false, List, [], ◌∷◌, ◌++◌, Option, Some}
+use Rattle.std.specs.Prelude.{ℕ, ◌≡◌, Bool, true, false, List, [], ◌∷◌, ◌++◌, Option, Some}
 use Rattle.std.specs.Prelude.{Result, Ok, Err}
 use Rattle.std.specs.Io.KnownBytes.{Appends, Consumes}
 use Rattle.ycli.specs.declared.fault.SessionFault.{SessionFault}
 use Rattle.ycli.specs.declared.fault.SessionFault.TheVariants as faults
-use Rattle.ycli.specs.declared.command.Command.TheVariants.{Quit}
+use Rattle.ycli.specs.Line.{Line}
+use Rattle.ycli.specs.Line as lines
+use Rattle.ycli.specs.Command.{Command}
 use Rattle.ytables.specs.Sends.{Begins}
 use Rattle.yparse.specs.Machine.{Machine}
 use Rattle.yparse.specs.History.{History}
-use Rattle.ycli.specs.Command.{command_of}
+use Rattle.ycli.specs.Line.{line_of}
 use Rattle.ycli.specs.Lines.{IsCut, AreLines}
 use Rattle.ycli.specs.Reply.{Reply}
 
--- From history h, a text of a session for these lines: the replies, one after another, each from
--- the history that the one before
--- left, up to a `quit` or to the end.
+module _ (replies : History → Command → List ℕ → History → Type 0) where
+  -- a line ends the text, or has a reply, and then comes what is later
+  abbrev pub Continues : History → Line → (History → List ℕ → Type 0) → List ℕ → Type 0
+  Continues h lines.Quit later text = text ≡ []
+  Continues h (lines.Command command) later text =
+      (reply : List ℕ) × (more : List ℕ) × (mid : History) × replies h command reply mid
+      × (text ≡ reply ++ more) × later mid more
+
+  -- From history h: the replies to these lines, one after another, each from the history that the
+  -- one before left, up to a `quit` or to the end.
+  abbrev pub TranscriptBy : History → List (List ℕ) → List ℕ → Type 0
+  TranscriptBy h [] text = text ≡ []
+  TranscriptBy h (line ∷ rest) text =
+      Continues h (line_of line) (λ mid more. TranscriptBy mid rest more) text
+
+-- a text of a session for these lines
 abbrev pub Transcript : Machine → History → List (List ℕ) → List ℕ → Type 0
-Transcript m h [] text = text ≡ []
-Transcript m h (line ∷ lines) text =
-    ((command_of line ≡ Quit) × (text ≡ []))
-    ⊎ ((reply : List ℕ) × (more : List ℕ) × (mid : History) × Reply m h (command_of line) reply mid
-    × (text ≡ reply ++ more) × Transcript m mid lines more)
+Transcript m h lines text = TranscriptBy (Reply m) h lines text
 
 -- What was written from history h on, where the input and what the writer held are known: a text of
--- the session for the input; after
--- a failed read one for the lines whose newline was read; after a failed write a beginning of one
--- for the input.
+-- the session for the input; after a failed read one for the lines whose newline was read; after a
+-- failed write a beginning of one for the input.
 abbrev pub Tells : Machine → History → List ℕ → Option (List ℕ) → Option (List ℕ) → Option (List ℕ)
     → Result (Unit {0}) SessionFault → Type 0
 Tells m h input left old new (Ok done) =
@@ -40,12 +50,12 @@ Tells m h input left old new (Err faults.Write) =
     × Begins old new text
 
 -- whether the fault is that of the reader, or of the writer
-abbrev pub failed_read : Result (Unit {0}) SessionFault → Bool
+abbrev pub failed_read : {A : Type 0} → Result A SessionFault → Bool
 failed_read (Err faults.Read) = true
 failed_read (Err faults.Write) = false
 failed_read (Ok done) = false
 
-abbrev pub failed_write : Result (Unit {0}) SessionFault → Bool
+abbrev pub failed_write : {A : Type 0} → Result A SessionFault → Bool
 failed_write (Err faults.Write) = true
 failed_write (Err faults.Read) = false
 failed_write (Ok done) = false

@@ -1,7 +1,12 @@
 //! What a command line says.
 
 ghost use Rattle.std.specs.Prelude.{◌≡◌};
-ghost use Rattle.ycli.specs.Command.{command_of, counting, number_after, number_in};
+ghost use Rattle.std.specs.Prelude.{option_map, codes};
+ghost use Rattle.std.specs.Option.{option_map_or};
+ghost use Rattle.ycli.specs.Command.{Insert};
+ghost use Rattle.ycli.specs.Command.{command_of, command_view, counting, number_after, number_in};
+ghost use Rattle.ycli.specs.Command.{text_after};
+ghost use Rattle.ycli.specs.Line.{line_of, line_view};
 
 /// The most bytes that a command line may have.
 pub(crate) const MAX_LINE: usize = 4096;
@@ -9,9 +14,18 @@ pub(crate) const MAX_LINE: usize = 4096;
 /// The greatest number that a command takes.
 const MAX_NUMBER: usize = 1_000_000;
 
+/// What a line says.
+#[derive(Clone, Copy, Debug, PartialEq, Eq)]
+pub enum Line<'a> {
+    /// The end of the session.
+    Quit,
+    /// What has a reply.
+    Command(Command<'a>),
+}
+
 /// A command.
 #[derive(Clone, Copy, Debug, PartialEq, Eq)]
-pub enum Command {
+pub enum Command<'a> {
     /// At most so many steps forward.
     Run(usize),
     /// At most so many steps back.
@@ -24,20 +38,34 @@ pub enum Command {
     Tree,
     /// The rightmost derivation of an accepted parse, back to its start.
     Unwind,
-    /// The end of the session.
-    Quit,
+    /// The token that these bytes spell comes before the tokens left.
+    Insert(&'a [u8]),
+    /// The first of the tokens left is taken out.
+    Drop,
     /// Any other line.
     Unknown,
 }
 
-/// What a line says. A line is a command only where it is spelled exactly as one.
-#[tactic(auto, unfolding(crate::specs::Command::command_of))]
-pub(crate) fn command_in(line: &[u8]) -> Command
-    ensures { result ≡ command_of line.now }
+/// What a line says. A line of more than 4,096 bytes is an unknown command.
+#[tactic(auto, unfolding(crate::specs::Line::line_of))]
+pub(crate) fn line_in(line: &[u8]) -> Line<'_>
+    ensures { line_view result ≡ line_of line.now }
 {
     if line.len() > MAX_LINE {
-        Command::Unknown
-    } else if line == b"step".as_slice() {
+        Line::Command(Command::Unknown)
+    } else if line == b"quit".as_slice() {
+        Line::Quit
+    } else {
+        Line::Command(command_in(line))
+    }
+}
+
+/// The command that a line is spelled as, exactly.
+#[tactic(auto, unfolding(crate::specs::Command::command_of))]
+fn command_in(line: &[u8]) -> Command<'_>
+    ensures { command_view result ≡ command_of line.now }
+{
+    if line == b"step".as_slice() {
         Command::Run(1)
     } else if line == b"show".as_slice() {
         Command::Show
@@ -45,16 +73,38 @@ pub(crate) fn command_in(line: &[u8]) -> Command
         Command::Tree
     } else if line == b"unwind".as_slice() {
         Command::Unwind
-    } else if line == b"quit".as_slice() {
-        Command::Quit
+    } else if line == b"drop".as_slice() {
+        Command::Drop
     } else {
-        counting(line)
+        inserting(line)
+    }
+}
+
+/// What follows a word.
+fn text_after<'a>(word: &[u8], line: &'a [u8]) -> Option<&'a [u8]>
+    ensures { option_map (λ text. text.now) result ≡ text_after word.now line.now }
+{
+    if line.len() >= word.len() && &line[..word.len()] == word {
+        Some(&line[word.len()..])
+    } else {
+        None
+    }
+}
+
+/// A token to insert, or a command with a number after it.
+fn inserting(line: &[u8]) -> Command<'_>
+    ensures { command_view result
+        ≡ option_map_or Insert (text_after (codes "insert ") line.now) (counting line.now) }
+{
+    match text_after(b"insert ", line) {
+        Some(bytes) => Command::Insert(bytes),
+        None => counting(line),
     }
 }
 
 /// A command with a number after it.
-fn counting(line: &[u8]) -> Command
-    ensures { result ≡ counting line.now }
+fn counting(line: &[u8]) -> Command<'_>
+    ensures { command_view result ≡ counting line.now }
 {
     if let Some(count) = number_after(1, b"run ", line) {
         return Command::Run(count);

@@ -2,15 +2,15 @@
 
 ghost use Rattle.std.specs.Prelude.{ℕ, List, ◌≡◌, IfOk, IfErr};
 ghost use Rattle.std.specs.declared.io.ErrorKind.{ErrorKind as IoKind};
-ghost use Rattle.ycli.specs.Programs.{AreTablesOf, GrammarFails, of_unread};
+ghost use Rattle.ycli.specs.Halves.{AreTablesOf};
+ghost use Rattle.ycli.specs.Programs.{GrammarFails, of_unread};
 
 use crate::message::Trouble;
+use crate::stepper::tables_over;
 use std::fs;
 use std::io::{self, Read};
 use std::rt::Files;
-use ygrammar::read_grammar;
-use ylalr::build;
-use ytables::{Tables, resolve};
+use ytables::Tables;
 
 /// As many bytes of a grammar file as decide that it is too long, also where it never ends.
 const GRAMMAR_BYTES: u64 = 1_048_577;
@@ -44,11 +44,5 @@ pub(crate) fn tables_of<'a, F: Files + AllocGlobal>(
     ensures tables { IfOk result (λ t. (source : List ℕ) × AreTablesOf source t) }
     ensures fails { IfErr result (GrammarFails path.entry) }
 {
-    let alloc = rt.alloc();
-    let grammar = read_grammar(alloc, &bytes_of(rt, path, GRAMMAR_BYTES)?)?;
-    let automaton = build(alloc, grammar)?;
-    match resolve(alloc, automaton) {
-        Ok(tables) => Ok(tables),
-        Err(_) => Err(Trouble::NoMemory),
-    }
+    Ok(tables_over(rt.alloc(), &bytes_of(rt, path, GRAMMAR_BYTES)?)?)
 }

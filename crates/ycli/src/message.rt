@@ -7,6 +7,7 @@ ghost use Rattle.ycli.specs.Messages.{said, session_word, token_code, token_plac
 ghost use Rattle.ycli.specs.Programs.{status};
 
 use crate::fault::SessionFault;
+use crate::stepper::StepperFault;
 use std::io::{self, Write};
 use ygrammar::GrammarFault;
 use ylalr::BuildFault;
@@ -201,6 +202,22 @@ impl<'a> From<TokenFault> for Trouble<'a> {
         match fault {
             TokenFault::Memory => Trouble::NoMemory,
             _ => Trouble::Tokens(fault),
+        }
+    }
+}
+
+impl<'a> From<StepperFault> for Trouble<'a> {
+    ghost use Rattle.ycli.specs.Programs.{of_start};
+
+    ghost from_gives = { λ fault trouble. trouble ≡ of_start fault };
+
+    fn from(fault: StepperFault) -> Trouble<'a> {
+        match fault {
+            StepperFault::Grammar(fault) => Trouble::from(fault),
+            StepperFault::Build(fault) => Trouble::from(fault),
+            StepperFault::Tables => Trouble::NoMemory,
+            StepperFault::Tokens(fault) => Trouble::from(fault),
+            StepperFault::Session(fault) => Trouble::from(fault),
         }
     }
 }

@@ -1,21 +1,22 @@
 //! What the programs do but for their exit.
 
-ghost use Rattle.std.specs.Prelude.{ℕ, List, Ok, IfOk, IfErr, map};
+ghost use Rattle.std.specs.Prelude.{ℕ, ◌≡◌, List, IfOk, IfErr, map};
 ghost use Rattle.ytables.specs.Link.{device_of};
 ghost use Rattle.yparse.specs.Session.{machine_of, history_of};
-ghost use Rattle.yparse.specs.Reading.{TokensOf};
-ghost use Rattle.yparse.specs.Tokens.{Fits, symbols_of};
-ghost use Rattle.ycli.specs.Programs.{AreTablesOf, Asks, Starts, FilesFail, TokensFail, EndsIn, Runs};
+ghost use Rattle.yparse.specs.MachineOver.{machine_over};
+ghost use Rattle.ycli.specs.Halves.{AreTablesOf, Parses};
+ghost use Rattle.ycli.specs.Programs.{Asks, Starts, FilesFail, TokensFail, EndsIn, Runs};
 
 use crate::arguments::{YstepWords, ystep_words};
 use crate::files::{bytes_of, tables_of};
 use crate::message::{Program, Trouble};
 use crate::run::run_session;
+use crate::stepper::session_over;
 use clap::error::ErrorKind;
 use std::alloc::Global;
 use std::io::{Read, Write};
 use std::rt::Files;
-use yparse::{Session, Tokens, read_tokens};
+use yparse::Session;
 use ytables::put::put;
 use ytables::{Link, Tables};
 
@@ -44,18 +45,20 @@ fn request_of<'a>(alloc: Global, words: &'a [&'a str]) -> Result<Request<'a>, Tr
     }
 }
 
-/// The tokens of a file.
-fn tokens_of<'a, F: Files + AllocGlobal>(
+/// A session over tables and the tokens of a file.
+fn session_with<'a, F: Files + AllocGlobal>(
     rt: &F,
-    tables: &Tables,
+    tables: Tables,
     path: &'a str,
-) -> Result<Tokens, Trouble<'a>>
-    ensures tokens { IfOk result (λ tokens. (bytes : List ℕ) × TokensOf tables.now.built.grammar bytes (Ok (symbols_of tokens))) }
-    ensures fits { IfOk result (λ tokens. Fits tables.now.built.grammar (symbols_of tokens)) }
-    ensures fails { IfErr result (λ trouble. (source : List ℕ) → AreTablesOf source tables.now → TokensFail path.entry trouble) }
+) -> Result<Session, Trouble<'a>>
+    ensures machine { IfOk result (λ session. machine_of session ≡ machine_over tables) }
+    ensures parses { IfOk result (λ session. (tokens : List ℕ)
+        × Parses tables.built.grammar tokens (machine_of session) (history_of session)) }
+    ensures fails { IfErr result (λ trouble. (source : List ℕ) → AreTablesOf source tables →
+        TokensFail path.entry trouble) }
 {
     let bytes = bytes_of(rt, path, u64::MAX)?;
-    Ok(read_tokens(rt.alloc(), tables, &bytes)?)
+    Ok(session_over(rt.alloc(), tables, &bytes)?)
 }
 
 /// A session over a grammar file and a tokens file, which is read only once the tables stand.
@@ -66,10 +69,8 @@ fn session_of<'a, F: Files + AllocGlobal>(
     ensures starts { IfOk result (λ session. Starts (machine_of session) (history_of session)) }
     ensures fails { IfErr result (FilesFail words.entry) }
 {
-    let alloc = rt.alloc();
     let tables = tables_of(rt, words.grammar())?;
-    let tokens = tokens_of(rt, &tables, words.tokens())?;
-    Ok(Session::new(alloc, tables, tokens))
+    session_with(rt, tables, words.tokens())
 }
 
 /// Does what the words ask for.
@@ -79,7 +80,8 @@ fn obey<'a, F: Files + AllocGlobal, R: Read, W: Write>(
     reader: &mut Link<R>,
     writer: &mut Link<W>,
 ) -> Result<(), Trouble<'a>>
-    ensures { EndsIn R.remaining W.contents (map (λ word. word.now) words.entry.now) (device_of reader.old) reader.new (device_of writer.old) writer.new result }
+    ensures { EndsIn R.remaining W.contents (map (λ word. word.now) words.entry.now)
+        (device_of reader.old) reader.new (device_of writer.old) writer.new result }
 {
     match request_of(rt.alloc(), words)? {
         Request::Session(words) => {
@@ -94,10 +96,11 @@ fn obey<'a, F: Files + AllocGlobal, R: Read, W: Write>(
     }
 }
 
-/// All that `ystep` does but for its exit: `ystep grammar tokens` runs a session with command lines from the reader
-/// and replies to the writer. Messages go to the last link. The answer is the exit status: 0 where the session was
-/// served or help was asked for, 1 where a file is refused, 2 where the words are, 3 for what comes from outside, for
-/// want of memory and for too many item sets. A message or a help text that can't be written is passed over.
+/// All that `ystep` does but for its exit: `ystep grammar tokens` runs a session with command lines
+/// from the reader and replies to the writer. Messages go to the last link. The answer is the exit
+/// status: 0 where the session was served or help was asked for, 1 where a file is refused, 2 where
+/// the words are, 3 for what comes from outside, for want of memory and for too many item sets. A
+/// message or a help text that can't be written is passed over.
 pub fn ystep_run<'a, F: Files + AllocGlobal, R: Read, W: Write, E: Write>(
     rt: &F,
     words: &'a [&'a str],
@@ -106,7 +109,8 @@ pub fn ystep_run<'a, F: Files + AllocGlobal, R: Read, W: Write, E: Write>(
     errors: &mut Link<E>,
 ) -> u8
     ensures { Runs R.remaining W.contents E.contents (map (λ word. word.now) words.entry.now)
-        (device_of reader.old) reader.new (device_of writer.old) writer.new (device_of errors.old) errors.new result }
+        (device_of reader.old) reader.new (device_of writer.old) writer.new
+        (device_of errors.old) errors.new result }
 {
     reader.clear();
     writer.clear();

@@ -1,17 +1,19 @@
 //! The replies to commands.
 
-ghost use Rattle.std.specs.Prelude.{◌≡◌, ◌≢◌, false, List, ℕ, length, is_some, Some, decimal, map, drop, ◌∷◌, ◌++◌, codes};
-ghost use Rattle.ycli.specs.declared.command.Command.TheVariants as commands;
+ghost use Rattle.std.specs.Prelude.{◌≡◌, true, false, if◌then◌else◌, List, ℕ, length, is_some};
+ghost use Rattle.std.specs.Prelude.{Some, decimal, map, drop, ◌∷◌, ◌++◌, codes};
+ghost use Rattle.ycli.specs.Command as commands;
 ghost use Rattle.ytables.specs.Link.{has_failed};
 ghost use Rattle.ytables.specs.Sends.{Sends};
-ghost use Rattle.ycli.specs.Serving.{chunk_failed};
 ghost use Rattle.yparse.specs.Past.{position};
 ghost use Rattle.yparse.specs.Session.{machine_of, history_of};
 ghost use Rattle.yparse.specs.View.{shown_by};
-ghost use Rattle.ycli.specs.Command.{command_of};
-ghost use Rattle.ycli.specs.Reply.{step_line, refusal, kind_word, kind_tail, mode_word, shown, spaced, shown_head, shown_stack, shown_rest, shown_counts, Answers, AnswersLine};
+ghost use Rattle.ycli.specs.Reply.{step_line, refusal, kind_word, kind_tail, mode_word, shown};
+ghost use Rattle.ycli.specs.Reply.{spaced, shown_head, shown_stack, shown_rest, shown_counts};
+ghost use Rattle.ycli.specs.Command.{command_view};
+ghost use Rattle.ycli.specs.Reply.{Answers, edit_text};
 
-use crate::command::{Command, command_in};
+use crate::command::Command;
 use std::io::Write;
 use ygrammar::Sym;
 use yparse::Session;
@@ -19,7 +21,7 @@ use yparse::machine::{AtStart, Mode, StepFault, StepKind, UnwindFault};
 use ytables::Link;
 use ytables::put::{put, put_all};
 
-/// The words of a step.
+/// The words of a step or an edit.
 fn kind_word(kind: StepKind) -> &'static [u8]
     ensures { result.now ≡ kind_word kind }
 {
@@ -32,6 +34,8 @@ fn kind_word(kind: StepKind) -> &'static [u8]
         StepKind::ShiftError => b"shift error",
         StepKind::Discard(_) => b"discard ",
         StepKind::Fail => b"fail",
+        StepKind::Insert(_) => b"insert ",
+        StepKind::Drop(_) => b"drop ",
     }
 }
 
@@ -46,13 +50,14 @@ fn mode_word(mode: Mode) -> &'static [u8]
     }
 }
 
-/// What a refused step writes, where steps were made before or not.
+/// What a refused step or edit writes, where steps were made before or not.
 fn refusal(made: bool, fault: StepFault) -> &'static [u8]
     ensures { result.now ≡ refusal made fault }
 {
     match fault {
         StepFault::Halted if made => b"",
         StepFault::Halted => b"halted\n",
+        StepFault::NoToken => b"no token\n",
         StepFault::Limit => b"limit\n",
         StepFault::Memory => b"no memory\n",
     }
@@ -71,6 +76,8 @@ fn kind_tail<'a>(session: &'a Session, kind: StepKind, digits: &'a mut itoa::Buf
         StepKind::Detect => b"",
         StepKind::ShiftError => b"",
         StepKind::Fail => b"",
+        StepKind::Insert(symbol) => session.name(symbol),
+        StepKind::Drop(symbol) => session.name(symbol),
     }
 }
 
@@ -82,7 +89,8 @@ fn put_line<'a, W: Write>(
     words: &'a [u8],
     tail: &'a [u8],
 ) -> Option<()>
-    ensures { Sends W.contents writer.old writer.new (is_some result) (at.now ++ (between.now ++ (words.now ++ (tail.now ++ codes "\n")))) }
+    ensures { Sends W.contents writer.old writer.new (is_some result)
+        (at.now ++ (between.now ++ (words.now ++ (tail.now ++ codes "\n")))) }
 {
     put_all(writer, &[at, between, words, tail, b"\n"])
 }
@@ -94,7 +102,8 @@ fn put_step<W: Write>(
     between: &[u8],
     kind: StepKind,
 ) -> Option<()>
-    ensures { Sends W.contents writer.old writer.new (is_some result) (step_line (machine_of session.now) (position (history_of session.now)) between.now kind) }
+    ensures { Sends W.contents writer.old writer.new (is_some result)
+        (step_line (machine_of session.now) (position (history_of session.now)) between.now kind) }
 {
     let mut at = itoa::Buffer::new();
     let mut rule = itoa::Buffer::new();
@@ -105,7 +114,9 @@ fn put_step<W: Write>(
 
 /// At most so many steps, with a line for each, and the reason where there are fewer.
 fn run<W: Write>(session: &mut Session, writer: &mut Link<W>, count: usize) -> Option<()>
-    ensures answers { Answers W.contents writer.old writer.new (is_some result) (machine_of session.old) (history_of session.old) (commands.Run count) (history_of session.new) }
+    ensures answers { Answers W.contents writer.old writer.new (is_some result)
+        (machine_of session.old) (history_of session.old) (commands.Run count)
+        (history_of session.new) }
     ensures machine { machine_of session.new ≡ machine_of session.old }
 {
     let mut made = false;
@@ -121,7 +132,9 @@ fn run<W: Write>(session: &mut Session, writer: &mut Link<W>, count: usize) -> O
 
 /// At most so many undos, with a line for each.
 fn back<W: Write>(session: &mut Session, writer: &mut Link<W>, count: usize) -> Option<()>
-    ensures answers { Answers W.contents writer.old writer.new (is_some result) (machine_of session.old) (history_of session.old) (commands.Back count) (history_of session.new) }
+    ensures answers { Answers W.contents writer.old writer.new (is_some result)
+        (machine_of session.old) (history_of session.old) (commands.Back count)
+        (history_of session.new) }
     ensures machine { machine_of session.new ≡ machine_of session.old }
 {
     let mut made = false;
@@ -138,7 +151,9 @@ fn back<W: Write>(session: &mut Session, writer: &mut Link<W>, count: usize) -> 
 
 /// Steps or undos to a position.
 fn to<W: Write>(session: &mut Session, writer: &mut Link<W>, position: usize) -> Option<()>
-    ensures answers { Answers W.contents writer.old writer.new (is_some result) (machine_of session.old) (history_of session.old) (commands.To position) (history_of session.new) }
+    ensures answers { Answers W.contents writer.old writer.new (is_some result)
+        (machine_of session.old) (history_of session.old) (commands.To position)
+        (history_of session.new) }
     ensures machine { machine_of session.new ≡ machine_of session.old }
 {
     let now = session.position();
@@ -151,7 +166,8 @@ fn to<W: Write>(session: &mut Session, writer: &mut Link<W>, position: usize) ->
 
 /// The position and the mode.
 fn put_head<W: Write>(session: &Session, writer: &mut Link<W>) -> Option<()>
-    ensures { Sends W.contents writer.old writer.new (is_some result) (shown_head (history_of session.now)) }
+    ensures { Sends W.contents writer.old writer.new (is_some result)
+        (shown_head (history_of session.now)) }
 {
     let mut at = itoa::Buffer::new();
     let digits = at.format(session.position()).as_bytes();
@@ -163,14 +179,16 @@ fn put_head<W: Write>(session: &Session, writer: &mut Link<W>) -> Option<()>
 
 /// A space and a name.
 fn put_name<W: Write>(session: &Session, writer: &mut Link<W>, symbol: Sym) -> Option<()>
-    ensures { Sends W.contents writer.old writer.new (is_some result) (32 ∷ (machine_of session.now).name symbol) }
+    ensures { Sends W.contents writer.old writer.new (is_some result)
+        (32 ∷ (machine_of session.now).name symbol) }
 {
     put_all(writer, &[b" ", session.name(symbol)])
 }
 
 /// The symbols of the stack from the bottom.
 fn put_stack<W: Write>(session: &Session, writer: &mut Link<W>) -> Option<()>
-    ensures { Sends W.contents writer.old writer.new (is_some result) (shown_stack (machine_of session.now) (history_of session.now)) }
+    ensures { Sends W.contents writer.old writer.new (is_some result)
+        (shown_stack (machine_of session.now) (history_of session.now)) }
 {
     let view = session.view();
     for index in 0..view.stack_len() {
@@ -181,7 +199,8 @@ fn put_stack<W: Write>(session: &Session, writer: &mut Link<W>) -> Option<()>
 
 /// The tokens that are left.
 fn put_rest<W: Write>(session: &Session, writer: &mut Link<W>) -> Option<()>
-    ensures { Sends W.contents writer.old writer.new (is_some result) (shown_rest (machine_of session.now) (history_of session.now)) }
+    ensures { Sends W.contents writer.old writer.new (is_some result)
+        (shown_rest (machine_of session.now) (history_of session.now)) }
 {
     let view = session.view();
     for index in 0..view.rest_len() {
@@ -193,7 +212,8 @@ fn put_rest<W: Write>(session: &Session, writer: &mut Link<W>) -> Option<()>
 
 /// The recovery counter and the errors reported.
 fn put_counts<W: Write>(session: &Session, writer: &mut Link<W>) -> Option<()>
-    ensures { Sends W.contents writer.old writer.new (is_some result) (shown_counts (history_of session.now)) }
+    ensures { Sends W.contents writer.old writer.new (is_some result)
+        (shown_counts (history_of session.now)) }
 {
     let view = session.view();
     let mut counter = itoa::Buffer::new();
@@ -208,7 +228,8 @@ fn put_counts<W: Write>(session: &Session, writer: &mut Link<W>) -> Option<()>
 
 /// The five lines of the configuration now.
 fn put_shown<W: Write>(session: &Session, writer: &mut Link<W>) -> Option<()>
-    ensures { Sends W.contents writer.old writer.new (is_some result) (shown (machine_of session.now) (history_of session.now)) }
+    ensures { Sends W.contents writer.old writer.new (is_some result)
+        (shown (machine_of session.now) (history_of session.now)) }
 {
     put_head(session, writer)?;
     put_stack(session, writer)?;
@@ -220,7 +241,8 @@ fn put_shown<W: Write>(session: &Session, writer: &mut Link<W>) -> Option<()>
 /// A line for each tree of the stack.
 fn tree<W: Write>(session: &mut Session, writer: &mut Link<W>) -> Option<()>
     requires { has_failed writer.old ≡ false }
-    ensures answers { Answers W.contents writer.old writer.new (is_some result) (machine_of session.old) (history_of session.old) commands.Tree (history_of session.new) }
+    ensures answers { Answers W.contents writer.old writer.new (is_some result)
+        (machine_of session.old) (history_of session.old) commands.Tree (history_of session.new) }
     ensures machine { machine_of session.new ≡ machine_of session.old }
 {
     match session.write_trees(writer) {
@@ -232,7 +254,8 @@ fn tree<W: Write>(session: &mut Session, writer: &mut Link<W>) -> Option<()>
 /// The forms of an accepted parse without error steps, or why there are none.
 fn unwind<W: Write>(session: &mut Session, writer: &mut Link<W>) -> Option<()>
     requires { has_failed writer.old ≡ false }
-    ensures answers { Answers W.contents writer.old writer.new (is_some result) (machine_of session.old) (history_of session.old) commands.Unwind (history_of session.new) }
+    ensures answers { Answers W.contents writer.old writer.new (is_some result)
+        (machine_of session.old) (history_of session.old) commands.Unwind (history_of session.new) }
     ensures machine { machine_of session.new ≡ machine_of session.old }
 {
     match session.unwind(writer) {
@@ -243,11 +266,54 @@ fn unwind<W: Write>(session: &mut Session, writer: &mut Link<W>) -> Option<()>
     }
 }
 
-/// The reply to a command other than `quit`.
-fn reply<W: Write>(session: &mut Session, command: Command, writer: &mut Link<W>) -> Option<()>
-    requires command { command ≢ commands.Quit }
-    requires clear { has_failed writer.old ≡ false }
-    ensures answers { Answers W.contents writer.old writer.new (is_some result) (machine_of session.old) (history_of session.old) command (history_of session.new) }
+/// The line of an edit that was made, or why it was not.
+fn put_edit<W: Write>(
+    session: &Session,
+    writer: &mut Link<W>,
+    made: Result<StepKind, StepFault>,
+) -> Option<()>
+    ensures { Sends W.contents writer.old writer.new (is_some result)
+        (edit_text (machine_of session.now) (history_of session.now) made) }
+{
+    match made {
+        Ok(kind) => put_step(session, writer, b" ", kind),
+        Err(fault) => put(writer, refusal(false, fault)),
+    }
+}
+
+/// The token that these bytes spell becomes the first of those left.
+fn insert<W: Write>(session: &mut Session, writer: &mut Link<W>, bytes: &[u8]) -> Option<()>
+    ensures answers { Answers W.contents writer.old writer.new (is_some result)
+        (machine_of session.old) (history_of session.old) (commands.Insert bytes.now)
+        (history_of session.new) }
+    ensures machine { machine_of session.new ≡ machine_of session.old }
+{
+    match session.token(bytes) {
+        Some(token) => {
+            let made = session.insert(token);
+            put_edit(session, writer, made)
+        }
+        None => put(writer, b"bad token\n"),
+    }
+}
+
+/// The first of the tokens left is taken out.
+fn drop_next<W: Write>(session: &mut Session, writer: &mut Link<W>) -> Option<()>
+    ensures answers { Answers W.contents writer.old writer.new (is_some result)
+        (machine_of session.old) (history_of session.old) commands.Drop (history_of session.new) }
+    ensures machine { machine_of session.new ≡ machine_of session.old }
+{
+    let made = session.drop_next();
+    put_edit(session, writer, made)
+}
+
+/// The reply to a command.
+#[tactic(auto, using(crate::proofs::Replying::told_show, crate::proofs::Replying::told_unknown))]
+fn reply<W: Write>(session: &mut Session, command: Command<'_>, writer: &mut Link<W>) -> Option<()>
+    requires { has_failed writer.old ≡ false }
+    ensures answers { Answers W.contents writer.old writer.new (is_some result)
+        (machine_of session.old) (history_of session.old) (command_view command.entry)
+        (history_of session.new) }
     ensures machine { machine_of session.new ≡ machine_of session.old }
 {
     match command {
@@ -257,26 +323,26 @@ fn reply<W: Write>(session: &mut Session, command: Command, writer: &mut Link<W>
         Command::Show => put_shown(session, writer),
         Command::Tree => tree(session, writer),
         Command::Unwind => unwind(session, writer),
-        Command::Quit => unreachable!(),
+        Command::Insert(bytes) => insert(session, writer, bytes),
+        Command::Drop => drop_next(session, writer),
         Command::Unknown => put(writer, b"unknown command\n"),
     }
 }
 
-/// Answers a line, and flushes the writer. `Some(false)` is `quit`, and `None` a failed link.
+/// Answers a command, and flushes the writer.
 pub(crate) fn answer<W: Write>(
     session: &mut Session,
-    line: &[u8],
+    command: Command<'_>,
     writer: &mut Link<W>,
-) -> Option<bool>
+) -> Option<()>
     requires { has_failed writer.old ≡ false }
-    ensures answers { AnswersLine W.contents writer.old writer.new result (machine_of session.old) (history_of session.old) (command_of line.now) (history_of session.new) }
+    ensures answers { Answers W.contents writer.old writer.new (is_some result)
+        (machine_of session.old) (history_of session.old) (command_view command.entry)
+        (history_of session.new) }
     ensures machine { machine_of session.new ≡ machine_of session.old }
-    ensures failed { has_failed writer.new ≡ chunk_failed result (has_failed writer.old) }
+    ensures failed { has_failed writer.new ≡
+        (if is_some result then has_failed writer.old else true) }
 {
-    let command = command_in(line);
-    if command == Command::Quit {
-        return Some(false);
-    }
     reply(session, command, writer)?;
-    if writer.flush() { Some(true) } else { None }
+    if writer.flush() { Some(()) } else { None }
 }

@@ -1,11 +1,14 @@
 //! A session from bytes to bytes: command lines in, replies out.
 
-ghost use Rattle.std.specs.Prelude.{◌≡◌, ◌<◌, ◌^◌, List, [], ℕ, length, take, Bool, true, false, is_some, IfSome, if◌then◌else◌};
+ghost use Rattle.std.specs.Prelude.{◌≡◌, ◌<◌, ◌^◌, List, [], ℕ, length, take, ◌||◌, true, false};
+ghost use Rattle.std.specs.Prelude.{is_some, IfSome, if◌then◌else◌};
 ghost use Rattle.ytables.specs.Link.{device_of, has_failed};
 ghost use Rattle.yparse.specs.Session.{machine_of, history_of};
 ghost use Rattle.ycli.specs.Transcript.{Tells, failed_read, failed_write};
-ghost use Rattle.ycli.specs.Serving.{ChunkTells, ReadTells, Ends, chunk_failed, read_failed, write_failed};
+ghost use Rattle.ycli.specs.Plain.{HasOneText};
+ghost use Rattle.ycli.specs.Serving.{ChunkTells, ReadTells, Ends};
 
+use crate::command::{Line, line_in};
 use crate::fault::SessionFault;
 use crate::held::Held;
 use crate::reply::answer;
@@ -16,45 +19,60 @@ use ytables::Link;
 /// How many bytes are read at once.
 const CHUNK: usize = 4096;
 
-/// Answers each line that these bytes end, after what is held of the first. `Some(false)` is `quit`, and `None` a
-/// fault of the writer.
+/// Whether a session goes on after lines.
+#[derive(Clone, Copy, Debug)]
+enum Flow {
+    /// Further lines are to be answered.
+    GoesOn,
+    /// A line was `quit`.
+    Quit,
+}
+
+/// Answers each line that these bytes end, after what is held of the first. `None` is a fault of
+/// the writer.
 fn take_chunk<W: Write>(
     session: &mut Session,
     held: &mut Held,
     bytes: &[u8],
     writer: &mut Link<W>,
-) -> Option<bool>
+) -> Option<Flow>
     requires { has_failed writer.old ≡ false }
-    ensures tells { (line : List ℕ) → held.old ≡ take 4097 line → ChunkTells W.contents writer.old writer.new result (machine_of session.old) (history_of session.old) line bytes.now (history_of session.new) held.new }
+    ensures tells { (line : List ℕ) → held.old ≡ take 4097 line →
+        ChunkTells W.contents writer.old writer.new result (machine_of session.old)
+        (history_of session.old) line bytes.now (history_of session.new) held.new }
     ensures machine { machine_of session.new ≡ machine_of session.old }
-    ensures failed { has_failed writer.new ≡ chunk_failed result (has_failed writer.old) }
+    ensures failed { has_failed writer.new ≡
+        (if is_some result then has_failed writer.old else true) }
 {
     for byte in bytes {
         if *byte != b'\n' {
             held.push(*byte);
             continue;
         }
-        if !answer(session, held.as_slice(), writer)? {
-            return Some(false);
+        match line_in(held.as_slice()) {
+            Line::Quit => return Some(Flow::Quit),
+            Line::Command(command) => answer(session, command, writer)?,
         }
         held.clear();
     }
-    Some(true)
+    Some(Flow::GoesOn)
 }
 
-/// Answers each line whose newline is read. `Ok(true)` is the end of the input, and `Ok(false)` is `quit`.
+/// Answers each line whose newline is read, up to a `quit` or to the end of the input.
 fn read_lines<R: Read, W: Write>(
     session: &mut Session,
     held: &mut Held,
     reader: &mut Link<R>,
     writer: &mut Link<W>,
-) -> Result<bool, SessionFault>
+) -> Result<Flow, SessionFault>
     requires held { held.old ≡ [] }
     requires clear { has_failed writer.old ≡ false }
-    ensures tells { ReadTells W.contents writer.old writer.new (R.remaining (device_of reader.old)) (R.remaining (device_of reader.new)) result (machine_of session.old) (history_of session.old) (history_of session.new) held.new }
+    ensures tells { ReadTells W.contents writer.old writer.new (R.remaining (device_of reader.old))
+        (R.remaining (device_of reader.new)) result (machine_of session.old)
+        (history_of session.old) (history_of session.new) held.new }
     ensures machine { machine_of session.new ≡ machine_of session.old }
-    ensures read_failed { has_failed reader.new ≡ read_failed result (has_failed reader.old) }
-    ensures write_failed { has_failed writer.new ≡ write_failed result (has_failed writer.old) }
+    ensures read_failed { has_failed reader.new ≡ (failed_read result || has_failed reader.old) }
+    ensures write_failed { has_failed writer.new ≡ (failed_write result || has_failed writer.old) }
 {
     let mut chunk = [0; CHUNK];
     for _i in 0..u64::MAX {
@@ -62,29 +80,34 @@ fn read_lines<R: Read, W: Write>(
             return Err(SessionFault::Read);
         };
         if n == 0 {
-            return Ok(true);
+            return Ok(Flow::GoesOn);
         }
         match take_chunk(session, held, &chunk[..n], writer) {
-            Some(true) => {}
-            Some(false) => return Ok(false),
+            Some(Flow::GoesOn) => {}
+            Some(Flow::Quit) => return Ok(Flow::Quit),
             None => return Err(SessionFault::Write),
         }
     }
-    Ok(true)
+    Ok(Flow::GoesOn)
 }
 
 /// Answers a last line that lacks its newline.
 fn answer_last<W: Write>(session: &mut Session, held: &Held, writer: &mut Link<W>) -> Option<()>
     requires { has_failed writer.old ≡ false }
-    ensures tells { (line : List ℕ) → held.now ≡ take 4097 line → Ends W.contents writer.old writer.new (is_some result) (machine_of session.old) (history_of session.old) line }
-    ensures failed { has_failed writer.new ≡ (if is_some result then has_failed writer.old else true) }
+    ensures tells { (line : List ℕ) → held.now ≡ take 4097 line →
+        Ends W.contents writer.old writer.new (is_some result) (machine_of session.old)
+        (history_of session.old) line }
+    ensures failed { has_failed writer.new ≡
+        (if is_some result then has_failed writer.old else true) }
 {
     let last = held.as_slice();
     if last.is_empty() {
         return Some(());
     }
-    let _goes_on = answer(session, last, writer)?;
-    Some(())
+    match line_in(last) {
+        Line::Quit => Some(()),
+        Line::Command(command) => answer(session, command, writer),
+    }
 }
 
 /// Answers the command lines of the reader, up to a `quit` or to the end of the input.
@@ -95,13 +118,17 @@ fn serve<R: Read, W: Write>(
 ) -> Result<(), SessionFault>
     requires { has_failed writer.old ≡ false }
     ensures tells { IfSome (R.remaining (device_of reader.old)) (λ input. length input < 2 ^ 63 →
-        Tells (machine_of session.old) (history_of session.old) input (R.remaining (device_of reader.new)) (W.contents (device_of writer.old)) (W.contents (device_of writer.new)) result) }
-    ensures read_fault { has_failed reader.old ≡ false → has_failed reader.new ≡ failed_read result }
+        Tells (machine_of session.old) (history_of session.old) input
+        (R.remaining (device_of reader.new)) (W.contents (device_of writer.old))
+        (W.contents (device_of writer.new)) result) }
+    ensures read_fault { has_failed reader.old ≡ false →
+        has_failed reader.new ≡ failed_read result }
     ensures write_fault { has_failed writer.new ≡ failed_write result }
 {
     let mut held = Held::new();
-    if !read_lines(session, &mut held, reader, writer)? {
-        return Ok(());
+    match read_lines(session, &mut held, reader, writer)? {
+        Flow::Quit => return Ok(()),
+        Flow::GoesOn => {}
     }
     match answer_last(session, &held, writer) {
         Some(()) => Ok(()),
@@ -111,8 +138,10 @@ fn serve<R: Read, W: Write>(
 
 /// Reads command lines and writes their replies, up to a `quit` or to the end of the input.
 ///
-/// X1 is answered exactly where the reader's link failed, and then the replies of all lines whose newline was read are
-/// written. X2 is answered exactly where the writer's link failed, and then a beginning of the session's text is written.
+/// X1 is answered exactly where the reader's link failed, and then the replies of all lines whose
+/// newline was read are written. X2 is answered exactly where the writer's link failed, and then a
+/// beginning of the session's text is written.
+#[tactic(auto, using(crate::proofs::Plain::has_one_text))]
 pub fn run_session<R: Read, W: Write>(
     mut session: Session,
     reader: &mut Link<R>,
@@ -120,7 +149,11 @@ pub fn run_session<R: Read, W: Write>(
 ) -> Result<(), SessionFault>
     // What is written for an input that the reader tells.
     ensures tells { IfSome (R.remaining (device_of reader.old)) (λ input. length input < 2 ^ 63 →
-        Tells (machine_of session) (history_of session) input (R.remaining (device_of reader.new)) (W.contents (device_of writer.old)) (W.contents (device_of writer.new)) result) }
+        Tells (machine_of session) (history_of session) input (R.remaining (device_of reader.new))
+        (W.contents (device_of writer.old)) (W.contents (device_of writer.new)) result) }
+    // Where no step is refused for want of memory, the text is a function of the lines.
+    ensures plain { (lines : List (List ℕ)) →
+        HasOneText (machine_of session) (history_of session) lines }
     // A read fault exactly where the reader's link failed.
     ensures read_fault { has_failed reader.new ≡ failed_read result }
     // A write fault exactly where the writer's did.

@@ -1,11 +1,13 @@
 //! The stepper from bytes to bytes: a grammar file, a tokens file and command lines in, replies
 //! out.
 
-ghost use Rattle.std.specs.Prelude.{IfOk, IfErr, ◌≡◌, List, ℕ};
+ghost use Rattle.std.specs.Prelude.{IfOk, IfErr, ◌≡◌, Err};
 ghost use Rattle.ytables.specs.Link.{device_of, has_failed};
 ghost use Rattle.yparse.specs.Session.{machine_of, history_of};
-ghost use Rattle.ycli.specs.Programs.{AreTablesOf};
-ghost use Rattle.ycli.specs.Headline.{Refuses, Begins, Ends, reader_failed, writer_failed};
+ghost use Rattle.yparse.specs.MachineOver.{machine_over};
+ghost use Rattle.yparse.specs.Reading.{Gives};
+ghost use Rattle.ycli.specs.Halves.{AreTablesOf, NoTables, Parses};
+ghost use Rattle.ycli.specs.Headline.{Ends, reader_failed, writer_failed};
 
 use crate::fault::SessionFault;
 use crate::run::run_session;
@@ -38,9 +40,9 @@ pub enum StepperFault {
 }
 
 /// The tables of the grammar that the bytes mean.
-fn tables_over(alloc: Global, source: &[u8]) -> Result<Tables, StepperFault>
+pub(crate) fn tables_over(alloc: Global, source: &[u8]) -> Result<Tables, StepperFault>
     ensures tables { IfOk result (λ t. AreTablesOf source.now t) }
-    ensures refused { IfErr result (λ fault. (tokens : List ℕ) → Refuses source.now tokens fault) }
+    ensures refused { IfErr result (λ fault. NoTables source.now fault) }
 {
     let grammar = match read_grammar(alloc, source) {
         Ok(grammar) => grammar,
@@ -56,19 +58,20 @@ fn tables_over(alloc: Global, source: &[u8]) -> Result<Tables, StepperFault>
     }
 }
 
-/// A session at its start, over the tokens that the bytes mean.
-fn session_over(alloc: Global, source: &[u8], tokens: &[u8]) -> Result<Session, StepperFault>
-    ensures begins { IfOk result (λ session. Begins source.now tokens.now (machine_of session)
-        (history_of session)) }
-    ensures refused { IfErr result (λ fault. Refuses source.now tokens.now fault) }
+/// A session at its start, over tables and the tokens that the bytes mean.
+pub(crate) fn session_over(
+    alloc: Global,
+    tables: Tables,
+    tokens: &[u8],
+) -> Result<Session, TokenFault>
+    ensures machine { IfOk result (λ session. machine_of session ≡ machine_over tables) }
+    ensures parses { IfOk result (λ session. Parses tables.built.grammar tokens.now
+        (machine_of session) (history_of session)) }
+    ensures refused { IfErr result (λ fault. Gives tables.built.grammar tokens.now (Err fault)) }
 {
-    let tables = match tables_over(alloc, source) {
-        Ok(tables) => tables,
-        Err(fault) => return Err(fault),
-    };
     match read_tokens(alloc, &tables, tokens) {
         Ok(tokens) => Ok(Session::new(alloc, tables, tokens)),
-        Err(fault) => Err(StepperFault::Tokens(fault)),
+        Err(fault) => Err(fault),
     }
 }
 
@@ -93,9 +96,13 @@ pub fn step_through<R: Read, W: Write>(
 {
     reader.clear();
     writer.clear();
-    let session = match session_over(alloc, source, tokens) {
-        Ok(session) => session,
+    let tables = match tables_over(alloc, source) {
+        Ok(tables) => tables,
         Err(fault) => return Err(fault),
+    };
+    let session = match session_over(alloc, tables, tokens) {
+        Ok(session) => session,
+        Err(fault) => return Err(StepperFault::Tokens(fault)),
     };
     match run_session(session, reader, writer) {
         Ok(()) => Ok(()),

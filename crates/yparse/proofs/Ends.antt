@@ -1,7 +1,9 @@
 -- Tests in a row, and the two ends of a list.
-use Rattle.std.proofs.Common.{ℕ, zero, suc, ◌≡◌, ◌<◌, ◌≤◌, ◌-◌, Bool, true, false, List, [], ◌∷◌, ◌++◌, length, drop, refl, sym, ◌∙◌, ap, arith}
+use Rattle.std.proofs.Common.{ℕ, zero, suc, ◌≡◌, ◌<◌, ◌≤◌, ◌-◌, Bool, true, false, List, [], ◌∷◌}
+use Rattle.std.proofs.Common.{◌++◌, length, drop, refl, sym, ◌∙◌, ap, arith}
 use Rattle.std.specs.Prelude.{◌&&◌, get_or}
-use Rattle.std.proofs.lemmas.List.{take_at, drop_at, length-append, length-take-le, length-drop, take-append-drop}
+use Rattle.std.proofs.lemmas.List.{take_at, drop_at, length-append, length-take-le, length-drop}
+use Rattle.std.proofs.lemmas.List.{take-append-drop}
 use Rattle.yparse.specs.Machine.{without_last, last_ones}
 
 pub join : {a b : Bool} → a ≡ true → b ≡ true → (a && b) ≡ true
@@ -17,7 +19,8 @@ second true b e = e
 second false b e = let bad : false ≡ true = e in cc
 
 module _ {X : Type 0} where
-  pub without_last-append : (xs ys : List X) (n : ℕ) → n ≡ length ys → without_last n (xs ++ ys) ≡ xs
+  pub without_last-append : (xs ys : List X) (n : ℕ) → n ≡ length ys
+      → without_last n (xs ++ ys) ≡ xs
   without_last-append xs ys n e =
       take_at xs ys (length (xs ++ ys) - n) (let a = length-append xs ys in omega (arith, a, e))
 
@@ -41,5 +44,8 @@ module _ {X : Type 0} where
   drop_one (x ∷ y ∷ xs) zero d e = absurd (omega (arith, e))
   drop_one (x ∷ xs) (suc n) d e = drop_one xs n d (omega (arith, e))
 
-  pub top_back : (xs : List X) (d : X) → 0 < length xs → without_last 1 xs ++ get_or xs (length xs - 1) d ∷ [] ≡ xs
-  top_back xs d h = ap (λ ys. without_last 1 xs ++ ys) (sym (drop_one xs (length xs - 1) d (omega (arith, h)))) ∙ both_ends 1 xs
+  pub top_back : (xs : List X) (d : X) → 0 < length xs
+      → without_last 1 xs ++ get_or xs (length xs - 1) d ∷ [] ≡ xs
+  top_back xs d h =
+      ap (λ ys. without_last 1 xs ++ ys) (sym (drop_one xs (length xs - 1) d (omega (arith, h))))
+      ∙ both_ends 1 xs

@@ -1,5 +1,6 @@
 -- What holds of the content of a parse, and that steps keep it.
-use Rattle.std.proofs.Common.{ℕ, ◌≡◌, ◌<◌, ◌≤◌, ◌+◌, ◌-◌, true, List, [], ◌∷◌, ◌++◌, Option, Some, length, refl, sym, ◌∙◌, ap, arith}
+use Rattle.std.proofs.Common.{ℕ, ◌≡◌, ◌≤◌, ◌+◌, ◌-◌, true, List, [], ◌∷◌, ◌++◌, Option, Some}
+use Rattle.std.proofs.Common.{length, refl, sym, ◌∙◌, ap, arith}
 use Rattle.std.specs.Prelude.{unwrap_or}
 use Rattle.std.proofs.lemmas.Bool.{lt-ltb, le-leb, leb-true}
 use Rattle.std.proofs.lemmas.List.{length-append}
@@ -10,23 +11,28 @@ use Rattle.yparse.specs.declared.parts.Node.{Node}
 use Rattle.yparse.specs.declared.parts.Node.TheVariants as nodes
 use Rattle.yparse.specs.Machine.{without_last, last_ones}
 use Rattle.yparse.specs.Tables.{goto_at}
-use Rattle.yparse.specs.Content.{Place, entry, top_state, lead, leads, all_below, node_fits, nodes_fit, valid}
+use Rattle.yparse.specs.Rest.{Rest}
+use Rattle.yparse.specs.Content.{Place, entry, top_state, lead, leads, all_below, node_fits}
+use Rattle.yparse.specs.Content.{nodes_fit, rest_fits, valid}
 use Rattle.yparse.proofs.Ends.{join, first, second, length-without_last, length-last_ones}
 use Rattle.yparse.proofs.States.{leads-push, leads-take}
-use Rattle.yparse.proofs.Nodes.{below_weaker, below_append, below_take, below_drop, nodes_fit-last, nodes_fit-more}
+use Rattle.yparse.proofs.Nodes.{below_weaker, below_append, below_take, below_drop, nodes_fit-last}
+use Rattle.yparse.proofs.Nodes.{nodes_fit-more}
 
 -- what `valid` says, part by part
-pub record Facts (t : Tables) (tokens : List ℕ) (stack : List StackEntry) (ns : List Node) (children : List StackEntry) (at errors steps : ℕ) : Type 0 where
+pub record Facts (t : Tables) (tokens : List ℕ) (stack : List StackEntry) (ns : List Node)
+    (children : List StackEntry) (rest : Rest) (errors steps : ℕ) : Type 0 where
   pub states : leads t 0 stack ≡ true
   pub below : all_below (length ns) stack ≡ true
   pub fit : nodes_fit children 0 ns ≡ true
   pub few : length ns ≤ steps
   pub taken : length stack + length children ≤ length ns
   pub reported : errors ≤ steps
-  pub read : at ≤ length tokens
+  pub read : rest_fits tokens rest ≡ true
 
 abbrev pub FactsOf : Place → Type 0
-FactsOf p = Facts p.tables p.tokens p.content.stack p.content.nodes p.content.children p.content.at p.content.errors p.content.steps
+FactsOf p = Facts p.tables p.tokens p.content.stack p.content.nodes p.content.children
+    p.content.rest p.content.errors p.content.steps
 
 pub facts : (p : Place) → valid p ≡ true → FactsOf p
 facts p h =
@@ -40,32 +46,45 @@ facts p h =
       below = first _ _ a;
       fit = first _ _ b;
       few = leb-true (length p.content.nodes) p.content.steps (first _ _ n);
-      taken = leb-true (length p.content.stack + length p.content.children) (length p.content.nodes) (second _ _ n);
+      taken = leb-true (length p.content.stack + length p.content.children) (length p.content.nodes)
+          (second _ _ n);
       reported = leb-true p.content.errors p.content.steps (first _ _ d);
-      read = leb-true p.content.at (length p.tokens) (second _ _ d);
+      read = second _ _ d;
     }
 
 pub is_valid : (p : Place) → FactsOf p → valid p ≡ true
 is_valid p f =
     join f.states (join f.below (join f.fit (join
-    (join (le-leb (length p.content.nodes) p.content.steps f.few) (le-leb (length p.content.stack + length p.content.children) (length p.content.nodes) f.taken))
-    (join (le-leb p.content.errors p.content.steps f.reported) (le-leb p.content.at (length p.tokens) f.read)))))
+    (join (le-leb (length p.content.nodes) p.content.steps f.few)
+    (le-leb (length p.content.stack + length p.content.children) (length p.content.nodes)
+    f.taken))
+    (join (le-leb p.content.errors p.content.steps f.reported) f.read))))
 
-module _ (t : Tables) (tokens : List ℕ) (stack : List StackEntry) (ns : List Node) (children : List StackEntry) (at errors steps : ℕ) (f : Facts t tokens stack ns children at errors steps) where
-  lead_is : (q symbol to : ℕ) → goto_at t q symbol ≡ Some to → goto_at t q symbol ≡ Some (lead t q symbol)
-  lead_is q symbol to e = e ∙ ap (λ (n : ℕ). let o : Option ℕ = Some n in o) (sym (ap (λ (o : Option ℕ). unwrap_or o 0) e))
+module _ (t : Tables) (tokens : List ℕ) (stack : List StackEntry) (ns : List Node)
+    (children : List StackEntry) (rest : Rest) (errors steps : ℕ)
+    (f : Facts t tokens stack ns children rest errors steps) where
+  lead_is : (q symbol to : ℕ) → goto_at t q symbol ≡ Some to
+      → goto_at t q symbol ≡ Some (lead t q symbol)
+  lead_is q symbol to e = e ∙ ap (λ (n : ℕ). let o : Option ℕ = Some n in
+      o) (sym (ap (λ (o : Option ℕ). unwrap_or o 0) e))
 
   -- an entry with a node of its own on top
-  pub grow : (symbol to : ℕ) → goto_at t (top_state stack) symbol ≡ Some to → (n : Node) → node_fits children (length ns) n ≡ true → Facts t tokens (stack ++ entry (lead t (top_state stack) symbol) symbol (length ns) ∷ []) (ns ++ n ∷ []) children at errors (steps + 1)
+  pub grow : (symbol to : ℕ) → goto_at t (top_state stack) symbol ≡ Some to → (n : Node)
+      → node_fits children (length ns) n ≡ true
+      → Facts t tokens (stack ++ entry (lead t (top_state stack) symbol) symbol (length ns) ∷ [])
+      (ns ++ n ∷ []) children rest errors (steps + 1)
   grow symbol to e n h =
       let l = length-append ns (n ∷ []) in
-      let s = length-append stack (entry (lead t (top_state stack) symbol) symbol (length ns) ∷ []) in
+      let s = length-append stack (entry (lead t (top_state stack) symbol) symbol (length ns) ∷ [])
+      in
       let few = f.few in
       let taken = f.taken in
       let reported = f.reported in
       record {
-        states = leads-push t 0 stack symbol (lead t (top_state stack) symbol) (length ns) f.states (lead_is (top_state stack) symbol to e);
-        below = below_append (length (ns ++ n ∷ [])) stack (entry (lead t (top_state stack) symbol) symbol (length ns) ∷ [])
+        states = leads-push t 0 stack symbol (lead t (top_state stack) symbol) (length ns) f.states
+            (lead_is (top_state stack) symbol to e);
+        below = below_append (length (ns ++ n ∷ [])) stack
+            (entry (lead t (top_state stack) symbol) symbol (length ns) ∷ [])
             (below_weaker (length ns) (length (ns ++ n ∷ [])) stack (omega (arith, l)) f.below)
             (join (lt-ltb (length ns) (length (ns ++ n ∷ [])) (omega (arith, l))) refl);
         fit = nodes_fit-last children ns n f.fit h;
@@ -76,8 +95,12 @@ module _ (t : Tables) (tokens : List ℕ) (stack : List StackEntry) (ns : List N
       }
 
   -- the entries on top become the children of a new one
-  pub fold : (left rule width to : ℕ) → width ≤ length stack → goto_at t (top_state (without_last width stack)) left ≡ Some to
-      → Facts t tokens (without_last width stack ++ entry (lead t (top_state (without_last width stack)) left) left (length ns) ∷ []) (ns ++ nodes.Rule rule (length children) width ∷ []) (children ++ last_ones width stack) at errors (steps + 1)
+  pub fold : (left rule width to : ℕ) → width ≤ length stack
+      → goto_at t (top_state (without_last width stack)) left ≡ Some to
+      → Facts t tokens (without_last width stack
+      ++ entry (lead t (top_state (without_last width stack)) left) left (length ns) ∷ [])
+      (ns ++ nodes.Rule rule (length children) width ∷ []) (children ++ last_ones width stack)
+      rest errors (steps + 1)
   fold left rule width to h e =
       let n : Node = nodes.Rule rule (length children) width in
       let kept = without_last width stack in
@@ -90,13 +113,21 @@ module _ (t : Tables) (tokens : List ℕ) (stack : List StackEntry) (ns : List N
       let taken = f.taken in
       let reported = f.reported in
       record {
-        states = leads-push t 0 kept left (lead t (top_state kept) left) (length ns) (leads-take t 0 (length stack - width) stack f.states) (lead_is (top_state kept) left to e);
-        below = below_append (length (ns ++ n ∷ [])) kept (entry (lead t (top_state kept) left) left (length ns) ∷ [])
-            (below_weaker (length ns) (length (ns ++ n ∷ [])) kept (omega (arith, l)) (below_take (length ns) (length stack - width) stack f.below))
+        states = leads-push t 0 kept left (lead t (top_state kept) left) (length ns)
+            (leads-take t 0 (length stack - width) stack f.states)
+            (lead_is (top_state kept) left to e);
+        below = below_append (length (ns ++ n ∷ [])) kept
+            (entry (lead t (top_state kept) left) left (length ns) ∷ [])
+            (below_weaker (length ns) (length (ns ++ n ∷ [])) kept (omega (arith, l))
+            (below_take (length ns) (length stack - width) stack f.below))
             (join (lt-ltb (length ns) (length (ns ++ n ∷ [])) (omega (arith, l))) refl);
-        fit = nodes_fit-last (children ++ last_ones width stack) ns n (nodes_fit-more children (last_ones width stack) 0 ns f.fit)
-            (join (le-leb (length children + width) (length (children ++ last_ones width stack)) (omega (arith, c, j)))
-            (below_take (length ns) width _ (ap (all_below (length ns)) (drop-append_seam children (last_ones width stack)) ∙ below_drop (length ns) (length stack - width) stack f.below)));
+        fit = nodes_fit-last (children ++ last_ones width stack) ns n
+            (nodes_fit-more children (last_ones width stack) 0 ns f.fit)
+            (join (le-leb (length children + width) (length (children ++ last_ones width stack))
+            (omega (arith, c, j)))
+            (below_take (length ns) width _
+            (ap (all_below (length ns)) (drop-append_seam children (last_ones width stack))
+            ∙ below_drop (length ns) (length stack - width) stack f.below)));
         few = omega (arith, l, few);
         taken = omega (arith, l, s, c, j, k, taken, h);
         reported = omega (arith, reported);
@@ -104,7 +135,7 @@ module _ (t : Tables) (tokens : List ℕ) (stack : List StackEntry) (ns : List N
       }
 
   -- the entry on top goes
-  pub pop : Facts t tokens (without_last 1 stack) ns children at errors (steps + 1)
+  pub pop : Facts t tokens (without_last 1 stack) ns children rest errors (steps + 1)
   pop =
       let k = length-without_last 1 stack in
       let few = f.few in
@@ -121,7 +152,8 @@ module _ (t : Tables) (tokens : List ℕ) (stack : List StackEntry) (ns : List N
       }
 
   -- one error more or none is reported
-  pub stay : (reported : ℕ) → reported ≤ errors + 1 → Facts t tokens stack ns children at reported (steps + 1)
+  pub stay : (reported : ℕ) → reported ≤ errors + 1
+      → Facts t tokens stack ns children rest reported (steps + 1)
   stay reported h =
       let few = f.few in
       let before = f.reported in
@@ -135,14 +167,15 @@ module _ (t : Tables) (tokens : List ℕ) (stack : List StackEntry) (ns : List N
         read = f.read;
       }
 
-  -- one token more is read
-  pub advance : at < length tokens → Facts t tokens stack ns children (at + 1) errors steps
-  advance h = record {
+  -- other tokens are left
+  pub advance : (left : Rest) → rest_fits tokens left ≡ true
+      → Facts t tokens stack ns children left errors steps
+  advance left h = record {
     states = f.states;
     below = f.below;
     fit = f.fit;
     few = f.few;
     taken = f.taken;
     reported = f.reported;
-    read = omega (arith, h);
+    read = h;
   }

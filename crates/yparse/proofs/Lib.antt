@@ -1,11 +1,12 @@
+mod Ends
 pub mod Prefixes
 pub mod StepKinds
 pub mod Machines
 pub mod Sounds
 pub mod Unwindings
-mod OneOutcome
+pub mod OneOutcome
+pub mod Spellings
 mod Pasts
-mod Ends
 mod States
 mod Nodes
 mod Rests
@@ -13,6 +14,7 @@ mod Facts
 mod Shown
 mod Moves
 mod Places
+mod Snapshots
 mod Unwound
 mod Walks
 pub mod Headlines

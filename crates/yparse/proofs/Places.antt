@@ -1,54 +1,110 @@
 -- What a step of a parse in place rests on, and what it shows.
-use Rattle.std.proofs.Common.{◌≡◌, true, false, IsTrue, Option, Some, None, refl, sym, ◌∙◌, ap, subst}
+use Rattle.std.proofs.Common.{ℕ, ◌≡◌, ◌≤◌, ◌+◌, ◌-◌, ◌==◌, Bool, true, false, if◌then◌else◌, []}
+use Rattle.std.proofs.Common.{◌∷◌, ◌++◌, length, IsTrue, Option, Some, None, refl, sym, ◌∙◌, ap}
+use Rattle.std.proofs.Common.{subst, arith}
 use Rattle.std.specs.Prelude.{is_some, unwrap_or}
 use Rattle.std.specs.Option.{option_map}
+use Rattle.yparse.specs.declared.machine.Edit.{Edit}
 use Rattle.yparse.specs.declared.machine.StepKind.{StepKind}
-use Rattle.yparse.specs.Machine.{Configuration, next}
+use Rattle.yparse.specs.Machine.{Configuration, next, edited}
 use Rattle.yparse.specs.MachineOver.{machine_over}
 use Rattle.yparse.specs.Sound.{Sound}
 use Rattle.ytables.specs.Tables.{TablesValue as Tables}
 use Rattle.yparse.specs.declared.machine.StepKind.TheVariants as kinds
-use Rattle.yparse.specs.Content.{Content, Place, kind_in, made, made_of, change_at, place_before, place_fits, place_next, configuration_of, valid}
+use Rattle.yparse.specs.Content.{Content, Place, kind_in, made, made_of, unmade, change_at}
+use Rattle.yparse.specs.Content.{place_before, place_fits, place_next, place_edited, edit_kind}
+use Rattle.yparse.specs.Content.{configuration_of, valid}
+use Rattle.yparse.specs.declared.parts.PlaceChange.{PlaceChange}
+use Rattle.yparse.specs.Rest.{Rest, taken, given_back}
+use Rattle.yparse.specs.Machine.{without_last}
 use Rattle.yparse.proofs.Facts.{facts, is_valid}
-use Rattle.yparse.proofs.Moves.{moves, halts}
+use Rattle.yparse.proofs.Moves.{Leads, moves, halts, changes, unchanged, unmoving}
 
 abbrev pub KindIs : Place → Option StepKind → Type 0
 KindIs p kind = kind_in p.tables p.tokens p.content p.content.mode ≡ kind
 
 abbrev onward : Place → Option (StepKind × Configuration) → Option (StepKind × Place)
-onward p found = option_map (λ (step : StepKind × Configuration). let taken : StepKind × Place = (step.0, made step.0 p) in taken) found
+onward p found = option_map (λ (step : StepKind × Configuration). let taken : StepKind × Place =
+    (step.0, made step.0 p) in taken) found
 
 pub halted : (p : Place) → Sound p.tables → IsTrue (valid p) → KindIs p None → place_next p ≡ None
 halted p s v e = ap (onward p) (halts p s (facts p v) e)
 
--- What a step of a kind is to a content, as a machine's law says it.
-pub record Advanced (p : Place) (kind : StepKind) : Type 0 where
-  pub next : place_next p ≡ Some (kind, made kind p)
+-- What a step or an edit of a kind is to a content, as a machine's law says it.
+pub record Reached (p : Place) (found : Option (StepKind × Place)) (kind : StepKind) : Type 0 where
+  pub next : found ≡ Some (kind, made kind p)
   pub back : place_before (change_at kind p.content) (made kind p) ≡ p
   pub fits : IsTrue (place_fits (change_at kind p.content) (made kind p))
   pub valid : IsTrue (valid (made kind p))
 
-pub advanced : (p : Place) (kind : StepKind) → Sound p.tables → IsTrue (valid p) → KindIs p (Some kind) → Advanced p kind
+reached : (p : Place) (found : Option (StepKind × Configuration)) (kind : StepKind)
+    → IsTrue (valid p) → Leads p found kind → Reached p (onward p found) kind
+reached p found kind v m = record {
+  next = ap (onward p) m.follows;
+  back = m.back;
+  fits = subst (λ (q : Place). IsTrue (valid q)) (sym m.back) v;
+  valid = is_valid (made kind p) m.facts;
+}
+
+pub advanced : (p : Place) (kind : StepKind) → Sound p.tables → IsTrue (valid p)
+    → KindIs p (Some kind) → Reached p (place_next p) kind
 advanced p kind s v e =
-    let m = moves p s (facts p v) kind e in
-    record {
-      next = ap (onward p) m.follows;
-      back = m.back;
-      fits = subst (λ (q : Place). IsTrue (valid q)) (sym m.back) v;
-      valid = is_valid (made kind p) m.facts;
-    }
+    reached p (next (machine_over p.tables) (configuration_of p)) kind v
+    (moves p s (facts p v) kind e)
+
+-- the same of an edit, which has a kind where a step follows
+pub changed : (p : Place) (edit : Edit) (kind found : StepKind) → Sound p.tables → IsTrue (valid p)
+    → KindIs p (Some kind) → edit_kind p.tables p.tokens p.content edit ≡ Some found
+    → Reached p (place_edited edit p) found
+changed p edit kind found s v e h =
+    reached p (edited (machine_over p.tables) edit (configuration_of p)) found v
+    (changes p s (facts p v) kind e edit found h)
+
+pub refused : (p : Place) (edit : Edit) (kind : StepKind) → Sound p.tables → IsTrue (valid p)
+    → KindIs p (Some kind) → edit_kind p.tables p.tokens p.content edit ≡ None
+    → place_edited edit p ≡ None
+refused p edit kind s v e h = ap (onward p) (unchanged p s (facts p v) kind e edit h)
+
+-- two accounts of one step
+same_step : (p : Place) (kind j : StepKind) (after : Configuration)
+    (found : Option (StepKind × Configuration)) → found ≡ Some (kind, after)
+    → found ≡ Some (j, configuration_of (made j p)) → after ≡ configuration_of (made kind p)
+same_step p kind j after found e f =
+    let x : (kind, after) ≡ (j, configuration_of (made j p)) =
+    ap (λ (o : Option (StepKind × Configuration)). unwrap_or o (kind, after)) (sym e ∙ f) in
+    ap (λ (step : StepKind × Configuration). step.1) x
+    ∙ ap (λ (k : StepKind). configuration_of (made k p))
+    (sym (ap (λ (step : StepKind × Configuration). step.0) x))
 
 -- a step of a content shows the machine's step
-pub follows : (p q : Place) (kind : StepKind) → Sound p.tables → IsTrue (valid p) → place_next p ≡ Some (kind, q) → next (machine_over p.tables) (configuration_of p) ≡ Some (kind, configuration_of q)
-follows p q kind s v e = by (kind_in p.tables p.tokens p.content p.content.mode) refl
+pub step_reaches : (p : Place) (kind : StepKind) (after : Configuration) → Sound p.tables
+    → IsTrue (valid p) → next (machine_over p.tables) (configuration_of p) ≡ Some (kind, after)
+    → after ≡ configuration_of (made kind p)
+step_reaches p kind after s v e = by (kind_in p.tables p.tokens p.content p.content.mode) refl
   where
-    by : (k : Option StepKind) → KindIs p k → next (machine_over p.tables) (configuration_of p) ≡ Some (kind, configuration_of q)
-    by None h = let bad : false ≡ true = sym (ap is_some (halted p s v h)) ∙ ap is_some e in cc
-    by (Some j) h =
-        let m = moves p s (facts p v) j h in
-        let x : Some (j, made j p) ≡ Some (kind, q) = sym (ap (onward p) m.follows) ∙ e in
-        let y : (j, made j p) ≡ (kind, q) = ap (λ (o : Option (StepKind × Place)). unwrap_or o (j, made j p)) x in
-        m.follows ∙ ap (λ (step : StepKind × Place). let found : Option (StepKind × Configuration) = Some (step.0, configuration_of step.1) in found) y
+    by : (k : Option StepKind) → KindIs p k → after ≡ configuration_of (made kind p)
+    by None h = let bad : false ≡ true =
+        sym (ap is_some (halts p s (facts p v) h)) ∙ ap is_some e in cc
+    by (Some j) h = same_step p kind j after _ e (moves p s (facts p v) j h).follows
+
+-- an edit of a content shows the machine's edit
+pub edit_reaches : (p : Place) (edit : Edit) (kind : StepKind) (after : Configuration)
+    → Sound p.tables → IsTrue (valid p)
+    → edited (machine_over p.tables) edit (configuration_of p) ≡ Some (kind, after)
+    → after ≡ configuration_of (made kind p)
+edit_reaches p edit kind after s v e = by (kind_in p.tables p.tokens p.content p.content.mode) refl
+  where
+    found : (j : StepKind) → KindIs p (Some j) → (k : Option StepKind)
+        → edit_kind p.tables p.tokens p.content edit ≡ k → after ≡ configuration_of (made kind p)
+    found j h None i = let bad : false ≡ true =
+        sym (ap is_some (unchanged p s (facts p v) j h edit i)) ∙ ap is_some e in cc
+    found j h (Some k) i =
+        same_step p kind k after _ e (changes p s (facts p v) j h edit k i).follows
+
+    by : (k : Option StepKind) → KindIs p k → after ≡ configuration_of (made kind p)
+    by None h = let bad : false ≡ true =
+        sym (ap is_some (unmoving p s (facts p v) edit h)) ∙ ap is_some e in cc
+    by (Some j) h = found j h (edit_kind p.tables p.tokens p.content edit) refl
 
 -- no step changes the count of steps but by one
 pub steps-made : (t : Tables) (kind : StepKind) (c : Content) → (made_of t kind c).steps ≡ c.steps
@@ -60,3 +116,77 @@ steps-made t (kinds.Pop symbol) c = refl
 steps-made t kinds.ShiftError c = refl
 steps-made t (kinds.Discard token) c = refl
 steps-made t kinds.Fail c = refl
+steps-made t (kinds.Insert token) c = refl
+steps-made t (kinds.Drop token) c = refl
+
+-- ---- how many insertions stand
+
+edits-taken : (r : Rest) → (taken r).edits ≡ r.edits
+edits-taken r = by (length r.inserted == 0)
+  where
+    by : (b : Bool)
+        → (if b then record r { at = r.at + 1 } else record r {
+          inserted = without_last 1 r.inserted;
+        }).edits ≡ r.edits
+    by true = refl
+    by false = refl
+
+edits-given_back : (place token : ℕ) (r : Rest) → (given_back place token r).edits ≡ r.edits
+edits-given_back place token r = by (place == 0)
+  where
+    by : (b : Bool)
+        → (if b then record r { inserted = r.inserted ++ token ∷ [] } else record r {
+          at = r.at - 1;
+        }).edits ≡ r.edits
+    by true = refl
+    by false = refl
+
+-- a step leaves as many insertions, or one more
+pub edits-made : (t : Tables) (kind : StepKind) (c : Content)
+    → (made_of t kind c).rest.edits ≤ c.rest.edits + 1
+edits-made t (kinds.Shift token) c = omega (arith, edits-taken c.rest)
+edits-made t (kinds.Reduce rule) c = omega arith
+edits-made t kinds.Accept c = omega arith
+edits-made t kinds.Detect c = omega arith
+edits-made t (kinds.Pop symbol) c = omega arith
+edits-made t kinds.ShiftError c = omega arith
+edits-made t (kinds.Discard token) c = omega (arith, edits-taken c.rest)
+edits-made t kinds.Fail c = omega arith
+edits-made t (kinds.Insert token) c = omega arith
+edits-made t (kinds.Drop token) c = omega (arith, edits-taken c.rest)
+
+-- an undo leaves no more
+pub edits-unmade : (t : Tables) (change : PlaceChange) (kind : StepKind) (c : Content)
+    → (unmade t change kind c).rest.edits ≤ c.rest.edits
+edits-unmade t change (kinds.Shift token) c =
+    omega (arith, edits-given_back change.place token c.rest)
+edits-unmade t change (kinds.Reduce rule) c = omega arith
+edits-unmade t change kinds.Accept c = omega arith
+edits-unmade t change kinds.Detect c = omega arith
+edits-unmade t change (kinds.Pop symbol) c = omega arith
+edits-unmade t change kinds.ShiftError c = omega arith
+edits-unmade t change (kinds.Discard token) c =
+    omega (arith, edits-given_back change.place token c.rest)
+edits-unmade t change kinds.Fail c = omega arith
+edits-unmade t change (kinds.Insert token) c = omega arith
+edits-unmade t change (kinds.Drop token) c =
+    omega (arith, edits-given_back change.place token c.rest)
+
+-- ---- the law
+
+-- a change that was made of a kind
+pub lawful : (p q : Place) (found : Option (StepKind × Place)) (kind : StepKind)
+    (change : PlaceChange) → Reached p found kind → q ≡ made kind p
+    → change ≡ change_at kind p.content
+    → (found ≡ Some (change.kind, q)) × (place_before change q ≡ p) × IsTrue (place_fits change q)
+lawful p q found kind change a e f = (
+  a.next
+      ∙ ap (λ (x : PlaceChange). let step : Option (StepKind × Place) =
+      Some (x.kind, made kind p) in step) (sym f)
+      ∙ ap (λ (x : Place). let step : Option (StepKind × Place) = Some (change.kind, x) in
+      step) (sym e),
+  ap (λ (x : PlaceChange). place_before x q) f ∙ ap (place_before (change_at kind p.content)) e
+      ∙ a.back,
+  subst (λ (x : PlaceChange). IsTrue (place_fits x q)) (sym f)
+      (subst (λ (x : Place). IsTrue (place_fits (change_at kind p.content) x)) (sym e) a.fits),
+)

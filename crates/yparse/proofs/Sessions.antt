@@ -1,102 +1,312 @@
 -- What the steps of a journal of a parse in place are to the history that it shows.
-use Rattle.std.proofs.Common.{ℕ, ◌≡◌, ◌<◌, true, false, List, [], ◌∷◌, map, reverse, Option, Some, None, Result, Ok, Err, IsTrue, refl, sym, ◌∙◌, ap, subst}
-use Rattle.std.specs.Prelude.{is_some, unwrap_or, slice_get}
+use Rattle.std.proofs.Common.{Vec, Global, length, ◌+◌, ℕ, ◌≡◌, ◌<◌, ◌≤◌, drop, inl, inr, true}
+use Rattle.std.proofs.Common.{false, List, [], ◌∷◌, suc, map, Option, Some, None, Result, Ok, Err}
+use Rattle.std.proofs.Common.{IsTrue, refl, sym, ◌∙◌, ap, subst, arith}
+use Rattle.std.specs.Prelude.{vec_len, vec_capacity, IsSome, IfSome, is_some, unwrap_or, slice_get}
 use Rattle.std.specs.Option.{option_map}
+use Rattle.std.specs.List.{All}
+use Rattle.std.proofs.lemmas.List.Elements.{All-cons}
 use Rattle.std.proofs.Math.Logic.{∥∥₁_map}
 use Rattle.ytables.specs.Tables.{TablesValue as Tables}
 use Rattle.yparse.specs.declared.machine.StepKind.{StepKind}
 use Rattle.yparse.specs.declared.machine.StepFault.{StepFault}
-use Rattle.yparse.specs.declared.parts.PlaceChange.{PlaceChange}
-use Rattle.yparse.specs.Machine.{Configuration, next}
+use Rattle.yparse.specs.declared.machine.StepFault.TheVariants.{Halted, NoToken, Limit, Memory}
+use Rattle.yparse.specs.declared.machine.AtStart.{AtStart}
+use Rattle.yparse.specs.declared.machine.Edit.{Edit}
+use Rattle.yparse.specs.Machine.{Configuration, next, edited}
 use Rattle.yparse.specs.MachineOver.{machine_over}
-use Rattle.yparse.specs.Past.{Past, LeadsTo, Steps}
+use Rattle.yparse.specs.Past.{Past, LeadsTo, Comes, Changes}
 use Rattle.yparse.specs.History.{IsHistory, first_configuration}
-use Rattle.yparse.specs.Reversible.{StepsOn, StepsBack, states_from}
+use Rattle.yparse.specs.Reversible.{StepsOn, StepsBack}
 use Rattle.yparse.specs.Sound.{Sound}
-use Rattle.yparse.specs.Content.{Place, made, place_before, place_next, configuration_of, valid}
-use Rattle.yparse.specs.Shown.{shown_step, shown_past, past_in}
-use Rattle.yparse.proofs.Places.{follows}
+use Rattle.yparse.specs.Content.{Place, made, place_next, place_edited, configuration_of, valid}
+use Rattle.yparse.specs.Shown.{KeepsGround, shown_step, shown_past}
+use Rattle.yparse.proofs.Places.{step_reaches, edit_reaches}
 use Rattle.yparse.proofs.Shown.{length-map}
 
--- the history that is shown begins with the first configuration, and goes by the machine of the tables
+-- the history that is shown begins with the first configuration, and goes by the machine of the
+-- tables
 abbrev pub IsShown : Past StepKind Place → Type 0
 IsShown h = IsHistory (machine_over h.now.tables) h.now.tokens (shown_past h)
 
--- a step keeps the tables and the tokens
-same_ground : (p q : Place) (kind : StepKind) → place_next p ≡ Some (kind, q) → (q.tables ≡ p.tables) × (q.tokens ≡ p.tokens)
-same_ground p q kind e = by (next (machine_over p.tables) (configuration_of p)) e
+abbrev onward : Place → Option (StepKind × Configuration) → Option (StepKind × Place)
+onward p found = option_map (λ (step : StepKind × Configuration). let taken : StepKind × Place =
+    (step.0, made step.0 p) in taken) found
+
+-- What is made of the content of a parse, and what that is to the machine: its kind leads on to
+-- what the machine's own leads to.
+pub record Deed (p : Place) (what : Place
+    → Option (StepKind × Place)) (found : Option (StepKind × Configuration)) : Type 0 where
+  pub is : what p ≡ onward p found
+  pub reaches : (kind : StepKind) (after : Configuration) → found ≡ Some (kind, after)
+      → after ≡ configuration_of (made kind p)
+  pub comes : (kind : StepKind) (after : Configuration) → found ≡ Some (kind, after)
+      → Comes (next (machine_over p.tables)) (edited (machine_over p.tables)) (configuration_of p)
+      kind after
+
+pub a_step : (p : Place) → Sound p.tables → IsTrue (valid p)
+    → Deed p place_next (next (machine_over p.tables) (configuration_of p))
+a_step p s v = record {
+  is = refl;
+  reaches = λ kind after e. step_reaches p kind after s v e;
+  comes = λ kind after e. inl e;
+}
+
+pub an_edit : (p : Place) (edit : Edit) → Sound p.tables → IsTrue (valid p)
+    → Deed p (place_edited edit) (edited (machine_over p.tables) edit (configuration_of p))
+an_edit p edit s v = record {
+  is = refl;
+  reaches = λ kind after e. edit_reaches p edit kind after s v e;
+  comes = λ kind after e. inr (edit, e);
+}
+
+-- what a deed leads to
+record Led (p q : Place) (found : Option (StepKind × Configuration)) (kind : StepKind) : Type 0
   where
-    by : (o : Option (StepKind × Configuration)) → option_map (λ (step : StepKind × Configuration). let taken : StepKind × Place = (step.0, made step.0 p) in taken) o ≡ Some (kind, q) → (q.tables ≡ p.tables) × (q.tokens ≡ p.tokens)
-    by None h = let bad : false ≡ true = ap is_some h in cc
-    by (Some s) h =
-        let y : (s.0, made s.0 p) ≡ (kind, q) = ap (λ (o : Option (StepKind × Place)). unwrap_or o (s.0, made s.0 p)) h in
-        (sym (ap (λ (x : StepKind × Place). x.1.tables) y), sym (ap (λ (x : StepKind × Place). x.1.tokens) y))
+    pub shown : found ≡ Some (kind, configuration_of q)
+    pub tables : q.tables ≡ p.tables
+    pub tokens : q.tokens ≡ p.tokens
 
--- from one configuration to the next, over tables and tokens that stay
-longer : (h new : Past StepKind Place) (kind : StepKind) → Sound h.now.tables → IsTrue (valid h.now) → place_next h.now ≡ Some (kind, new.now) → new.earlier ≡ (kind, h.now) ∷ h.earlier → IsShown h → IsShown new
-longer h new kind s v f e i =
-    let g = same_ground h.now new.now kind f in
-    let led : LeadsTo (next (machine_over h.now.tables)) (first_configuration h.now.tokens) (configuration_of new.now) (map shown_step ((kind, h.now) ∷ h.earlier)) = (follows h.now new.now kind s v f, i) in
-    let past : LeadsTo (next (machine_over h.now.tables)) (first_configuration h.now.tokens) (configuration_of new.now) (map shown_step new.earlier) =
-    subst (λ (l : List (StepKind × Place)). LeadsTo (next (machine_over h.now.tables)) (first_configuration h.now.tokens) (configuration_of new.now) (map shown_step l)) (sym e) led in
-    let tables : LeadsTo (next (machine_over new.now.tables)) (first_configuration h.now.tokens) (configuration_of new.now) (map shown_step new.earlier) =
-    subst (λ (t : Tables). LeadsTo (next (machine_over t)) (first_configuration h.now.tokens) (configuration_of new.now) (map shown_step new.earlier)) (sym g.0) past in
-    subst (λ (l : List ℕ). LeadsTo (next (machine_over new.now.tables)) (first_configuration l) (configuration_of new.now) (map shown_step new.earlier)) (sym g.1) tables
+led : (p q : Place) (what : Place
+    → Option (StepKind × Place)) (found : Option (StepKind × Configuration)) (kind : StepKind)
+    → Deed p what found → what p ≡ Some (kind, q) → Led p q found kind
+led p q what found kind d e = by found refl (sym d.is ∙ e)
+  where
+    by : (o : Option (StepKind × Configuration)) → found ≡ o → onward p o ≡ Some (kind, q)
+        → Led p q found kind
+    by None f h = let bad : false ≡ true = ap is_some h in cc
+    by (Some s) f h =
+        let y : (s.0, made s.0 p) ≡ (kind, q) =
+        ap (λ (o : Option (StepKind × Place)). unwrap_or o (s.0, made s.0 p)) h in
+        let after = d.reaches s.0 s.1 f in
+        record {
+          shown = f
+              ∙ ap (λ (c : Configuration). let step : Option (StepKind × Configuration) =
+              Some (s.0, c) in step) after
+              ∙ ap (λ (x : StepKind × Place). let step : Option (StepKind × Configuration) =
+              Some (x.0, configuration_of x.1) in step) y;
+          tables = sym (ap (λ (x : StepKind × Place). x.1.tables) y);
+          tokens = sym (ap (λ (x : StepKind × Place). x.1.tokens) y);
+        }
 
--- whatever a step answers, the history is one
-pub stays_shown : (r : Result (Unit {0}) StepFault) (h new : Past StepKind Place) → StepsOn place_next h r new → Sound h.now.tables → IsTrue (valid h.now) → ∥ IsShown h ∥₁ → ∥ IsShown new ∥₁
-stays_shown (Ok done) h new steps s v i = ∥∥₁_map i (longer h new steps.0 s v steps.1.1.0 steps.1.1.1)
-stays_shown (Err fault) h new steps s v i = subst (λ (x : Past StepKind Place). ∥ IsShown x ∥₁) (sym steps.1) i
+none_on : (p : Place) (o : Option (StepKind × Configuration)) → onward p o ≡ None → o ≡ None
+none_on p None e = refl
+none_on p (Some s) e = let bad : true ≡ false = ap is_some e in cc
+
+some_on : (p : Place) (o : Option (StepKind × Configuration)) → IsSome (onward p o) → IsSome o
+some_on p None e = e
+some_on p (Some s) e = refl
 
 -- the kind of the newest step, where one was made
-newest : (kind found : StepKind) (now : Place) (earlier all : List (StepKind × Place)) → all ≡ (kind, now) ∷ earlier → option_map (λ (step : StepKind × Place). step.0) (slice_get all 0) ≡ Some found → kind ≡ found
+newest : (kind found : StepKind) (now : Place) (earlier all : List (StepKind × Place))
+    → all ≡ (kind, now) ∷ earlier
+    → option_map (λ (step : StepKind × Place). step.0) (slice_get all 0) ≡ Some found → kind ≡ found
 newest kind found now earlier all e f =
-    let x : Some kind ≡ Some found = ap (λ (l : List (StepKind × Place)). option_map (λ (step : StepKind × Place). step.0) (slice_get l 0)) (sym e) ∙ f in
+    let x : Some kind ≡ Some found =
+    ap (λ (l : List (StepKind × Place)). option_map (λ (step : StepKind × Place). step.0)
+    (slice_get l 0)) (sym e) ∙ f in
     ap (λ (o : Option StepKind). unwrap_or o kind) x
 
--- a step that was made, as the history shows it
-pub step_shown : (h new : Past StepKind Place) (found : StepKind) → StepsOn place_next h (Ok tt) new → Sound h.now.tables → IsTrue (valid h.now) → option_map (λ (step : StepKind × Place). step.0) (slice_get new.earlier 0) ≡ Some found
-    → Steps (next (machine_over h.now.tables)) (shown_past h) (Ok found) (shown_past new)
-step_shown h new found steps s v e =
-    let same = newest steps.0 found h.now h.earlier new.earlier steps.1.1.1 e in
-    let m = machine_over h.now.tables in
-    let moved = follows h.now new.now steps.0 s v steps.1.1.0 in
-    let past : map shown_step new.earlier ≡ (steps.0, configuration_of h.now) ∷ map shown_step h.earlier = ap (map shown_step) steps.1.1.1 in (
-      subst (λ (n : ℕ). n < 1000000) (sym (length-map shown_step h.earlier)) steps.1.0,
-      (
-        moved ∙ ap (λ (k : StepKind). let found : Option (StepKind × Configuration) = Some (k, configuration_of new.now) in found) same,
-        past ∙ ap (λ (k : StepKind). let step : StepKind × Configuration = (k, configuration_of h.now) in step ∷ map shown_step h.earlier) same,
-      ),
-    )
+-- what has the ground of one content has that of another on the same ground
+moved : (p q : Place) (earlier : List (StepKind × Place)) → q.tables ≡ p.tables
+    → q.tokens ≡ p.tokens → All (KeepsGround p) earlier → All (KeepsGround q) earlier
+moved p q earlier e f h = λ k d l. let g = h k d l in (g.0 ∙ sym e, g.1 ∙ sym f)
+
+abbrev Shows : Tables → List ℕ → Place → List (StepKind × Configuration) → Type 0
+Shows t tokens now earlier =
+    LeadsTo (next (machine_over t)) (edited (machine_over t)) (first_configuration tokens)
+    (configuration_of now) earlier
+
+module _ (what : Place → Option (StepKind × Place)) (found : Option (StepKind × Configuration))
+    (h new : Past StepKind Place) (d : Deed h.now what found) where
+  -- from one configuration to the next, over tables and tokens that stay
+  longer : (kind : StepKind) → what h.now ≡ Some (kind, new.now)
+      → new.earlier ≡ (kind, h.now) ∷ h.earlier → IsShown h → IsShown new
+  longer kind f e i =
+      let g = led h.now new.now what found kind d f in
+      let on : Shows h.now.tables h.now.tokens new.now (map shown_step ((kind, h.now) ∷ h.earlier))
+      = (d.comes kind (configuration_of new.now) g.shown, i) in
+      let past : Shows h.now.tables h.now.tokens new.now (map shown_step new.earlier) =
+      subst (λ (l : List (StepKind × Place)). Shows h.now.tables h.now.tokens new.now
+      (map shown_step l)) (sym e) on in
+      let tables : Shows new.now.tables h.now.tokens new.now (map shown_step new.earlier) =
+      subst (λ (t : Tables). Shows t h.now.tokens new.now (map shown_step new.earlier))
+      (sym g.tables) past in
+      subst (λ (l : List ℕ). Shows new.now.tables l new.now (map shown_step new.earlier))
+      (sym g.tokens) tables
+
+  -- whatever is answered, the history is one
+  pub stays_shown : (r : Result (Unit {0}) StepFault) → StepsOn place_next what h r new
+      → ∥ IsShown h ∥₁ → ∥ IsShown new ∥₁
+  stays_shown (Ok done) steps i = ∥∥₁_map i (longer steps.0 steps.1.1.0 steps.1.1.1)
+  stays_shown (Err fault) steps i =
+      subst (λ (x : Past StepKind Place). ∥ IsShown x ∥₁) (sym steps.1) i
+
+  pub stays_ground : (r : Result (Unit {0}) StepFault) → StepsOn place_next what h r new
+      → All (KeepsGround h.now) h.earlier → All (KeepsGround new.now) new.earlier
+  stays_ground (Ok done) steps g =
+      let s = led h.now new.now what found steps.0 d steps.1.1.0 in
+      let step : StepKind × Place = (steps.0, h.now) in
+      subst (All (KeepsGround new.now)) (sym steps.1.1.1)
+      (All-cons (KeepsGround new.now) step h.earlier (
+        sym s.tables,
+        sym s.tokens,
+      ) (moved h.now new.now h.earlier s.tables s.tokens g))
+  stays_ground (Err fault) steps g =
+      subst (λ (x : Past StepKind Place). All (KeepsGround x.now) x.earlier) (sym steps.1) g
+
+  -- what was made, as the history shows it
+  pub deed_shown : (shown : Configuration → Option (StepKind × Configuration))
+      → shown (configuration_of h.now) ≡ found → (kind : StepKind)
+      → StepsOn place_next what h (Ok tt) new
+      → option_map (λ (step : StepKind × Place). step.0) (slice_get new.earlier 0) ≡ Some kind
+      → (after : Past StepKind Place) → after ≡ new
+      → Changes (next (machine_over h.now.tables)) shown (shown_past h) (Ok kind)
+      (shown_past after)
+  deed_shown shown f kind steps e after a =
+      let same = newest steps.0 kind h.now h.earlier new.earlier steps.1.1.1 e in
+      let g = led h.now new.now what found steps.0 d steps.1.1.0 in
+      let past : map shown_step new.earlier
+      ≡ (steps.0, configuration_of h.now) ∷ map shown_step h.earlier =
+      ap (map shown_step) steps.1.1.1 in
+      subst (λ (x : Past StepKind Place). Changes (next (machine_over h.now.tables)) shown
+      (shown_past h) (Ok kind) (shown_past x)) (sym a) (
+        subst (λ (n : ℕ). n < 1000000) (sym (length-map shown_step h.earlier)) steps.1.0,
+        (
+          f ∙ g.shown ∙ ap (λ (k : StepKind). let step : Option (StepKind × Configuration) =
+              Some (k, configuration_of new.now) in step) same,
+          past ∙ ap (λ (k : StepKind). let step : StepKind × Configuration =
+              (k, configuration_of h.now) in step ∷ map shown_step h.earlier) same,
+        ),
+      )
+
+  -- what is refused, as the history shows it
+  pub refusal_shown : (shown : Configuration → Option (StepKind × Configuration))
+      → shown (configuration_of h.now) ≡ found → (fault : StepFault)
+      → StepsOn place_next what h (Err fault) new
+      → Changes (next (machine_over h.now.tables)) shown (shown_past h) (Err fault) (shown_past new)
+  refusal_shown shown f Halted steps = (
+    none_on h.now (next (machine_over h.now.tables) (configuration_of h.now)) steps.0,
+    ap shown_past steps.1,
+  )
+  refusal_shown shown f NoToken steps = (
+    (
+      some_on h.now (next (machine_over h.now.tables) (configuration_of h.now)) steps.0.0,
+      f ∙ none_on h.now found (sym d.is ∙ steps.0.1),
+    ),
+    ap shown_past steps.1,
+  )
+  refusal_shown shown f Limit steps = (
+    (
+      subst IsSome (sym f) (some_on h.now found (subst IsSome d.is steps.0.0)),
+      subst (λ (n : ℕ). 1000000 ≤ n) (sym (length-map shown_step h.earlier)) steps.0.1,
+    ),
+    ap shown_past steps.1,
+  )
+  refusal_shown shown f Memory steps = (
+    (
+      subst IsSome (sym f) (some_on h.now found (subst IsSome d.is steps.0.0)),
+      subst (λ (n : ℕ). n < 1000000) (sym (length-map shown_step h.earlier)) steps.0.1,
+    ),
+    ap shown_past steps.1,
+  )
+
+  -- what was made and taken back has changed nothing
+  pub undone_deed : (after : Past StepKind Place) → StepsOn place_next what h (Ok tt) new
+      → StepsBack {E = AtStart} new (Ok tt) after → after ≡ h
+  undone_deed after steps back =
+      let e : (back.0, after.now) ∷ after.earlier ≡ (steps.0, h.now) ∷ h.earlier =
+      sym back.1 ∙ steps.1.1.1 in
+      let first : (back.0, after.now) ≡ (steps.0, h.now) =
+      ap (λ (l : List (StepKind × Place)). unwrap_or (slice_get l 0) (back.0, after.now)) e in
+      let past : after.earlier ≡ h.earlier = ap (drop 1) e in
+      ap (λ (n : Place). let p : Past StepKind Place =
+      record { now = n; earlier = after.earlier } in
+      p) (ap (λ (x : StepKind × Place). x.1) first)
+      ∙ ap (λ (l : List (StepKind × Place)). let p : Past StepKind Place =
+      record { now = h.now; earlier = l } in p) past
+
+  -- what was made stands, or was taken back
+  pub settled : (o : Option StepKind) (after : Past StepKind Place) → IfSome o (λ kind. after ≡ new)
+      → (is_some o ≡ false → StepsBack {E = AtStart} new (Ok tt) after)
+      → StepsOn place_next what h (Ok tt) new → ∥ IsShown h ∥₁ → All (KeepsGround h.now) h.earlier
+      → (∥ IsShown after ∥₁) × All (KeepsGround after.now) after.earlier
+  settled (Some kind) after e back steps i g = (
+    subst (λ (x : Past StepKind Place). ∥ IsShown x ∥₁) (sym e) (stays_shown (Ok tt) steps i),
+    subst (λ (x : Past StepKind Place). All (KeepsGround x.now) x.earlier) (sym e)
+        (stays_ground (Ok tt) steps g),
+  )
+  settled None after e back steps i g =
+      let same = undone_deed after steps (back refl) in (
+        subst (λ (x : Past StepKind Place). ∥ IsShown x ∥₁) (sym same) i,
+        subst (λ (x : Past StepKind Place). All (KeepsGround x.now) x.earlier) (sym same) g,
+      )
+
+  -- a growth was refused to what was made and taken back
+  pub wanting : (shown : Configuration → Option (StepKind × Configuration))
+      → shown (configuration_of h.now) ≡ found → (after : Past StepKind Place)
+      → StepsOn place_next what h (Ok tt) new → StepsBack {E = AtStart} new (Ok tt) after
+      → Changes (next (machine_over h.now.tables)) shown (shown_past h) (Err Memory)
+      (shown_past after)
+  wanting shown f after steps back =
+      let g = led h.now new.now what found steps.0 d steps.1.1.0 in (
+        (
+          subst IsSome (sym f) (ap is_some g.shown),
+          subst (λ (n : ℕ). n < 1000000) (sym (length-map shown_step h.earlier)) steps.1.0,
+        ),
+        ap shown_past (undone_deed after steps back),
+      )
+
+-- what an undo gives back
+pub ground_before : (h : Past StepKind Place) (kind : StepKind) (before : Place)
+    (earlier : List (StepKind × Place)) → h.earlier ≡ (kind, before) ∷ earlier
+    → All (KeepsGround h.now) h.earlier → KeepsGround h.now (kind, before)
+ground_before h kind before earlier e g =
+    (subst (All (KeepsGround h.now)) e g) 0 (kind, before) (omega arith)
+
+pub shorter_ground : {E : Type 0} (r : Result (Unit {0}) E) (h new : Past StepKind Place)
+    → StepsBack h r new → All (KeepsGround h.now) h.earlier → All (KeepsGround new.now) new.earlier
+shorter_ground (Ok done) h new back g =
+    let s = ground_before h back.0 new.now new.earlier back.1 g in
+    let all = subst (All (KeepsGround h.now)) back.1 g in
+    moved h.now new.now new.earlier s.0 s.1 (λ k d l. all (suc k) d (omega (arith, l)))
+shorter_ground (Err e) h new back g =
+    subst (λ (x : Past StepKind Place). All (KeepsGround x.now) x.earlier) (sym back.1) g
 
 -- ---- back
 
--- each content before the one now has its tables and tokens
-abbrev SameGround : Place → List (StepKind × Place) → Type 0
-SameGround p [] = Unit {0}
-SameGround p (step ∷ earlier) = (step.1.tables ≡ p.tables) × (step.1.tokens ≡ p.tokens) × SameGround p earlier
-
-grounds : (p now : Place) (changes : List PlaceChange) → now.tables ≡ p.tables → now.tokens ≡ p.tokens → SameGround p (states_from place_before (λ (c : PlaceChange). c.kind) now changes)
-grounds p now [] e f = tt
-grounds p now (change ∷ changes) e f = (e, f, grounds p (place_before change now) changes e f)
-
-pub ground_before : (now : Place) (changes : List PlaceChange) (kind : StepKind) (before : Place) (earlier : List (StepKind × Place)) → (past_in now changes).earlier ≡ (kind, before) ∷ earlier → (before.tables ≡ now.tables) × (before.tokens ≡ now.tokens)
-ground_before now changes kind before earlier e =
-    let g = subst (SameGround now) e (grounds now now (reverse changes) refl refl) in
-    (g.0, g.1)
-
 -- whatever an undo answers, the history is one
-pub shorter : {E : Type 0} (r : Result (Unit {0}) E) (now : Place) (changes : List PlaceChange) (new : Past StepKind Place) → StepsBack (past_in now changes) r new → ∥ IsShown (past_in now changes) ∥₁ → ∥ IsShown new ∥₁
-shorter (Ok done) now changes new back i =
-    let g = ground_before now changes back.0 new.now new.earlier back.1 in
-    ∥∥₁_map i (λ (h : IsShown (past_in now changes)).
-    let led = (subst (λ (l : List (StepKind × Place)). LeadsTo (next (machine_over now.tables)) (first_configuration now.tokens) (configuration_of now) (map shown_step l)) back.1 h).1 in
-    let tables : LeadsTo (next (machine_over new.now.tables)) (first_configuration now.tokens) (configuration_of new.now) (map shown_step new.earlier) =
-    subst (λ (t : Tables). LeadsTo (next (machine_over t)) (first_configuration now.tokens) (configuration_of new.now) (map shown_step new.earlier)) (sym g.0) led in
-    subst (λ (l : List ℕ). LeadsTo (next (machine_over new.now.tables)) (first_configuration l) (configuration_of new.now) (map shown_step new.earlier)) (sym g.1) tables)
-shorter (Err e) now changes new back i = subst (λ (x : Past StepKind Place). ∥ IsShown x ∥₁) (sym back.1) i
+pub shorter : {E : Type 0} (r : Result (Unit {0}) E) (h new : Past StepKind Place)
+    → StepsBack h r new → All (KeepsGround h.now) h.earlier → ∥ IsShown h ∥₁ → ∥ IsShown new ∥₁
+shorter (Ok done) h new back g i =
+    let s = ground_before h back.0 new.now new.earlier back.1 g in
+    ∥∥₁_map i (λ (shown : IsShown h).
+    let led = (subst (λ (l : List (StepKind × Place)). LeadsTo (next (machine_over h.now.tables))
+    (edited (machine_over h.now.tables)) (first_configuration h.now.tokens)
+    (configuration_of h.now) (map shown_step l)) back.1 shown).1 in
+    let tables : LeadsTo (next (machine_over new.now.tables)) (edited (machine_over new.now.tables))
+    (first_configuration h.now.tokens) (configuration_of new.now) (map shown_step new.earlier) =
+    subst (λ (t : Tables). LeadsTo (next (machine_over t)) (edited (machine_over t))
+    (first_configuration h.now.tokens) (configuration_of new.now) (map shown_step new.earlier))
+    (sym s.0) led in
+    subst (λ (l : List ℕ). LeadsTo (next (machine_over new.now.tables))
+    (edited (machine_over new.now.tables)) (first_configuration l) (configuration_of new.now)
+    (map shown_step new.earlier)) (sym s.1) tables)
+shorter (Err e) h new back g i = subst (λ (x : Past StepKind Place). ∥ IsShown x ∥₁) (sym back.1) i
+
+-- whatever an undo answers, there is room
+pub shorter_room : {E : Type 0} (r : Result (Unit {0}) E) (h new : Past StepKind Place)
+    → StepsBack h r new → (later : Vec ℕ Global)
+    → vec_len later + length h.earlier ≤ vec_capacity later
+    → vec_len later + length new.earlier ≤ vec_capacity later
+shorter_room (Ok done) h new back later r = let l = ap length back.1 in omega (arith, l, r)
+shorter_room (Err e) h new back later r =
+    subst (λ (x : Past StepKind Place). vec_len later + length x.earlier ≤ vec_capacity later)
+    (sym back.1) r
 
 -- no newest step, no step
-pub no_step : (earlier : List (StepKind × Place)) → option_map (λ (step : StepKind × Place). step.0) (slice_get earlier 0) ≡ None → map shown_step earlier ≡ []
+pub no_step : (earlier : List (StepKind × Place))
+    → option_map (λ (step : StepKind × Place). step.0) (slice_get earlier 0) ≡ None
+    → map shown_step earlier ≡ []
 no_step [] e = refl
 no_step (step ∷ earlier) e = let bad : true ≡ false = ap is_some e in cc

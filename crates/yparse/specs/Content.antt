@@ -1,5 +1,8 @@
--- What a parse that works in place holds, as flat lists; what its steps make of it, and what was before them.
-use Rattle.std.specs.Prelude.{ℕ, suc, ◌+◌, ◌-◌, ◌==◌, nat_lt, nat_le, Bool, true, false, ◌&&◌, List, [], ◌∷◌, ◌++◌, length, take, drop, map, Option, Some, None, slice_index_or, unwrap_or, if◌then◌else◌}
+-- What a parse that works in place holds, as flat lists; what its steps make of it, and what was
+-- before them.
+use Rattle.std.specs.Prelude.{ℕ, suc, ◌+◌, ◌-◌, ◌==◌, nat_lt, nat_le, Bool, true, false, ◌&&◌, List}
+use Rattle.std.specs.Prelude.{[], ◌∷◌, ◌++◌, length, take, drop, map, Option, Some, None}
+use Rattle.std.specs.Prelude.{slice_index_or, unwrap_or, if◌then◌else◌}
 use Prim.Native.Nat.{zero}
 use Rattle.std.specs.Option.{option_map}
 use Rattle.ygrammar.specs.Grammar.{error_token}
@@ -8,6 +11,8 @@ use Rattle.ytables.specs.declared.cell.Action.{Action}
 use Rattle.ytables.specs.declared.cell.Action.TheVariants as actions
 use Rattle.yparse.specs.declared.machine.Mode.{Mode}
 use Rattle.yparse.specs.declared.machine.Mode.TheVariants.{Running, Popping, Accepted, Failed}
+use Rattle.yparse.specs.declared.machine.Edit.{Edit}
+use Rattle.yparse.specs.declared.machine.Edit.TheVariants as edits
 use Rattle.yparse.specs.declared.machine.StepKind.{StepKind}
 use Rattle.yparse.specs.declared.machine.StepKind.TheVariants as kinds
 use Rattle.yparse.specs.declared.parts.StackEntry.{StackEntry}
@@ -16,17 +21,19 @@ use Rattle.yparse.specs.declared.parts.Node.TheVariants as nodes
 use Rattle.yparse.specs.declared.parts.PlaceChange.{PlaceChange}
 use Rattle.yparse.specs.Tree.{Tree, leaf, error_leaf, node, trees_of}
 use Rattle.yparse.specs.Machine.{Configuration, Entry, entry_of, without_last, last_ones, next}
-use Rattle.yparse.specs.History.{places_from}
-use Rattle.yparse.specs.Tables.{goto_at, cell_at, rule_of}
+use Rattle.yparse.specs.Machine.{edited}
+use Rattle.yparse.specs.Rest.{Rest, rest_left, ahead, is_left, place_left, taken, given_back}
+use Rattle.yparse.specs.Rest.{inserted_in, uninserted, first_rest}
+use Rattle.yparse.specs.Tables.{goto_at, cell_at, rule_of, is_input, token_count}
 use Rattle.yparse.specs.MachineOver.{machine_over}
 
--- the stack from the bottom, the nodes, the entries that became children, the tokens read, the counter, the errors
--- reported, the mode, and the steps that stand
+-- the stack from the bottom, the nodes, the entries that became children, the tokens left, the
+-- counter, the errors reported, the mode, and the steps that stand
 pub record Content : Type 0 where
   pub stack : List StackEntry
   pub nodes : List Node
   pub children : List StackEntry
-  pub at : ℕ
+  pub rest : Rest
   pub counter : ℕ
   pub errors : ℕ
   pub mode : Mode
@@ -60,7 +67,10 @@ lead t state symbol = unwrap_or (goto_at t state symbol) 0
 
 -- an entry with a node of its own goes on top
 abbrev pub grown : Content → ℕ → ℕ → Node → Content
-grown c state symbol n = record c { stack = c.stack ++ entry state symbol (length c.nodes) ∷ []; nodes = c.nodes ++ n ∷ [] }
+grown c state symbol n = record c {
+  stack = c.stack ++ entry state symbol (length c.nodes) ∷ [];
+  nodes = c.nodes ++ n ∷ [];
+}
 
 -- the entries on top become the children of a new one
 abbrev pub reduced : Content → ℕ → ℕ → ℕ → ℕ → Content
@@ -72,18 +82,31 @@ reduced c state left rule width = record c {
 
 -- an error is reported where the counter is 0
 abbrev pub detected : Content → Content
-detected c = record c { counter = 3; errors = (if c.counter == 0 then c.errors + 1 else c.errors); mode = Popping }
+detected c = record c {
+  counter = 3;
+  errors = (if c.counter == 0 then c.errors + 1 else c.errors);
+  mode = Popping;
+}
 
 -- what a step of a kind makes of a content
 abbrev pub made_of : Tables → StepKind → Content → Content
-made_of t (kinds.Shift token) c = record (grown c (lead t (top_state c.stack) token) token (nodes.Leaf token (c.at + 1))) { at = c.at + 1; counter = c.counter - 1 }
-made_of t (kinds.Reduce rule) c = reduced c (lead t (top_state (without_last (width_of t rule) c.stack)) (rule_of t rule).left) (rule_of t rule).left rule (width_of t rule)
+made_of t (kinds.Shift token) c =
+    record (grown c (lead t (top_state c.stack) token) token (nodes.Leaf token (place_left c.rest)))
+    { rest = taken c.rest; counter = c.counter - 1 }
+made_of t (kinds.Reduce rule) c =
+    reduced c (lead t (top_state (without_last (width_of t rule) c.stack)) (rule_of t rule).left)
+    (rule_of t rule).left rule (width_of t rule)
 made_of t kinds.Accept c = record c { mode = Accepted }
 made_of t kinds.Detect c = detected c
 made_of t (kinds.Pop symbol) c = record c { stack = without_last 1 c.stack }
-made_of t kinds.ShiftError c = record (grown c (lead t (top_state c.stack) error_token) error_token nodes.ErrorLeaf) { mode = Running }
-made_of t (kinds.Discard token) c = record c { at = c.at + 1 }
+made_of t kinds.ShiftError c =
+    record (grown c (lead t (top_state c.stack) error_token) error_token nodes.ErrorLeaf) {
+      mode = Running;
+    }
+made_of t (kinds.Discard token) c = record c { rest = taken c.rest }
 made_of t kinds.Fail c = record c { mode = Failed }
+made_of t (kinds.Insert token) c = record c { rest = inserted_in token c.rest }
+made_of t (kinds.Drop token) c = record c { rest = taken c.rest }
 
 abbrev pub one_step : Content → Content
 one_step c = record c { steps = c.steps + 1 }
@@ -97,36 +120,50 @@ ungrown c = record c { stack = without_last 1 c.stack; nodes = without_last 1 c.
 
 -- the entry on top becomes as many of the last children
 abbrev pub unreduced : Content → ℕ → Content
-unreduced c width = record c { stack = without_last 1 c.stack ++ last_ones width c.children; nodes = without_last 1 c.nodes; children = without_last width c.children }
+unreduced c width = record c {
+  stack = without_last 1 c.stack ++ last_ones width c.children;
+  nodes = without_last 1 c.nodes;
+  children = without_last width c.children;
+}
 
 -- what a change was made of, but for the counter, the mode and the steps
 abbrev pub unmade : Tables → PlaceChange → StepKind → Content → Content
-unmade t change (kinds.Shift token) c = record (ungrown c) { at = c.at - 1 }
+unmade t change (kinds.Shift token) c =
+    record (ungrown c) { rest = given_back change.place token c.rest }
 unmade t change (kinds.Reduce rule) c = unreduced c (width_of t rule)
 unmade t change kinds.Accept c = c
-unmade t change kinds.Detect c = record c { errors = (if change.counter == 0 then c.errors - 1 else c.errors) }
-unmade t change (kinds.Pop symbol) c = record c { stack = c.stack ++ entry change.state symbol change.node ∷ [] }
+unmade t change kinds.Detect c =
+    record c { errors = (if change.counter == 0 then c.errors - 1 else c.errors) }
+unmade t change (kinds.Pop symbol) c =
+    record c { stack = c.stack ++ entry change.state symbol change.node ∷ [] }
 unmade t change kinds.ShiftError c = ungrown c
-unmade t change (kinds.Discard token) c = record c { at = c.at - 1 }
+unmade t change (kinds.Discard token) c = record c { rest = given_back change.place token c.rest }
 unmade t change kinds.Fail c = c
+unmade t change (kinds.Insert token) c = record c { rest = uninserted c.rest }
+unmade t change (kinds.Drop token) c = record c { rest = given_back change.place token c.rest }
 
 abbrev pub one_back : PlaceChange → Content → Content
 one_back change c = record c { counter = change.counter; mode = change.mode; steps = c.steps - 1 }
 
 -- what was before a change
 abbrev pub place_before : PlaceChange → Place → Place
-place_before change p = record p { content = one_back change (unmade p.tables change change.kind p.content) }
+place_before change p = record p {
+  content = one_back change (unmade p.tables change change.kind p.content);
+}
 
 -- the tree of a node, where those of the nodes before it are known
 abbrev pub tree_over : List StackEntry → List Tree → Node → Tree
 tree_over children trees (nodes.Leaf token place) = leaf token place
 tree_over children trees nodes.ErrorLeaf = error_leaf
-tree_over children trees (nodes.Rule rule from count) = node rule (trees_of (map (λ (e : StackEntry). slice_index_or trees e.node error_leaf) (take count (drop from children))))
+tree_over children trees (nodes.Rule rule from count) =
+    node rule (trees_of (map (λ (e : StackEntry). slice_index_or trees e.node error_leaf)
+    (take count (drop from children))))
 
 -- the trees of all nodes
 abbrev pub trees_from : List StackEntry → List Tree → List Node → List Tree
 trees_from children trees [] = trees
-trees_from children trees (n ∷ ns) = trees_from children (trees ++ tree_over children trees n ∷ []) ns
+trees_from children trees (n ∷ ns) =
+    trees_from children (trees ++ tree_over children trees n ∷ []) ns
 
 abbrev pub trees_over : List StackEntry → List Node → List Tree
 trees_over children ns = trees_from children [] ns
@@ -139,7 +176,7 @@ abbrev pub shown_entry : List Tree → StackEntry → Entry
 shown_entry trees e = entry_of e.symbol (node_tree trees e)
 
 abbrev pub rest_of : List ℕ → Content → List (ℕ × ℕ)
-rest_of tokens c = drop c.at (places_from 1 tokens)
+rest_of tokens c = rest_left tokens c.rest
 
 -- the configuration that a content shows, over the tokens first read
 abbrev pub configuration_in : List ℕ → Content → Configuration
@@ -156,18 +193,24 @@ configuration_of p = configuration_in p.tokens p.content
 
 -- the next step is that of the machine, and leaves what a step of its kind makes
 abbrev pub place_next : Place → Option (StepKind × Place)
-place_next p = option_map (λ (step : StepKind × Configuration). (step.0, made step.0 p)) (next (machine_over p.tables) (configuration_of p))
+place_next p =
+    option_map (λ (step : StepKind × Configuration). (step.0, made step.0 p))
+    (next (machine_over p.tables) (configuration_of p))
 
--- the token ahead, or the end
-abbrev pub ahead : List ℕ → ℕ → ℕ
-ahead tokens at = slice_index_or tokens at 0
+-- an edit is that of the machine, and leaves what its kind makes
+abbrev pub place_edited : Edit → Place → Option (StepKind × Place)
+place_edited edit p =
+    option_map (λ (step : StepKind × Configuration). (step.0, made step.0 p))
+    (edited (machine_over p.tables) edit (configuration_of p))
 
--- the kind of the step from a running content, by the cell, the token ahead, the counter, and whether a token is left
+-- the kind of the step from a running content, by the cell, the token ahead, the counter, and
+-- whether a token is left
 abbrev pub kind_running : Action → ℕ → ℕ → Bool → StepKind
 kind_running (actions.Shift q) token counter left = kinds.Shift token
 kind_running (actions.Reduce rule) token counter left = kinds.Reduce rule
 kind_running actions.Accept token counter left = kinds.Accept
-kind_running actions.Error token counter left = if counter == 3 then (if left then kinds.Discard token else kinds.Fail) else kinds.Detect
+kind_running actions.Error token counter left =
+    if counter == 3 then (if left then kinds.Discard token else kinds.Fail) else kinds.Detect
 
 abbrev pub is_shift : Action → Bool
 is_shift (actions.Shift q) = true
@@ -177,14 +220,25 @@ abbrev pub top_of : List StackEntry → StackEntry
 top_of stack = slice_index_or stack (length stack - 1) (entry 0 0 0)
 
 abbrev pub kind_popping : Action → List StackEntry → StepKind
-kind_popping a stack = if is_shift a then kinds.ShiftError else (if length stack == 0 then kinds.Fail else kinds.Pop (top_of stack).symbol)
+kind_popping a stack =
+    if is_shift a then kinds.ShiftError
+    else (if length stack == 0 then kinds.Fail else kinds.Pop (top_of stack).symbol)
 
 -- the same by the tables, in a state
 abbrev pub running_at : Tables → List ℕ → Content → ℕ → StepKind
-running_at t tokens c q = kind_running (cell_at t q (ahead tokens c.at)) (ahead tokens c.at) c.counter (nat_lt c.at (length tokens))
+running_at t tokens c q =
+    kind_running (cell_at t q (ahead tokens c.rest)) (ahead tokens c.rest) c.counter
+    (is_left tokens c.rest)
 
 abbrev pub popping_at : Tables → Content → ℕ → StepKind
 popping_at t c q = kind_popping (cell_at t q error_token) c.stack
+
+-- the kind of an edit, where it can be made
+abbrev pub edit_kind : Tables → List ℕ → Content → Edit → Option StepKind
+edit_kind t tokens c (edits.Insert token) =
+    if is_input (token_count t.built.grammar) token then Some (kinds.Insert token) else None
+edit_kind t tokens c edits.Drop =
+    if is_left tokens c.rest then Some (kinds.Drop (ahead tokens c.rest)) else None
 
 -- the kind of the next step, by the state on top
 abbrev pub kind_in : Tables → List ℕ → Content → Mode → Option StepKind
@@ -211,7 +265,8 @@ all_below n (e ∷ es) = nat_lt e.node n && all_below n es
 abbrev pub node_fits : List StackEntry → ℕ → Node → Bool
 node_fits children i (nodes.Leaf token place) = true
 node_fits children i nodes.ErrorLeaf = true
-node_fits children i (nodes.Rule rule from count) = nat_le (from + count) (length children) && all_below i (take count (drop from children))
+node_fits children i (nodes.Rule rule from count) =
+    nat_le (from + count) (length children) && all_below i (take count (drop from children))
 
 abbrev pub nodes_fit : List StackEntry → ℕ → List Node → Bool
 nodes_fit children i [] = true
@@ -219,7 +274,13 @@ nodes_fit children i (n ∷ ns) = node_fits children i n && nodes_fit children (
 
 -- whether there are no more nodes than steps, and no more entries and children together than nodes
 abbrev pub counts_fit : Content → Bool
-counts_fit c = nat_le (length c.nodes) c.steps && nat_le (length c.stack + length c.children) (length c.nodes)
+counts_fit c = nat_le (length c.nodes) c.steps
+    && nat_le (length c.stack + length c.children) (length c.nodes)
+
+-- whether no more inserted tokens are left than insertions stand, and no more tokens were taken
+-- than were read
+abbrev pub rest_fits : List ℕ → Rest → Bool
+rest_fits tokens r = nat_le (length r.inserted) r.edits && nat_le r.at (length tokens)
 
 abbrev pub valid : Place → Bool
 valid p =
@@ -227,7 +288,7 @@ valid p =
     && (all_below (length p.content.nodes) p.content.stack
     && (nodes_fit p.content.children 0 p.content.nodes
     && (counts_fit p.content
-    && (nat_le p.content.errors p.content.steps && nat_le p.content.at (length p.tokens)))))
+    && (nat_le p.content.errors p.content.steps && rest_fits p.tokens p.content.rest))))
 
 -- whether a change can be taken back: what was before it is a content of a parse
 abbrev pub place_fits : PlaceChange → Place → Bool
@@ -235,7 +296,14 @@ place_fits change p = valid (place_before change p)
 
 -- the change of a step of this kind
 abbrev pub change_at : StepKind → Content → PlaceChange
-change_at kind c = record { kind = kind; counter = c.counter; mode = c.mode; state = (top_of c.stack).state; node = (top_of c.stack).node }
+change_at kind c = record {
+  kind = kind;
+  counter = c.counter;
+  mode = c.mode;
+  state = (top_of c.stack).state;
+  node = (top_of c.stack).node;
+  place = place_left c.rest;
+}
 
 -- how many entries become children at a step of this kind
 abbrev pub taken_by : Tables → StepKind → ℕ
@@ -247,10 +315,21 @@ taken_by t (kinds.Pop symbol) = 0
 taken_by t kinds.ShiftError = 0
 taken_by t (kinds.Discard token) = 0
 taken_by t kinds.Fail = 0
+taken_by t (kinds.Insert token) = 0
+taken_by t (kinds.Drop token) = 0
 
 -- nothing was read yet
 abbrev pub first_content : Content
-first_content = record { stack = []; nodes = []; children = []; at = 0; counter = 0; errors = 0; mode = Running; steps = 0 }
+first_content = record {
+  stack = [];
+  nodes = [];
+  children = [];
+  rest = first_rest;
+  counter = 0;
+  errors = 0;
+  mode = Running;
+  steps = 0;
+}
 
 abbrev pub first_place : Tables → List ℕ → Place
 first_place t tokens = record { tables = t; tokens = tokens; content = first_content }

@@ -8,13 +8,16 @@ pub mod MachineOver
 pub mod Cells
 pub mod Sound
 pub mod Rightmost
+pub mod Rest
 pub mod Reversible
 pub mod Tokens
 pub mod TokensFile
 pub mod Reading
+pub mod Spelling
 pub mod Content
 pub mod Parts
 pub mod Place
+pub mod Snapshot
 pub mod Shown
 pub mod Session
 pub mod View

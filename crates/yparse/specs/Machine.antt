@@ -1,11 +1,15 @@
--- The machine of a parse: its configurations and its steps (Aho, Sethi and Ullman, 4.7, the LR parsing algorithm, and 4.8,
--- error recovery; POSIX yacc, "Error Handling").
-use Rattle.std.specs.Prelude.{ℕ, ◌+◌, ◌-◌, ◌==◌, List, [], ◌∷◌, ◌++◌, length, take, drop, map, reverse, Option, Some, None, if◌then◌else◌}
+-- The machine of a parse: its configurations and its steps (Aho, Sethi and Ullman, 4.7, the LR
+-- parsing algorithm, and 4.8, error recovery; POSIX yacc, "Error Handling").
+use Rattle.std.specs.Prelude.{ℕ, ◌+◌, ◌-◌, ◌==◌, List, [], ◌∷◌, ◌++◌, length, take, drop, map}
+use Rattle.std.specs.Prelude.{reverse, Option, Some, None, if◌then◌else◌}
 use Rattle.yparse.specs.declared.machine.Mode.{Mode}
 use Rattle.yparse.specs.declared.machine.Mode.TheVariants.{Running, Popping, Accepted, Failed}
+use Rattle.yparse.specs.declared.machine.Edit.{Edit}
+use Rattle.yparse.specs.declared.machine.Edit.TheVariants as edits
 use Rattle.yparse.specs.declared.machine.StepKind.{StepKind}
 use Rattle.yparse.specs.declared.machine.StepKind.TheVariants as kinds
 use Rattle.ygrammar.specs.Grammar.{Production, error_token}
+use Rattle.yparse.specs.Tables.{is_input}
 use Rattle.yparse.specs.Tree.{Tree, leaf, error_leaf, node, trees_of}
 
 -- what a cell says
@@ -15,18 +19,22 @@ pub data Move : Type 0 where
   Accept : Move
   Error : Move
 
--- what a parse goes by: the cell of a stack's symbols and a token, the rules, and the names
+-- what a parse goes by: the cell of a stack's symbols and a token, the rules, the names, the symbol
+-- of a name, and how many tokens there are, which have the lowest numbers
 pub record Machine : Type 0 where
   pub cell : List ℕ → ℕ → Move
   pub rule : ℕ → Production
   pub name : ℕ → List ℕ
+  pub find : List ℕ → Option ℕ
+  pub tokens : ℕ
 
 -- a symbol of the stack, and its tree
 pub record Entry : Type 0 where
   pub symbol : ℕ
   pub tree : Tree
 
--- the stack from the bottom, the tokens left with their places, the recovery counter, the errors reported, the mode
+-- the stack from the bottom, the tokens left with their places, the recovery counter, the errors
+-- reported, the mode
 pub record Configuration : Type 0 where
   pub stack : List Entry
   pub rest : List (ℕ × ℕ)
@@ -63,8 +71,14 @@ failed c = (kinds.Fail, record c { mode = Failed })
 -- the first token left goes to the stack, and the counter falls by one, not below 0
 abbrev pub shifted : Configuration → List (ℕ × ℕ) → StepKind × Configuration
 shifted c [] = failed c
-shifted c (token ∷ rest) =
-    (kinds.Shift token.0, record c { stack = c.stack ++ entry_of token.0 (leaf token.0 token.1) ∷ []; rest = rest; counter = c.counter - 1 })
+shifted c (token ∷ rest) = (
+  kinds.Shift token.0,
+  record c {
+    stack = c.stack ++ entry_of token.0 (leaf token.0 token.1) ∷ [];
+    rest = rest;
+    counter = c.counter - 1;
+  },
+)
 
 -- the left side takes the place of the body, whose trees are its children
 abbrev pub reduced : Machine → Configuration → ℕ → StepKind × Configuration
@@ -72,7 +86,8 @@ reduced m c r = (
   kinds.Reduce r,
   record c {
     stack = without_last (width m r) c.stack
-        ++ entry_of (m.rule r).left (node r (trees_of (map (λ (e : Entry). e.tree) (last_ones (width m r) c.stack)))) ∷ [];
+        ++ entry_of (m.rule r).left
+        (node r (trees_of (map (λ (e : Entry). e.tree) (last_ones (width m r) c.stack)))) ∷ [];
   },
 )
 
@@ -83,9 +98,17 @@ discarded c (token ∷ rest) = (kinds.Discard token.0, record c { rest = rest })
 
 -- an error is reported where the counter is 0
 abbrev pub detected : Configuration → StepKind × Configuration
-detected c = (kinds.Detect, record c { counter = 3; errors = (if c.counter == 0 then c.errors + 1 else c.errors); mode = Popping })
+detected c = (
+  kinds.Detect,
+  record c {
+    counter = 3;
+    errors = (if c.counter == 0 then c.errors + 1 else c.errors);
+    mode = Popping;
+  },
+)
 
--- an error: where no token was shifted since the last one a token is discarded, else the error is detected
+-- an error: where no token was shifted since the last one a token is discarded, else the error is
+-- detected
 abbrev pub erred : Configuration → StepKind × Configuration
 erred c = if c.counter == 3 then discarded c c.rest else detected c
 
@@ -96,14 +119,18 @@ step_by m c (Reduce r) = reduced m c r
 step_by m c Accept = (kinds.Accept, record c { mode = Accepted })
 step_by m c Error = erred c
 
--- the entry on top is dropped; from an empty stack the parse gives up. The list is the stack, the top first.
+-- the entry on top is dropped; from an empty stack the parse gives up. The list is the stack, the
+-- top first.
 abbrev pub popped : Configuration → List Entry → StepKind × Configuration
 popped c [] = failed c
 popped c (top ∷ below) = (kinds.Pop top.symbol, record c { stack = reverse below })
 
 -- `error` goes to the stack
 abbrev pub error_shifted : Configuration → StepKind × Configuration
-error_shifted c = (kinds.ShiftError, record c { stack = c.stack ++ entry_of error_token error_leaf ∷ []; mode = Running })
+error_shifted c = (
+  kinds.ShiftError,
+  record c { stack = c.stack ++ entry_of error_token error_leaf ∷ []; mode = Running },
+)
 
 -- the step of recovery, by what the cell of `error` says
 abbrev pub recover_by : Configuration → Move → StepKind × Configuration
@@ -122,3 +149,24 @@ next_in m c Failed = None
 -- the kind of the step from a configuration and what the step leaves, where there is one
 unfoldable pub next : Machine → Configuration → Option (StepKind × Configuration)
 next m c = next_in m c c.mode
+
+-- what an edit makes of the tokens left: an input token comes first, which has no place in the
+-- file, or the first one goes
+abbrev pub edited_rest : Machine → Edit → Configuration → List (ℕ × ℕ)
+    → Option (StepKind × Configuration)
+edited_rest m (edits.Insert token) c rest =
+    if is_input m.tokens token then Some (kinds.Insert token, record c { rest = (token, 0) ∷ rest })
+    else None
+edited_rest m edits.Drop c [] = None
+edited_rest m edits.Drop c (token ∷ rest) = Some (kinds.Drop token.0, record c { rest = rest })
+
+-- while the parse goes on
+abbrev pub edited_in : Machine → Edit → Configuration → Mode → Option (StepKind × Configuration)
+edited_in m edit c Running = edited_rest m edit c c.rest
+edited_in m edit c Popping = edited_rest m edit c c.rest
+edited_in m edit c Accepted = None
+edited_in m edit c Failed = None
+
+-- the kind of an edit of the tokens left and what it leaves, where it can be made
+unfoldable pub edited : Machine → Edit → Configuration → Option (StepKind × Configuration)
+edited m edit c = edited_in m edit c c.mode

@@ -3,7 +3,7 @@ use Rattle.ytables.specs.declared.cell.Action.{Action}
 use Rattle.ytables.specs.declared.cell.Action.TheVariants as actions
 use Rattle.ytables.specs.Tables.{TablesValue as Tables}
 use Rattle.yparse.specs.Machine.{Machine, Move, Shift, Reduce, Accept, Error}
-use Rattle.yparse.specs.Tables.{name_of, rule_of, state_after, cell_in}
+use Rattle.yparse.specs.Tables.{name_of, symbol_named, token_count, rule_of, state_after, cell_in}
 
 -- an action without its state number
 abbrev pub move_of : Action → Move
@@ -18,4 +18,6 @@ machine_over t = record {
   cell = λ stack token. move_of (cell_in t (state_after t stack) token);
   rule = λ r. rule_of t r;
   name = λ symbol. name_of t.built.grammar symbol;
+  find = λ name. symbol_named t.built.grammar name;
+  tokens = token_count t.built.grammar;
 }

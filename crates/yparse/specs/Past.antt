@@ -1,8 +1,9 @@
--- The past of anything that goes by steps: whole contents, each following from the one before.
-use Rattle.std.specs.Prelude.{ℕ, suc, ◌≡◌, ◌<◌, ◌≤◌, List, [], ◌∷◌, length, Option, Some, None, IsSome, Result, Ok, Err}
+-- The past of anything that goes by steps and edits: whole contents, each coming of the one before.
+use Rattle.std.specs.Prelude.{ℕ, suc, ◌≡◌, ◌⊎◌, ◌<◌, ◌≤◌, List, [], ◌∷◌, length, Option, Some, None}
+use Rattle.std.specs.Prelude.{IsSome, Result, Ok, Err}
 use Prim.Native.Nat.{zero}
 use Rattle.yparse.specs.declared.machine.StepFault.{StepFault}
-use Rattle.yparse.specs.declared.machine.StepFault.TheVariants.{Halted, Limit, Memory}
+use Rattle.yparse.specs.declared.machine.StepFault.TheVariants.{Halted, NoToken, Limit, Memory}
 
 -- the content now, and each one before it with the kind of the step made there, the newest first
 pub record Past (K S : Type 0) : Type 0 where
@@ -34,32 +35,51 @@ undone n h = undone_from n h.now h.earlier
 abbrev pub rewound : {K S : Type 0} → Past K S → Past K S
 rewound h = undone (position h) h
 
--- the step of this kind leads from one content to the one after it
+-- what is made of this kind leads from one content to the one after it
 abbrev pub Follows : {K S : Type 0} → (S → Option (K × S)) → S → K → S → Type 0
 Follows next before kind after = next before ≡ Some (kind, after)
 
--- from the first content on, each one follows from the one before
-abbrev pub LeadsTo : {K S : Type 0} → (S → Option (K × S)) → S → S → List (K × S) → Type 0
-LeadsTo next first now [] = now ≡ first
-LeadsTo next first now (step ∷ earlier) = Follows next step.1 step.0 now × LeadsTo next first step.1 earlier
+-- a step leads from one content to the one after it, or an edit does
+abbrev pub Comes : {K S E : Type 0} → (S → Option (K × S)) → (E → S → Option (K × S)) → S → K → S
+    → Type 0
+Comes {E = E} next edited before kind after =
+    Follows next before kind after ⊎ ((edit : E) × Follows (edited edit) before kind after)
 
-abbrev pub IsPast : {K S : Type 0} → (S → Option (K × S)) → S → Past K S → Type 0
-IsPast next first h = LeadsTo next first h.now h.earlier
+-- from the first content on, each one comes of the one before
+abbrev pub LeadsTo : {K S E : Type 0} → (S → Option (K × S)) → (E → S → Option (K × S)) → S → S
+    → List (K × S) → Type 0
+LeadsTo next edited first now [] = now ≡ first
+LeadsTo next edited first now (step ∷ earlier) =
+    Comes next edited step.1 step.0 now × LeadsTo next edited first step.1 earlier
+
+abbrev pub IsPast : {K S E : Type 0} → (S → Option (K × S)) → (E → S → Option (K × S)) → S
+    → Past K S → Type 0
+IsPast next edited first h = LeadsTo next edited first h.now h.earlier
 
 -- a step of this kind was made
 abbrev pub Makes : {K S : Type 0} → (S → Option (K × S)) → K → Past K S → Past K S → Type 0
 Makes next kind h new = Follows next h.now kind new.now × (new.earlier ≡ (kind, h.now) ∷ h.earlier)
 
--- why a step is refused: there is none, or else so many stand, or else memory is wanted
-abbrev pub Refuses : {K S : Type 0} → (S → Option (K × S)) → Past K S → StepFault → Type 0
-Refuses next h Halted = next h.now ≡ None
-Refuses next h Limit = IsSome (next h.now) × (most_steps ≤ position h)
-Refuses next h Memory = IsSome (next h.now) × (position h < most_steps)
+-- why a step or an edit is refused, where one function says what a step makes and the other what is
+-- to be made: no step follows, or else it can't be made, or else so many stand, or else memory is
+-- wanted
+abbrev pub Refuses : {K S : Type 0} → (S → Option (K × S)) → (S → Option (K × S)) → Past K S
+    → StepFault → Type 0
+Refuses next made h Halted = next h.now ≡ None
+Refuses next made h NoToken = IsSome (next h.now) × (made h.now ≡ None)
+Refuses next made h Limit = IsSome (made h.now) × (most_steps ≤ position h)
+Refuses next made h Memory = IsSome (made h.now) × (position h < most_steps)
 
--- what a step answers and leaves; a refused one changes nothing
-abbrev pub Steps : {K S : Type 0} → (S → Option (K × S)) → Past K S → Result K StepFault → Past K S → Type 0
-Steps next h (Ok kind) new = (position h < most_steps) × Makes next kind h new
-Steps next h (Err fault) new = Refuses next h fault × (new ≡ h)
+-- what a step or an edit answers and leaves; a refused one changes nothing
+abbrev pub Changes : {K S : Type 0} → (S → Option (K × S)) → (S → Option (K × S)) → Past K S
+    → Result K StepFault → Past K S → Type 0
+Changes next made h (Ok kind) new = (position h < most_steps) × Makes made kind h new
+Changes next made h (Err fault) new = Refuses next made h fault × (new ≡ h)
+
+-- what a step answers and leaves
+abbrev pub Steps : {K S : Type 0} → (S → Option (K × S)) → Past K S → Result K StepFault → Past K S
+    → Type 0
+Steps next h result new = Changes next next h result new
 
 -- what an undo answers and leaves: the whole earlier content, or no change at position 0
 abbrev pub Undoes : {K S E : Type 0} → Past K S → Result K E → Past K S → Type 0

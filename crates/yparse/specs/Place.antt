@@ -9,7 +9,11 @@ use Rattle.yparse.specs.Content.{Place, valid}
 use Rattle.yparse.specs.Parts.{content_of, HasRoom}
 
 abbrev pub place_of : Tables → Tokens → Parts → Place
-place_of t tokens parts = record { tables = t; tokens = symbols_of tokens; content = content_of parts }
+place_of t tokens parts = record {
+  tables = t;
+  tokens = symbols_of tokens;
+  content = content_of parts;
+}
 
 -- with room for a walk over so many open nodes
 pub record IsPlace (t : Tables) (tokens : Tokens) (parts : Parts) (most : ℕ) : Type 0 where

@@ -1,5 +1,6 @@
 -- What the tables say: cells and gotos by state, rules by number, names by symbol.
-use Rattle.std.specs.Prelude.{ℕ, ◌&&◌, Bool, nat_lt, List, [], ◌∷◌, length, slice_index_or, Option, Some, None, if◌then◌else◌}
+use Rattle.std.specs.Prelude.{ℕ, ◌&&◌, Bool, nat_lt, List, [], ◌∷◌, length, slice_index_or, Option}
+use Rattle.std.specs.Prelude.{Some, None, if◌then◌else◌}
 use Rattle.ygrammar.specs.Grammar.{Production, GrammarValue}
 use Rattle.ygrammar.specs.Grammar as grammar
 use Rattle.ygrammar.specs.Names.{find_in}
@@ -31,12 +32,14 @@ rule_of t r = grammar.rule_of t.built.grammar.bare r
 -- where a symbol leads from a state
 abbrev pub goto_at : Tables → ℕ → ℕ → Option ℕ
 goto_at t q symbol =
-    if nat_lt q (length t.built.states) && nat_lt symbol t.built.grammar.bare.symbols then goto_in t.built q symbol else None
+    if nat_lt q (length t.built.states) && nat_lt symbol t.built.grammar.bare.symbols
+    then goto_in t.built q symbol else None
 
 -- what the cell of a state and a token says
 abbrev pub cell_at : Tables → ℕ → ℕ → Action
 cell_at t q token =
-    if nat_lt q (length t.built.states) && nat_lt token t.built.grammar.bare.tokens then action_at t q token else actions.Error
+    if nat_lt q (length t.built.states) && nat_lt token t.built.grammar.bare.tokens
+    then action_at t q token else actions.Error
 
 -- where a symbol leads from a state, where there is one
 abbrev pub goto_from : Tables → Option ℕ → ℕ → Option ℕ

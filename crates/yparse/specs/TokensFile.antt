@@ -1,5 +1,7 @@
 -- A tokens file: words between blanks, and the input tokens that they name.
-use Rattle.std.specs.Prelude.{ℕ, suc, ◌≡◌, ◌<◌, nat_lt, ◌==◌, ◌&&◌, ◌||◌, not, Bool, true, false, List, [], ◌∷◌, ◌++◌, length, Option, Some, None, Result, Ok, Err, if◌then◌else◌}
+use Rattle.std.specs.Prelude.{ℕ, suc, ◌≡◌, ◌<◌, nat_lt, ◌==◌, ◌&&◌, ◌||◌, not, Bool, true, false}
+use Rattle.std.specs.Prelude.{List, [], ◌∷◌, ◌++◌, length, Option, Some, None, Result, Ok, Err}
+use Rattle.std.specs.Prelude.{if◌then◌else◌}
 use Prim.Native.Nat.{zero}
 use Rattle.ygrammar.specs.Lexemes.{LiteralAt}
 use Rattle.ygrammar.specs.Names.{printed_literal}
@@ -25,13 +27,16 @@ abbrev pub begins : (ℕ → Bool) → List ℕ → Bool
 begins p [] = false
 begins p (b ∷ bs) = p b
 
--- The printed name of the word at the front, and what follows it: a literal in any spelling, which what follows may
--- touch, or the longest run of bytes that are neither blanks nor quotes.
+-- The printed name of the word at the front, and what follows it: a literal in any spelling, which
+-- what follows may touch, or the longest run of bytes that are neither blanks nor quotes.
 pub data WordAt (bytes name rest : List ℕ) : Type 0 where
-  literal : {value : ℕ} → name ≡ printed_literal value → LiteralAt bytes value rest → WordAt bytes name rest
-  run : bytes ≡ name ++ rest → 0 < length name → all_pass is_word_byte name ≡ true → begins is_word_byte rest ≡ false → WordAt bytes name rest
+  literal : {value : ℕ} → name ≡ printed_literal value → LiteralAt bytes value rest
+      → WordAt bytes name rest
+  run : bytes ≡ name ++ rest → 0 < length name → all_pass is_word_byte name ≡ true
+      → begins is_word_byte rest ≡ false → WordAt bytes name rest
 
--- what can stand at the front: nothing more, a word by its name with what follows it, or a quote that begins no literal
+-- what can stand at the front: nothing more, a word by its name with what follows it, or a quote
+-- that begins no literal
 pub data Front : Type 0 where
   nothing : Front
   word : (name rest : List ℕ) → Front
@@ -41,7 +46,8 @@ pub data Front : Type 0 where
 abbrev pub FrontAt : List ℕ → Front → Type 0
 FrontAt bytes nothing = bytes ≡ []
 FrontAt bytes (word name rest) = WordAt bytes name rest
-FrontAt bytes broken = (begins (λ b. b == 39) bytes ≡ true) × ((name rest : List ℕ) → WordAt bytes name rest → ⊥)
+FrontAt bytes broken = (begins (λ b. b == 39) bytes ≡ true)
+    × ((name rest : List ℕ) → WordAt bytes name rest → ⊥)
 
 -- this stands behind the blanks at the front
 pub record FrontIs (bytes : List ℕ) (front : Front) : Type 0 where
@@ -52,7 +58,8 @@ pub record FrontIs (bytes : List ℕ) (front : Front) : Type 0 where
   pub no_blank : begins is_blank here ≡ false
   pub stands : FrontAt here front
 
--- what a front says behind some tokens: one more token, and what follows it, or the answer for what is left
+-- what a front says behind some tokens: one more token, and what follows it, or the answer for what
+-- is left
 pub data Says : Type 0 where
   token : (symbol : ℕ) (rest : List ℕ) → Says
   answer : Result (List ℕ) TokenFault → Says
@@ -60,17 +67,22 @@ pub data Says : Type 0 where
 -- the symbol that a word names: none is K1, and one that is no input K2
 abbrev pub named : ℕ → ℕ → Option ℕ → List ℕ → Says
 named tokens place None rest = answer (Err (faults.Unknown place))
-named tokens place (Some symbol) rest = if is_input tokens symbol then token symbol rest else answer (Err (faults.NotInput place))
+named tokens place (Some symbol) rest =
+    if is_input tokens symbol then token symbol rest else answer (Err (faults.NotInput place))
 
 -- behind n tokens: at 1,000,000 a further word is K3, and a quote that begins no literal is K5
 abbrev pub says : (List ℕ → Option ℕ) → ℕ → ℕ → Front → Says
 says find tokens n nothing = answer (Ok [])
-says find tokens n (word name rest) = if nat_lt n 1000000 then named tokens (suc n) (find name) rest else answer (Err faults.TooMany)
-says find tokens n broken = if nat_lt n 1000000 then answer (Err (faults.BadLiteral (suc n))) else answer (Err faults.TooMany)
+says find tokens n (word name rest) =
+    if nat_lt n 1000000 then named tokens (suc n) (find name) rest else answer (Err faults.TooMany)
+says find tokens n broken =
+    if nat_lt n 1000000 then answer (Err (faults.BadLiteral (suc n)))
+    else answer (Err faults.TooMany)
 
 -- behind n tokens, this comes next
 abbrev pub Comes : (List ℕ → Option ℕ) → ℕ → ℕ → List ℕ → Says → Type 0
-Comes find tokens n bytes said = (front : Front) × FrontIs bytes front × (says find tokens n front ≡ said)
+Comes find tokens n bytes said =
+    (front : Front) × FrontIs bytes front × (says find tokens n front ≡ said)
 
 -- one more token at the front of an answer
 abbrev pub with_token : ℕ → Result (List ℕ) TokenFault → Result (List ℕ) TokenFault
@@ -82,7 +94,8 @@ abbrev pub Reads : (List ℕ → Option ℕ) → ℕ → ℕ → ℕ → List �
 Reads find tokens zero n bytes result = Comes find tokens n bytes (answer result)
 Reads find tokens (suc k) n bytes result =
     (symbol : ℕ) × (rest : List ℕ) × (more : Result (List ℕ) TokenFault)
-    × Comes find tokens n bytes (token symbol rest) × Reads find tokens k (suc n) rest more × (result ≡ with_token symbol more)
+    × Comes find tokens n bytes (token symbol rest) × Reads find tokens k (suc n) rest more
+    × (result ≡ with_token symbol more)
 
 -- the tokens of what is left behind n tokens, or its first fault
 abbrev pub Outcome : (List ℕ → Option ℕ) → ℕ → ℕ → List ℕ → Result (List ℕ) TokenFault → Type 0

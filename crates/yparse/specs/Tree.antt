@@ -2,7 +2,8 @@
 use Rattle.std.specs.Prelude.{ℕ, List, [], ◌∷◌}
 
 mutual
-  -- a token with its place in the input, an error that recovery shifted, or a rule over its children
+  -- a token with its place in the input, an error that recovery shifted, or a rule over its
+  -- children
   pub data Tree : Type 0 where
     leaf : (token place : ℕ) → Tree
     error_leaf : Tree

@@ -1,5 +1,6 @@
 -- The forms of a parse that is unwound, and what is written of them and of trees.
-use Rattle.std.specs.Prelude.{ℕ, Bool, true, false, ◌≡◌, List, [], ◌∷◌, ◌++◌, map, flat_map, codes, decimal, if◌then◌else◌}
+use Rattle.std.specs.Prelude.{ℕ, Bool, true, false, ◌≡◌, List, [], ◌∷◌, ◌++◌, map, flat_map, codes}
+use Rattle.std.specs.Prelude.{decimal, if◌then◌else◌}
 use Rattle.std.specs.List.{All}
 use Rattle.yparse.specs.declared.machine.StepKind.{StepKind}
 use Rattle.yparse.specs.declared.machine.StepKind.TheVariants as kinds
@@ -11,9 +12,14 @@ use Rattle.yparse.specs.History.{History}
 abbrev pub tokens_left : List (ℕ × ℕ) → List ℕ
 tokens_left rest = map (λ (token : ℕ × ℕ). token.0) rest
 
--- the form of a configuration: the symbols of its stack, and the tokens left
-abbrev pub form_of : Configuration → List ℕ
-form_of c = symbols c.stack ++ tokens_left c.rest
+-- the tokens that are shifted from before a step of this kind on, where these are shifted after it
+abbrev pub shifted_from : StepKind → List ℕ → List ℕ
+shifted_from (kinds.Shift token) later = token ∷ later
+shifted_from _ later = later
+
+-- the form of a configuration: the symbols of its stack, and the tokens that later steps shift
+abbrev pub form_of : Configuration → List ℕ → List ℕ
+form_of c later = symbols c.stack ++ later
 
 abbrev pub is_reduction : StepKind → Bool
 is_reduction (kinds.Reduce r) = true
@@ -31,14 +37,40 @@ is_error_step _ = false
 abbrev pub NoErrors : List (StepKind × Configuration) → Type 0
 NoErrors earlier = All (λ (step : StepKind × Configuration). is_error_step step.0 ≡ false) earlier
 
--- the forms before the reductions of the past, the newest first
-abbrev pub forms_before : List (StepKind × Configuration) → List (List ℕ)
-forms_before [] = []
-forms_before (step ∷ earlier) = if is_reduction step.0 then form_of step.1 ∷ forms_before earlier else forms_before earlier
+-- insert and drop
+abbrev pub is_edit : StepKind → Bool
+is_edit (kinds.Insert symbol) = true
+is_edit (kinds.Drop symbol) = true
+is_edit _ = false
 
--- the forms that unwinding goes through
+-- no step of the past is an edit
+abbrev pub NoEdits : List (StepKind × Configuration) → Type 0
+NoEdits earlier = All (λ (step : StepKind × Configuration). is_edit step.0 ≡ false) earlier
+
+-- the tokens that the past has shifted, and these
+abbrev pub shifted_before : List (StepKind × Configuration) → List ℕ → List ℕ
+shifted_before [] later = later
+shifted_before (step ∷ earlier) later = shifted_before earlier (shifted_from step.0 later)
+
+-- the whole input as it stands: the tokens shifted, and those left
+abbrev pub whole_input : History → List ℕ
+whole_input h = shifted_before h.earlier (tokens_left h.now.rest)
+
+-- the forms before the reductions of the past, the newest first, where these tokens are shifted
+-- later
+abbrev pub forms_before : List ℕ → List (StepKind × Configuration) → List (List ℕ)
+forms_before later [] = []
+forms_before later (step ∷ earlier) =
+    if is_reduction step.0 then form_of step.1 (shifted_from step.0 later)
+    ∷ forms_before (shifted_from step.0 later) earlier
+    else forms_before (shifted_from step.0 later) earlier
+
+-- the forms that unwinding goes through from where these tokens are shifted later
+abbrev pub forms_from : List ℕ → History → List (List ℕ)
+forms_from later h = form_of h.now later ∷ forms_before later h.earlier
+
 abbrev pub forms_of : History → List (List ℕ)
-forms_of h = form_of h.now ∷ forms_before h.earlier
+forms_of h = forms_from [] h
 
 -- names with one space between
 abbrev pub joined : Machine → List ℕ → List ℕ

@@ -1,5 +1,6 @@
 -- What unwinding answers, writes and leaves.
-use Rattle.std.specs.Prelude.{ℕ, suc, ◌≡◌, ◌≢◌, ◌++◌, Bool, true, false, List, [], ◌∷◌, flat_map, Option, Result, Ok, Err}
+use Rattle.std.specs.Prelude.{ℕ, suc, ◌≡◌, ◌≢◌, ◌++◌, Bool, true, false, List, [], ◌∷◌, flat_map}
+use Rattle.std.specs.Prelude.{Option, Result, Ok, Err}
 use Prim.Native.Nat.{zero}
 use Rattle.std.specs.Io.KnownBytes.{Appends}
 use Rattle.ytables.specs.Sends.{Begins}
@@ -9,38 +10,46 @@ use Rattle.yparse.specs.declared.machine.UnwindFault.TheVariants.{NotAccepted, H
 use Rattle.yparse.specs.Machine.{Machine}
 use Rattle.yparse.specs.Past.{position, undone, rewound}
 use Rattle.yparse.specs.History.{History}
-use Rattle.yparse.specs.Unwinding.{NoErrors, form_of, forms_of, form_line, unwound_text}
+use Rattle.yparse.specs.Unwinding.{NoErrors, form_of, forms_from, forms_of, form_line, unwound_text}
 
 -- the space before a name that isn't the first
 abbrev pub gap : ℕ → List ℕ
 gap zero = []
 gap (suc index) = 32 ∷ []
 
--- The lines of the forms before the one that stands in `new` were written, and a beginning of its line, which is a
--- beginning of the whole text.
+-- The lines of the forms before the one that stands in `new`, from which these tokens are shifted
+-- later, were written, and a beginning of its line, which is a beginning of the whole text.
 pub record Stops (old known : Option (List ℕ)) (m : Machine) (h new : History) : Type 0 where
   pub steps : ℕ
   pub left : new ≡ undone steps h
   pub before : List (List ℕ)
-  pub forms : forms_of h ≡ before ++ forms_of new
+  pub later : List ℕ
+  pub forms : forms_of h ≡ before ++ forms_from later new
   pub front : List ℕ
   pub back : List ℕ
-  pub line : form_line m (form_of new.now) ≡ front ++ back
+  pub line : form_line m (form_of new.now later) ≡ front ++ back
   pub written : Appends old known (flat_map (form_line m) before ++ front)
   pub begins : Begins old known (unwound_text m h)
 
--- the whole text was written and the first configuration is left, or the link failed at the form that stands
-abbrev pub GoesBack : Option (List ℕ) → Option (List ℕ) → Machine → History → Bool → History → Type 0
-GoesBack old known m h true new = Appends old known (unwound_text m h) × (new ≡ rewound h) × (position new ≡ 0)
+-- the whole text was written and the first configuration is left, or the link failed at the form
+-- that stands
+abbrev pub GoesBack : Option (List ℕ) → Option (List ℕ) → Machine → History → Bool → History
+    → Type 0
+GoesBack old known m h true new =
+    Appends old known (unwound_text m h) × (new ≡ rewound h) × (position new ≡ 0)
 GoesBack old known m h false new = Stops old known m h new
 
--- What unwinding answers, and leaves of the known bytes and the history. It is refused where the parse isn't accepted,
--- else where an error step was made, and then changes nothing.
-abbrev pub Unwinds : Option (List ℕ) → Option (List ℕ) → Machine → History → Result (Unit {0}) UnwindFault → History → Type 0
-Unwinds old known m h (Ok done) new = (h.now.mode ≡ Accepted) × NoErrors h.earlier × GoesBack old known m h true new
+-- What unwinding answers, and leaves of the known bytes and the history. It is refused where the
+-- parse isn't accepted, else where an error step was made, and then changes nothing.
+abbrev pub Unwinds : Option (List ℕ) → Option (List ℕ) → Machine → History
+    → Result (Unit {0}) UnwindFault → History → Type 0
+Unwinds old known m h (Ok done) new =
+    (h.now.mode ≡ Accepted) × NoErrors h.earlier × GoesBack old known m h true new
 Unwinds old known m h (Err NotAccepted) new = (h.now.mode ≢ Accepted) × (new ≡ h) × (known ≡ old)
-Unwinds old known m h (Err HadError) new = (h.now.mode ≡ Accepted) × (NoErrors h.earlier → ⊥) × (new ≡ h) × (known ≡ old)
-Unwinds old known m h (Err Write) new = (h.now.mode ≡ Accepted) × NoErrors h.earlier × GoesBack old known m h false new
+Unwinds old known m h (Err HadError) new =
+    (h.now.mode ≡ Accepted) × (NoErrors h.earlier → ⊥) × (new ≡ h) × (known ≡ old)
+Unwinds old known m h (Err Write) new =
+    (h.now.mode ≡ Accepted) × NoErrors h.earlier × GoesBack old known m h false new
 
 -- whether the link failed
 abbrev pub is_write : Result (Unit {0}) UnwindFault → Bool

@@ -1,5 +1,6 @@
 -- The text of trees that lie in flat lists, and of the nodes that a walk has open.
-use Rattle.std.specs.Prelude.{ℕ, ◌+◌, ◌-◌, nat_le, Bool, true, ◌&&◌, List, [], ◌∷◌, ◌++◌, length, take, drop, map, decimal, codes}
+use Rattle.std.specs.Prelude.{ℕ, ◌+◌, ◌-◌, nat_le, Bool, true, ◌&&◌, List, [], ◌∷◌, ◌++◌, length}
+use Rattle.std.specs.Prelude.{take, drop, map, decimal, codes}
 use Rattle.yparse.specs.declared.parts.StackEntry.{StackEntry}
 use Rattle.yparse.specs.declared.parts.Node.{Node}
 use Rattle.yparse.specs.declared.parts.Node.TheVariants as nodes
@@ -35,14 +36,16 @@ range_of children f = take (f.end - f.next) (drop f.next children)
 -- what is left to write of the open nodes, the outermost first, before what comes after them
 abbrev pub open_from : Machine → List StackEntry → List Tree → List Frame → List ℕ → List ℕ
 open_from m children trees [] rest = rest
-open_from m children trees (f ∷ fs) rest = open_from m children trees fs (kids_text m trees (range_of children f) ++ (41 ∷ rest))
+open_from m children trees (f ∷ fs) rest =
+    open_from m children trees fs (kids_text m trees (range_of children f) ++ (41 ∷ rest))
 
 abbrev pub open_text : Machine → List StackEntry → List Tree → List Frame → List ℕ
 open_text m children trees fs = open_from m children trees fs []
 
 -- whether a node's children that are left lie in the list, below a number
 abbrev pub frame_fits : List StackEntry → ℕ → Frame → Bool
-frame_fits children b f = nat_le f.next f.end && (nat_le f.end (length children) && all_below b (range_of children f))
+frame_fits children b f = nat_le f.next f.end
+    && (nat_le f.end (length children) && all_below b (range_of children f))
 
 -- the same of the open nodes, the outermost first, each below the one before
 abbrev pub frames_fit : List StackEntry → ℕ → List Frame → Bool

@@ -1,14 +1,16 @@
 //! The past of a machine, kept as the changes that led to it.
 
-ghost use Rattle.std.specs.Prelude.{◌≡◌, ◌≤◌, IsTrue, length};
+ghost use Rattle.std.specs.Prelude.{◌≡◌, ◌≤◌};
+ghost use Rattle.std.specs.Prelude.{Option, IsTrue, IfOk};
 ghost use Rattle.yparse.specs.Past.{most_steps};
-ghost use Rattle.yparse.specs.Reversible.{all_fit};
+ghost use Rattle.yparse.specs.Reversible.{Advances, IsJournal, StepsOn, past_by, refusal_of};
 
 use crate::machine::{AtStart, StepFault};
 use crate::place::PlaceParser;
 use crate::reversible::Reversible;
 use std::alloc::Global;
 use std::io::Write;
+use std::marker::Model;
 use ytables::Link;
 
 /// How many steps may stand.
@@ -19,18 +21,70 @@ const MAX_POSITION: usize = 1_000_000;
 pub struct Journal<M: Reversible> {
     machine: M,
     changes: Vec<M::Change>,
-    ghost few: { length changes.items ≤ most_steps },
-    ghost fitting: { IsTrue (all_fit M.before M.fits machine changes.items) },
+}
+
+impl<M: Reversible> Model for Journal<M> {
+    ghost use Rattle.yparse.specs.Past.{Past};
+    ghost use Rattle.yparse.specs.Reversible.{past_by, IsJournal};
+
+    ghost Value = { Past M.Kind M };
+
+    ghost view = { λ j. past_by M.before M.kind j.machine j.changes.items };
+
+    ghost invariant = { λ j. IsJournal M.before M.fits j.machine j.changes.items };
+}
+
+/// Why nothing is made: where so many stand, the limit comes before want of memory.
+fn refusal(full: bool, fault: StepFault) -> StepFault
+    ensures { result ≡ refusal_of full fault }
+{
+    match fault {
+        StepFault::Memory if full => StepFault::Limit,
+        _ => fault,
+    }
+}
+
+/// Keeps the change that was made. Where 1,000,000 stand or a growth is refused, it is taken back.
+fn keep<M: Reversible>(
+    machine: &mut M,
+    changes: &mut Vec<M::Change>,
+    made: Result<M::Change, StepFault>,
+) -> Result<(), StepFault>
+    requires { IfOk made (λ change. IsTrue (M.fits change machine.old)) }
+    ensures { (old : M) (what : M → Option (M.Kind × M))
+        → IsJournal M.before M.fits old changes.old.items
+        → Advances M.next what M.before M.kind M.fits old made machine.old
+        → StepsOn M.next what (past_by M.before M.kind old changes.old.items) result
+        (past_by M.before M.kind machine.new changes.new.items)
+        × IsJournal M.before M.fits machine.new changes.new.items }
+{
+    let full = changes.len() >= MAX_POSITION;
+    match made {
+        Ok(change) => {
+            if full {
+                machine.revert(change);
+                return Err(StepFault::Limit);
+            }
+            match changes.push(change) {
+                Ok(()) => Ok(()),
+                Err(refused) => {
+                    machine.revert(refused.value);
+                    Err(StepFault::Memory)
+                }
+            }
+        }
+        Err(fault) => Err(refusal(full, fault)),
+    }
 }
 
 impl<M: Reversible> Journal<M> {
-    ghost use Rattle.std.specs.Prelude.{option_map, slice_get};
+    ghost use Rattle.std.specs.Prelude.{map, reverse, option_map, slice_get};
     ghost use Rattle.yparse.specs.Past.{first_past, position};
-    ghost use Rattle.yparse.specs.Reversible.{past_by, StepsOn, StepsBack};
+    ghost use Rattle.yparse.specs.Reversible.{StepsBack};
 
     /// The machine as it is, with no step.
     pub fn new(alloc: Global, machine: M) -> Self
-        ensures { past_by M.before M.kind result.machine result.changes.items ≡ first_past machine }
+        ensures { result ≡ first_past machine }
     {
         Journal {
             machine,
@@ -41,21 +95,21 @@ impl<M: Reversible> Journal<M> {
     /// How many steps stand, 0 to 1,000,000.
     pub fn position(&self) -> usize
         ensures few { result ≤ most_steps }
-        ensures position { result ≡ position (past_by M.before M.kind self.now.machine self.now.changes.items) }
+        ensures position { result ≡ position self.now }
     {
         self.changes.len()
     }
 
     /// The machine as it is now.
     pub fn machine(&self) -> &M
-        ensures { result.now ≡ (past_by M.before M.kind self.now.machine self.now.changes.items).now }
+        ensures { result.now ≡ self.now.now }
     {
         &self.machine
     }
 
     /// The changes of the steps that stand, the newest last.
     pub(crate) fn changes(&self) -> &[M::Change]
-        ensures { result.now ≡ self.now.changes.items }
+        ensures { map M.kind (reverse result.now) ≡ map (λ step. step.0) self.now.earlier }
     {
         &self.changes
     }
@@ -63,45 +117,34 @@ impl<M: Reversible> Journal<M> {
     /// The change of the newest step, where one stands.
     pub fn last(&self) -> Option<&M::Change>
         ensures { option_map (λ change. M.kind change.now) result
-            ≡ option_map (λ step. step.0) (slice_get (past_by M.before M.kind self.now.machine self.now.changes.items).earlier 0) }
+            ≡ option_map (λ step. step.0) (slice_get self.now.earlier 0) }
     {
         self.changes.last()
     }
 
-    /// One step. S1 where none follows, else S2 where 1,000,000 stand, else S3 where a growth is refused. An `Err`
-    /// changes nothing.
+    /// One step. S1 where none follows, else S2 where 1,000,000 stand, else S3 where a growth is
+    /// refused. An `Err` changes nothing.
     pub fn step(&mut self) -> Result<(), StepFault>
-        ensures { StepsOn M.next (past_by M.before M.kind self.old.machine self.old.changes.items) result (past_by M.before M.kind self.new.machine self.new.changes.items) }
+        ensures { StepsOn M.next M.next self.old result self.new }
     {
-        let full = self.changes.len() >= MAX_POSITION;
-        match self.machine.advance() {
-            Ok(change) => {
-                if full {
-                    self.machine.revert(change);
-                    return Err(StepFault::Limit);
-                }
-                match self.changes.push(change) {
-                    Ok(()) => Ok(()),
-                    Err(refused) => {
-                        self.machine.revert(refused.value);
-                        Err(StepFault::Memory)
-                    }
-                }
-            }
-            Err(StepFault::Halted) => Err(StepFault::Halted),
-            Err(StepFault::Limit) => unreachable!(),
-            Err(StepFault::Memory) => {
-                if full {
-                    return Err(StepFault::Limit);
-                }
-                Err(StepFault::Memory)
-            }
-        }
+        let made = self.machine.advance();
+        keep(&mut self.machine, &mut self.changes, made)
     }
 
-    /// One step back, to the whole earlier content. It takes no memory, and is refused at position 0 alone.
+    /// One edit of the input. S1 where no step follows, else S4 where the edit can't be made, else
+    /// S2 where 1,000,000 steps and edits stand, else S3 where a growth is refused. An `Err`
+    /// changes nothing.
+    pub fn edit(&mut self, edit: M::Edit) -> Result<(), StepFault>
+        ensures { StepsOn M.next (M.edited edit) self.old result self.new }
+    {
+        let made = self.machine.edit(edit);
+        keep(&mut self.machine, &mut self.changes, made)
+    }
+
+    /// One step back, to the whole earlier content. It takes no memory, and is refused at position
+    /// 0 alone.
     pub fn back(&mut self) -> Result<(), AtStart>
-        ensures { StepsBack (past_by M.before M.kind self.old.machine self.old.changes.items) result (past_by M.before M.kind self.new.machine self.new.changes.items) }
+        ensures { StepsBack self.old result self.new }
     {
         match self.changes.pop() {
             Some(change) => {
@@ -123,10 +166,8 @@ impl Journal<PlaceParser> {
     /// Writes the trees of a parse as it is now.
     pub(crate) fn write_trees<W: Write>(&mut self, link: &mut Link<W>) -> Option<()>
         ensures text { Sends W.contents link.old link.new (is_some result)
-            (tree_lines (machine_over self.old.machine.tables)
-            (configuration_of self.old.machine).stack) }
-        ensures machine { self.new.machine ≡ self.old.machine }
-        ensures changes { self.new.changes.items ≡ self.old.changes.items }
+            (tree_lines (machine_over self.old.now.tables) (configuration_of self.old.now).stack) }
+        ensures past { self.new ≡ self.old }
     {
         self.machine.write_trees(link)
     }

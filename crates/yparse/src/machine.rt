@@ -38,14 +38,30 @@ pub enum StepKind {
     Discard(Sym),
     /// The parse gave up.
     Fail,
+    /// This token was put before the tokens left.
+    Insert(Sym),
+    /// This token, the first of those left, was taken out.
+    Drop(Sym),
 }
 
-/// Why a step is refused. A refused step changes nothing.
+/// An edit of the tokens left.
+#[derive(Clone, Copy, Debug, PartialEq, Eq)]
+pub enum Edit {
+    /// This token comes before those left.
+    Insert(Sym),
+    /// The first of those left is taken out.
+    Drop,
+}
+
+/// Why a step or an edit is refused. What is refused changes nothing.
 #[derive(Clone, Copy, Debug, PartialEq, Eq, Error)]
 pub enum StepFault {
     /// S1: the mode is accepted or failed.
     #[error("the parse has halted")]
     Halted,
+    /// S4: no token is left that could be taken out.
+    #[error("no token")]
+    NoToken,
     /// S2: the position is 1,000,000.
     #[error("the position is at its limit")]
     Limit,

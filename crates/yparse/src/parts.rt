@@ -2,14 +2,16 @@
 
 ghost use Rattle.std.specs.Prelude.{◌≡◌, ◌<◌, ◌≤◌, ◌+◌, ◌-◌, ◌^◌, length, drop, OnOk, vec_len, vec_capacity};
 ghost use Rattle.yparse.specs.Content.{state_from, lead, grown, reduced, unreduced, detected, made_of, one_step};
+ghost use Rattle.yparse.specs.Content.{first_content};
 ghost use Rattle.yparse.specs.Content.{unmade, ungrown, one_back, change_at, taken_by};
 ghost use Rattle.yparse.specs.declared.machine.StepKind.TheVariants as kinds;
-ghost use Rattle.yparse.specs.Parts.{content_of, HasRoomFor};
+ghost use Rattle.yparse.specs.Parts.{content_of, HasRoomFor, KeepsRoom};
 
 use crate::machine::{Mode, StepKind};
+use crate::rest::{self, Remaining};
 use crate::tables::{goto, rule_of};
 use crate::walk::Frame;
-use std::alloc::AllocError;
+use std::alloc::{AllocError, Global};
 use ygrammar::Sym;
 use ytables::Tables;
 
@@ -31,22 +33,22 @@ pub enum Node {
 }
 
 /// What a parse holds now: the stack from the bottom; the nodes, each behind its children; the
-/// entries that became children; how many tokens were read; the recovery counter; the errors
-/// reported; the mode; and how many steps stand.
+/// entries that became children; the tokens left; the recovery counter; the errors reported; the
+/// mode; and how many steps stand.
 #[derive(Drop)]
 pub struct Parts {
     pub(crate) stack: Vec<StackEntry>,
     pub(crate) nodes: Vec<Node>,
     pub(crate) children: Vec<StackEntry>,
-    pub(crate) at: usize,
+    pub(crate) rest: Remaining,
     pub(crate) counter: usize,
     pub(crate) errors: usize,
     pub(crate) mode: Mode,
     pub(crate) steps: usize,
 }
 
-/// What a step has changed: its kind, the counter and the mode before it, and the state and the
-/// node of the entry that was on top.
+/// What a step or an edit has changed: its kind, the counter and the mode before it, the state and
+/// the node of the entry that was on top, and the place of the token that was ahead.
 #[derive(Clone, Copy, Debug, Drop, PartialEq, Eq)]
 pub struct PlaceChange {
     pub(crate) kind: StepKind,
@@ -54,17 +56,37 @@ pub struct PlaceChange {
     pub(crate) mode: Mode,
     pub(crate) state: usize,
     pub(crate) node: usize,
+    pub(crate) place: usize,
 }
 
-/// Room for one step more, which takes so many children, and for a walk over its trees.
+impl Parts {
+    /// What a parse holds before its first step.
+    pub(crate) fn new(alloc: Global) -> Parts
+        ensures { content_of result ≡ first_content }
+    {
+        Parts {
+            stack: Vec::new(alloc),
+            nodes: Vec::new(alloc),
+            children: Vec::new(alloc),
+            rest: rest::first_rest(alloc),
+            counter: 0,
+            errors: 0,
+            mode: Mode::Running,
+            steps: 0,
+        }
+    }
+}
+
+/// Room for one step or edit more, which takes so many children, and for a walk over its trees.
 pub(crate) fn make_room(
     parts: &mut Parts,
     walk: &mut Vec<Frame>,
     count: usize,
 ) -> Result<(), AllocError>
-    requires { vec_len parts.old.stack ≤ parts.old.steps }
+    requires stack { vec_len parts.old.stack ≤ parts.old.steps }
+    requires inserted { vec_len parts.old.rest.inserted ≤ parts.old.rest.edits }
     ensures content { content_of parts.new ≡ content_of parts.old }
-    ensures capacity { vec_capacity parts.old.stack ≤ vec_capacity parts.new.stack }
+    ensures capacity { KeepsRoom parts.old parts.new }
     ensures room { OnOk result (HasRoomFor parts.new count) }
     ensures steps { OnOk result (parts.new.steps + 2 ≤ vec_capacity parts.new.stack) }
     ensures walk { OnOk result (parts.new.steps + 2 ≤ vec_capacity walk.new) }
@@ -72,6 +94,7 @@ pub(crate) fn make_room(
 {
     let wanted = parts.steps.checked_add(2).ok_or(AllocError)?;
     walk.reserve(wanted)?;
+    rest::make_room(&mut parts.rest)?;
     parts.stack.reserve(wanted - parts.stack.len())?;
     parts.nodes.reserve(1)?;
     parts.children.reserve(count)
@@ -94,7 +117,7 @@ pub(crate) fn state_below(stack: &[StackEntry], count: usize) -> usize
 fn grow(parts: &mut Parts, state: usize, symbol: Sym, node: Node)
     requires { HasRoomFor parts.old 0 }
     ensures content { content_of parts.new ≡ grown (content_of parts.old) state symbol node }
-    ensures capacity { vec_capacity parts.old.stack ≤ vec_capacity parts.new.stack }
+    ensures capacity { KeepsRoom parts.old parts.new }
 {
     let entry = StackEntry {
         state,
@@ -109,7 +132,7 @@ fn grow(parts: &mut Parts, state: usize, symbol: Sym, node: Node)
 fn fold(parts: &mut Parts, state: usize, left: Sym, rule: usize, width: usize)
     requires room { HasRoomFor parts.old width }
     ensures content { content_of parts.new ≡ reduced (content_of parts.old) state left rule width }
-    ensures capacity { vec_capacity parts.old.stack ≤ vec_capacity parts.new.stack }
+    ensures capacity { KeepsRoom parts.old parts.new }
 {
     let start = parts.stack.len().saturating_sub(width);
     let node = Node::Rule(rule, parts.children.len(), width);
@@ -133,7 +156,7 @@ fn unfold(parts: &mut Parts, width: usize)
         + length (drop (vec_len parts.old.children - width) parts.old.children.items)
         ≤ vec_capacity parts.old.stack }
     ensures content { content_of parts.new ≡ unreduced (content_of parts.old) width }
-    ensures capacity { vec_capacity parts.old.stack ≤ vec_capacity parts.new.stack }
+    ensures capacity { KeepsRoom parts.old parts.new }
 {
     let start = parts.children.len().saturating_sub(width);
     parts.stack.pop();
@@ -154,6 +177,7 @@ fn lead_of(tables: &Tables, state: usize, symbol: Sym) -> usize
 
 /// The change of a step of this kind, which isn't made yet.
 fn change_for(parts: &Parts, kind: StepKind) -> PlaceChange
+    requires { parts.now.rest.at < 2 ^ 63 }
     ensures { result ≡ change_at kind (content_of parts.now) }
 {
     let len = parts.stack.len();
@@ -168,6 +192,7 @@ fn change_for(parts: &Parts, kind: StepKind) -> PlaceChange
         mode: parts.mode,
         state,
         node,
+        place: rest::place_left(&parts.rest),
     }
 }
 
@@ -184,14 +209,15 @@ pub(crate) fn children_of(tables: &Tables, kind: StepKind) -> usize
 /// The token ahead goes to the stack.
 fn shift(tables: &Tables, parts: &mut Parts, token: Sym)
     requires room { HasRoomFor parts.old 0 }
-    requires at { parts.old.at < 2 ^ 63 }
+    requires at { parts.old.rest.at < 2 ^ 63 }
     ensures content { content_of parts.new
         ≡ made_of tables.now (kinds.Shift token) (content_of parts.old) }
-    ensures capacity { vec_capacity parts.old.stack ≤ vec_capacity parts.new.stack }
+    ensures capacity { KeepsRoom parts.old parts.new }
 {
     let state = lead_of(tables, state_below(&parts.stack, parts.stack.len()), token);
-    grow(parts, state, token, Node::Leaf(token, parts.at + 1));
-    parts.at += 1;
+    let place = rest::place_left(&parts.rest);
+    grow(parts, state, token, Node::Leaf(token, place));
+    rest::take(&mut parts.rest);
     parts.counter = parts.counter.saturating_sub(1);
 }
 
@@ -200,7 +226,7 @@ fn reduce(tables: &Tables, parts: &mut Parts, rule: usize)
     requires room { HasRoomFor parts.old (taken_by tables.now (kinds.Reduce rule)) }
     ensures content { content_of parts.new
         ≡ made_of tables.now (kinds.Reduce rule) (content_of parts.old) }
-    ensures capacity { vec_capacity parts.old.stack ≤ vec_capacity parts.new.stack }
+    ensures capacity { KeepsRoom parts.old parts.new }
 {
     let (left, body) = rule_of(tables, rule);
     let count = parts.stack.len().saturating_sub(body.len());
@@ -212,7 +238,7 @@ fn reduce(tables: &Tables, parts: &mut Parts, rule: usize)
 fn detect(parts: &mut Parts)
     requires { parts.old.errors < 2 ^ 63 }
     ensures content { content_of parts.new ≡ detected (content_of parts.old) }
-    ensures capacity { vec_capacity parts.old.stack ≤ vec_capacity parts.new.stack }
+    ensures capacity { KeepsRoom parts.old parts.new }
 {
     if parts.counter == 0 {
         parts.errors += 1;
@@ -226,23 +252,24 @@ fn shift_error(tables: &Tables, parts: &mut Parts)
     requires room { HasRoomFor parts.old 0 }
     ensures content { content_of parts.new
         ≡ made_of tables.now kinds.ShiftError (content_of parts.old) }
-    ensures capacity { vec_capacity parts.old.stack ≤ vec_capacity parts.new.stack }
+    ensures capacity { KeepsRoom parts.old parts.new }
 {
     let state = lead_of(tables, state_below(&parts.stack, parts.stack.len()), 1);
     grow(parts, state, 1, Node::ErrorLeaf);
     parts.mode = Mode::Running;
 }
 
-/// Makes a step of this kind, for which there is room.
+/// Makes a step or an edit of this kind, for which there is room.
 pub(crate) fn make(tables: &Tables, parts: &mut Parts, kind: StepKind) -> PlaceChange
     requires room { HasRoomFor parts.old (taken_by tables.now kind) }
-    requires at { parts.old.at < 2 ^ 63 }
+    requires at { parts.old.rest.at < 2 ^ 63 }
     requires errors { parts.old.errors ≤ parts.old.steps }
     requires steps { parts.old.steps < 2 ^ 63 }
+    requires few { vec_len parts.old.rest.inserted ≤ parts.old.rest.edits }
     ensures content { content_of parts.new
         ≡ one_step (made_of tables.now kind (content_of parts.old)) }
     ensures change { result ≡ change_at kind (content_of parts.old) }
-    ensures capacity { vec_capacity parts.old.stack ≤ vec_capacity parts.new.stack }
+    ensures capacity { KeepsRoom parts.old parts.new }
 {
     let change = change_for(parts, kind);
     parts.steps += 1;
@@ -253,8 +280,9 @@ pub(crate) fn make(tables: &Tables, parts: &mut Parts, kind: StepKind) -> PlaceC
         StepKind::Detect => detect(parts),
         StepKind::Pop(_) => drop(parts.stack.pop()),
         StepKind::ShiftError => shift_error(tables, parts),
-        StepKind::Discard(_) => parts.at += 1,
+        StepKind::Discard(_) | StepKind::Drop(_) => rest::take(&mut parts.rest),
         StepKind::Fail => parts.mode = Mode::Failed,
+        StepKind::Insert(token) => rest::insert(&mut parts.rest, token),
     }
     change
 }
@@ -262,7 +290,7 @@ pub(crate) fn make(tables: &Tables, parts: &mut Parts, kind: StepKind) -> PlaceC
 /// Takes the entry on top away, with its node.
 fn ungrow(parts: &mut Parts)
     ensures content { content_of parts.new ≡ ungrown (content_of parts.old) }
-    ensures capacity { vec_capacity parts.old.stack ≤ vec_capacity parts.new.stack }
+    ensures capacity { KeepsRoom parts.old parts.new }
 {
     parts.stack.pop();
     parts.nodes.pop();
@@ -270,19 +298,21 @@ fn ungrow(parts: &mut Parts)
 
 /// Takes a change back. It takes no memory.
 pub(crate) fn unmake(tables: &Tables, parts: &mut Parts, change: PlaceChange)
-    requires { length (one_back change (unmade tables.now change change.kind
+    requires stack { length (one_back change (unmade tables.now change change.kind
         (content_of parts.old))).stack ≤ vec_capacity parts.old.stack }
+    requires inserted { length (one_back change (unmade tables.now change change.kind
+        (content_of parts.old))).rest.inserted ≤ vec_capacity parts.old.rest.inserted }
     ensures content { content_of parts.new
         ≡ one_back change (unmade tables.now change change.kind (content_of parts.old)) }
-    ensures capacity { vec_capacity parts.old.stack ≤ vec_capacity parts.new.stack }
+    ensures capacity { KeepsRoom parts.old parts.new }
 {
     parts.counter = change.counter;
     parts.mode = change.mode;
     parts.steps = parts.steps.saturating_sub(1);
     match change.kind {
-        StepKind::Shift(_) => {
+        StepKind::Shift(token) => {
             ungrow(parts);
-            parts.at = parts.at.saturating_sub(1);
+            rest::give_back(&mut parts.rest, change.place, token);
         }
         StepKind::Reduce(rule) => unfold(parts, rule_of(tables, rule).1.len()),
         StepKind::Detect => {
@@ -299,7 +329,10 @@ pub(crate) fn unmake(tables: &Tables, parts: &mut Parts, change: PlaceChange)
             parts.stack.push(entry).unwrap();
         }
         StepKind::ShiftError => ungrow(parts),
-        StepKind::Discard(_) => parts.at = parts.at.saturating_sub(1),
+        StepKind::Discard(token) | StepKind::Drop(token) => {
+            rest::give_back(&mut parts.rest, change.place, token);
+        }
+        StepKind::Insert(_) => rest::uninsert(&mut parts.rest),
         StepKind::Accept | StepKind::Fail => {}
     }
 }

@@ -1,28 +1,31 @@
 //! A parse that goes by tables, and steps forward and back in place.
 
-ghost use Rattle.std.specs.Prelude.{◌≡◌, ◌<◌, IsTrue, is_some, length, slice_index_or};
-ghost use Rattle.yparse.specs.Content.{ahead, running_at, popping_at, kind_in, first_place};
-ghost use Rattle.yparse.specs.Content.{configuration_of};
+ghost use Rattle.std.specs.Prelude.{◌≡◌, ◌<◌, IsTrue, IfOk, IfSome, OnOk, OnErr, is_some, length};
+ghost use Rattle.std.specs.Prelude.{slice_index_or};
+ghost use Rattle.yparse.specs.Content.{running_at, popping_at, kind_in, edit_kind, first_place};
+ghost use Rattle.yparse.specs.Content.{configuration_of, made, change_at, valid};
 ghost use Rattle.yparse.specs.History.{History};
 ghost use Rattle.yparse.specs.MachineOver.{machine_over};
 ghost use Rattle.yparse.specs.Parts.{content_of};
 ghost use Rattle.yparse.specs.Place.{IsKept};
 ghost use Rattle.yparse.specs.Rightmost.{UnwindsRight};
-ghost use Rattle.yparse.specs.Tables.{name_of};
+ghost use Rattle.yparse.specs.Spelling.{Spells};
+ghost use Rattle.yparse.specs.Tables.{name_of, is_input};
 ghost use Rattle.yparse.specs.Tokens.{Fits, symbols_of};
 ghost use Rattle.yparse.specs.Tree.{error_leaf};
 ghost use Rattle.yparse.specs.Unwinding.{tree_lines};
 ghost use Rattle.yparse.specs.View.{tree_by, trees_in};
 ghost use Rattle.ytables.specs.Sends.{Sends};
 
-use crate::machine::{Mode, StepFault, StepKind};
+use crate::machine::{Edit, Mode, StepFault, StepKind};
 use crate::parts::{Parts, PlaceChange, children_of, make, make_room, state_below, unmake};
+use crate::rest::{is_left, token_ahead};
 use crate::reversible::Reversible;
 use crate::tables::{cell, grammar_of, known, name_of};
-use crate::tokens::Tokens;
+use crate::tokens::{Tokens, has_blank_end, is_input, only_token};
 use crate::tree_view::TreeView;
 use crate::walk::{Frame, write_lines};
-use std::alloc::Global;
+use std::alloc::{AllocError, Global};
 use std::io::Write;
 use std::marker::Model;
 use ygrammar::Sym;
@@ -52,24 +55,17 @@ impl Model for PlaceParser {
     ghost invariant = { λ p. IsPlace p.tables p.tokens p.parts (vec_capacity p.walk) };
 }
 
-/// The token ahead, or the end.
-fn token_ahead(tokens: &[Sym], at: usize) -> Sym
-    ensures { result ≡ ahead tokens.now at }
-{
-    tokens.get(at).copied().unwrap_or(0)
-}
-
 /// The kind of the step of a running parse.
 fn kind_running(tables: &Tables, tokens: &[Sym], parts: &Parts, state: usize) -> StepKind
     ensures { result ≡ running_at tables.now tokens.now (content_of parts.now) state }
 {
-    let token = token_ahead(tokens, parts.at);
+    let token = token_ahead(tokens, &parts.rest);
     match cell(tables, state, token) {
         Action::Shift(_) => StepKind::Shift(token),
         Action::Reduce(rule) => StepKind::Reduce(rule),
         Action::Accept => StepKind::Accept,
         Action::Error if parts.counter != 3 => StepKind::Detect,
-        Action::Error if parts.at < tokens.len() => StepKind::Discard(token),
+        Action::Error if is_left(tokens, &parts.rest) => StepKind::Discard(token),
         Action::Error => StepKind::Fail,
     }
 }
@@ -89,8 +85,26 @@ fn kind_popping(tables: &Tables, parts: &Parts, state: usize) -> StepKind
     }
 }
 
+/// The kind of an edit, where it can be made.
+pub(crate) fn edit_kind(
+    tables: &Tables,
+    tokens: &[Sym],
+    parts: &Parts,
+    edit: Edit,
+) -> Option<StepKind>
+    ensures { result ≡ edit_kind tables.now tokens.now (content_of parts.now) edit }
+{
+    match edit {
+        Edit::Insert(token) if is_input(grammar_of(tables), token) => Some(StepKind::Insert(token)),
+        Edit::Drop if is_left(tokens, &parts.rest) => {
+            Some(StepKind::Drop(token_ahead(tokens, &parts.rest)))
+        }
+        Edit::Insert(_) | Edit::Drop => None,
+    }
+}
+
 /// The kind of the next step, where there is one.
-fn next_kind(tables: &Tables, tokens: &[Sym], parts: &Parts) -> Option<StepKind>
+pub(crate) fn next_kind(tables: &Tables, tokens: &[Sym], parts: &Parts) -> Option<StepKind>
     ensures { result ≡ kind_in tables.now tokens.now (content_of parts.now) parts.now.mode }
 {
     let state = state_below(&parts.stack, parts.stack.len());
@@ -111,16 +125,7 @@ impl PlaceParser {
         PlaceParser {
             tables,
             tokens,
-            parts: Parts {
-                stack: Vec::new(alloc),
-                nodes: Vec::new(alloc),
-                children: Vec::new(alloc),
-                at: 0,
-                counter: 0,
-                errors: 0,
-                mode: Mode::Running,
-                steps: 0,
-            },
+            parts: Parts::new(alloc),
             walk: Vec::new(alloc),
         }
     }
@@ -130,6 +135,19 @@ impl PlaceParser {
         ensures { result.now ≡ name_of self.now.tables.built.grammar symbol }
     {
         name_of(grammar_of(&self.tables), symbol)
+    }
+
+    /// The input token that these bytes spell.
+    #[tactic(auto, unfolding(crate::specs::MachineOver::machine_over))]
+    pub(crate) fn token(&self, bytes: &[u8]) -> Option<Sym>
+        ensures spells { Spells (machine_over self.now.tables) bytes.now result }
+        ensures input { IfSome result (λ token. IsTrue
+            (is_input (machine_over self.now.tables).tokens token)) }
+    {
+        if has_blank_end(bytes) {
+            return None;
+        }
+        only_token(grammar_of(&self.tables), bytes)
     }
 
     /// What the parse holds.
@@ -173,6 +191,18 @@ impl PlaceParser {
         )
     }
 
+    /// Makes a step or an edit of this kind, which leaves a parse. An `Err` changes nothing.
+    fn change(&mut self, kind: StepKind) -> Result<PlaceChange, AllocError>
+        requires { IsTrue (valid (made kind self.old)) }
+        ensures made { OnOk result (self.new ≡ made kind self.old) }
+        ensures change { IfOk result (λ change. change ≡ change_at kind self.old.content) }
+        ensures same { OnErr result (self.new ≡ self.old) }
+    {
+        let count = children_of(&self.tables, kind);
+        make_room(&mut self.parts, &mut self.walk, count)?;
+        Ok(make(&self.tables, &mut self.parts, kind))
+    }
+
     /// That what is accepted without error steps unwinds to a rightmost derivation. The call does
     /// nothing.
     pub(crate) fn unwinds(&self)
@@ -193,13 +223,17 @@ impl PlaceParser {
 }
 
 impl Reversible for PlaceParser {
-    ghost use Rattle.yparse.specs.Content.{place_next, place_before, place_fits};
+    ghost use Rattle.yparse.specs.Content.{place_next, place_edited, place_before, place_fits};
 
     type Change = PlaceChange;
+
+    type Edit = Edit;
 
     type Kind = StepKind;
 
     ghost next = { place_next };
+
+    ghost edited = { place_edited };
 
     ghost before = { place_before };
 
@@ -209,15 +243,29 @@ impl Reversible for PlaceParser {
 
     fn advance(&mut self) -> Result<PlaceChange, StepFault> {
         known(&self.tables);
-        let kind = match next_kind(&self.tables, &self.tokens.symbols, &self.parts) {
-            None => return Err(StepFault::Halted),
-            Some(kind) => kind,
-        };
-        let count = children_of(&self.tables, kind);
-        if make_room(&mut self.parts, &mut self.walk, count).is_err() {
-            return Err(StepFault::Memory);
+        match next_kind(&self.tables, &self.tokens.symbols, &self.parts) {
+            None => Err(StepFault::Halted),
+            Some(kind) => match self.change(kind) {
+                Ok(change) => Ok(change),
+                Err(_) => Err(StepFault::Memory),
+            },
         }
-        Ok(make(&self.tables, &mut self.parts, kind))
+    }
+
+    fn edit(&mut self, edit: Edit) -> Result<PlaceChange, StepFault> {
+        known(&self.tables);
+        let tokens: &[Sym] = &self.tokens.symbols;
+        match next_kind(&self.tables, tokens, &self.parts) {
+            None => return Err(StepFault::Halted),
+            Some(_) => {}
+        }
+        match edit_kind(&self.tables, tokens, &self.parts, edit) {
+            None => Err(StepFault::NoToken),
+            Some(kind) => match self.change(kind) {
+                Ok(change) => Ok(change),
+                Err(_) => Err(StepFault::Memory),
+            },
+        }
     }
 
     fn revert(&mut self, change: PlaceChange) {

@@ -1,12 +1,15 @@
 //! A session: a parse in place, and each configuration before it.
 
-ghost use Rattle.std.specs.Prelude.{◌≡◌};
+ghost use Rattle.std.specs.Prelude.{◌≡◌, ◌+◌, ◌≤◌, ◌<◌, All, Some, Ok, IfSome, is_some, false};
+ghost use Rattle.std.specs.Prelude.{length, vec_len, vec_capacity, option_map, slice_get};
+ghost use Rattle.yparse.specs.declared.machine.AtStart.{AtStart};
+ghost use Rattle.yparse.specs.Reversible.{StepsBack};
 ghost use Rattle.yparse.specs.History.{IsHistory};
 ghost use Rattle.yparse.specs.MachineOver.{machine_over};
-ghost use Rattle.yparse.specs.Shown.{shown_past, past_in};
+ghost use Rattle.yparse.specs.Shown.{KeepsGround, shown_past};
 
 use crate::journal::Journal;
-use crate::machine::{AtStart, StepFault, StepKind};
+use crate::machine::{AtStart, Edit, StepFault, StepKind};
 use crate::place::PlaceParser;
 use crate::tables::known;
 use crate::tokens::Tokens;
@@ -18,13 +21,49 @@ use ytables::Tables;
 #[derive(Drop)]
 pub struct Session {
     pub(crate) journal: Journal<PlaceParser>,
-    ghost steps: { ∥ IsHistory (machine_over journal.machine.tables) journal.machine.tokens (shown_past (past_in journal.machine journal.changes.items)) ∥₁ },
+    /// While it is unwound, the tokens that the undone steps have shifted, the last one first.
+    /// There is room for a token for each step.
+    pub(crate) later: Vec<Sym>,
+    ghost steps: { ∥ IsHistory (machine_over journal.now.tables) journal.now.tokens
+        (shown_past journal) ∥₁ },
+    ghost ground: { All (KeepsGround journal.now) journal.earlier },
+    ghost room: { vec_len later + length journal.earlier ≤ vec_capacity later },
 }
 
+/// The kind of what was made last, with room for a token for each step. Where the room is refused,
+/// it is taken back.
+fn settle(journal: &mut Journal<PlaceParser>, later: &mut Vec<Sym>) -> Option<StepKind>
+    requires made { 0 < length journal.old.earlier }
+    requires room { length journal.old.earlier ≤ vec_capacity later.old + 1 }
+    ensures kind { IfSome result (λ kind. option_map (λ step. step.0)
+        (slice_get journal.old.earlier 0) ≡ Some kind) }
+    ensures kept { IfSome result (λ _. journal.new ≡ journal.old) }
+    ensures back { is_some result ≡ false → StepsBack {E = AtStart} journal.old (Ok tt) journal.new }
+    ensures room { vec_len later.new + length journal.new.earlier ≤ vec_capacity later.new }
+{
+    later.clear();
+    let kind = match journal.last() {
+        Some(change) => change.kind,
+        None => unreachable!(),
+    };
+    if later.reserve(journal.position()).is_ok() {
+        return Some(kind);
+    }
+    match journal.back() {
+        Ok(()) => None,
+        Err(AtStart) => unreachable!(),
+    }
+}
+
+#[tactic(auto, unfolding(crate::specs::Session::machine_of, crate::specs::Session::history_of, crate::specs::Session::tokens_of, crate::specs::Session::grammar_of))]
 impl Session {
-    ghost use Rattle.std.specs.Prelude.{◌≤◌, slice_get, option_map};
-    ghost use Rattle.yparse.specs.Machine.{next};
-    ghost use Rattle.yparse.specs.Past.{Steps, Undoes, position, most_steps};
+    ghost use Rattle.std.specs.Prelude.{◌≤◌, IsTrue, slice_get, option_map};
+    ghost use Rattle.yparse.specs.declared.machine.Edit.TheVariants as edits;
+    ghost use Rattle.yparse.specs.Tables.{is_input};
+    ghost use Rattle.yparse.specs.Spelling.{Spells};
+    ghost use Rattle.std.specs.Prelude.{IfSome};
+    ghost use Rattle.yparse.specs.Machine.{next, edited};
+    ghost use Rattle.yparse.specs.Past.{Steps, Changes, Undoes, position, most_steps};
     ghost use Rattle.yparse.specs.History.{first_history};
     ghost use Rattle.yparse.specs.Headline.{IsMachineOf};
     ghost use Rattle.yparse.specs.History.{History};
@@ -33,7 +72,6 @@ impl Session {
     ghost use Rattle.yparse.specs.Session.{machine_of, history_of, tokens_of, grammar_of, past_of};
 
     /// The first configuration alone: an empty stack, all tokens, no error. It takes no memory.
-    #[tactic(auto, unfolding(crate::specs::Session::machine_of, crate::specs::Session::history_of, crate::specs::Session::tokens_of, crate::specs::Session::grammar_of))]
     pub fn new(alloc: Global, tables: Tables, tokens: Tokens) -> Session
         requires { Fits tables.built.grammar (symbols_of tokens) }
         ensures machine { machine_of result ≡ machine_over tables }
@@ -49,42 +87,90 @@ impl Session {
         parse.unwinds();
         Session {
             journal: Journal::new(alloc, parse),
+            later: Vec::new(alloc),
         }
     }
 
     /// The kind of the newest step.
-    #[tactic(auto, unfolding(crate::specs::Session::history_of))]
     fn last_kind(&self) -> Option<StepKind>
         ensures { result ≡ option_map (λ step. step.0) (slice_get (past_of self.now).earlier 0) }
     {
         self.journal.last().map(|change| change.kind)
     }
 
-    /// One step forward, and its kind. An `Err` changes nothing: S1 where the parse has halted, else S2 where the
-    /// position is 1,000,000, else S3 where a growth is refused.
-    #[tactic(auto, unfolding(crate::specs::Session::machine_of, crate::specs::Session::history_of, crate::specs::Session::tokens_of, crate::specs::Session::grammar_of))]
+    /// One step forward, and its kind. An `Err` changes nothing: S1 where the parse has halted,
+    /// else S2 where the position is 1,000,000, else S3 where a growth is refused.
     pub fn step(&mut self) -> Result<StepKind, StepFault>
-        ensures steps { Steps (next (machine_of self.old)) (history_of self.old) result (history_of self.new) }
+        ensures steps { Steps (next (machine_of self.old)) (history_of self.old) result
+            (history_of self.new) }
         ensures machine { machine_of self.new ≡ machine_of self.old }
         ensures tokens { tokens_of self.new ≡ tokens_of self.old }
         ensures grammar { grammar_of self.new ≡ grammar_of self.old }
     {
         self.journal.machine().kept();
-        self.journal.step()?;
-        match self.last_kind() {
-            Some(kind) => Ok(kind),
-            None => unreachable!(),
+        match self.journal.step() {
+            Err(fault) => Err(fault),
+            Ok(()) => match settle(&mut self.journal, &mut self.later) {
+                Some(kind) => Ok(kind),
+                None => Err(StepFault::Memory),
+            },
         }
     }
 
-    /// One step back, to the whole earlier configuration, and the kind of the step undone. It takes no memory, and is
-    /// refused at position 0 alone.
-    #[tactic(auto, unfolding(crate::specs::Session::machine_of, crate::specs::Session::history_of, crate::specs::Session::tokens_of, crate::specs::Session::grammar_of))]
-    pub fn back(&mut self) -> Result<StepKind, AtStart>
+    /// One edit of the tokens left, and its kind.
+    fn edit(&mut self, edit: Edit) -> Result<StepKind, StepFault>
+        ensures edits { Changes (next (machine_of self.old)) (edited (machine_of self.old) edit)
+            (history_of self.old) result (history_of self.new) }
+        ensures machine { machine_of self.new ≡ machine_of self.old }
+        ensures tokens { tokens_of self.new ≡ tokens_of self.old }
+        ensures grammar { grammar_of self.new ≡ grammar_of self.old }
+    {
+        self.journal.machine().kept();
+        match self.journal.edit(edit) {
+            Err(fault) => Err(fault),
+            Ok(()) => match settle(&mut self.journal, &mut self.later) {
+                Some(kind) => Ok(kind),
+                None => Err(StepFault::Memory),
+            },
+        }
+    }
+
+    /// This token becomes the first of those left, with place 0: one position more. An `Err`
+    /// changes nothing: S1 where the parse has halted, else S2 where the position is 1,000,000,
+    /// else S3 where a growth is refused.
+    pub fn insert(&mut self, token: Sym) -> Result<StepKind, StepFault>
+        requires { IsTrue (is_input (machine_of self.old).tokens token) }
+        ensures edits { Changes (next (machine_of self.old))
+            (edited (machine_of self.old) (edits.Insert token)) (history_of self.old) result
+            (history_of self.new) }
+        ensures machine { machine_of self.new ≡ machine_of self.old }
+        ensures tokens { tokens_of self.new ≡ tokens_of self.old }
+        ensures grammar { grammar_of self.new ≡ grammar_of self.old }
+    {
+        self.edit(Edit::Insert(token))
+    }
+
+    /// The first of the tokens left is taken out: one position more. An `Err` changes nothing: S1
+    /// where the parse has halted, else S4 where no token is left, else S2 where the position is
+    /// 1,000,000, else S3 where a growth is refused.
+    pub fn drop_next(&mut self) -> Result<StepKind, StepFault>
+        ensures edits { Changes (next (machine_of self.old))
+            (edited (machine_of self.old) edits.Drop) (history_of self.old) result
+            (history_of self.new) }
+        ensures machine { machine_of self.new ≡ machine_of self.old }
+        ensures tokens { tokens_of self.new ≡ tokens_of self.old }
+        ensures grammar { grammar_of self.new ≡ grammar_of self.old }
+    {
+        self.edit(Edit::Drop)
+    }
+
+    /// One step or edit back.
+    pub(crate) fn undo(&mut self) -> Result<StepKind, AtStart>
         ensures undoes { Undoes (history_of self.old) result (history_of self.new) }
         ensures machine { machine_of self.new ≡ machine_of self.old }
         ensures tokens { tokens_of self.new ≡ tokens_of self.old }
         ensures grammar { grammar_of self.new ≡ grammar_of self.old }
+        ensures later { self.new.later ≡ self.old.later }
     {
         let kind = match self.last_kind() {
             Some(kind) => kind,
@@ -94,8 +180,19 @@ impl Session {
         Ok(kind)
     }
 
-    /// How many steps stand, 0 to 1,000,000. Each configuration is the next of the one before it, from the first one on.
-    #[tactic(auto, unfolding(crate::specs::Session::machine_of, crate::specs::Session::history_of, crate::specs::Session::tokens_of, crate::specs::Session::grammar_of))]
+    /// One step or edit back, to the whole earlier configuration, and the kind of what is undone.
+    /// It takes no memory, and is refused at position 0 alone.
+    pub fn back(&mut self) -> Result<StepKind, AtStart>
+        ensures undoes { Undoes (history_of self.old) result (history_of self.new) }
+        ensures machine { machine_of self.new ≡ machine_of self.old }
+        ensures tokens { tokens_of self.new ≡ tokens_of self.old }
+        ensures grammar { grammar_of self.new ≡ grammar_of self.old }
+    {
+        self.undo()
+    }
+
+    /// How many steps and edits stand, 0 to 1,000,000. Each configuration is the next of the one
+    /// before it or an edit of it, from the first one on.
     pub fn position(&self) -> usize
         ensures position { result ≡ position (history_of self.now) }
         ensures few { result ≤ most_steps }
@@ -110,5 +207,15 @@ impl Session {
         ensures { result.now ≡ (machine_of self.now).name symbol }
     {
         self.journal.machine().name(symbol)
+    }
+
+    /// The input token that these bytes spell: one literal or one word, as in a tokens file, with no
+    /// blank before or after it. `None` where they spell none. It takes no memory.
+    pub fn token(&self, bytes: &[u8]) -> Option<Sym>
+        ensures spells { Spells (machine_of self.now) bytes.now result }
+        ensures input { IfSome result (λ token. IsTrue
+            (is_input (machine_of self.now).tokens token)) }
+    {
+        self.journal.machine().token(bytes)
     }
 }

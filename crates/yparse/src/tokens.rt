@@ -1,14 +1,17 @@
 //! The tokens of an input.
 
-ghost use Rattle.std.specs.Prelude.{◌≡◌, ◌<◌, ◌≤◌, ◌↔◌, IsTrue, IfOk, List, ℕ, length, slice_index, Result};
+ghost use Rattle.std.specs.Prelude.{ℕ, ◌≡◌, ◌<◌, ◌≤◌, ◌↔◌, IsTrue, IfOk, List, Result};
+ghost use Rattle.std.specs.Prelude.{length, slice_index};
 ghost use Rattle.yparse.specs.declared.tokens.TokenFault.{TokenFault as Fault};
 ghost use Rattle.yparse.specs.Tables.{symbol_named, token_count, is_input};
 ghost use Rattle.yparse.specs.Tokens.{Fits, symbols_of};
 ghost use Rattle.yparse.specs.TokensFile.{named, Comes};
+ghost use Rattle.yparse.specs.Spelling.{has_blank_end};
+ghost use Rattle.std.specs.Prelude.{[], ◌∷◌, Ok, IfSome, is_some, false};
 ghost use Rattle.yparse.specs.Reading.{Gives, Agrees, TokensOf, next_view};
 
 use crate::tables::grammar_of;
-use crate::words::{Front, front_of};
+use crate::words::{Front, front_of, is_blank};
 use std::alloc::{AllocFailed, Global};
 use thiserror::Error;
 use ygrammar::{Grammar, Sym};
@@ -48,7 +51,7 @@ impl<T: Drop> From<AllocFailed<T>> for TokenFault {
 }
 
 /// Whether a symbol is a token other than `$end` and `error`.
-fn is_input(grammar: &Grammar, symbol: Sym) -> bool
+pub(crate) fn is_input(grammar: &Grammar, symbol: Sym) -> bool
     ensures { result ≡ is_input (token_count grammar.now) symbol }
 {
     1 < symbol && grammar.is_token(symbol)
@@ -103,7 +106,8 @@ pub(crate) enum Next<'a> {
     Fault(TokenFault),
 }
 
-/// The symbol that was found, where it is an input token, and what follows it; else K1 or K2 at this place.
+/// The symbol that was found, where it is an input token, and what follows it; else K1 or K2 at
+/// this place.
 fn named<'a>(grammar: &Grammar, found: Option<Sym>, place: usize, after: &'a [u8]) -> Next<'a>
     ensures { next_view result ≡ named (token_count grammar.now) place found after.entry.now }
 {
@@ -117,7 +121,8 @@ fn named<'a>(grammar: &Grammar, found: Option<Sym>, place: usize, after: &'a [u8
 /// What comes next behind so many tokens.
 fn next_in<'a>(grammar: &Grammar, read: usize, bytes: &'a [u8]) -> Next<'a>
     requires { read ≤ 1000000 }
-    ensures { Comes (symbol_named grammar.now) (token_count grammar.now) read bytes.entry.now (next_view result) }
+    ensures { Comes (symbol_named grammar.now) (token_count grammar.now) read bytes.entry.now
+        (next_view result) }
 {
     match front_of(bytes) {
         Front::Nothing => Next::End,
@@ -151,17 +156,45 @@ fn read_all(alloc: Global, grammar: &Grammar, bytes: &[u8]) -> Result<Tokens, To
     }
 }
 
-/// Reads a tokens file: words between blanks, each the printed name of a token other than `error` and `$end`.
+/// Reads a tokens file: words between blanks, each the printed name of a token other than `error`
+/// and `$end`.
 ///
-/// A literal is looked up by its value, so its spelling is free; what follows it may touch it. The first place at fault
-/// decides: K1 for a word that is no symbol, K2 for one that is no input token, K5 for a quote that begins no literal; K3 at the start of a further word after 1,000,000 tokens. K4 may stand in place of
-/// any answer.
+/// A literal is looked up by its value, so its spelling is free; what follows it may touch it. The
+/// first place at fault decides: K1 for a word that is no symbol, K2 for one that is no input
+/// token, K5 for a quote that begins no literal; K3 at the start of a further word after 1,000,000
+/// tokens. K4 may stand in place of any answer.
 pub fn read_tokens(alloc: Global, tables: &Tables, bytes: &[u8]) -> Result<Tokens, TokenFault>
     // What is answered is what the file has.
     ensures exact { Gives tables.now.built.grammar bytes.now result }
     // What the file has is answered, unless memory runs out.
-    ensures only { (r : Result (List ℕ) Fault) → TokensOf tables.now.built.grammar bytes.now r → Agrees result r }
+    ensures only { (r : Result (List ℕ) Fault) → TokensOf tables.now.built.grammar bytes.now r
+        → Agrees result r }
     ensures fits { IfOk result (λ tokens. Fits tables.now.built.grammar (symbols_of tokens)) }
 {
     read_all(alloc, grammar_of(tables), bytes)
+}
+
+/// The token that these bytes name, where they name exactly one.
+pub(crate) fn only_token(grammar: &Grammar, bytes: &[u8]) -> Option<Sym>
+    ensures found { IfSome result (λ token. TokensOf grammar.now bytes.now (Ok (token ∷ []))) }
+    ensures none { is_some result ≡ false
+        → (token : ℕ) → TokensOf grammar.now bytes.now (Ok (token ∷ [])) → ⊥ }
+{
+    match next_in(grammar, 0, bytes) {
+        Next::Token(symbol, rest) => match next_in(grammar, 1, rest) {
+            Next::End => Some(symbol),
+            Next::Token(_, _) => None,
+            Next::Fault(_) => None,
+        },
+        Next::End => None,
+        Next::Fault(_) => None,
+    }
+}
+
+/// Whether the first byte or the last one is a blank.
+pub(crate) fn has_blank_end(bytes: &[u8]) -> bool
+    ensures { result ≡ has_blank_end bytes.now }
+{
+    let len = bytes.len();
+    len != 0 && (is_blank(bytes[0]) || is_blank(bytes[len - 1]))
 }

@@ -1,11 +1,14 @@
 //! Unwinding: the forms of an accepted parse, from the last one back to the input.
 
-ghost use Rattle.std.specs.Prelude.{◌≡◌, ◌↔◌, ◌++◌, All, IsTrue, IfOk, false, true};
+ghost use Rattle.std.specs.Prelude.{◌≡◌, ◌↔◌, ◌++◌, ◌+◌, ◌<◌, ◌≤◌, [], All, IsTrue, IfOk, false, true};
+ghost use Rattle.std.specs.Prelude.{length, slice_index, vec_len, vec_capacity};
 ghost use Rattle.std.specs.Prelude.{is_some, if◌then◌else◌};
 ghost use Rattle.ytables.specs.Link.{device_of, has_failed};
 ghost use Rattle.ytables.specs.Sends.{Sends};
-ghost use Rattle.yparse.specs.Session.{machine_of, history_of, tokens_of, grammar_of};
-ghost use Rattle.yparse.specs.Unwinding.{NoErrors, form_line, form_of, forms_of, is_error_step};
+ghost use Rattle.yparse.specs.Session.{machine_of, history_of, tokens_of, grammar_of, later_of};
+ghost use Rattle.yparse.specs.Unwinding.{NoErrors, form_line, form_of, forms_of, shifted_from};
+ghost use Rattle.yparse.specs.Unwinding.{is_error_step, whole_input};
+ghost use Rattle.yparse.specs.Past.{position};
 ghost use Rattle.yparse.specs.Unwinding.{is_reduction, joined};
 ghost use Rattle.yparse.specs.Unwound.{GoesBack, Unwinds, gap, is_write};
 
@@ -23,7 +26,8 @@ fn is_error_step(kind: StepKind) -> bool
 {
     match kind {
         StepKind::Detect | StepKind::Pop(_) | StepKind::ShiftError | StepKind::Discard(_) => true,
-        StepKind::Shift(_) | StepKind::Reduce(_) | StepKind::Accept | StepKind::Fail => false,
+        StepKind::Shift(_) | StepKind::Reduce(_) | StepKind::Accept => false,
+        StepKind::Fail | StepKind::Insert(_) | StepKind::Drop(_) => false,
     }
 }
 
@@ -67,11 +71,11 @@ fn put_name<W: Write>(
 /// The names of a form, with one space between.
 fn put_names<W: Write>(session: &Session, link: &mut Link<W>) -> Option<()>
     ensures { Sends W.contents link.old link.new (is_some result)
-        (joined (machine_of session.now) (form_of (history_of session.now).now)) }
+        (joined (machine_of session.now)
+        (form_of (history_of session.now).now (later_of session.now))) }
 {
-    let view = session.view();
-    for index in 0..view.form_len() {
-        put_name(session, link, index, view.form(index))?;
+    for index in 0..session.form_len() {
+        put_name(session, link, index, session.form(index))?;
     }
     Some(())
 }
@@ -79,7 +83,8 @@ fn put_names<W: Write>(session: &Session, link: &mut Link<W>) -> Option<()>
 /// The line of the form that stands now.
 fn put_form<W: Write>(session: &Session, link: &mut Link<W>) -> Option<()>
     ensures { Sends W.contents link.old link.new (is_some result)
-        (form_line (machine_of session.now) (form_of (history_of session.now).now)) }
+        (form_line (machine_of session.now)
+        (form_of (history_of session.now).now (later_of session.now))) }
 {
     put_names(session, link)?;
     put(link, b"\n")
@@ -87,6 +92,7 @@ fn put_form<W: Write>(session: &Session, link: &mut Link<W>) -> Option<()>
 
 /// The forms from the one that stands now back to the first, each after the undo that restores it.
 fn put_forms<W: Write>(session: &mut Session, link: &mut Link<W>) -> Option<()>
+    requires { later_of session.old ≡ [] }
     ensures forms { GoesBack (W.contents (device_of link.old)) (W.contents (device_of link.new))
         (machine_of session.old) (history_of session.old) (is_some result)
         (history_of session.new) }
@@ -97,7 +103,7 @@ fn put_forms<W: Write>(session: &mut Session, link: &mut Link<W>) -> Option<()>
 {
     put_form(session, link)?;
     loop {
-        match session.back() {
+        match session.step_back() {
             Ok(kind) => {
                 if is_reduction(kind) {
                     put_form(session, link)?;
@@ -108,13 +114,96 @@ fn put_forms<W: Write>(session: &mut Session, link: &mut Link<W>) -> Option<()>
     }
 }
 
+/// The forms of a session, the last one first.
+fn write_forms<W: Write>(session: &mut Session, link: &mut Link<W>) -> Option<()>
+    ensures forms { GoesBack (W.contents (device_of link.old)) (W.contents (device_of link.new))
+        (machine_of session.old) (history_of session.old) (is_some result)
+        (history_of session.new) }
+    ensures failed { has_failed link.new ≡ (if is_some result then has_failed link.old else true) }
+    ensures machine { machine_of session.new ≡ machine_of session.old }
+    ensures tokens { tokens_of session.new ≡ tokens_of session.old }
+    ensures grammar { grammar_of session.new ≡ grammar_of session.old }
+{
+    session.forget_later();
+    put_forms(session, link)
+}
+
 impl Session {
     ghost use Rattle.ygrammar.specs.Grammar.{start_of};
     ghost use Rattle.std.specs.Prelude.{[], ◌∷◌};
     ghost use Rattle.yparse.specs.History.{first_history};
-    ghost use Rattle.yparse.specs.Past.{rewound};
+    ghost use Rattle.yparse.specs.Past.{rewound, Undoes};
     ghost use Rattle.yparse.specs.Rightmost.{IsRightmostDerivation};
     ghost use Rattle.yparse.specs.declared.machine.Mode.TheVariants.{Accepted};
+
+    /// How many symbols the form has: those of the stack, and the tokens that were shifted later.
+    #[tactic(auto, unfolding(crate::specs::Session::history_of, crate::specs::Session::later_of))]
+    fn form_len(&self) -> usize
+        ensures { result ≡ length (form_of (history_of self.now).now (later_of self.now)) }
+    {
+        self.journal.machine().parts().stack.len() + self.later.len()
+    }
+
+    /// A symbol of the form.
+    #[tactic(auto, unfolding(crate::specs::Session::history_of, crate::specs::Session::later_of))]
+    fn form(&self, index: usize) -> Sym
+        requires { index < length (form_of (history_of self.now).now (later_of self.now)) }
+        ensures { result
+            ≡ slice_index (form_of (history_of self.now).now (later_of self.now)) index }
+    {
+        let view = self.view();
+        let height = view.stack_len();
+        if index < height {
+            view.stack(index)
+        } else {
+            self.later[self.later.len() - 1 - (index - height)]
+        }
+    }
+
+    /// No step is undone yet.
+    #[tactic(auto, unfolding(crate::specs::Session::machine_of, crate::specs::Session::history_of, crate::specs::Session::tokens_of, crate::specs::Session::grammar_of, crate::specs::Session::later_of))]
+    fn forget_later(&mut self)
+        ensures later { later_of self.new ≡ [] }
+        ensures history { history_of self.new ≡ history_of self.old }
+        ensures machine { machine_of self.new ≡ machine_of self.old }
+        ensures tokens { tokens_of self.new ≡ tokens_of self.old }
+        ensures grammar { grammar_of self.new ≡ grammar_of self.old }
+    {
+        self.later.clear();
+    }
+
+    /// Keeps the token that an undone step has shifted.
+    #[tactic(auto, unfolding(crate::specs::Session::machine_of, crate::specs::Session::history_of, crate::specs::Session::tokens_of, crate::specs::Session::grammar_of, crate::specs::Session::later_of))]
+    fn keep_later(&mut self, kind: StepKind)
+        requires { vec_len self.old.later + position (history_of self.old)
+            < vec_capacity self.old.later }
+        ensures later { later_of self.new ≡ shifted_from kind (later_of self.old) }
+        ensures history { history_of self.new ≡ history_of self.old }
+        ensures machine { machine_of self.new ≡ machine_of self.old }
+        ensures tokens { tokens_of self.new ≡ tokens_of self.old }
+        ensures grammar { grammar_of self.new ≡ grammar_of self.old }
+    {
+        if let StepKind::Shift(token) = kind {
+            self.later.push(token).unwrap();
+        }
+    }
+
+    /// One step or edit back, keeping the token that it has shifted.
+    fn step_back(&mut self) -> Result<StepKind, AtStart>
+        ensures undoes { Undoes (history_of self.old) result (history_of self.new) }
+        ensures later { IfOk result (λ kind. later_of self.new
+            ≡ shifted_from kind (later_of self.old)) }
+        ensures machine { machine_of self.new ≡ machine_of self.old }
+        ensures tokens { tokens_of self.new ≡ tokens_of self.old }
+        ensures grammar { grammar_of self.new ≡ grammar_of self.old }
+    {
+        let kind = match self.undo() {
+            Ok(kind) => kind,
+            Err(AtStart) => return Err(AtStart),
+        };
+        self.keep_later(kind);
+        Ok(kind)
+    }
 
     /// Whether no step that stands is one of recovery.
     #[tactic(auto, unfolding(crate::specs::Session::history_of))]
@@ -126,22 +215,21 @@ impl Session {
 
     /// That a history begins with the first configuration, and unwinds to a rightmost derivation
     /// where it is accepted without error steps. The call does nothing.
-    #[tactic(auto, unfolding(crate::specs::Session::history_of, crate::specs::Session::machine_of, crate::specs::Session::tokens_of, crate::specs::Session::grammar_of))]
     fn derivation(&self)
         ensures first { ∥ rewound (history_of self.now) ≡ first_history (tokens_of self.now) ∥₁ }
         ensures derives { (history_of self.now).now.mode ≡ Accepted
             → NoErrors (history_of self.now).earlier
             → ∥ IsRightmostDerivation (grammar_of self.now).bare
             (start_of (grammar_of self.now).bare ∷ []) (forms_of (history_of self.now))
-            (tokens_of self.now) ∥₁ }
+            (whole_input (history_of self.now)) ∥₁ }
     {
         self.journal.machine().unwinds();
     }
 
     /// Writes the form of the accepted configuration, and undoes all steps, writing the form that
     /// stands after each undone reduction: the parse as a rightmost derivation, the last form
-    /// first. A form is the stack's symbols and the tokens left, their names with one space
-    /// between, on a line of its own.
+    /// first. A form is the stack's symbols and the tokens that are shifted after it, their names
+    /// with one space between, on a line of its own. Edits are undone too, and have no form.
     ///
     /// U1 where the parse isn't accepted, else U2 where an error step was made, both changing
     /// nothing; U3 exactly where the link failed, at the configuration whose form was being
@@ -152,7 +240,7 @@ impl Session {
             (history_of self.new) }
         ensures derives { IfOk result (λ _. ∥ IsRightmostDerivation (grammar_of self.old).bare
             (start_of (grammar_of self.old).bare ∷ []) (forms_of (history_of self.old))
-            (tokens_of self.old) ∥₁) }
+            (whole_input (history_of self.old)) ∥₁) }
         ensures first { IfOk result (λ _. ∥ history_of self.new
             ≡ first_history (tokens_of self.old) ∥₁) }
         ensures failed { has_failed link.new ≡ is_write result }
@@ -168,6 +256,6 @@ impl Session {
             return Err(UnwindFault::HadError);
         }
         self.derivation();
-        put_forms(self, link).ok_or(UnwindFault::Write)
+        write_forms(self, link).ok_or(UnwindFault::Write)
     }
 }

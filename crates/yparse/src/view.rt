@@ -5,11 +5,11 @@ ghost use Rattle.yparse.specs.Content.{configuration_in};
 ghost use Rattle.yparse.specs.Machine.{symbols};
 ghost use Rattle.yparse.specs.Parts.{content_of};
 ghost use Rattle.yparse.specs.Session.{history_of};
-ghost use Rattle.yparse.specs.Unwinding.{form_of};
 ghost use Rattle.yparse.specs.View.{shown_by};
 
 use crate::machine::Mode;
-use crate::parts::{Parts, StackEntry};
+use crate::parts::Parts;
+use crate::rest::{left_at, left_len};
 use crate::session::Session;
 use ygrammar::Sym;
 
@@ -51,42 +51,17 @@ impl<'a> View<'a> {
     pub fn rest_len(&self) -> usize
         ensures { result ≡ length (shown_by self.now).rest }
     {
-        self.tokens.len().saturating_sub(self.parts.at)
+        left_len(self.tokens, &self.parts.rest)
     }
 
-    /// A token that is left, and its place in the input, counted from 1.
-    #[tactic(auto, using(crate::proofs::Rests::within_rest), unfolding(crate::specs::View::shown_by))]
+    /// A token that is left, and its place among the tokens first read, counted from 1; 0 is the
+    /// place of one that was inserted.
+    #[tactic(auto, unfolding(crate::specs::View::shown_by))]
     pub fn rest(&self, index: usize) -> (Sym, usize)
         requires { index < length (shown_by self.now).rest }
         ensures { result ≡ slice_index_or (shown_by self.now).rest index (0, 0) }
     {
-        let rest = &self.tokens[self.parts.at..];
-        let place = self.tokens.len() - rest.len() + index + 1;
-        (rest[index], place)
-    }
-
-    /// How many symbols the form has: those of the stack, and the tokens left.
-    #[tactic(auto, unfolding(crate::specs::View::shown_by))]
-    pub(crate) fn form_len(&self) -> usize
-        ensures { result ≡ length (form_of (shown_by self.now)) }
-    {
-        let stack: &[StackEntry] = &self.parts.stack;
-        let tokens: &[Sym] = self.tokens;
-        stack.len() + tokens.len().saturating_sub(self.parts.at)
-    }
-
-    /// A symbol of the form.
-    #[tactic(auto, unfolding(crate::specs::View::shown_by))]
-    pub(crate) fn form(&self, index: usize) -> Sym
-        requires { index < length (form_of (shown_by self.now)) }
-        ensures { result ≡ slice_index (form_of (shown_by self.now)) index }
-    {
-        let height = self.stack_len();
-        if index < height {
-            self.stack(index)
-        } else {
-            self.rest(index - height).0
-        }
+        left_at(self.tokens, &self.parts.rest, index)
     }
 
     /// The recovery counter, 0 to 3.

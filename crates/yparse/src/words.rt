@@ -1,7 +1,8 @@
 //! The words of a tokens file.
 
 ghost use Rattle.std.specs.Prelude.{◌≡◌, ◌≤◌, ◌==◌, true, false, length, take, drop};
-ghost use Rattle.yparse.specs.TokensFile.{is_blank, is_word_byte, all_pass, begins, FrontAt, FrontIs};
+ghost use Rattle.yparse.specs.TokensFile.{is_blank, is_word_byte, all_pass, begins};
+ghost use Rattle.yparse.specs.TokensFile.{FrontAt, FrontIs};
 ghost use Rattle.yparse.specs.Reading.{front_view};
 
 use ygrammar::literal_at;
@@ -19,7 +20,7 @@ pub(crate) enum Front<'a> {
     Broken,
 }
 
-fn is_blank(byte: u8) -> bool
+pub(crate) fn is_blank(byte: u8) -> bool
     ensures { result ≡ is_blank byte }
 {
     matches!(byte, b' ' | b'\t' | b'\n' | b'\r' | 12)

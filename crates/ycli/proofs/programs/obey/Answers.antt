@@ -15,6 +15,7 @@ returns-in_ok-run_session-in-Session g c =
         machine = machine_of session;
         history = history_of session;
         starts = c.in_ok-session-in-Session.ensures.starts;
+        plain = c.in_ok-run_session-in-Session.ensures.plain;
         tells = c.in_ok-run_session-in-Session.ensures.tells;
         read_fault = c.in_ok-run_session-in-Session.ensures.read_fault;
         write_fault = c.in_ok-run_session-in-Session.ensures.write_fault;

@@ -11,6 +11,9 @@ invariant-loop-i g l = record {
   machine : machine_of l.session ≡ machine_of l.initial.session;
   text : List ℕ;
   sent : Sends g.W.Write.contents l.initial.writer l.writer true text;
-  replied : undo_text (machine_of l.initial.session) l.count false (history_of l.initial.session).earlier ≡ text ++ undo_text (machine_of l.initial.session) (l.count - l._i) l.made (history_of l.session).earlier;
-  left : undone l.count (history_of l.initial.session) ≡ undone (l.count - l._i) (history_of l.session);
+  replied : undo_text (machine_of l.initial.session) l.count false
+      (history_of l.initial.session).earlier ≡ text ++ undo_text (machine_of l.initial.session)
+      (l.count - l._i) l.made (history_of l.session).earlier;
+  left : undone l.count (history_of l.initial.session) ≡ undone (l.count - l._i)
+      (history_of l.session);
 }

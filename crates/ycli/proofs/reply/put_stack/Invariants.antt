@@ -7,4 +7,5 @@ use Rattle.ycli.proofs.reply.put_stack.Given as goal
 
 -- the names so far were sent
 abbrev pub invariant-loop-index : goal.invariant-loop-index
-invariant-loop-index g l = Sends g.W.Write.contents l.initial.writer l.writer true (spaced (machine_of l.session) (take l.index (symbols (history_of l.session).now.stack)))
+invariant-loop-index g l = Sends g.W.Write.contents l.initial.writer l.writer true
+    (spaced (machine_of l.session) (take l.index (symbols (history_of l.session).now.stack)))

@@ -11,6 +11,8 @@ invariant-loop-i g l = record {
   machine : machine_of l.session ≡ machine_of l.initial.session;
   text : List ℕ;
   sent : Sends g.W.Write.contents l.initial.writer l.writer true text;
-  replied : (more : List ℕ) (new : History) → Runs (machine_of l.initial.session) (l.count - l._i) l.made (history_of l.session) more new
-      → Runs (machine_of l.initial.session) l.count false (history_of l.initial.session) (text ++ more) new;
+  replied : (more : List ℕ) (new : History) → Runs (machine_of l.initial.session) (l.count - l._i)
+      l.made (history_of l.session) more new
+      → Runs (machine_of l.initial.session) l.count false (history_of l.initial.session)
+      (text ++ more) new;
 }

@@ -9,7 +9,7 @@ use Rattle.yparse.specs.History.{History}
 use Rattle.yparse.specs.Unwinding.{unwound_text}
 use Rattle.yparse.specs.Unwound.{Unwinds, is_write}
 use Rattle.yparse.specs.Session.{machine_of, history_of}
-use Rattle.ycli.specs.declared.command.Command.TheVariants as commands
+use Rattle.ycli.specs.Command as commands
 use Rattle.ycli.proofs.Replying.{answered, kept_link}
 use Rattle.ycli.proofs.reply.unwind.Goals as goal
 
@@ -22,10 +22,14 @@ returns-in-Err-NotAccepted-clause-answers g c =
     let a = c.args.writer.now in
     let b = c.unwind.new.link in
     let u : Unwinds (w (device_of a)) (w (device_of b)) m h (Err faults.NotAccepted) new =
-    subst (λ (e : UnwindFault). Unwinds (w (device_of a)) (w (device_of b)) m h (Err e) new) c.in-Err-NotAccepted.field-0-is c.in-Err-NotAccepted.ensures.unwinds in
-    let fine : has_failed b ≡ false = subst (λ (e : UnwindFault). has_failed b ≡ is_write (Err e)) c.in-Err-NotAccepted.field-0-is c.in-Err-NotAccepted.ensures.failed in
-    answered w a _ (is_some c.put.result) m h new commands.Unwind (codes "not accepted\n") (inl (u.0, refl, u.1))
-    (Sends-then w a b _ (is_some c.put.result) [] (codes "not accepted\n") (kept_link w a b u.2 c.requires fine) c.put.ensures)
+    subst (λ (e : UnwindFault). Unwinds (w (device_of a)) (w (device_of b)) m h (Err e) new)
+    c.in-Err-NotAccepted.field-0-is c.in-Err-NotAccepted.ensures.unwinds in
+    let fine : has_failed b ≡ false = subst (λ (e : UnwindFault). has_failed b ≡ is_write (Err e))
+    c.in-Err-NotAccepted.field-0-is c.in-Err-NotAccepted.ensures.failed in
+    answered w a _ (is_some c.put.result) m h new commands.Unwind (codes "not accepted\n")
+    (inl (u.0, refl, u.1))
+    (Sends-then w a b _ (is_some c.put.result) [] (codes "not accepted\n")
+    (kept_link w a b u.2 c.requires fine) c.put.ensures)
 
 pub returns-in-Err-HadError-clause-answers : goal.returns-in-Err-HadError-clause-answers
 returns-in-Err-HadError-clause-answers g c =
@@ -36,10 +40,14 @@ returns-in-Err-HadError-clause-answers g c =
     let a = c.args.writer.now in
     let b = c.unwind.new.link in
     let u : Unwinds (w (device_of a)) (w (device_of b)) m h (Err faults.HadError) new =
-    subst (λ (e : UnwindFault). Unwinds (w (device_of a)) (w (device_of b)) m h (Err e) new) c.in-Err-HadError.field-0-is c.in-Err-HadError.ensures.unwinds in
-    let fine : has_failed b ≡ false = subst (λ (e : UnwindFault). has_failed b ≡ is_write (Err e)) c.in-Err-HadError.field-0-is c.in-Err-HadError.ensures.failed in
-    answered w a _ (is_some c.put-in-Err-HadError.result) m h new commands.Unwind (codes "had error\n") (inr (inl (u.0, u.1, refl, u.2)))
-    (Sends-then w a b _ (is_some c.put-in-Err-HadError.result) [] (codes "had error\n") (kept_link w a b u.3 c.requires fine) c.put-in-Err-HadError.ensures)
+    subst (λ (e : UnwindFault). Unwinds (w (device_of a)) (w (device_of b)) m h (Err e) new)
+    c.in-Err-HadError.field-0-is c.in-Err-HadError.ensures.unwinds in
+    let fine : has_failed b ≡ false = subst (λ (e : UnwindFault). has_failed b ≡ is_write (Err e))
+    c.in-Err-HadError.field-0-is c.in-Err-HadError.ensures.failed in
+    answered w a _ (is_some c.put-in-Err-HadError.result) m h new commands.Unwind
+    (codes "had error\n") (inr (inl (u.0, u.1, refl, u.2)))
+    (Sends-then w a b _ (is_some c.put-in-Err-HadError.result) [] (codes "had error\n")
+    (kept_link w a b u.3 c.requires fine) c.put-in-Err-HadError.ensures)
 
 pub returns-in-Err-Write-clause-answers : goal.returns-in-Err-Write-clause-answers
 returns-in-Err-Write-clause-answers g c =
@@ -50,6 +58,16 @@ returns-in-Err-Write-clause-answers g c =
     let a = c.args.writer.now in
     let b = c.unwind.new.link in
     let u : Unwinds (w (device_of a)) (w (device_of b)) m h (Err faults.Write) new =
-    subst (λ (e : UnwindFault). Unwinds (w (device_of a)) (w (device_of b)) m h (Err e) new) c.in-Err-Write.field-0-is c.in-Err-Write.ensures.unwinds in
-    let cut : has_failed b ≡ true = subst (λ (e : UnwindFault). has_failed b ≡ is_write (Err e)) c.in-Err-Write.field-0-is c.in-Err-Write.ensures.failed in
-    (unwound_text m h, rewound h, inr (inr (u.0, u.1, refl, refl)), record { bytes = u.2.begins; failed = cut })
+    subst (λ (e : UnwindFault). Unwinds (w (device_of a)) (w (device_of b)) m h (Err e) new)
+    c.in-Err-Write.field-0-is c.in-Err-Write.ensures.unwinds in
+    let cut : has_failed b ≡ true = subst (λ (e : UnwindFault). has_failed b ≡ is_write (Err e))
+    c.in-Err-Write.field-0-is c.in-Err-Write.ensures.failed in (
+      unwound_text m h,
+      rewound h,
+      inr (inr (u.0, u.1, refl, refl)),
+      record {
+        bytes =
+            u.2.begins;
+        failed = cut;
+      },
+    )

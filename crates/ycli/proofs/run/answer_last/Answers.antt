@@ -1,29 +1,31 @@
-use Rattle.std.proofs.Common.{◌≡◌, ◌==◌, ℕ, List, [], Bool, true, false, Some, None, is_some, length, refl, ap, sym, ◌∙◌, subst}
-use Rattle.yparse.specs.Machine.{Machine}
-use Rattle.yparse.specs.History.{History}
+use Rattle.std.proofs.Common.{◌≡◌, ◌==◌, ℕ, List, [], Bool, true, false, is_some, length, ap, sym}
+use Rattle.std.proofs.Common.{◌∙◌}
 use Rattle.yparse.specs.Session.{machine_of, history_of}
-use Rattle.ycli.specs.Serving.{Ends}
-use Rattle.ycli.proofs.Transcripts.{ends_line, ends_fault, answers_held}
+use Rattle.ycli.specs.Command.{command_view}
+use Rattle.ycli.specs.Line.{line_of, line_view}
+use Rattle.ycli.proofs.Transcripts.{ends_line, ends_quit}
 use Rattle.ycli.proofs.run.answer_last.Goals as goal
 
-pub returns-in_err-_goes_on-clause-tells : goal.returns-in_err-_goes_on-clause-tells
-returns-in_err-_goes_on-clause-tells g c = λ line e.
-    let w = g.W.Write.contents in
-    let m : Machine = machine_of c.args.session.now in
-    let h : History = history_of c.args.session.now in
-    let new : History = history_of c.answer.new.session in
-    let held : List ℕ = c.args.held.now in
-    let some : held ≡ [] → ⊥ = λ z. let bad : false ≡ true = sym c.if-is_empty.false ∙ c.is_empty.ensures ∙ ap (λ (l : List ℕ). length l == 0) (c.as_slice-last.ensures ∙ z) in cc in
-    let said = answers_held w c.args.writer.now c.answer.new.writer None None m m h new c.as_slice-last.result.now held refl c.as_slice-last.ensures refl c.in_err-_goes_on.ensures.answers in
-    subst (λ (b : Bool). Ends w c.args.writer.now c.answer.new.writer b m h line) (sym (ap is_some c.from_residual.ensures)) (ends_fault w c.args.writer.now c.answer.new.writer m h new line held e some said)
+-- a list that isn't empty by the test
+some : (held last : List ℕ) (empty : Bool) → last ≡ held → empty ≡ (length last == 0)
+    → empty ≡ false → held ≡ [] → ⊥
+some held last empty e test full none =
+    let bad : false ≡ true = sym full ∙ test ∙ ap (λ (l : List ℕ). length l == 0) (e ∙ none) in cc
 
-pub returns-clause-tells : goal.returns-clause-tells
-returns-clause-tells g c = λ line e.
-    let w = g.W.Write.contents in
-    let m : Machine = machine_of c.args.session.now in
-    let h : History = history_of c.args.session.now in
-    let new : History = history_of c.answer.new.session in
-    let held : List ℕ = c.args.held.now in
-    let some : held ≡ [] → ⊥ = λ z. let bad : false ≡ true = sym c.if-is_empty.false ∙ c.is_empty.ensures ∙ ap (λ (l : List ℕ). length l == 0) (c.as_slice-last.ensures ∙ z) in cc in
-    let said = answers_held w c.args.writer.now c.answer.new.writer (Some c.in_ok-_goes_on._goes_on) (Some c.in_ok-_goes_on._goes_on) m m h new c.as_slice-last.result.now held refl c.as_slice-last.ensures refl c.in_ok-_goes_on.ensures.answers in
-    ends_line w c.args.writer.now c.answer.new.writer m h new line held c.in_ok-_goes_on._goes_on e some said
+pub returns-in-Quit-clause-tells : goal.returns-in-Quit-clause-tells
+returns-in-Quit-clause-tells g c = λ line e.
+    ends_quit g.W.Write.contents c.args.writer.now (machine_of c.args.session.now)
+    (history_of c.args.session.now) line c.args.held.now e
+    (some c.args.held.now c.as_slice-last.result.now c.is_empty.result c.as_slice-last.ensures
+    c.is_empty.ensures c.if-is_empty.false)
+    (sym (c.line_in.ensures ∙ ap line_of c.as_slice-last.ensures) ∙ ap line_view c.in-Quit.is)
+
+pub returns-in-Command-clause-tells : goal.returns-in-Command-clause-tells
+returns-in-Command-clause-tells g c = λ line e.
+    ends_line g.W.Write.contents c.args.writer.now c.answer.new.writer (is_some c.answer.result)
+    (machine_of c.args.session.now) (history_of c.args.session.now)
+    (history_of c.answer.new.session) line c.args.held.now (command_view c.in-Command.command) e
+    (some c.args.held.now c.as_slice-last.result.now c.is_empty.result c.as_slice-last.ensures
+    c.is_empty.ensures c.if-is_empty.false)
+    (sym (c.line_in.ensures ∙ ap line_of c.as_slice-last.ensures) ∙ ap line_view c.in-Command.is)
+    c.answer.ensures.answers

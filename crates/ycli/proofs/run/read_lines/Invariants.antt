@@ -3,6 +3,7 @@ use Rattle.std.specs.Io.KnownBytes.{Consumes}
 use Rattle.ytables.specs.Link.{device_of, has_failed}
 use Rattle.ytables.specs.Sends.{Sends}
 use Rattle.yparse.specs.Session.{machine_of, history_of}
+use Rattle.ycli.specs.declared.run.Flow.TheVariants.{GoesOn}
 use Rattle.ycli.specs.Serving.{whole_lines, rest_line, Replies}
 use Rattle.ycli.proofs.run.read_lines.Given as goal
 
@@ -18,7 +19,7 @@ invariant-loop-i g l = record {
       (g.R.Read.remaining (device_of l.reader)) taken;
   enough : l._i ≤ length taken;
   replied : Replies (machine_of l.initial.session) (history_of l.initial.session)
-      (whole_lines taken) text (history_of l.session);
+      (whole_lines taken) GoesOn text (history_of l.session);
   sent : Sends g.W.Write.contents l.initial.writer l.writer true text;
   held : l.held ≡ take 4097 (rest_line taken);
 }

@@ -1,6 +1,8 @@
-use Rattle.std.proofs.Common.{◌≡◌, ◌<◌, ◌^◌, ℕ, List, Bool, true, false, Some, Result, Ok, Err}
+use Rattle.std.proofs.Common.{◌≡◌, ◌<◌, ◌^◌, ℕ, List, true, false, Some, Result, Ok, Err}
 use Rattle.std.proofs.Common.{length, take, ap, sym, ◌∙◌, subst}
 use Rattle.std.proofs.lemmas.Result.{err_from_is_err_and}
+use Rattle.ycli.specs.declared.run.Flow.{Flow}
+use Rattle.ycli.specs.declared.run.Flow.TheVariants.{GoesOn, Quit}
 use Rattle.ycli.specs.declared.fault.SessionFault.{SessionFault}
 use Rattle.ycli.specs.declared.fault.SessionFault.TheVariants as faults
 use Rattle.ytables.specs.Link.{device_of}
@@ -35,8 +37,8 @@ returns-in_err-read_lines-clause-tells g c =
     → Tells m h input left (w (device_of c.args.writer.now))
     (w (device_of c.read_lines.new.writer)) c.from_residual.result) f
 
-pub returns-then-not-branch-clause-tells : goal.returns-then-not-branch-clause-tells
-returns-then-not-branch-clause-tells g c =
+pub returns-in-Quit-clause-tells : goal.returns-in-Quit-clause-tells
+returns-in-Quit-clause-tells g c =
     let w = g.W.Write.contents in
     let m : Machine = machine_of c.args.session.now in
     let h : History = history_of c.args.session.now in
@@ -44,9 +46,9 @@ returns-then-not-branch-clause-tells g c =
     let before = g.R.Read.remaining (device_of c.args.reader.now) in
     let left = g.R.Read.remaining (device_of c.read_lines.new.reader) in
     let told : ReadTells w c.args.writer.now c.read_lines.new.writer before left
-    (Ok false) m h now c.read_lines.new.held =
-    subst (λ (b : Bool). ReadTells w c.args.writer.now c.read_lines.new.writer before left
-    (Ok b) m h now c.read_lines.new.held) c.if-not-branch.true
+    (Ok Quit) m h now c.read_lines.new.held =
+    subst (λ (f : Flow). ReadTells w c.args.writer.now c.read_lines.new.writer before left
+    (Ok f) m h now c.read_lines.new.held) c.in-Quit.is
     c.in_ok-read_lines.ensures.tells in
     let f : (input : List ℕ) → before ≡ Some input → length input < 2 ^ 63
     → Tells m h input left (w (device_of c.args.writer.now))
@@ -66,9 +68,9 @@ returns-in-Some-clause-tells g c =
     let before = g.R.Read.remaining (device_of c.args.reader.now) in
     let left = g.R.Read.remaining (device_of c.read_lines.new.reader) in
     let told : ReadTells w c.args.writer.now c.read_lines.new.writer before left
-    (Ok true) m h now c.read_lines.new.held =
-    subst (λ (b : Bool). ReadTells w c.args.writer.now c.read_lines.new.writer before left
-    (Ok b) m h now c.read_lines.new.held) c.if-not-branch.false
+    (Ok GoesOn) m h now c.read_lines.new.held =
+    subst (λ (f : Flow). ReadTells w c.args.writer.now c.read_lines.new.writer before left
+    (Ok f) m h now c.read_lines.new.held) c.in-GoesOn.is
     c.in_ok-read_lines.ensures.tells in
     let ends : (line : List ℕ) → c.read_lines.new.held ≡ take 4097 line
     → Ends w c.read_lines.new.writer c.answer_last.new.writer true m now line =
@@ -95,9 +97,9 @@ returns-in-None-clause-tells g c =
     let before = g.R.Read.remaining (device_of c.args.reader.now) in
     let left = g.R.Read.remaining (device_of c.read_lines.new.reader) in
     let told : ReadTells w c.args.writer.now c.read_lines.new.writer before left
-    (Ok true) m h now c.read_lines.new.held =
-    subst (λ (b : Bool). ReadTells w c.args.writer.now c.read_lines.new.writer before left
-    (Ok b) m h now c.read_lines.new.held) c.if-not-branch.false
+    (Ok GoesOn) m h now c.read_lines.new.held =
+    subst (λ (f : Flow). ReadTells w c.args.writer.now c.read_lines.new.writer before left
+    (Ok f) m h now c.read_lines.new.held) c.in-GoesOn.is
     c.in_ok-read_lines.ensures.tells in
     let ends : (line : List ℕ) → c.read_lines.new.held ≡ take 4097 line
     → Ends w c.read_lines.new.writer c.answer_last.new.writer false m now line =

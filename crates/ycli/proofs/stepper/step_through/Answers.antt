@@ -1,4 +1,5 @@
-use Rattle.std.proofs.Common.{ℕ, ◌≡◌, ◌<◌, ◌^◌, List, Option, Result, Ok, Err, length, IfSome, ap, sym, subst}
+use Rattle.std.proofs.Common.{ℕ, ◌≡◌, ◌<◌, ◌^◌, List, Option, Result, Ok, Err, length, IfSome, ap}
+use Rattle.std.proofs.Common.{sym, subst}
 use Rattle.ytables.specs.Link.{device_of}
 use Rattle.yparse.specs.Machine.{Machine}
 use Rattle.yparse.specs.History.{History}
@@ -25,12 +26,17 @@ pub returns-in-Ok-run_session-clause-ends : goal.returns-in-Ok-run_session-claus
 returns-in-Ok-run_session-clause-ends g c =
     let r = g.R.Read.remaining in
     let w = g.W.Write.contents in
-    let m = machine_of c.in-Ok.session in
-    let h = history_of c.in-Ok.session in
+    let m = machine_of c.in-Ok-session_over.session in
+    let h = history_of c.in-Ok-session_over.session in
     record {
       machine = m;
       history = h;
-      begins = c.in-Ok.ensures.begins;
+      begins = record {
+        grammar = c.in-Ok.tables.built.grammar;
+        means = c.in-Ok.ensures.tables.grammar;
+        parses = c.in-Ok-session_over.ensures.parses;
+      };
+      plain = c.in-Ok-run_session.ensures.plain;
       tells = told m h (Ok tt) (r (device_of c.args.reader.now)) (r (device_of c.clear.new.self))
           (r (device_of c.run_session.new.reader)) (w (device_of c.args.writer.now))
           (w (device_of c.clear-2.new.self)) (w (device_of c.run_session.new.writer))
@@ -42,12 +48,17 @@ pub returns-in-Err-run_session-clause-ends : goal.returns-in-Err-run_session-cla
 returns-in-Err-run_session-clause-ends g c =
     let r = g.R.Read.remaining in
     let w = g.W.Write.contents in
-    let m = machine_of c.in-Ok.session in
-    let h = history_of c.in-Ok.session in
+    let m = machine_of c.in-Ok-session_over.session in
+    let h = history_of c.in-Ok-session_over.session in
     record {
       machine = m;
       history = h;
-      begins = c.in-Ok.ensures.begins;
+      begins = record {
+        grammar = c.in-Ok.tables.built.grammar;
+        means = c.in-Ok.ensures.tables.grammar;
+        parses = c.in-Ok-session_over.ensures.parses;
+      };
+      plain = c.in-Err-run_session.ensures.plain;
       tells = told m h (Err c.in-Err-run_session.fault) (r (device_of c.args.reader.now))
           (r (device_of c.clear.new.self)) (r (device_of c.run_session.new.reader))
           (w (device_of c.args.writer.now)) (w (device_of c.clear-2.new.self))

@@ -12,7 +12,10 @@ abbrev pub invariant-loop-symbols : goal.invariant-loop-symbols
 invariant-loop-symbols l = record {
   few : length l.symbols.items ≤ 1000000;
   inputs : All (IsInput (token_count l.grammar)) l.symbols.items;
-  told : (r : Result (List ℕ) TokenFault) → Outcome (symbol_named l.grammar) (token_count l.grammar) (length l.symbols.items) l.rest r → Outcome (symbol_named l.grammar) (token_count l.grammar) 0 l.initial.bytes (after_tokens l.symbols.items r);
+  told : (r : Result (List ℕ) TokenFault)
+      → Outcome (symbol_named l.grammar) (token_count l.grammar) (length l.symbols.items) l.rest r
+      → Outcome (symbol_named l.grammar) (token_count l.grammar) 0 l.initial.bytes
+      (after_tokens l.symbols.items r);
 }
 
 -- each word takes a byte

@@ -7,4 +7,5 @@ use Rattle.yparse.proofs.tokens.read_tokens.Goals as goal
 pub returns-clause-only : goal.returns-clause-only
 returns-clause-only c =
     agrees c.args.tables.now.built.grammar c.args.bytes.now c.read_all.result
-    (subst (λ (v : GrammarValue). Gives v c.args.bytes.now c.read_all.result) c.grammar_of.ensures c.read_all.ensures.exact)
+    (subst (λ (v : GrammarValue). Gives v c.args.bytes.now c.read_all.result) c.grammar_of.ensures
+    c.read_all.ensures.exact)

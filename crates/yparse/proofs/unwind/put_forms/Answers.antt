@@ -1,15 +1,18 @@
-use Rattle.std.proofs.Common.{ℕ, suc, ◌≡◌, ◌++◌, ◌∷◌, [], List, true, false, length, flat_map, refl, ap, sym, subst, ◌∙◌, append_assoc, append-nil, arith, Option}
+use Rattle.std.proofs.Common.{ℕ, suc, ◌≡◌, ◌++◌, ◌∷◌, [], List, true, false, length, flat_map, refl}
+use Rattle.std.proofs.Common.{ap, sym, subst, ◌∙◌, append_assoc, append-nil, arith, Option}
 use Rattle.std.specs.Io.KnownBytes.{Appends}
 use Rattle.std.proofs.KnownBytes.{Appends-nil}
 use Rattle.ytables.specs.Link.{device_of}
-use Rattle.ytables.specs.Sends.{Sends}
+use Rattle.ytables.specs.Sends.{Sends, Begins}
 use Rattle.ytables.proofs.Sent.{Sends-then}
 use Rattle.yparse.specs.Machine.{Machine}
 use Rattle.yparse.specs.Past.{position, undone}
 use Rattle.yparse.specs.History.{History}
-use Rattle.yparse.specs.Session.{machine_of, history_of}
-use Rattle.yparse.specs.Unwinding.{form_of, forms_of, forms_before, form_line, is_reduction}
-use Rattle.yparse.proofs.Unwound.{undone-next, forms-reduction, forms-other, stops, goes_back-none, lines-push}
+use Rattle.yparse.specs.Session.{machine_of, history_of, later_of}
+use Rattle.yparse.specs.Unwinding.{form_of, shifted_from, forms_from, forms_of, forms_before}
+use Rattle.yparse.specs.Unwinding.{form_line, is_reduction}
+use Rattle.yparse.proofs.Unwound.{undone-next, forms-reduction, forms-other, stops, goes_back-none}
+use Rattle.yparse.proofs.Unwound.{lines-push}
 use Rattle.yparse.proofs.unwind.put_forms.Goals as goal
 
 pub returns-in_err-put_form-clause-forms : goal.returns-in_err-put_form-clause-forms
@@ -20,7 +23,9 @@ returns-in_err-put_form-clause-forms g c =
     let a : Option (List ℕ) = w (device_of c.args.link.now) in
     let known : Option (List ℕ) = w (device_of c.put_form.new.link) in
     goes_back-none a known m h h c.from_residual.result c.from_residual.ensures
-    (stops a a known m h h 0 [] refl refl (Appends-nil a) c.in_err-put_form.ensures.bytes)
+    (stops a a known m h h 0 [] [] refl refl (Appends-nil a)
+    (subst (λ (later : List ℕ). Begins a known (form_line m (form_of h.now later))) c.requires
+    c.in_err-put_form.ensures.bytes))
 
 pub loop-kind-init : goal.loop-kind-init
 loop-kind-init g c =
@@ -34,9 +39,14 @@ loop-kind-init g c =
       steps = 0;
       left = refl;
       count = omega arith;
-      before = form_of h.now ∷ [];
-      forms = refl;
-      sent = subst (λ (t : List ℕ). Sends w c.args.link.now c.put_form.new.link true t) (sym (append-nil (form_line m (form_of h.now)))) c.in_ok-put_form.ensures;
+      before = form_of h.now [] ∷ [];
+      forms = ap (λ (later : List ℕ). form_of h.now [] ∷ forms_before later h.earlier)
+          (sym c.requires);
+      sent =
+          subst (λ (t : List ℕ). Sends w c.args.link.now c.put_form.new.link true t)
+          (sym (append-nil (form_line m (form_of h.now []))))
+          (subst (λ (later : List ℕ). Sends w c.args.link.now c.put_form.new.link true
+          (form_line m (form_of h.now later))) c.requires c.in_ok-put_form.ensures);
     }
 
 pub loop-kind-preserved-in-Continue-branch-2 : goal.loop-kind-preserved-in-Continue-branch-2
@@ -45,14 +55,20 @@ loop-kind-preserved-in-Continue-branch-2 g c =
     let m : Machine = machine_of c.args.session.now in
     let h : History = history_of c.args.session.now in
     let mid : History = history_of c.loop-kind.session in
-    let new : History = history_of c.back.new.self in
+    let new : History = history_of c.step_back.new.self in
     let inv = c.loop-kind.invariant in
     let kind = c.in-Ok.kind in
+    let was : List ℕ = later_of c.loop-kind.session in
+    let later : List ℕ = later_of c.step_back.new.self in
+    let grown : later ≡ shifted_from kind was = c.in-Ok.ensures.later in
     let undoes : mid.earlier ≡ (kind, new.now) ∷ new.earlier = c.in-Ok.ensures.undoes in
     let one : is_reduction kind ≡ true = sym c.is_reduction.ensures ∙ c.if-is_reduction.true in
     let fewer : length mid.earlier ≡ suc (length new.earlier) = ap length undoes in
-    let line : Sends w c.loop-kind.link c.put_form-then-is_reduction.new.link true (form_line m (form_of new.now)) =
-    subst (λ (x : Machine). Sends w c.loop-kind.link c.put_form-then-is_reduction.new.link true (form_line x (form_of new.now))) (c.in-Ok.ensures.machine ∙ inv.machine) c.in_ok-put_form-in-Ok.ensures in
+    let line : Sends w c.loop-kind.link c.put_form-then-is_reduction.new.link true
+    (form_line m (form_of new.now later)) =
+    subst (λ (x : Machine). Sends w c.loop-kind.link c.put_form-then-is_reduction.new.link true
+    (form_line x (form_of new.now later))) (c.in-Ok.ensures.machine
+    ∙ inv.machine) c.in_ok-put_form-in-Ok.ensures in
     record {
       machine = c.in-Ok.ensures.machine ∙ inv.machine;
       tokens = c.in-Ok.ensures.tokens ∙ inv.tokens;
@@ -60,11 +76,17 @@ loop-kind-preserved-in-Continue-branch-2 g c =
       steps = suc inv.steps;
       left = undone-next inv.steps h.now h.earlier mid new kind inv.left undoes;
       count = omega (arith, inv.count, fewer);
-      before = inv.before ++ form_of new.now ∷ [];
-      forms = inv.forms ∙ ap (λ (l : List (List ℕ)). inv.before ++ l) (forms-reduction kind mid new undoes one) ∙ sym (append_assoc inv.before (form_of new.now ∷ []) (forms_before new.earlier));
+      before = inv.before ++ form_of new.now later ∷ [];
+      forms = inv.forms ∙ ap (λ (l : List (List ℕ)). inv.before ++ l)
+          (forms-reduction kind was mid new undoes one
+          ∙ ap (λ (l : List ℕ). forms_from l new) (sym grown))
+          ∙ sym (append_assoc inv.before (form_of new.now later ∷ [])
+          (forms_before later new.earlier));
       sent =
-          subst (λ (t : List ℕ). Sends w c.args.link.now c.put_form-then-is_reduction.new.link true t) (sym (lines-push m inv.before (form_of new.now)))
-          (Sends-then w _ _ _ true (flat_map (form_line m) inv.before) (form_line m (form_of new.now)) inv.sent line);
+          subst (λ (t : List ℕ). Sends w c.args.link.now c.put_form-then-is_reduction.new.link true
+          t) (sym (lines-push m inv.before (form_of new.now later)))
+          (Sends-then w _ _ _ true (flat_map (form_line m) inv.before)
+          (form_line m (form_of new.now later)) inv.sent line);
     }
 
 pub returns-in_err-put_form-in-Ok-clause-forms : goal.returns-in_err-put_form-in-Ok-clause-forms
@@ -73,27 +95,42 @@ returns-in_err-put_form-in-Ok-clause-forms g c =
     let m : Machine = machine_of c.args.session.now in
     let h : History = history_of c.args.session.now in
     let mid : History = history_of c.loop-kind.session in
-    let new : History = history_of c.back.new.self in
+    let new : History = history_of c.step_back.new.self in
     let inv = c.loop-kind.invariant in
     let kind = c.in-Ok.kind in
+    let was : List ℕ = later_of c.loop-kind.session in
+    let later : List ℕ = later_of c.step_back.new.self in
+    let grown : later ≡ shifted_from kind was = c.in-Ok.ensures.later in
     let undoes : mid.earlier ≡ (kind, new.now) ∷ new.earlier = c.in-Ok.ensures.undoes in
     let one : is_reduction kind ≡ true = sym c.is_reduction.ensures ∙ c.if-is_reduction.true in
     let a : Option (List ℕ) = w (device_of c.args.link.now) in
     let b : Option (List ℕ) = w (device_of c.loop-kind.link) in
     let known : Option (List ℕ) = w (device_of c.put_form-then-is_reduction.new.link) in
-    let cut : Sends w c.loop-kind.link c.put_form-then-is_reduction.new.link false (form_line m (form_of new.now)) =
-    subst (λ (x : Machine). Sends w c.loop-kind.link c.put_form-then-is_reduction.new.link false (form_line x (form_of new.now))) (c.in-Ok.ensures.machine ∙ inv.machine) c.in_err-put_form-in-Ok.ensures in
-    let forms : forms_of h ≡ inv.before ++ forms_of new = inv.forms ∙ ap (λ (l : List (List ℕ)). inv.before ++ l) (forms-reduction kind mid new undoes one) in
-    goes_back-none a known m h new c.from_residual-in_err-put_form-in-Ok.result c.from_residual-in_err-put_form-in-Ok.ensures
-    (stops a b known m h new (suc inv.steps) inv.before (undone-next inv.steps h.now h.earlier mid new kind inv.left undoes) forms inv.sent.bytes cut.bytes)
+    let cut : Sends w c.loop-kind.link c.put_form-then-is_reduction.new.link false
+    (form_line m (form_of new.now later)) =
+    subst (λ (x : Machine). Sends w c.loop-kind.link c.put_form-then-is_reduction.new.link false
+    (form_line x (form_of new.now later))) (c.in-Ok.ensures.machine
+    ∙ inv.machine) c.in_err-put_form-in-Ok.ensures in
+    let forms : forms_of h ≡ inv.before ++ forms_from later new =
+    inv.forms ∙ ap (λ (l : List (List ℕ)). inv.before ++ l)
+    (forms-reduction kind was mid new undoes one
+    ∙ ap (λ (l : List ℕ). forms_from l new) (sym grown)) in
+    goes_back-none a known m h new c.from_residual-in_err-put_form-in-Ok.result
+    c.from_residual-in_err-put_form-in-Ok.ensures
+    (stops a b known m h new (suc inv.steps) inv.before later
+    (undone-next inv.steps h.now h.earlier mid new kind inv.left undoes) forms inv.sent.bytes
+    cut.bytes)
 
 pub loop-kind-preserved : goal.loop-kind-preserved
 loop-kind-preserved g c =
     let h : History = history_of c.args.session.now in
     let mid : History = history_of c.loop-kind.session in
-    let new : History = history_of c.back.new.self in
+    let new : History = history_of c.step_back.new.self in
     let inv = c.loop-kind.invariant in
     let kind = c.in-Ok.kind in
+    let was : List ℕ = later_of c.loop-kind.session in
+    let later : List ℕ = later_of c.step_back.new.self in
+    let grown : later ≡ shifted_from kind was = c.in-Ok.ensures.later in
     let undoes : mid.earlier ≡ (kind, new.now) ∷ new.earlier = c.in-Ok.ensures.undoes in
     let none : is_reduction kind ≡ false = sym c.is_reduction.ensures ∙ c.if-is_reduction.false in
     let fewer : length mid.earlier ≡ suc (length new.earlier) = ap length undoes in
@@ -105,7 +142,9 @@ loop-kind-preserved g c =
       left = undone-next inv.steps h.now h.earlier mid new kind inv.left undoes;
       count = omega (arith, inv.count, fewer);
       before = inv.before;
-      forms = inv.forms ∙ ap (λ (l : List (List ℕ)). inv.before ++ l) (forms-other kind mid new undoes none);
+      forms = inv.forms ∙ ap (λ (l : List (List ℕ)). inv.before ++ l)
+          (forms-other kind was mid new undoes none
+          ∙ ap (λ (l : List ℕ). forms_before l new.earlier) (sym grown));
       sent = inv.sent;
     }
 
@@ -115,15 +154,19 @@ returns-in-Err-clause-forms g c =
     let m : Machine = machine_of c.args.session.now in
     let h : History = history_of c.args.session.now in
     let mid : History = history_of c.loop-kind.session in
-    let new : History = history_of c.back.new.self in
+    let new : History = history_of c.step_back.new.self in
     let inv = c.loop-kind.invariant in
     let none : mid.earlier ≡ [] = c.in-Err.ensures.undoes.0 in
     let same : new ≡ mid = c.in-Err.ensures.undoes.1 in
     let a : Option (List ℕ) = w (device_of c.args.link.now) in
     let known : Option (List ℕ) = w (device_of c.loop-kind.link) in
-    let all : forms_of h ≡ inv.before = inv.forms ∙ ap (λ l. inv.before ++ forms_before l) none ∙ append-nil inv.before in
-    let count : inv.steps ≡ position h = let l : length mid.earlier ≡ 0 = ap length none in omega (arith, inv.count, l) in (
-      subst (λ (t : List ℕ). Appends a known t) (sym (ap (flat_map (form_line m)) all)) inv.sent.bytes,
+    let all : forms_of h ≡ inv.before =
+    inv.forms ∙ ap (λ l. inv.before ++ forms_before (later_of c.loop-kind.session) l) none
+    ∙ append-nil inv.before in
+    let count : inv.steps ≡ position h = let l : length mid.earlier ≡ 0 = ap length none in
+    omega (arith, inv.count, l) in (
+      subst (λ (t : List ℕ). Appends a known t) (sym (ap (flat_map (form_line m)) all))
+          inv.sent.bytes,
       same ∙ inv.left ∙ ap (λ (n : ℕ). undone n h) count,
       ap (λ (x : History). length x.earlier) same ∙ ap length none,
     )

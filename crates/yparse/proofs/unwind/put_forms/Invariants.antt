@@ -1,7 +1,7 @@
 use Rattle.std.proofs.Common.{ℕ, ◌≡◌, ◌+◌, ◌++◌, List, length, flat_map, true}
 use Rattle.ytables.specs.Sends.{Sends}
 use Rattle.yparse.specs.Past.{position, undone}
-use Rattle.yparse.specs.Session.{machine_of, history_of, tokens_of, grammar_of}
+use Rattle.yparse.specs.Session.{machine_of, history_of, tokens_of, grammar_of, later_of}
 use Rattle.yparse.specs.Unwinding.{forms_of, forms_before, form_line}
 use Rattle.yparse.proofs.unwind.put_forms.Given as goal
 
@@ -15,8 +15,10 @@ invariant-loop-kind g l = record {
   left : history_of l.session ≡ undone steps (history_of l.fn.session);
   count : steps + position (history_of l.session) ≡ position (history_of l.fn.session);
   before : List (List ℕ);
-  forms : forms_of (history_of l.fn.session) ≡ before ++ forms_before (history_of l.session).earlier;
-  sent : Sends g.W.Write.contents l.fn.link l.link true (flat_map (form_line (machine_of l.fn.session)) before);
+  forms : forms_of (history_of l.fn.session)
+      ≡ before ++ forms_before (later_of l.session) (history_of l.session).earlier;
+  sent : Sends g.W.Write.contents l.fn.link l.link true
+      (flat_map (form_line (machine_of l.fn.session)) before);
 }
 
 abbrev pub decreases-loop-kind : goal.decreases-loop-kind

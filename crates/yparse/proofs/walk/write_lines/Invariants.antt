@@ -11,5 +11,7 @@ use Rattle.yparse.proofs.walk.write_lines.Given as goal
 abbrev pub invariant-loop-entry : goal.invariant-loop-entry
 invariant-loop-entry g l = record {
   room : vec_capacity l.fn.walk ≤ vec_capacity l.walk;
-  sent : Sends g.W.Write.contents l.fn.link l.link true (flat_map (λ (e : StackEntry). tree_text (machine_over l.tables) (node_tree (trees_over l.children l.nodes) e) ++ codes "\n") (take l.entry-index l.stack));
+  sent : Sends g.W.Write.contents l.fn.link l.link true
+      (flat_map (λ (e : StackEntry). tree_text (machine_over l.tables)
+      (node_tree (trees_over l.children l.nodes) e) ++ codes "\n") (take l.entry-index l.stack));
 }

@@ -13,8 +13,12 @@ invariant-loop-frame g l = record {
   room : vec_capacity l.fn.walk ≤ vec_capacity l.walk;
   sent : List ℕ;
   so_far : Sends g.W.Write.contents l.fn.link l.link true sent;
-  parts : open_text (machine_over l.tables) l.children (trees_over l.children l.nodes) l.fn.walk.items ≡ sent ++ open_text (machine_over l.tables) l.children (trees_over l.children l.nodes) l.walk.items;
+  parts : open_text (machine_over l.tables) l.children (trees_over l.children l.nodes)
+      l.fn.walk.items ≡ sent ++ open_text (machine_over l.tables) l.children
+      (trees_over l.children l.nodes) l.walk.items;
 }
 
 abbrev pub decreases-loop-frame : goal.decreases-loop-frame
-decreases-loop-frame g l = length (open_text (machine_over l.tables) l.children (trees_over l.children l.nodes) l.walk.items)
+decreases-loop-frame g l =
+    length (open_text (machine_over l.tables) l.children (trees_over l.children l.nodes)
+    l.walk.items)

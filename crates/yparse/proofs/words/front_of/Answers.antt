@@ -14,5 +14,6 @@ returns c =
       whole = sym (take-append-drop n bytes);
       blanks = c.blanks_in.ensures.each;
       no_blank = c.blanks_in.ensures.whole;
-      stands = subst (λ (l : List ℕ). FrontAt l (front_view c.front_here.result)) (take_rest bytes n) c.front_here.ensures;
+      stands = subst (λ (l : List ℕ). FrontAt l (front_view c.front_here.result))
+          (take_rest bytes n) c.front_here.ensures;
     }

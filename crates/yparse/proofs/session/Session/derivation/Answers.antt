@@ -5,7 +5,7 @@ use Rattle.yparse.specs.MachineOver.{machine_over}
 use Rattle.yparse.specs.Rightmost.{UnwindsRight}
 use Rattle.yparse.specs.Session.{machine_of, history_of, tokens_of, grammar_of}
 use Rattle.yparse.specs.History.{first_configuration}
-use Rattle.yparse.specs.Machine.{next}
+use Rattle.yparse.specs.Machine.{next, edited}
 use Rattle.yparse.proofs.Unwound.{undone-all}
 use Rattle.yparse.proofs.session.Session.derivation.Goals as goal
 
@@ -13,13 +13,17 @@ pub returns-clause-derives : goal.returns-clause-derives
 unfolding machine_of history_of tokens_of grammar_of
 returns-clause-derives c = λ accepted quiet.
     let s = c.args.self.now in
-    let right : UnwindsRight s.journal.machine.tables.built.grammar.bare (machine_over s.journal.machine.tables) s.journal.machine.tokens (history_of s) =
-    subst (λ (p : Place). UnwindsRight p.tables.built.grammar.bare (machine_over p.tables) p.tokens (history_of s)) c.machine.ensures (c.unwinds.ensures (history_of s)) in
-    ∥∥₁_map s.steps (λ h. right h quiet accepted)
+    let right : UnwindsRight s.journal.now.tables.built.grammar.bare
+    (machine_over s.journal.now.tables) s.journal.now.tokens (history_of s) =
+    subst (λ (p : Place). UnwindsRight p.tables.built.grammar.bare (machine_over p.tables) p.tokens
+    (history_of s)) c.machine.ensures (c.unwinds.ensures (history_of s)) in
+    ∥∥₁_map s.steps (λ h. (right h quiet accepted).0)
 
 pub returns-clause-first : goal.returns-clause-first
 unfolding machine_of history_of tokens_of grammar_of
 returns-clause-first c =
     let s = c.args.self.now in
     let h = history_of s in
-    ∥∥₁_map s.steps (undone-all (next (machine_over s.journal.machine.tables)) (first_configuration s.journal.machine.tokens) h.now h.earlier)
+    ∥∥₁_map s.steps (undone-all (next (machine_over s.journal.now.tables))
+    (edited (machine_over s.journal.now.tables)) (first_configuration s.journal.now.tokens)
+    h.now h.earlier)

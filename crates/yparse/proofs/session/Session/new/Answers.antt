@@ -1,4 +1,7 @@
-use Rattle.std.proofs.Common.{◌≡◌, refl, sym, ◌∙◌, ap, subst}
+use Rattle.std.proofs.Common.{length, arith, ◌≡◌, refl, sym, ◌∙◌, ap, subst}
+use Rattle.std.proofs.lemmas.Grind.{common_steps}
+use Rattle.std.specs.List.{All}
+use Rattle.std.proofs.lemmas.List.Elements.{All-nil}
 use Rattle.yparse.specs.Past.{Past, first_past}
 use Rattle.yparse.specs.declared.machine.StepKind.{StepKind}
 use Rattle.yparse.specs.History.{History}
@@ -6,19 +9,26 @@ use Rattle.yparse.specs.MachineOver.{machine_over}
 use Rattle.yparse.specs.Rightmost.{UnwindsRight}
 use Rattle.yparse.specs.Tokens.{symbols_of}
 use Rattle.yparse.specs.Content.{Place, first_place}
-use Rattle.yparse.specs.Shown.{past_in}
+use Rattle.yparse.specs.Shown.{KeepsGround}
 use Rattle.yparse.proofs.Sessions.{IsShown}
 use Rattle.yparse.proofs.session.Session.new.Goals as goal
 
 pub invariant_of-result : goal.invariant_of-result
 invariant_of-result c =
-    let r = c.new.result in
-    let first : Past StepKind Place =
-    first_past (first_place c.args.tables (symbols_of c.args.tokens)) in
-    let past : past_in r.machine r.changes.items ≡ first =
-    c.new.ensures ∙ ap (λ (p : Place). let h : Past StepKind Place = first_past p in h) c.new-parse.ensures in
+    let at = first_place c.args.tables (symbols_of c.args.tokens) in
+    let first : Past StepKind Place = first_past at in
+    let past : c.new.result ≡ first =
+    c.new.ensures ∙ ap (λ (p : Place). let h : Past StepKind Place = first_past p in
+    h) c.new-parse.ensures in
     let shown : IsShown first = refl in
-    record { steps = ∣ subst IsShown (sym past) shown ∣₁ }
+    record {
+      steps = ∣ subst IsShown (sym past) shown ∣₁;
+      room = (let none : length c.new.result.earlier ≡ 0 =
+          ap (λ (h : Past StepKind Place). length h.earlier) past in
+          grind (arith, common_steps, none, c.new-2.ensures));
+      ground = subst (λ (h : Past StepKind Place). All (KeepsGround h.now) h.earlier) (sym past)
+          (All-nil (KeepsGround at));
+    }
 
 pub returns-clause-derives : goal.returns-clause-derives
 returns-clause-derives c =

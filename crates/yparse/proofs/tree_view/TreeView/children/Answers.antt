@@ -6,4 +6,5 @@ use Rattle.yparse.proofs.tree_view.TreeView.children.Goals as goal
 pub returns : goal.returns
 returns c =
     let v = c.args.self.now in
-    sym (length-map (node_tree (trees_over v.children.now v.nodes.now)) c.entries.result.now) ∙ ap length c.entries.ensures.trees
+    sym (length-map (node_tree (trees_over v.children.now v.nodes.now)) c.entries.result.now)
+    ∙ ap length c.entries.ensures.trees

@@ -11,5 +11,9 @@ unfolding shown_by
 returns c =
     let p = c.args.self.now.parts.now in
     let trees = trees_over p.children.items p.nodes.items in
-    let many : c.args.index < length p.stack.items = subst (λ (n : ℕ). c.args.index < n) (length-map (shown_entry trees) p.stack.items) c.requires in
-    ap (λ (e : StackEntry). e.symbol) c.index.ensures ∙ sym (ap (λ (l : List ℕ). get_or l c.args.index 0) (shown-symbols trees p.stack.items) ∙ get_or-map symbol_of p.stack.items c.args.index c.index.result.now 0 many)
+    let many : c.args.index < length p.stack.items =
+    subst (λ (n : ℕ). c.args.index < n) (length-map (shown_entry trees) p.stack.items)
+    c.requires in
+    ap (λ (e : StackEntry). e.symbol) c.index.ensures
+    ∙ sym (ap (λ (l : List ℕ). get_or l c.args.index 0) (shown-symbols trees p.stack.items)
+    ∙ get_or-map symbol_of p.stack.items c.args.index c.index.result.now 0 many)

@@ -1,0 +1,35 @@
+-- Sessions in which no step or edit is refused for want of memory: their text is a function of the
+-- lines.
+use Rattle.std.specs.Prelude.{ℕ, ◌≡◌, ◌≢◌, List, Result, Err}
+use Rattle.yparse.specs.declared.machine.StepKind.{StepKind}
+use Rattle.yparse.specs.declared.machine.StepFault.{StepFault}
+use Rattle.yparse.specs.declared.machine.StepFault.TheVariants.{Memory}
+use Rattle.yparse.specs.Machine.{Machine, next}
+use Rattle.yparse.specs.Past.{Steps}
+use Rattle.yparse.specs.History.{History}
+use Rattle.yparse.specs.declared.machine.Edit.{Edit}
+use Rattle.ycli.specs.Command.{Command}
+use Rattle.ycli.specs.Reply.{ReplyBy, Edits}
+use Rattle.ycli.specs.Transcript.{Transcript, TranscriptBy}
+
+-- what a step answers and leaves, where it isn't refused for want of memory
+abbrev pub PlainSteps : Machine → History → Result StepKind StepFault → History → Type 0
+PlainSteps m h result new = Steps (next m) h result new × (result ≢ Err Memory)
+
+-- the same of an edit
+abbrev pub PlainEdits : Machine → Edit → History → Result StepKind StepFault → History → Type 0
+PlainEdits m edit h result new = Edits m edit h result new × (result ≢ Err Memory)
+
+-- a reply, and a text of a session, by such steps and edits
+abbrev pub PlainReply : Machine → History → Command → List ℕ → History → Type 0
+PlainReply m h command text new = ReplyBy (PlainSteps m) (PlainEdits m) m h command text new
+
+abbrev pub PlainTranscript : Machine → History → List (List ℕ) → List ℕ → Type 0
+PlainTranscript m h lines text = TranscriptBy (PlainReply m) h lines text
+
+-- Where no step or edit is refused for want of memory, these lines have exactly one text.
+pub record HasOneText (m : Machine) (h : History) (lines : List (List ℕ)) : Type 0 where
+  pub text : List ℕ
+  pub plain : PlainTranscript m h lines text
+  pub told : Transcript m h lines text
+  pub only : (other : List ℕ) → PlainTranscript m h lines other → other ≡ text

@@ -1,0 +1,36 @@
+use Rattle.std.proofs.Common.{◌≡◌, ℕ, Ok, ◌∷◌, [], false, sym, ap, subst, ◌∙◌}
+use Rattle.std.specs.Prelude.{IfSome, is_some}
+use Rattle.ygrammar.specs.Grammar.{GrammarValue}
+use Rattle.yparse.specs.Content.{Place}
+use Rattle.yparse.specs.MachineOver.{machine_over}
+use Rattle.yparse.specs.Reading.{TokensOf}
+use Rattle.yparse.proofs.Spellings.{spelled}
+use Rattle.yparse.proofs.place.PlaceParser.token.Goals as goal
+
+pub returns-clause-spells : goal.returns-clause-spells
+unfolding machine_over
+returns-clause-spells c =
+    let bytes = c.args.bytes.now in
+    let o = c.only_token.result in
+    let same : c.grammar_of.result.now ≡ c.args.self.now.tables.built.grammar =
+    c.grammar_of.ensures ∙ ap (λ (p : Place). p.tables.built.grammar) c.self.view_is in
+    let found = subst (λ (v : GrammarValue). IfSome o (λ x. TokensOf v bytes (Ok (x ∷ [])))) same
+    c.only_token.ensures.found in
+    let none = subst (λ (v : GrammarValue). is_some o ≡ false → (x : ℕ)
+    → TokensOf v bytes (Ok (x ∷ [])) → ⊥) same c.only_token.ensures.none in
+    (spelled (machine_over c.args.self.now.tables) bytes o (sym c.has_blank_end.ensures
+    ∙ c.if-has_blank_end.false) found none).0
+
+pub returns-clause-input : goal.returns-clause-input
+unfolding machine_over
+returns-clause-input c =
+    let bytes = c.args.bytes.now in
+    let o = c.only_token.result in
+    let same : c.grammar_of.result.now ≡ c.args.self.now.tables.built.grammar =
+    c.grammar_of.ensures ∙ ap (λ (p : Place). p.tables.built.grammar) c.self.view_is in
+    let found = subst (λ (v : GrammarValue). IfSome o (λ x. TokensOf v bytes (Ok (x ∷ [])))) same
+    c.only_token.ensures.found in
+    let none = subst (λ (v : GrammarValue). is_some o ≡ false → (x : ℕ)
+    → TokensOf v bytes (Ok (x ∷ [])) → ⊥) same c.only_token.ensures.none in
+    (spelled (machine_over c.args.self.now.tables) bytes o (sym c.has_blank_end.ensures
+    ∙ c.if-has_blank_end.false) found none).1

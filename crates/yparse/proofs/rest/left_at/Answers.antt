@@ -1,0 +1,55 @@
+use Rattle.std.proofs.Common.{ℕ, ◌≡◌, ◌≤◌, ◌+◌, ◌-◌, length, slice_index_or, sym, ap, ◌∙◌, arith}
+use Rattle.std.proofs.lemmas.Grind.{common_steps}
+use Rattle.yparse.specs.Rest.{rest_in}
+use Rattle.yparse.proofs.Rests.{left_read}
+use Rattle.yparse.proofs.rest.left_at.Goals as goal
+
+pub overflow_add-at : goal.overflow_add-at
+overflow_add-at c =
+    let l = c.len-len.ensures in
+    let h : length c.args.rest.now.inserted.items ≤ c.args.index =
+    grind (arith, common_steps, l, c.if-index-len.false) in
+    let read = left_read c.args.tokens.now (rest_in c.args.rest.now) c.args.index h c.requires in
+    let inside = read.0 in
+    grind (arith, common_steps, inside, l)
+
+pub offset_bounds-tokens-at : goal.offset_bounds-tokens-at
+offset_bounds-tokens-at c =
+    let l = c.len-len.ensures in
+    let h : length c.args.rest.now.inserted.items ≤ c.args.index =
+    grind (arith, common_steps, l, c.if-index-len.false) in
+    let read = left_read c.args.tokens.now (rest_in c.args.rest.now) c.args.index h c.requires in
+    let inside = read.0 in
+    grind (arith, common_steps, inside, l)
+
+pub bounds-tokens-at : goal.bounds-tokens-at
+bounds-tokens-at c =
+    let l = c.len-len.ensures in
+    let h : length c.args.rest.now.inserted.items ≤ c.args.index =
+    grind (arith, common_steps, l, c.if-index-len.false) in
+    let read = left_read c.args.tokens.now (rest_in c.args.rest.now) c.args.index h c.requires in
+    let inside = read.0 in
+    grind (arith, common_steps, inside, l)
+
+pub overflow_add-result : goal.overflow_add-result
+overflow_add-result c =
+    let l = c.len-len.ensures in
+    let h : length c.args.rest.now.inserted.items ≤ c.args.index =
+    grind (arith, common_steps, l, c.if-index-len.false) in
+    let read = left_read c.args.tokens.now (rest_in c.args.rest.now) c.args.index h c.requires in
+    let inside = read.0 in
+    grind (arith, common_steps, inside, l)
+
+pub returns : goal.returns
+returns c =
+    let l = c.len-len.ensures in
+    let h : length c.args.rest.now.inserted.items ≤ c.args.index =
+    grind (arith, common_steps, l, c.if-index-len.false) in
+    let read = left_read c.args.tokens.now (rest_in c.args.rest.now) c.args.index h c.requires in
+    let inside = read.0 in
+    let e : length c.args.rest.now.inserted.items ≡ c.len-len.result =
+    grind (arith, common_steps, l) in
+    sym (read.1 ∙ ap (λ (n : ℕ). let pair : ℕ × ℕ = (
+      slice_index_or c.args.tokens.now (c.args.rest.now.at + (c.args.index - n)) 0,
+      c.args.rest.now.at + (c.args.index - n) + 1,
+    ) in pair) e)

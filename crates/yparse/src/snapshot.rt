@@ -1,0 +1,437 @@
+//! A parse that goes by tables, and keeps each earlier configuration whole.
+
+ghost use Rattle.std.specs.Prelude.{◌≡◌, ◌≤◌, ◌+◌, IsTrue, IfOk, OnOk, OnErr, vec_len, vec_capacity};
+ghost use Rattle.yparse.specs.Content.{first_place, made, valid};
+ghost use Rattle.yparse.specs.Parts.{content_of, HasRoomFor};
+ghost use Rattle.yparse.specs.Tokens.{Fits, symbols_of};
+
+use crate::machine::{Edit, StepFault, StepKind};
+use crate::parts::{Parts, children_of, make};
+use crate::place::{edit_kind, next_kind};
+use crate::rest;
+use crate::reversible::Reversible;
+use crate::tables::known;
+use crate::tokens::Tokens;
+use std::alloc::{AllocError, Global};
+use std::marker::Model;
+use std::mem;
+use ygrammar::Sym;
+use ytables::Tables;
+
+/// What a step has changed: its kind, and all that the parse held before it.
+#[derive(Drop)]
+pub struct SnapshotChange {
+    pub(crate) kind: StepKind,
+    pub(crate) earlier: Parts,
+}
+
+/// A parse of some tokens by some tables, as it is now. A step is made on a copy, and leaves what
+/// it was made of as it is.
+#[derive(Drop)]
+pub struct SnapshotParser {
+    tables: Tables,
+    tokens: Tokens,
+    parts: Parts,
+}
+
+impl Model for SnapshotParser {
+    ghost use Rattle.yparse.specs.Content.{Place};
+
+    ghost Value = { Place };
+
+    ghost use Rattle.yparse.specs.Place.{place_of};
+    ghost use Rattle.yparse.specs.Snapshot.{IsSnapshot};
+
+    ghost view = { λ p. place_of p.tables p.tokens p.parts };
+
+    ghost invariant = { λ p. IsSnapshot (place_of p.tables p.tokens p.parts) };
+}
+
+/// A copy of what a parse holds.
+fn copy_of(parts: &Parts) -> Result<Parts, AllocError>
+    ensures { IfOk result (λ copy. content_of copy ≡ content_of parts.now) }
+{
+    Ok(Parts {
+        stack: parts.stack.clone()?,
+        nodes: parts.nodes.clone()?,
+        children: parts.children.clone()?,
+        rest: rest::copy_of(&parts.rest)?,
+        counter: parts.counter,
+        errors: parts.errors,
+        mode: parts.mode,
+        steps: parts.steps,
+    })
+}
+
+/// A copy with room for one step more, which takes so many children.
+fn roomy_copy(parts: &Parts, count: usize) -> Result<Parts, AllocError>
+    requires stack { vec_len parts.now.stack ≤ parts.now.steps }
+    requires inserted { vec_len parts.now.rest.inserted ≤ parts.now.rest.edits }
+    ensures content { IfOk result (λ copy. content_of copy ≡ content_of parts.now) }
+    ensures room { IfOk result (λ copy. HasRoomFor copy count) }
+    ensures steps { IfOk result (λ copy. copy.steps + 2 ≤ vec_capacity copy.stack) }
+{
+    let mut copy = copy_of(parts)?;
+    let wanted = copy.steps.checked_add(2).ok_or(AllocError)? - copy.stack.len();
+    rest::make_room(&mut copy.rest)?;
+    copy.stack.reserve(wanted)?;
+    copy.nodes.reserve(1)?;
+    copy.children.reserve(count)?;
+    Ok(copy)
+}
+
+impl SnapshotParser {
+    /// The first configuration. It takes no memory.
+    pub fn new(alloc: Global, tables: Tables, tokens: Tokens) -> SnapshotParser
+        requires { Fits tables.built.grammar (symbols_of tokens) }
+        ensures { result ≡ first_place tables (symbols_of tokens) }
+    {
+        SnapshotParser {
+            tables,
+            tokens,
+            parts: Parts::new(alloc),
+        }
+    }
+
+    /// Makes a step or an edit of this kind on a copy, which leaves a parse, and keeps what was
+    /// before. An `Err` changes nothing.
+    fn change(&mut self, kind: StepKind) -> Result<SnapshotChange, AllocError>
+        requires { IsTrue (valid (made kind self.old)) }
+        ensures made { OnOk result (self.new ≡ made kind self.old) }
+        ensures kind { IfOk result (λ change. change.kind ≡ kind) }
+        ensures earlier { IfOk result (λ change. content_of change.earlier ≡ self.old.content) }
+        ensures same { OnErr result (self.new ≡ self.old) }
+    {
+        let count = children_of(&self.tables, kind);
+        let mut after = roomy_copy(&self.parts, count)?;
+        make(&self.tables, &mut after, kind);
+        let earlier = mem::replace(&mut self.parts, after);
+        Ok(SnapshotChange { kind, earlier })
+    }
+}
+
+impl Reversible for SnapshotParser {
+    ghost use Rattle.yparse.specs.Content.{place_next, place_edited};
+    ghost use Rattle.yparse.specs.Snapshot.{snapshot_before, snapshot_fits};
+
+    type Change = SnapshotChange;
+
+    type Edit = Edit;
+
+    type Kind = StepKind;
+
+    ghost next = { place_next };
+
+    ghost edited = { place_edited };
+
+    ghost before = { snapshot_before };
+
+    ghost kind = { λ change. change.kind };
+
+    ghost fits = { snapshot_fits };
+
+    fn advance(&mut self) -> Result<SnapshotChange, StepFault> {
+        known(&self.tables);
+        match next_kind(&self.tables, &self.tokens.symbols, &self.parts) {
+            None => Err(StepFault::Halted),
+            Some(kind) => match self.change(kind) {
+                Ok(change) => Ok(change),
+                Err(_) => Err(StepFault::Memory),
+            },
+        }
+    }
+
+    fn edit(&mut self, edit: Edit) -> Result<SnapshotChange, StepFault> {
+        known(&self.tables);
+        let tokens: &[Sym] = &self.tokens.symbols;
+        match next_kind(&self.tables, tokens, &self.parts) {
+            None => return Err(StepFault::Halted),
+            Some(_) => {}
+        }
+        match edit_kind(&self.tables, tokens, &self.parts, edit) {
+            None => Err(StepFault::NoToken),
+            Some(kind) => match self.change(kind) {
+                Ok(change) => Ok(change),
+                Err(_) => Err(StepFault::Memory),
+            },
+        }
+    }
+
+    fn revert(&mut self, change: SnapshotChange) {
+        self.parts = change.earlier;
+    }
+}
+
+#[cfg(test)]
+mod tests {
+    use super::*;
+    use crate::journal::Journal;
+    use crate::machine::{AtStart, Mode};
+    use crate::tokens::read_tokens;
+    use crate::view::View;
+    use std::test::Fail;
+    use ygrammar::read_grammar;
+    use ylalr::build;
+    use ytables::resolve;
+
+    /// Lists of numbers, each behind it a semicolon; `error` stands for one that is spoiled.
+    const LIST: &[u8] = b"%token NUM %% list : | list NUM ';' | list error ';' ;";
+
+    /// Its symbols, apart from `$end`.
+    const ERROR: Sym = 1;
+
+    const NUM: Sym = 2;
+
+    const SEMICOLON: Sym = 3;
+
+    const LIST_SYMBOL: Sym = 5;
+
+    /// Sums and products of numbers.
+    const SUM: &[u8] = b"%token NUM %left '+' %left '*' %% e : e '+' e | e '*' e | NUM ;";
+
+    const PLUS: Sym = 3;
+
+    const SUM_SYMBOL: Sym = 6;
+
+    /// One literal.
+    const ONE: &[u8] = b"%% s : 'x' ;";
+
+    const X: Sym = 2;
+
+    const ONE_SYMBOL: Sym = 4;
+
+    /// The steps over `NUM NUM ';' NUM ..`, of which the second token is discarded.
+    const FIRST_STEPS: [StepKind; 9] = [
+        StepKind::Reduce(1),
+        StepKind::Shift(NUM),
+        StepKind::Detect,
+        StepKind::Pop(NUM),
+        StepKind::ShiftError,
+        StepKind::Discard(NUM),
+        StepKind::Shift(SEMICOLON),
+        StepKind::Reduce(3),
+        StepKind::Shift(NUM),
+    ];
+
+    fn journal_of(
+        alloc: Global,
+        grammar: &[u8],
+        tokens: &[u8],
+    ) -> Result<Journal<SnapshotParser>, Fail> {
+        let tables = resolve(alloc, build(alloc, read_grammar(alloc, grammar)?)?)?;
+        let tokens = read_tokens(alloc, &tables, tokens)?;
+        Ok(Journal::new(alloc, SnapshotParser::new(alloc, tables, tokens)))
+    }
+
+    fn last_kind(journal: &Journal<SnapshotParser>) -> Option<StepKind> {
+        journal.last().map(|change| change.kind)
+    }
+
+    /// Whether the next steps are of these kinds.
+    fn steps_are(journal: &mut Journal<SnapshotParser>, kinds: &[StepKind]) -> bool {
+        for kind in kinds {
+            let made = journal.position() + 1;
+            if journal.step() != Ok(()) || journal.position() != made {
+                return false;
+            }
+            if last_kind(journal) != Some(*kind) {
+                return false;
+            }
+        }
+        true
+    }
+
+    /// Whether the next undos are of these kinds, the last one first.
+    fn undos_are(journal: &mut Journal<SnapshotParser>, kinds: &[StepKind]) -> bool {
+        for kind in kinds.iter().rev() {
+            let made = journal.position();
+            if last_kind(journal) != Some(*kind) {
+                return false;
+            }
+            if journal.back() != Ok(()) || journal.position() + 1 != made {
+                return false;
+            }
+        }
+        true
+    }
+
+    /// Whether the stack has these symbols, from the bottom.
+    fn stack_is(view: &View<'_>, symbols: &[Sym]) -> bool {
+        if view.stack_len() != symbols.len() {
+            return false;
+        }
+        for (index, symbol) in symbols.iter().enumerate() {
+            if view.stack(index) != *symbol {
+                return false;
+            }
+        }
+        true
+    }
+
+    /// Whether so many steps stand, and this configuration.
+    fn stands(
+        journal: &Journal<SnapshotParser>,
+        position: usize,
+        stack: &[Sym],
+        left: usize,
+        counter: usize,
+        errors: usize,
+        mode: Mode,
+    ) -> bool {
+        let parse = journal.machine();
+        let view = View::new(&parse.parts, &parse.tokens.symbols);
+        journal.position() == position
+            && stack_is(&view, stack)
+            && view.rest_len() == left
+            && (view.counter(), view.errors()) == (counter, errors)
+            && view.mode() == mode
+    }
+
+    /// Whether an edit is made, and is of this kind.
+    fn edit_is(journal: &mut Journal<SnapshotParser>, edit: Edit, kind: StepKind) -> bool {
+        let made = journal.position() + 1;
+        journal.edit(edit) == Ok(())
+            && journal.position() == made
+            && last_kind(journal) == Some(kind)
+    }
+
+    /// Whether an edit is refused so, and no position is added.
+    fn is_refused(journal: &mut Journal<SnapshotParser>, edit: Edit, fault: StepFault) -> bool {
+        let position = journal.position();
+        journal.edit(edit) == Err(fault) && journal.position() == position
+    }
+
+    /// Whether these tokens are left, each with its place.
+    fn rest_is(view: &View<'_>, rest: &[(Sym, usize)]) -> bool {
+        if view.rest_len() != rest.len() {
+            return false;
+        }
+        for (index, token) in rest.iter().enumerate() {
+            if view.rest(index) != *token {
+                return false;
+            }
+        }
+        true
+    }
+
+    /// Whether so many steps and edits stand, and this configuration, with no error reported.
+    fn shows(
+        journal: &Journal<SnapshotParser>,
+        position: usize,
+        stack: &[Sym],
+        rest: &[(Sym, usize)],
+        mode: Mode,
+    ) -> bool {
+        let parse = journal.machine();
+        let view = View::new(&parse.parts, &parse.tokens.symbols);
+        stands(journal, position, stack, rest.len(), 0, 0, mode) && rest_is(&view, rest)
+    }
+
+    #[test]
+    fn a_recovered_parse_and_its_undos(rt: HostRuntime) -> Result<(), Fail> {
+        let mut journal = journal_of(rt.alloc(), LIST, b"NUM NUM ';' NUM ';'")?;
+        let last = [
+            StepKind::Shift(SEMICOLON),
+            StepKind::Reduce(2),
+            StepKind::Accept,
+        ];
+        assert!(rt; steps_are(&mut journal, &FIRST_STEPS));
+        assert!(rt; stands(&journal, 9, &[LIST_SYMBOL, NUM], 1, 1, 1, Mode::Running));
+        assert!(rt; steps_are(&mut journal, &last));
+        assert!(rt; stands(&journal, 12, &[LIST_SYMBOL], 0, 0, 1, Mode::Accepted));
+        assert_eq!(rt; journal.step(), Err(StepFault::Halted));
+        assert!(rt; undos_are(&mut journal, &last));
+        assert!(rt; stands(&journal, 9, &[LIST_SYMBOL, NUM], 1, 1, 1, Mode::Running));
+        assert!(rt; undos_are(&mut journal, &FIRST_STEPS));
+        assert!(rt; stands(&journal, 0, &[], 5, 0, 0, Mode::Running));
+        assert_eq!(rt; journal.back(), Err(AtStart));
+        Ok(())
+    }
+
+    #[test]
+    fn a_second_error_and_its_undos(rt: HostRuntime) -> Result<(), Fail> {
+        let mut journal = journal_of(rt.alloc(), LIST, b"NUM NUM ';' NUM NUM ';'")?;
+        let last = [
+            StepKind::Detect,
+            StepKind::Pop(NUM),
+            StepKind::ShiftError,
+            StepKind::Discard(NUM),
+            StepKind::Shift(SEMICOLON),
+            StepKind::Reduce(3),
+            StepKind::Accept,
+        ];
+        assert!(rt; steps_are(&mut journal, &FIRST_STEPS));
+        assert!(rt; steps_are(&mut journal, &last));
+        assert!(rt; stands(&journal, 16, &[LIST_SYMBOL], 0, 2, 1, Mode::Accepted));
+        assert_eq!(rt; journal.step(), Err(StepFault::Halted));
+        assert!(rt; undos_are(&mut journal, &last[3..]));
+        assert!(rt; stands(&journal, 12, &[LIST_SYMBOL, ERROR], 2, 3, 1, Mode::Running));
+        assert!(rt; undos_are(&mut journal, &last[..3]));
+        assert!(rt; undos_are(&mut journal, &FIRST_STEPS));
+        assert!(rt; stands(&journal, 0, &[], 6, 0, 0, Mode::Running));
+        assert_eq!(rt; journal.back(), Err(AtStart));
+        Ok(())
+    }
+
+    #[test]
+    fn an_inserted_token_and_its_undos(rt: HostRuntime) -> Result<(), Fail> {
+        let mut journal = journal_of(rt.alloc(), SUM, b"NUM NUM")?;
+        let first = [StepKind::Shift(NUM), StepKind::Reduce(3)];
+        let last = [
+            StepKind::Shift(PLUS),
+            StepKind::Shift(NUM),
+            StepKind::Reduce(3),
+            StepKind::Reduce(1),
+            StepKind::Accept,
+        ];
+        let read = [(NUM, 1), (NUM, 2)];
+        let inserted = [(PLUS, 0), (NUM, 2)];
+        assert!(rt; shows(&journal, 0, &[], &read, Mode::Running));
+        assert!(rt; steps_are(&mut journal, &first));
+        assert!(rt; shows(&journal, 2, &[SUM_SYMBOL], &read[1..], Mode::Running));
+        assert!(rt; edit_is(&mut journal, Edit::Insert(PLUS), StepKind::Insert(PLUS)));
+        assert!(rt; shows(&journal, 3, &[SUM_SYMBOL], &inserted, Mode::Running));
+        assert!(rt; steps_are(&mut journal, &last[..1]));
+        assert!(rt; shows(&journal, 4, &[SUM_SYMBOL, PLUS], &read[1..], Mode::Running));
+        assert!(rt; steps_are(&mut journal, &last[1..]));
+        assert!(rt; shows(&journal, 8, &[SUM_SYMBOL], &[], Mode::Accepted));
+        assert!(rt; is_refused(&mut journal, Edit::Insert(PLUS), StepFault::Halted));
+        assert!(rt; is_refused(&mut journal, Edit::Drop, StepFault::Halted));
+        assert!(rt; shows(&journal, 8, &[SUM_SYMBOL], &[], Mode::Accepted));
+        assert!(rt; undos_are(&mut journal, &last));
+        assert!(rt; shows(&journal, 3, &[SUM_SYMBOL], &inserted, Mode::Running));
+        assert!(rt; undos_are(&mut journal, &[StepKind::Insert(PLUS)]));
+        assert!(rt; shows(&journal, 2, &[SUM_SYMBOL], &read[1..], Mode::Running));
+        assert!(rt; undos_are(&mut journal, &first));
+        assert!(rt; shows(&journal, 0, &[], &read, Mode::Running));
+        assert_eq!(rt; journal.back(), Err(AtStart));
+        Ok(())
+    }
+
+    #[test]
+    fn a_dropped_token_and_its_undos(rt: HostRuntime) -> Result<(), Fail> {
+        let mut journal = journal_of(rt.alloc(), ONE, b"'x' 'x'")?;
+        let last = [StepKind::Reduce(1), StepKind::Accept];
+        let read = [(X, 1), (X, 2)];
+        assert!(rt; steps_are(&mut journal, &[StepKind::Shift(X)]));
+        assert!(rt; shows(&journal, 1, &[X], &read[1..], Mode::Running));
+        assert!(rt; edit_is(&mut journal, Edit::Drop, StepKind::Drop(X)));
+        assert!(rt; is_refused(&mut journal, Edit::Drop, StepFault::NoToken));
+        assert!(rt; is_refused(&mut journal, Edit::Insert(ONE_SYMBOL), StepFault::NoToken));
+        assert!(rt; is_refused(&mut journal, Edit::Insert(ERROR), StepFault::NoToken));
+        assert!(rt; is_refused(&mut journal, Edit::Insert(0), StepFault::NoToken));
+        assert!(rt; shows(&journal, 2, &[X], &[], Mode::Running));
+        assert!(rt; steps_are(&mut journal, &last));
+        assert!(rt; shows(&journal, 4, &[ONE_SYMBOL], &[], Mode::Accepted));
+        assert!(rt; is_refused(&mut journal, Edit::Drop, StepFault::Halted));
+        assert!(rt; undos_are(&mut journal, &last));
+        assert!(rt; undos_are(&mut journal, &[StepKind::Drop(X)]));
+        assert!(rt; shows(&journal, 1, &[X], &read[1..], Mode::Running));
+        assert!(rt; steps_are(&mut journal, &[StepKind::Reduce(1)]));
+        assert!(rt; shows(&journal, 2, &[ONE_SYMBOL], &read[1..], Mode::Running));
+        assert!(rt; undos_are(&mut journal, &[StepKind::Shift(X), StepKind::Reduce(1)]));
+        assert!(rt; shows(&journal, 0, &[], &read, Mode::Running));
+        assert_eq!(rt; journal.back(), Err(AtStart));
+        Ok(())
+    }
+}
