@@ -213,8 +213,9 @@ impl PlaceParser {
         let _ = &self.tokens;
     }
 
-    /// What every parse keeps. The call does nothing.
-    pub(crate) fn kept(&self)
+    /// What every parse keeps, among it that there are never more nodes than steps that stand, nor
+    /// more stack entries and children together than nodes. The call does nothing.
+    pub fn kept(&self)
         ensures { IsKept self.now }
     {
         known(&self.tables);
