@@ -15,21 +15,20 @@ fn is_numbered(line: &[u8], number: usize, words: &[u8]) -> bool {
 }
 
 /// Whether this line stands at this place, counted from 0, of the session that makes as many
-/// steps as there may be, one more, and takes them all back.
+/// steps as there may be, asks for one more and for two edits, and takes all steps back.
 fn is_wanted(place: usize, line: &[u8]) -> bool {
-    const REFUSED: usize = MOST;
-    const START: usize = 2 * MOST + 1;
-    if place < REFUSED {
+    const REFUSED: usize = MOST + 3;
+    const START: usize = 2 * MOST + 3;
+    if place < MOST {
         return is_numbered(line, place + 1, b" reduce 3");
     }
-    if place > REFUSED && place < START {
+    if place < REFUSED {
+        return line == b"limit".as_slice();
+    }
+    if place < START {
         return is_numbered(line, START - 1 - place, b" undo reduce 3");
     }
-    match place {
-        REFUSED => line == b"limit".as_slice(),
-        START => line == b"at start".as_slice(),
-        _ => false,
-    }
+    place == START && line == b"at start".as_slice()
 }
 
 /// A writer that keeps of what it takes the line that has no end yet, and how many lines were as
