@@ -177,7 +177,6 @@ mod tests {
     /// Lists of numbers, each behind it a semicolon; `error` stands for one that is spoiled.
     const LIST: &[u8] = b"%token NUM %% list : | list NUM ';' | list error ';' ;";
 
-    /// Its symbols, apart from `$end`.
     const ERROR: Sym = 1;
 
     const NUM: Sym = 2;
@@ -193,7 +192,6 @@ mod tests {
 
     const SUM_SYMBOL: Sym = 6;
 
-    /// One literal.
     const ONE: &[u8] = b"%% s : 'x' ;";
 
     const X: Sym = 2;
@@ -327,111 +325,175 @@ mod tests {
         stands(journal, position, stack, rest.len(), 0, 0, mode) && rest_is(&view, rest)
     }
 
+    /// The steps that come after the first ones where the next number stands alone.
+    const LAST_STEPS: [StepKind; 3] = [
+        StepKind::Shift(SEMICOLON),
+        StepKind::Reduce(2),
+        StepKind::Accept,
+    ];
+
+    /// Whether a parse recovers, and is accepted.
+    fn recovers(journal: &mut Journal<SnapshotParser>) -> bool {
+        steps_are(journal, &FIRST_STEPS)
+            && stands(journal, 9, &[LIST_SYMBOL, NUM], 1, 1, 1, Mode::Running)
+            && steps_are(journal, &LAST_STEPS)
+            && stands(journal, 12, &[LIST_SYMBOL], 0, 0, 1, Mode::Accepted)
+            && journal.step() == Err(StepFault::Halted)
+    }
+
+    fn unrecovers(journal: &mut Journal<SnapshotParser>) -> bool {
+        undos_are(journal, &LAST_STEPS)
+            && stands(journal, 9, &[LIST_SYMBOL, NUM], 1, 1, 1, Mode::Running)
+            && undos_are(journal, &FIRST_STEPS)
+            && stands(journal, 0, &[], 5, 0, 0, Mode::Running)
+            && journal.back() == Err(AtStart)
+    }
+
     #[test]
     fn a_recovered_parse_and_its_undos(rt: HostRuntime) -> Result<(), Fail> {
         let mut journal = journal_of(rt.alloc(), LIST, b"NUM NUM ';' NUM ';'")?;
-        let last = [
-            StepKind::Shift(SEMICOLON),
-            StepKind::Reduce(2),
-            StepKind::Accept,
-        ];
-        assert!(rt; steps_are(&mut journal, &FIRST_STEPS));
-        assert!(rt; stands(&journal, 9, &[LIST_SYMBOL, NUM], 1, 1, 1, Mode::Running));
-        assert!(rt; steps_are(&mut journal, &last));
-        assert!(rt; stands(&journal, 12, &[LIST_SYMBOL], 0, 0, 1, Mode::Accepted));
-        assert_eq!(rt; journal.step(), Err(StepFault::Halted));
-        assert!(rt; undos_are(&mut journal, &last));
-        assert!(rt; stands(&journal, 9, &[LIST_SYMBOL, NUM], 1, 1, 1, Mode::Running));
-        assert!(rt; undos_are(&mut journal, &FIRST_STEPS));
-        assert!(rt; stands(&journal, 0, &[], 5, 0, 0, Mode::Running));
-        assert_eq!(rt; journal.back(), Err(AtStart));
+        let right = recovers(&mut journal) && unrecovers(&mut journal);
+        drop(journal);
+        assert!(rt; right);
         Ok(())
+    }
+
+    /// The steps that come after the first ones where another number is spoiled.
+    const MORE_STEPS: [StepKind; 7] = [
+        StepKind::Detect,
+        StepKind::Pop(NUM),
+        StepKind::ShiftError,
+        StepKind::Discard(NUM),
+        StepKind::Shift(SEMICOLON),
+        StepKind::Reduce(3),
+        StepKind::Accept,
+    ];
+
+    /// Whether a parse recovers twice, of which the second error isn't reported.
+    fn recovers_twice(journal: &mut Journal<SnapshotParser>) -> bool {
+        steps_are(journal, &FIRST_STEPS)
+            && steps_are(journal, &MORE_STEPS)
+            && stands(journal, 16, &[LIST_SYMBOL], 0, 2, 1, Mode::Accepted)
+            && journal.step() == Err(StepFault::Halted)
+    }
+
+    fn unrecovers_twice(journal: &mut Journal<SnapshotParser>) -> bool {
+        undos_are(journal, &MORE_STEPS[3..])
+            && stands(journal, 12, &[LIST_SYMBOL, ERROR], 2, 3, 1, Mode::Running)
+            && undos_are(journal, &MORE_STEPS[..3])
+            && undos_are(journal, &FIRST_STEPS)
+            && stands(journal, 0, &[], 6, 0, 0, Mode::Running)
+            && journal.back() == Err(AtStart)
     }
 
     #[test]
     fn a_second_error_and_its_undos(rt: HostRuntime) -> Result<(), Fail> {
         let mut journal = journal_of(rt.alloc(), LIST, b"NUM NUM ';' NUM NUM ';'")?;
-        let last = [
-            StepKind::Detect,
-            StepKind::Pop(NUM),
-            StepKind::ShiftError,
-            StepKind::Discard(NUM),
-            StepKind::Shift(SEMICOLON),
-            StepKind::Reduce(3),
-            StepKind::Accept,
-        ];
-        assert!(rt; steps_are(&mut journal, &FIRST_STEPS));
-        assert!(rt; steps_are(&mut journal, &last));
-        assert!(rt; stands(&journal, 16, &[LIST_SYMBOL], 0, 2, 1, Mode::Accepted));
-        assert_eq!(rt; journal.step(), Err(StepFault::Halted));
-        assert!(rt; undos_are(&mut journal, &last[3..]));
-        assert!(rt; stands(&journal, 12, &[LIST_SYMBOL, ERROR], 2, 3, 1, Mode::Running));
-        assert!(rt; undos_are(&mut journal, &last[..3]));
-        assert!(rt; undos_are(&mut journal, &FIRST_STEPS));
-        assert!(rt; stands(&journal, 0, &[], 6, 0, 0, Mode::Running));
-        assert_eq!(rt; journal.back(), Err(AtStart));
+        let right = recovers_twice(&mut journal) && unrecovers_twice(&mut journal);
+        drop(journal);
+        assert!(rt; right);
         Ok(())
+    }
+
+    const NUMBER: [StepKind; 2] = [StepKind::Shift(NUM), StepKind::Reduce(3)];
+
+    const SIGN: [StepKind; 5] = [
+        StepKind::Shift(PLUS),
+        StepKind::Shift(NUM),
+        StepKind::Reduce(3),
+        StepKind::Reduce(1),
+        StepKind::Accept,
+    ];
+
+    const NUMBERS: [(Sym, usize); 2] = [(NUM, 1), (NUM, 2)];
+
+    const SIGNED: [(Sym, usize); 2] = [(PLUS, 0), (NUM, 2)];
+
+    /// Whether a sign can be put in behind a number.
+    fn inserts(journal: &mut Journal<SnapshotParser>) -> bool {
+        shows(journal, 0, &[], &NUMBERS, Mode::Running)
+            && steps_are(journal, &NUMBER)
+            && shows(journal, 2, &[SUM_SYMBOL], &NUMBERS[1..], Mode::Running)
+            && edit_is(journal, Edit::Insert(PLUS), StepKind::Insert(PLUS))
+            && shows(journal, 3, &[SUM_SYMBOL], &SIGNED, Mode::Running)
+    }
+
+    /// Whether the parse then goes on to its end, where no edit is made.
+    fn accepts(journal: &mut Journal<SnapshotParser>) -> bool {
+        steps_are(journal, &SIGN[..1])
+            && shows(
+                journal,
+                4,
+                &[SUM_SYMBOL, PLUS],
+                &NUMBERS[1..],
+                Mode::Running,
+            )
+            && steps_are(journal, &SIGN[1..])
+            && is_refused(journal, Edit::Insert(PLUS), StepFault::Halted)
+            && is_refused(journal, Edit::Drop, StepFault::Halted)
+            && shows(journal, 8, &[SUM_SYMBOL], &[], Mode::Accepted)
+    }
+
+    fn uninserts(journal: &mut Journal<SnapshotParser>) -> bool {
+        undos_are(journal, &SIGN)
+            && shows(journal, 3, &[SUM_SYMBOL], &SIGNED, Mode::Running)
+            && undos_are(journal, &[StepKind::Insert(PLUS)])
+            && shows(journal, 2, &[SUM_SYMBOL], &NUMBERS[1..], Mode::Running)
+            && undos_are(journal, &NUMBER)
+            && shows(journal, 0, &[], &NUMBERS, Mode::Running)
+            && journal.back() == Err(AtStart)
     }
 
     #[test]
     fn an_inserted_token_and_its_undos(rt: HostRuntime) -> Result<(), Fail> {
         let mut journal = journal_of(rt.alloc(), SUM, b"NUM NUM")?;
-        let first = [StepKind::Shift(NUM), StepKind::Reduce(3)];
-        let last = [
-            StepKind::Shift(PLUS),
-            StepKind::Shift(NUM),
-            StepKind::Reduce(3),
-            StepKind::Reduce(1),
-            StepKind::Accept,
-        ];
-        let read = [(NUM, 1), (NUM, 2)];
-        let inserted = [(PLUS, 0), (NUM, 2)];
-        assert!(rt; shows(&journal, 0, &[], &read, Mode::Running));
-        assert!(rt; steps_are(&mut journal, &first));
-        assert!(rt; shows(&journal, 2, &[SUM_SYMBOL], &read[1..], Mode::Running));
-        assert!(rt; edit_is(&mut journal, Edit::Insert(PLUS), StepKind::Insert(PLUS)));
-        assert!(rt; shows(&journal, 3, &[SUM_SYMBOL], &inserted, Mode::Running));
-        assert!(rt; steps_are(&mut journal, &last[..1]));
-        assert!(rt; shows(&journal, 4, &[SUM_SYMBOL, PLUS], &read[1..], Mode::Running));
-        assert!(rt; steps_are(&mut journal, &last[1..]));
-        assert!(rt; shows(&journal, 8, &[SUM_SYMBOL], &[], Mode::Accepted));
-        assert!(rt; is_refused(&mut journal, Edit::Insert(PLUS), StepFault::Halted));
-        assert!(rt; is_refused(&mut journal, Edit::Drop, StepFault::Halted));
-        assert!(rt; shows(&journal, 8, &[SUM_SYMBOL], &[], Mode::Accepted));
-        assert!(rt; undos_are(&mut journal, &last));
-        assert!(rt; shows(&journal, 3, &[SUM_SYMBOL], &inserted, Mode::Running));
-        assert!(rt; undos_are(&mut journal, &[StepKind::Insert(PLUS)]));
-        assert!(rt; shows(&journal, 2, &[SUM_SYMBOL], &read[1..], Mode::Running));
-        assert!(rt; undos_are(&mut journal, &first));
-        assert!(rt; shows(&journal, 0, &[], &read, Mode::Running));
-        assert_eq!(rt; journal.back(), Err(AtStart));
+        let right = inserts(&mut journal) && accepts(&mut journal) && uninserts(&mut journal);
+        drop(journal);
+        assert!(rt; right);
         Ok(())
+    }
+
+    const TWO: [(Sym, usize); 2] = [(X, 1), (X, 2)];
+
+    const ENDING: [StepKind; 2] = [StepKind::Reduce(1), StepKind::Accept];
+
+    /// Whether the second token can be taken out, and no more is.
+    fn drops(journal: &mut Journal<SnapshotParser>) -> bool {
+        steps_are(journal, &[StepKind::Shift(X)])
+            && shows(journal, 1, &[X], &TWO[1..], Mode::Running)
+            && edit_is(journal, Edit::Drop, StepKind::Drop(X))
+            && is_refused(journal, Edit::Drop, StepFault::NoToken)
+    }
+
+    /// Whether what is no input token can't be put in, and the parse goes on to its end.
+    fn ends(journal: &mut Journal<SnapshotParser>) -> bool {
+        is_refused(journal, Edit::Insert(ONE_SYMBOL), StepFault::NoToken)
+            && is_refused(journal, Edit::Insert(ERROR), StepFault::NoToken)
+            && is_refused(journal, Edit::Insert(0), StepFault::NoToken)
+            && shows(journal, 2, &[X], &[], Mode::Running)
+            && steps_are(journal, &ENDING)
+            && shows(journal, 4, &[ONE_SYMBOL], &[], Mode::Accepted)
+            && is_refused(journal, Edit::Drop, StepFault::Halted)
+    }
+
+    /// Whether it goes back, takes another way, and goes back to its start.
+    fn undrops(journal: &mut Journal<SnapshotParser>) -> bool {
+        undos_are(journal, &ENDING)
+            && undos_are(journal, &[StepKind::Drop(X)])
+            && shows(journal, 1, &[X], &TWO[1..], Mode::Running)
+            && steps_are(journal, &[StepKind::Reduce(1)])
+            && shows(journal, 2, &[ONE_SYMBOL], &TWO[1..], Mode::Running)
+            && undos_are(journal, &[StepKind::Shift(X), StepKind::Reduce(1)])
+            && shows(journal, 0, &[], &TWO, Mode::Running)
+            && journal.back() == Err(AtStart)
     }
 
     #[test]
     fn a_dropped_token_and_its_undos(rt: HostRuntime) -> Result<(), Fail> {
         let mut journal = journal_of(rt.alloc(), ONE, b"'x' 'x'")?;
-        let last = [StepKind::Reduce(1), StepKind::Accept];
-        let read = [(X, 1), (X, 2)];
-        assert!(rt; steps_are(&mut journal, &[StepKind::Shift(X)]));
-        assert!(rt; shows(&journal, 1, &[X], &read[1..], Mode::Running));
-        assert!(rt; edit_is(&mut journal, Edit::Drop, StepKind::Drop(X)));
-        assert!(rt; is_refused(&mut journal, Edit::Drop, StepFault::NoToken));
-        assert!(rt; is_refused(&mut journal, Edit::Insert(ONE_SYMBOL), StepFault::NoToken));
-        assert!(rt; is_refused(&mut journal, Edit::Insert(ERROR), StepFault::NoToken));
-        assert!(rt; is_refused(&mut journal, Edit::Insert(0), StepFault::NoToken));
-        assert!(rt; shows(&journal, 2, &[X], &[], Mode::Running));
-        assert!(rt; steps_are(&mut journal, &last));
-        assert!(rt; shows(&journal, 4, &[ONE_SYMBOL], &[], Mode::Accepted));
-        assert!(rt; is_refused(&mut journal, Edit::Drop, StepFault::Halted));
-        assert!(rt; undos_are(&mut journal, &last));
-        assert!(rt; undos_are(&mut journal, &[StepKind::Drop(X)]));
-        assert!(rt; shows(&journal, 1, &[X], &read[1..], Mode::Running));
-        assert!(rt; steps_are(&mut journal, &[StepKind::Reduce(1)]));
-        assert!(rt; shows(&journal, 2, &[ONE_SYMBOL], &read[1..], Mode::Running));
-        assert!(rt; undos_are(&mut journal, &[StepKind::Shift(X), StepKind::Reduce(1)]));
-        assert!(rt; shows(&journal, 0, &[], &read, Mode::Running));
-        assert_eq!(rt; journal.back(), Err(AtStart));
+        let right = drops(&mut journal) && ends(&mut journal) && undrops(&mut journal);
+        drop(journal);
+        assert!(rt; right);
         Ok(())
     }
 }
