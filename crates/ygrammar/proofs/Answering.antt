@@ -6,29 +6,38 @@ use Rattle.ygrammar.specs.declared.cutting.Placed.{Placed}
 use Rattle.ygrammar.specs.declared.fault.SyntaxFault.{SyntaxFault}
 use Rattle.ygrammar.specs.declared.fault.SyntaxFault.TheVariants as faults
 use Rattle.ygrammar.specs.Lexemes.{Lexeme}
-use Rattle.ygrammar.specs.Cuttings.{SpellsSyntax, unfinished, bad_literal, foreign, syntax, Refusal, refusal, Outcome}
+use Rattle.ygrammar.specs.Cuttings.{SpellsSyntax, unfinished, bad_literal, foreign, syntax, Refusal}
+use Rattle.ygrammar.specs.Cuttings.{refusal, Outcome}
 use Rattle.ygrammar.specs.Answers.{views, Answers, Gives}
 use Rattle.ygrammar.specs.Tree.{HasOneTree}
 use Rattle.ygrammar.proofs.Trees.{tree_of}
 use Rattle.ygrammar.proofs.OneTree.{one_tree}
 use Rattle.ygrammar.proofs.Outcomes.{one_outcome, outcome_spells}
 
-pub gives_spells : (bytes : List ℕ) (r : Result (Vec Placed) SyntaxFault) → Gives bytes r → IfOk r (λ v. SpellsSyntax bytes (views v.items))
+pub gives_spells : (bytes : List ℕ) (r : Result (Vec Placed) SyntaxFault) → Gives bytes r →
+    IfOk r (λ v. SpellsSyntax bytes (views v.items))
 gives_spells bytes (Ok v) h = outcome_spells bytes (views v.items) h
 gives_spells bytes (Err e) h = tt
 
-pub gives_answers : (bytes : List ℕ) (r : Result (Vec Placed) SyntaxFault) (o : Result (List Lexeme) Refusal) → Gives bytes r → Outcome bytes o → Answers r o
+pub gives_answers : (bytes : List ℕ) (r : Result (Vec Placed) SyntaxFault)
+    (o : Result (List Lexeme) Refusal) → Gives bytes r → Outcome bytes o → Answers r o
 gives_answers bytes (Ok v) o h k = one_outcome bytes o (Ok (views v.items)) k h
-gives_answers bytes (Err (faults.Unfinished line)) o h k = one_outcome bytes o (Err (refusal unfinished line)) k h
-gives_answers bytes (Err (faults.BadLiteral line)) o h k = one_outcome bytes o (Err (refusal bad_literal line)) k h
-gives_answers bytes (Err (faults.Foreign line)) o h k = one_outcome bytes o (Err (refusal foreign line)) k h
-gives_answers bytes (Err (faults.Syntax line)) o h k = one_outcome bytes o (Err (refusal syntax line)) k h
+gives_answers bytes (Err (faults.Unfinished line)) o h k = one_outcome bytes o
+    (Err (refusal unfinished line)) k h
+gives_answers bytes (Err (faults.BadLiteral line)) o h k = one_outcome bytes o
+    (Err (refusal bad_literal line)) k h
+gives_answers bytes (Err (faults.Foreign line)) o h k = one_outcome bytes o
+    (Err (refusal foreign line)) k h
+gives_answers bytes (Err (faults.Syntax line)) o h k = one_outcome bytes o
+    (Err (refusal syntax line)) k h
 gives_answers bytes (Err faults.TooLong) o h k = h
 gives_answers bytes (Err faults.Memory) o h k = tt
 
-pub gives_tree : (bytes : List ℕ) (r : Result (Vec Placed) SyntaxFault) → Gives bytes r → IfOk r (λ v. HasOneTree (views v.items))
+pub gives_tree : (bytes : List ℕ) (r : Result (Vec Placed) SyntaxFault) → Gives bytes r →
+    IfOk r (λ v. HasOneTree (views v.items))
 gives_tree bytes (Ok v) h =
     let s = outcome_spells bytes (views v.items) h in
     let (t, shaped, e) = tree_of (views v.items) s.derived in
-    record { tree = t; shaped = shaped; yields = e; only = λ u k f. one_tree t u shaped k (sym e ∙ f) }
+    record { tree = t; shaped = shaped; yields = e; only = λ u k f. one_tree t u shaped k
+        (sym e ∙ f) }
 gives_tree bytes (Err e) h = tt

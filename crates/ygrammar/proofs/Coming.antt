@@ -1,5 +1,7 @@
 -- Reading one part after another comes to the file's outcome.
-use Rattle.std.proofs.Common.{ℕ, ◌≡◌, ◌≤◌, ◌+◌, ◌-◌, drop, Bool, true, false, cond, not, ◌&&◌, ◌||◌, ◌⊎◌, inl, inr, eqb, List, [], ◌∷◌, ◌++◌, length, Option, Some, None, Ok, Err, refl, sym, ap, ◌∙◌, subst, arith, append-nil, length-append}
+use Rattle.std.proofs.Common.{ℕ, ◌≡◌, ◌≤◌, ◌+◌, ◌-◌, drop, Bool, true, false, cond, not, ◌&&◌, ◌||◌}
+use Rattle.std.proofs.Common.{◌⊎◌, inl, inr, eqb, List, [], ◌∷◌, ◌++◌, length, Option, Some, None}
+use Rattle.std.proofs.Common.{Ok, Err, refl, sym, ap, ◌∙◌, subst, arith, append-nil, length-append}
 use Rattle.std.proofs.lemmas.Bool.{eqb-true, and_parts, or_cases, not-true, both_ways}
 use Rattle.std.proofs.lemmas.List.{map_push}
 use Rattle.std.proofs.Math.Seq.{drop-append_seam}
@@ -11,11 +13,19 @@ use Rattle.ygrammar.specs.declared.kind.Sign.TheVariants as sign
 use Rattle.ygrammar.specs.declared.part.LexicalFault.{LexicalFault}
 use Rattle.ygrammar.specs.declared.part.LexicalFault.TheVariants as code_faults
 use Rattle.ygrammar.specs.declared.recogniser.State.{State}
-use Rattle.ygrammar.specs.declared.recogniser.State.TheVariants.{Declarations, StartWord, UnionWord, ListWord, ListTagOpen, ListTagName, ListTagged, Listed, Numbered, TypeWord, TypeTagOpen, TypeTagName, TypeTagged, Typed, RulesMark, Body, PrecWord, PrecNamed, Semicolons, End}
+use Rattle.ygrammar.specs.declared.recogniser.State.TheVariants.{Declarations, StartWord, UnionWord}
+use Rattle.ygrammar.specs.declared.recogniser.State.TheVariants.{ListWord, ListTagOpen, ListTagName}
+use Rattle.ygrammar.specs.declared.recogniser.State.TheVariants.{ListTagged, Listed, Numbered}
+use Rattle.ygrammar.specs.declared.recogniser.State.TheVariants.{TypeWord, TypeTagOpen, TypeTagName}
+use Rattle.ygrammar.specs.declared.recogniser.State.TheVariants.{TypeTagged, Typed, RulesMark, Body}
+use Rattle.ygrammar.specs.declared.recogniser.State.TheVariants.{PrecWord, PrecNamed, Semicolons}
+use Rattle.ygrammar.specs.declared.recogniser.State.TheVariants.{End}
 use Rattle.ygrammar.specs.Syntax.{BeginsSpec}
 use Rattle.ygrammar.specs.Recogniser.{next_state, reached, is_final, is_final_at, is_end}
 use Rattle.ygrammar.specs.Lexemes.{Lexeme, fixed, kind_of}
-use Rattle.ygrammar.specs.Cuttings.{Part, lexeme, PartAt, Cuts, lexemes, kinds, is_mark, marks, syntax, FaultAt, refusal, IsLine, ended, marked, lexical, stray, early, Outcome}
+use Rattle.ygrammar.specs.Cuttings.{Part, lexeme, PartAt, Cuts, lexemes, kinds, is_mark, marks}
+use Rattle.ygrammar.specs.Cuttings.{syntax, FaultAt, refusal, IsLine, ended, marked, lexical, stray}
+use Rattle.ygrammar.specs.Cuttings.{early, Outcome}
 use Rattle.ygrammar.specs.Views.{lexeme_view, fault_view}
 use Rattle.ygrammar.specs.Answers.{views, fault_at, Fails, Comes, StandsIn}
 use Rattle.ygrammar.proofs.Accepted.{reached_append, recognised}
@@ -91,8 +101,10 @@ record Counted (q : State) (k : Kind) (r : State) : Type 0 where
 counted : (q : State) (k : Kind) (r : State) → next_state q k ≡ Some r → Counted q k r
 counted q k r e =
     let h : counts q k (Some r) ≡ true = ap (counts q k) (sym e) ∙ good q k in
-    let p = and_parts (eqb (marks_of r) (marks_of q + count_mark k)) (not (is_end r) || is_mark k) h in
-    record { sum = eqb-true (marks_of r) (marks_of q + count_mark k) p.0; last = λ t. either t (or_cases (not (is_end r)) (is_mark k) p.1) }
+    let p = and_parts (eqb (marks_of r) (marks_of q + count_mark k)) (not (is_end r) || is_mark k)
+            h in
+    record { sum = eqb-true (marks_of r) (marks_of q + count_mark k) p.0; last =
+        λ t. either t (or_cases (not (is_end r)) (is_mark k) p.1) }
   where
     either : is_end r ≡ true → (not (is_end r) ≡ true) ⊎ (is_mark k ≡ true) → is_mark k ≡ true
     either t (inl n) = absurd (both_ways (is_end r) (not-true (is_end r) n) t)
@@ -108,21 +120,27 @@ two Declarations h = cc
 two End h = refl
 two _ h = cc
 
-marks_push : (ls : List Lexeme) (l : Lexeme) → marks (ls ++ l ∷ []) ≡ marks ls + count_mark (kind_of l)
+marks_push : (ls : List Lexeme) (l : Lexeme) → marks (ls ++ l ∷ []) ≡ marks ls + count_mark
+    (kind_of l)
 marks_push ls l = marks_append ls (l ∷ [])
 
 -- the state tells how many marks have been read
-reads_marks : (ls : List Lexeme) (q r : State) → reached (Some q) (kinds ls) ≡ Some r → marks_of q + marks ls ≡ marks_of r
-reads_marks [] q r e = let z : q ≡ r = cc in let w : marks_of q ≡ marks_of r = ap marks_of z in omega (arith, w)
+reads_marks : (ls : List Lexeme) (q r : State) → reached (Some q) (kinds ls) ≡ Some r →
+    marks_of q + marks ls ≡ marks_of r
+reads_marks [] q r e = let z : q ≡ r = cc in let w : marks_of q ≡ marks_of r = ap marks_of z in
+    omega (arith, w)
 reads_marks (l ∷ ls) q r e = go (next_state q (kind_of l)) refl e (λ s f. reads_marks ls s r f)
   where
     count_first : marks (l ∷ ls) ≡ count_mark (kind_of l) + marks ls
     count_first = marks_append (l ∷ []) ls
 
-    go : (o : Option State) → next_state q (kind_of l) ≡ o → reached o (kinds ls) ≡ Some r → ((s : State) → reached (Some s) (kinds ls) ≡ Some r → marks_of s + marks ls ≡ marks_of r) → marks_of q + marks (l ∷ ls) ≡ marks_of r
+    go : (o : Option State) → next_state q (kind_of l) ≡ o → reached o (kinds ls) ≡ Some r →
+        ((s : State) → reached (Some s) (kinds ls) ≡ Some r → marks_of s + marks ls ≡ marks_of r) →
+        marks_of q + marks (l ∷ ls) ≡ marks_of r
     go None h f again = lost_is (kinds ls) f
       where
-        lost_is : (ks : List Kind) → reached None ks ≡ Some r → marks_of q + marks (l ∷ ls) ≡ marks_of r
+        lost_is : (ks : List Kind) → reached None ks ≡ Some r → marks_of q + marks
+            (l ∷ ls) ≡ marks_of r
         lost_is [] f = cc
         lost_is (k ∷ ks) f = cc
     go (Some s) h f again =
@@ -139,62 +157,82 @@ mark_lexeme _ h = cc
 
 -- ---- one more part
 
-cuts_more : (ps : List Part) (bytes rest : List ℕ) (p : Part) (m : List ℕ) → Cuts bytes ps rest → PartAt rest p m → Cuts bytes (ps ++ p ∷ []) m
+cuts_more : (ps : List Part) (bytes rest : List ℕ) (p : Part) (m : List ℕ) → Cuts bytes ps rest →
+    PartAt rest p m → Cuts bytes (ps ++ p ∷ []) m
 cuts_more [] bytes rest p m e h = (m, subst (λ z. PartAt z p m) (sym e) h, refl)
 cuts_more (q ∷ ps) bytes rest p m (n, a, c) h = (n, a, cuts_more ps n rest p m c h)
 
 pub comes_start : (bytes : List ℕ) → Comes bytes [] bytes Declarations
-comes_start bytes = record { cut = record { parts = []; cut = refl; read = refl; unfinished = omega arith }; state_is = refl; placed = tt }
+comes_start bytes = record { cut = record { parts = []; cut = refl; read = refl; unfinished =
+    omega arith }; state_is = refl; placed = tt }
 
-pub goes_gap : (bytes rest m : List ℕ) (ls : List Placed) (q : State) (p : Part) → Comes bytes ls rest q → lexemes (p ∷ []) ≡ [] → PartAt rest p m → Comes bytes ls m q
+pub goes_gap : (bytes rest m : List ℕ) (ls : List Placed) (q : State) (p : Part) →
+    Comes bytes ls rest q → lexemes (p ∷ []) ≡ [] → PartAt rest p m → Comes bytes ls m q
 goes_gap bytes rest m ls q p c e h = record {
   cut = record {
     parts = c.cut.parts ++ p ∷ [];
     cut = cuts_more c.cut.parts bytes rest p m c.cut.cut h;
-    read = lexemes_append c.cut.parts (p ∷ []) ∙ ap (λ z. lexemes c.cut.parts ++ z) e ∙ append-nil (lexemes c.cut.parts) ∙ c.cut.read;
+    read = lexemes_append c.cut.parts (p ∷ []) ∙ ap (λ z. lexemes c.cut.parts ++ z) e ∙ append-nil
+        (lexemes c.cut.parts) ∙ c.cut.read;
     unfinished = c.cut.unfinished;
   };
   state_is = c.state_is;
   placed = c.placed;
 }
 
-views_push : (ls : List Placed) (p : Placed) → views (ls ++ p ∷ []) ≡ views ls ++ lexeme_view p.lexeme ∷ []
+views_push : (ls : List Placed) (p : Placed) → views (ls ++ p ∷ []) ≡ views ls ++ lexeme_view
+    p.lexeme ∷ []
 views_push ls p = map_push (λ (x : Placed). lexeme_view x.lexeme) ls p
 
-reached_push : (ls : List Lexeme) (l : Lexeme) (q : State) (o : Option State) → reached (Some Declarations) (kinds ls) ≡ Some q → next_state q (kind_of l) ≡ o → reached (Some Declarations) (kinds (ls ++ l ∷ [])) ≡ o
+reached_push : (ls : List Lexeme) (l : Lexeme) (q : State) (o : Option State) →
+    reached (Some Declarations) (kinds ls) ≡ Some q → next_state q (kind_of l) ≡ o →
+    reached (Some Declarations) (kinds (ls ++ l ∷ [])) ≡ o
 reached_push ls l q o e h =
-    ap (reached (Some Declarations)) (kinds_append ls (l ∷ [])) ∙ reached_append (Some Declarations) (kinds ls) (kind_of l ∷ []) ∙ ap (λ z. reached z (kind_of l ∷ [])) e ∙ h
+    ap (reached (Some Declarations)) (kinds_append ls (l ∷ [])) ∙ reached_append (Some Declarations)
+        (kinds ls) (kind_of l ∷ []) ∙ ap (λ z. reached z (kind_of l ∷ [])) e ∙ h
 
 -- a lexeme that is read stands where the rest began
-here : (before rest : List ℕ) (at : ℕ) → at ≡ length (before ++ rest) - length rest → drop at (before ++ rest) ≡ rest
+here : (before rest : List ℕ) (at : ℕ) → at ≡ length (before ++ rest) - length rest →
+    drop at (before ++ rest) ≡ rest
 here before rest at e =
     let n : at ≡ length before = let w = length-append before rest in omega (arith, e, w) in
     ap (λ i. drop i (before ++ rest)) n ∙ drop-append_seam before rest
 
-pub placed_more : (bytes rest m : List ℕ) (ls new : List Placed) (q : State) (p : Placed) → Comes bytes ls rest q → PartAt rest (lexeme (lexeme_view p.lexeme)) m → p.at ≡ length bytes - length rest → new ≡ ls ++ p ∷ [] → AllByRecursion (StandsIn bytes) new
+pub placed_more : (bytes rest m : List ℕ) (ls new : List Placed) (q : State) (p : Placed) →
+    Comes bytes ls rest q → PartAt rest (lexeme (lexeme_view p.lexeme)) m →
+    p.at ≡ length bytes - length rest → new ≡ ls ++ p ∷ [] → AllByRecursion (StandsIn bytes) new
 placed_more bytes rest m ls new q p c h a f =
     let (before, w) = cut_before c.cut.parts bytes rest c.cut.cut in
-    let there : drop p.at bytes ≡ rest = ap (λ (x : List ℕ). drop p.at x) w ∙ here before rest p.at (a ∙ ap (λ (x : List ℕ). length x - length rest) w) in
-    let one : StandsIn bytes p = (m, subst (λ (x : List ℕ). PartAt x (lexeme (lexeme_view p.lexeme)) m) (sym there) h) in
+    let there : drop p.at bytes ≡ rest = ap (λ (x : List ℕ). drop p.at x) w ∙ here before rest p.at
+            (a ∙ ap (λ (x : List ℕ). length x - length rest) w) in
+    let one : StandsIn bytes p =
+            (m, subst (λ (x : List ℕ). PartAt x (lexeme (lexeme_view p.lexeme)) m) (sym there) h) in
     subst (AllByRecursion (StandsIn bytes)) (sym f) (all ls one c.placed)
   where
-    all : (ls : List Placed) → StandsIn bytes p → AllByRecursion (StandsIn bytes) ls → AllByRecursion (StandsIn bytes) (ls ++ p ∷ [])
+    all : (ls : List Placed) → StandsIn bytes p → AllByRecursion (StandsIn bytes) ls →
+        AllByRecursion (StandsIn bytes) (ls ++ p ∷ [])
     all [] one a = (one, tt)
     all (l ∷ ls) one a = (a.0, all ls one a.1)
 
-pub goes_lexeme : (bytes rest m : List ℕ) (ls new : List Placed) (q r : State) (p : Placed) → Comes bytes ls rest q → PartAt rest (lexeme (lexeme_view p.lexeme)) m → p.at ≡ length bytes - length rest
-    → next_state q (kind_of (lexeme_view p.lexeme)) ≡ Some r → is_end r ≡ false → new ≡ ls ++ p ∷ [] → Comes bytes new m r
+pub goes_lexeme : (bytes rest m : List ℕ) (ls new : List Placed) (q r : State) (p : Placed) →
+    Comes bytes ls rest q → PartAt rest (lexeme (lexeme_view p.lexeme)) m →
+    p.at ≡ length bytes - length rest
+    → next_state q (kind_of (lexeme_view p.lexeme)) ≡ Some r → is_end r ≡ false →
+        new ≡ ls ++ p ∷ [] → Comes bytes new m r
 goes_lexeme bytes rest m ls new q r p c h a e n f =
     let l = lexeme_view p.lexeme in
     let v : views new ≡ views ls ++ l ∷ [] = ap views f ∙ views_push ls p in
-    let s : reached (Some Declarations) (kinds (views new)) ≡ Some r = ap (λ z. reached (Some Declarations) (kinds z)) v ∙ reached_push (views ls) l q (Some r) c.state_is e in
+    let s : reached (Some Declarations) (kinds (views new)) ≡ Some r =
+            ap (λ z. reached (Some Declarations) (kinds z)) v ∙ reached_push (views ls) l q
+            (Some r) c.state_is e in
     let k = reads_marks (views new) Declarations r s in
     let w = few r n in
     record {
       cut = record {
         parts = c.cut.parts ++ lexeme l ∷ [];
         cut = cuts_more c.cut.parts bytes rest (lexeme l) m c.cut.cut h;
-        read = lexemes_append c.cut.parts (lexeme l ∷ []) ∙ ap (λ z. z ++ l ∷ []) c.cut.read ∙ sym v;
+        read = lexemes_append c.cut.parts (lexeme l ∷ []) ∙ ap (λ z. z ++ l ∷ []) c.cut.read ∙ sym
+            v;
         unfinished = omega (arith, k, w);
       };
       state_is = s;
@@ -203,24 +241,38 @@ goes_lexeme bytes rest m ls new q r p c h a e n f =
 
 -- ---- where reading stops
 
-begun : (bytes rest : List ℕ) (ls : List Placed) (q : State) → Comes bytes ls rest q → BeginsSpec (kinds (views ls))
+begun : (bytes rest : List ℕ) (ls : List Placed) (q : State) → Comes bytes ls rest q →
+    BeginsSpec (kinds (views ls))
 begun bytes rest ls q c = viable (kinds (views ls)) q c.state_is
 
-pub place : (bytes rest : List ℕ) (ls : List Placed) (q : State) → Comes bytes ls rest q → (before : List ℕ) × (bytes ≡ before ++ rest)
+pub place : (bytes rest : List ℕ) (ls : List Placed) (q : State) → Comes bytes ls rest q →
+    (before : List ℕ) × (bytes ≡ before ++ rest)
 place bytes rest ls q c = cut_before c.cut.parts bytes rest c.cut.cut
 
-pub comes_shorter : (bytes rest : List ℕ) (ls : List Placed) (q : State) → Comes bytes ls rest q → length rest ≤ length bytes
-comes_shorter bytes rest ls q c = let (b, e) = place bytes rest ls q c in let l : length bytes ≡ length b + length rest = ap length e ∙ length-append b rest in omega (arith, l)
+pub comes_shorter : (bytes rest : List ℕ) (ls : List Placed) (q : State) → Comes bytes ls rest q →
+    length rest ≤ length bytes
+comes_shorter bytes rest ls q c = let (b, e) = place bytes rest ls q c in
+    let l : length bytes ≡ length b + length rest = ap length e ∙ length-append b rest in
+    omega (arith, l)
 
-line_here : (bytes rest : List ℕ) (ls : List Placed) (q : State) → Comes bytes ls rest q → (line : ℕ) × IsLine bytes rest line
-line_here bytes rest ls q c = let (b, e) = place bytes rest ls q c in (_, record { before = b; whole = e; counted = refl })
+line_here : (bytes rest : List ℕ) (ls : List Placed) (q : State) → Comes bytes ls rest q →
+    (line : ℕ) × IsLine bytes rest line
+line_here bytes rest ls q c = let (b, e) = place bytes rest ls q c in
+    (_, record { before = b; whole = e; counted = refl })
 
-pub stops_lexical : (bytes rest : List ℕ) (ls : List Placed) (q : State) (f : LexicalFault) (line : ℕ) → Comes bytes ls rest q → FaultAt rest (fault_view f) → IsLine bytes rest line → Fails (fault_at f line) bytes
-stops_lexical bytes rest ls q code_faults.Unfinished line c h l = record { before = views ls; rest = rest; line = line; comes = c.cut; begun = begun bytes rest ls q c; here = l; stops = lexical h }
-stops_lexical bytes rest ls q code_faults.BadLiteral line c h l = record { before = views ls; rest = rest; line = line; comes = c.cut; begun = begun bytes rest ls q c; here = l; stops = lexical h }
-stops_lexical bytes rest ls q code_faults.Foreign line c h l = record { before = views ls; rest = rest; line = line; comes = c.cut; begun = begun bytes rest ls q c; here = l; stops = lexical h }
+pub stops_lexical : (bytes rest : List ℕ) (ls : List Placed) (q : State) (f : LexicalFault)
+    (line : ℕ) → Comes bytes ls rest q → FaultAt rest (fault_view f) → IsLine bytes rest line →
+    Fails (fault_at f line) bytes
+stops_lexical bytes rest ls q code_faults.Unfinished line c h l = record { before = views ls; rest =
+    rest; line = line; comes = c.cut; begun = begun bytes rest ls q c; here = l; stops = lexical h }
+stops_lexical bytes rest ls q code_faults.BadLiteral line c h l = record { before = views ls; rest =
+    rest; line = line; comes = c.cut; begun = begun bytes rest ls q c; here = l; stops = lexical h }
+stops_lexical bytes rest ls q code_faults.Foreign line c h l = record { before = views ls; rest =
+    rest; line = line; comes = c.cut; begun = begun bytes rest ls q c; here = l; stops = lexical h }
 
-pub stops_stray : (bytes rest m : List ℕ) (ls : List Placed) (q : State) (l : Lexeme) (line : ℕ) → Comes bytes ls rest q → PartAt rest (lexeme l) m → next_state q (kind_of l) ≡ None → IsLine bytes rest line → Outcome bytes (Err (refusal syntax line))
+pub stops_stray : (bytes rest m : List ℕ) (ls : List Placed) (q : State) (l : Lexeme) (line : ℕ) →
+    Comes bytes ls rest q → PartAt rest (lexeme l) m → next_state q (kind_of l) ≡ None →
+    IsLine bytes rest line → Outcome bytes (Err (refusal syntax line))
 stops_stray bytes rest m ls q l line c h e i = record {
   before = views ls;
   rest = rest;
@@ -228,11 +280,14 @@ stops_stray bytes rest m ls q l line c h e i = record {
   comes = c.cut;
   begun = begun bytes rest ls q c;
   here = i;
-  stops = stray h (not_viable (kinds (views ls ++ l ∷ [])) (reached_push (views ls) l q None c.state_is e));
+  stops = stray h (not_viable (kinds (views ls ++ l ∷ []))
+      (reached_push (views ls) l q None c.state_is e));
 }
 
-pub stops_marked : (bytes rest m : List ℕ) (ls new : List Placed) (q r : State) (p : Placed) → Comes bytes ls rest q → PartAt rest (lexeme (lexeme_view p.lexeme)) m
-    → next_state q (kind_of (lexeme_view p.lexeme)) ≡ Some r → is_end r ≡ true → new ≡ ls ++ p ∷ [] → Outcome bytes (Ok (views new))
+pub stops_marked : (bytes rest m : List ℕ) (ls new : List Placed) (q r : State) (p : Placed) →
+    Comes bytes ls rest q → PartAt rest (lexeme (lexeme_view p.lexeme)) m
+    → next_state q (kind_of (lexeme_view p.lexeme)) ≡ Some r → is_end r ≡ true →
+        new ≡ ls ++ p ∷ [] → Outcome bytes (Ok (views new))
 stops_marked bytes rest m ls new q r p c h e n f =
     let l = lexeme_view p.lexeme in
     let k = counted q (kind_of l) r e in
@@ -242,8 +297,11 @@ stops_marked bytes rest m ls new q r p c h e n f =
     let one : count_mark (kind_of l) ≡ 1 = ap (λ z. cond z 1 0) is_mark_there in
     let w = two r n in
     let so_far = reads_marks (views ls) Declarations q c.state_is in
-    let v : views new ≡ views ls ++ fixed sign.Mark ∷ [] = ap views f ∙ views_push ls p ∙ ap (λ z. views ls ++ z ∷ []) mark in
-    let s : reached (Some Declarations) (kinds (views ls ++ fixed sign.Mark ∷ [])) ≡ Some r = reached_push (views ls) (fixed sign.Mark) q (Some r) c.state_is (ap (λ z. next_state q (kind_of z)) (sym mark) ∙ e) in
+    let v : views new ≡ views ls ++ fixed sign.Mark ∷ [] = ap views f ∙ views_push ls p ∙ ap
+            (λ z. views ls ++ z ∷ []) mark in
+    let s : reached (Some Declarations) (kinds (views ls ++ fixed sign.Mark ∷ [])) ≡ Some r =
+            reached_push (views ls) (fixed sign.Mark) q (Some r) c.state_is
+            (ap (λ z. next_state q (kind_of z)) (sym mark) ∙ e) in
     let (line, i) = line_here bytes rest ls q c in
     subst (λ z. Outcome bytes (Ok z)) (sym v) (record {
       before = views ls;
@@ -252,7 +310,8 @@ stops_marked bytes rest m ls new q r p c h e n f =
       comes = c.cut;
       begun = begun bytes rest ls q c;
       here = i;
-      stops = marked (subst (λ z. PartAt rest (lexeme z) m) mark h) (omega (arith, sum, one, w, so_far))
+      stops = marked (subst (λ z. PartAt rest (lexeme z) m) mark h)
+          (omega (arith, sum, one, w, so_far))
           (derived (kinds (views ls ++ fixed sign.Mark ∷ [])) (ap is_final_at s ∙ end_final r n));
     })
   where
@@ -261,7 +320,8 @@ stops_marked bytes rest m ls new q r p c h e n f =
     end_final End h = refl
     end_final _ h = cc
 
-pub stops_ended : (bytes rest : List ℕ) (ls : List Placed) (q : State) → Comes bytes ls rest q → rest ≡ [] → is_final q ≡ true → Outcome bytes (Ok (views ls))
+pub stops_ended : (bytes rest : List ℕ) (ls : List Placed) (q : State) → Comes bytes ls rest q →
+    rest ≡ [] → is_final q ≡ true → Outcome bytes (Ok (views ls))
 stops_ended bytes rest ls q c e h =
     let (line, i) = line_here bytes rest ls q c in
     record {
@@ -274,7 +334,9 @@ stops_ended bytes rest ls q c e h =
       stops = ended e (derived (kinds (views ls)) (ap is_final_at c.state_is ∙ h));
     }
 
-pub stops_early : (bytes rest : List ℕ) (ls : List Placed) (q : State) (line : ℕ) → Comes bytes ls rest q → rest ≡ [] → is_final q ≡ false → IsLine bytes rest line → Outcome bytes (Err (refusal syntax line))
+pub stops_early : (bytes rest : List ℕ) (ls : List Placed) (q : State) (line : ℕ) →
+    Comes bytes ls rest q → rest ≡ [] → is_final q ≡ false → IsLine bytes rest line →
+    Outcome bytes (Err (refusal syntax line))
 stops_early bytes rest ls q line c e h i = record {
   before = views ls;
   rest = rest;
@@ -282,9 +344,11 @@ stops_early bytes rest ls q line c e h i = record {
   comes = c.cut;
   begun = begun bytes rest ls q c;
   here = i;
-  stops = early e (λ s. both_ways (is_final q) h (sym (ap is_final_at c.state_is) ∙ recognised (kinds (views ls)) s));
+  stops = early e (λ s. both_ways (is_final q) h (sym (ap is_final_at c.state_is) ∙ recognised
+      (kinds (views ls)) s));
 }
 
 pub empty_is : (rest : List ℕ) (r : Bool) → r ≡ eqb (length rest) 0 → r ≡ true → rest ≡ []
 empty_is [] r e f = refl
-empty_is (b ∷ rest) r e f = let w = eqb-true (length (b ∷ rest)) 0 (sym e ∙ f) in absurd (omega (arith, w))
+empty_is (b ∷ rest) r e f = let w = eqb-true (length (b ∷ rest)) 0 (sym e ∙ f) in
+    absurd (omega (arith, w))

@@ -3,10 +3,16 @@ use Rattle.std.proofs.Common.{ℕ, Bool, ◌≡◌, ◌≢◌, ◌<◌, List, le
 use Rattle.ygrammar.specs.Grammar.{Production}
 use Rattle.ygrammar.specs.Marking.{IsMarked, IsUnmarked, IsSettled, stuck, DotFits}
 
-pub stuck_at : (p : Production) (m : List Bool) (o : List ℕ) (taken dot : ℕ) (body : List ℕ) → body ≡ p.body → DotFits body m dot → dot ≢ length body → (dot < length body → IsUnmarked m (slice_index body dot)) → IsSettled p m o taken
+pub stuck_at : (p : Production) (m : List Bool) (o : List ℕ) (taken dot : ℕ) (body : List ℕ) →
+    body ≡ p.body → DotFits body m dot → dot ≢ length body →
+    (dot < length body → IsUnmarked m (slice_index body dot)) → IsSettled p m o taken
 stuck_at p m o taken dot body e f n u =
     let l : dot < length body = let w = f.within in omega arith in
-    stuck dot (subst (λ (x : List ℕ). dot < length x) e l) (subst (λ (x : List ℕ). IsUnmarked m (slice_index x dot)) e (u l))
+    stuck dot (subst (λ (x : List ℕ). dot < length x) e l)
+        (subst (λ (x : List ℕ). IsUnmarked m (slice_index x dot)) e (u l))
 
-pub whole_marked : (p : Production) (m : List Bool) (dot : ℕ) (body : List ℕ) → body ≡ p.body → DotFits body m dot → dot ≡ length body → (k : ℕ) → k < length p.body → IsMarked m (slice_index p.body k)
-whole_marked p m dot body e f d = subst (λ (x : List ℕ). (k : ℕ) → k < length x → IsMarked m (slice_index x k)) e (λ k l. f.before k (omega arith))
+pub whole_marked : (p : Production) (m : List Bool) (dot : ℕ) (body : List ℕ) → body ≡ p.body →
+    DotFits body m dot → dot ≡ length body → (k : ℕ) → k < length p.body →
+    IsMarked m (slice_index p.body k)
+whole_marked p m dot body e f d = subst (λ (x : List ℕ). (k : ℕ) → k < length x →
+    IsMarked m (slice_index x k)) e (λ k l. f.before k (omega arith))

@@ -1,10 +1,13 @@
 -- The rules of the symbol that is taken, and the lists that a worklist reads.
-use Rattle.std.proofs.Common.{ℕ, zero, suc, Bool, true, false, ◌≡◌, ◌<◌, ◌≤◌, ◌+◌, ◌⊎◌, List, [], ◌∷◌, length, map, get_or, slice_index, Vec, Global, sym, ◌∙◌, ap, subst, inl, inr, arith, rules}
+use Rattle.std.proofs.Common.{ℕ, zero, suc, Bool, true, false, ◌≡◌, ◌<◌, ◌≤◌, ◌+◌, ◌⊎◌, List, []}
+use Rattle.std.proofs.Common.{◌∷◌, length, map, get_or, slice_index, Vec, Global, sym, ◌∙◌, ap}
+use Rattle.std.proofs.Common.{subst, inl, inr, arith, rules}
 use Rattle.std.specs.List.{Contains}
 use Rattle.std.proofs.lemmas.List.{get_or-map, length-map}
 use Rattle.std.proofs.lemmas.List.Elements.{All-contains, All-from_get_or, Contains-get_or}
 use Rattle.ygrammar.specs.Grammar.{RuleValue}
-use Rattle.ygrammar.specs.Marking.{IsMarked, IsSettled, IsSpread, IsWorklist, Grows, AreOccurrences, AreByLeft, unmarked, items_of, list_at, rule_at}
+use Rattle.ygrammar.specs.Marking.{IsMarked, IsSettled, IsSpread, IsWorklist, Grows, AreOccurrences}
+use Rattle.ygrammar.specs.Marking.{AreByLeft, unmarked, items_of, list_at, rule_at}
 use Rattle.ygrammar.proofs.MarkingSteps.{settled_grows, settled_next, spread_grows, spread_next}
 
 pub marked_below : (m : List Bool) (s : ℕ) → IsMarked m s → s < length m
@@ -12,48 +15,81 @@ marked_below [] s h = absurd (search rules)
 marked_below (b ∷ m) zero h = omega arith
 marked_below (b ∷ m) (suc s) h = let i = marked_below m s h in omega arith
 
-pub of_listed : (xs : List ℕ) (q : ℕ) (P : ℕ → Type 0) → ((k : ℕ) → k < length xs → P (slice_index xs k)) → Contains xs q → P q
+pub of_listed : (xs : List ℕ) (q : ℕ) (P : ℕ → Type 0) →
+    ((k : ℕ) → k < length xs → P (slice_index xs k)) → Contains xs q → P q
 of_listed xs q P f c = All-contains P xs q (All-from_get_or P xs 0 f) c
 
 -- the list that stands at s
-pub list_read : (vs : List (Vec ℕ Global)) (s : ℕ) (v : Vec ℕ Global) (listed : List ℕ) → s < length vs → v ≡ get_or vs s v → listed ≡ v.items → listed ≡ list_at (map items_of vs) s
+pub list_read : (vs : List (Vec ℕ Global)) (s : ℕ) (v : Vec ℕ Global) (listed : List ℕ) →
+    s < length vs → v ≡ get_or vs s v → listed ≡ v.items → listed ≡ list_at (map items_of vs) s
 list_read vs s v listed h e f = f ∙ ap items_of e ∙ sym (get_or-map items_of vs s v [] h)
 
-pub listed_within : (rules : List RuleValue) (n symbols s : ℕ) (lists : List (List ℕ)) (listed : List ℕ) → listed ≡ list_at lists s → AreOccurrences rules n symbols lists → (k : ℕ) → k < length listed → slice_index listed k < n
-listed_within rules n symbols s lists listed e a k h = a.within s (slice_index listed k) (subst (λ (x : List ℕ). Contains x (slice_index listed k)) e (Contains-get_or listed k 0 h))
+pub listed_within : (rules : List RuleValue) (n symbols s : ℕ) (lists : List (List ℕ))
+    (listed : List ℕ) → listed ≡ list_at lists s → AreOccurrences rules n symbols lists →
+    (k : ℕ) → k < length listed → slice_index listed k < n
+listed_within rules n symbols s lists listed e a k h = a.within s (slice_index listed k)
+    (subst (λ (x : List ℕ). Contains x (slice_index listed k)) e (Contains-get_or listed k 0 h))
 
-pub taken_settled : {m m2 : List Bool} {o o2 : List ℕ} (rules : List RuleValue) (n symbols s taken q : ℕ) (lists : List (List ℕ)) (listed : List ℕ) → listed ≡ list_at lists s → s ≡ slice_index o taken → AreOccurrences rules n symbols lists → q < n → Grows m o m2 o2 → taken + 1 ≤ length o
-    → ((k : ℕ) → k < length listed → IsSettled (rule_at rules (slice_index listed k)) m2 o2 (taken + 1))
-    → IsSettled (rule_at rules q) m o (taken + 1) ⊎ ((j : ℕ) × (j < length (rule_at rules q).body) × (slice_index o taken ≡ slice_index (rule_at rules q).body j))
+pub taken_settled : {m m2 : List Bool} {o o2 : List ℕ} (rules : List RuleValue)
+    (n symbols s taken q : ℕ) (lists : List (List ℕ)) (listed : List ℕ) → listed ≡ list_at lists s →
+    s ≡ slice_index o taken → AreOccurrences rules n symbols lists → q < n → Grows m o m2 o2 →
+    taken + 1 ≤ length o
+    → ((k : ℕ) → k < length listed → IsSettled (rule_at rules (slice_index listed k)) m2 o2
+        (taken + 1))
+    → IsSettled (rule_at rules q) m o (taken + 1) ⊎ ((j : ℕ) × (j < length (rule_at rules q).body) ×
+        (slice_index o taken ≡ slice_index (rule_at rules q).body j))
     → IsSettled (rule_at rules q) m2 o2 (taken + 1)
-taken_settled rules n symbols s taken q lists listed e t a h g d f (inl c) = settled_grows (rule_at rules q) (taken + 1) g d c
-taken_settled {m2 = m2} {o2 = o2} rules n symbols s taken q lists listed e t a h g d f (inr (j, l, i)) =
-    of_listed listed q (λ (u : ℕ). IsSettled (rule_at rules u) m2 o2 (taken + 1)) f (subst (λ (x : List ℕ). Contains x q) (sym e) (subst (λ (u : ℕ). Contains (list_at lists u) q) (sym (t ∙ i)) (a.each q j h l)))
+taken_settled rules n symbols s taken q lists listed e t a h g d f (inl c) =
+    settled_grows (rule_at rules q) (taken + 1) g d c
+taken_settled {m2 = m2} {o2 = o2} rules n symbols s taken q lists listed e t a h g d f
+    (inr (j, l, i)) =
+    of_listed listed q (λ (u : ℕ). IsSettled (rule_at rules u) m2 o2 (taken + 1)) f
+        (subst (λ (x : List ℕ). Contains x q) (sym e)
+        (subst (λ (u : ℕ). Contains (list_at lists u) q) (sym (t ∙ i)) (a.each q j h l)))
 
 -- one symbol was taken, and the rules in whose bodies it stands were visited
-pub drain_next : {m m2 : List Bool} {o o2 : List ℕ} (rules : List RuleValue) (n symbols s taken : ℕ) (lists : List (List ℕ)) (listed : List ℕ) → listed ≡ list_at lists s → s ≡ slice_index o taken → AreOccurrences rules n symbols lists → Grows m o m2 o2 → taken + 1 ≤ length o
-    → ((k : ℕ) → k < length listed → IsSettled (rule_at rules (slice_index listed k)) m2 o2 (taken + 1))
+pub drain_next : {m m2 : List Bool} {o o2 : List ℕ} (rules : List RuleValue) (n symbols s taken : ℕ)
+    (lists : List (List ℕ)) (listed : List ℕ) → listed ≡ list_at lists s → s ≡ slice_index o taken →
+    AreOccurrences rules n symbols lists → Grows m o m2 o2 → taken + 1 ≤ length o
+    → ((k : ℕ) → k < length listed → IsSettled (rule_at rules (slice_index listed k)) m2 o2
+        (taken + 1))
     → ((q : ℕ) → q < n → IsSettled (rule_at rules q) m o taken)
     → (q : ℕ) → q < n → IsSettled (rule_at rules q) m2 o2 (taken + 1)
-drain_next rules n symbols s taken lists listed e t a g d f old q h = taken_settled rules n symbols s taken q lists listed e t a h g d f (settled_next (rule_at rules q) taken (old q h))
+drain_next rules n symbols s taken lists listed e t a g d f old q h = taken_settled rules n symbols
+    s taken q lists listed e t a h g d f (settled_next (rule_at rules q) taken (old q h))
 
-pub left_listed : (rules : List RuleValue) (n symbols s : ℕ) (lists : List (List ℕ)) (listed : List ℕ) → listed ≡ list_at lists s → AreByLeft rules n symbols lists → (k : ℕ) → k < length listed → (slice_index listed k < n) × ((rule_at rules (slice_index listed k)).left ≡ s)
-left_listed rules n symbols s lists listed e a k h = a.within s (slice_index listed k) (subst (λ (x : List ℕ). Contains x (slice_index listed k)) e (Contains-get_or listed k 0 h))
+pub left_listed : (rules : List RuleValue) (n symbols s : ℕ) (lists : List (List ℕ))
+    (listed : List ℕ) → listed ≡ list_at lists s → AreByLeft rules n symbols lists →
+    (k : ℕ) → k < length listed → (slice_index listed k < n) ×
+    ((rule_at rules (slice_index listed k)).left ≡ s)
+left_listed rules n symbols s lists listed e a k h = a.within s (slice_index listed k)
+    (subst (λ (x : List ℕ). Contains x (slice_index listed k)) e (Contains-get_or listed k 0 h))
 
-taken_spread : {m m2 : List Bool} {o o2 : List ℕ} (rules : List RuleValue) (n symbols s taken q : ℕ) (lists : List (List ℕ)) (listed : List ℕ) → listed ≡ list_at lists s → s ≡ slice_index o taken → AreByLeft rules n symbols lists → q < n → Grows m o m2 o2 → taken + 1 ≤ length o
-    → ((k : ℕ) → k < length listed → IsSpread (rule_at rules (slice_index listed k)) m2 o2 (taken + 1))
+taken_spread : {m m2 : List Bool} {o o2 : List ℕ} (rules : List RuleValue) (n symbols s taken q : ℕ)
+    (lists : List (List ℕ)) (listed : List ℕ) → listed ≡ list_at lists s → s ≡ slice_index o taken →
+    AreByLeft rules n symbols lists → q < n → Grows m o m2 o2 → taken + 1 ≤ length o
+    → ((k : ℕ) → k < length listed → IsSpread (rule_at rules (slice_index listed k)) m2 o2
+        (taken + 1))
     → IsSpread (rule_at rules q) m o (taken + 1) ⊎ (slice_index o taken ≡ (rule_at rules q).left)
     → IsSpread (rule_at rules q) m2 o2 (taken + 1)
-taken_spread rules n symbols s taken q lists listed e t a h g d f (inl c) = spread_grows (rule_at rules q) (taken + 1) g d c
+taken_spread rules n symbols s taken q lists listed e t a h g d f (inl c) =
+    spread_grows (rule_at rules q) (taken + 1) g d c
 taken_spread {m2 = m2} {o2 = o2} rules n symbols s taken q lists listed e t a h g d f (inr i) =
-    of_listed listed q (λ (u : ℕ). IsSpread (rule_at rules u) m2 o2 (taken + 1)) f (subst (λ (x : List ℕ). Contains x q) (sym e) (subst (λ (u : ℕ). Contains (list_at lists u) q) (sym (t ∙ i)) (a.each q h)))
+    of_listed listed q (λ (u : ℕ). IsSpread (rule_at rules u) m2 o2 (taken + 1)) f
+        (subst (λ (x : List ℕ). Contains x q) (sym e)
+        (subst (λ (u : ℕ). Contains (list_at lists u) q) (sym (t ∙ i)) (a.each q h)))
 
 -- one symbol was taken, and the bodies of its rules were marked
-pub spread_more : {m m2 : List Bool} {o o2 : List ℕ} (rules : List RuleValue) (n symbols s taken : ℕ) (lists : List (List ℕ)) (listed : List ℕ) → listed ≡ list_at lists s → s ≡ slice_index o taken → AreByLeft rules n symbols lists → Grows m o m2 o2 → taken + 1 ≤ length o
-    → ((k : ℕ) → k < length listed → IsSpread (rule_at rules (slice_index listed k)) m2 o2 (taken + 1))
+pub spread_more : {m m2 : List Bool} {o o2 : List ℕ} (rules : List RuleValue)
+    (n symbols s taken : ℕ) (lists : List (List ℕ)) (listed : List ℕ) → listed ≡ list_at lists s →
+    s ≡ slice_index o taken → AreByLeft rules n symbols lists → Grows m o m2 o2 →
+    taken + 1 ≤ length o
+    → ((k : ℕ) → k < length listed → IsSpread (rule_at rules (slice_index listed k)) m2 o2
+        (taken + 1))
     → ((q : ℕ) → q < n → IsSpread (rule_at rules q) m o taken)
     → (q : ℕ) → q < n → IsSpread (rule_at rules q) m2 o2 (taken + 1)
-spread_more rules n symbols s taken lists listed e t a g d f old q h = taken_spread rules n symbols s taken q lists listed e t a h g d f (spread_next (rule_at rules q) taken (old q h))
+spread_more rules n symbols s taken lists listed e t a g d f old q h = taken_spread rules n symbols
+    s taken q lists listed e t a h g d f (spread_next (rule_at rules q) taken (old q h))
 
 unmarked_few : (m : List Bool) → unmarked m ≤ length m
 unmarked_few [] = omega arith
@@ -62,10 +98,13 @@ unmarked_few (false ∷ m) = let i = unmarked_few m in omega arith
 
 -- nothing waits at first
 pub worklist_none : (m : List Bool) (o : List ℕ) → o ≡ [] → IsWorklist m o
-worklist_none m o e = subst (λ (x : List ℕ). IsWorklist m x) (sym e) (record { marked = λ k h. absurd (omega arith); few = let i = unmarked_few m in omega arith })
+worklist_none m o e = subst (λ (x : List ℕ). IsWorklist m x) (sym e)
+    (record { marked = λ k h. absurd (omega arith); few = let i = unmarked_few m in omega arith })
 
 -- the symbol that is taken has a list
-pub taken_in : (m0 m : List Bool) (o0 o : List ℕ) (s t n : ℕ) (vs : List (Vec ℕ Global)) → s ≡ get_or o t 0 → t < length o → IsWorklist m o → Grows m0 o0 m o → n ≡ length m0 → length (map items_of vs) ≡ n → s < length vs
+pub taken_in : (m0 m : List Bool) (o0 o : List ℕ) (s t n : ℕ) (vs : List (Vec ℕ Global)) →
+    s ≡ get_or o t 0 → t < length o → IsWorklist m o → Grows m0 o0 m o → n ≡ length m0 →
+    length (map items_of vs) ≡ n → s < length vs
 taken_in m0 m o0 o s t n vs e d w g z a =
     let b : s < length m = marked_below m s (subst (IsMarked m) (sym e) (w.marked t d)) in
     let y = g.sized in

@@ -1,10 +1,14 @@
 -- Steps of the worklists that mark symbols.
-use Rattle.std.proofs.Common.{ℕ, zero, suc, Bool, true, false, ◌≡◌, ◌≢◌, ◌<◌, ◌≤◌, ◌+◌, ◌⊎◌, List, [], ◌∷◌, ◌++◌, length, get_or, slice_index, refl, sym, ◌∙◌, ap, subst, inl, inr, arith, rules, get_or-set_other, get_or-set_same, length-append}
+use Rattle.std.proofs.Common.{ℕ, zero, suc, Bool, true, false, ◌≡◌, ◌≢◌, ◌<◌, ◌≤◌, ◌+◌, ◌⊎◌, List}
+use Rattle.std.proofs.Common.{[], ◌∷◌, ◌++◌, length, get_or, slice_index, refl, sym, ◌∙◌, ap, subst}
+use Rattle.std.proofs.Common.{inl, inr, arith, rules, get_or-set_other, get_or-set_same}
+use Rattle.std.proofs.Common.{length-append}
 use Rattle.std.proofs.Math.ListN.{set}
 use Rattle.std.proofs.Math.ListN.{get_or-append, length-set}
 use Rattle.std.proofs.Math.Seq.{get_or-append_seam}
 use Rattle.ygrammar.specs.Grammar.{Production}
-use Rattle.ygrammar.specs.Marking.{IsMarked, IsUnmarked, unmarked, IsWaiting, IsWorklist, Grows, IsSettled, left, stuck, ahead, IsSpread, unseen, spread}
+use Rattle.ygrammar.specs.Marking.{IsMarked, IsUnmarked, unmarked, IsWaiting, IsWorklist, Grows}
+use Rattle.ygrammar.specs.Marking.{IsSettled, left, stuck, ahead, IsSpread, unseen, spread}
 
 same_or : (a b : ℕ) → (a ≡ b) ⊎ (a ≢ b)
 same_or a b = grind arith
@@ -20,17 +24,21 @@ pub not_both : (b : Bool) → b ≡ true → b ≡ false → ⊥
 not_both true h k = search rules
 not_both false h k = search rules
 
-unmarked_set : (m : List Bool) (s : ℕ) → s < length m → get_or m s false ≡ false → unmarked (set m s true) + 1 ≡ unmarked m
+unmarked_set : (m : List Bool) (s : ℕ) → s < length m → get_or m s false ≡ false →
+    unmarked (set m s true) + 1 ≡ unmarked m
 unmarked_set [] s l h = absurd (omega arith)
 unmarked_set (false ∷ m) zero l h = omega arith
 unmarked_set (true ∷ m) zero l h = absurd (not_both true refl h)
 unmarked_set (b ∷ m) (suc s) l h = let i = unmarked_set m s (omega arith) h in omega arith
 
-kept_by : (m : List Bool) (s t : ℕ) → s < length m → (t ≡ s) ⊎ (t ≢ s) → IsMarked m t → IsMarked (set m s true) t
-kept_by m s t l (inl e) k = subst (λ (u : ℕ). IsMarked (set m s true) u) (sym e) (get_or-set_same m s true false l)
+kept_by : (m : List Bool) (s t : ℕ) → s < length m → (t ≡ s) ⊎ (t ≢ s) → IsMarked m t →
+    IsMarked (set m s true) t
+kept_by m s t l (inl e) k = subst (λ (u : ℕ). IsMarked (set m s true) u) (sym e)
+    (get_or-set_same m s true false l)
 kept_by m s t l (inr n) k = get_or-set_other m s t true false n ∙ k
 
-only_by : (m : List Bool) (s t : ℕ) → (t ≡ s) ⊎ (t ≢ s) → IsMarked (set m s true) t → IsMarked m t ⊎ (t ≡ s)
+only_by : (m : List Bool) (s t : ℕ) → (t ≡ s) ⊎ (t ≢ s) → IsMarked (set m s true) t → IsMarked m t ⊎
+    (t ≡ s)
 only_by m s t (inl e) k = inr e
 only_by m s t (inr n) k = inl (sym (get_or-set_other m s t true false n) ∙ k)
 
@@ -50,18 +58,25 @@ waiting_new o s done d = record {
   there = get_or-append_seam o s [] 0;
 }
 
-waits_by : (m : List Bool) (o : List ℕ) (s done t : ℕ) → done ≤ length o → IsMarked m t ⊎ (t ≡ s) → IsMarked m t ⊎ IsWaiting (o ++ s ∷ []) done t
+waits_by : (m : List Bool) (o : List ℕ) (s done t : ℕ) → done ≤ length o → IsMarked m t ⊎
+    (t ≡ s) → IsMarked m t ⊎ IsWaiting (o ++ s ∷ []) done t
 waits_by m o s done t d (inl k) = inl k
-waits_by m o s done t d (inr e) = inr (subst (λ (u : ℕ). IsWaiting (o ++ s ∷ []) done u) (sym e) (waiting_new o s done d))
+waits_by m o s done t d (inr e) = inr (subst (λ (u : ℕ). IsWaiting (o ++ s ∷ []) done u) (sym e)
+    (waiting_new o s done d))
 
-in_order : (m : List Bool) (o : List ℕ) (s k : ℕ) → s < length m → IsWorklist m o → (k < length o) ⊎ (k ≡ length o) → IsMarked (set m s true) (get_or (o ++ s ∷ []) k 0)
-in_order m o s k l w (inl h) = rw (get_or-append o (s ∷ []) 0 k h) (kept_by m s (get_or o k 0) l (same_or (get_or o k 0) s) (w.marked k h))
-in_order m o s k l w (inr e) = subst (λ (u : ℕ). IsMarked (set m s true) u) (sym (ap (λ (j : ℕ). get_or (o ++ s ∷ []) j 0) e ∙ get_or-append_seam o s [] 0)) (get_or-set_same m s true false l)
+in_order : (m : List Bool) (o : List ℕ) (s k : ℕ) → s < length m → IsWorklist m o → (k < length o) ⊎
+    (k ≡ length o) → IsMarked (set m s true) (get_or (o ++ s ∷ []) k 0)
+in_order m o s k l w (inl h) = rw (get_or-append o (s ∷ []) 0 k h)
+    (kept_by m s (get_or o k 0) l (same_or (get_or o k 0) s) (w.marked k h))
+in_order m o s k l w (inr e) = subst (λ (u : ℕ). IsMarked (set m s true) u)
+    (sym (ap (λ (j : ℕ). get_or (o ++ s ∷ []) j 0) e ∙ get_or-append_seam o s [] 0))
+    (get_or-set_same m s true false l)
 
 last_or : (k n : ℕ) → k < n + 1 → (k < n) ⊎ (k ≡ n)
 last_or k n h = grind arith
 
-pub grows_new : (m : List Bool) (o : List ℕ) (s : ℕ) → s < length m → IsUnmarked m s → Grows m o (set m s true) (o ++ s ∷ [])
+pub grows_new : (m : List Bool) (o : List ℕ) (s : ℕ) → s < length m → IsUnmarked m s →
+    Grows m o (set m s true) (o ++ s ∷ [])
 grows_new m o s l h = record {
   sized = length-set m s true;
   longer = omega (arith, length-append o (s ∷ []));
@@ -69,85 +84,116 @@ grows_new m o s l h = record {
   ahead = λ done t w. waiting_more o s done t w;
   waits = λ done t d k. waits_by m o s done t d (only_by m s t (same_or t s) k);
   list = λ w. record {
-    marked = λ k i. in_order m o s k l w (last_or k (length o) (omega (arith, length-append o (s ∷ []))));
-    few = let f = w.few in omega (arith, length-append o (s ∷ []), unmarked_set m s l h, length-set m s true);
+    marked = λ k i. in_order m o s k l w
+        (last_or k (length o) (omega (arith, length-append o (s ∷ []))));
+    few = let f = w.few in omega (arith, length-append o (s ∷ []), unmarked_set m s l h,
+        length-set m s true);
   };
 }
 
-waits_on : (m : List Bool) {m2 m3 : List Bool} {o2 o3 : List ℕ} (done s : ℕ) → Grows m2 o2 m3 o3 → IsMarked m s ⊎ IsWaiting o2 done s → IsMarked m s ⊎ IsWaiting o3 done s
+waits_on : (m : List Bool) {m2 m3 : List Bool} {o2 o3 : List ℕ} (done s : ℕ) → Grows m2 o2 m3 o3 →
+    IsMarked m s ⊎ IsWaiting o2 done s → IsMarked m s ⊎ IsWaiting o3 done s
 waits_on m done s h (inl i) = inl i
 waits_on m done s h (inr w) = inr (h.ahead done s w)
 
-waits_then : {m m2 m3 : List Bool} {o o2 o3 : List ℕ} (done s : ℕ) → Grows m o m2 o2 → Grows m2 o2 m3 o3 → done ≤ length o → IsMarked m2 s ⊎ IsWaiting o3 done s → IsMarked m s ⊎ IsWaiting o3 done s
+waits_then : {m m2 m3 : List Bool} {o o2 o3 : List ℕ} (done s : ℕ) → Grows m o m2 o2 →
+    Grows m2 o2 m3 o3 → done ≤ length o → IsMarked m2 s ⊎ IsWaiting o3 done s → IsMarked m s ⊎
+    IsWaiting o3 done s
 waits_then done s g h d (inr w) = inr w
 waits_then {m = m} done s g h d (inl k) = waits_on m done s h (g.waits done s d k)
 
-pub grows_then : {m m2 m3 : List Bool} {o o2 o3 : List ℕ} → Grows m o m2 o2 → Grows m2 o2 m3 o3 → Grows m o m3 o3
+pub grows_then : {m m2 m3 : List Bool} {o o2 o3 : List ℕ} → Grows m o m2 o2 → Grows m2 o2 m3 o3 →
+    Grows m o m3 o3
 grows_then g h = record {
   sized = h.sized ∙ g.sized;
   longer = let a = g.longer in let b = h.longer in omega arith;
   kept = λ s k. h.kept s (g.kept s k);
   ahead = λ done s w. h.ahead done s (g.ahead done s w);
-  waits = λ done s d k. waits_then done s g h d (h.waits done s (let a = g.longer in omega arith) k);
+  waits = λ done s d k. waits_then done s g h d (h.waits done s (let a = g.longer in omega arith)
+      k);
   list = λ w. h.list (g.list w);
 }
 
-settled_some : (m : List Bool) {m2 : List Bool} {o2 : List ℕ} (p : Production) (done k : ℕ) → k < length p.body → IsUnmarked m (slice_index p.body k) → IsMarked m (slice_index p.body k) ⊎ IsWaiting o2 done (slice_index p.body k) → IsSettled p m2 o2 done
+settled_some : (m : List Bool) {m2 : List Bool} {o2 : List ℕ} (p : Production) (done k : ℕ) →
+    k < length p.body → IsUnmarked m (slice_index p.body k) → IsMarked m (slice_index p.body k) ⊎
+    IsWaiting o2 done (slice_index p.body k) → IsSettled p m2 o2 done
 settled_some m p done k l n (inl i) = absurd (not_both (get_or m (slice_index p.body k) false) i n)
 settled_some m p done k l n (inr w) = ahead k l w
 
-settled_stuck : {m m2 : List Bool} {o o2 : List ℕ} (p : Production) (done k : ℕ) → Grows m o m2 o2 → done ≤ length o → k < length p.body → IsUnmarked m (slice_index p.body k) → IsMarked m2 (slice_index p.body k) ⊎ IsUnmarked m2 (slice_index p.body k) → IsSettled p m2 o2 done
-settled_stuck {m = m} p done k g d l n (inl i) = settled_some m p done k l n (g.waits done (slice_index p.body k) d i)
+settled_stuck : {m m2 : List Bool} {o o2 : List ℕ} (p : Production) (done k : ℕ) → Grows m o m2 o2 →
+    done ≤ length o → k < length p.body → IsUnmarked m (slice_index p.body k) →
+    IsMarked m2 (slice_index p.body k) ⊎ IsUnmarked m2 (slice_index p.body k) →
+    IsSettled p m2 o2 done
+settled_stuck {m = m} p done k g d l n (inl i) = settled_some m p done k l n
+    (g.waits done (slice_index p.body k) d i)
 settled_stuck p done k g d l n (inr u) = stuck k l u
 
 -- a settled rule stays so
-pub settled_grows : {m m2 : List Bool} {o o2 : List ℕ} (p : Production) (done : ℕ) → Grows m o m2 o2 → done ≤ length o → IsSettled p m o done → IsSettled p m2 o2 done
+pub settled_grows : {m m2 : List Bool} {o o2 : List ℕ} (p : Production) (done : ℕ) →
+    Grows m o m2 o2 → done ≤ length o → IsSettled p m o done → IsSettled p m2 o2 done
 settled_grows p done g d (left h) = left (g.kept p.left h)
-settled_grows {m2 = m2} p done g d (stuck k l n) = settled_stuck p done k g d l n (marked_or m2 (slice_index p.body k))
+settled_grows {m2 = m2} p done g d (stuck k l n) = settled_stuck p done k g d l n
+    (marked_or m2 (slice_index p.body k))
 settled_grows p done g d (ahead k l w) = ahead k l (g.ahead done (slice_index p.body k) w)
 
 next_or : (a b : ℕ) → a ≤ b → (b ≡ a) ⊎ (a + 1 ≤ b)
 next_or a b h = grind arith
 
-waiting_next : (o : List ℕ) (done s : ℕ) → (w : IsWaiting o done s) → (w.at ≡ done) ⊎ (done + 1 ≤ w.at) → (slice_index o done ≡ s) ⊎ IsWaiting o (done + 1) s
+waiting_next : (o : List ℕ) (done s : ℕ) → (w : IsWaiting o done s) → (w.at ≡ done) ⊎
+    (done + 1 ≤ w.at) → (slice_index o done ≡ s) ⊎ IsWaiting o (done + 1) s
 waiting_next o done s w (inl e) = inl (ap (λ (j : ℕ). get_or o j 0) (sym e) ∙ w.there)
-waiting_next o done s w (inr l) = inr (record { at = w.at; later = l; within = w.within; there = w.there })
+waiting_next o done s w (inr l) =
+    inr (record { at = w.at; later = l; within = w.within; there = w.there })
 
 -- one more is taken
-pub taken : (o : List ℕ) (done s : ℕ) → IsWaiting o done s → (slice_index o done ≡ s) ⊎ IsWaiting o (done + 1) s
+pub taken : (o : List ℕ) (done s : ℕ) → IsWaiting o done s → (slice_index o done ≡ s) ⊎
+    IsWaiting o (done + 1) s
 taken o done s w = waiting_next o done s w (next_or done w.at w.later)
 
-settled_ahead : {m : List Bool} {o : List ℕ} (p : Production) (done k : ℕ) → k < length p.body → (slice_index o done ≡ slice_index p.body k) ⊎ IsWaiting o (done + 1) (slice_index p.body k) → IsSettled p m o (done + 1) ⊎ ((j : ℕ) × (j < length p.body) × (slice_index o done ≡ slice_index p.body j))
+settled_ahead : {m : List Bool} {o : List ℕ} (p : Production) (done k : ℕ) → k < length p.body →
+    (slice_index o done ≡ slice_index p.body k) ⊎ IsWaiting o (done + 1) (slice_index p.body k) →
+    IsSettled p m o (done + 1) ⊎
+    ((j : ℕ) × (j < length p.body) × (slice_index o done ≡ slice_index p.body j))
 settled_ahead p done k l (inl e) = inr (k, l, e)
 settled_ahead p done k l (inr w) = inl (ahead k l w)
 
-pub settled_next : {m : List Bool} {o : List ℕ} (p : Production) (done : ℕ) → IsSettled p m o done → IsSettled p m o (done + 1) ⊎ ((j : ℕ) × (j < length p.body) × (slice_index o done ≡ slice_index p.body j))
+pub settled_next : {m : List Bool} {o : List ℕ} (p : Production) (done : ℕ) → IsSettled p m o done →
+    IsSettled p m o (done + 1) ⊎
+    ((j : ℕ) × (j < length p.body) × (slice_index o done ≡ slice_index p.body j))
 settled_next p done (left h) = inl (left h)
 settled_next p done (stuck k l n) = inl (stuck k l n)
-settled_next {o = o} p done (ahead k l w) = settled_ahead p done k l (taken o done (slice_index p.body k) w)
+settled_next {o = o} p done (ahead k l w) = settled_ahead p done k l
+    (taken o done (slice_index p.body k) w)
 
 pub none_waits : (o : List ℕ) (done s : ℕ) → length o ≤ done → IsWaiting o done s → ⊥
 none_waits o done s h w = let a = w.later in let b = w.within in omega arith
 
-spread_seen : (m : List Bool) {m2 : List Bool} {o2 : List ℕ} (p : Production) (done : ℕ) → IsUnmarked m p.left → IsMarked m p.left ⊎ IsWaiting o2 done p.left → IsSpread p m2 o2 done
+spread_seen : (m : List Bool) {m2 : List Bool} {o2 : List ℕ} (p : Production) (done : ℕ) →
+    IsUnmarked m p.left → IsMarked m p.left ⊎ IsWaiting o2 done p.left → IsSpread p m2 o2 done
 spread_seen m p done n (inl i) = absurd (not_both (get_or m p.left false) i n)
 spread_seen m p done n (inr w) = ahead w
 
-spread_unseen : {m m2 : List Bool} {o o2 : List ℕ} (p : Production) (done : ℕ) → Grows m o m2 o2 → done ≤ length o → IsUnmarked m p.left → IsMarked m2 p.left ⊎ IsUnmarked m2 p.left → IsSpread p m2 o2 done
+spread_unseen : {m m2 : List Bool} {o o2 : List ℕ} (p : Production) (done : ℕ) → Grows m o m2 o2 →
+    done ≤ length o → IsUnmarked m p.left → IsMarked m2 p.left ⊎ IsUnmarked m2 p.left →
+    IsSpread p m2 o2 done
 spread_unseen {m = m} p done g d n (inl i) = spread_seen m p done n (g.waits done p.left d i)
 spread_unseen p done g d n (inr u) = unseen u
 
 -- a spread rule stays so
-pub spread_grows : {m m2 : List Bool} {o o2 : List ℕ} (p : Production) (done : ℕ) → Grows m o m2 o2 → done ≤ length o → IsSpread p m o done → IsSpread p m2 o2 done
+pub spread_grows : {m m2 : List Bool} {o o2 : List ℕ} (p : Production) (done : ℕ) →
+    Grows m o m2 o2 → done ≤ length o → IsSpread p m o done → IsSpread p m2 o2 done
 spread_grows {m2 = m2} p done g d (unseen n) = spread_unseen p done g d n (marked_or m2 p.left)
 spread_grows p done g d (ahead w) = ahead (g.ahead done p.left w)
 spread_grows p done g d (spread f) = spread (λ k l. g.kept (slice_index p.body k) (f k l))
 
-spread_taken : {m : List Bool} {o : List ℕ} (p : Production) (done : ℕ) → (slice_index o done ≡ p.left) ⊎ IsWaiting o (done + 1) p.left → IsSpread p m o (done + 1) ⊎ (slice_index o done ≡ p.left)
+spread_taken : {m : List Bool} {o : List ℕ} (p : Production) (done : ℕ) →
+    (slice_index o done ≡ p.left) ⊎ IsWaiting o (done + 1) p.left → IsSpread p m o (done + 1) ⊎
+    (slice_index o done ≡ p.left)
 spread_taken p done (inl e) = inr e
 spread_taken p done (inr w) = inl (ahead w)
 
-pub spread_next : {m : List Bool} {o : List ℕ} (p : Production) (done : ℕ) → IsSpread p m o done → IsSpread p m o (done + 1) ⊎ (slice_index o done ≡ p.left)
+pub spread_next : {m : List Bool} {o : List ℕ} (p : Production) (done : ℕ) → IsSpread p m o done →
+    IsSpread p m o (done + 1) ⊎ (slice_index o done ≡ p.left)
 spread_next p done (unseen n) = inl (unseen n)
 spread_next {o = o} p done (ahead w) = spread_taken p done (taken o done p.left w)
 spread_next p done (spread f) = inl (spread f)

@@ -1,5 +1,6 @@
 -- From the parts of a grammar to what a tree means.
-use Rattle.std.proofs.Common.{ℕ, ◌≡◌, ◌<◌, ◌≤◌, ◌↔◌, Bool, true, false, Err, List, [], ◌∷◌, map, length, Option, refl, sym, ◌∙◌, ap, subst, get_or}
+use Rattle.std.proofs.Common.{ℕ, ◌≡◌, ◌<◌, ◌≤◌, ◌↔◌, Bool, true, false, Err, List, [], ◌∷◌, map}
+use Rattle.std.proofs.Common.{length, Option, refl, sym, ◌∙◌, ap, subst, get_or}
 use Rattle.std.proofs.lemmas.List.{length-map}
 use Rattle.std.proofs.lemmas.List.Elements.{All-get_or}
 use Rattle.ygrammar.specs.declared.elaboration.Named.{Named}
@@ -8,9 +9,12 @@ use Rattle.ygrammar.specs.declared.mistake.Refused.{Refused}
 use Rattle.ygrammar.specs.declared.mistake.Refused.TheVariants as refused
 use Rattle.ygrammar.specs.declared.precedence.Precedence.{Precedence}
 use Rattle.ygrammar.specs.Elaborated.{Fruitful, IsReady}
-use Rattle.ygrammar.specs.Elaboration.{HavePrecedences, Rule, bare_of, first_rule, lefts, numbered, own_number, precedence_of as precedence_of_name, rules, rules_from, starts, symbols, token_precedences, tokens}
+use Rattle.ygrammar.specs.Elaboration.{HavePrecedences, Rule, bare_of, first_rule, lefts, numbered}
+use Rattle.ygrammar.specs.Elaboration.{own_number, precedence_of as precedence_of_name, rules}
+use Rattle.ygrammar.specs.Elaboration.{rules_from, starts, symbols, token_precedences, tokens}
 use Rattle.ygrammar.specs.Forms.{IsReachable, Productive}
-use Rattle.ygrammar.specs.Grammar.{ContextFree, Production, RuleValue, blank, precedence_of, production_of}
+use Rattle.ygrammar.specs.Grammar.{ContextFree, Production, RuleValue, blank, precedence_of}
+use Rattle.ygrammar.specs.Grammar.{production_of}
 use Rattle.ygrammar.specs.Marking.{AreIn, RuleIn, numbered_grammar, rule_at}
 use Rattle.ygrammar.specs.Meaning.{IsMeaning}
 use Rattle.ygrammar.specs.Mistakes.{Holds}
@@ -26,61 +30,100 @@ use Rattle.ygrammar.proofs.LastTokens.{have_precedences}
 use Rattle.ygrammar.proofs.Once.{end_name, error_name, numbers_once, symbols_once}
 use Rattle.ygrammar.proofs.Wellness.{in_range}
 
-rules_bare : (ns : List Name) (given : List (Option Precedence)) (rs : List Rule) → map production_of (map (rule_numbers ns given) rs) ≡ map (numbered ns) rs
+rules_bare : (ns : List Name) (given : List (Option Precedence)) (rs : List Rule) →
+    map production_of (map (rule_numbers ns given) rs) ≡ map (numbered ns) rs
 rules_bare ns given [] = refl
-rules_bare ns given (r ∷ rs) = ap (λ (ps : List Production). numbered ns r ∷ ps) (rules_bare ns given rs)
+rules_bare ns given (r ∷ rs) = ap (λ (ps : List Production). numbered ns r ∷ ps)
+    (rules_bare ns given rs)
 
-rules_chosen : (ns : List Name) (given : List (Option Precedence)) (rs : List Rule) → map precedence_of (map (rule_numbers ns given) rs) ≡ map (rule_precedence ns given) rs
+rules_chosen : (ns : List Name) (given : List (Option Precedence)) (rs : List Rule) →
+    map precedence_of (map (rule_numbers ns given) rs) ≡ map (rule_precedence ns given) rs
 rules_chosen ns given [] = refl
-rules_chosen ns given (r ∷ rs) = ap (λ (ps : List (Option Precedence)). rule_precedence ns given r ∷ ps) (rules_chosen ns given rs)
+rules_chosen ns given (r ∷ rs) = ap (λ (ps : List (Option Precedence)). rule_precedence ns given r ∷
+    ps) (rules_chosen ns given rs)
 
 bare_from : ℕ → ℕ → List Production → ContextFree
 bare_from k n ps = record { tokens = k; symbols = n; rules = ps }
 
 -- the bare grammar of the numbered rules is that of the tree
-pub bare_same : (t : Tree) (k n : ℕ) (vs : List RuleValue) → k ≡ length (tokens t) → n ≡ length (symbols t) → vs ≡ map (rule_numbers (symbols t) (token_precedences t)) (rules t) → numbered_grammar k n vs ≡ bare_of t
+pub bare_same : (t : Tree) (k n : ℕ) (vs : List RuleValue) → k ≡ length (tokens t) →
+    n ≡ length (symbols t) → vs ≡ map (rule_numbers (symbols t) (token_precedences t)) (rules t) →
+    numbered_grammar k n vs ≡ bare_of t
 unfolding bare_from
 bare_same t k n vs e f g =
     ap (λ j. bare_from j n (map production_of vs)) e
     ∙ ap (λ j. bare_from (length (tokens t)) j (map production_of vs)) f
-    ∙ ap (λ (ps : List Production). bare_from (length (tokens t)) (length (symbols t)) ps) (ap (λ (xs : List RuleValue). map production_of xs) g ∙ rules_bare (symbols t) (token_precedences t) (rules t))
+    ∙ ap (λ (ps : List Production). bare_from (length (tokens t)) (length (symbols t)) ps)
+        (ap (λ (xs : List RuleValue). map production_of xs) g ∙ rules_bare (symbols t)
+        (token_precedences t) (rules t))
 
 -- the symbols of every rule are in range
-pub are_in : (t : Tree) (k n : ℕ) (vs : List RuleValue) → IsTree t → (Holds t Undefined → ⊥) → (Holds t BadStart → ⊥) → k ≡ length (tokens t) → n ≡ length (symbols t) → vs ≡ map (rule_numbers (symbols t) (token_precedences t)) (rules t) → AreIn n vs
+pub are_in : (t : Tree) (k n : ℕ) (vs : List RuleValue) → IsTree t → (Holds t Undefined → ⊥) →
+    (Holds t BadStart → ⊥) → k ≡ length (tokens t) → n ≡ length (symbols t) →
+    vs ≡ map (rule_numbers (symbols t) (token_precedences t)) (rules t) → AreIn n vs
 are_in t k n vs s u b e f g r h =
     let q : numbered_grammar k n vs ≡ bare_of t = bare_same t k n vs e f g in
-    let l : r < length (bare_of t).rules = subst (λ (x : ContextFree). r < length x.rules) q (subst (λ j. r < j) (sym (length-map vs production_of)) h) in
+    let l : r < length (bare_of t).rules = subst (λ (x : ContextFree). r < length x.rules) q
+            (subst (λ j. r < j) (sym (length-map vs production_of)) h) in
     let i = in_range t s u b r l in
-    let w : RuleIn (length (symbols t)) (get_or (bare_of t).rules r blank) = record { left = i.left; body = λ k m. All-get_or (λ s. s < length (symbols t)) (get_or (bare_of t).rules r blank).body k 0 m i.body } in
-    subst (λ j. RuleIn j (rule_at vs r)) (sym f) (subst (λ (x : ContextFree). RuleIn (length (symbols t)) (get_or x.rules r blank)) (sym q) w)
+    let w : RuleIn (length (symbols t)) (get_or (bare_of t).rules r blank) =
+            record { left = i.left; body = λ k m. All-get_or (λ s. s < length (symbols t))
+            (get_or (bare_of t).rules r blank).body k 0 m i.body } in
+    subst (λ j. RuleIn j (rule_at vs r)) (sym f)
+        (subst (λ (x : ContextFree). RuleIn (length (symbols t)) (get_or x.rules r blank))
+        (sym q) w)
 
 -- what is found of a bare grammar is found of the tree
-pub unproductive : (t : Tree) (e : Refused) (g : ContextFree) → g ≡ bare_of t → Fruitful {A = Unit {0}} g (Err e) → Refuses t Unproductive e
-unproductive t (refused.Mistake what at) g q (w, (s, a, b, c)) = (w, (s, subst (λ (x : ContextFree). x.tokens ≤ s) q a, subst (λ (x : ContextFree). s < x.symbols) q b, λ p. c (subst (λ (x : ContextFree). Productive x s) (sym q) p)))
+pub unproductive : (t : Tree) (e : Refused) (g : ContextFree) → g ≡ bare_of t →
+    Fruitful {A = Unit {0}} g (Err e) → Refuses t Unproductive e
+unproductive t (refused.Mistake what at) g q (w, (s, a, b, c)) =
+    (w, (s, subst (λ (x : ContextFree). x.tokens ≤ s) q a,
+    subst (λ (x : ContextFree). s < x.symbols) q b,
+    λ p. c (subst (λ (x : ContextFree). Productive x s) (sym q) p)))
 unproductive t refused.Memory g q p = tt
 
-pub all_productive : (t : Tree) (g : ContextFree) → g ≡ bare_of t → ((s : ℕ) → g.tokens ≤ s → s < g.symbols → Productive g s) → (s : ℕ) → length (tokens t) ≤ s → s < length (symbols t) → Productive (bare_of t) s
-all_productive t g q h = subst (λ (x : ContextFree). (s : ℕ) → x.tokens ≤ s → s < x.symbols → Productive x s) q h
+pub all_productive : (t : Tree) (g : ContextFree) → g ≡ bare_of t →
+    ((s : ℕ) → g.tokens ≤ s → s < g.symbols → Productive g s) → (s : ℕ) → length (tokens t) ≤ s →
+    s < length (symbols t) → Productive (bare_of t) s
+all_productive t g q h = subst (λ (x : ContextFree). (s : ℕ) → x.tokens ≤ s → s < x.symbols →
+    Productive x s) q h
 
 -- the rules by number are those of the tree
-pub rules_are : (t : Tree) (ns : List Name) (given : List (Option Precedence)) (is : List Identifier) (ls : List Name) (cs : List Clause) (vs : List RuleValue) → ns ≡ symbols t → given ≡ token_precedences t → is ≡ starts t → ls ≡ lefts t → cs ≡ t.clauses → vs ≡ map (rule_numbers ns given) (first_rule is ls ∷ rules_from [] 1 cs) → vs ≡ map (rule_numbers (symbols t) (token_precedences t)) (rules t)
+pub rules_are : (t : Tree) (ns : List Name) (given : List (Option Precedence))
+    (is : List Identifier) (ls : List Name) (cs : List Clause) (vs : List RuleValue) →
+    ns ≡ symbols t → given ≡ token_precedences t → is ≡ starts t → ls ≡ lefts t → cs ≡ t.clauses →
+    vs ≡ map (rule_numbers ns given) (first_rule is ls ∷ rules_from [] 1 cs) →
+    vs ≡ map (rule_numbers (symbols t) (token_precedences t)) (rules t)
 rules_are t ns given is ls cs vs a b c d e h =
     h
     ∙ ap (λ (x : List Name). map (rule_numbers x given) (first_rule is ls ∷ rules_from [] 1 cs)) a
-    ∙ ap (λ (x : List (Option Precedence)). map (rule_numbers (symbols t) x) (first_rule is ls ∷ rules_from [] 1 cs)) b
-    ∙ ap (λ (x : List Identifier). map (rule_numbers (symbols t) (token_precedences t)) (first_rule x ls ∷ rules_from [] 1 cs)) c
-    ∙ ap (λ (x : List Name). map (rule_numbers (symbols t) (token_precedences t)) (first_rule (starts t) x ∷ rules_from [] 1 cs)) d
-    ∙ ap (λ (x : List Clause). map (rule_numbers (symbols t) (token_precedences t)) (first_rule (starts t) (lefts t) ∷ rules_from [] 1 x)) e
+    ∙ ap (λ (x : List (Option Precedence)). map (rule_numbers (symbols t) x)
+        (first_rule is ls ∷ rules_from [] 1 cs)) b
+    ∙ ap (λ (x : List Identifier). map (rule_numbers (symbols t) (token_precedences t))
+        (first_rule x ls ∷ rules_from [] 1 cs)) c
+    ∙ ap (λ (x : List Name). map (rule_numbers (symbols t) (token_precedences t))
+        (first_rule (starts t) x ∷ rules_from [] 1 cs)) d
+    ∙ ap (λ (x : List Clause). map (rule_numbers (symbols t) (token_precedences t))
+        (first_rule (starts t) (lefts t) ∷ rules_from [] 1 x)) e
 
 -- the lists of a grammar have each number
-pub whole_of : (t : Tree) (n : Named) (vs : List RuleValue) (ts : List (Option (List ℕ))) (numbers : List ℕ) (marks : List Bool) → IsReady t n vs ts → AreNumbers n.own.numbers.items numbers → length marks ≡ length (texts n.names) → IsWhole (value_of n.names n.tokens numbers n.given.items vs ts marks)
+pub whole_of : (t : Tree) (n : Named) (vs : List RuleValue) (ts : List (Option (List ℕ)))
+    (numbers : List ℕ) (marks : List Bool) → IsReady t n vs ts → AreNumbers n.own.numbers.items
+    numbers → length marks ≡ length (texts n.names) →
+    IsWhole (value_of n.names n.tokens numbers n.given.items vs ts marks)
 whole_of t n vs ts numbers marks r a b = record {
-  bare = subst WellFormed (sym (bare_same t n.tokens (length (texts n.names)) vs r.named.tokens_first (ap (λ (x : List Name). length x) r.named.names) r.numbered)) r.well_formed;
+  bare = subst WellFormed (sym (bare_same t n.tokens (length (texts n.names)) vs
+      r.named.tokens_first (ap (λ (x : List Name). length x) r.named.names) r.numbered))
+      r.well_formed;
   names = refl;
-  numbers = a.each ∙ ap (λ (x : List (Option ℕ)). length x) r.named.own.numbers ∙ length-map (tokens t) (own_number t) ∙ sym r.named.tokens_first;
-  token_precedences = ap (λ (x : List (Option Precedence)). length x) r.named.given ∙ length-map (tokens t) (precedence_of_name t) ∙ sym r.named.tokens_first;
+  numbers = a.each ∙ ap (λ (x : List (Option ℕ)). length x) r.named.own.numbers ∙ length-map
+      (tokens t) (own_number t) ∙ sym r.named.tokens_first;
+  token_precedences = ap (λ (x : List (Option Precedence)). length x) r.named.given ∙ length-map
+      (tokens t) (precedence_of_name t) ∙ sym r.named.tokens_first;
   rule_precedences = length-map vs precedence_of ∙ sym (length-map vs production_of);
-  texts = ap (λ (x : List (Option (List ℕ))). length x) r.texts ∙ length-map (rules t) rule_text ∙ sym (length-map (rules t) (rule_numbers (symbols t) (token_precedences t))) ∙ ap (λ (x : List RuleValue). length x) (sym r.numbered) ∙ sym (length-map vs production_of);
+  texts = ap (λ (x : List (Option (List ℕ))). length x) r.texts ∙ length-map (rules t) rule_text ∙
+      sym (length-map (rules t) (rule_numbers (symbols t) (token_precedences t))) ∙ ap
+      (λ (x : List RuleValue). length x) (sym r.numbered) ∙ sym (length-map vs production_of);
   reachable = b;
   end = ap (λ (x : List Name). get_or x 0 []) r.named.names ∙ end_name t;
   error = ap (λ (x : List Name). get_or x 1 []) r.named.names ∙ error_name t;
@@ -89,23 +132,35 @@ whole_of t n vs ts numbers marks r a b = record {
 }
 
 -- the parts are the meaning of the tree
-pub meaning_of : (t : Tree) (n : Named) (vs ws : List RuleValue) (ts : List (Option (List ℕ))) (numbers : List ℕ) (marks : List Bool) (k : ℕ) → IsReady t n vs ts → AreNumbers n.own.numbers.items numbers → length marks ≡ k → k ≡ length (texts n.names) → ws ≡ vs → ((s : ℕ) → s < k → (get_or marks s false ≡ true) ↔ IsReachable (numbered_grammar n.tokens k ws) s) → IsMeaning t (value_of n.names n.tokens numbers n.given.items vs ts marks)
+pub meaning_of : (t : Tree) (n : Named) (vs ws : List RuleValue) (ts : List (Option (List ℕ)))
+    (numbers : List ℕ) (marks : List Bool) (k : ℕ) → IsReady t n vs ts →
+    AreNumbers n.own.numbers.items numbers → length marks ≡ k → k ≡ length (texts n.names) →
+    ws ≡ vs → ((s : ℕ) → s < k → (get_or marks s false ≡ true) ↔ IsReachable
+    (numbered_grammar n.tokens k ws) s) →
+    IsMeaning t (value_of n.names n.tokens numbers n.given.items vs ts marks)
 meaning_of t n vs ws ts numbers marks k r a b e w h =
     let l : k ≡ length (symbols t) = e ∙ ap (λ (x : List Name). length x) r.named.names in
-    let g : numbered_grammar n.tokens k ws ≡ bare_of t = bare_same t n.tokens k ws r.named.tokens_first l (w ∙ r.numbered) in
+    let g : numbered_grammar n.tokens k ws ≡ bare_of t =
+            bare_same t n.tokens k ws r.named.tokens_first l (w ∙ r.numbered) in
     record {
       sound = r.sound;
-      bare = bare_same t n.tokens (length (texts n.names)) vs r.named.tokens_first (ap (λ (x : List Name). length x) r.named.names) r.numbered;
+      bare = bare_same t n.tokens (length (texts n.names)) vs r.named.tokens_first
+          (ap (λ (x : List Name). length x) r.named.names) r.numbered;
       names = r.named.names;
       numbers = subst (λ (x : List (Option ℕ)). AreNumbers x numbers) r.named.own.numbers a;
       precedences = r.named.given;
-      of_rules = subst (HavePrecedences (symbols t) (token_precedences t) (rules t)) (sym (ap (λ (x : List RuleValue). map precedence_of x) r.numbered ∙ rules_chosen (symbols t) (token_precedences t) (rules t))) (have_precedences (symbols t) (token_precedences t) (rules t));
+      of_rules = subst (HavePrecedences (symbols t) (token_precedences t) (rules t))
+          (sym (ap (λ (x : List RuleValue). map precedence_of x) r.numbered ∙ rules_chosen
+          (symbols t) (token_precedences t) (rules t)))
+          (have_precedences (symbols t) (token_precedences t) (rules t));
       texts = r.texts;
       reachable = record {
         each = b ∙ l;
-        exact = λ s m. subst (λ (x : ContextFree). (get_or marks s false ≡ true) ↔ IsReachable x s) g (h s (subst (λ j. s < j) (sym l) m));
+        exact = λ s m. subst (λ (x : ContextFree). (get_or marks s false ≡ true) ↔ IsReachable x s)
+            g (h s (subst (λ j. s < j) (sym l) m));
       };
     }
 
-pub none_barren : (t : Tree) → ((s : ℕ) → length (tokens t) ≤ s → s < length (symbols t) → Productive (bare_of t) s) → Holds t Unproductive → ⊥
+pub none_barren : (t : Tree) → ((s : ℕ) → length (tokens t) ≤ s → s < length (symbols t) →
+    Productive (bare_of t) s) → Holds t Unproductive → ⊥
 none_barren t all (s, a, b, p) = p (all s a b)

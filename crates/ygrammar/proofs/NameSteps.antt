@@ -1,5 +1,7 @@
 -- Names in a set of texts.
-use Rattle.std.proofs.Common.{ℕ, suc, filter, ◌⊎◌, inl, inr, Bool, true, false, ◌≡◌, ◌≤◌, ◌+◌, subst, arith, ◌||◌, cond, List, [], ◌∷◌, ◌++◌, map, length, Option, Some, None, refl, sym, ◌∙◌, ap, nat_eq, nat_lt, unwrap_or}
+use Rattle.std.proofs.Common.{ℕ, suc, filter, ◌⊎◌, inl, inr, Bool, true, false, ◌≡◌, ◌≤◌, ◌+◌}
+use Rattle.std.proofs.Common.{subst, arith, ◌||◌, cond, List, [], ◌∷◌, ◌++◌, map, length, Option}
+use Rattle.std.proofs.Common.{Some, None, refl, sym, ◌∙◌, ap, nat_eq, nat_lt, unwrap_or}
 use Rattle.std.specs.List.{list_any, position, position_or_len}
 use Rattle.std.specs.Str.{bytes_eq}
 use Rattle.std.proofs.lemmas.Bool.Decides.{nat_tests}
@@ -14,7 +16,8 @@ use Rattle.ygrammar.specs.Names.{Name, is_among, noted, noted_all, number_in, pr
 use Rattle.ygrammar.specs.Tree.{Identifier}
 use Rattle.ygrammar.specs.NameTexts.{texts_of}
 
-pub any_texts : (q : Name) (vs : List (Vec ℕ)) → list_any (λ k. pointwise nat_eq q k.items) vs ≡ is_among (texts_of vs) q
+pub any_texts : (q : Name) (vs : List (Vec ℕ)) → list_any (λ k. pointwise nat_eq q k.items) vs ≡
+    is_among (texts_of vs) q
 any_texts q [] = refl
 any_texts q (v ∷ vs) = ap (λ b. bytes_eq q v.items || b) (any_texts q vs)
 
@@ -22,8 +25,11 @@ texts_push : (vs : List (Vec ℕ)) (v : Vec ℕ) → texts_of (vs ++ v ∷ []) �
 texts_push [] v = refl
 texts_push (x ∷ vs) v = ap (λ ts. x.items ∷ ts) (texts_push vs v)
 
-position_texts : (q : Name) (vs : List (Vec ℕ)) → number_in (texts_of vs) q ≡ position_or_len (λ k. pointwise nat_eq q k.items) vs
-position_texts q vs = is_position_or_len (λ (ws : List (Vec ℕ)). number_in (texts_of ws) q) (λ k. pointwise nat_eq q k.items) refl (λ x xs. one (bytes_eq q x.items) (number_in (texts_of xs) q)) vs
+position_texts : (q : Name) (vs : List (Vec ℕ)) → number_in (texts_of vs) q ≡ position_or_len
+    (λ k. pointwise nat_eq q k.items) vs
+position_texts q vs = is_position_or_len (λ (ws : List (Vec ℕ)). number_in (texts_of ws) q)
+    (λ k. pointwise nat_eq q k.items) refl
+    (λ x xs. one (bytes_eq q x.items) (number_in (texts_of xs) q)) vs
   where
     one : (b : Bool) (n : ℕ) → cond b 0 (suc n) ≡ cond b 0 (1 + n)
     one b n = grind (arith)
@@ -41,19 +47,28 @@ length_texts [] = refl
 length_texts (v ∷ vs) = ap (λ n. suc n) (length_texts vs)
 
 -- the place found, or how many there are
-pub found_or_len : (q : Name) (vs : List (Vec ℕ)) (o : Option ℕ) (m r : ℕ) → o ≡ position (λ k. pointwise nat_eq q k.items) vs → m ≡ length vs → r ≡ unwrap_or o m → r ≡ number_in (texts_of vs) q
+pub found_or_len : (q : Name) (vs : List (Vec ℕ)) (o : Option ℕ) (m r : ℕ) →
+    o ≡ position (λ k. pointwise nat_eq q k.items) vs → m ≡ length vs → r ≡ unwrap_or o m →
+    r ≡ number_in (texts_of vs) q
 found_or_len q vs o m r e f h =
     let p = position_or_len (λ k. pointwise nat_eq q k.items) vs in
-    let le : p ≤ length vs = subst (λ n. n ≤ length vs) (position_texts q vs) (subst (λ n. number_in (texts_of vs) q ≤ n) (length_texts vs) (number_le q (texts_of vs))) in
-    h ∙ ap (λ (x : Option ℕ). unwrap_or x m) e ∙ ap (λ n. unwrap_or (cond (nat_lt p (length vs)) (Some p) None) n) f ∙ one p (length vs) le ∙ sym (position_texts q vs)
+    let le : p ≤ length vs = subst (λ n. n ≤ length vs) (position_texts q vs)
+            (subst (λ n. number_in (texts_of vs) q ≤ n) (length_texts vs)
+            (number_le q (texts_of vs))) in
+    h ∙ ap (λ (x : Option ℕ). unwrap_or x m) e ∙ ap
+        (λ n. unwrap_or (cond (nat_lt p (length vs)) (Some p) None) n) f ∙ one p (length vs) le ∙
+        sym (position_texts q vs)
   where
     one : (p n : ℕ) → p ≤ n → unwrap_or (cond (nat_lt p n) (Some p) None) n ≡ p
     one p n h = grind (arith, nat_tests)
 
 -- a name that is not there is put at the end
-pub noted_texts : (vs ws : List (Vec ℕ)) (v : Vec ℕ) (q : Name) → v.items ≡ q → is_among (texts_of vs) q ≡ false → ws ≡ insert_key (λ a b. pointwise nat_eq a.items b.items) vs v → texts_of ws ≡ noted (texts_of vs) q
+pub noted_texts : (vs ws : List (Vec ℕ)) (v : Vec ℕ) (q : Name) → v.items ≡ q →
+    is_among (texts_of vs) q ≡ false → ws ≡ insert_key (λ a b. pointwise nat_eq a.items b.items) vs
+    v → texts_of ws ≡ noted (texts_of vs) q
 noted_texts vs ws v q e f h =
-    let t : list_any (λ k. pointwise nat_eq v.items k.items) vs ≡ false = any_texts v.items vs ∙ ap (is_among (texts_of vs)) e ∙ f in
+    let t : list_any (λ k. pointwise nat_eq v.items k.items) vs ≡ false = any_texts v.items vs ∙ ap
+            (is_among (texts_of vs)) e ∙ f in
     ap texts_of h
     ∙ ap (λ b. texts_of (cond b vs (vs ++ v ∷ []))) t
     ∙ texts_push vs v
@@ -78,7 +93,8 @@ eq_self a = go (bytes_eq a a) refl
     go false e = absurd (other_text a a (sym e) refl)
 
 -- what is among the names, once one more is noted
-pub among_noted : (ns : List Name) (m n : Name) → is_among (noted ns m) n ≡ (is_among ns n || bytes_eq n m)
+pub among_noted : (ns : List Name) (m n : Name) → is_among (noted ns m) n ≡
+    (is_among ns n || bytes_eq n m)
 among_noted ns m n = go (is_among ns m) refl
   where
     or_false : (a b : Bool) → b ≡ false → a ≡ (a || b)
@@ -89,21 +105,27 @@ among_noted ns m n = go (is_among ns m) refl
     or_last true = refl
     or_last false = refl
 
-    held : (n ≡ m) ⊎ (bytes_eq n m ≡ false) → is_among ns m ≡ true → is_among ns n ≡ (is_among ns n || bytes_eq n m)
-    held (inl e) f = ap (is_among ns) e ∙ f ∙ sym (ap (λ b. b || bytes_eq n m) (ap (is_among ns) e ∙ f))
+    held : (n ≡ m) ⊎ (bytes_eq n m ≡ false) → is_among ns m ≡ true → is_among ns n ≡
+        (is_among ns n || bytes_eq n m)
+    held (inl e) f = ap (is_among ns) e ∙ f ∙ sym
+        (ap (λ b. b || bytes_eq n m) (ap (is_among ns) e ∙ f))
     held (inr e) f = or_false (is_among ns n) (bytes_eq n m) e
 
-    go : (r : Bool) → is_among ns m ≡ r → is_among (cond (is_among ns m) ns (ns ++ m ∷ [])) n ≡ (is_among ns n || bytes_eq n m)
+    go : (r : Bool) → is_among ns m ≡ r → is_among (cond (is_among ns m) ns (ns ++ m ∷ [])) n ≡
+        (is_among ns n || bytes_eq n m)
     go true e = rw e (held (same_or n m) e)
-    go false e = rw e (list_any-append (bytes_eq n) ns (m ∷ []) ∙ ap (λ b. is_among ns n || b) (or_last (bytes_eq n m)))
+    go false e = rw e (list_any-append (bytes_eq n) ns (m ∷ []) ∙ ap (λ b. is_among ns n || b)
+        (or_last (bytes_eq n m)))
 
-pub among_all : (ns ms : List Name) (n : Name) → is_among (noted_all ns ms) n ≡ (is_among ns n || is_among ms n)
+pub among_all : (ns ms : List Name) (n : Name) → is_among (noted_all ns ms) n ≡
+    (is_among ns n || is_among ms n)
 among_all ns [] n = or_nothing (is_among ns n)
   where
     or_nothing : (b : Bool) → b ≡ (b || false)
     or_nothing true = refl
     or_nothing false = refl
-among_all ns (m ∷ ms) n = among_all (noted ns m) ms n ∙ ap (λ b. b || is_among ms n) (among_noted ns m n) ∙ or_assoc (is_among ns n) (bytes_eq n m) (is_among ms n)
+among_all ns (m ∷ ms) n = among_all (noted ns m) ms n ∙ ap (λ b. b || is_among ms n)
+    (among_noted ns m n) ∙ or_assoc (is_among ns n) (bytes_eq n m) (is_among ms n)
   where
     or_assoc : (a b c : Bool) → ((a || b) || c) ≡ (a || (b || c))
     or_assoc true b c = refl
@@ -113,14 +135,23 @@ pub all_append : (ns xs ys : List Name) → noted_all ns (xs ++ ys) ≡ noted_al
 all_append ns [] ys = refl
 all_append ns (x ∷ xs) ys = all_append (noted ns x) xs ys
 
-filter_same : (p q : Name → Bool) → ((n : Name) → p n ≡ q n) → (ns : List Name) → filter p ns ≡ filter q ns
+filter_same : (p q : Name → Bool) → ((n : Name) → p n ≡ q n) → (ns : List Name) →
+    filter p ns ≡ filter q ns
 filter_same p q h [] = refl
-filter_same p q h (n ∷ ns) = ap (λ b. cond b (n ∷ filter p ns) (filter p ns)) (h n) ∙ ap (λ xs. cond (q n) (n ∷ xs) xs) (filter_same p q h ns)
+filter_same p q h (n ∷ ns) = ap (λ b. cond b (n ∷ filter p ns) (filter p ns)) (h n) ∙ ap
+    (λ xs. cond (q n) (n ∷ xs) xs) (filter_same p q h ns)
 
 -- both halves of the names and literals are noted
-pub tokens_noted : (all first found one two : List Name) (d u : List Identifier) → found ≡ noted_all [] all → one ≡ noted_all first (filter (is_among found) (map printed d)) → two ≡ noted_all one (filter (is_among found) (map printed u)) → two ≡ noted_all first (filter (is_among all) (map printed (d ++ u)))
+pub tokens_noted : (all first found one two : List Name) (d u : List Identifier) →
+    found ≡ noted_all [] all → one ≡ noted_all first (filter (is_among found) (map printed d)) →
+    two ≡ noted_all one (filter (is_among found) (map printed u)) → two ≡ noted_all first
+    (filter (is_among all) (map printed (d ++ u)))
 tokens_noted all first found one two d u e f g =
     g
     ∙ ap (λ ns. noted_all ns (filter (is_among found) (map printed u))) f
-    ∙ sym (all_append first (filter (is_among found) (map printed d)) (filter (is_among found) (map printed u)))
-    ∙ ap (noted_all first) (sym (filter-append (is_among found) (map printed d) (map printed u)) ∙ ap (filter (is_among found)) (sym (map-append printed d u)) ∙ filter_same (is_among found) (is_among all) (λ n. ap (λ ns. is_among ns n) e ∙ among_all [] all n) (map printed (d ++ u)))
+    ∙ sym (all_append first (filter (is_among found) (map printed d))
+        (filter (is_among found) (map printed u)))
+    ∙ ap (noted_all first) (sym (filter-append (is_among found) (map printed d) (map printed u)) ∙
+        ap (filter (is_among found)) (sym (map-append printed d u)) ∙ filter_same (is_among found)
+        (is_among all) (λ n. ap (λ ns. is_among ns n) e ∙ among_all [] all n)
+        (map printed (d ++ u)))

@@ -1,5 +1,8 @@
 -- Numbers: digits, what is given, and what the tokens have by themselves.
-use Rattle.std.proofs.Common.{ℕ, zero, suc, Bool, true, false, not, ◌&&◌, cond, nat_lt, ◌≡◌, ◌≢◌, ◌<◌, ◌≤◌, ◌+◌, ◌*◌, ◌⊎◌, inl, inr, List, [], ◌∷◌, map, take, drop, length, Option, Some, None, is_some, refl, sym, ◌∙◌, ap, subst, arith, get_or, get_or-set_same, get_or-set_other, length-set, codes}
+use Rattle.std.proofs.Common.{ℕ, zero, suc, Bool, true, false, not, ◌&&◌, cond, nat_lt, ◌≡◌, ◌≢◌}
+use Rattle.std.proofs.Common.{◌<◌, ◌≤◌, ◌+◌, ◌*◌, ◌⊎◌, inl, inr, List, [], ◌∷◌, map, take, drop}
+use Rattle.std.proofs.Common.{length, Option, Some, None, is_some, refl, sym, ◌∙◌, ap, subst, arith}
+use Rattle.std.proofs.Common.{get_or, get_or-set_same, get_or-set_other, length-set, codes}
 use Rattle.std.proofs.Math.ListN.{set}
 use Rattle.std.specs.List.{Contains}
 use Rattle.std.specs.Char.{digit_value}
@@ -14,7 +17,8 @@ use Rattle.std.proofs.lemmas.List.Elements.{Contains-append_left, Contains-appen
 use Rattle.ygrammar.specs.declared.outline.Listed.{Listed}
 use Rattle.ygrammar.specs.declared.tree.Digits.{Digits}
 use Rattle.ygrammar.specs.TreeViews.{digits_view, mention_view, option_view}
-use Rattle.ygrammar.specs.Elaboration.{Listing, digits_number, listed_name, literal_value, option_list, said_of, usual_of}
+use Rattle.ygrammar.specs.Elaboration.{Listing, digits_number, listed_name, literal_value}
+use Rattle.ygrammar.specs.Elaboration.{option_list, said_of, usual_of}
 use Rattle.ygrammar.specs.Names.{Name, number_in, printed_literal}
 use Rattle.ygrammar.specs.Outline.{listed_view}
 use Rattle.ygrammar.specs.Owned.{AllFit, IsFit, OwnSoFar, filled, keep}
@@ -23,25 +27,41 @@ use Rattle.ygrammar.proofs.NameSteps.{eq_self}
 use Rattle.ygrammar.proofs.TellingSteps.{is_none, same_number}
 
 -- one more digit
-pub value_more : (ds : List ℕ) (i value digit d : ℕ) → i < length ds → value ≡ digits_value 10 (take i ds) → digit ≡ digit_value (get_or ds i d) → value * 10 + digit ≡ digits_value 10 (take (i + 1) ds)
-value_more ds i value digit d h e f = ap (λ v. v * 10 + digit) e ∙ ap (λ v. digits_value 10 (take i ds) * 10 + v) f ∙ sym (digits_value_push 10 (take i ds) (get_or ds i d)) ∙ ap (digits_value 10) (sym (take_more ds i d h))
+pub value_more : (ds : List ℕ) (i value digit d : ℕ) → i < length ds → value ≡ digits_value 10
+    (take i ds) → digit ≡ digit_value (get_or ds i d) → value * 10 + digit ≡ digits_value 10
+    (take (i + 1) ds)
+value_more ds i value digit d h e f = ap (λ v. v * 10 + digit) e ∙ ap
+    (λ v. digits_value 10 (take i ds) * 10 + v) f ∙ sym
+    (digits_value_push 10 (take i ds) (get_or ds i d)) ∙ ap (digits_value 10)
+    (sym (take_more ds i d h))
 
 -- digits that are too large already stay so
-pub too_large : (ds : List ℕ) (i value digit d : ℕ) → i < length ds → value ≡ digits_value 10 (take i ds) → digit ≡ digit_value (get_or ds i d) → 32767 < value * 10 + digit → IsFit (digits_value 10 ds) → ⊥
+pub too_large : (ds : List ℕ) (i value digit d : ℕ) → i < length ds → value ≡ digits_value 10
+    (take i ds) → digit ≡ digit_value (get_or ds i d) → 32767 < value * 10 + digit →
+    IsFit (digits_value 10 ds) → ⊥
 too_large ds i value digit d h e f g fit =
-    let a : digits_value 10 (take (i + 1) ds) ≤ digits_value 10 ds = digits_value-take-le 10 ds (i + 1) (omega arith) in
-    let b : 32767 < digits_value 10 (take (i + 1) ds) = subst (λ n. 32767 < n) (value_more ds i value digit d h e f) g in
+    let a : digits_value 10 (take (i + 1) ds) ≤ digits_value 10 ds = digits_value-take-le 10 ds
+            (i + 1) (omega arith) in
+    let b : 32767 < digits_value 10 (take (i + 1) ds) = subst (λ n. 32767 < n)
+            (value_more ds i value digit d h e f) g in
     let c = fit.1 in
     absurd (omega arith)
 
 -- what a listing says is among what all of them say of its token
-pub said_there : {A : Type 0} (f : Listing → Option A) (d : Listed) (xs : List Listed) (i : ℕ) (v : A) → i < length xs → f (listed_view (get_or xs i d)) ≡ Some v → Contains (said_of f (map listed_view xs) (listed_name (listed_view (get_or xs i d)))) v
+pub said_there : {A : Type 0} (f : Listing → Option A) (d : Listed) (xs : List Listed) (i : ℕ)
+    (v : A) → i < length xs → f (listed_view (get_or xs i d)) ≡ Some v →
+    Contains (said_of f (map listed_view xs) (listed_name (listed_view (get_or xs i d)))) v
 said_there f d [] i v h e = absurd (omega arith)
-said_there f d (x ∷ xs) zero v h e = Contains-append_left _ (said_of f (map listed_view xs) (listed_name (listed_view x))) v (one (bytes_eq (listed_name (listed_view x)) (listed_name (listed_view x))) (f (listed_view x)) (eq_self (listed_name (listed_view x))) e)
+said_there f d (x ∷ xs) zero v h e = Contains-append_left _
+    (said_of f (map listed_view xs) (listed_name (listed_view x))) v
+    (one (bytes_eq (listed_name (listed_view x)) (listed_name (listed_view x))) (f (listed_view x))
+    (eq_self (listed_name (listed_view x))) e)
   where
     one : (b : Bool) (o : Option _) → b ≡ true → o ≡ Some v → Contains (cond b (option_list o) []) v
     one b o p q = rw p (rw q (0, omega arith, refl))
-said_there f d (x ∷ xs) (suc i) v h e = Contains-append_right _ (said_of f (map listed_view xs) (listed_name (listed_view (get_or xs i d)))) v (said_there f d xs i v (omega arith) e)
+said_there f d (x ∷ xs) (suc i) v h e = Contains-append_right _
+    (said_of f (map listed_view xs) (listed_name (listed_view (get_or xs i d)))) v
+    (said_there f d xs i v (omega arith) e)
 
 -- a number that is not in range
 pub unfit : (n : ℕ) → (IsFit n → ⊥) → (n ≡ 0) ⊎ (32767 < n)
@@ -54,7 +74,8 @@ unfit n h = go (small_or n)
     go (inl a) = a
     go (inr b) = absurd (h b)
 
-pub fit_more : (table : List (Option ℕ)) (k v : ℕ) → k < length table → IsFit v → AllFit table → AllFit (set table k (Some v))
+pub fit_more : (table : List (Option ℕ)) (k v : ℕ) → k < length table → IsFit v → AllFit table →
+    AllFit (set table k (Some v))
 fit_more table k v h f all j m e = go (same_or j k)
   where
     same_or : (a b : ℕ) → (a ≡ b) ⊎ (a ≢ b)
@@ -68,11 +89,16 @@ fit_more table k v h f all j m e = go (same_or j k)
 
     go : (j ≡ k) ⊎ (j ≢ k) → IsFit m
     go (inr n) = all j m (sym (get_or-set_other table k j (Some v) None n) ∙ e)
-    go (inl q) = subst IsFit (some_one v m (sym (get_or-set_same table k (Some v) None h) ∙ ap (λ i. get_or (set table k (Some v)) i None) (sym q) ∙ e)) f
+    go (inl q) = subst IsFit (some_one v m (sym (get_or-set_same table k (Some v) None h) ∙ ap
+        (λ i. get_or (set table k (Some v)) i None) (sym q) ∙ e)) f
 
 -- a token that has no number is given one
-pub fills : (ns : List Name) (table : List (Option ℕ)) (k v : ℕ) (m : Name) (left right own : Name → Option ℕ) → k ≡ number_in ns m → left m ≡ Some v → ((n : Name) → bytes_eq n m ≡ false → left n ≡ right n) → OwnSoFar ns table left own → OwnSoFar ns (filled table k v) right own
-fills ns table k v m left right own hk hv other s = go (nat_lt k (length table) && not (is_some (get_or table k None))) refl
+pub fills : (ns : List Name) (table : List (Option ℕ)) (k v : ℕ) (m : Name) (left right own : Name →
+    Option ℕ) → k ≡ number_in ns m → left m ≡ Some v →
+    ((n : Name) → bytes_eq n m ≡ false → left n ≡ right n) → OwnSoFar ns table left own →
+    OwnSoFar ns (filled table k v) right own
+fills ns table k v m left right own hk hv other s =
+    go (nat_lt k (length table) && not (is_some (get_or table k None))) refl
   where
     free_of : (a c : Bool) → (a && not c) ≡ true → (a ≡ true) × (c ≡ false)
     free_of true false e = (refl, refl)
@@ -95,52 +121,82 @@ fills ns table k v m left right own hk hv other s = go (nat_lt k (length table) 
     kept (Some u) x y h = refl
     kept None x y h = absurd (grind (arith))
 
-    set_here : k < length table → get_or table k None ≡ None → (n : Name) → number_in ns n < length ns → (b : Bool) → bytes_eq n m ≡ b → keep (get_or (set table k (Some v)) (number_in ns n) None) (right n) ≡ own n
+    set_here : k < length table → get_or table k None ≡ None →
+        (n : Name) → number_in ns n < length ns → (b : Bool) → bytes_eq n m ≡ b →
+        keep (get_or (set table k (Some v)) (number_in ns n) None) (right n) ≡ own n
     set_here h f n i true q =
         let e : n ≡ m = same_text n m (sym q) in
         let j : number_in ns n ≡ k = ap (number_in ns) e ∙ sym hk in
-        ap (λ (o : Option ℕ). keep o (right n)) (ap (λ a. get_or (set table k (Some v)) a None) j ∙ get_or-set_same table k (Some v) None h)
+        ap (λ (o : Option ℕ). keep o (right n)) (ap (λ a. get_or (set table k (Some v)) a None) j ∙
+            get_or-set_same table k (Some v) None h)
         ∙ sym hv ∙ ap left (sym e)
         ∙ sym (ap (λ (o : Option ℕ). keep o (left n)) (ap (λ a. get_or table a None) j ∙ f))
         ∙ s.said n i
     set_here h f n i false q =
-        let j : number_in ns n ≡ k → ⊥ = λ a. other_text n m (sym q) (same_number ns n m i (a ∙ hk)) in
-        ap (λ (o : Option ℕ). keep o (right n)) (get_or-set_other table k (number_in ns n) (Some v) None j)
+        let j : number_in ns n ≡ k → ⊥ =
+                λ a. other_text n m (sym q) (same_number ns n m i (a ∙ hk)) in
+        ap (λ (o : Option ℕ). keep o (right n)) (get_or-set_other table k (number_in ns n)
+            (Some v) None j)
         ∙ ap (keep (get_or table (number_in ns n) None)) (sym (other n q))
         ∙ s.said n i
 
-    left_here : (nat_lt k (length table) && not (is_some (get_or table k None))) ≡ false → (n : Name) → number_in ns n < length ns → (b : Bool) → bytes_eq n m ≡ b → keep (get_or table (number_in ns n) None) (right n) ≡ own n
+    left_here : (nat_lt k (length table) && not (is_some (get_or table k None))) ≡ false →
+        (n : Name) → number_in ns n < length ns → (b : Bool) → bytes_eq n m ≡ b →
+        keep (get_or table (number_in ns n) None) (right n) ≡ own n
     left_here f n i true q =
         let j : number_in ns n ≡ k = ap (number_in ns) (same_text n m (sym q)) ∙ sym hk in
-        let l : k < length table = subst (λ a. a < length table) j (subst (λ a. number_in ns n < a) (sym s.each) i) in
-        let c : is_some (get_or table k None) ≡ true = held_of (nat_lt k (length table)) (is_some (get_or table k None)) f (in_table l) in
-        kept (get_or table (number_in ns n) None) (right n) (left n) (ap (λ a. is_some (get_or table a None)) j ∙ c) ∙ s.said n i
-    left_here f n i false q = ap (keep (get_or table (number_in ns n) None)) (sym (other n q)) ∙ s.said n i
+        let l : k < length table = subst (λ a. a < length table) j
+                (subst (λ a. number_in ns n < a) (sym s.each) i) in
+        let c : is_some (get_or table k None) ≡ true = held_of (nat_lt k (length table))
+                (is_some (get_or table k None)) f (in_table l) in
+        kept (get_or table (number_in ns n) None) (right n) (left n)
+            (ap (λ a. is_some (get_or table a None)) j ∙ c) ∙ s.said n i
+    left_here f n i false q = ap (keep (get_or table (number_in ns n) None)) (sym (other n q)) ∙
+        s.said n i
 
-    go : (b : Bool) → (nat_lt k (length table) && not (is_some (get_or table k None))) ≡ b → OwnSoFar ns (filled table k v) right own
+    go : (b : Bool) → (nat_lt k (length table) && not (is_some (get_or table k None))) ≡ b →
+        OwnSoFar ns (filled table k v) right own
     go true e =
         let p = free_of (nat_lt k (length table)) (is_some (get_or table k None)) e in
         subst (λ c. OwnSoFar ns (cond c (set table k (Some v)) table) right own) (sym e) (record {
           each = length-set table k (Some v) ∙ s.each;
-          said = λ n i. set_here (below p.0) (is_none (get_or table k None) p.1) n i (bytes_eq n m) refl;
+          said = λ n i. set_here (below p.0) (is_none (get_or table k None) p.1) n i (bytes_eq n m)
+              refl;
         })
-    go false e = subst (λ c. OwnSoFar ns (cond c (set table k (Some v)) table) right own) (sym e) (record {
+    go false e = subst (λ c. OwnSoFar ns (cond c (set table k (Some v)) table) right own) (sym e)
+        (record {
       each = s.each;
       said = λ n i. left_here e n i (bytes_eq n m) refl;
     })
 
 -- the value of a literal is given
-pub fills_literal : (ns : List Name) (table new : List (Option ℕ)) (k v : ℕ) (rest : List Identifier) (own : Name → Option ℕ) → k ≡ number_in ns (printed_literal v) → new ≡ filled table k v → OwnSoFar ns table (literal_value (quoted v ∷ rest)) own → OwnSoFar ns new (literal_value rest) own
-fills_literal ns table new k v rest own hk e s = subst (λ (t : List (Option ℕ)). OwnSoFar ns t (literal_value rest) own) (sym e) (fills ns table k v (printed_literal v) (literal_value (quoted v ∷ rest)) (literal_value rest) own hk (ap (λ b. cond b (Some v) (literal_value rest (printed_literal v))) (eq_self (printed_literal v))) (λ n q. ap (λ b. cond b (Some v) (literal_value rest n)) q) s)
+pub fills_literal : (ns : List Name) (table new : List (Option ℕ)) (k v : ℕ)
+    (rest : List Identifier) (own : Name → Option ℕ) → k ≡ number_in ns (printed_literal v) →
+    new ≡ filled table k v → OwnSoFar ns table (literal_value (quoted v ∷ rest)) own →
+    OwnSoFar ns new (literal_value rest) own
+fills_literal ns table new k v rest own hk e s =
+    subst (λ (t : List (Option ℕ)). OwnSoFar ns t (literal_value rest) own) (sym e)
+    (fills ns table k v (printed_literal v) (literal_value (quoted v ∷ rest)) (literal_value rest)
+    own hk (ap (λ b. cond b (Some v) (literal_value rest (printed_literal v)))
+    (eq_self (printed_literal v))) (λ n q. ap (λ b. cond b (Some v) (literal_value rest n)) q) s)
 
 abbrev error_or : List Identifier → Name → Option ℕ
 error_or is n = cond (bytes_eq n (codes "error")) (Some 256) (literal_value is n)
 
 -- the numbers of the end and of `error` are given
-pub fills_first : (ns : List Name) (table one two : List (Option ℕ)) (a b : ℕ) (is : List Identifier) (own : Name → Option ℕ) → a ≡ number_in ns (codes "$end") → b ≡ number_in ns (codes "error") → one ≡ filled table a 0 → two ≡ filled one b 256 → OwnSoFar ns table (usual_of is) own → OwnSoFar ns two (literal_value is) own
+pub fills_first : (ns : List Name) (table one two : List (Option ℕ)) (a b : ℕ)
+    (is : List Identifier) (own : Name → Option ℕ) → a ≡ number_in ns (codes "$end") →
+    b ≡ number_in ns (codes "error") → one ≡ filled table a 0 → two ≡ filled one b 256 →
+    OwnSoFar ns table (usual_of is) own → OwnSoFar ns two (literal_value is) own
 fills_first ns table one two a b is own ha hb e f s =
-    subst (λ (t : List (Option ℕ)). OwnSoFar ns t (literal_value is) own) (sym f) (fills ns one b 256 (codes "error") (error_or is) (literal_value is) own hb (ap (λ c. cond c (Some 256) (literal_value is (codes "error"))) (eq_self (codes "error"))) (λ n q. ap (λ c. cond c (Some 256) (literal_value is n)) q)
-    (subst (λ (t : List (Option ℕ)). OwnSoFar ns t (error_or is) own) (sym e) (fills ns table a 0 (codes "$end") (usual_of is) (error_or is) own ha (ap (λ c. cond c (Some 0) (error_or is (codes "$end"))) (eq_self (codes "$end"))) (λ n q. ap (λ c. cond c (Some 0) (error_or is n)) q) s)))
+    subst (λ (t : List (Option ℕ)). OwnSoFar ns t (literal_value is) own) (sym f)
+        (fills ns one b 256 (codes "error") (error_or is) (literal_value is) own hb
+        (ap (λ c. cond c (Some 256) (literal_value is (codes "error"))) (eq_self (codes "error")))
+        (λ n q. ap (λ c. cond c (Some 256) (literal_value is n)) q)
+    (subst (λ (t : List (Option ℕ)). OwnSoFar ns t (error_or is) own) (sym e)
+        (fills ns table a 0 (codes "$end") (usual_of is) (error_or is) own ha
+        (ap (λ c. cond c (Some 0) (error_or is (codes "$end"))) (eq_self (codes "$end")))
+        (λ n q. ap (λ c. cond c (Some 0) (error_or is n)) q) s)))
 
 pub take_none : {A : Type 0} (xs : List A) (i : ℕ) → length xs ≤ i → drop i xs ≡ []
 take_none [] zero h = refl
@@ -149,8 +205,11 @@ take_none (x ∷ xs) zero h = absurd (omega arith)
 take_none (x ∷ xs) (suc i) h = take_none xs i (omega arith)
 
 -- the number of a listing's digits
-pub digits_are : (x : Listed) (d : Digits) (v : ℕ) → x.digits ≡ Some d → v ≡ digits_value 10 d.digits.now → digits_number (listed_view x) ≡ Some v
-digits_are x d v e f = ap (λ (o : Option Digits). digits_number (record { gives = x.gives; who = mention_view x.who; digits = option_view digits_view o })) e ∙ ap (λ n. some_of n) (sym f)
+pub digits_are : (x : Listed) (d : Digits) (v : ℕ) → x.digits ≡ Some d →
+    v ≡ digits_value 10 d.digits.now → digits_number (listed_view x) ≡ Some v
+digits_are x d v e f = ap (λ (o : Option Digits).
+    digits_number (record { gives = x.gives; who = mention_view x.who; digits =
+    option_view digits_view o })) e ∙ ap (λ n. some_of n) (sym f)
   where
     some_of : ℕ → Option ℕ
     some_of n = Some n

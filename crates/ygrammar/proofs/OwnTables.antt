@@ -1,5 +1,7 @@
 -- The tables of precedences and numbers are those of the file.
-use Rattle.std.proofs.Common.{ℕ, ◌≡◌, ◌<◌, ◌≤◌, ◌⊎◌, inl, inr, List, [], ◌∷◌, ◌++◌, map, length, filter, Option, Some, None, Result, Ok, Err, Vec, refl, sym, ◌∙◌, ap, subst, arith, get_or, codes}
+use Rattle.std.proofs.Common.{ℕ, ◌≡◌, ◌<◌, ◌≤◌, ◌⊎◌, inl, inr, List, [], ◌∷◌, ◌++◌, map, length}
+use Rattle.std.proofs.Common.{filter, Option, Some, None, Result, Ok, Err, Vec, refl, sym, ◌∙◌, ap}
+use Rattle.std.proofs.Common.{subst, arith, get_or, codes}
 use Rattle.std.specs.List.{Contains, flat_map}
 use Rattle.std.specs.Global.{Global}
 use Rattle.std.proofs.lemmas.Option.{get_or_from_slice_get}
@@ -8,27 +10,36 @@ use Rattle.ygrammar.specs.declared.mistake.Mistake.TheVariants as mistakes
 use Rattle.ygrammar.specs.declared.mistake.Refused.{Refused}
 use Rattle.ygrammar.specs.declared.mistake.Refused.TheVariants as refused
 use Rattle.ygrammar.specs.declared.precedence.Precedence.{Precedence}
-use Rattle.ygrammar.specs.Elaboration.{Listing, appearances, declared, uses, digits_number, first_or, gives_of, listings, option_list, own_number, own_numbers, precedence_of, said_of, token_names_of, tokens, usual_of}
+use Rattle.ygrammar.specs.Elaboration.{Listing, appearances, declared, uses, digits_number}
+use Rattle.ygrammar.specs.Elaboration.{first_or, gives_of, listings, option_list, own_number}
+use Rattle.ygrammar.specs.Elaboration.{own_numbers, precedence_of, said_of, token_names_of, tokens}
+use Rattle.ygrammar.specs.Elaboration.{usual_of}
 use Rattle.ygrammar.specs.Mistakes.{Holds}
 use Rattle.ygrammar.specs.Names.{Name, is_among, number_in, printed}
 use Rattle.ygrammar.specs.Numbers.{AreSmall, Clashes}
-use Rattle.ygrammar.specs.Owned.{AllFit, AllSmall, IsFit, IsBadNumber, OwnSoFar, Precedes, Refuses, TellsNumbers, keep}
+use Rattle.ygrammar.specs.Owned.{AllFit, AllSmall, IsFit, IsBadNumber, OwnSoFar, Precedes, Refuses}
+use Rattle.ygrammar.specs.Owned.{TellsNumbers, keep}
 use Rattle.ygrammar.specs.Told.{IsTold, SaidTwice, IsTwicePrecedence, TellsPrecedences}
 use Rattle.ygrammar.specs.Tree.{Identifier, Tree}
-use Rattle.ygrammar.proofs.TokenSteps.{Distinct, among_number, by_numbers, distinct_all, distinct_none, listed_token, said_listed}
+use Rattle.ygrammar.proofs.TokenSteps.{Distinct, among_number, by_numbers, distinct_all}
+use Rattle.ygrammar.proofs.TokenSteps.{distinct_none, listed_token, said_listed}
 
 pub distinct_tokens : (t : Tree) → Distinct (tokens t)
-distinct_tokens t = distinct_all (codes "$end" ∷ codes "error" ∷ []) (filter (is_among (token_names_of (listings t) (appearances t))) (map printed (appearances t))) (distinct_all [] (codes "$end" ∷ codes "error" ∷ []) distinct_none)
+distinct_tokens t = distinct_all (codes "$end" ∷ codes "error" ∷ [])
+    (filter (is_among (token_names_of (listings t) (appearances t))) (map printed (appearances t)))
+    (distinct_all [] (codes "$end" ∷ codes "error" ∷ []) distinct_none)
 
 -- something is said of tokens alone
-pub said_token : {A : Type 0} (f : Listing → Option A) (t : Tree) (n : Name) → 0 < length (said_of f (listings t) n) → number_in (tokens t) n < length (tokens t)
+pub said_token : {A : Type 0} (f : Listing → Option A) (t : Tree) (n : Name) →
+    0 < length (said_of f (listings t) n) → number_in (tokens t) n < length (tokens t)
 said_token f t n h = among_number (tokens t) n (listed_token t n (said_listed f (listings t) n h))
 
 own_said : {A : Type 0} (o : Option A) → o ≡ first_or (option_list o ++ []) None
 own_said None = refl
 own_said (Some x) = refl
 
-first_said : {A : Type 0} (o : Option A) (xs : List A) → option_list o ++ [] ≡ xs → o ≡ first_or xs None
+first_said : {A : Type 0} (o : Option A) (xs : List A) → option_list o ++ [] ≡ xs →
+    o ≡ first_or xs None
 first_said {A = A} o xs e = own_said o ∙ ap (λ (ys : List A). first_or ys None) e
 
 few_said : {A : Type 0} (o : Option A) → length (option_list o ++ []) ≤ 1
@@ -36,18 +47,25 @@ few_said None = omega arith
 few_said (Some x) = omega arith
 
 one_said : {A : Type 0} (o : Option A) (xs : List A) → option_list o ++ [] ≡ xs → 2 ≤ length xs → ⊥
-one_said {A = A} o xs e h = let k : length xs ≤ 1 = subst (λ (ys : List A). length ys ≤ 1) e (few_said o) in absurd (omega arith)
+one_said {A = A} o xs e h = let k : length xs ≤ 1 = subst (λ (ys : List A). length ys ≤ 1) e
+    (few_said o) in absurd (omega arith)
 
-not_twice : {A : Type 0} (f : Listing → Option A) (t : Tree) (table : List (Option A)) → IsTold f (tokens t) (listings t) table → SaidTwice f (listings t) → ⊥
+not_twice : {A : Type 0} (f : Listing → Option A) (t : Tree) (table : List (Option A)) →
+    IsTold f (tokens t) (listings t) table → SaidTwice f (listings t) → ⊥
 not_twice f t table s p =
     let (n, two) = p in
-    one_said (get_or table (number_in (tokens t) n) None) (said_of f (listings t) n) (s.said n (said_token f t n (omega arith))) two
+    one_said (get_or table (number_in (tokens t) n) None) (said_of f (listings t) n)
+        (s.said n (said_token f t n (omega arith))) two
 
 -- precedences
-pub precedes : (t : Tree) (ls : List Listing) (ns : List Name) (r : Result (Vec (Option Precedence) Global) Refused) → ls ≡ listings t → ns ≡ tokens t → TellsPrecedences ns ls r → Precedes t r
-precedes t ls ns r e f h = here r (subst (λ (x : List Name). TellsPrecedences x (listings t) r) f (subst (λ (x : List Listing). TellsPrecedences ns x r) e h))
+pub precedes : (t : Tree) (ls : List Listing) (ns : List Name)
+    (r : Result (Vec (Option Precedence) Global) Refused) → ls ≡ listings t → ns ≡ tokens t →
+    TellsPrecedences ns ls r → Precedes t r
+precedes t ls ns r e f h = here r (subst (λ (x : List Name). TellsPrecedences x (listings t) r) f
+    (subst (λ (x : List Listing). TellsPrecedences ns x r) e h))
   where
-    twice : (what : Mistake) → IsTwicePrecedence what (listings t) → (what ≡ mistakes.TwicePrecedence) × Holds t mistakes.TwicePrecedence
+    twice : (what : Mistake) → IsTwicePrecedence what (listings t) →
+        (what ≡ mistakes.TwicePrecedence) × Holds t mistakes.TwicePrecedence
     twice mistakes.TwicePrecedence p = (refl, p)
     twice mistakes.TokenLeft p = absurd p
     twice mistakes.Undefined p = absurd p
@@ -57,9 +75,12 @@ precedes t ls ns r e f h = here r (subst (λ (x : List Name). TellsPrecedences x
     twice mistakes.BadPrec p = absurd p
     twice mistakes.Limit p = absurd p
 
-    here : (r : Result (Vec (Option Precedence) Global) Refused) → TellsPrecedences (tokens t) (listings t) r → Precedes t r
+    here : (r : Result (Vec (Option Precedence) Global) Refused) → TellsPrecedences (tokens t)
+        (listings t) r → Precedes t r
     here (Ok v) s = record {
-      table = by_numbers (precedence_of t) (tokens t) v.items None (distinct_tokens t) s.each (λ n k. first_said (get_or v.items (number_in (tokens t) n) None) (said_of gives_of (listings t) n) (s.said n k));
+      table = by_numbers (precedence_of t) (tokens t) v.items None (distinct_tokens t) s.each
+          (λ n k. first_said (get_or v.items (number_in (tokens t) n) None)
+          (said_of gives_of (listings t) n) (s.said n k));
       sound = not_twice gives_of t v.items s;
     }
     here (Err (refused.Mistake what at)) p = twice what p
@@ -67,18 +88,22 @@ precedes t ls ns r e f h = here r (subst (λ (x : List Name). TellsPrecedences x
 
 -- ---- numbers
 
-pub own_start : (t : Tree) (table : List (Option ℕ)) → IsTold digits_number (tokens t) (listings t) table → OwnSoFar (tokens t) table (usual_of (appearances t)) (own_number t)
+pub own_start : (t : Tree) (table : List (Option ℕ)) → IsTold digits_number (tokens t)
+    (listings t) table → OwnSoFar (tokens t) table (usual_of (appearances t)) (own_number t)
 own_start t table s = record {
   each = s.each;
-  said = λ n h. kept (get_or table (number_in (tokens t) n) None) (usual_of (appearances t) n) ∙ ap (λ (xs : List ℕ). first_or xs (usual_of (appearances t) n)) (s.said n h);
+  said = λ n h. kept (get_or table (number_in (tokens t) n) None) (usual_of (appearances t) n) ∙ ap
+      (λ (xs : List ℕ). first_or xs (usual_of (appearances t) n)) (s.said n h);
 }
   where
     kept : (o y : Option ℕ) → keep o y ≡ first_or (option_list o ++ []) y
     kept None y = refl
     kept (Some x) y = refl
 
-pub own_list : (t : Tree) (table : List (Option ℕ)) → OwnSoFar (tokens t) table (λ _. None) (own_number t) → table ≡ own_numbers t
-own_list t table s = by_numbers (own_number t) (tokens t) table None (distinct_tokens t) s.each (λ n h. kept (get_or table (number_in (tokens t) n) None) ∙ s.said n h)
+pub own_list : (t : Tree) (table : List (Option ℕ)) → OwnSoFar (tokens t) table (λ _. None)
+    (own_number t) → table ≡ own_numbers t
+own_list t table s = by_numbers (own_number t) (tokens t) table None (distinct_tokens t) s.each
+    (λ n h. kept (get_or table (number_in (tokens t) n) None) ∙ s.said n h)
   where
     kept : (o : Option ℕ) → o ≡ keep o None
     kept None = refl
@@ -90,7 +115,8 @@ fit_small table h k m e = let p = h k m e in let q = p.1 in omega arith
 pub are_small : (table : List (Option ℕ)) → AllSmall table → AreSmall table
 are_small table h m p = h p.0 m (get_or_from_slice_get table p.0 (Some m) None p.1)
 
-bad : (t : Tree) (what : Mistake) → IsBadNumber what (listings t) → (what ≡ mistakes.BadNumber) × Holds t mistakes.BadNumber
+bad : (t : Tree) (what : Mistake) → IsBadNumber what (listings t) → (what ≡ mistakes.BadNumber) ×
+    Holds t mistakes.BadNumber
 bad t mistakes.BadNumber (inl p) = (refl, inl p)
 bad t mistakes.BadNumber (inr p) = (refl, inr (inl p))
 bad t mistakes.TwicePrecedence p = absurd p
@@ -101,25 +127,32 @@ bad t mistakes.Unproductive p = absurd p
 bad t mistakes.BadPrec p = absurd p
 bad t mistakes.Limit p = absurd p
 
-pub bad_number : (t : Tree) (e : Refused) → TellsNumbers (tokens t) (listings t) (Err e) → Refuses t mistakes.BadNumber e
+pub bad_number : (t : Tree) (e : Refused) → TellsNumbers (tokens t) (listings t) (Err e) →
+    Refuses t mistakes.BadNumber e
 bad_number t (refused.Mistake what at) p = bad t what p
 bad_number t refused.Memory p = tt
 
 -- no number given is out of range, no token is given two, and no two tokens have one
-pub numbers_sound : (t : Tree) (table : List (Option ℕ)) → IsTold digits_number (tokens t) (listings t) table → AllFit table → (Clashes (own_numbers t) → ⊥) → Holds t mistakes.BadNumber → ⊥
+pub numbers_sound : (t : Tree) (table : List (Option ℕ)) → IsTold digits_number (tokens t)
+    (listings t) table → AllFit table → (Clashes (own_numbers t) → ⊥) → Holds t mistakes.BadNumber →
+    ⊥
 numbers_sound t table s fit apart (inl p) =
     let (n, m, there, wrong) = p in
     let xs : List ℕ = said_of digits_number (listings t) n in
-    let h : number_in (tokens t) n < length (tokens t) = said_token digits_number t n (let k = there.1 in omega arith) in
-    let f : IsFit m = fit (number_in (tokens t) n) m (the_one (get_or table (number_in (tokens t) n) None) xs m (s.said n h) there) in
+    let h : number_in (tokens t) n < length (tokens t) = said_token digits_number t n
+            (let k = there.1 in omega arith) in
+    let f : IsFit m = fit (number_in (tokens t) n) m
+            (the_one (get_or table (number_in (tokens t) n) None) xs m (s.said n h) there) in
     not_fit m f wrong
   where
-    the_one : (o : Option ℕ) (xs : List ℕ) (m : ℕ) → option_list o ++ [] ≡ xs → Contains xs m → o ≡ Some m
+    the_one : (o : Option ℕ) (xs : List ℕ) (m : ℕ) → option_list o ++ [] ≡ xs → Contains xs m →
+        o ≡ Some m
     the_one o xs m e c = here o (subst (λ (ys : List ℕ). Contains ys m) (sym e) c)
       where
         here : (o : Option ℕ) → Contains (option_list o ++ []) m → o ≡ Some m
         here None c = let k = c.1 in absurd (omega arith)
-        here (Some x) (k, l, q) = let z : k ≡ 0 = omega arith in ap (λ y. some_of y) (sym (ap (λ j. get_or (x ∷ []) j m) z) ∙ q)
+        here (Some x) (k, l, q) = let z : k ≡ 0 = omega arith in
+            ap (λ y. some_of y) (sym (ap (λ j. get_or (x ∷ []) j m) z) ∙ q)
           where
             some_of : ℕ → Option ℕ
             some_of y = Some y
@@ -131,17 +164,30 @@ numbers_sound t table s fit apart (inr (inl p)) = not_twice digits_number t tabl
 numbers_sound t table s fit apart (inr (inr p)) = apart p
 
 -- the table of own numbers, from what was given
-pub own_whole : (t : Tree) (ns : List Name) (d u : List Identifier) (given own : List (Option ℕ)) → ns ≡ tokens t → d ++ u ≡ appearances t → IsTold digits_number (tokens t) (listings t) given → ((f : Name → Option ℕ) → OwnSoFar ns given (usual_of (d ++ u)) f → OwnSoFar ns own (λ _. None) f) → own ≡ own_numbers t
+pub own_whole : (t : Tree) (ns : List Name) (d u : List Identifier) (given own : List (Option ℕ)) →
+    ns ≡ tokens t → d ++ u ≡ appearances t → IsTold digits_number (tokens t) (listings t) given →
+    ((f : Name → Option ℕ) → OwnSoFar ns given (usual_of (d ++ u)) f → OwnSoFar ns own
+    (λ _. None) f) → own ≡ own_numbers t
 own_whole t ns d u given own e f s h =
     own_list t own (subst (λ (x : List Name). OwnSoFar x own (λ _. None) (own_number t)) e
-    (h (own_number t) (subst (λ (is : List Identifier). OwnSoFar ns given (usual_of is) (own_number t)) (sym f)
-    (subst (λ (x : List Name). OwnSoFar x given (usual_of (appearances t)) (own_number t)) (sym e) (own_start t given s)))))
+    (h (own_number t) (subst (λ (is : List Identifier). OwnSoFar ns given (usual_of is)
+        (own_number t)) (sym f)
+    (subst (λ (x : List Name). OwnSoFar x given (usual_of (appearances t)) (own_number t)) (sym e)
+        (own_start t given s)))))
 
-pub told_here : (t : Tree) (ns : List Name) (ls : List Listing) (table : List (Option ℕ)) → ns ≡ tokens t → ls ≡ listings t → IsTold digits_number ns ls table → IsTold digits_number (tokens t) (listings t) table
-told_here t ns ls table e f s = subst (λ (x : List Name). IsTold digits_number x (listings t) table) e (subst (λ (x : List Listing). IsTold digits_number ns x table) f s)
+pub told_here : (t : Tree) (ns : List Name) (ls : List Listing) (table : List (Option ℕ)) →
+    ns ≡ tokens t → ls ≡ listings t → IsTold digits_number ns ls table → IsTold digits_number
+    (tokens t) (listings t) table
+told_here t ns ls table e f s = subst (λ (x : List Name). IsTold digits_number x (listings t) table)
+    e (subst (λ (x : List Listing). IsTold digits_number ns x table) f s)
 
-pub bad_here : (t : Tree) (ns : List Name) (ls : List Listing) (e : Refused) → ns ≡ tokens t → ls ≡ listings t → TellsNumbers ns ls (Err e) → Refuses t mistakes.BadNumber e
-bad_here t ns ls r e f s = bad_number t r (subst (λ (x : List Name). TellsNumbers x (listings t) (Err r)) e (subst (λ (x : List Listing). TellsNumbers ns x (Err r)) f s))
+pub bad_here : (t : Tree) (ns : List Name) (ls : List Listing) (e : Refused) → ns ≡ tokens t →
+    ls ≡ listings t → TellsNumbers ns ls (Err e) → Refuses t mistakes.BadNumber e
+bad_here t ns ls r e f s = bad_number t r
+    (subst (λ (x : List Name). TellsNumbers x (listings t) (Err r)) e
+    (subst (λ (x : List Listing). TellsNumbers ns x (Err r)) f s))
 
-pub appear : (d u : List Identifier) (t : Tree) → d ≡ flat_map declared t.definitions → u ≡ uses t → d ++ u ≡ appearances t
-appear d u t e f = ap (λ (x : List Identifier). x ++ u) e ∙ ap (λ (x : List Identifier). flat_map declared t.definitions ++ x) f
+pub appear : (d u : List Identifier) (t : Tree) → d ≡ flat_map declared t.definitions → u ≡ uses t →
+    d ++ u ≡ appearances t
+appear d u t e f = ap (λ (x : List Identifier). x ++ u) e ∙ ap (λ (x : List Identifier).
+    flat_map declared t.definitions ++ x) f

@@ -1,12 +1,16 @@
 -- One part begins at a place.
-use Rattle.std.proofs.Common.{ℕ, ◌≡◌, ◌≢◌, Bool, true, false, cond, ◌||◌, ◌⊎◌, inl, inr, eqb, List, [], ◌∷◌, ◌++◌, length, get_or, Option, Some, None, refl, sym, ap, ◌∙◌, subst, arith, append_assoc, append-nil}
+use Rattle.std.proofs.Common.{ℕ, ◌≡◌, ◌≢◌, Bool, true, false, cond, ◌||◌, ◌⊎◌, inl, inr, eqb, List}
+use Rattle.std.proofs.Common.{[], ◌∷◌, ◌++◌, length, get_or, Option, Some, None, refl, sym, ap, ◌∙◌}
+use Rattle.std.proofs.Common.{subst, arith, append_assoc, append-nil}
 use Rattle.std.proofs.lemmas.Bool.{eqb-false, and_parts, cond-true, cond-false}
 use Rattle.std.proofs.lemmas.Bool.Decides.{nat_tests}
 use Rattle.std.specs.Str.{bytes_eq}
 use Rattle.ygrammar.specs.declared.kind.Sign.{Sign}
 use Rattle.ygrammar.specs.declared.kind.Sign.TheVariants as sign
-use Rattle.ygrammar.specs.Bytes.{is_blank, is_digit, is_name_start, is_name_byte, all_pass, begins, IsBetween}
-use Rattle.ygrammar.specs.Lexemes.{Lexeme, name, head, literal, number, act, code, fixed, IsName, IsNumber, IsLiteral, IsHead, Spells, spelling}
+use Rattle.ygrammar.specs.Bytes.{is_blank, is_digit, is_name_start, is_name_byte, all_pass, begins}
+use Rattle.ygrammar.specs.Bytes.{IsBetween}
+use Rattle.ygrammar.specs.Lexemes.{Lexeme, name, head, literal, number, act, code, fixed, IsName}
+use Rattle.ygrammar.specs.Lexemes.{IsNumber, IsLiteral, IsHead, Spells, spelling}
 use Rattle.ygrammar.specs.Cuttings.{Part, blank, comment, lexeme, IsPart, PartAt}
 use Rattle.ygrammar.specs.Stages.{found}
 use Rattle.ygrammar.specs.Views.{sign_of, word_of}
@@ -24,8 +28,10 @@ is_sign b = eqb b 60 || eqb b 62 || eqb b 124 || eqb b 59
 
 abbrev pub class : ℕ → Class
 class b =
-    cond (is_blank b) blanks (cond (is_digit b) digits (cond (eqb b 47) slashes (cond (is_name_start b) letters
-    (cond (eqb b 39) quotes (cond (eqb b 37) percents (cond (eqb b 123) braces (cond (is_sign b) signs others)))))))
+    cond (is_blank b) blanks (cond (is_digit b) digits
+        (cond (eqb b 47) slashes (cond (is_name_start b) letters
+    (cond (eqb b 39) quotes (cond (eqb b 37) percents
+        (cond (eqb b 123) braces (cond (is_sign b) signs others)))))))
 
 abbrev pub is_word : Sign → Bool
 is_word sign.Less = false
@@ -66,7 +72,8 @@ pub record Starts (c : Class) (t : List ℕ) : Type 0 where
   pub whole : t ≡ first ∷ more
   pub classed : class first ≡ c
 
-run_starts : (p : ℕ → Bool) (c : Class) → ((b : ℕ) → p b ≡ true → class b ≡ c) → (t : List ℕ) → begins p t ≡ true → Starts c t
+run_starts : (p : ℕ → Bool) (c : Class) → ((b : ℕ) → p b ≡ true → class b ≡ c) → (t : List ℕ) →
+    begins p t ≡ true → Starts c t
 run_starts p c f [] h = cc
 run_starts p c f (b ∷ t) h = record { first = b; more = t; whole = refl; classed = f b h }
 
@@ -92,36 +99,50 @@ sign_starts sign.Semicolon = record { first = _; more = _; whole = refl; classed
 head_begins : (n t : List ℕ) → IsHead n t → begins is_name_start t ≡ true
 head_begins n t h = at n h.whole h.named.start
   where
-    at : (n : List ℕ) → t ≡ n ++ h.gap ++ 58 ∷ [] → begins is_name_start n ≡ true → begins is_name_start t ≡ true
+    at : (n : List ℕ) → t ≡ n ++ h.gap ++ 58 ∷ [] → begins is_name_start n ≡ true →
+        begins is_name_start t ≡ true
     at [] e s = cc
     at (b ∷ n) e s = ap (begins is_name_start) e ∙ s
 
 pub starts : (p : Part) (t : List ℕ) → IsPart p t → Starts (class_of p) t
-starts blank t (b, e, h) = record { first = b; more = []; whole = e; classed = cond-true (is_blank b) blanks _ h }
-starts comment t h = let (more, w) = between_begins 47 42 42 47 t h in record { first = 47; more = 42 ∷ more; whole = w; classed = refl }
-starts (lexeme (name n)) t (e, h) = run_starts is_name_start letters letter_class t (ap (begins is_name_start) e ∙ h.start)
+starts blank t (b, e, h) = record { first = b; more = []; whole = e; classed =
+    cond-true (is_blank b) blanks _ h }
+starts comment t h = let (more, w) = between_begins 47 42 42 47 t h in
+    record { first = 47; more = 42 ∷ more; whole = w; classed = refl }
+starts (lexeme (name n)) t (e, h) = run_starts is_name_start letters letter_class t
+    (ap (begins is_name_start) e ∙ h.start)
 starts (lexeme (head n)) t h = run_starts is_name_start letters letter_class t (head_begins n t h)
-starts (lexeme (literal v)) t h = record { first = 39; more = h.body ++ 39 ∷ []; whole = h.whole; classed = refl }
-starts (lexeme (number ds)) t (e, h) = run_starts is_digit digits digit_class t (ap (begins is_digit) e ∙ digits_start ds h)
-starts (lexeme (act a)) t (e, h) = record { first = 123; more = h.inside ++ 125 ∷ []; whole = e ∙ h.whole; classed = refl }
-starts (lexeme code) t h = let (more, w) = between_begins 37 123 37 125 t h in record { first = 37; more = 123 ∷ more; whole = w; classed = refl }
-starts (lexeme (fixed s)) t e = let h = sign_starts s in record { first = h.first; more = h.more; whole = e ∙ h.whole; classed = h.classed }
+starts (lexeme (literal v)) t h = record { first = 39; more = h.body ++ 39 ∷ []; whole = h.whole;
+    classed = refl }
+starts (lexeme (number ds)) t (e, h) = run_starts is_digit digits digit_class t
+    (ap (begins is_digit) e ∙ digits_start ds h)
+starts (lexeme (act a)) t (e, h) = record { first = 123; more = h.inside ++ 125 ∷ []; whole =
+    e ∙ h.whole; classed = refl }
+starts (lexeme code) t h = let (more, w) = between_begins 37 123 37 125 t h in
+    record { first = 37; more = 123 ∷ more; whole = w; classed = refl }
+starts (lexeme (fixed s)) t e = let h = sign_starts s in
+    record { first = h.first; more = h.more; whole = e ∙ h.whole; classed = h.classed }
 
-pub one_class : (p q : Part) (t u r s : List ℕ) → t ++ r ≡ u ++ s → IsPart p t → IsPart q u → class_of p ≡ class_of q
+pub one_class : (p q : Part) (t u r s : List ℕ) → t ++ r ≡ u ++ s → IsPart p t → IsPart q u →
+    class_of p ≡ class_of q
 one_class p q t u r s e h k =
     let a = starts p t h in
     let b = starts q u k in
-    let w : a.first ≡ b.first = heads_are a.first b.first (a.more ++ r) (b.more ++ s) (sym (ap (λ z. z ++ r) a.whole) ∙ e ∙ ap (λ z. z ++ s) b.whole) in
+    let w : a.first ≡ b.first = heads_are a.first b.first (a.more ++ r) (b.more ++ s)
+            (sym (ap (λ z. z ++ r) a.whole) ∙ e ∙ ap (λ z. z ++ s) b.whole) in
     sym a.classed ∙ ap class w ∙ b.classed
 
 -- the class of the first byte there
-pub class_at : (p : Part) (t r : List ℕ) (b : ℕ) (u : List ℕ) → t ++ r ≡ b ∷ u → IsPart p t → class b ≡ class_of p
+pub class_at : (p : Part) (t r : List ℕ) (b : ℕ) (u : List ℕ) → t ++ r ≡ b ∷ u → IsPart p t →
+    class b ≡ class_of p
 class_at p t r b u e h =
     let a = starts p t h in
-    let w : a.first ≡ b = heads_are a.first b (a.more ++ r) u (sym (ap (λ z. z ++ r) a.whole) ∙ e) in
+    let w : a.first ≡ b = heads_are a.first b (a.more ++ r) u
+            (sym (ap (λ z. z ++ r) a.whole) ∙ e) in
     sym (ap class w) ∙ a.classed
 
-pub not_sign : (c : Class) (s : Sign) → c ≢ percents → c ≢ signs → cond (is_word s) percents signs ≡ c → ⊥
+pub not_sign : (c : Class) (s : Sign) → c ≢ percents → c ≢ signs → cond (is_word s) percents signs ≡
+    c → ⊥
 not_sign c s n m e = go (is_word s) refl
   where
     go : (t : Bool) → is_word s ≡ t → ⊥
@@ -133,7 +154,8 @@ not_sign c s n m e = go (is_word s) refl
 -- the lexeme with one spelling that bytes spell
 abbrev sign_named : List ℕ → Option Sign
 sign_named [] = None
-sign_named (b ∷ w) = cond (eqb b 37) (cond (bytes_eq w (37 ∷ [])) (Some sign.Mark) (word_of w)) (sign_of b)
+sign_named (b ∷ w) = cond (eqb b 37) (cond (bytes_eq w (37 ∷ [])) (Some sign.Mark) (word_of w))
+    (sign_of b)
 
 named_back : (s : Sign) → sign_named (spelling s) ≡ Some s
 named_back sign.Mark = refl
@@ -176,12 +198,14 @@ all_pass_end p (b ∷ x) y h = all_pass_end p x y (and_parts (p b) (all_pass p (
 
 name_or_head : (n m t : List ℕ) → t ≡ n → IsName n → IsHead m t → ⊥
 name_or_head n m t e h k =
-    let w = all_pass_end is_name_byte (m ++ k.gap) (58 ∷ []) (sym (ap (all_pass is_name_byte) (sym e ∙ k.whole)) ∙ h.each) in
+    let w = all_pass_end is_name_byte (m ++ k.gap) (58 ∷ [])
+            (sym (ap (all_pass is_name_byte) (sym e ∙ k.whole)) ∙ h.each) in
     let z : false ≡ true = w in cc
 
 head_one : (n m t : List ℕ) → IsHead n t → IsHead m t → n ≡ m
 head_one n m t h k =
-    run_one is_name_byte n m (h.gap ++ 58 ∷ []) (k.gap ++ 58 ∷ []) h.named.each k.named.each (gap_first h.gap [] h.skipped) (gap_first k.gap [] k.skipped)
+    run_one is_name_byte n m (h.gap ++ 58 ∷ []) (k.gap ++ 58 ∷ []) h.named.each k.named.each
+        (gap_first h.gap [] h.skipped) (gap_first k.gap [] k.skipped)
     (sym (append_assoc n h.gap (58 ∷ [])) ∙ sym h.whole ∙ k.whole ∙ append_assoc m k.gap (58 ∷ []))
 
 literal_one : (v w : ℕ) (t : List ℕ) → IsLiteral t v → IsLiteral t w → v ≡ w
@@ -197,7 +221,8 @@ code_or_fixed s t h e =
     let (more, w) = between_begins 37 123 37 125 t h in
     eqb-false (get_or (spelling s) 1 0) 123 (no_brace s) (ap (λ z. get_or z 1 0) (sym e ∙ w))
 
-spells_one : (l m : Lexeme) (t : List ℕ) → lexeme_class l ≡ lexeme_class m → Spells l t → Spells m t → l ≡ m
+spells_one : (l m : Lexeme) (t : List ℕ) → lexeme_class l ≡ lexeme_class m → Spells l t →
+    Spells m t → l ≡ m
 spells_one (name n) (name m) t c (e, h) (f, k) = ap name (sym e ∙ f)
 spells_one (name n) (head m) t c (e, h) k = absurd (name_or_head n m t e h k)
 spells_one (head n) (name m) t c h (e, k) = absurd (name_or_head m n t e k h)
@@ -228,8 +253,10 @@ pub record SamePart (p q : Part) (r s : List ℕ) : Type 0 where
   pub rest : r ≡ s
 
 no_lexeme : (l : Lexeme) (c : Class) → (c ≡ blanks) ⊎ (c ≡ slashes) → c ≡ lexeme_class l → ⊥
-no_lexeme (fixed s) c (inl e) f = not_sign c s (λ z. let w : blanks ≡ percents = sym e ∙ z in cc) (λ z. let w : blanks ≡ signs = sym e ∙ z in cc) (sym f)
-no_lexeme (fixed s) c (inr e) f = not_sign c s (λ z. let w : slashes ≡ percents = sym e ∙ z in cc) (λ z. let w : slashes ≡ signs = sym e ∙ z in cc) (sym f)
+no_lexeme (fixed s) c (inl e) f = not_sign c s (λ z. let w : blanks ≡ percents = sym e ∙ z in cc)
+    (λ z. let w : blanks ≡ signs = sym e ∙ z in cc) (sym f)
+no_lexeme (fixed s) c (inr e) f = not_sign c s (λ z. let w : slashes ≡ percents = sym e ∙ z in cc)
+    (λ z. let w : slashes ≡ signs = sym e ∙ z in cc) (sym f)
 no_lexeme (name n) c (inl e) f = let w : blanks ≡ letters = sym e ∙ f in cc
 no_lexeme (name n) c (inr e) f = let w : slashes ≡ letters = sym e ∙ f in cc
 no_lexeme (head n) c (inl e) f = let w : blanks ≡ letters = sym e ∙ f in cc
@@ -249,23 +276,31 @@ no_blank_lexeme l e = no_lexeme l blanks (inl refl) e
 pub no_slash_lexeme : (l : Lexeme) → slashes ≡ lexeme_class l → ⊥
 no_slash_lexeme l e = no_lexeme l slashes (inr refl) e
 
-pub one_part : (p q : Part) (bytes r s : List ℕ) → PartAt bytes p r → PartAt bytes q s → SamePart p q r s
-one_part p q bytes r s a b = go p q (one_class p q a.text b.text r s (sym a.whole ∙ b.whole) a.spelled b.spelled) a b
+pub one_part : (p q : Part) (bytes r s : List ℕ) → PartAt bytes p r → PartAt bytes q s →
+    SamePart p q r s
+one_part p q bytes r s a b = go p q (one_class p q a.text b.text r s (sym a.whole ∙ b.whole)
+    a.spelled b.spelled) a b
   where
     joined : (t u : List ℕ) → bytes ≡ t ++ r → bytes ≡ u ++ s → t ++ r ≡ u ++ s
     joined t u e f = sym e ∙ f
 
-    go : (p q : Part) → class_of p ≡ class_of q → PartAt bytes p r → PartAt bytes q s → SamePart p q r s
+    go : (p q : Part) → class_of p ≡ class_of q → PartAt bytes p r → PartAt bytes q s →
+        SamePart p q r s
     go blank blank c a b =
         let (x, e, i) = a.spelled in
         let (y, f, j) = b.spelled in
-        record { part = refl; rest = (same_text a.text b.text r s (ap length e ∙ sym (ap length f)) (joined a.text b.text a.whole b.whole)).1 }
-    go comment comment c a b = record { part = refl; rest = (between_one 47 42 42 47 a.text b.text r s a.spelled b.spelled (joined a.text b.text a.whole b.whole)).1 }
+        record { part = refl; rest = (same_text a.text b.text r s (ap length e ∙ sym (ap length f))
+            (joined a.text b.text a.whole b.whole)).1 }
+    go comment comment c a b = record { part = refl; rest =
+        (between_one 47 42 42 47 a.text b.text r s a.spelled b.spelled
+        (joined a.text b.text a.whole b.whole)).1 }
     go (lexeme l) (lexeme m) c a b =
         let x = a.longest m b.text s b.whole b.spelled in
         let y = b.longest l a.text r a.whole a.spelled in
-        let w = same_text a.text b.text r s (omega (arith, x, y)) (joined a.text b.text a.whole b.whole) in
-        record { part = ap lexeme (spells_one l m b.text c (subst (Spells l) w.0 a.spelled) b.spelled); rest = w.1 }
+        let w = same_text a.text b.text r s (omega (arith, x, y))
+                (joined a.text b.text a.whole b.whole) in
+        record { part = ap lexeme (spells_one l m b.text c (subst (Spells l) w.0 a.spelled)
+            b.spelled); rest = w.1 }
     go blank comment c a b = cc
     go comment blank c a b = cc
     go blank (lexeme l) c a b = absurd (no_blank_lexeme l c)

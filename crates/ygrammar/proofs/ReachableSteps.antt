@@ -1,5 +1,6 @@
 -- Marks that a worklist leaves, and the symbols that can be reached.
-use Rattle.std.proofs.Common.{ℕ, zero, suc, Bool, false, refl, ◌≡◌, ◌<◌, ◌≤◌, ◌⊎◌, List, length, get_or, slice_index, sym, ◌∙◌, ap, subst, inl, inr, EachIndex}
+use Rattle.std.proofs.Common.{ℕ, zero, suc, Bool, false, refl, ◌≡◌, ◌<◌, ◌≤◌, ◌⊎◌, List, length}
+use Rattle.std.proofs.Common.{get_or, slice_index, sym, ◌∙◌, ap, subst, inl, inr, EachIndex}
 use Rattle.std.specs.List.{Contains}
 use Rattle.std.proofs.Math.ListN.{replicate}
 use Rattle.std.proofs.lemmas.List.{length-map}
@@ -7,35 +8,53 @@ use Rattle.std.proofs.lemmas.List.Elements.{All-contains, All-from_get_or, Conta
 use Rattle.ygrammar.specs.Grammar.{ContextFree, Production}
 use Rattle.ygrammar.specs.Forms.{IsReachable, first, further}
 use Rattle.ygrammar.specs.Grammar.{RuleValue}
-use Rattle.ygrammar.specs.Marking.{IsMarked, IsUnmarked, IsSpread, unseen, ahead, spread, MarksReachable, bare_rule, numbered_grammar, rule_at}
+use Rattle.ygrammar.specs.Marking.{IsMarked, IsUnmarked, IsSpread, unseen, ahead, spread}
+use Rattle.ygrammar.specs.Marking.{MarksReachable, bare_rule, numbered_grammar, rule_at}
 use Rattle.ygrammar.proofs.MarkingSteps.{not_both, none_waits}
 
-either : (g : ContextFree) (m : List Bool) (s x : ℕ) → MarksReachable g m → IsReachable g x → IsMarked m s ⊎ (s ≡ x) → IsReachable g s
+either : (g : ContextFree) (m : List Bool) (s x : ℕ) → MarksReachable g m → IsReachable g x →
+    IsMarked m s ⊎ (s ≡ x) → IsReachable g s
 either g m s x f p (inl k) = f s k
 either g m s x f p (inr e) = subst (IsReachable g) (sym e) p
 
 -- one more symbol of a reachable rule is marked
-pub symbol_marked : (tokens symbols : ℕ) (rules : List RuleValue) (m m2 : List Bool) (r i x : ℕ) (body : List ℕ) → r < length rules → body ≡ (rule_at rules r).body → i < length body → x ≡ slice_index body i → ((t : ℕ) → IsMarked m2 t → IsMarked m t ⊎ (t ≡ x)) → IsReachable (numbered_grammar tokens symbols rules) (rule_at rules r).left → MarksReachable (numbered_grammar tokens symbols rules) m → MarksReachable (numbered_grammar tokens symbols rules) m2
+pub symbol_marked : (tokens symbols : ℕ) (rules : List RuleValue) (m m2 : List Bool) (r i x : ℕ)
+    (body : List ℕ) → r < length rules → body ≡ (rule_at rules r).body → i < length body →
+    x ≡ slice_index body i → ((t : ℕ) → IsMarked m2 t → IsMarked m t ⊎ (t ≡ x)) →
+    IsReachable (numbered_grammar tokens symbols rules) (rule_at rules r).left → MarksReachable
+    (numbered_grammar tokens symbols rules) m → MarksReachable
+    (numbered_grammar tokens symbols rules) m2
 symbol_marked tokens symbols rules m m2 r i x body h e l n only p f s k =
     let g = numbered_grammar tokens symbols rules in
-    let c : Contains (rule_at rules r).body x = subst (λ (b : List ℕ). Contains b x) e (subst (Contains body) (sym n) (Contains-get_or body i 0 l)) in
-    either g m s x f (further {r = r} (subst (λ (j : ℕ). r < j) (sym (length-map rules bare_rule)) h) p c) (only s k)
+    let c : Contains (rule_at rules r).body x = subst (λ (b : List ℕ). Contains b x) e
+            (subst (Contains body) (sym n) (Contains-get_or body i 0 l)) in
+    either g m s x f (further {r = r} (subst (λ (j : ℕ). r < j) (sym (length-map rules bare_rule))
+        h) p c) (only s k)
 
-pub first_marked : (tokens symbols : ℕ) (rules : List RuleValue) (m m2 : List Bool) (x : ℕ) → x ≡ (rule_at rules 0).left → ((t : ℕ) → IsMarked m2 t → IsMarked m t ⊎ (t ≡ x)) → MarksReachable (numbered_grammar tokens symbols rules) m → MarksReachable (numbered_grammar tokens symbols rules) m2
+pub first_marked : (tokens symbols : ℕ) (rules : List RuleValue) (m m2 : List Bool) (x : ℕ) →
+    x ≡ (rule_at rules 0).left → ((t : ℕ) → IsMarked m2 t → IsMarked m t ⊎ (t ≡ x)) → MarksReachable
+    (numbered_grammar tokens symbols rules) m → MarksReachable
+    (numbered_grammar tokens symbols rules) m2
 first_marked tokens symbols rules m m2 x e only f s k =
     let g = numbered_grammar tokens symbols rules in
     either g m s x f (subst (IsReachable g) (sym e) first) (only s k)
 
-closed_by : (p : Production) (m : List Bool) (o : List ℕ) (n : ℕ) → length o ≤ n → IsSpread p m o n → IsMarked m p.left → EachIndex p.body (λ k. IsMarked m (slice_index p.body k))
+closed_by : (p : Production) (m : List Bool) (o : List ℕ) (n : ℕ) → length o ≤ n →
+    IsSpread p m o n → IsMarked m p.left → EachIndex p.body (λ k. IsMarked m (slice_index p.body k))
 closed_by p m o n z (unseen u) k = absurd (not_both (get_or m p.left false) k u)
 closed_by p m o n z (ahead w) k = absurd (none_waits o n p.left z w)
 closed_by p m o n z (spread f) k = f
 
-pub all_marked : (tokens symbols : ℕ) (rules : List RuleValue) (m : List Bool) (o : List ℕ) (n : ℕ) → length o ≤ n → ((r : ℕ) → r < length rules → IsSpread (rule_at rules r) m o n) → IsMarked m (rule_at rules 0).left → (s : ℕ) → IsReachable (numbered_grammar tokens symbols rules) s → IsMarked m s
+pub all_marked : (tokens symbols : ℕ) (rules : List RuleValue) (m : List Bool) (o : List ℕ)
+    (n : ℕ) → length o ≤ n → ((r : ℕ) → r < length rules → IsSpread (rule_at rules r) m o n) →
+    IsMarked m (rule_at rules 0).left →
+    (s : ℕ) → IsReachable (numbered_grammar tokens symbols rules) s → IsMarked m s
 all_marked tokens symbols rules m o n z c b s first = b
 all_marked tokens symbols rules m o n z c b s (further {r = r} h p k) =
     let body = (rule_at rules r).body in
-    let f = closed_by (rule_at rules r) m o n z (c r (subst (λ (j : ℕ). r < j) (length-map rules bare_rule) h)) (all_marked tokens symbols rules m o n z c b (rule_at rules r).left p) in
+    let f = closed_by (rule_at rules r) m o n z
+            (c r (subst (λ (j : ℕ). r < j) (length-map rules bare_rule) h))
+            (all_marked tokens symbols rules m o n z c b (rule_at rules r).left p) in
     All-contains (IsMarked m) body s (All-from_get_or (IsMarked m) body 0 f) k
 
 blank_at : (n s : ℕ) → get_or (replicate n false) s false ≡ false

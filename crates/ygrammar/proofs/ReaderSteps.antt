@@ -1,19 +1,24 @@
 -- A file has one grammar or one fault.
-use Rattle.std.proofs.Common.{ℕ, ◌≡◌, ◌<◌, ◌≤◌, ◌⊎◌, inl, inr, List, Result, Ok, Err, refl, sym, ap, subst, arith, true, false}
+use Rattle.std.proofs.Common.{ℕ, ◌≡◌, ◌<◌, ◌≤◌, ◌⊎◌, inl, inr, List, Result, Ok, Err, refl, sym, ap}
+use Rattle.std.proofs.Common.{subst, arith, true, false}
 use Rattle.std.specs.Result.{IsErrOf}
 use Rattle.ygrammar.specs.declared.fault.SyntaxFault.{SyntaxFault}
 use Rattle.ygrammar.specs.declared.fault.SyntaxFault.TheVariants as syntax_faults
 use Rattle.ygrammar.specs.Answers.{Answers}
 use Rattle.ygrammar.specs.declared.fault.GrammarFault.{GrammarFault}
 use Rattle.ygrammar.specs.declared.mistake.Mistake.{Mistake}
-use Rattle.ygrammar.specs.declared.mistake.Mistake.TheVariants.{TokenLeft, Undefined, TwicePrecedence, BadNumber, BadStart, Unproductive, BadPrec, Limit}
+use Rattle.ygrammar.specs.declared.mistake.Mistake.TheVariants.{TokenLeft, Undefined}
+use Rattle.ygrammar.specs.declared.mistake.Mistake.TheVariants.{TwicePrecedence, BadNumber}
+use Rattle.ygrammar.specs.declared.mistake.Mistake.TheVariants.{BadStart, Unproductive, BadPrec}
+use Rattle.ygrammar.specs.declared.mistake.Mistake.TheVariants.{Limit}
 use Rattle.ygrammar.specs.declared.mistake.Refused.{Refused}
 use Rattle.ygrammar.specs.declared.mistake.Refused.TheVariants as refused
 use Rattle.ygrammar.specs.Cuttings.{Refusal}
 use Rattle.ygrammar.specs.Elaborated.{IsFirstRefused}
 use Rattle.ygrammar.specs.Faults.{IsRefusal, line_of, of_syntax}
 use Rattle.ygrammar.specs.Grammar.{GrammarValue}
-use Rattle.ygrammar.specs.GrammarOf.{AnswersGrammar, AnswersMistake, AnswersRefusal, HasTree, IsFaultOf, IsMistaken, mistake_at}
+use Rattle.ygrammar.specs.GrammarOf.{AnswersGrammar, AnswersMistake, AnswersRefusal, HasTree}
+use Rattle.ygrammar.specs.GrammarOf.{IsFaultOf, IsMistaken, mistake_at}
 use Rattle.ygrammar.specs.Lexemes.{Lexeme}
 use Rattle.ygrammar.specs.Meaning.{IsMeaning}
 use Rattle.ygrammar.specs.Mistakes.{IsFirst, order}
@@ -38,15 +43,21 @@ unfolding lexemes_of
 same_tree t u a b e = one_tree u t b a (ap (lexemes_of (yield u)) e)
 
 -- a file has one grammar
-pub same_grammar : (source : List ℕ) (t u : Tree) (g h : GrammarValue) → u ≡ t → IsMeaning t g → IsMeaning u h → g ≡ h
+pub same_grammar : (source : List ℕ) (t u : Tree) (g h : GrammarValue) → u ≡ t → IsMeaning t g →
+    IsMeaning u h → g ≡ h
 same_grammar source t u g h e a b = one_meaning t g h a (subst (λ x. IsMeaning x h) e b)
 
 -- a file with a grammar has no mistake
-pub no_grammar : (source : List ℕ) (t u : Tree) (e : Refused) (f : GrammarFault) (h : GrammarValue) → u ≡ t → IsFirstRefused t e → IsRefusal source e f → IsMeaning u h → AnswersGrammar (Err f) h
-no_grammar source t u (refused.Mistake what at) f h e first is m = absurd (none_first t order what (subst (λ x. IsMeaning x h) e m).sound first)
-no_grammar source t u refused.Memory f h e first is m = subst (λ (x : GrammarFault). AnswersGrammar (Err x) h) (sym is) tt
+pub no_grammar : (source : List ℕ) (t u : Tree) (e : Refused) (f : GrammarFault)
+    (h : GrammarValue) → u ≡ t → IsFirstRefused t e → IsRefusal source e f → IsMeaning u h →
+    AnswersGrammar (Err f) h
+no_grammar source t u (refused.Mistake what at) f h e first is m =
+    absurd (none_first t order what (subst (λ x. IsMeaning x h) e m).sound first)
+no_grammar source t u refused.Memory f h e first is m =
+    subst (λ (x : GrammarFault). AnswersGrammar (Err x) h) (sym is) tt
 
-mistaken : (source : List ℕ) (m : Mistake) (line : ℕ) → IsMistaken source m → IsFaultOf source (mistake_at m line)
+mistaken : (source : List ℕ) (m : Mistake) (line : ℕ) → IsMistaken source m → IsFaultOf source
+    (mistake_at m line)
 mistaken source TokenLeft line p = p
 mistaken source Undefined line p = p
 mistaken source TwicePrecedence line p = p
@@ -57,9 +68,13 @@ mistaken source BadPrec line p = p
 mistaken source Limit line p = p
 
 -- the mistake of the tree is the fault of the file
-pub fault_of : (source : List ℕ) (t : Tree) (e : Refused) (f : GrammarFault) → HasTree source t → IsFirstRefused t e → IsRefusal source e f → IsFaultOf source f
-fault_of source t (refused.Mistake what at) f h first is = subst (λ (x : GrammarFault). IsFaultOf source x) (sym is) (mistaken source what (line_of source at) (t, h, first))
-fault_of source t refused.Memory f h first is = subst (λ (x : GrammarFault). IsFaultOf source x) (sym is) tt
+pub fault_of : (source : List ℕ) (t : Tree) (e : Refused) (f : GrammarFault) → HasTree source t →
+    IsFirstRefused t e → IsRefusal source e f → IsFaultOf source f
+fault_of source t (refused.Mistake what at) f h first is =
+    subst (λ (x : GrammarFault). IsFaultOf source x) (sym is)
+    (mistaken source what (line_of source at) (t, h, first))
+fault_of source t refused.Memory f h first is = subst (λ (x : GrammarFault). IsFaultOf source x)
+    (sym is) tt
 
 -- ---- the other direction
 
@@ -68,10 +83,13 @@ err_of f = Err f
 
 -- a file whose lexemes are read has no fault of the syntax
 pub read_no_fault : (ls : List Lexeme) (r : Refusal) (A : Type 0) → read ls ≡ Err r → A
-read_no_fault ls r A e = absurd (false_true (ap (λ (o : Result (List Lexeme) Refusal). elim o [ Ok y ↦ false | Err d ↦ true ]) e))
+read_no_fault ls r A e = absurd
+    (false_true (ap (λ (o : Result (List Lexeme) Refusal). elim o [ Ok y ↦ false | Err d ↦ true ])
+    e))
 
 -- the fault of the syntax that is answered is the file's
-pub same_refusal : (e : SyntaxFault) (r : Refusal) → Answers (Err e) (Err r) → AnswersRefusal (err_of (of_syntax e)) r
+pub same_refusal : (e : SyntaxFault) (r : Refusal) → Answers (Err e) (Err r) → AnswersRefusal
+    (err_of (of_syntax e)) r
 same_refusal (syntax_faults.Unfinished line) r h = cc
 same_refusal (syntax_faults.BadLiteral line) r h = cc
 same_refusal (syntax_faults.Foreign line) r h = cc
@@ -91,15 +109,21 @@ answers_mistake BadPrec line = (line, refl)
 answers_mistake Limit line = (line, refl)
 
 -- the mistake that is answered is the file's first
-pub same_mistake : (source : List ℕ) (t u : Tree) (e : Refused) (f : GrammarFault) (m : Mistake) → u ≡ t → IsFirstRefused t e → IsRefusal source e f → IsFirst u order m → AnswersMistake (err_of f) m
+pub same_mistake : (source : List ℕ) (t u : Tree) (e : Refused) (f : GrammarFault) (m : Mistake) →
+    u ≡ t → IsFirstRefused t e → IsRefusal source e f → IsFirst u order m → AnswersMistake
+    (err_of f) m
 same_mistake source t u (refused.Mistake what at) f m e first is h =
     let same : what ≡ m = one_first t order what m first (subst (λ x. IsFirst x order m) e h) in
-    subst (λ x. AnswersMistake (err_of x) m) (sym is) (subst (λ x. AnswersMistake (err_of (mistake_at what (line_of source at))) x) same (answers_mistake what (line_of source at)))
-same_mistake source t u refused.Memory f m e first is h = subst (λ x. AnswersMistake (err_of x) m) (sym is) tt
+    subst (λ x. AnswersMistake (err_of x) m) (sym is)
+        (subst (λ x. AnswersMistake (err_of (mistake_at what (line_of source at))) x) same
+        (answers_mistake what (line_of source at)))
+same_mistake source t u refused.Memory f m e first is h = subst (λ x. AnswersMistake (err_of x) m)
+    (sym is) tt
 
 -- an answer is no error
 pub ok_err : {T E : Type 0} (x : T) (e : E) → IsErrOf (ok_of {E = E} x) e → ⊥
-ok_err {T = T} {E = E} x e h = false_true (sym (ap (λ (r : Result T E). elim r [ Ok y ↦ true | Err d ↦ false ]) h))
+ok_err {T = T} {E = E} x e h =
+    false_true (sym (ap (λ (r : Result T E). elim r [ Ok y ↦ true | Err d ↦ false ]) h))
 
 pub not_long : (n : ℕ) → (1048576 < n → ⊥) → n ≤ 1048576
 not_long n h = go (long_or n)

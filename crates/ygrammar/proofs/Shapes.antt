@@ -1,12 +1,28 @@
 -- What the recogniser accepts is derived: each state stands for forms, as in a bottom-up parse.
-use Rattle.std.proofs.Common.{◌≡◌, List, [], ◌∷◌, ◌++◌, map, Option, Some, None, true, false, refl, ap, ◌∙◌, subst, append_assoc, append-nil}
+use Rattle.std.proofs.Common.{◌≡◌, List, [], ◌∷◌, ◌++◌, map, Option, Some, None, true, false, refl}
+use Rattle.std.proofs.Common.{ap, ◌∙◌, subst, append_assoc, append-nil}
 use Rattle.ygrammar.specs.declared.kind.Kind.{Kind}
 use Rattle.ygrammar.specs.declared.kind.Kind.TheVariants as kind
 use Rattle.ygrammar.specs.declared.recogniser.State.{State}
-use Rattle.ygrammar.specs.declared.recogniser.State.TheVariants.{Declarations, StartWord, UnionWord, ListWord, ListTagOpen, ListTagName, ListTagged, Listed, Numbered, TypeWord, TypeTagOpen, TypeTagName, TypeTagged, Typed, RulesMark, Body, PrecWord, PrecNamed, Semicolons, End}
+use Rattle.ygrammar.specs.declared.recogniser.State.TheVariants.{Declarations, StartWord, UnionWord}
+use Rattle.ygrammar.specs.declared.recogniser.State.TheVariants.{ListWord, ListTagOpen, ListTagName}
+use Rattle.ygrammar.specs.declared.recogniser.State.TheVariants.{ListTagged, Listed, Numbered}
+use Rattle.ygrammar.specs.declared.recogniser.State.TheVariants.{TypeWord, TypeTagOpen, TypeTagName}
+use Rattle.ygrammar.specs.declared.recogniser.State.TheVariants.{TypeTagged, Typed, RulesMark, Body}
+use Rattle.ygrammar.specs.declared.recogniser.State.TheVariants.{PrecWord, PrecNamed, Semicolons}
+use Rattle.ygrammar.specs.declared.recogniser.State.TheVariants.{End}
 use Rattle.ygrammar.specs.Derivation.{Derives, done}
-use Rattle.ygrammar.specs.Syntax.{Symbol, lexeme, spec, tail, defs, def, rword, tag, nlist, nmno, identifier, tlist, rules, rule, rbody, prec, Production, spec_is, tail_mark, tail_empty, defs_empty, defs_more, def_start, def_union, def_code, def_list, def_type, rword_token, rword_left, rword_right, rword_nonassoc, tag_empty, tag_name, nlist_one, nlist_more, nmno_plain, nmno_number, identifier_name, identifier_literal, tlist_one, tlist_more, rules_one, rules_more, rule_head, rule_bar, rbody_empty, rbody_symbol, rbody_act, prec_empty, prec_named, prec_act, prec_semicolon, IsSpec}
-use Rattle.ygrammar.specs.Recogniser.{after_definition, after_rule, next_state, reached, is_final, is_final_at, run}
+use Rattle.ygrammar.specs.Syntax.{Symbol, lexeme, spec, tail, defs, def, rword, tag, nlist, nmno}
+use Rattle.ygrammar.specs.Syntax.{identifier, tlist, rules, rule, rbody, prec, Production, spec_is}
+use Rattle.ygrammar.specs.Syntax.{tail_mark, tail_empty, defs_empty, defs_more, def_start}
+use Rattle.ygrammar.specs.Syntax.{def_union, def_code, def_list, def_type, rword_token, rword_left}
+use Rattle.ygrammar.specs.Syntax.{rword_right, rword_nonassoc, tag_empty, tag_name, nlist_one}
+use Rattle.ygrammar.specs.Syntax.{nlist_more, nmno_plain, nmno_number, identifier_name}
+use Rattle.ygrammar.specs.Syntax.{identifier_literal, tlist_one, tlist_more, rules_one, rules_more}
+use Rattle.ygrammar.specs.Syntax.{rule_head, rule_bar, rbody_empty, rbody_symbol, rbody_act}
+use Rattle.ygrammar.specs.Syntax.{prec_empty, prec_named, prec_act, prec_semicolon, IsSpec}
+use Rattle.ygrammar.specs.Recogniser.{after_definition, after_rule, next_state, reached, is_final}
+use Rattle.ygrammar.specs.Recogniser.{is_final_at, run}
 use Rattle.ygrammar.proofs.Derivations.{trans, within, replaced}
 use Rattle.ygrammar.proofs.Accepted.{lost}
 
@@ -29,7 +45,8 @@ before tagged = defs ∷ rword ∷ tag ∷ []
 before more = defs ∷ rword ∷ tag ∷ nlist ∷ []
 
 data Shape : Type 0 where
-  declared start_word union_word list_word tag_open tag_named list_tagged listed_first listed_more numbered : Shape
+  declared start_word union_word list_word tag_open tag_named list_tagged listed_first listed_more
+      numbered : Shape
   type_word type_open type_named type_tagged typed rules_mark whole : Shape
   body prec_word prec_read semicolons : Front → Shape
 
@@ -70,8 +87,10 @@ form numbered = defs ∷ rword ∷ tag ∷ nlist ∷ []
 form type_word = defs ∷ lexeme kind.Types ∷ []
 form type_open = defs ∷ lexeme kind.Types ∷ lexeme kind.Less ∷ []
 form type_named = defs ∷ lexeme kind.Types ∷ lexeme kind.Less ∷ lexeme kind.Name ∷ []
-form type_tagged = defs ∷ lexeme kind.Types ∷ lexeme kind.Less ∷ lexeme kind.Name ∷ lexeme kind.Greater ∷ []
-form typed = defs ∷ lexeme kind.Types ∷ lexeme kind.Less ∷ lexeme kind.Name ∷ lexeme kind.Greater ∷ tlist ∷ []
+form type_tagged = defs ∷ lexeme kind.Types ∷ lexeme kind.Less ∷ lexeme kind.Name ∷ lexeme
+    kind.Greater ∷ []
+form typed = defs ∷ lexeme kind.Types ∷ lexeme kind.Less ∷ lexeme kind.Name ∷ lexeme kind.Greater ∷
+    tlist ∷ []
 form rules_mark = defs ∷ lexeme kind.Mark ∷ []
 form whole = spec ∷ []
 form (body f) = front f ++ rbody ∷ []
@@ -83,7 +102,8 @@ abbrev Form : List Symbol → List Symbol → Type 0
 Form x y = Derives Production x y
 
 -- one production behind a front, and then a derivation
-at : (a b : List Symbol) (n : Symbol) (w : List Symbol) {z : List Symbol} → Production n w → Form (a ++ (w ++ b)) z → Form (a ++ n ∷ b) z
+at : (a b : List Symbol) (n : Symbol) (w : List Symbol) {z : List Symbol} → Production n w →
+    Form (a ++ (w ++ b)) z → Form (a ++ n ∷ b) z
 at a b n w p d = trans (replaced n w a b p) d
 
 -- the state, if there is one, has a shape from which the form is derived
@@ -109,7 +129,8 @@ front_defs = defs ∷ []
 a_definition : (k : Kind) → MovedTo (after_definition k) (defs ∷ lexeme k ∷ [])
 a_definition kind.Start = by start_word done
 a_definition kind.Union = by union_word done
-a_definition kind.Code = by declared (at [] [] defs _ defs_more (at (defs ∷ []) [] def _ def_code done))
+a_definition kind.Code = by declared
+    (at [] [] defs _ defs_more (at (defs ∷ []) [] def _ def_code done))
 a_definition kind.Token = by list_word (at (defs ∷ []) [] rword _ rword_token done)
 a_definition kind.Left = by list_word (at (defs ∷ []) [] rword _ rword_left done)
 a_definition kind.Right = by list_word (at (defs ∷ []) [] rword _ rword_right done)
@@ -122,49 +143,72 @@ listed_done : Form (defs ∷ []) (defs ∷ rword ∷ tag ∷ nlist ∷ [])
 listed_done = at [] [] defs _ defs_more (at (defs ∷ []) [] def _ def_list done)
 
 -- from a shape between two declarations
-between : (g : List Symbol) (k : Kind) → Form (defs ∷ []) g → MovedTo (after_definition k) (g ++ lexeme k ∷ [])
+between : (g : List Symbol) (k : Kind) → Form (defs ∷ []) g → MovedTo (after_definition k)
+    (g ++ lexeme k ∷ [])
 between g k d = weaken (after_definition k) (a_definition k) (within [] (lexeme k ∷ []) d)
 
 first_listed : Form (defs ∷ []) (defs ∷ rword ∷ tag ∷ identifier ∷ [])
-first_listed = trans listed_done (at (defs ∷ rword ∷ tag ∷ []) [] nlist _ nlist_one (at (defs ∷ rword ∷ tag ∷ []) [] nmno _ nmno_plain done))
+first_listed = trans listed_done (at (defs ∷ rword ∷ tag ∷ []) [] nlist _ nlist_one
+    (at (defs ∷ rword ∷ tag ∷ []) [] nmno _ nmno_plain done))
 
 more_listed : Form (defs ∷ []) (defs ∷ rword ∷ tag ∷ nlist ∷ identifier ∷ [])
-more_listed = trans listed_done (at (defs ∷ rword ∷ tag ∷ []) [] nlist _ nlist_more (at (defs ∷ rword ∷ tag ∷ nlist ∷ []) [] nmno _ nmno_plain done))
+more_listed = trans listed_done (at (defs ∷ rword ∷ tag ∷ []) [] nlist _ nlist_more
+    (at (defs ∷ rword ∷ tag ∷ nlist ∷ []) [] nmno _ nmno_plain done))
 
-typed_done : Form (defs ∷ []) (defs ∷ lexeme kind.Types ∷ lexeme kind.Less ∷ lexeme kind.Name ∷ lexeme kind.Greater ∷ tlist ∷ [])
+typed_done : Form (defs ∷ []) (defs ∷ lexeme kind.Types ∷ lexeme kind.Less ∷ lexeme kind.Name ∷
+    lexeme kind.Greater ∷ tlist ∷ [])
 typed_done = at [] [] defs _ defs_more (at (defs ∷ []) [] def _ def_type done)
 
 -- a further entry, behind one that has no number yet
-next_entry : (g : List Symbol) (k : Kind) (p : Production identifier (lexeme k ∷ [])) → Form (defs ∷ rword ∷ tag ∷ nlist ∷ []) g → Form (defs ∷ rword ∷ tag ∷ nlist ∷ identifier ∷ []) (g ++ lexeme k ∷ [])
-next_entry g k p d = at (defs ∷ rword ∷ tag ∷ nlist ∷ []) [] identifier _ p (within [] (lexeme k ∷ []) d)
+next_entry : (g : List Symbol) (k : Kind) (p : Production identifier (lexeme k ∷ [])) →
+    Form (defs ∷ rword ∷ tag ∷ nlist ∷ []) g → Form (defs ∷ rword ∷ tag ∷ nlist ∷ identifier ∷ [])
+    (g ++ lexeme k ∷ [])
+next_entry g k p d = at (defs ∷ rword ∷ tag ∷ nlist ∷ []) [] identifier _ p
+    (within [] (lexeme k ∷ []) d)
 
 first_entry : Form (defs ∷ rword ∷ tag ∷ nlist ∷ []) (defs ∷ rword ∷ tag ∷ identifier ∷ [])
-first_entry = at (defs ∷ rword ∷ tag ∷ []) [] nlist _ nlist_one (at (defs ∷ rword ∷ tag ∷ []) [] nmno _ nmno_plain done)
+first_entry = at (defs ∷ rword ∷ tag ∷ []) [] nlist _ nlist_one
+    (at (defs ∷ rword ∷ tag ∷ []) [] nmno _ nmno_plain done)
 
 more_entry : Form (defs ∷ rword ∷ tag ∷ nlist ∷ []) (defs ∷ rword ∷ tag ∷ nlist ∷ identifier ∷ [])
-more_entry = at (defs ∷ rword ∷ tag ∷ []) [] nlist _ nlist_more (at (defs ∷ rword ∷ tag ∷ nlist ∷ []) [] nmno _ nmno_plain done)
+more_entry = at (defs ∷ rword ∷ tag ∷ []) [] nlist _ nlist_more
+    (at (defs ∷ rword ∷ tag ∷ nlist ∷ []) [] nmno _ nmno_plain done)
 
 -- a rule is done
 ruled : (f : Front) → Form (defs ∷ lexeme kind.Mark ∷ rules ∷ []) (front f ++ rbody ∷ prec ∷ [])
 ruled first = at (defs ∷ lexeme kind.Mark ∷ []) [] rules _ rules_one done
-ruled head = at (defs ∷ lexeme kind.Mark ∷ []) [] rules _ rules_more (at (defs ∷ lexeme kind.Mark ∷ rules ∷ []) [] rule _ rule_head done)
-ruled bar = at (defs ∷ lexeme kind.Mark ∷ []) [] rules _ rules_more (at (defs ∷ lexeme kind.Mark ∷ rules ∷ []) [] rule _ rule_bar done)
+ruled head = at (defs ∷ lexeme kind.Mark ∷ []) [] rules _ rules_more
+    (at (defs ∷ lexeme kind.Mark ∷ rules ∷ []) [] rule _ rule_head done)
+ruled bar = at (defs ∷ lexeme kind.Mark ∷ []) [] rules _ rules_more
+    (at (defs ∷ lexeme kind.Mark ∷ rules ∷ []) [] rule _ rule_bar done)
 
 -- the second mark
-marked : (g : List Symbol) → Form (defs ∷ lexeme kind.Mark ∷ rules ∷ []) g → Form (spec ∷ []) (g ++ lexeme kind.Mark ∷ [])
-marked g d = at [] [] spec _ spec_is (at (defs ∷ lexeme kind.Mark ∷ rules ∷ []) [] tail _ tail_mark (within [] (lexeme kind.Mark ∷ []) d))
+marked : (g : List Symbol) → Form (defs ∷ lexeme kind.Mark ∷ rules ∷ []) g → Form (spec ∷ [])
+    (g ++ lexeme kind.Mark ∷ [])
+marked g d = at [] [] spec _ spec_is (at (defs ∷ lexeme kind.Mark ∷ rules ∷ []) [] tail _ tail_mark
+    (within [] (lexeme kind.Mark ∷ []) d))
 
 -- a lexeme behind a rule that is done
-rule_then : (f : Front) (k : Kind) → MovedTo (after_rule k) (front f ++ rbody ∷ prec ∷ lexeme k ∷ [])
-rule_then first kind.Semicolon = by (semicolons first) (at (front first ++ rbody ∷ []) [] prec _ prec_semicolon done)
-rule_then head kind.Semicolon = by (semicolons head) (at (front head ++ rbody ∷ []) [] prec _ prec_semicolon done)
-rule_then bar kind.Semicolon = by (semicolons bar) (at (front bar ++ rbody ∷ []) [] prec _ prec_semicolon done)
-rule_then first kind.Head = by (body head) (at (front head) [] rbody _ rbody_empty (within [] (lexeme kind.Head ∷ []) (ruled first)))
-rule_then head kind.Head = by (body head) (at (front head) [] rbody _ rbody_empty (within [] (lexeme kind.Head ∷ []) (ruled head)))
-rule_then bar kind.Head = by (body head) (at (front head) [] rbody _ rbody_empty (within [] (lexeme kind.Head ∷ []) (ruled bar)))
-rule_then first kind.Bar = by (body bar) (at (front bar) [] rbody _ rbody_empty (within [] (lexeme kind.Bar ∷ []) (ruled first)))
-rule_then head kind.Bar = by (body bar) (at (front bar) [] rbody _ rbody_empty (within [] (lexeme kind.Bar ∷ []) (ruled head)))
-rule_then bar kind.Bar = by (body bar) (at (front bar) [] rbody _ rbody_empty (within [] (lexeme kind.Bar ∷ []) (ruled bar)))
+rule_then : (f : Front) (k : Kind) → MovedTo (after_rule k)
+    (front f ++ rbody ∷ prec ∷ lexeme k ∷ [])
+rule_then first kind.Semicolon = by (semicolons first)
+    (at (front first ++ rbody ∷ []) [] prec _ prec_semicolon done)
+rule_then head kind.Semicolon = by (semicolons head)
+    (at (front head ++ rbody ∷ []) [] prec _ prec_semicolon done)
+rule_then bar kind.Semicolon = by (semicolons bar)
+    (at (front bar ++ rbody ∷ []) [] prec _ prec_semicolon done)
+rule_then first kind.Head = by (body head) (at (front head) [] rbody _ rbody_empty
+    (within [] (lexeme kind.Head ∷ []) (ruled first)))
+rule_then head kind.Head = by (body head) (at (front head) [] rbody _ rbody_empty
+    (within [] (lexeme kind.Head ∷ []) (ruled head)))
+rule_then bar kind.Head = by (body head) (at (front head) [] rbody _ rbody_empty
+    (within [] (lexeme kind.Head ∷ []) (ruled bar)))
+rule_then first kind.Bar = by (body bar) (at (front bar) [] rbody _ rbody_empty
+    (within [] (lexeme kind.Bar ∷ []) (ruled first)))
+rule_then head kind.Bar = by (body bar) (at (front bar) [] rbody _ rbody_empty
+    (within [] (lexeme kind.Bar ∷ []) (ruled head)))
+rule_then bar kind.Bar = by (body bar) (at (front bar) [] rbody _ rbody_empty
+    (within [] (lexeme kind.Bar ∷ []) (ruled bar)))
 rule_then first kind.Mark = by whole (marked (front first ++ rbody ∷ prec ∷ []) (ruled first))
 rule_then head kind.Mark = by whole (marked (front head ++ rbody ∷ prec ∷ []) (ruled head))
 rule_then bar kind.Mark = by whole (marked (front bar ++ rbody ∷ prec ∷ []) (ruled bar))
@@ -172,26 +216,39 @@ rule_then _ _ = tt
 
 -- a lexeme behind a body without `%prec`
 body_then : (f : Front) (k : Kind) → MovedTo (after_rule k) (front f ++ rbody ∷ lexeme k ∷ [])
-body_then first k = weaken (after_rule k) (rule_then first k) (replaced prec [] (front first ++ rbody ∷ []) (lexeme k ∷ []) prec_empty)
-body_then head k = weaken (after_rule k) (rule_then head k) (replaced prec [] (front head ++ rbody ∷ []) (lexeme k ∷ []) prec_empty)
-body_then bar k = weaken (after_rule k) (rule_then bar k) (replaced prec [] (front bar ++ rbody ∷ []) (lexeme k ∷ []) prec_empty)
+body_then first k = weaken (after_rule k) (rule_then first k)
+    (replaced prec [] (front first ++ rbody ∷ []) (lexeme k ∷ []) prec_empty)
+body_then head k = weaken (after_rule k) (rule_then head k)
+    (replaced prec [] (front head ++ rbody ∷ []) (lexeme k ∷ []) prec_empty)
+body_then bar k = weaken (after_rule k) (rule_then bar k)
+    (replaced prec [] (front bar ++ rbody ∷ []) (lexeme k ∷ []) prec_empty)
 
-named_then : (f : Front) (k : Kind) → MovedTo (after_rule k) (front f ++ rbody ∷ lexeme kind.Prec ∷ identifier ∷ lexeme k ∷ [])
-named_then first k = weaken (after_rule k) (rule_then first k) (replaced prec _ (front first ++ rbody ∷ []) (lexeme k ∷ []) prec_named)
-named_then head k = weaken (after_rule k) (rule_then head k) (replaced prec _ (front head ++ rbody ∷ []) (lexeme k ∷ []) prec_named)
-named_then bar k = weaken (after_rule k) (rule_then bar k) (replaced prec _ (front bar ++ rbody ∷ []) (lexeme k ∷ []) prec_named)
+named_then : (f : Front) (k : Kind) → MovedTo (after_rule k)
+    (front f ++ rbody ∷ lexeme kind.Prec ∷ identifier ∷ lexeme k ∷ [])
+named_then first k = weaken (after_rule k) (rule_then first k)
+    (replaced prec _ (front first ++ rbody ∷ []) (lexeme k ∷ []) prec_named)
+named_then head k = weaken (after_rule k) (rule_then head k)
+    (replaced prec _ (front head ++ rbody ∷ []) (lexeme k ∷ []) prec_named)
+named_then bar k = weaken (after_rule k) (rule_then bar k)
+    (replaced prec _ (front bar ++ rbody ∷ []) (lexeme k ∷ []) prec_named)
 
-in_body : (f : Front) (k : Kind) → Production rbody (rbody ∷ lexeme k ∷ []) → Form (front f ++ rbody ∷ []) ((front f ++ rbody ∷ []) ++ lexeme k ∷ [])
+in_body : (f : Front) (k : Kind) → Production rbody (rbody ∷ lexeme k ∷ []) →
+    Form (front f ++ rbody ∷ []) ((front f ++ rbody ∷ []) ++ lexeme k ∷ [])
 in_body first k p = at (front first) [] rbody _ p done
 in_body head k p = at (front head) [] rbody _ p done
 in_body bar k p = at (front bar) [] rbody _ p done
 
-symbol_in_body : (f : Front) (k : Kind) → Production identifier (lexeme k ∷ []) → Form (front f ++ rbody ∷ []) ((front f ++ rbody ∷ []) ++ lexeme k ∷ [])
-symbol_in_body first k p = at (front first) [] rbody _ rbody_symbol (at (front first ++ rbody ∷ []) [] identifier _ p done)
-symbol_in_body head k p = at (front head) [] rbody _ rbody_symbol (at (front head ++ rbody ∷ []) [] identifier _ p done)
-symbol_in_body bar k p = at (front bar) [] rbody _ rbody_symbol (at (front bar ++ rbody ∷ []) [] identifier _ p done)
+symbol_in_body : (f : Front) (k : Kind) → Production identifier (lexeme k ∷ []) →
+    Form (front f ++ rbody ∷ []) ((front f ++ rbody ∷ []) ++ lexeme k ∷ [])
+symbol_in_body first k p = at (front first) [] rbody _ rbody_symbol
+    (at (front first ++ rbody ∷ []) [] identifier _ p done)
+symbol_in_body head k p = at (front head) [] rbody _ rbody_symbol
+    (at (front head ++ rbody ∷ []) [] identifier _ p done)
+symbol_in_body bar k p = at (front bar) [] rbody _ rbody_symbol
+    (at (front bar ++ rbody ∷ []) [] identifier _ p done)
 
-prec_name : (f : Front) (k : Kind) → Production identifier (lexeme k ∷ []) → Form (form (prec_read f)) (form (prec_word f) ++ lexeme k ∷ [])
+prec_name : (f : Front) (k : Kind) → Production identifier (lexeme k ∷ []) →
+    Form (form (prec_read f)) (form (prec_word f) ++ lexeme k ∷ [])
 prec_name first k p = at (front first ++ rbody ∷ lexeme kind.Prec ∷ []) [] identifier _ p done
 prec_name head k p = at (front head ++ rbody ∷ lexeme kind.Prec ∷ []) [] identifier _ p done
 prec_name bar k p = at (front bar ++ rbody ∷ lexeme kind.Prec ∷ []) [] identifier _ p done
@@ -208,32 +265,51 @@ prec_begun bar = done
 
 moved : (s : Shape) (k : Kind) → MovedTo (next_state (state s) k) (form s ++ lexeme k ∷ [])
 moved declared k = a_definition k
-moved start_word kind.Name = by declared (at [] [] defs _ defs_more (at (defs ∷ []) [] def _ def_start (at (defs ∷ lexeme kind.Start ∷ []) [] identifier _ identifier_name done)))
-moved start_word kind.Literal = by declared (at [] [] defs _ defs_more (at (defs ∷ []) [] def _ def_start (at (defs ∷ lexeme kind.Start ∷ []) [] identifier _ identifier_literal done)))
+moved start_word kind.Name =
+    by declared (at [] [] defs _ defs_more (at (defs ∷ []) [] def _ def_start
+    (at (defs ∷ lexeme kind.Start ∷ []) [] identifier _ identifier_name done)))
+moved start_word kind.Literal =
+    by declared (at [] [] defs _ defs_more (at (defs ∷ []) [] def _ def_start
+    (at (defs ∷ lexeme kind.Start ∷ []) [] identifier _ identifier_literal done)))
 moved start_word _ = tt
-moved union_word kind.Act = by declared (at [] [] defs _ defs_more (at (defs ∷ []) [] def _ def_union done))
+moved union_word kind.Act =
+    by declared (at [] [] defs _ defs_more (at (defs ∷ []) [] def _ def_union done))
 moved union_word _ = tt
 moved list_word kind.Less = by tag_open done
-moved list_word kind.Name = by listed_first (at (defs ∷ rword ∷ []) (identifier ∷ []) tag _ tag_empty (at (defs ∷ rword ∷ []) [] identifier _ identifier_name done))
-moved list_word kind.Literal = by listed_first (at (defs ∷ rword ∷ []) (identifier ∷ []) tag _ tag_empty (at (defs ∷ rword ∷ []) [] identifier _ identifier_literal done))
+moved list_word kind.Name = by listed_first
+    (at (defs ∷ rword ∷ []) (identifier ∷ []) tag _ tag_empty
+    (at (defs ∷ rword ∷ []) [] identifier _ identifier_name done))
+moved list_word kind.Literal = by listed_first
+    (at (defs ∷ rword ∷ []) (identifier ∷ []) tag _ tag_empty
+    (at (defs ∷ rword ∷ []) [] identifier _ identifier_literal done))
 moved list_word _ = tt
 moved tag_open kind.Name = by tag_named done
 moved tag_open _ = tt
 moved tag_named kind.Greater = by list_tagged (at (defs ∷ rword ∷ []) [] tag _ tag_name done)
 moved tag_named _ = tt
-moved list_tagged kind.Name = by listed_first (at (defs ∷ rword ∷ tag ∷ []) [] identifier _ identifier_name done)
-moved list_tagged kind.Literal = by listed_first (at (defs ∷ rword ∷ tag ∷ []) [] identifier _ identifier_literal done)
+moved list_tagged kind.Name = by listed_first
+    (at (defs ∷ rword ∷ tag ∷ []) [] identifier _ identifier_name done)
+moved list_tagged kind.Literal = by listed_first
+    (at (defs ∷ rword ∷ tag ∷ []) [] identifier _ identifier_literal done)
 moved list_tagged _ = tt
-moved listed_first kind.Number = by numbered (at (defs ∷ rword ∷ tag ∷ []) [] nlist _ nlist_one (at (defs ∷ rword ∷ tag ∷ []) [] nmno _ nmno_number done))
-moved listed_first kind.Name = by listed_more (next_entry (form listed_first) kind.Name identifier_name first_entry)
-moved listed_first kind.Literal = by listed_more (next_entry (form listed_first) kind.Literal identifier_literal first_entry)
+moved listed_first kind.Number = by numbered (at (defs ∷ rword ∷ tag ∷ []) [] nlist _ nlist_one
+    (at (defs ∷ rword ∷ tag ∷ []) [] nmno _ nmno_number done))
+moved listed_first kind.Name = by listed_more
+    (next_entry (form listed_first) kind.Name identifier_name first_entry)
+moved listed_first kind.Literal = by listed_more
+    (next_entry (form listed_first) kind.Literal identifier_literal first_entry)
 moved listed_first k = between (form listed_first) k first_listed
-moved listed_more kind.Number = by numbered (at (defs ∷ rword ∷ tag ∷ []) [] nlist _ nlist_more (at (defs ∷ rword ∷ tag ∷ nlist ∷ []) [] nmno _ nmno_number done))
-moved listed_more kind.Name = by listed_more (next_entry (form listed_more) kind.Name identifier_name more_entry)
-moved listed_more kind.Literal = by listed_more (next_entry (form listed_more) kind.Literal identifier_literal more_entry)
+moved listed_more kind.Number = by numbered (at (defs ∷ rword ∷ tag ∷ []) [] nlist _ nlist_more
+    (at (defs ∷ rword ∷ tag ∷ nlist ∷ []) [] nmno _ nmno_number done))
+moved listed_more kind.Name = by listed_more
+    (next_entry (form listed_more) kind.Name identifier_name more_entry)
+moved listed_more kind.Literal = by listed_more
+    (next_entry (form listed_more) kind.Literal identifier_literal more_entry)
 moved listed_more k = between (form listed_more) k more_listed
-moved numbered kind.Name = by listed_more (next_entry (form numbered) kind.Name identifier_name done)
-moved numbered kind.Literal = by listed_more (next_entry (form numbered) kind.Literal identifier_literal done)
+moved numbered kind.Name = by listed_more (next_entry (form numbered) kind.Name identifier_name
+    done)
+moved numbered kind.Literal = by listed_more
+    (next_entry (form numbered) kind.Literal identifier_literal done)
 moved numbered k = between (form numbered) k listed_done
 moved type_word kind.Less = by type_open done
 moved type_word _ = tt
@@ -267,7 +343,8 @@ moved (semicolons head) k = rule_then head k
 moved (semicolons bar) k = rule_then bar k
 
 file_ends : (f : Front) → Form (spec ∷ []) (front f ++ rbody ∷ prec ∷ [])
-file_ends f = at [] [] spec _ spec_is (at (defs ∷ lexeme kind.Mark ∷ rules ∷ []) [] tail _ tail_empty (ruled f))
+file_ends f = at [] [] spec _ spec_is (at (defs ∷ lexeme kind.Mark ∷ rules ∷ []) [] tail _
+    tail_empty (ruled f))
 
 body_final : (f : Front) → Form (front f ++ rbody ∷ prec ∷ []) (front f ++ rbody ∷ [])
 body_final first = replaced prec [] (front first ++ rbody ∷ []) [] prec_empty
@@ -286,17 +363,24 @@ final (semicolons f) e = file_ends f
 final whole e = done
 final _ e = cc
 
-derived_from : (s : Shape) (x : List Symbol) (ks : List Kind) → Form (form s) x → is_final_at (reached (Some (state s)) ks) ≡ true → Form (spec ∷ []) (x ++ map lexeme ks)
+derived_from : (s : Shape) (x : List Symbol) (ks : List Kind) → Form (form s) x →
+    is_final_at (reached (Some (state s)) ks) ≡ true → Form (spec ∷ []) (x ++ map lexeme ks)
 derived_from s x [] d e = rw append-nil (trans (final s e) d)
 derived_from s x (k ∷ ks) d e =
     subst (Form (spec ∷ [])) (append_assoc x (lexeme k ∷ []) (map lexeme ks))
     (go (next_state (state s) k) (moved s k) e (λ t y. derived_from t y ks))
   where
-    go : (o : Option State) → MovedTo o (form s ++ lexeme k ∷ []) → is_final_at (reached o ks) ≡ true
-        → ((t : Shape) (y : List Symbol) → Form (form t) y → is_final_at (reached (Some (state t)) ks) ≡ true → Form (spec ∷ []) (y ++ map lexeme ks))
+    go : (o : Option State) → MovedTo o (form s ++ lexeme k ∷ []) → is_final_at (reached o ks) ≡
+        true
+        → ((t : Shape) (y : List Symbol) → Form (form t) y →
+            is_final_at (reached (Some (state t)) ks) ≡ true → Form (spec ∷ [])
+            (y ++ map lexeme ks))
         → Form (spec ∷ []) ((x ++ lexeme k ∷ []) ++ map lexeme ks)
-    go None m h again = let n : is_final_at (reached None ks) ≡ false = ap is_final_at (lost ks) in cc
-    go (Some q) m h again = again m.shape (x ++ lexeme k ∷ []) (trans m.derives (within [] (lexeme k ∷ []) d)) (ap (λ p. is_final_at (reached (Some p) ks)) m.in_state ∙ h)
+    go None m h again = let n : is_final_at (reached None ks) ≡ false = ap is_final_at (lost ks) in
+        cc
+    go (Some q) m h again = again m.shape (x ++ lexeme k ∷ [])
+        (trans m.derives (within [] (lexeme k ∷ []) d))
+        (ap (λ p. is_final_at (reached (Some p) ks)) m.in_state ∙ h)
 
 -- what the recogniser accepts is derived
 pub derived : (ks : List Kind) → run Declarations ks ≡ true → IsSpec ks

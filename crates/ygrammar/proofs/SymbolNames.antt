@@ -1,54 +1,77 @@
 -- The names that stand in a file, and that none of them begins with a dollar sign.
-use Rattle.std.proofs.Common.{ℕ, filter, Bool, true, false, cond, ◌==◌, ◌||◌, ◌≡◌, List, [], ◌∷◌, ◌++◌, map, Option, Some, None, refl, sym, ◌∙◌, ap, subst, arith, codes, get_or}
+use Rattle.std.proofs.Common.{ℕ, filter, Bool, true, false, cond, ◌==◌, ◌||◌, ◌≡◌, List, [], ◌∷◌}
+use Rattle.std.proofs.Common.{◌++◌, map, Option, Some, None, refl, sym, ◌∙◌, ap, subst, arith}
+use Rattle.std.proofs.Common.{codes, get_or}
 use Rattle.std.specs.List.{flat_map, AllByRecursion}
 use Rattle.std.proofs.lemmas.Bool.Decides.{nat_tests}
 use Rattle.ygrammar.specs.declared.precedence.Precedence.{Precedence}
 use Rattle.ygrammar.specs.declared.kind.Sign.TheVariants as sign
 use Rattle.ygrammar.specs.Bytes.{begins, is_name_start}
-use Rattle.ygrammar.specs.Lexemes.{Lexeme, name, head, literal, number, act, code, fixed, IsName, Spells}
-use Rattle.ygrammar.specs.Cuttings.{Part, blank, comment, lexeme, Cuts, ComesTo, IsCut, at_end, at_mark, SpellsSyntax, lexemes}
-use Rattle.ygrammar.specs.Tree.{Identifier, named, quoted, Entry, Definition, start, union, block, listing, types, Item, symbol, action, Clause, Tree, identifier_yield, option_yield, entry_yield, tag_yield, definition_yield, item_yield, left_yield, end_yield, clause_yield, mark_yield, yield}
+use Rattle.ygrammar.specs.Lexemes.{Lexeme, name, head, literal, number, act, code, fixed, IsName}
+use Rattle.ygrammar.specs.Lexemes.{Spells}
+use Rattle.ygrammar.specs.Cuttings.{Part, blank, comment, lexeme, Cuts, ComesTo, IsCut, at_end}
+use Rattle.ygrammar.specs.Cuttings.{at_mark, SpellsSyntax, lexemes}
+use Rattle.ygrammar.specs.Tree.{Identifier, named, quoted, Entry, Definition, start, union, block}
+use Rattle.ygrammar.specs.Tree.{listing, types, Item, symbol, action, Clause, Tree}
+use Rattle.ygrammar.specs.Tree.{identifier_yield, option_yield, entry_yield, tag_yield}
+use Rattle.ygrammar.specs.Tree.{definition_yield, item_yield, left_yield, end_yield, clause_yield}
+use Rattle.ygrammar.specs.Tree.{mark_yield, yield}
 use Rattle.ygrammar.specs.Names.{Name, is_among, printed, printed_literal}
-use Rattle.ygrammar.specs.Elaboration.{appearances, declared, inner_name, is_literal, is_token, item_identifier, lefts, level_at, given_by, clause_left, listed_name, listing_of, listings, listings_from, option_list, prec_of, typed, types_of, used, uses, who_of}
+use Rattle.ygrammar.specs.Elaboration.{appearances, declared, inner_name, is_literal, is_token}
+use Rattle.ygrammar.specs.Elaboration.{item_identifier, lefts, level_at, given_by, clause_left}
+use Rattle.ygrammar.specs.Elaboration.{listed_name, listing_of, listings, listings_from}
+use Rattle.ygrammar.specs.Elaboration.{option_list, prec_of, typed, types_of, used, uses, who_of}
 use Rattle.ygrammar.proofs.TellingSteps.{false_true, other_name}
 
 -- ---- what holds of each element
 
-pub each_left : {A : Type 0} (P : A → Type 0) (xs ys : List A) → AllByRecursion P (xs ++ ys) → AllByRecursion P xs
+pub each_left : {A : Type 0} (P : A → Type 0) (xs ys : List A) → AllByRecursion P (xs ++ ys) →
+    AllByRecursion P xs
 each_left P [] ys h = tt
 each_left P (x ∷ xs) ys h = (h.0, each_left P xs ys h.1)
 
-pub each_right : {A : Type 0} (P : A → Type 0) (xs ys : List A) → AllByRecursion P (xs ++ ys) → AllByRecursion P ys
+pub each_right : {A : Type 0} (P : A → Type 0) (xs ys : List A) → AllByRecursion P (xs ++ ys) →
+    AllByRecursion P ys
 each_right P [] ys h = h
 each_right P (x ∷ xs) ys h = each_right P xs ys h.1
 
-pub each_join : {A : Type 0} (P : A → Type 0) (xs ys : List A) → AllByRecursion P xs → AllByRecursion P ys → AllByRecursion P (xs ++ ys)
+pub each_join : {A : Type 0} (P : A → Type 0) (xs ys : List A) → AllByRecursion P xs →
+    AllByRecursion P ys → AllByRecursion P (xs ++ ys)
 each_join P [] ys h k = k
 each_join P (x ∷ xs) ys h k = (h.0, each_join P xs ys h.1 k)
 
-pub each_weaker : {A : Type 0} (P Q : A → Type 0) → ((x : A) → P x → Q x) → (xs : List A) → AllByRecursion P xs → AllByRecursion Q xs
+pub each_weaker : {A : Type 0} (P Q : A → Type 0) → ((x : A) → P x → Q x) → (xs : List A) →
+    AllByRecursion P xs → AllByRecursion Q xs
 each_weaker P Q f [] h = tt
 each_weaker P Q f (x ∷ xs) h = (f x h.0, each_weaker P Q f xs h.1)
 
-pub each_to_map : {A B : Type 0} (P : B → Type 0) (f : A → B) (xs : List A) → AllByRecursion (λ x. P (f x)) xs → AllByRecursion P (map f xs)
+pub each_to_map : {A B : Type 0} (P : B → Type 0) (f : A → B) (xs : List A) → AllByRecursion
+    (λ x. P (f x)) xs → AllByRecursion P (map f xs)
 each_to_map P f [] h = tt
 each_to_map P f (x ∷ xs) h = (h.0, each_to_map P f xs h.1)
 
-pub each_from_map : {A B : Type 0} (P : B → Type 0) (f : A → B) (xs : List A) → AllByRecursion P (map f xs) → AllByRecursion (λ x. P (f x)) xs
+pub each_from_map : {A B : Type 0} (P : B → Type 0) (f : A → B) (xs : List A) → AllByRecursion P
+    (map f xs) → AllByRecursion (λ x. P (f x)) xs
 each_from_map P f [] h = tt
 each_from_map P f (x ∷ xs) h = (h.0, each_from_map P f xs h.1)
 
-pub each_filter : {A : Type 0} (P : A → Type 0) (p : A → Bool) (xs : List A) → AllByRecursion P xs → AllByRecursion P (filter p xs)
+pub each_filter : {A : Type 0} (P : A → Type 0) (p : A → Bool) (xs : List A) → AllByRecursion P xs →
+    AllByRecursion P (filter p xs)
 each_filter P p [] h = tt
 each_filter P p (x ∷ xs) h = one (p x) (each_filter P p xs h.1)
   where
-    one : (b : Bool) → AllByRecursion P (filter p xs) → AllByRecursion P (cond b (x ∷ filter p xs) (filter p xs))
+    one : (b : Bool) → AllByRecursion P (filter p xs) → AllByRecursion P
+        (cond b (x ∷ filter p xs) (filter p xs))
     one true k = (h.0, k)
     one false k = k
 
-pub each_piece : {A B C : Type 0} (P : B → Type 0) (Q : C → Type 0) (f : A → List B) (g : A → List C) → ((x : A) → AllByRecursion P (f x) → AllByRecursion Q (g x)) → (xs : List A) → AllByRecursion P (flat_map f xs) → AllByRecursion Q (flat_map g xs)
+pub each_piece : {A B C : Type 0} (P : B → Type 0) (Q : C → Type 0) (f : A → List B)
+    (g : A → List C) → ((x : A) → AllByRecursion P (f x) → AllByRecursion Q (g x)) → (xs : List A) →
+    AllByRecursion P (flat_map f xs) → AllByRecursion Q (flat_map g xs)
 each_piece P Q f g h [] a = tt
-each_piece P Q f g h (x ∷ xs) a = each_join Q (g x) (flat_map g xs) (h x (each_left P (f x) (flat_map f xs) a)) (each_piece P Q f g h xs (each_right P (f x) (flat_map f xs) a))
+each_piece P Q f g h (x ∷ xs) a = each_join Q (g x) (flat_map g xs)
+    (h x (each_left P (f x) (flat_map f xs) a))
+    (each_piece P Q f g h xs (each_right P (f x) (flat_map f xs) a))
 
 -- ---- names of the file
 
@@ -81,47 +104,63 @@ spelled_named (act t) text h = tt
 spelled_named code text h = tt
 spelled_named (fixed s) text h = tt
 
-parts_named : (ps : List Part) (bytes rest : List ℕ) → Cuts bytes ps rest → AllByRecursion LexemeNamed (lexemes ps)
+parts_named : (ps : List Part) (bytes rest : List ℕ) → Cuts bytes ps rest →
+    AllByRecursion LexemeNamed (lexemes ps)
 parts_named [] bytes rest h = tt
 parts_named (blank ∷ ps) bytes rest h = parts_named ps h.0 rest h.2
 parts_named (comment ∷ ps) bytes rest h = parts_named ps h.0 rest h.2
-parts_named (lexeme l ∷ ps) bytes rest h = let p = h.1 in (spelled_named l p.text p.spelled, parts_named ps h.0 rest h.2)
+parts_named (lexeme l ∷ ps) bytes rest h = let p = h.1 in
+    (spelled_named l p.text p.spelled, parts_named ps h.0 rest h.2)
 
-comes_named : {bytes : List ℕ} {ls : List Lexeme} {rest : List ℕ} → ComesTo bytes ls rest → AllByRecursion LexemeNamed ls
-comes_named {bytes = bytes} {rest = rest} c = subst (AllByRecursion LexemeNamed) c.read (parts_named c.parts bytes rest c.cut)
+comes_named : {bytes : List ℕ} {ls : List Lexeme} {rest : List ℕ} → ComesTo bytes ls rest →
+    AllByRecursion LexemeNamed ls
+comes_named {bytes = bytes} {rest = rest} c = subst (AllByRecursion LexemeNamed) c.read
+    (parts_named c.parts bytes rest c.cut)
 
 cut_named : {bytes : List ℕ} {ls : List Lexeme} → IsCut bytes ls → AllByRecursion LexemeNamed ls
 cut_named (at_end c) = comes_named c
-cut_named (at_mark {ls = ls} c e p) = each_join LexemeNamed ls (fixed sign.Mark ∷ []) (comes_named c) (tt, tt)
+cut_named (at_mark {ls = ls} c e p) = each_join LexemeNamed ls (fixed sign.Mark ∷ [])
+    (comes_named c) (tt, tt)
 
 identifier_named : (i : Identifier) → LexemeNamed (identifier_yield i) → Named i
 identifier_named (named n) h = h
 identifier_named (quoted v) h = tt
 
-entries_named : (es : List Entry) → AllByRecursion LexemeNamed (flat_map entry_yield es) → AllByRecursion Named (map who_of es)
+entries_named : (es : List Entry) → AllByRecursion LexemeNamed (flat_map entry_yield es) →
+    AllByRecursion Named (map who_of es)
 entries_named [] h = tt
-entries_named (e ∷ es) h = (identifier_named e.who h.0, entries_named es (each_right LexemeNamed (option_yield (λ ds. number ds ∷ []) e.digits) (flat_map entry_yield es) h.1))
+entries_named (e ∷ es) h =
+    (identifier_named e.who h.0, entries_named es
+    (each_right LexemeNamed (option_yield (λ ds. number ds ∷ []) e.digits) (flat_map entry_yield es)
+    h.1))
 
-declared_named : (d : Definition) → AllByRecursion LexemeNamed (definition_yield d) → AllByRecursion Named (declared d)
+declared_named : (d : Definition) → AllByRecursion LexemeNamed (definition_yield d) →
+    AllByRecursion Named (declared d)
 declared_named (start i) h = (identifier_named i h.1.0, tt)
 declared_named (union t) h = tt
 declared_named block h = tt
-declared_named (listing w tag es) h = entries_named es (each_right LexemeNamed (option_yield tag_yield tag) (flat_map entry_yield es) h.1)
+declared_named (listing w tag es) h = entries_named es
+    (each_right LexemeNamed (option_yield tag_yield tag) (flat_map entry_yield es) h.1)
 declared_named (types tag ns) h = tt
 
-typed_named : (d : Definition) → AllByRecursion LexemeNamed (definition_yield d) → AllByRecursion IsName (typed d)
+typed_named : (d : Definition) → AllByRecursion LexemeNamed (definition_yield d) →
+    AllByRecursion IsName (typed d)
 typed_named (start i) h = tt
 typed_named (union t) h = tt
 typed_named block h = tt
 typed_named (listing w tag es) h = tt
-typed_named (types tag ns) h = each_from_map LexemeNamed name ns (each_right LexemeNamed (tag_yield tag) (map name ns) h.1)
+typed_named (types tag ns) h = each_from_map LexemeNamed name ns
+    (each_right LexemeNamed (tag_yield tag) (map name ns) h.1)
 
-items_named : (xs : List Item) → AllByRecursion LexemeNamed (map item_yield xs) → AllByRecursion Named (flat_map item_identifier xs)
+items_named : (xs : List Item) → AllByRecursion LexemeNamed (map item_yield xs) →
+    AllByRecursion Named (flat_map item_identifier xs)
 items_named [] h = tt
 items_named (symbol i ∷ xs) h = (identifier_named i h.0, items_named xs h.1)
 items_named (action t ∷ xs) h = items_named xs h.1
 
-prec_named : (o : Option Identifier) → AllByRecursion LexemeNamed (option_yield (λ i. fixed sign.Prec ∷ identifier_yield i ∷ []) o) → AllByRecursion Named (option_list o)
+prec_named : (o : Option Identifier) → AllByRecursion LexemeNamed
+    (option_yield (λ i. fixed sign.Prec ∷ identifier_yield i ∷ []) o) → AllByRecursion Named
+    (option_list o)
 prec_named None h = tt
 prec_named (Some i) h = (identifier_named i h.1.0, tt)
 
@@ -129,25 +168,39 @@ left_named : (o : Option Name) → LexemeNamed (left_yield o) → AllByRecursion
 left_named None h = tt
 left_named (Some n) h = (h, tt)
 
-used_named : (c : Clause) → AllByRecursion LexemeNamed (clause_yield c) → AllByRecursion Named (used c)
+used_named : (c : Clause) → AllByRecursion LexemeNamed (clause_yield c) → AllByRecursion Named
+    (used c)
 used_named c h =
     let e : List Lexeme = end_yield c.prec c.last c.semicolons in
     each_join Named (flat_map item_identifier c.body) (prec_of c)
     (items_named c.body (each_left LexemeNamed (map item_yield c.body) e h.1))
-    (prec_named c.prec (each_left LexemeNamed (option_yield (λ i. fixed sign.Prec ∷ identifier_yield i ∷ []) c.prec) _ (each_right LexemeNamed (map item_yield c.body) e h.1)))
+    (prec_named c.prec (each_left LexemeNamed
+        (option_yield (λ i. fixed sign.Prec ∷ identifier_yield i ∷ []) c.prec) _
+        (each_right LexemeNamed (map item_yield c.body) e h.1)))
 
-clause_named : (c : Clause) → AllByRecursion LexemeNamed (clause_yield c) → AllByRecursion IsName (clause_left c)
+clause_named : (c : Clause) → AllByRecursion LexemeNamed (clause_yield c) → AllByRecursion IsName
+    (clause_left c)
 clause_named c h = left_named c.left h.0
 
 -- a file that is spelled has names for its names
-pub spelled_names : (bytes : List ℕ) (ls : List Lexeme) (t : Tree) → SpellsSyntax bytes ls → ls ≡ yield t → IsNamed t
+pub spelled_names : (bytes : List ℕ) (ls : List Lexeme) (t : Tree) → SpellsSyntax bytes ls →
+    ls ≡ yield t → IsNamed t
 spelled_names bytes ls t s e =
-    let all : AllByRecursion LexemeNamed (yield t) = subst (AllByRecursion LexemeNamed) e (cut_named s.cut) in
-    let front : AllByRecursion LexemeNamed (flat_map definition_yield t.definitions) = each_left LexemeNamed (flat_map definition_yield t.definitions) (fixed sign.Mark ∷ (flat_map clause_yield t.clauses ++ mark_yield t.second_mark)) all in
-    let more : AllByRecursion LexemeNamed (fixed sign.Mark ∷ (flat_map clause_yield t.clauses ++ mark_yield t.second_mark)) = each_right LexemeNamed (flat_map definition_yield t.definitions) (fixed sign.Mark ∷ (flat_map clause_yield t.clauses ++ mark_yield t.second_mark)) all in
-    let back : AllByRecursion LexemeNamed (flat_map clause_yield t.clauses) = each_left LexemeNamed (flat_map clause_yield t.clauses) (mark_yield t.second_mark) more.1 in
+    let all : AllByRecursion LexemeNamed (yield t) = subst (AllByRecursion LexemeNamed) e
+            (cut_named s.cut) in
+    let front : AllByRecursion LexemeNamed (flat_map definition_yield t.definitions) =
+            each_left LexemeNamed (flat_map definition_yield t.definitions)
+            (fixed sign.Mark ∷ (flat_map clause_yield t.clauses ++ mark_yield t.second_mark)) all in
+    let more : AllByRecursion LexemeNamed
+            (fixed sign.Mark ∷ (flat_map clause_yield t.clauses ++ mark_yield t.second_mark)) =
+            each_right LexemeNamed (flat_map definition_yield t.definitions)
+            (fixed sign.Mark ∷ (flat_map clause_yield t.clauses ++ mark_yield t.second_mark)) all in
+    let back : AllByRecursion LexemeNamed (flat_map clause_yield t.clauses) = each_left LexemeNamed
+            (flat_map clause_yield t.clauses) (mark_yield t.second_mark) more.1 in
     record {
-      appear = each_join Named (flat_map declared t.definitions) (uses t) (each_piece LexemeNamed Named definition_yield declared declared_named t.definitions front) (each_piece LexemeNamed Named clause_yield used used_named t.clauses back);
+      appear = each_join Named (flat_map declared t.definitions) (uses t)
+          (each_piece LexemeNamed Named definition_yield declared declared_named t.definitions
+          front) (each_piece LexemeNamed Named clause_yield used used_named t.clauses back);
       lefts = each_piece LexemeNamed IsName clause_yield clause_left clause_named t.clauses back;
       types = each_piece LexemeNamed IsName definition_yield typed typed_named t.definitions front;
     }
@@ -194,14 +247,20 @@ inner_error k e = false_true (ap (λ (n : Name). get_or n 0 0 == 101) e)
 -- ---- which of them are tokens
 
 -- what holds of the names of all appearances holds of what is listed
-pub listed_each : (P : Name → Type 0) (k : ℕ) (ds : List Definition) → AllByRecursion (λ i. P (printed i)) (flat_map declared ds) → AllByRecursion (λ l. P (listed_name l)) (listings_from k ds)
+pub listed_each : (P : Name → Type 0) (k : ℕ) (ds : List Definition) → AllByRecursion
+    (λ i. P (printed i)) (flat_map declared ds) → AllByRecursion (λ l. P (listed_name l))
+    (listings_from k ds)
 listed_each P k [] h = tt
 listed_each P k (listing w tag es ∷ ds) h =
-    each_join (λ l. P (listed_name l)) (map (listing_of (given_by w (level_at w k))) es) (listings_from (level_at w k) ds)
-    (entries (given_by w (level_at w k)) es (each_left (λ i. P (printed i)) (map who_of es) (flat_map declared ds) h))
-    (listed_each P (level_at w k) ds (each_right (λ i. P (printed i)) (map who_of es) (flat_map declared ds) h))
+    each_join (λ l. P (listed_name l)) (map (listing_of (given_by w (level_at w k))) es)
+        (listings_from (level_at w k) ds)
+    (entries (given_by w (level_at w k)) es (each_left (λ i. P (printed i)) (map who_of es)
+        (flat_map declared ds) h))
+    (listed_each P (level_at w k) ds (each_right (λ i. P (printed i)) (map who_of es)
+        (flat_map declared ds) h))
   where
-    entries : (g : Option Precedence) (xs : List Entry) → AllByRecursion (λ i. P (printed i)) (map who_of xs) → AllByRecursion (λ l. P (listed_name l)) (map (listing_of g) xs)
+    entries : (g : Option Precedence) (xs : List Entry) → AllByRecursion (λ i. P (printed i))
+        (map who_of xs) → AllByRecursion (λ l. P (listed_name l)) (map (listing_of g) xs)
     entries g [] q = tt
     entries g (x ∷ xs) q = (q.0, entries g xs q.1)
 listed_each P k (start i ∷ ds) h = listed_each P k ds h.1
@@ -210,24 +269,38 @@ listed_each P k (block ∷ ds) h = listed_each P k ds h
 listed_each P k (types tag ns ∷ ds) h = listed_each P k ds h
 
 -- what holds of the names of all appearances, of the end and of `error` holds of the tokens
-pub tokens_each : (P : Name → Type 0) (t : Tree) → P (codes "$end") → P (codes "error") → AllByRecursion (λ i. P (printed i)) (appearances t) → AllByRecursion P (codes "$end" ∷ codes "error" ∷ (map listed_name (listings t) ++ map printed (filter is_literal (appearances t))))
+pub tokens_each : (P : Name → Type 0) (t : Tree) → P (codes "$end") → P (codes "error") →
+    AllByRecursion (λ i. P (printed i)) (appearances t) → AllByRecursion P
+    (codes "$end" ∷ codes "error" ∷ (map listed_name (listings t) ++ map printed
+    (filter is_literal (appearances t))))
 tokens_each P t a b h = (
   a,
   (
     b,
     each_join P (map listed_name (listings t)) (map printed (filter is_literal (appearances t)))
-        (each_to_map P listed_name (listings t) (listed_each P 0 t.definitions (each_left (λ i. P (printed i)) (flat_map declared t.definitions) (uses t) h)))
-        (each_to_map P printed (filter is_literal (appearances t)) (each_filter (λ i. P (printed i)) is_literal (appearances t) h)),
+        (each_to_map P listed_name (listings t)
+            (listed_each P 0 t.definitions
+            (each_left (λ i. P (printed i)) (flat_map declared t.definitions) (uses t) h)))
+        (each_to_map P printed (filter is_literal (appearances t))
+            (each_filter (λ i. P (printed i)) is_literal (appearances t) h)),
   ),
 )
 
-pub none_among : (ns : List Name) (x : Name) → AllByRecursion (λ n. n ≡ x → ⊥) ns → is_among ns x ≡ false
+pub none_among : (ns : List Name) (x : Name) → AllByRecursion (λ n. n ≡ x → ⊥) ns →
+    is_among ns x ≡ false
 none_among [] x h = refl
-none_among (n ∷ ns) x h = ap (λ b. b || is_among ns x) (other_name x n (λ e. h.0 (sym e))) ∙ none_among ns x h.1
+none_among (n ∷ ns) x h = ap (λ b. b || is_among ns x) (other_name x n (λ e. h.0 (sym e))) ∙
+    none_among ns x h.1
 
 -- a name with a dollar sign in front is no token but the end
-pub not_token : (t : Tree) (x : Name) → IsNamed t → dollar x ≡ true → (codes "$end" ≡ x → ⊥) → is_token t x ≡ false
-not_token t x h d e = none_among (codes "$end" ∷ codes "error" ∷ (map listed_name (listings t) ++ map printed (filter is_literal (appearances t)))) x (tokens_each (λ n. n ≡ x → ⊥) t e (λ q. plain_other (codes "error") x refl d q) (each_weaker Named (λ i. printed i ≡ x → ⊥) (λ i q r. plain_other (printed i) x (printed_plain i q) d r) (appearances t) h.appear))
+pub not_token : (t : Tree) (x : Name) → IsNamed t → dollar x ≡ true → (codes "$end" ≡ x → ⊥) →
+    is_token t x ≡ false
+not_token t x h d e = none_among
+    (codes "$end" ∷ codes "error" ∷ (map listed_name (listings t) ++ map printed
+    (filter is_literal (appearances t)))) x
+    (tokens_each (λ n. n ≡ x → ⊥) t e (λ q. plain_other (codes "error") x refl d q)
+    (each_weaker Named (λ i. printed i ≡ x → ⊥) (λ i q r. plain_other (printed i) x
+    (printed_plain i q) d r) (appearances t) h.appear))
 
 pub accept_token : (t : Tree) → IsNamed t → is_token t (codes "$accept") ≡ false
 accept_token t h = not_token t (codes "$accept") h refl end_accept

@@ -1,5 +1,7 @@
 -- What goes on behind a piece of a syntax tree, by the recogniser's states.
-use Rattle.std.proofs.Common.{ℕ, ◌≡◌, ◌<◌, ◌+◌, ◌-◌, ◌⊎◌, inl, inr, Bool, true, false, List, [], ◌∷◌, ◌++◌, map, length, Option, Some, None, IsSome, refl, sym, ap, ◌∙◌, subst, arith, append_assoc, append-nil, length-append}
+use Rattle.std.proofs.Common.{ℕ, ◌≡◌, ◌<◌, ◌+◌, ◌-◌, ◌⊎◌, inl, inr, Bool, true, false, List, []}
+use Rattle.std.proofs.Common.{◌∷◌, ◌++◌, map, length, Option, Some, None, IsSome, refl, sym, ap}
+use Rattle.std.proofs.Common.{◌∙◌, subst, arith, append_assoc, append-nil, length-append}
 use Rattle.std.proofs.lemmas.Grind.{flat_map-append}
 use Rattle.std.proofs.lemmas.List.{length-map, map-append, replicate_more}
 use Rattle.std.specs.List.{flat_map, AllByRecursion}
@@ -14,14 +16,21 @@ use Rattle.ygrammar.specs.declared.tree.NameAt.{NameAt}
 use Rattle.ygrammar.specs.TreeViews.{entry_view, name_view, option_view, clause_view}
 use Rattle.ygrammar.specs.declared.tree.Clause.{Clause as CodeClause}
 use Rattle.ygrammar.specs.declared.recogniser.State.{State}
-use Rattle.ygrammar.specs.declared.recogniser.State.TheVariants.{Declarations, StartWord, UnionWord, ListWord, ListTagOpen, ListTagName, ListTagged, Listed, Numbered, TypeWord, TypeTagOpen, TypeTagName, TypeTagged, Typed, RulesMark, Body, PrecWord, PrecNamed, Semicolons}
-use Rattle.ygrammar.specs.Recogniser.{on_name, on_identifier, on_less, on_greater, on_act, on_head, next_state, reached, is_final_at, run}
+use Rattle.ygrammar.specs.declared.recogniser.State.TheVariants.{Declarations, StartWord, UnionWord}
+use Rattle.ygrammar.specs.declared.recogniser.State.TheVariants.{ListWord, ListTagOpen, ListTagName}
+use Rattle.ygrammar.specs.declared.recogniser.State.TheVariants.{ListTagged, Listed, Numbered}
+use Rattle.ygrammar.specs.declared.recogniser.State.TheVariants.{TypeWord, TypeTagOpen, TypeTagName}
+use Rattle.ygrammar.specs.declared.recogniser.State.TheVariants.{TypeTagged, Typed, RulesMark, Body}
+use Rattle.ygrammar.specs.declared.recogniser.State.TheVariants.{PrecWord, PrecNamed, Semicolons}
+use Rattle.ygrammar.specs.Recogniser.{on_name, on_identifier, on_less, on_greater, on_act, on_head}
+use Rattle.ygrammar.specs.Recogniser.{next_state, reached, is_final_at, run}
 use Rattle.ygrammar.specs.Lexemes.{Lexeme, name, head, literal, number, act, fixed, kind_of}
 use Rattle.ygrammar.specs.Cuttings.{kinds}
 use Rattle.ygrammar.specs.Answers.{views}
 use Rattle.ygrammar.specs.Views.{lexeme_view}
 use Rattle.ygrammar.specs.Building.{NoneOf, NoItem, NoSign, Takes, EndsTag}
-use Rattle.ygrammar.specs.Tree.{Identifier, named, quoted, Item, symbol, action, identifier_yield, entry_yield, item_yield, left_yield, mark_yield, BeginsWithName}
+use Rattle.ygrammar.specs.Tree.{Identifier, named, quoted, Item, symbol, action, identifier_yield}
+use Rattle.ygrammar.specs.Tree.{entry_yield, item_yield, left_yield, mark_yield, BeginsWithName}
 
 -- lexemes that go on with a grammar file
 abbrev pub Goes : State → List Lexeme → Type 0
@@ -34,38 +43,45 @@ astray (k ∷ ks) h = cc
 
 -- ---- lexemes that a state asks for
 
-needs_name : (r : State) (l : Lexeme) (ls : List Lexeme) → is_final_at (reached (on_name r (kind_of l)) (kinds ls)) ≡ true → (n : List ℕ) × (l ≡ name n)
+needs_name : (r : State) (l : Lexeme) (ls : List Lexeme) →
+    is_final_at (reached (on_name r (kind_of l)) (kinds ls)) ≡ true → (n : List ℕ) × (l ≡ name n)
 needs_name r (name n) ls h = (n, refl)
 needs_name r (fixed sign.Mark) ls h = astray (kinds ls) h
 needs_name r (fixed _) ls h = astray (kinds ls) h
 needs_name r _ ls h = astray (kinds ls) h
 
-needs_identifier : (r : State) (l : Lexeme) (ls : List Lexeme) → is_final_at (reached (on_identifier r (kind_of l)) (kinds ls)) ≡ true → (i : Identifier) × (l ≡ identifier_yield i)
+needs_identifier : (r : State) (l : Lexeme) (ls : List Lexeme) →
+    is_final_at (reached (on_identifier r (kind_of l)) (kinds ls)) ≡ true → (i : Identifier) ×
+    (l ≡ identifier_yield i)
 needs_identifier r (name n) ls h = (named n, refl)
 needs_identifier r (literal v) ls h = (quoted v, refl)
 needs_identifier r (fixed sign.Mark) ls h = astray (kinds ls) h
 needs_identifier r (fixed _) ls h = astray (kinds ls) h
 needs_identifier r _ ls h = astray (kinds ls) h
 
-needs_greater : (r : State) (l : Lexeme) (ls : List Lexeme) → is_final_at (reached (on_greater r (kind_of l)) (kinds ls)) ≡ true → l ≡ fixed sign.Greater
+needs_greater : (r : State) (l : Lexeme) (ls : List Lexeme) →
+    is_final_at (reached (on_greater r (kind_of l)) (kinds ls)) ≡ true → l ≡ fixed sign.Greater
 needs_greater r (fixed sign.Greater) ls h = refl
 needs_greater r (fixed sign.Mark) ls h = astray (kinds ls) h
 needs_greater r (fixed _) ls h = astray (kinds ls) h
 needs_greater r _ ls h = astray (kinds ls) h
 
-needs_less : (r : State) (l : Lexeme) (ls : List Lexeme) → is_final_at (reached (on_less r (kind_of l)) (kinds ls)) ≡ true → l ≡ fixed sign.Less
+needs_less : (r : State) (l : Lexeme) (ls : List Lexeme) →
+    is_final_at (reached (on_less r (kind_of l)) (kinds ls)) ≡ true → l ≡ fixed sign.Less
 needs_less r (fixed sign.Less) ls h = refl
 needs_less r (fixed sign.Mark) ls h = astray (kinds ls) h
 needs_less r (fixed _) ls h = astray (kinds ls) h
 needs_less r _ ls h = astray (kinds ls) h
 
-needs_act : (r : State) (l : Lexeme) (ls : List Lexeme) → is_final_at (reached (on_act r (kind_of l)) (kinds ls)) ≡ true → (t : List ℕ) × (l ≡ act t)
+needs_act : (r : State) (l : Lexeme) (ls : List Lexeme) →
+    is_final_at (reached (on_act r (kind_of l)) (kinds ls)) ≡ true → (t : List ℕ) × (l ≡ act t)
 needs_act r (act t) ls h = (t, refl)
 needs_act r (fixed sign.Mark) ls h = astray (kinds ls) h
 needs_act r (fixed _) ls h = astray (kinds ls) h
 needs_act r _ ls h = astray (kinds ls) h
 
-needs_head : (r : State) (l : Lexeme) (ls : List Lexeme) → is_final_at (reached (on_head r (kind_of l)) (kinds ls)) ≡ true → (n : List ℕ) × (l ≡ head n)
+needs_head : (r : State) (l : Lexeme) (ls : List Lexeme) →
+    is_final_at (reached (on_head r (kind_of l)) (kinds ls)) ≡ true → (n : List ℕ) × (l ≡ head n)
 needs_head r (head n) ls h = (n, refl)
 needs_head r (fixed sign.Mark) ls h = astray (kinds ls) h
 needs_head r (fixed _) ls h = astray (kinds ls) h
@@ -73,29 +89,36 @@ needs_head r _ ls h = astray (kinds ls) h
 
 pub start_there : (ls : List Lexeme) → Goes StartWord ls → NoneOf identifier_yield ls → ⊥
 start_there [] h n = cc
-start_there (l ∷ ls) h n = let (i, e) = needs_identifier Declarations l ls h in n i ls (ap (λ z. z ∷ ls) e)
+start_there (l ∷ ls) h n = let (i, e) = needs_identifier Declarations l ls h in
+    n i ls (ap (λ z. z ∷ ls) e)
 
 pub prec_there : (ls : List Lexeme) → Goes PrecWord ls → NoneOf identifier_yield ls → ⊥
 prec_there [] h n = cc
-prec_there (l ∷ ls) h n = let (i, e) = needs_identifier PrecNamed l ls h in n i ls (ap (λ z. z ∷ ls) e)
+prec_there (l ∷ ls) h n = let (i, e) = needs_identifier PrecNamed l ls h in
+    n i ls (ap (λ z. z ∷ ls) e)
 
 pub entry_there : (ls : List Lexeme) → Goes ListTagged ls → NoneOf identifier_yield ls → ⊥
 entry_there [] h n = cc
-entry_there (l ∷ ls) h n = let (i, e) = needs_identifier Listed l ls h in n i ls (ap (λ z. z ∷ ls) e)
+entry_there (l ∷ ls) h n = let (i, e) = needs_identifier Listed l ls h in
+    n i ls (ap (λ z. z ∷ ls) e)
 
 pub union_there : (ls : List Lexeme) → Goes UnionWord ls → NoneOf act ls → ⊥
 union_there [] h n = cc
 union_there (l ∷ ls) h n = let (t, e) = needs_act Declarations l ls h in n t ls (ap (λ z. z ∷ ls) e)
 
-pub entries_some : (xs : List CodeEntry) (before after : List Lexeme) → before ≡ flat_map entry_yield (map entry_view xs) ++ after → Goes ListTagged before → NoneOf identifier_yield after → 0 < length xs
-entries_some [] before after e h n = absurd (entry_there before h (subst (NoneOf identifier_yield) (sym e) n))
+pub entries_some : (xs : List CodeEntry) (before after : List Lexeme) →
+    before ≡ flat_map entry_yield (map entry_view xs) ++ after → Goes ListTagged before →
+    NoneOf identifier_yield after → 0 < length xs
+entries_some [] before after e h n =
+    absurd (entry_there before h (subst (NoneOf identifier_yield) (sym e) n))
 entries_some (x ∷ xs) before after e h n = omega arith
 
 pub type_there : (ls : List Lexeme) → Goes TypeTagged ls → NoneOf name ls → ⊥
 type_there [] h n = cc
 type_there (l ∷ ls) h n = let (t, e) = needs_name Typed l ls h in n t ls (ap (λ z. z ∷ ls) e)
 
-pub names_some : (xs : List NameAt) (before after : List Lexeme) → before ≡ map name (map name_view xs) ++ after → Goes TypeTagged before → NoneOf name after → 0 < length xs
+pub names_some : (xs : List NameAt) (before after : List Lexeme) → before ≡ map name
+    (map name_view xs) ++ after → Goes TypeTagged before → NoneOf name after → 0 < length xs
 names_some [] before after e h n = absurd (type_there before h (subst (NoneOf name) (sym e) n))
 names_some (x ∷ xs) before after e h n = omega arith
 
@@ -109,15 +132,20 @@ left_there (l ∷ ls) h n = let (t, e) = needs_head Body l ls h in n (Some t) ls
 
 -- ---- identifiers
 
-pub after_identifier : (q r : State) → next_state q kind.Name ≡ Some r → next_state q kind.Literal ≡ Some r → (i : Identifier) (before after : List Lexeme) → Goes q before → before ≡ identifier_yield i ∷ after → Goes r after
-after_identifier q r e f (named n) before after h w = subst (λ o. is_final_at (reached o (kinds after)) ≡ true) e (subst (Goes q) w h)
-after_identifier q r e f (quoted v) before after h w = subst (λ o. is_final_at (reached o (kinds after)) ≡ true) f (subst (Goes q) w h)
+pub after_identifier : (q r : State) → next_state q kind.Name ≡ Some r →
+    next_state q kind.Literal ≡ Some r → (i : Identifier) (before after : List Lexeme) →
+    Goes q before → before ≡ identifier_yield i ∷ after → Goes r after
+after_identifier q r e f (named n) before after h w =
+    subst (λ o. is_final_at (reached o (kinds after)) ≡ true) e (subst (Goes q) w h)
+after_identifier q r e f (quoted v) before after h w =
+    subst (λ o. is_final_at (reached o (kinds after)) ≡ true) f (subst (Goes q) w h)
 
 -- ---- tags
 
 list_tag_closes : (n : List ℕ) (ls : List Lexeme) → Goes ListTagName ls → EndsTag (name n ∷ ls)
 list_tag_closes n [] h = cc
-list_tag_closes n (l ∷ ls) h = record { tag = n; rest = ls; whole = ap (λ z. name n ∷ z ∷ ls) (needs_greater ListTagged l ls h) }
+list_tag_closes n (l ∷ ls) h = record { tag = n; rest = ls; whole = ap (λ z. name n ∷ z ∷ ls)
+    (needs_greater ListTagged l ls h) }
 
 pub list_tag_ends : (ls : List Lexeme) → Goes ListTagOpen ls → EndsTag ls
 list_tag_ends [] h = cc
@@ -128,7 +156,8 @@ list_tag_ends (l ∷ ls) h =
 
 type_tag_closes : (n : List ℕ) (ls : List Lexeme) → Goes TypeTagName ls → EndsTag (name n ∷ ls)
 type_tag_closes n [] h = cc
-type_tag_closes n (l ∷ ls) h = record { tag = n; rest = ls; whole = ap (λ z. name n ∷ z ∷ ls) (needs_greater TypeTagged l ls h) }
+type_tag_closes n (l ∷ ls) h = record { tag = n; rest = ls; whole = ap (λ z. name n ∷ z ∷ ls)
+    (needs_greater TypeTagged l ls h) }
 
 pub type_tag_ends : (ls : List Lexeme) → Goes TypeTagOpen ls → EndsTag ls
 type_tag_ends [] h = cc
@@ -145,7 +174,8 @@ untagged (_ ∷ ls) h n = h
 
 -- ---- entries and names
 
-pub entry_goes : (d : Option (List ℕ)) (before after : List Lexeme) → Takes number d before after → Goes Listed before → Goes Numbered after
+pub entry_goes : (d : Option (List ℕ)) (before after : List Lexeme) → Takes number d before after →
+    Goes Listed before → Goes Numbered after
 entry_goes None before after (none, e) h = subst (Goes Numbered) e (go before none h)
   where
     go : (ls : List Lexeme) → NoneOf number ls → Goes Listed ls → Goes Numbered ls
@@ -164,7 +194,8 @@ tagged_numbered (fixed sign.Mark ∷ ls) h = astray (kinds ls) h
 tagged_numbered (fixed _ ∷ ls) h = astray (kinds ls) h
 tagged_numbered (_ ∷ ls) h = astray (kinds ls) h
 
-pub entries_end : (ls : List Lexeme) → Goes Numbered ls → NoneOf identifier_yield ls → Goes Declarations ls
+pub entries_end : (ls : List Lexeme) → Goes Numbered ls → NoneOf identifier_yield ls →
+    Goes Declarations ls
 entries_end [] h n = h
 entries_end (name m ∷ ls) h n = absurd (n (named m) ls refl)
 entries_end (literal v ∷ ls) h n = absurd (n (quoted v) ls refl)
@@ -188,12 +219,14 @@ names_end (_ ∷ ls) h n = h
 
 -- ---- rules
 
-pub body_goes : (i : Item) (before after : List Lexeme) → Goes Body before → before ≡ item_yield i ∷ after → Goes Body after
+pub body_goes : (i : Item) (before after : List Lexeme) → Goes Body before →
+    before ≡ item_yield i ∷ after → Goes Body after
 body_goes (symbol (named n)) before after h e = subst (Goes Body) e h
 body_goes (symbol (quoted v)) before after h e = subst (Goes Body) e h
 body_goes (action t) before after h e = subst (Goes Body) e h
 
-pub no_precedence : (ls : List Lexeme) → Goes Body ls → NoItem ls → NoSign sign.Prec ls → Goes Semicolons ls
+pub no_precedence : (ls : List Lexeme) → Goes Body ls → NoItem ls → NoSign sign.Prec ls →
+    Goes Semicolons ls
 no_precedence [] h n m = h
 no_precedence (name x ∷ ls) h n m = absurd (n (symbol (named x)) ls refl)
 no_precedence (literal v ∷ ls) h n m = absurd (n (symbol (quoted v)) ls refl)
@@ -202,7 +235,8 @@ no_precedence (fixed sign.Prec ∷ ls) h n m = absurd (m ls refl)
 no_precedence (fixed _ ∷ ls) h n m = h
 no_precedence (_ ∷ ls) h n m = h
 
-pub last_goes : (t : Option (List ℕ)) (before after : List Lexeme) → Takes act t before after → Goes PrecNamed before → Goes Semicolons after
+pub last_goes : (t : Option (List ℕ)) (before after : List Lexeme) → Takes act t before after →
+    Goes PrecNamed before → Goes Semicolons after
 last_goes None before after (none, e) h = subst (Goes Semicolons) e (go before none h)
   where
     go : (ls : List Lexeme) → NoneOf act ls → Goes PrecNamed ls → Goes Semicolons ls
@@ -213,23 +247,28 @@ last_goes None before after (none, e) h = subst (Goes Semicolons) e (go before n
     go (_ ∷ ls) n h = h
 last_goes (Some t) before after e h = subst (Goes PrecNamed) e h
 
-pub rules_begin : (ls : List Lexeme) → Goes RulesMark ls → Goes Semicolons ls × NoSign sign.Semicolon ls
+pub rules_begin : (ls : List Lexeme) → Goes RulesMark ls → Goes Semicolons ls ×
+    NoSign sign.Semicolon ls
 rules_begin [] h = cc
 rules_begin (l ∷ ls) h =
     let (n, e) = needs_head Body l ls h in
     let w : l ∷ ls ≡ head n ∷ ls = ap (λ z. z ∷ ls) e in
-    subst (λ z. Goes Semicolons z × NoSign sign.Semicolon z) (sym w) (subst (Goes RulesMark) w h, λ r f. cc)
+    subst (λ z. Goes Semicolons z × NoSign sign.Semicolon z) (sym w) (subst (Goes RulesMark) w h,
+        λ r f. cc)
 
-pub rule_goes : (left : Option (List ℕ)) (before after : List Lexeme) → Goes Semicolons before → before ≡ left_yield left ∷ after → Goes Body after
+pub rule_goes : (left : Option (List ℕ)) (before after : List Lexeme) → Goes Semicolons before →
+    before ≡ left_yield left ∷ after → Goes Body after
 rule_goes None before after h e = subst (Goes Semicolons) e h
 rule_goes (Some n) before after h e = subst (Goes Semicolons) e h
 
-first_named : (left : Option (List ℕ)) (ls : List Lexeme) → Goes RulesMark (left_yield left ∷ ls) → IsSome left
+first_named : (left : Option (List ℕ)) (ls : List Lexeme) → Goes RulesMark (left_yield left ∷ ls) →
+    IsSome left
 first_named (Some n) ls h = refl
 first_named None ls h = astray (kinds ls) h
 
 -- behind the second mark nothing follows
-pub rules_end : (ls : List Lexeme) → Goes Semicolons ls → NoSign sign.Semicolon ls → NoneOf left_yield ls → (b : Bool) × (ls ≡ mark_yield b)
+pub rules_end : (ls : List Lexeme) → Goes Semicolons ls → NoSign sign.Semicolon ls →
+    NoneOf left_yield ls → (b : Bool) × (ls ≡ mark_yield b)
 rules_end [] h n m = (false, refl)
 rules_end (fixed sign.Semicolon ∷ ls) h n m = absurd (n ls refl)
 rules_end (fixed sign.Bar ∷ ls) h n m = absurd (m None ls refl)
@@ -241,19 +280,28 @@ rules_end (_ ∷ ls) h n m = astray (kinds ls) h
 
 -- ---- one more piece
 
-pub one_more_piece : {A B : Type 0} (f : B → List Lexeme) (v : A → B) (xs new : List A) (x : A) (whole rest next : List Lexeme) → whole ≡ flat_map f (map v xs) ++ rest → rest ≡ f (v x) ++ next → new ≡ xs ++ x ∷ [] → whole ≡ flat_map f (map v new) ++ next
+pub one_more_piece : {A B : Type 0} (f : B → List Lexeme) (v : A → B) (xs new : List A) (x : A)
+    (whole rest next : List Lexeme) → whole ≡ flat_map f (map v xs) ++ rest →
+    rest ≡ f (v x) ++ next → new ≡ xs ++ x ∷ [] → whole ≡ flat_map f (map v new) ++ next
 one_more_piece f v xs new x whole rest next e g h =
     let made : flat_map f (map v new) ≡ flat_map f (map v xs) ++ f (v x) =
-    ap (λ z. flat_map f (map v z)) h ∙ ap (flat_map f) (map-append v xs (x ∷ [])) ∙ flat_map-append f (map v xs) (v x ∷ []) ∙ ap (λ z. flat_map f (map v xs) ++ z) (append-nil (f (v x))) in
-    e ∙ ap (λ z. flat_map f (map v xs) ++ z) g ∙ sym (append_assoc (flat_map f (map v xs)) (f (v x)) next) ∙ ap (λ z. z ++ next) (sym made)
+    ap (λ z. flat_map f (map v z)) h ∙ ap (flat_map f) (map-append v xs (x ∷ [])) ∙ flat_map-append
+        f (map v xs) (v x ∷ []) ∙ ap (λ z. flat_map f (map v xs) ++ z) (append-nil (f (v x))) in
+    e ∙ ap (λ z. flat_map f (map v xs) ++ z) g ∙ sym (append_assoc (flat_map f (map v xs))
+        (f (v x)) next) ∙ ap (λ z. z ++ next) (sym made)
 
-pub one_more_lexeme : {A B : Type 0} (f : B → Lexeme) (v : A → B) (xs new : List A) (x : A) (whole rest next : List Lexeme) → whole ≡ map f (map v xs) ++ rest → rest ≡ f (v x) ∷ next → new ≡ xs ++ x ∷ [] → whole ≡ map f (map v new) ++ next
+pub one_more_lexeme : {A B : Type 0} (f : B → Lexeme) (v : A → B) (xs new : List A) (x : A)
+    (whole rest next : List Lexeme) → whole ≡ map f (map v xs) ++ rest → rest ≡ f (v x) ∷ next →
+    new ≡ xs ++ x ∷ [] → whole ≡ map f (map v new) ++ next
 one_more_lexeme f v xs new x whole rest next e g h =
     let made : map f (map v new) ≡ map f (map v xs) ++ f (v x) ∷ [] =
-    ap (λ z. map f (map v z)) h ∙ ap (map f) (map-append v xs (x ∷ [])) ∙ map-append f (map v xs) (v x ∷ []) in
-    e ∙ ap (λ z. map f (map v xs) ++ z) g ∙ sym (append_assoc (map f (map v xs)) (f (v x) ∷ []) next) ∙ ap (λ z. z ++ next) (sym made)
+    ap (λ z. map f (map v z)) h ∙ ap (map f) (map-append v xs (x ∷ [])) ∙ map-append f (map v xs)
+        (v x ∷ []) in
+    e ∙ ap (λ z. map f (map v xs) ++ z) g ∙ sym
+        (append_assoc (map f (map v xs)) (f (v x) ∷ []) next) ∙ ap (λ z. z ++ next) (sym made)
 
-pub one_more_shaped : {A B : Type 0} (P : B → Type 0) (v : A → B) (xs new : List A) (x : A) → AllByRecursion P (map v xs) → P (v x) → new ≡ xs ++ x ∷ [] → AllByRecursion P (map v new)
+pub one_more_shaped : {A B : Type 0} (P : B → Type 0) (v : A → B) (xs new : List A) (x : A) →
+    AllByRecursion P (map v xs) → P (v x) → new ≡ xs ++ x ∷ [] → AllByRecursion P (map v new)
 one_more_shaped P v xs new x a p h = subst (λ z. AllByRecursion P (map v z)) (sym h) (go xs a)
   where
     go : (xs : _) → AllByRecursion P (map v xs) → AllByRecursion P (map v (xs ++ x ∷ []))
@@ -261,18 +309,24 @@ one_more_shaped P v xs new x a p h = subst (λ z. AllByRecursion P (map v z)) (s
     go (y ∷ ys) a = (a.0, go ys a.1)
 
 -- what follows a piece is shorter
-pub shorter : (rest next : List Placed) (l : Lexeme) (y : List Lexeme) → views rest ≡ l ∷ (y ++ views next) → length next < length rest
+pub shorter : (rest next : List Placed) (l : Lexeme) (y : List Lexeme) → views rest ≡ l ∷
+    (y ++ views next) → length next < length rest
 shorter rest next l y e =
     let a : length (views rest) ≡ length (l ∷ (y ++ views next)) = ap length e in
-    let b : length (y ++ views next) ≡ length y + length (views next) = length-append y (views next) in
-    let c : length (views rest) ≡ length rest = length-map rest (λ (p : Placed). lexeme_view p.lexeme) in
-    let d : length (views next) ≡ length next = length-map next (λ (p : Placed). lexeme_view p.lexeme) in
+    let b : length (y ++ views next) ≡ length y + length (views next) = length-append y
+            (views next) in
+    let c : length (views rest) ≡ length rest = length-map rest
+            (λ (p : Placed). lexeme_view p.lexeme) in
+    let d : length (views next) ≡ length next = length-map next
+            (λ (p : Placed). lexeme_view p.lexeme) in
     omega (arith, a, b, c, d)
 
 -- ---- words, semicolons and first rules
 
-pub other_word : (s : Sign) (ls : List Lexeme) → Goes Declarations (fixed s ∷ ls) → (s ≡ sign.Mark → ⊥) → (s ≡ sign.Start → ⊥) → (s ≡ sign.Union → ⊥) → (s ≡ sign.Types → ⊥)
-    → (s ≡ sign.Token → ⊥) → (s ≡ sign.Left → ⊥) → (s ≡ sign.Right → ⊥) → (s ≡ sign.Nonassoc → ⊥) → ⊥
+pub other_word : (s : Sign) (ls : List Lexeme) → Goes Declarations (fixed s ∷ ls) →
+    (s ≡ sign.Mark → ⊥) → (s ≡ sign.Start → ⊥) → (s ≡ sign.Union → ⊥) → (s ≡ sign.Types → ⊥)
+    → (s ≡ sign.Token → ⊥) → (s ≡ sign.Left → ⊥) → (s ≡ sign.Right → ⊥) → (s ≡ sign.Nonassoc → ⊥) →
+        ⊥
 other_word sign.Mark ls h a b c d e f g i = a refl
 other_word sign.Start ls h a b c d e f g i = b refl
 other_word sign.Union ls h a b c d e f g i = c refl
@@ -292,31 +346,46 @@ semis n = replicate n (fixed sign.Semicolon)
 
 -- what came before the rest is that many semicolons
 abbrev pub Counted : List Placed → List Placed → Type 0
-Counted whole rest = (n : ℕ) × (views whole ≡ semis n ++ views rest) × (n + length rest ≡ length whole)
+Counted whole rest = (n : ℕ) × (views whole ≡ semis n ++ views rest) ×
+    (n + length rest ≡ length whole)
 
-pub one_more_semicolon : (whole rest next : List Placed) → Counted whole rest → views rest ≡ fixed sign.Semicolon ∷ views next → Counted whole next
+pub one_more_semicolon : (whole rest next : List Placed) → Counted whole rest →
+    views rest ≡ fixed sign.Semicolon ∷ views next → Counted whole next
 one_more_semicolon whole rest next (n, e, l) h =
     let a : length (views rest) ≡ length (fixed sign.Semicolon ∷ views next) = ap length h in
-    let c : length (views rest) ≡ length rest = length-map rest (λ (p : Placed). lexeme_view p.lexeme) in
-    let d : length (views next) ≡ length next = length-map next (λ (p : Placed). lexeme_view p.lexeme) in
-    let made : semis n ++ fixed sign.Semicolon ∷ [] ≡ semis (n + 1) = replicate_more n (fixed sign.Semicolon) in
-    (n + 1, e ∙ ap (λ z. semis n ++ z) h ∙ sym (append_assoc (semis n) (fixed sign.Semicolon ∷ []) (views next)) ∙ ap (λ z. z ++ views next) made, omega (arith, a, c, d, l))
+    let c : length (views rest) ≡ length rest = length-map rest
+            (λ (p : Placed). lexeme_view p.lexeme) in
+    let d : length (views next) ≡ length next = length-map next
+            (λ (p : Placed). lexeme_view p.lexeme) in
+    let made : semis n ++ fixed sign.Semicolon ∷ [] ≡ semis (n + 1) = replicate_more n
+            (fixed sign.Semicolon) in
+    (n + 1, e ∙ ap (λ z. semis n ++ z) h ∙ sym (append_assoc (semis n) (fixed sign.Semicolon ∷ [])
+        (views next)) ∙ ap (λ z. z ++ views next) made, omega (arith, a, c, d, l))
 
-pub counted_all : (whole rest : List Placed) (n : ℕ) → Counted whole rest → n ≡ length whole - length rest → views whole ≡ semis n ++ views rest
-counted_all whole rest n (m, e, l) h = let w : m ≡ n = omega (arith, l, h) in e ∙ ap (λ z. semis z ++ views rest) w
+pub counted_all : (whole rest : List Placed) (n : ℕ) → Counted whole rest →
+    n ≡ length whole - length rest → views whole ≡ semis n ++ views rest
+counted_all whole rest n (m, e, l) h = let w : m ≡ n = omega (arith, l, h) in
+    e ∙ ap (λ z. semis z ++ views rest) w
 
 -- before the first rule, or behind one
 abbrev pub FirstNamed : List CodeClause → List Lexeme → Type 0
 FirstNamed cs rest = (Goes RulesMark rest × (cs ≡ [])) ⊎ BeginsWithName (map clause_view cs)
 
-pub first_keeps : (xs new : List CodeClause) (x : CodeClause) (left : Option NameAt) (before after : List Lexeme) → FirstNamed xs before → before ≡ left_yield (option_view name_view left) ∷ after → x.left ≡ left → new ≡ xs ++ x ∷ [] → BeginsWithName (map clause_view new)
+pub first_keeps : (xs new : List CodeClause) (x : CodeClause) (left : Option NameAt)
+    (before after : List Lexeme) → FirstNamed xs before → before ≡ left_yield
+    (option_view name_view left) ∷ after → x.left ≡ left → new ≡ xs ++ x ∷ [] → BeginsWithName
+    (map clause_view new)
 first_keeps xs new x left before after (inl (g, e)) h k w =
     let only : new ≡ x ∷ [] = w ∙ ap (λ z. z ++ x ∷ []) e in
-    let named_left : IsSome (option_view name_view x.left) = subst (λ z. IsSome (option_view name_view z)) (sym k) (first_named (option_view name_view left) after (subst (Goes RulesMark) h g)) in
+    let named_left : IsSome (option_view name_view x.left) =
+            subst (λ z. IsSome (option_view name_view z)) (sym k)
+            (first_named (option_view name_view left) after (subst (Goes RulesMark) h g)) in
     subst (λ z. BeginsWithName (map clause_view z)) (sym only) named_left
 first_keeps [] new x left before after (inr b) h k w = absurd b
-first_keeps (y ∷ ys) new x left before after (inr b) h k w = subst (λ z. BeginsWithName (map clause_view z)) (sym w) b
+first_keeps (y ∷ ys) new x left before after (inr b) h k w =
+    subst (λ z. BeginsWithName (map clause_view z)) (sym w) b
 
-pub first_there : (xs : List CodeClause) (rest : List Lexeme) → FirstNamed xs rest → NoneOf left_yield rest → BeginsWithName (map clause_view xs)
+pub first_there : (xs : List CodeClause) (rest : List Lexeme) → FirstNamed xs rest →
+    NoneOf left_yield rest → BeginsWithName (map clause_view xs)
 first_there xs rest (inl (g, e)) n = absurd (left_there rest g n)
 first_there xs rest (inr b) n = b

@@ -1,5 +1,7 @@
 -- Lexemes that are derived have a tree.
-use Rattle.std.proofs.Common.{ℕ, ◌≡◌, ◌<◌, ◌+◌, Bool, true, false, List, [], ◌∷◌, ◌++◌, map, length, Option, Some, None, IsSome, refl, sym, ap, ◌∙◌, subst, arith, append_assoc, append-nil, length-append}
+use Rattle.std.proofs.Common.{ℕ, ◌≡◌, ◌<◌, ◌+◌, Bool, true, false, List, [], ◌∷◌, ◌++◌, map, length}
+use Rattle.std.proofs.Common.{Option, Some, None, IsSome, refl, sym, ap, ◌∙◌, subst, arith}
+use Rattle.std.proofs.Common.{append_assoc, append-nil, length-append}
 use Rattle.std.proofs.lemmas.Grind.{flat_map-append}
 use Rattle.std.proofs.lemmas.List.{map-append, replicate_more}
 use Rattle.std.specs.List.{flat_map, AllByRecursion}
@@ -8,10 +10,23 @@ use Rattle.ygrammar.specs.declared.kind.Kind.{Kind}
 use Rattle.ygrammar.specs.declared.kind.Kind.TheVariants as kind
 use Rattle.ygrammar.specs.declared.kind.Sign.{Sign}
 use Rattle.ygrammar.specs.declared.kind.Sign.TheVariants as sign
-use Rattle.ygrammar.specs.Syntax.{Symbol, lexeme, spec, tail, defs, def, rword, tag, nlist, nmno, identifier, tlist, rules, rule, rbody, prec, Production, spec_is, tail_mark, tail_empty, defs_empty, defs_more, def_start, def_union, def_code, def_list, def_type, rword_token, rword_left, rword_right, rword_nonassoc, tag_empty, tag_name, nlist_one, nlist_more, nmno_plain, nmno_number, identifier_name, identifier_literal, tlist_one, tlist_more, rules_one, rules_more, rule_head, rule_bar, rbody_empty, rbody_symbol, rbody_act, prec_empty, prec_named, prec_act, prec_semicolon, IsSpec}
-use Rattle.ygrammar.specs.Lexemes.{Lexeme, name, head, literal, number, act, code, fixed, kind_of, sign_kind}
+use Rattle.ygrammar.specs.Syntax.{Symbol, lexeme, spec, tail, defs, def, rword, tag, nlist, nmno}
+use Rattle.ygrammar.specs.Syntax.{identifier, tlist, rules, rule, rbody, prec, Production, spec_is}
+use Rattle.ygrammar.specs.Syntax.{tail_mark, tail_empty, defs_empty, defs_more, def_start}
+use Rattle.ygrammar.specs.Syntax.{def_union, def_code, def_list, def_type, rword_token, rword_left}
+use Rattle.ygrammar.specs.Syntax.{rword_right, rword_nonassoc, tag_empty, tag_name, nlist_one}
+use Rattle.ygrammar.specs.Syntax.{nlist_more, nmno_plain, nmno_number, identifier_name}
+use Rattle.ygrammar.specs.Syntax.{identifier_literal, tlist_one, tlist_more, rules_one, rules_more}
+use Rattle.ygrammar.specs.Syntax.{rule_head, rule_bar, rbody_empty, rbody_symbol, rbody_act}
+use Rattle.ygrammar.specs.Syntax.{prec_empty, prec_named, prec_act, prec_semicolon, IsSpec}
+use Rattle.ygrammar.specs.Lexemes.{Lexeme, name, head, literal, number, act, code, fixed, kind_of}
+use Rattle.ygrammar.specs.Lexemes.{sign_kind}
 use Rattle.ygrammar.specs.Cuttings.{kinds}
-use Rattle.ygrammar.specs.Tree.{Identifier, named, quoted, Word, Entry, Definition, start, union, block, listing, types, Item, symbol, action, Clause, Tree, identifier_yield, option_yield, entry_yield, word_sign, tag_yield, definition_yield, item_yield, left_yield, end_yield, clause_yield, mark_yield, yield, IsDefinition, IsClause, BeginsWithName, IsTree}
+use Rattle.ygrammar.specs.Tree.{Identifier, named, quoted, Word, Entry, Definition, start, union}
+use Rattle.ygrammar.specs.Tree.{block, listing, types, Item, symbol, action, Clause, Tree}
+use Rattle.ygrammar.specs.Tree.{identifier_yield, option_yield, entry_yield, word_sign, tag_yield}
+use Rattle.ygrammar.specs.Tree.{definition_yield, item_yield, left_yield, end_yield, clause_yield}
+use Rattle.ygrammar.specs.Tree.{mark_yield, yield, IsDefinition, IsClause, BeginsWithName, IsTree}
 use Rattle.ygrammar.proofs.Derivations.{Stands, sound}
 
 -- ---- lexemes of a kind
@@ -51,7 +66,8 @@ not_sign : (s : Sign) (k : Kind) → kind_sign k ≡ None → sign_kind s ≡ k 
 not_sign s k n e = let z : Some s ≡ None = sym (sign_back s) ∙ ap kind_sign e ∙ n in cc
 
 only_sign : (l : Lexeme) (s : Sign) → kind_of l ≡ sign_kind s → l ≡ fixed s
-only_sign (fixed z) s e = let w : Some z ≡ Some s = sym (sign_back z) ∙ ap kind_sign e ∙ sign_back s in ap fixed (let q : z ≡ s = cc in q)
+only_sign (fixed z) s e = let w : Some z ≡ Some s = sym (sign_back z) ∙ ap kind_sign e ∙ sign_back
+    s in ap fixed (let q : z ≡ s = cc in q)
 only_sign (name n) s e = absurd (not_sign s kind.Name refl (sym e))
 only_sign (head n) s e = absurd (not_sign s kind.Head refl (sym e))
 only_sign (literal n) s e = absurd (not_sign s kind.Literal refl (sym e))
@@ -95,7 +111,8 @@ Meaning : Symbol → List Lexeme → Type 0
 Meaning (lexeme k) y = (l : Lexeme) × (y ≡ l ∷ []) × (kind_of l ≡ k)
 Meaning spec y = (t : Tree) × IsTree t × (y ≡ yield t)
 Meaning tail y = (b : Bool) × (y ≡ mark_yield b)
-Meaning defs y = (ds : List Definition) × AllByRecursion IsDefinition ds × (y ≡ flat_map definition_yield ds)
+Meaning defs y = (ds : List Definition) × AllByRecursion IsDefinition ds ×
+    (y ≡ flat_map definition_yield ds)
 Meaning def y = (d : Definition) × IsDefinition d × (y ≡ definition_yield d)
 Meaning rword y = (w : Word) × (y ≡ fixed (word_sign w) ∷ [])
 Meaning tag y = (t : Option (List ℕ)) × (y ≡ option_yield tag_yield t)
@@ -103,71 +120,96 @@ Meaning nlist y = (es : List Entry) × (0 < length es) × (y ≡ flat_map entry_
 Meaning nmno y = (e : Entry) × (y ≡ entry_yield e)
 Meaning identifier y = (i : Identifier) × (y ≡ identifier_yield i ∷ [])
 Meaning tlist y = (ns : List (List ℕ)) × (0 < length ns) × (y ≡ map name ns)
-Meaning rules y = (cs : List Clause) × AllByRecursion IsClause cs × BeginsWithName cs × (y ≡ flat_map clause_yield cs)
+Meaning rules y = (cs : List Clause) × AllByRecursion IsClause cs × BeginsWithName cs ×
+    (y ≡ flat_map clause_yield cs)
 Meaning rule y = (c : Clause) × IsClause c × (y ≡ clause_yield c)
 Meaning rbody y = (is : List Item) × (y ≡ map item_yield is)
-Meaning prec y = (p : Option Identifier) × (t : Option (List ℕ)) × (n : ℕ) × (IsSome t → IsSome p) × (y ≡ end_yield p t n)
+Meaning prec y = (p : Option Identifier) × (t : Option (List ℕ)) × (n : ℕ) × (IsSome t → IsSome p) ×
+    (y ≡ end_yield p t n)
 
 single : (s : Symbol) (y : List Lexeme) → Stands Meaning (s ∷ []) y → Meaning s y
 single s y (a, r, e, m, p) = subst (Meaning s) (sym (e ∙ ap (λ t. a ++ t) p ∙ append-nil a)) m
 
 -- a lexeme that has one spelling, in front
-sign_first : (s : Sign) (x : List Symbol) (y : List Lexeme) → Stands Meaning (lexeme (sign_kind s) ∷ x) y → (r : List Lexeme) × (y ≡ fixed s ∷ r) × Stands Meaning x r
+sign_first : (s : Sign) (x : List Symbol) (y : List Lexeme) → Stands Meaning
+    (lexeme (sign_kind s) ∷ x) y → (r : List Lexeme) × (y ≡ fixed s ∷ r) × Stands Meaning x r
 unfolding Meaning
-sign_first s x y (a, r, e, (l, f, k), p) = (r, e ∙ ap (λ t. t ++ r) f ∙ ap (λ z. z ∷ r) (only_sign l s k), p)
+sign_first s x y (a, r, e, (l, f, k), p) =
+    (r, e ∙ ap (λ t. t ++ r) f ∙ ap (λ z. z ∷ r) (only_sign l s k), p)
 
-sign_alone : (s : Sign) (y : List Lexeme) → Stands Meaning (lexeme (sign_kind s) ∷ []) y → y ≡ fixed s ∷ []
+sign_alone : (s : Sign) (y : List Lexeme) → Stands Meaning (lexeme (sign_kind s) ∷ []) y →
+    y ≡ fixed s ∷ []
 sign_alone s y h = let (r, e, p) = sign_first s [] y h in e ∙ ap (λ z. fixed s ∷ z) p
 
-name_first : (x : List Symbol) (y : List Lexeme) → Stands Meaning (lexeme kind.Name ∷ x) y → (n : List ℕ) × (r : List Lexeme) × (y ≡ name n ∷ r) × Stands Meaning x r
+name_first : (x : List Symbol) (y : List Lexeme) → Stands Meaning (lexeme kind.Name ∷ x) y →
+    (n : List ℕ) × (r : List Lexeme) × (y ≡ name n ∷ r) × Stands Meaning x r
 unfolding Meaning
-name_first x y (a, r, e, (l, f, k), p) = let (n, w) = only_name l k in (n, r, e ∙ ap (λ t. t ++ r) f ∙ ap (λ z. z ∷ r) w, p)
+name_first x y (a, r, e, (l, f, k), p) = let (n, w) = only_name l k in
+    (n, r, e ∙ ap (λ t. t ++ r) f ∙ ap (λ z. z ∷ r) w, p)
 
-head_first : (x : List Symbol) (y : List Lexeme) → Stands Meaning (lexeme kind.Head ∷ x) y → (n : List ℕ) × (r : List Lexeme) × (y ≡ head n ∷ r) × Stands Meaning x r
+head_first : (x : List Symbol) (y : List Lexeme) → Stands Meaning (lexeme kind.Head ∷ x) y →
+    (n : List ℕ) × (r : List Lexeme) × (y ≡ head n ∷ r) × Stands Meaning x r
 unfolding Meaning
-head_first x y (a, r, e, (l, f, k), p) = let (n, w) = only_head l k in (n, r, e ∙ ap (λ t. t ++ r) f ∙ ap (λ z. z ∷ r) w, p)
+head_first x y (a, r, e, (l, f, k), p) = let (n, w) = only_head l k in
+    (n, r, e ∙ ap (λ t. t ++ r) f ∙ ap (λ z. z ∷ r) w, p)
 
-act_alone : (y : List Lexeme) → Stands Meaning (lexeme kind.Act ∷ []) y → (n : List ℕ) × (y ≡ act n ∷ [])
+act_alone : (y : List Lexeme) → Stands Meaning (lexeme kind.Act ∷ []) y → (n : List ℕ) ×
+    (y ≡ act n ∷ [])
 unfolding Meaning
-act_alone y (a, r, e, (l, f, k), p) = let (n, w) = only_act l k in (n, e ∙ ap (λ t. t ++ r) f ∙ ap (λ z. l ∷ z) p ∙ ap (λ z. z ∷ []) w)
+act_alone y (a, r, e, (l, f, k), p) = let (n, w) = only_act l k in
+    (n, e ∙ ap (λ t. t ++ r) f ∙ ap (λ z. l ∷ z) p ∙ ap (λ z. z ∷ []) w)
 
-all_join : {A : Type 0} (P : A → Type 0) (xs ys : List A) → AllByRecursion P xs → AllByRecursion P ys → AllByRecursion P (xs ++ ys)
+all_join : {A : Type 0} (P : A → Type 0) (xs ys : List A) → AllByRecursion P xs →
+    AllByRecursion P ys → AllByRecursion P (xs ++ ys)
 all_join P [] ys h k = k
 all_join P (x ∷ xs) ys h k = (h.0, all_join P xs ys h.1 k)
 
-one_more : {A : Type 0} (f : A → List Lexeme) (xs : List A) (x : A) (y a r : List Lexeme) → y ≡ a ++ r → a ≡ flat_map f xs → r ≡ f x → y ≡ flat_map f (xs ++ x ∷ [])
-one_more f xs x y a r e h k = e ∙ ap (λ z. z ++ r) h ∙ ap (λ z. flat_map f xs ++ z) (k ∙ sym (append-nil (f x))) ∙ sym (flat_map-append f xs (x ∷ []))
+one_more : {A : Type 0} (f : A → List Lexeme) (xs : List A) (x : A) (y a r : List Lexeme) →
+    y ≡ a ++ r → a ≡ flat_map f xs → r ≡ f x → y ≡ flat_map f (xs ++ x ∷ [])
+one_more f xs x y a r e h k = e ∙ ap (λ z. z ++ r) h ∙ ap (λ z. flat_map f xs ++ z)
+    (k ∙ sym (append-nil (f x))) ∙ sym (flat_map-append f xs (x ∷ []))
 
 begins_more : (cs : List Clause) (c : Clause) → BeginsWithName cs → BeginsWithName (cs ++ c ∷ [])
 begins_more [] c h = absurd h
 begins_more (d ∷ cs) c h = h
 
 -- a clause from its parts
-clause_of : (left : Option (List ℕ)) (y r : List Lexeme) → y ≡ left_yield left ∷ r → Stands Meaning (rbody ∷ prec ∷ []) r → (c : Clause) × IsClause c × (y ≡ clause_yield c) × (c.left ≡ left)
+clause_of : (left : Option (List ℕ)) (y r : List Lexeme) → y ≡ left_yield left ∷ r → Stands Meaning
+    (rbody ∷ prec ∷ []) r → (c : Clause) × IsClause c × (y ≡ clause_yield c) × (c.left ≡ left)
 unfolding Meaning
 clause_of left y r e (b, r2, e2, (is, f), p) =
     let (q, t, n, w, g) = single prec r2 p in
-    (record { left = left; body = is; prec = q; last = t; semicolons = n }, w, e ∙ ap (λ z. left_yield left ∷ z) (e2 ∙ ap (λ z. z ++ r2) f ∙ ap (λ z. map item_yield is ++ z) g), refl)
+    (record { left = left; body = is; prec = q; last = t; semicolons = n }, w,
+        e ∙ ap (λ z. left_yield left ∷ z)
+        (e2 ∙ ap (λ z. z ++ r2) f ∙ ap (λ z. map item_yield is ++ z) g), refl)
 
-semicolon_more : (a b : List Lexeme) (n : ℕ) → (a ++ (b ++ replicate n (fixed sign.Semicolon))) ++ fixed sign.Semicolon ∷ [] ≡ a ++ (b ++ replicate (n + 1) (fixed sign.Semicolon))
+semicolon_more : (a b : List Lexeme) (n : ℕ) → (a ++ (b ++ replicate n (fixed sign.Semicolon))) ++
+    fixed sign.Semicolon ∷ [] ≡ a ++ (b ++ replicate (n + 1) (fixed sign.Semicolon))
 semicolon_more a b n =
-    append_assoc a (b ++ replicate n (fixed sign.Semicolon)) (fixed sign.Semicolon ∷ []) ∙ ap (λ z. a ++ z) (append_assoc b (replicate n (fixed sign.Semicolon)) (fixed sign.Semicolon ∷ []) ∙ ap (λ z. b ++ z) (replicate_more n (fixed sign.Semicolon)))
+    append_assoc a (b ++ replicate n (fixed sign.Semicolon)) (fixed sign.Semicolon ∷ []) ∙ ap
+        (λ z. a ++ z) (append_assoc b (replicate n (fixed sign.Semicolon))
+        (fixed sign.Semicolon ∷ []) ∙ ap (λ z. b ++ z) (replicate_more n (fixed sign.Semicolon)))
 
-closed : (n : Symbol) (body : List Symbol) (y : List Lexeme) → Production n body → Stands Meaning body y → Meaning n y
+closed : (n : Symbol) (body : List Symbol) (y : List Lexeme) → Production n body →
+    Stands Meaning body y → Meaning n y
 unfolding Meaning
-closed _ _ y spec_is (d, r1, e1, (ds, a, f), (m, r2, e2, (l, g, k), (ru, r3, e3, (cs, b, first, h), p))) =
+closed _ _ y spec_is (d, r1, e1, (ds, a, f),
+    (m, r2, e2, (l, g, k), (ru, r3, e3, (cs, b, first, h), p))) =
     let (second, t) = single tail r3 p in
     let mark : m ≡ fixed sign.Mark ∷ [] = g ∙ ap (λ z. z ∷ []) (only_sign l sign.Mark k) in (
       record { definitions = ds; clauses = cs; second_mark = second },
       record { definitions = a; clauses = b; first = first },
-      e1 ∙ ap (λ z. z ++ r1) f ∙ ap (λ z. flat_map definition_yield ds ++ z) (e2 ∙ ap (λ z. z ++ r2) mark ∙ ap (λ z. fixed sign.Mark ∷ z) (e3 ∙ ap (λ z. z ++ r3) h ∙ ap (λ z. flat_map clause_yield cs ++ z) t)),
+      e1 ∙ ap (λ z. z ++ r1) f ∙ ap (λ z. flat_map definition_yield ds ++ z)
+          (e2 ∙ ap (λ z. z ++ r2) mark ∙ ap (λ z. fixed sign.Mark ∷ z)
+          (e3 ∙ ap (λ z. z ++ r3) h ∙ ap (λ z. flat_map clause_yield cs ++ z) t)),
     )
 closed _ _ y tail_mark h = (true, sign_alone sign.Mark y h)
 closed _ _ y tail_empty h = (false, h)
 closed _ _ y defs_empty h = ([], tt, h)
 closed _ _ y defs_more (d, r, e, (ds, a, f), p) =
     let (x, b, g) = single def r p in
-    (ds ++ x ∷ [], all_join IsDefinition ds (x ∷ []) a (b, tt), one_more definition_yield ds x y d r e f g)
+    (ds ++ x ∷ [], all_join IsDefinition ds (x ∷ []) a (b, tt), one_more definition_yield ds x y d r
+        e f g)
 closed _ _ y def_start h =
     let (r, e, p) = sign_first sign.Start (identifier ∷ []) y h in
     let (i, f) = single identifier r p in
@@ -181,14 +223,18 @@ closed _ _ y def_code h =
     (block, tt, f ∙ ap (λ z. z ∷ []) (only_code l k))
 closed _ _ y def_list (w, r1, e1, (word, f), (t, r2, e2, (tg, g), p)) =
     let (es, some, h) = single nlist r2 p in
-    (listing word tg es, some, e1 ∙ ap (λ z. z ++ r1) f ∙ ap (λ z. fixed (word_sign word) ∷ z) (e2 ∙ ap (λ z. z ++ r2) g ∙ ap (λ z. option_yield tag_yield tg ++ z) h))
+    (listing word tg es, some, e1 ∙ ap (λ z. z ++ r1) f ∙ ap (λ z. fixed (word_sign word) ∷ z)
+        (e2 ∙ ap (λ z. z ++ r2) g ∙ ap (λ z. option_yield tag_yield tg ++ z) h))
 closed _ _ y def_type h =
-    let (r1, e1, p1) = sign_first sign.Types (lexeme kind.Less ∷ lexeme kind.Name ∷ lexeme kind.Greater ∷ tlist ∷ []) y h in
-    let (r2, e2, p2) = sign_first sign.Less (lexeme kind.Name ∷ lexeme kind.Greater ∷ tlist ∷ []) r1 p1 in
+    let (r1, e1, p1) = sign_first sign.Types
+            (lexeme kind.Less ∷ lexeme kind.Name ∷ lexeme kind.Greater ∷ tlist ∷ []) y h in
+    let (r2, e2, p2) = sign_first sign.Less (lexeme kind.Name ∷ lexeme kind.Greater ∷ tlist ∷ []) r1
+            p1 in
     let (n, r3, e3, p3) = name_first (lexeme kind.Greater ∷ tlist ∷ []) r2 p2 in
     let (r4, e4, p4) = sign_first sign.Greater (tlist ∷ []) r3 p3 in
     let (ns, some, f) = single tlist r4 p4 in
-    (types n ns, some, e1 ∙ ap (λ z. fixed sign.Types ∷ z) (e2 ∙ ap (λ z. fixed sign.Less ∷ z) (e3 ∙ ap (λ z. name n ∷ z) (e4 ∙ ap (λ z. fixed sign.Greater ∷ z) f))))
+    (types n ns, some, e1 ∙ ap (λ z. fixed sign.Types ∷ z) (e2 ∙ ap (λ z. fixed sign.Less ∷ z)
+        (e3 ∙ ap (λ z. name n ∷ z) (e4 ∙ ap (λ z. fixed sign.Greater ∷ z) f))))
 closed _ _ y rword_token h = (Word.token, sign_alone sign.Token y h)
 closed _ _ y rword_left h = (Word.left, sign_alone sign.Left y h)
 closed _ _ y rword_right h = (Word.right, sign_alone sign.Right y h)
@@ -197,20 +243,23 @@ closed _ _ y tag_empty h = (None, h)
 closed _ _ y tag_name h =
     let (r1, e1, p1) = sign_first sign.Less (lexeme kind.Name ∷ lexeme kind.Greater ∷ []) y h in
     let (n, r2, e2, p2) = name_first (lexeme kind.Greater ∷ []) r1 p1 in
-    (Some n, e1 ∙ ap (λ z. fixed sign.Less ∷ z) (e2 ∙ ap (λ z. name n ∷ z) (sign_alone sign.Greater r2 p2)))
+    (Some n, e1 ∙ ap (λ z. fixed sign.Less ∷ z)
+        (e2 ∙ ap (λ z. name n ∷ z) (sign_alone sign.Greater r2 p2)))
 closed _ _ y nlist_one h =
     let (e, f) = single nmno y h in
     (e ∷ [], omega arith, f ∙ sym (append-nil (entry_yield e)))
 closed _ _ y nlist_more (a, r, e, (es, some, f), p) =
     let (x, g) = single nmno r p in
-    (es ++ x ∷ [], (let l = length-append es (x ∷ []) in omega (arith, l)), one_more entry_yield es x y a r e f g)
+    (es ++ x ∷ [], (let l = length-append es (x ∷ []) in omega (arith, l)),
+        one_more entry_yield es x y a r e f g)
 closed _ _ y nmno_plain h =
     let (i, f) = single identifier y h in
     (record { who = i; digits = None }, f)
 closed _ _ y nmno_number (a, r, e, (i, f), p) =
     let (l, g, k) = single (lexeme kind.Number) r p in
     let (n, w) = only_number l k in
-    (record { who = i; digits = Some n }, e ∙ ap (λ z. z ++ r) f ∙ ap (λ z. identifier_yield i ∷ z) (g ∙ ap (λ z. z ∷ []) w))
+    (record { who = i; digits = Some n }, e ∙ ap (λ z. z ++ r) f ∙ ap (λ z. identifier_yield i ∷ z)
+        (g ∙ ap (λ z. z ∷ []) w))
 closed _ _ y identifier_name h =
     let (l, g, k) = single (lexeme kind.Name) y h in
     let (n, w) = only_name l k in
@@ -226,14 +275,17 @@ closed _ _ y tlist_one h =
 closed _ _ y tlist_more (a, r, e, (ns, some, f), p) =
     let (l, g, k) = single (lexeme kind.Name) r p in
     let (n, w) = only_name l k in
-    (ns ++ n ∷ [], (let l = length-append ns (n ∷ []) in omega (arith, l)), e ∙ ap (λ z. z ++ r) f ∙ ap (λ z. map name ns ++ z) (g ∙ ap (λ z. z ∷ []) w) ∙ sym (map-append name ns (n ∷ [])))
+    (ns ++ n ∷ [], (let l = length-append ns (n ∷ []) in omega (arith, l)),
+        e ∙ ap (λ z. z ++ r) f ∙ ap (λ z. map name ns ++ z) (g ∙ ap (λ z. z ∷ []) w) ∙ sym
+        (map-append name ns (n ∷ [])))
 closed _ _ y rules_one h =
     let (n, r, e, p) = head_first (rbody ∷ prec ∷ []) y h in
     let (c, i, f, l) = clause_of (Some n) y r e p in
     (c ∷ [], (i, tt), subst IsSome (sym l) refl, f ∙ sym (append-nil (clause_yield c)))
 closed _ _ y rules_more (a, r, e, (cs, all, first, f), p) =
     let (c, i, g) = single rule r p in
-    (cs ++ c ∷ [], all_join IsClause cs (c ∷ []) all (i, tt), begins_more cs c first, one_more clause_yield cs c y a r e f g)
+    (cs ++ c ∷ [], all_join IsClause cs (c ∷ []) all (i, tt), begins_more cs c first,
+        one_more clause_yield cs c y a r e f g)
 closed _ _ y rule_head h =
     let (n, r, e, p) = head_first (rbody ∷ prec ∷ []) y h in
     let (c, i, f, l) = clause_of (Some n) y r e p in
@@ -245,22 +297,28 @@ closed _ _ y rule_bar h =
 closed _ _ y rbody_empty h = ([], h)
 closed _ _ y rbody_symbol (b, r, e, (is, f), p) =
     let (i, g) = single identifier r p in
-    (is ++ symbol i ∷ [], e ∙ ap (λ z. z ++ r) f ∙ ap (λ z. map item_yield is ++ z) g ∙ sym (map-append item_yield is (symbol i ∷ [])))
+    (is ++ symbol i ∷ [], e ∙ ap (λ z. z ++ r) f ∙ ap (λ z. map item_yield is ++ z) g ∙ sym
+        (map-append item_yield is (symbol i ∷ [])))
 closed _ _ y rbody_act (b, r, e, (is, f), p) =
     let (t, g) = act_alone r p in
-    (is ++ action t ∷ [], e ∙ ap (λ z. z ++ r) f ∙ ap (λ z. map item_yield is ++ z) g ∙ sym (map-append item_yield is (action t ∷ [])))
+    (is ++ action t ∷ [], e ∙ ap (λ z. z ++ r) f ∙ ap (λ z. map item_yield is ++ z) g ∙ sym
+        (map-append item_yield is (action t ∷ [])))
 closed _ _ y prec_empty h = (None, None, 0, (λ t. t), h)
 closed _ _ y prec_named h =
     let (r, e, p) = sign_first sign.Prec (identifier ∷ []) y h in
     let (i, f) = single identifier r p in
     (Some i, None, 0, (λ t. refl), e ∙ ap (λ z. fixed sign.Prec ∷ z) f)
 closed _ _ y prec_act h =
-    let (r, e, (a, r2, e2, (i, f), p)) = sign_first sign.Prec (identifier ∷ lexeme kind.Act ∷ []) y h in
+    let (r, e, (a, r2, e2, (i, f), p)) = sign_first sign.Prec (identifier ∷ lexeme kind.Act ∷ []) y
+            h in
     let (t, g) = act_alone r2 p in
-    (Some i, Some t, 0, (λ t. refl), e ∙ ap (λ z. fixed sign.Prec ∷ z) (e2 ∙ ap (λ z. z ++ r2) f ∙ ap (λ z. identifier_yield i ∷ z) g))
+    (Some i, Some t, 0, (λ t. refl), e ∙ ap (λ z. fixed sign.Prec ∷ z)
+        (e2 ∙ ap (λ z. z ++ r2) f ∙ ap (λ z. identifier_yield i ∷ z) g))
 closed _ _ y prec_semicolon (a, r, e, (p, t, n, w, f), q) =
     let s = sign_alone sign.Semicolon r q in
-    (p, t, n + 1, w, e ∙ ap (λ z. z ++ r) f ∙ ap (λ z. end_yield p t n ++ z) s ∙ semicolon_more (option_yield (λ i. fixed sign.Prec ∷ identifier_yield i ∷ []) p) (option_yield (λ t. act t ∷ []) t) n)
+    (p, t, n + 1, w, e ∙ ap (λ z. z ++ r) f ∙ ap (λ z. end_yield p t n ++ z) s ∙ semicolon_more
+        (option_yield (λ i. fixed sign.Prec ∷ identifier_yield i ∷ []) p)
+        (option_yield (λ t. act t ∷ []) t) n)
 
 stands_kinds : (ls : List Lexeme) → Stands Meaning (map lexeme (kinds ls)) ls
 unfolding Meaning
@@ -269,4 +327,5 @@ stands_kinds (l ∷ ls) = (l ∷ [], ls, refl, (l, refl, refl), stands_kinds ls)
 
 pub tree_of : (ls : List Lexeme) → IsSpec (kinds ls) → (t : Tree) × IsTree t × (ls ≡ yield t)
 unfolding Meaning
-tree_of ls d = single spec ls (sound Meaning Production closed (spec ∷ []) (map lexeme (kinds ls)) ls d (stands_kinds ls))
+tree_of ls d = single spec ls (sound Meaning Production closed (spec ∷ []) (map lexeme (kinds ls))
+    ls d (stands_kinds ls))

@@ -3,7 +3,13 @@ use Rattle.std.proofs.Common.{◌≡◌, List, [], ◌∷◌, ◌++◌, Some, No
 use Rattle.ygrammar.specs.declared.kind.Kind.{Kind}
 use Rattle.ygrammar.specs.declared.kind.Kind.TheVariants as kind
 use Rattle.ygrammar.specs.declared.recogniser.State.{State}
-use Rattle.ygrammar.specs.declared.recogniser.State.TheVariants.{Declarations, StartWord, UnionWord, ListWord, ListTagOpen, ListTagName, ListTagged, Listed, Numbered, TypeWord, TypeTagOpen, TypeTagName, TypeTagged, Typed, RulesMark, Body, PrecWord, PrecNamed, Semicolons, End}
+use Rattle.ygrammar.specs.declared.recogniser.State.TheVariants.{Declarations, StartWord, UnionWord}
+use Rattle.ygrammar.specs.declared.recogniser.State.TheVariants.{ListWord, ListTagOpen, ListTagName}
+use Rattle.ygrammar.specs.declared.recogniser.State.TheVariants.{ListTagged, Listed, Numbered}
+use Rattle.ygrammar.specs.declared.recogniser.State.TheVariants.{TypeWord, TypeTagOpen, TypeTagName}
+use Rattle.ygrammar.specs.declared.recogniser.State.TheVariants.{TypeTagged, Typed, RulesMark, Body}
+use Rattle.ygrammar.specs.declared.recogniser.State.TheVariants.{PrecWord, PrecNamed, Semicolons}
+use Rattle.ygrammar.specs.declared.recogniser.State.TheVariants.{End}
 use Rattle.ygrammar.specs.Syntax.{BeginsSpec}
 use Rattle.ygrammar.specs.Recogniser.{reached, is_final_at, run}
 use Rattle.ygrammar.proofs.Accepted.{lost, reached_append, recognised}
@@ -56,10 +62,14 @@ completed Semicolons = refl
 completed End = refl
 
 pub viable : (ks : List Kind) (q : State) → reached (Some Declarations) ks ≡ Some q → BeginsSpec ks
-viable ks q e = (completion q, derived (ks ++ completion q) (ap is_final_at (reached_append (Some Declarations) ks (completion q) ∙ ap (λ o. reached o (completion q)) e) ∙ completed q))
+viable ks q e = (completion q, derived (ks ++ completion q)
+    (ap is_final_at (reached_append (Some Declarations) ks (completion q) ∙ ap
+    (λ o. reached o (completion q)) e) ∙ completed q))
 
 pub not_viable : (ks : List Kind) → reached (Some Declarations) ks ≡ None → BeginsSpec ks → ⊥
 not_viable ks e (more, d) =
-    let accepted : is_final_at (reached (Some Declarations) (ks ++ more)) ≡ true = recognised (ks ++ more) d in
-    let nowhere : is_final_at (reached (Some Declarations) (ks ++ more)) ≡ false = ap is_final_at (reached_append (Some Declarations) ks more ∙ ap (λ o. reached o more) e ∙ lost more) in
+    let accepted : is_final_at (reached (Some Declarations) (ks ++ more)) ≡ true =
+            recognised (ks ++ more) d in
+    let nowhere : is_final_at (reached (Some Declarations) (ks ++ more)) ≡ false = ap is_final_at
+            (reached_append (Some Declarations) ks more ∙ ap (λ o. reached o more) e ∙ lost more) in
     cc

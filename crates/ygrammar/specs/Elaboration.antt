@@ -177,7 +177,8 @@ body_from k (symbol i ∷ items) =
     record { inner = b.inner; symbols = printed i ∷ b.symbols; next = b.next }
 body_from k (action text ∷ items) =
     let b = body_from (suc k) items in
-    record { inner = inner_rule k text ∷ b.inner; symbols = inner_name k ∷ b.symbols; next = b.next }
+    record { inner = inner_rule k text ∷ b.inner; symbols = inner_name k ∷ b.symbols; next =
+        b.next }
 
 -- a body and the action that is its last part, where it is one
 abbrev pub split_last : List Item → List Item × Option (List ℕ)

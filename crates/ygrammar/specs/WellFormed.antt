@@ -47,7 +47,8 @@ pub record IsWhole (v : GrammarValue) : Type 0 where
   pub rule_precedences : length v.rule_precedences ≡ length v.bare.rules
   pub texts : length v.texts ≡ length v.bare.rules
   pub reachable : length v.reachable ≡ v.bare.symbols
-  -- `$end` and `error` are the first two, no two symbols have one name, and no two tokens one number
+  -- `$end` and `error` are the first two, no two symbols have one name, and no two tokens one
+  -- number
   pub end : slice_index_or v.names end_token [] ≡ codes "$end"
   pub error : slice_index_or v.names error_token [] ≡ codes "error"
   pub names_once : StandOnce v.names

@@ -1,5 +1,6 @@
 -- Ascending lists with the same items are equal.
-use Rattle.std.proofs.Common.{ℕ, zero, suc, ◌≡◌, ◌<◌, ◌↔◌, List, [], ◌∷◌, length, get_or, refl, sym, ◌∙◌, ap, subst, inl, inr, ◌⊎◌, arith}
+use Rattle.std.proofs.Common.{ℕ, zero, suc, ◌≡◌, ◌<◌, ◌↔◌, List, [], ◌∷◌, length, get_or, refl, sym}
+use Rattle.std.proofs.Common.{◌∙◌, ap, subst, inl, inr, ◌⊎◌, arith}
 use Rattle.std.specs.List.{Contains}
 use Rattle.ylalr.specs.declared.items.Item.{Item}
 use Rattle.ylalr.specs.Sets.{IsAscending, Before}
@@ -34,11 +35,13 @@ not_both i j (inr x) (inr y) = omega (arith, x.1, y.1)
 none_in : (j : Item) → Contains {X = Item} [] j → ⊥
 none_in j c = let h = c.1 in omega (arith, h)
 
-pub same_ascending : (xs ys : List Item) → IsAscending xs → IsAscending ys → ((i : Item) → Contains xs i ↔ Contains ys i) → xs ≡ ys
+pub same_ascending : (xs ys : List Item) → IsAscending xs → IsAscending ys →
+    ((i : Item) → Contains xs i ↔ Contains ys i) → xs ≡ ys
 same_ascending [] [] a b f = refl
 same_ascending [] (j ∷ ys) a b f = absurd (none_in j ((f j).1 (head_in j ys)))
 same_ascending (i ∷ xs) [] a b f = absurd (none_in i ((f i).0 (head_in i xs)))
-same_ascending (i ∷ xs) (j ∷ ys) a b f = ap (λ (t : Item). t ∷ xs) e ∙ ap (λ t. j ∷ t) (same_ascending xs ys (ascending_tail i xs a) (ascending_tail j ys b) (λ k. (down k, up k)))
+same_ascending (i ∷ xs) (j ∷ ys) a b f = ap (λ (t : Item). t ∷ xs) e ∙ ap (λ t. j ∷ t)
+    (same_ascending xs ys (ascending_tail i xs a) (ascending_tail j ys b) (λ k. (down k, up k)))
   where
     one : (i ≡ j) ⊎ Contains ys i → (j ≡ i) ⊎ Contains xs j → i ≡ j
     one (inl p) q = p
@@ -52,12 +55,14 @@ same_ascending (i ∷ xs) (j ∷ ys) a b f = ap (λ (t : Item). t ∷ xs) e ∙ 
     down k c = go (in_cases j k ys ((f k).0 (tail_in i k xs c)))
       where
         go : (k ≡ j) ⊎ Contains ys k → Contains ys k
-        go (inl p) = let z : Before i i = subst (Before i) (p ∙ sym e) (before_tail i k xs a c) in absurd (not_both i i z z)
+        go (inl p) = let z : Before i i = subst (Before i) (p ∙ sym e) (before_tail i k xs a c) in
+            absurd (not_both i i z z)
         go (inr p) = p
 
     up : (k : Item) → Contains ys k → Contains xs k
     up k c = go (in_cases i k xs ((f k).1 (tail_in j k ys c)))
       where
         go : (k ≡ i) ⊎ Contains xs k → Contains xs k
-        go (inl p) = let z : Before j j = subst (Before j) (p ∙ e) (before_tail j k ys b c) in absurd (not_both j j z z)
+        go (inl p) = let z : Before j j = subst (Before j) (p ∙ e) (before_tail j k ys b c) in
+            absurd (not_both j j z z)
         go (inr p) = p

@@ -1,5 +1,8 @@
--- Lookaheads in the making: what one more item adds is sound, and stays; and what the links make of it.
-use Rattle.std.proofs.Common.{ℕ, zero, suc, ◌≡◌, ◌<◌, ◌≤◌, ◌+◌, ◌⊎◌, ◌↔◌, List, [], ◌∷◌, ◌++◌, length, drop, get_or, refl, sym, ◌∙◌, ap, subst, inl, inr, arith, Option, Some, None, MatchOption}
+-- Lookaheads in the making: what one more item adds is sound, and stays; and what the links make of
+-- it.
+use Rattle.std.proofs.Common.{ℕ, zero, suc, ◌≡◌, ◌<◌, ◌≤◌, ◌+◌, ◌⊎◌, ◌↔◌, List, [], ◌∷◌, ◌++◌}
+use Rattle.std.proofs.Common.{length, drop, get_or, refl, sym, ◌∙◌, ap, subst, inl, inr, arith}
+use Rattle.std.proofs.Common.{Option, Some, None, MatchOption}
 use Rattle.std.proofs.Math.ListN.{set}
 use Rattle.std.specs.List.{All}
 use Rattle.ygrammar.specs.Grammar.{ContextFree, left_of, body_of, IsToken, end_token}
@@ -15,8 +18,11 @@ use Rattle.ylalr.specs.Links.{Linked, Reaches, given, passed, IsSpread}
 use Rattle.ylalr.specs.Places.{At, Opened, Shares, rows_at}
 use Rattle.ylalr.specs.Sets.{step_of, Moves, IsAscending, Before}
 use Rattle.ylalr.specs.States.{GotoIs, set_at, start_item}
-use Rattle.ylalr.specs.Looks.{Spread, starts, closes, moves, SoundLooks, StartLooks, ClosedLooks, ClosesAt, MovesAt, FormHas}
-use Rattle.ylalr.specs.Draft.{DraftValue, PlaceIn, IsHere, LeftsIn, SpreadIn, Carries, SoundDraft, Further, GivesForm, OpensAt, ShiftsAt, ServesAt, ServesState, IsMoved, StartsDraft}
+use Rattle.ylalr.specs.Looks.{Spread, starts, closes, moves, SoundLooks, StartLooks, ClosedLooks}
+use Rattle.ylalr.specs.Looks.{ClosesAt, MovesAt, FormHas}
+use Rattle.ylalr.specs.Draft.{DraftValue, PlaceIn, IsHere, LeftsIn, SpreadIn, Carries, SoundDraft}
+use Rattle.ylalr.specs.Draft.{Further, GivesForm, OpensAt, ShiftsAt, ServesAt, ServesState, IsMoved}
+use Rattle.ylalr.specs.Draft.{StartsDraft}
 use Rattle.ylalr.specs.Parts.{FitParts}
 use Rattle.ylalr.proofs.BeginsWith.{found_first, last_first, cases}
 use Rattle.ylalr.proofs.ListSteps.{same_default}
@@ -31,17 +37,23 @@ not_both i (inl x) = omega arith
 not_both i (inr x) = let y = x.1 in omega arith
 
 -- an item stands once in an ascending list
-index_once : (xs : List Item) (i : Item) (j k : ℕ) → IsAscending xs → j < length xs → k < length xs → get_or xs j i ≡ i → get_or xs k i ≡ i → j ≡ k
+index_once : (xs : List Item) (i : Item) (j k : ℕ) → IsAscending xs → j < length xs →
+    k < length xs → get_or xs j i ≡ i → get_or xs k i ≡ i → j ≡ k
 index_once xs i j k a hj hk ej ek = go (order j k)
   where
     go : (j < k) ⊎ ((j ≡ k) ⊎ (k < j)) → j ≡ k
-    go (inl l) = absurd (not_both i (subst (λ t. Before t i) ej (subst (λ t. Before (get_or xs j i) t) ek (a j k i l hk))))
+    go (inl l) = absurd (not_both i
+        (subst (λ t. Before t i) ej (subst (λ t. Before (get_or xs j i) t) ek (a j k i l hk))))
     go (inr (inl e)) = e
-    go (inr (inr l)) = absurd (not_both i (subst (λ t. Before t i) ek (subst (λ t. Before (get_or xs k i) t) ej (a k j i l hj))))
+    go (inr (inr l)) = absurd
+        (not_both i (subst (λ t. Before t i) ek (subst (λ t. Before (get_or xs k i) t) ej
+        (a k j i l hj))))
 
 -- an item of a state has one row
-pub row_once : (xs : List Item) (rows : List ℕ) (i : Item) (p t : ℕ) → IsAscending xs → At xs rows i p → At xs rows i t → p ≡ t
-row_once xs rows i p t a x y = x.row ∙ ap (λ k. get_or rows k 0) (index_once xs i x.index y.index a x.within y.within x.here y.here) ∙ sym y.row
+pub row_once : (xs : List Item) (rows : List ℕ) (i : Item) (p t : ℕ) → IsAscending xs →
+    At xs rows i p → At xs rows i t → p ≡ t
+row_once xs rows i p t a x y = x.row ∙ ap (λ k. get_or rows k 0)
+    (index_once xs i x.index y.index a x.within y.within x.here y.here) ∙ sym y.row
 
 heads : (v w : ℕ) (x y z : List ℕ) → z ≡ v ∷ x → z ≡ w ∷ y → v ≡ w
 heads v w x y z e h = cc
@@ -68,68 +80,98 @@ pub further_same : (d : DraftValue) → Further d d
 further_same d = record { looks = λ r c h. h; links = λ p t h. h }
 
 pub further_then : (d e f : DraftValue) → Further d e → Further e f → Further d f
-further_then d e f a b = record { looks = λ r c h. b.looks r c (a.looks r c h); links = λ p t h. b.links p t (a.links p t h) }
+further_then d e f a b = record { looks = λ r c h. b.looks r c (a.looks r c h); links =
+    λ p t h. b.links p t (a.links p t h) }
 
-pub opens_kept : (P : Parts) (d e : DraftValue) (q p : ℕ) (i : Item) → Further d e → OpensAt P d q i p → OpensAt P e q i p
-opens_kept P d e q p i m o n t y z pt = let w = o n t y z pt in record { begun = λ b h. m.looks t b (w.begun b h); linked = λ a. m.links p t (w.linked a) }
+pub opens_kept : (P : Parts) (d e : DraftValue) (q p : ℕ) (i : Item) → Further d e →
+    OpensAt P d q i p → OpensAt P e q i p
+opens_kept P d e q p i m o n t y z pt = let w = o n t y z pt in
+    record { begun = λ b h. m.looks t b (w.begun b h); linked = λ a. m.links p t (w.linked a) }
 
-pub serves_kept : (P : Parts) (d e : DraftValue) (q p : ℕ) (i : Item) → Further d e → ServesAt P d q i p → ServesAt P e q i p
-serves_kept P d e q p i m s = record { opens = opens_kept P d e q p i m s.opens; shifts = λ x n t y z ne to pt. m.links p t (s.shifts x n t y z ne to pt) }
+pub serves_kept : (P : Parts) (d e : DraftValue) (q p : ℕ) (i : Item) → Further d e →
+    ServesAt P d q i p → ServesAt P e q i p
+serves_kept P d e q p i m s = record { opens = opens_kept P d e q p i m s.opens; shifts =
+    λ x n t y z ne to pt. m.links p t (s.shifts x n t y z ne to pt) }
 
 module _ (P : Parts) (f : WellFormed P.grammar.bare) (fit : FitParts P) where
   g : ContextFree
   g = P.grammar.bare
 
-  gotos : (q x : ℕ) → q < length P.states.closures → x < P.grammar.bare.symbols → GotoIs P.grammar.bare P.states q x (goto_of P.gotos q x)
+  gotos : (q x : ℕ) → q < length P.states.closures → x < P.grammar.bare.symbols →
+      GotoIs P.grammar.bare P.states q x (goto_of P.gotos q x)
   gotos q x h k = fit.gotos.gotos q h x k
 
   -- the items of one row
-  pub same_row : (q n : ℕ) (i k : Item) (p : ℕ) → PlaceIn P q i p → PlaceIn P n k p → (q ≡ n) × Shares P.grammar.bare i k
+  pub same_row : (q n : ℕ) (i k : Item) (p : ℕ) → PlaceIn P q i p → PlaceIn P n k p →
+      (q ≡ n) × Shares P.grammar.bare i k
   same_row q n i k p x y =
       let e = fit.places.apart q n i k p x y in
-      (e, (fit.places.rows q x.state).apart i k p x.at (subst (λ m. At (set_at P.states.closures m) (rows_at P.places m) k p) (sym e) y.at))
+      (e, (fit.places.rows q x.state).apart i k p x.at
+          (subst (λ m. At (set_at P.states.closures m) (rows_at P.places m) k p) (sym e) y.at))
 
   pub place_below : (q : ℕ) (i : Item) (p : ℕ) → PlaceIn P q i p → p < P.places.total
   place_below q i p x = fit.places.below q i p x
 
   pub place_once : (q : ℕ) (i : Item) (p t : ℕ) → PlaceIn P q i p → PlaceIn P q i t → p ≡ t
-  place_once q i p t x y = row_once (set_at P.states.closures q) (rows_at P.places q) i p t (fit.states.each q x.state).order x.at y.at
+  place_once q i p t x y = row_once (set_at P.states.closures q) (rows_at P.places q) i p t
+      (fit.states.each q x.state).order x.at y.at
 
-  pub rule_below : (q : ℕ) (i : Item) (p : ℕ) → PlaceIn P q i p → i.rule < length P.grammar.bare.rules
-  rule_below q i p x = subst (λ (v : Item). v.rule < length P.grammar.bare.rules) x.at.here ((fit.states.each q x.state).range x.at.index i x.at.within).0
+  pub rule_below : (q : ℕ) (i : Item) (p : ℕ) → PlaceIn P q i p →
+      i.rule < length P.grammar.bare.rules
+  rule_below q i p x = subst (λ (v : Item). v.rule < length P.grammar.bare.rules) x.at.here
+      ((fit.states.each q x.state).range x.at.index i x.at.within).0
 
   -- what the closure rule gives to one item, it gives to all that share its row
-  opened_on : (q n t a : ℕ) (i k j : Item) (s : ℕ) (y : List ℕ) (b : ℕ) → SpreadIn P q i a → drop i.dot (body_of P.grammar.bare i.rule) ≡ s ∷ y → First P.grammar.bare (y ++ a ∷ []) b → PlaceIn P q k t → Opened P.grammar.bare s k → PlaceIn P n j t → SpreadIn P n j b
+  opened_on : (q n t a : ℕ) (i k j : Item) (s : ℕ) (y : List ℕ) (b : ℕ) → SpreadIn P q i a →
+      drop i.dot (body_of P.grammar.bare i.rule) ≡ s ∷ y → First P.grammar.bare (y ++ a ∷ []) b →
+      PlaceIn P q k t → Opened P.grammar.bare s k → PlaceIn P n j t → SpreadIn P n j b
   opened_on q n t a i k j s y b sp e w pk o pj =
       let z = same_row q n k j t pk pj in
       let oj : Opened P.grammar.bare s j = both z.1 in
-      let r : Spread P.grammar.bare (goto_of P.gotos) q j.rule 0 b = closes sp (e ∙ ap (λ v. v ∷ y) (sym oj.1)) (rule_below n j t pj) w in
-      subst (λ m. Spread P.grammar.bare (goto_of P.gotos) m j.rule j.dot b) z.0 (subst (λ d. Spread P.grammar.bare (goto_of P.gotos) q j.rule d b) (sym oj.0) r)
+      let r : Spread P.grammar.bare (goto_of P.gotos) q j.rule 0 b =
+              closes sp (e ∙ ap (λ v. v ∷ y) (sym oj.1)) (rule_below n j t pj) w in
+      subst (λ m. Spread P.grammar.bare (goto_of P.gotos) m j.rule j.dot b) z.0
+          (subst (λ d. Spread P.grammar.bare (goto_of P.gotos) q j.rule d b) (sym oj.0) r)
     where
       both : Shares P.grammar.bare k j → Opened P.grammar.bare s j
       both (inl h) = subst (Opened P.grammar.bare s) h o
       both (inr h) = (h.1.0, h.1.1 ∙ o.1)
 
   -- what begins the form after the dot goes to the row of the left side
-  pub sound_begun : (d : DraftValue) (m : BitRows) (h : Here) (k : Item) (s to : ℕ) (y : List ℕ) → SoundLooks P.grammar.bare (goto_of P.gotos) P.states P.places d.looks → IsHere P h → drop h.item.dot (body_of P.grammar.bare h.item.rule) ≡ s ∷ y → PlaceIn P h.state k to → Opened P.grammar.bare s k → ((r b : ℕ) → Holds m r b → Holds d.looks r b ⊎ ((r ≡ to) × FormHas P.nullable P.first y b)) → SoundLooks P.grammar.bare (goto_of P.gotos) P.states P.places m
+  pub sound_begun : (d : DraftValue) (m : BitRows) (h : Here) (k : Item) (s to : ℕ) (y : List ℕ) →
+      SoundLooks P.grammar.bare (goto_of P.gotos) P.states P.places d.looks → IsHere P h →
+      drop h.item.dot (body_of P.grammar.bare h.item.rule) ≡ s ∷ y → PlaceIn P h.state k to →
+      Opened P.grammar.bare s k → ((r b : ℕ) → Holds m r b → Holds d.looks r b ⊎
+      ((r ≡ to) × FormHas P.nullable P.first y b)) → SoundLooks P.grammar.bare (goto_of P.gotos)
+      P.states P.places m
   sound_begun d m h k s to y sound ih e pk o a q i p b ip z = go (a p b z)
     where
       go : Holds d.looks p b ⊎ ((p ≡ to) × FormHas P.nullable P.first y b) → SpreadIn P q i b
       go (inl w) = sound q i p b ip w
       go (inr (ep, w)) =
-          let c = some_spread P.grammar.bare f P.states (goto_of P.gotos) fit.states gotos h.state h.item ih.state (ih.at.index, ih.at.within, ih.at.here) in
-          let ta = spread_token P.grammar.bare f P.states (goto_of P.gotos) fit.states gotos h.state h.item.rule h.item.dot c.0 c.1 in
-          let tb : IsToken P.grammar.bare b = subst (λ v. b < v) fit.first_sized.columns w.there.column in
-          opened_on h.state q to c.0 h.item k i s y b c.1 e (found_first P.grammar.bare f P.nullable P.first fit.nullable_exact fit.first_exact y c.0 b ta tb w.place w.within w.before w.there) pk o (subst (PlaceIn P q i) ep ip)
+          let c = some_spread P.grammar.bare f P.states (goto_of P.gotos) fit.states gotos h.state
+                  h.item ih.state (ih.at.index, ih.at.within, ih.at.here) in
+          let ta = spread_token P.grammar.bare f P.states (goto_of P.gotos) fit.states gotos h.state
+                  h.item.rule h.item.dot c.0 c.1 in
+          let tb : IsToken P.grammar.bare b = subst (λ v. b < v) fit.first_sized.columns
+                  w.there.column in
+          opened_on h.state q to c.0 h.item k i s y b c.1 e
+              (found_first P.grammar.bare f P.nullable P.first fit.nullable_exact fit.first_exact y
+              c.0 b ta tb w.place w.within w.before w.there) pk o (subst (PlaceIn P q i) ep ip)
 
   -- a form that vanishes passes on all that the item has
-  pub carries_open : (h : Here) (k : Item) (s to : ℕ) (y : List ℕ) → IsHere P h → drop h.item.dot (body_of P.grammar.bare h.item.rule) ≡ s ∷ y → PlaceIn P h.state k to → Opened P.grammar.bare s k → All (marked P.nullable) y → Carries P h.row to
+  pub carries_open : (h : Here) (k : Item) (s to : ℕ) (y : List ℕ) → IsHere P h → drop h.item.dot
+      (body_of P.grammar.bare h.item.rule) ≡ s ∷ y → PlaceIn P h.state k to →
+      Opened P.grammar.bare s k → All (marked P.nullable) y → Carries P h.row to
   carries_open h k s to y ih e pk o all = record {
     state = h.state;
     item = h.item;
     place = ih;
-    on = λ n j a pj sp. (let ta = spread_token P.grammar.bare f P.states (goto_of P.gotos) fit.states gotos h.state h.item.rule h.item.dot a sp in
-        opened_on h.state n to a h.item k j s y a sp e (last_first P.grammar.bare f P.nullable P.first fit.nullable_exact fit.first_exact y a a ta ta all refl) pk o pj);
+    on = λ n j a pj sp. (let ta = spread_token P.grammar.bare f P.states (goto_of P.gotos)
+        fit.states gotos h.state h.item.rule h.item.dot a sp in
+        opened_on h.state n to a h.item k j s y a sp e
+            (last_first P.grammar.bare f P.nullable P.first fit.nullable_exact fit.first_exact y a a
+            ta ta all refl) pk o pj);
   }
 
   -- an item passes on all that it has to the item with its dot moved
@@ -140,134 +182,204 @@ module _ (P : Parts) (f : WellFormed P.grammar.bare) (fit : FitParts P) where
       same k (inl e) = e
       same k (inr e) = absurd (let z = e.0 in omega arith)
 
-      on : (n : ℕ) (k : Item) (a : ℕ) → PlaceIn P n k t → SpreadIn P h.state h.item a → SpreadIn P n k a
+      on : (n : ℕ) (k : Item) (a : ℕ) → PlaceIn P n k t → SpreadIn P h.state h.item a →
+          SpreadIn P n k a
       on n k a pk sp =
           let z = same_row m.target n (step_of h.item) k t m.place pk in
           let r : SpreadIn P m.target (step_of h.item) a = moves sp m.moves.1 m.moves.2 m.leads in
-          subst (λ v. SpreadIn P v k a) z.0 (subst (λ (v : Item). SpreadIn P m.target v a) (same k z.1) r)
+          subst (λ v. SpreadIn P v k a) z.0 (subst (λ (v : Item). SpreadIn P m.target v a)
+              (same k z.1) r)
 
   -- other items of the row that is opened
-  pub opens_by : (d : DraftValue) (h : Here) (k : Item) (s to : ℕ) (y : List ℕ) → drop h.item.dot (body_of P.grammar.bare h.item.rule) ≡ s ∷ y → PlaceIn P h.state k to → Opened P.grammar.bare s k → GivesForm P d y h.row to → OpensAt P d h.state h.item h.row
+  pub opens_by : (d : DraftValue) (h : Here) (k : Item) (s to : ℕ) (y : List ℕ) → drop h.item.dot
+      (body_of P.grammar.bare h.item.rule) ≡ s ∷ y → PlaceIn P h.state k to →
+      Opened P.grammar.bare s k → GivesForm P d y h.row to → OpensAt P d h.state h.item h.row
   opens_by d h k s to y e pk o gives n t z ez pt =
-      let es : left_of P.grammar.bare n ≡ s = heads (left_of P.grammar.bare n) s z y (drop h.item.dot (body_of P.grammar.bare h.item.rule)) ez e in
-      let ey : z ≡ y = tails (left_of P.grammar.bare n) s z y (drop h.item.dot (body_of P.grammar.bare h.item.rule)) ez e in
-      let et : to ≡ t = (fit.places.rows h.state pk.state).shared k (record { rule = n; dot = 0 }) to t pk.at pt.at o.0 (refl, es ∙ sym o.1) in
+      let es : left_of P.grammar.bare n ≡ s = heads (left_of P.grammar.bare n) s z y
+              (drop h.item.dot (body_of P.grammar.bare h.item.rule)) ez e in
+      let ey : z ≡ y = tails (left_of P.grammar.bare n) s z y
+              (drop h.item.dot (body_of P.grammar.bare h.item.rule)) ez e in
+      let et : to ≡ t = (fit.places.rows h.state pk.state).shared k (record { rule = n; dot = 0 })
+              to t pk.at pt.at o.0 (refl, es ∙ sym o.1) in
       subst (λ v. GivesForm P d v h.row t) (sym ey) (subst (λ v. GivesForm P d y h.row v) et gives)
 
-  pub opens_nowhere : (d : DraftValue) (h : Here) → length (body_of P.grammar.bare h.item.rule) ≤ h.item.dot → OpensAt P d h.state h.item h.row
-  opens_nowhere d h l n t y e pt = absurd (let z = below_dot h.item.dot (body_of P.grammar.bare h.item.rule) (left_of P.grammar.bare n) y e in omega arith)
+  pub opens_nowhere : (d : DraftValue) (h : Here) → length (body_of P.grammar.bare h.item.rule) ≤
+      h.item.dot → OpensAt P d h.state h.item h.row
+  opens_nowhere d h l n t y e pt =
+      absurd (let z = below_dot h.item.dot (body_of P.grammar.bare h.item.rule)
+      (left_of P.grammar.bare n) y e in omega arith)
 
   -- no item of the state has that left side
-  pub opens_none : (d : DraftValue) (h : Here) (s : ℕ) (y : List ℕ) (lefts : List (Option ℕ)) → LeftsIn P h.state lefts → drop h.item.dot (body_of P.grammar.bare h.item.rule) ≡ s ∷ y → get_or lefts s None ≡ None → OpensAt P d h.state h.item h.row
+  pub opens_none : (d : DraftValue) (h : Here) (s : ℕ) (y : List ℕ) (lefts : List (Option ℕ)) →
+      LeftsIn P h.state lefts → drop h.item.dot (body_of P.grammar.bare h.item.rule) ≡ s ∷ y →
+      get_or lefts s None ≡ None → OpensAt P d h.state h.item h.row
   opens_none d h s y lefts are e none n t z ez pt =
-      let es : left_of P.grammar.bare n ≡ s = heads (left_of P.grammar.bare n) s z y (drop h.item.dot (body_of P.grammar.bare h.item.rule)) ez e in
-      absurd (none_some t (get_or lefts s None) none (subst (λ v. get_or lefts v None ≡ Some t) es (are.every (record { rule = n; dot = 0 }) t pt.at refl)))
+      let es : left_of P.grammar.bare n ≡ s = heads (left_of P.grammar.bare n) s z y
+              (drop h.item.dot (body_of P.grammar.bare h.item.rule)) ez e in
+      absurd (none_some t (get_or lefts s None) none (subst (λ v. get_or lefts v None ≡ Some t) es
+          (are.every (record { rule = n; dot = 0 }) t pt.at refl)))
 
-  pub shifts_by : (d : DraftValue) (h : Here) (t : ℕ) → IsMoved P h t → Linked d.links h.row t → ShiftsAt P d h.state h.item h.row
+  pub shifts_by : (d : DraftValue) (h : Here) (t : ℕ) → IsMoved P h t → Linked d.links h.row t →
+      ShiftsAt P d h.state h.item h.row
   shifts_by d h t m l x n u y e ne to pu =
-      let ex : m.symbol ≡ x = heads m.symbol x m.moves.0 y (drop h.item.dot (body_of P.grammar.bare h.item.rule)) m.moves.1 e in
-      let en : m.target ≡ n = some_same m.target n (goto_of P.gotos h.state m.symbol) m.leads (ap (λ v. goto_of P.gotos h.state v) ex ∙ to) in
-      let et : t ≡ u = place_once n (step_of h.item) t u (subst (λ v. PlaceIn P v (step_of h.item) t) en m.place) pu in
+      let ex : m.symbol ≡ x = heads m.symbol x m.moves.0 y
+              (drop h.item.dot (body_of P.grammar.bare h.item.rule)) m.moves.1 e in
+      let en : m.target ≡ n = some_same m.target n (goto_of P.gotos h.state m.symbol) m.leads
+              (ap (λ v. goto_of P.gotos h.state v) ex ∙ to) in
+      let et : t ≡ u = place_once n (step_of h.item) t u
+              (subst (λ v. PlaceIn P v (step_of h.item) t) en m.place) pu in
       subst (λ v. Linked d.links h.row v) et l
 
-  pub shifts_none : (d : DraftValue) (h : Here) → ((t : ℕ) → IsMoved P h t → ⊥) → ShiftsAt P d h.state h.item h.row
-  shifts_none d h absent x n u y e ne to pu = absurd (absent u (record { symbol = x; target = n; moves = (y, e, ne); leads = to; place = pu }))
+  pub shifts_none : (d : DraftValue) (h : Here) → ((t : ℕ) → IsMoved P h t → ⊥) →
+      ShiftsAt P d h.state h.item h.row
+  shifts_none d h absent x n u y e ne to pu =
+      absurd (absent u (record { symbol = x; target = n; moves = (y, e, ne); leads = to; place =
+      pu }))
 
   -- the rows with all that is passed on are sound
-  pub spread_sound : (d : DraftValue) (m : BitRows) → SoundDraft P d → IsSpread d.links d.looks m → SoundLooks P.grammar.bare (goto_of P.gotos) P.states P.places m
+  pub spread_sound : (d : DraftValue) (m : BitRows) → SoundDraft P d → IsSpread d.links d.looks m →
+      SoundLooks P.grammar.bare (goto_of P.gotos) P.states P.places m
   spread_sound d m s x q i p a ip h = go ((x p a).0 h) q i ip
     where
-      go : {p a : ℕ} → Reaches d.links d.looks p a → (q : ℕ) (i : Item) → PlaceIn P q i p → SpreadIn P q i a
+      go : {p a : ℕ} → Reaches d.links d.looks p a → (q : ℕ) (i : Item) → PlaceIn P q i p →
+          SpreadIn P q i a
       go (given {p = p} {c = c} h) q i ip = s.looks q i p c ip h
       go (passed {p = p} {t = t} {c = c} z l) q i ip =
           let k = s.carried p t l in
           k.on q i c ip (go z k.state k.item k.place)
 
   -- and closed
-  pub spread_closed : (d : DraftValue) (m : BitRows) → SoundDraft P d → IsSpread d.links d.looks m → StartsDraft P d → ((q : ℕ) → q < length P.states.closures → ServesState P d q) → ClosedLooks P.grammar.bare (goto_of P.gotos) P.states P.places m
+  pub spread_closed : (d : DraftValue) (m : BitRows) → SoundDraft P d → IsSpread d.links d.looks m →
+      StartsDraft P d → ((q : ℕ) → q < length P.states.closures → ServesState P d q) →
+      ClosedLooks P.grammar.bare (goto_of P.gotos) P.states P.places m
   spread_closed d m s x st serves = record {
     start = λ p ip. (x p end_token).1 (given (st p ip));
-    states = λ q h i p ip. record { closes = closed q i p ip (serves q h i p ip); moves = moved q i p (serves q h i p ip) };
+    states = λ q h i p ip. record { closes = closed q i p ip (serves q h i p ip); moves =
+        moved q i p (serves q h i p ip) };
   }
     where
       columns : (p a : ℕ) → Reaches d.links d.looks p a → IsToken P.grammar.bare a
       columns p a (given h) = subst (λ v. a < v) s.sized.columns h.column
       columns p a (passed {p = r} z l) = columns r a z
 
-      closed : (q : ℕ) (i : Item) (p : ℕ) → PlaceIn P q i p → ServesAt P d q i p → ClosesAt P.grammar.bare P.states P.places m q i p
+      closed : (q : ℕ) (i : Item) (p : ℕ) → PlaceIn P q i p → ServesAt P d q i p →
+          ClosesAt P.grammar.bare P.states P.places m q i p
       closed q i p ip v n hn y a b t z e w pt =
           let r = (x p a).0 z in
           let o = v.opens n t y e pt in
-          go o r (cases P.grammar.bare f P.nullable P.first fit.nullable_exact fit.first_exact y a b (columns p a r) w.token w)
+          go o r (cases P.grammar.bare f P.nullable P.first fit.nullable_exact fit.first_exact y a b
+              (columns p a r) w.token w)
         where
-          go : GivesForm P d y p t → Reaches d.links d.looks p a → FormHas P.nullable P.first y b ⊎ (All (marked P.nullable) y × (b ≡ a)) → Holds m t b
+          go : GivesForm P d y p t → Reaches d.links d.looks p a → FormHas P.nullable P.first y b ⊎
+              (All (marked P.nullable) y × (b ≡ a)) → Holds m t b
           go o r (inl k) = (x t b).1 (given (o.begun b k))
-          go o r (inr k) = (x t b).1 (subst (Reaches d.links d.looks t) (sym k.1) (passed r (o.linked k.0)))
+          go o r (inr k) = (x t b).1 (subst (Reaches d.links d.looks t) (sym k.1)
+              (passed r (o.linked k.0)))
 
-      moved : (q : ℕ) (i : Item) (p : ℕ) → ServesAt P d q i p → MovesAt P.grammar.bare (goto_of P.gotos) P.states P.places m q i p
-      moved q i p v y n z a t h e ne to pt = (x t a).1 (passed ((x p a).0 h) (v.shifts y n t z e ne to pt))
+      moved : (q : ℕ) (i : Item) (p : ℕ) → ServesAt P d q i p → MovesAt P.grammar.bare
+          (goto_of P.gotos) P.states P.places m q i p
+      moved q i p v y n z a t h e ne to pt =
+          (x t a).1 (passed ((x p a).0 h) (v.shifts y n t z e ne to pt))
 
   -- a mark for the first item
-  pub sound_start : (m o : BitRows) (t : ℕ) → ((r c : ℕ) → Holds m r c → ⊥) → PlaceIn P 0 start_item t → ((r c : ℕ) → Holds o r c ↔ (Holds m r c ⊎ ((r ≡ t) × (c ≡ end_token)))) → SoundLooks P.grammar.bare (goto_of P.gotos) P.states P.places o
+  pub sound_start : (m o : BitRows) (t : ℕ) → ((r c : ℕ) → Holds m r c → ⊥) →
+      PlaceIn P 0 start_item t →
+      ((r c : ℕ) → Holds o r c ↔ (Holds m r c ⊎ ((r ≡ t) × (c ≡ end_token)))) →
+      SoundLooks P.grammar.bare (goto_of P.gotos) P.states P.places o
   sound_start m o t none it x q i p b ip z = go ((x p b).0 z)
     where
-      first_rule : (r : ℕ) → r < length P.grammar.bare.rules → left_of P.grammar.bare r ≡ left_of P.grammar.bare 0 → r ≡ 0
+      first_rule : (r : ℕ) → r < length P.grammar.bare.rules → left_of P.grammar.bare r ≡ left_of
+          P.grammar.bare 0 → r ≡ 0
       first_rule zero h e = refl
       first_rule (suc r) h e = absurd (f.accept_once (suc r) (omega arith) h e)
 
-      on : Shares P.grammar.bare start_item i → i.rule < length P.grammar.bare.rules → Spread P.grammar.bare (goto_of P.gotos) 0 i.rule i.dot end_token
-      on (inl e) h = subst (λ (v : Item). Spread P.grammar.bare (goto_of P.gotos) 0 v.rule v.dot end_token) e starts
+      on : Shares P.grammar.bare start_item i → i.rule < length P.grammar.bare.rules →
+          Spread P.grammar.bare (goto_of P.gotos) 0 i.rule i.dot end_token
+      on (inl e) h = subst (λ (v : Item). Spread P.grammar.bare (goto_of P.gotos) 0 v.rule v.dot
+          end_token) e starts
       on (inr e) h =
           let r : i.rule ≡ 0 = first_rule i.rule h e.1.1 in
-          subst (λ v. Spread P.grammar.bare (goto_of P.gotos) 0 v i.dot end_token) (sym r) (subst (λ v. Spread P.grammar.bare (goto_of P.gotos) 0 0 v end_token) (sym e.1.0) starts)
+          subst (λ v. Spread P.grammar.bare (goto_of P.gotos) 0 v i.dot end_token) (sym r)
+              (subst (λ v. Spread P.grammar.bare (goto_of P.gotos) 0 0 v end_token)
+              (sym e.1.0) starts)
 
       go : Holds m p b ⊎ ((p ≡ t) × (b ≡ end_token)) → SpreadIn P q i b
       go (inl w) = absurd (none p b w)
       go (inr w) =
           let s = same_row 0 q start_item i t it (subst (PlaceIn P q i) w.0 ip) in
-          subst (λ v. SpreadIn P v i b) s.0 (subst (λ v. Spread P.grammar.bare (goto_of P.gotos) 0 i.rule i.dot v) (sym w.1) (on s.1 (rule_below q i p ip)))
+          subst (λ v. SpreadIn P v i b) s.0
+              (subst (λ v. Spread P.grammar.bare (goto_of P.gotos) 0 i.rule i.dot v) (sym w.1)
+              (on s.1 (rule_below q i p ip)))
 
-  pub start_marked : (m o : BitRows) (t : ℕ) → PlaceIn P 0 start_item t → ((r c : ℕ) → Holds o r c ↔ (Holds m r c ⊎ ((r ≡ t) × (c ≡ end_token)))) → StartLooks P.states P.places o
+  pub start_marked : (m o : BitRows) (t : ℕ) → PlaceIn P 0 start_item t →
+      ((r c : ℕ) → Holds o r c ↔ (Holds m r c ⊎ ((r ≡ t) × (c ≡ end_token)))) →
+      StartLooks P.states P.places o
   start_marked m o t it x p ip = (x p end_token).1 (inr (place_once 0 start_item p t ip it, refl))
 
-  pub goto_within : (q x n : ℕ) → q < length P.states.closures → x < P.grammar.bare.symbols → goto_of P.gotos q x ≡ Some n → n < length P.states.closures
-  goto_within q x n h k e = let w : GotoIs P.grammar.bare P.states q x (Some n) = subst (GotoIs P.grammar.bare P.states q x) e (gotos q x h k) in w.0
+  pub goto_within : (q x n : ℕ) → q < length P.states.closures → x < P.grammar.bare.symbols →
+      goto_of P.gotos q x ≡ Some n → n < length P.states.closures
+  goto_within q x n h k e = let w : GotoIs P.grammar.bare P.states q x (Some n) =
+      subst (GotoIs P.grammar.bare P.states q x) e (gotos q x h k) in w.0
 
   -- the symbol after the dot leads to one state
-  one_target : (h : Here) (t x n : ℕ) → IsMoved P h t → Moves P.grammar.bare h.item x → goto_of P.gotos h.state x ≡ Some n → PlaceIn P n (step_of h.item) t
+  one_target : (h : Here) (t x n : ℕ) → IsMoved P h t → Moves P.grammar.bare h.item x →
+      goto_of P.gotos h.state x ≡ Some n → PlaceIn P n (step_of h.item) t
   one_target h t x n m mv e =
-      let ex : m.symbol ≡ x = heads m.symbol x m.moves.0 mv.0 (drop h.item.dot (body_of P.grammar.bare h.item.rule)) m.moves.1 mv.1 in
-      let en : m.target ≡ n = some_same m.target n (goto_of P.gotos h.state m.symbol) m.leads (ap (λ v. goto_of P.gotos h.state v) ex ∙ e) in
+      let ex : m.symbol ≡ x = heads m.symbol x m.moves.0 mv.0
+              (drop h.item.dot (body_of P.grammar.bare h.item.rule)) m.moves.1 mv.1 in
+      let en : m.target ≡ n = some_same m.target n (goto_of P.gotos h.state m.symbol) m.leads
+              (ap (λ v. goto_of P.gotos h.state v) ex ∙ e) in
       subst (λ v. PlaceIn P v (step_of h.item) t) en m.place
 
-  pub moved_nowhere : (h : Here) (x : ℕ) → Moves P.grammar.bare h.item x → goto_of P.gotos h.state x ≡ None → (t : ℕ) → IsMoved P h t → ⊥
+  pub moved_nowhere : (h : Here) (x : ℕ) → Moves P.grammar.bare h.item x →
+      goto_of P.gotos h.state x ≡ None → (t : ℕ) → IsMoved P h t → ⊥
   moved_nowhere h x mv e t m =
-      let ex : m.symbol ≡ x = heads m.symbol x m.moves.0 mv.0 (drop h.item.dot (body_of P.grammar.bare h.item.rule)) m.moves.1 mv.1 in
-      none_some m.target (goto_of P.gotos h.state x) e (ap (λ v. goto_of P.gotos h.state v) (sym ex) ∙ m.leads)
+      let ex : m.symbol ≡ x = heads m.symbol x m.moves.0 mv.0
+              (drop h.item.dot (body_of P.grammar.bare h.item.rule)) m.moves.1 mv.1 in
+      none_some m.target (goto_of P.gotos h.state x) e (ap (λ v. goto_of P.gotos h.state v)
+          (sym ex) ∙ m.leads)
 
-  pub moved_match : (h : Here) (x n : ℕ) (o : Option ℕ) → Moves P.grammar.bare h.item x → goto_of P.gotos h.state x ≡ Some n → MatchOption o ((p : ℕ) → PlaceIn P n (record { rule = h.item.rule; dot = h.item.dot + 1 }) p → ⊥) (λ p. PlaceIn P n (record { rule = h.item.rule; dot = h.item.dot + 1 }) p) → MatchOption o ((t : ℕ) → IsMoved P h t → ⊥) (IsMoved P h)
-  moved_match h x n None mv e z = λ t m. z t (subst (λ (v : Item). PlaceIn P n v t) (sym (step_is h.item)) (one_target h t x n m mv e))
-  moved_match h x n (Some p) mv e z = record { symbol = x; target = n; moves = mv; leads = e; place = subst (λ (v : Item). PlaceIn P n v p) (step_is h.item) z }
+  pub moved_match : (h : Here) (x n : ℕ) (o : Option ℕ) → Moves P.grammar.bare h.item x →
+      goto_of P.gotos h.state x ≡ Some n →
+      MatchOption o ((p : ℕ) → PlaceIn P n (record { rule = h.item.rule; dot = h.item.dot + 1 }) p →
+      ⊥) (λ p. PlaceIn P n (record { rule = h.item.rule; dot = h.item.dot + 1 }) p) →
+      MatchOption o ((t : ℕ) → IsMoved P h t → ⊥) (IsMoved P h)
+  moved_match h x n None mv e z =
+      λ t m. z t (subst (λ (v : Item). PlaceIn P n v t) (sym (step_is h.item))
+      (one_target h t x n m mv e))
+  moved_match h x n (Some p) mv e z = record { symbol = x; target = n; moves = mv; leads = e;
+      place = subst (λ (v : Item). PlaceIn P n v p) (step_is h.item) z }
 
 -- rows with more, and one more link along which lookaheads are carried
-pub sound_linked : (P : Parts) (d : DraftValue) (m : BitRows) (more : List (List ℕ)) (from to : ℕ) → SoundDraft P d → IsSized P.places.total P.grammar.bare.tokens m → SoundLooks P.grammar.bare (goto_of P.gotos) P.states P.places m → from < P.places.total → to < P.places.total → more ≡ set d.links from (get_or d.links from [] ++ to ∷ []) → Carries P from to → SoundDraft P (record { looks = m; links = more })
+pub sound_linked : (P : Parts) (d : DraftValue) (m : BitRows) (more : List (List ℕ)) (from to : ℕ) →
+    SoundDraft P d → IsSized P.places.total P.grammar.bare.tokens m → SoundLooks P.grammar.bare
+    (goto_of P.gotos) P.states P.places m → from < P.places.total → to < P.places.total →
+    more ≡ set d.links from (get_or d.links from [] ++ to ∷ []) → Carries P from to →
+    SoundDraft P (record { looks = m; links = more })
 sound_linked P d m more from to s z w hf ht e c = record {
   sized = z;
-  links = links_push d.links more from to (subst (λ k. from < k) (sym s.links.sized) hf) e P.places.total s.links ht;
+  links = links_push d.links more from to (subst (λ k. from < k) (sym s.links.sized) hf) e
+      P.places.total s.links ht;
   looks = w;
-  carried = λ p t h. go p t (link_cases d.links more from to (subst (λ k. from < k) (sym s.links.sized) hf) e p t h);
+  carried = λ p t h. go p t
+      (link_cases d.links more from to (subst (λ k. from < k) (sym s.links.sized) hf) e p t h);
 }
   where
     go : (p t : ℕ) → Linked d.links p t ⊎ ((p ≡ from) × (t ≡ to)) → Carries P p t
     go p t (inl h) = s.carried p t h
-    go p t (inr h) = subst (λ k. Carries P k t) (sym h.0) (subst (λ k. Carries P from k) (sym h.1) c)
+    go p t (inr h) = subst (λ k. Carries P k t) (sym h.0)
+        (subst (λ k. Carries P from k) (sym h.1) c)
 
 -- rows with more
-pub sound_rows : (P : Parts) (d : DraftValue) (m : BitRows) → SoundDraft P d → IsSized P.places.total P.grammar.bare.tokens m → SoundLooks P.grammar.bare (goto_of P.gotos) P.states P.places m → SoundDraft P (record { looks = m; links = d.links })
+pub sound_rows : (P : Parts) (d : DraftValue) (m : BitRows) → SoundDraft P d →
+    IsSized P.places.total P.grammar.bare.tokens m → SoundLooks P.grammar.bare (goto_of P.gotos)
+    P.states P.places m → SoundDraft P (record { looks = m; links = d.links })
 sound_rows P d m s z w = record { sized = z; links = s.links; looks = w; carried = s.carried }
 
 -- no links yet
-pub no_links : (P : Parts) (m : BitRows) (l : List (List ℕ)) → length l ≡ P.places.total → All (λ r. r ≡ []) l → IsSized P.places.total P.grammar.bare.tokens m → SoundLooks P.grammar.bare (goto_of P.gotos) P.states P.places m → SoundDraft P (record { looks = m; links = l })
+pub no_links : (P : Parts) (m : BitRows) (l : List (List ℕ)) → length l ≡ P.places.total →
+    All (λ r. r ≡ []) l → IsSized P.places.total P.grammar.bare.tokens m → SoundLooks P.grammar.bare
+    (goto_of P.gotos) P.states P.places m → SoundDraft P (record { looks = m; links = l })
 no_links P m l e none z w = record {
   sized = z;
   links = are_links_none P.places.total l e none;
@@ -279,12 +391,19 @@ below_or : (k i : ℕ) → k < i + 1 → (k < i) ⊎ (k ≡ i)
 below_or k i h = grind arith
 
 -- one more item of a state is served
-pub served_more : (P : Parts) (d e : DraftValue) (q k : ℕ) (xs : List Item) (rows : List ℕ) (v : Item) → xs ≡ set_at P.states.closures q → rows ≡ rows_at P.places q → k < length xs → Further d e → ((i : Item) (p : ℕ) (z : PlaceIn P q i p) → z.at.index < k → ServesAt P d q i p) → ServesAt P e q (get_or xs k v) (get_or rows k 0) → (i : Item) (p : ℕ) (z : PlaceIn P q i p) → z.at.index < k + 1 → ServesAt P e q i p
+pub served_more : (P : Parts) (d e : DraftValue) (q k : ℕ) (xs : List Item) (rows : List ℕ)
+    (v : Item) → xs ≡ set_at P.states.closures q → rows ≡ rows_at P.places q → k < length xs →
+    Further d e → ((i : Item) (p : ℕ) (z : PlaceIn P q i p) → z.at.index < k → ServesAt P d q i p) →
+    ServesAt P e q (get_or xs k v) (get_or rows k 0) → (i : Item) (p : ℕ) (z : PlaceIn P q i p) →
+    z.at.index < k + 1 → ServesAt P e q i p
 served_more P d e q k xs rows v ex er h m s last i p z l = go (below_or z.at.index k l)
   where
     go : (z.at.index < k) ⊎ (z.at.index ≡ k) → ServesAt P e q i p
     go (inl w) = serves_kept P d e q p i m (s i p z w)
     go (inr w) =
-        let ei : get_or xs k v ≡ i = same_default xs k v i h ∙ ap (λ (u : List Item). get_or u k i) ex ∙ ap (λ j. get_or (set_at P.states.closures q) j i) (sym w) ∙ z.at.here in
-        let ep : get_or rows k 0 ≡ p = ap (λ (u : List ℕ). get_or u k 0) er ∙ ap (λ j. get_or (rows_at P.places q) j 0) (sym w) ∙ sym z.at.row in
-        subst (λ u. ServesAt P e q i u) ep (subst (λ (u : Item). ServesAt P e q u (get_or rows k 0)) ei last)
+        let ei : get_or xs k v ≡ i = same_default xs k v i h ∙ ap (λ (u : List Item). get_or u k i)
+                ex ∙ ap (λ j. get_or (set_at P.states.closures q) j i) (sym w) ∙ z.at.here in
+        let ep : get_or rows k 0 ≡ p = ap (λ (u : List ℕ). get_or u k 0) er ∙ ap
+                (λ j. get_or (rows_at P.places q) j 0) (sym w) ∙ sym z.at.row in
+        subst (λ u. ServesAt P e q i u) ep (subst (λ (u : Item). ServesAt P e q u (get_or rows k 0))
+            ei last)

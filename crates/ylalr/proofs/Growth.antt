@@ -2,12 +2,14 @@
 use Rattle.std.proofs.Common.{ℕ, Bool, true, false, ◌||◌, ◌≡◌, ◌<◌, ◌≤◌, ◌∙◌, arith}
 use Rattle.ylalr.specs.Rows.{BitRows, Grown, IsSized}
 
-pub less_then : (a b : Bool) (x y z : ℕ) → (a ≡ true → y < x) → y ≤ x → (b ≡ true → z < y) → z ≤ y → (a || b) ≡ true → z < x
+pub less_then : (a b : Bool) (x y z : ℕ) → (a ≡ true → y < x) → y ≤ x → (b ≡ true → z < y) → z ≤ y →
+    (a || b) ≡ true → z < x
 less_then true b x y z f k g l e = let h = f (λ i. true) in omega arith
 less_then false true x y z f k g l e = let h = g (λ i. true) in omega arith
 less_then false false x y z f k g l e = absurd (cc)
 
-pub same_then : {X : Type 0} (a b : Bool) (x y z : X) → (a ≡ false → y ≡ x) → (b ≡ false → z ≡ y) → (a || b) ≡ false → z ≡ x
+pub same_then : {X : Type 0} (a b : Bool) (x y z : X) → (a ≡ false → y ≡ x) → (b ≡ false → z ≡ y) →
+    (a || b) ≡ false → z ≡ x
 same_then true b x y z f g e = absurd (cc)
 same_then false true x y z f g e = absurd (cc)
 same_then false false x y z f g e = g (λ i. false) ∙ f (λ i. false)

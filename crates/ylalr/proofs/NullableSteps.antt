@@ -1,5 +1,8 @@
--- Marks of the symbols that derive the empty form: one more is sound, and closed marks have them all.
-use Rattle.std.proofs.Common.{ℕ, zero, suc, Bool, true, false, ◌≡◌, ◌≢◌, ◌<◌, ◌≤◌, ◌+◌, ◌*◌, ◌⊎◌, List, [], ◌∷◌, ◌++◌, length, get_or, replicate, refl, sym, ◌∙◌, ap, subst, inl, inr, arith, get_or-set_same, get_or-set_other}
+-- Marks of the symbols that derive the empty form: one more is sound, and closed marks have them
+-- all.
+use Rattle.std.proofs.Common.{ℕ, zero, suc, Bool, true, false, ◌≡◌, ◌≢◌, ◌<◌, ◌≤◌, ◌+◌, ◌*◌, ◌⊎◌}
+use Rattle.std.proofs.Common.{List, [], ◌∷◌, ◌++◌, length, get_or, replicate, refl, sym, ◌∙◌, ap}
+use Rattle.std.proofs.Common.{subst, inl, inr, arith, get_or-set_same, get_or-set_other}
 use Rattle.std.proofs.Math.ListN.{set, length-set}
 use Rattle.std.proofs.lemmas.List.{length-replicate}
 use Rattle.std.specs.List.{All, Contains}
@@ -10,13 +13,15 @@ use Rattle.ygrammar.specs.Forms.{Nullable}
 use Rattle.ylalr.specs.First.{IsNullable}
 use Rattle.ylalr.specs.Links.{Linked}
 use Rattle.ylalr.specs.Marks.{marked, unmarked}
-use Rattle.ylalr.specs.Nullable.{SoundNullable, ClosedAt, ClosedNullable, HasUses, UsesMore, AreUsers, Visits}
+use Rattle.ylalr.specs.Nullable.{SoundNullable, ClosedAt, ClosedNullable, HasUses, UsesMore}
+use Rattle.ylalr.specs.Nullable.{AreUsers, Visits}
 use Rattle.ylalr.specs.Waiting.{Line}
 use Rattle.ylalr.proofs.LinkSteps.{links_length, link_kept, link_cases, no_link}
 use Rattle.ylalr.proofs.ListSteps.{same_default}
 use Rattle.ylalr.proofs.Turn.{below_or_is}
 use Rattle.ylalr.proofs.WaitingSteps.{head_or, line_nearer}
-use Rattle.ylalr.proofs.Vanish.{Vanishes, none, more, vanishes_append, vanishes_from_nullable, nullable_from_vanishes}
+use Rattle.ylalr.proofs.Vanish.{Vanishes, none, more, vanishes_append, vanishes_from_nullable}
+use Rattle.ylalr.proofs.Vanish.{nullable_from_vanishes}
 
 same_or : (a b : ℕ) → (a ≡ b) ⊎ (a ≢ b)
 same_or a b = grind arith
@@ -32,22 +37,29 @@ pub none_marked : (n s : ℕ) → marked (replicate n false) s → ⊥
 none_marked n s h = grind (arith, common_steps)
 
 -- marked symbols all vanish
-pub vanishing_form : (g : ContextFree) (m : List Bool) → SoundNullable g m → (x : List ℕ) → All (marked m) x → Vanishes g x
+pub vanishing_form : (g : ContextFree) (m : List Bool) → SoundNullable g m → (x : List ℕ) →
+    All (marked m) x → Vanishes g x
 vanishing_form g m f [] h = none
-vanishing_form g m f (s ∷ x) h = vanishes_append (vanishes_from_nullable (f s (All-head (marked m) s x h))) x (vanishing_form g m f x (All-tail (marked m) s x h))
+vanishing_form g m f (s ∷ x) h = vanishes_append
+    (vanishes_from_nullable (f s (All-head (marked m) s x h))) x
+    (vanishing_form g m f x (All-tail (marked m) s x h))
 
-pub sound_after : (g : ContextFree) (m n : List Bool) (r l : ℕ) → SoundNullable g m → r < length g.rules → l ≡ left_of g r → All (marked m) (body_of g r) → n ≡ set m l true → SoundNullable g n
+pub sound_after : (g : ContextFree) (m n : List Bool) (r l : ℕ) → SoundNullable g m →
+    r < length g.rules → l ≡ left_of g r → All (marked m) (body_of g r) → n ≡ set m l true →
+    SoundNullable g n
 sound_after g m n r l f h e b q s k = go (marked_cases m l s (subst (λ t. marked t s) q k))
   where
     go : (s ≡ l) ⊎ marked m s → Nullable g (s ∷ [])
-    go (inl x) = nullable_from_vanishes (more r h (x ∙ e) (vanishing_form g m f (body_of g r) b) none)
+    go (inl x) = nullable_from_vanishes (more r h (x ∙ e) (vanishing_form g m f (body_of g r) b)
+        none)
     go (inr x) = f s x
 
 -- one more rule is listed at the symbols of its body
 pub uses_none : (g : ContextFree) (r : ℕ) (l : List (List ℕ)) → UsesMore g r l l
 uses_none g r l = record { sized = refl; kept = λ s k h. h; only = λ s k h. inl h }
 
-pub uses_push : (g : ContextFree) (r from : ℕ) (l m n : List (List ℕ)) → UsesMore g r l m → from < length m → n ≡ set m from (get_or m from [] ++ r ∷ []) → UsesMore g r l n
+pub uses_push : (g : ContextFree) (r from : ℕ) (l m n : List (List ℕ)) → UsesMore g r l m →
+    from < length m → n ≡ set m from (get_or m from [] ++ r ∷ []) → UsesMore g r l n
 uses_push g r from l m n u h e = record {
   sized = links_length m n from r h e ∙ u.sized;
   kept = λ s k c. link_kept m n from r h e s k (u.kept s k c);
@@ -64,10 +76,13 @@ pub record Listing (g : ContextFree) (r : ℕ) (l : List (List ℕ)) : Type 0 wh
   pub within : (s k : ℕ) → Linked l s k → k < r
   pub each : (k : ℕ) → k < r → HasUses g l k
 
-pub listing_none : (g : ContextFree) (l : List (List ℕ)) → length l ≡ g.symbols → All (λ k. k ≡ []) l → Listing g 0 l
-listing_none g l e z = record { sized = e; within = λ s k h. absurd (no_link l z s k h); each = λ k h. absurd (omega arith) }
+pub listing_none : (g : ContextFree) (l : List (List ℕ)) → length l ≡ g.symbols →
+    All (λ k. k ≡ []) l → Listing g 0 l
+listing_none g l e z = record { sized = e; within = λ s k h. absurd (no_link l z s k h); each =
+    λ k h. absurd (omega arith) }
 
-pub listing_more : (g : ContextFree) (r : ℕ) (l n : List (List ℕ)) → Listing g r l → UsesMore g r l n → HasUses g n r → Listing g (r + 1) n
+pub listing_more : (g : ContextFree) (r : ℕ) (l n : List (List ℕ)) → Listing g r l →
+    UsesMore g r l n → HasUses g n r → Listing g (r + 1) n
 listing_more g r l n a u h = record {
   sized = u.sized ∙ a.sized;
   within = λ s k c. inside s k (u.only s k c);
@@ -82,14 +97,19 @@ listing_more g r l n a u h = record {
     every k (inl i) = λ s c. u.kept s k (a.each k i s c)
     every k (inr q) = subst (HasUses g n) (sym q) h
 
-pub users_all : (g : ContextFree) (r : ℕ) (l : List (List ℕ)) → r ≡ length g.rules → Listing g r l → AreUsers g l
-users_all g r l e a = record { sized = a.sized; within = λ s k h. subst (λ i. k < i) e (a.within s k h); each = λ k h. a.each k (subst (λ i. k < i) (sym e) h) }
+pub users_all : (g : ContextFree) (r : ℕ) (l : List (List ℕ)) → r ≡ length g.rules → Listing g r l →
+    AreUsers g l
+users_all g r l e a = record { sized = a.sized; within = λ s k h. subst (λ i. k < i) e
+    (a.within s k h); each = λ k h. a.each k (subst (λ i. k < i) (sym e) h) }
 
-pub listed_below : (g : ContextFree) (s : ℕ) (l : List (List ℕ)) → AreUsers g l → All (λ k. k < length g.rules) (get_or l s [])
-listed_below g s l a k d h = a.within s (get_or (get_or l s []) k d) (k, h, same_default (get_or l s []) k (get_or (get_or l s []) k d) d h)
+pub listed_below : (g : ContextFree) (s : ℕ) (l : List (List ℕ)) → AreUsers g l →
+    All (λ k. k < length g.rules) (get_or l s [])
+listed_below g s l a k d h = a.within s (get_or (get_or l s []) k d)
+    (k, h, same_default (get_or l s []) k (get_or (get_or l s []) k d) d h)
 
 -- a rule that marks nothing
-pub visits_same : (g : ContextFree) (r : ℕ) (m n : List Bool) (v w : Line) → length v.queue ≤ length v.marks → n ≡ m → w ≡ v → ClosedAt g m r → Visits g r m v n w
+pub visits_same : (g : ContextFree) (r : ℕ) (m n : List Bool) (v w : Line) →
+    length v.queue ≤ length v.marks → n ≡ m → w ≡ v → ClosedAt g m r → Visits g r m v n w
 visits_same g r m n v w few en ew c = subst (λ (y : Line). Visits g r m v n y) (sym ew) (record {
   sized = ap (λ (x : List Bool). length x) en;
   line = refl;
@@ -108,7 +128,8 @@ contains_or : (x : List ℕ) (l : ℕ) → Contains x l ⊎ ((k : ℕ) → k < l
 contains_or [] l = inr (λ k h. absurd (omega arith))
 contains_or (s ∷ x) l = go (same_or s l) (contains_or x l)
   where
-    go : (s ≡ l) ⊎ (s ≢ l) → Contains x l ⊎ ((k : ℕ) → k < length x → get_or x k 0 ≢ l) → Contains (s ∷ x) l ⊎ ((k : ℕ) → k < length (s ∷ x) → get_or (s ∷ x) k 0 ≢ l)
+    go : (s ≡ l) ⊎ (s ≢ l) → Contains x l ⊎ ((k : ℕ) → k < length x → get_or x k 0 ≢ l) →
+        Contains (s ∷ x) l ⊎ ((k : ℕ) → k < length (s ∷ x) → get_or (s ∷ x) k 0 ≢ l)
     go (inl e) d = inl (0, omega arith, e)
     go (inr e) (inl d) = inl (suc d.0, (let z = d.1 in omega arith), d.2)
     go (inr e) (inr d) = inr at
@@ -118,12 +139,17 @@ contains_or (s ∷ x) l = go (same_or s l) (contains_or x l)
         at (suc k) h = d k (omega arith)
 
 -- the left side is marked, and the rules in whose bodies it stands wait
-pub visits_marked : (g : ContextFree) (r l : ℕ) (users : List (List ℕ)) (m n : List Bool) (v w : Line) → AreUsers g users → l ≡ left_of g r → l < length m → n ≡ set m l true → unmarked n < unmarked m → length w.marks ≡ length v.marks → length w.queue ≤ length w.marks → All (λ k. Contains w.queue k) (get_or users l []) → ((k : ℕ) → Contains v.queue k → Contains w.queue k) → Visits g r m v n w
+pub visits_marked : (g : ContextFree) (r l : ℕ) (users : List (List ℕ)) (m n : List Bool)
+    (v w : Line) → AreUsers g users → l ≡ left_of g r → l < length m → n ≡ set m l true →
+    unmarked n < unmarked m → length w.marks ≡ length v.marks → length w.queue ≤ length w.marks →
+    All (λ k. Contains w.queue k) (get_or users l []) →
+    ((k : ℕ) → Contains v.queue k → Contains w.queue k) → Visits g r m v n w
 visits_marked g r l users m n v w a e h en less line few there kept = record {
   sized = ap (λ (x : List Bool). length x) en ∙ length-set m l true;
   line = line;
   few = few;
-  closed = λ _. subst (marked n) e (subst (λ (x : List Bool). marked x l) (sym en) (get_or-set_same m l true false h));
+  closed = λ _. subst (marked n) e (subst (λ (x : List Bool). marked x l) (sym en)
+      (get_or-set_same m l true false h));
   waits = λ k i c. waits k i c (contains_or (body_of g k) l);
   kept = kept;
   fewer = omega arith;
@@ -134,15 +160,23 @@ visits_marked g r l users m n v w a e h en less line few there kept = record {
     grows s c = go (same_or s l)
       where
         go : (s ≡ l) ⊎ (s ≢ l) → marked n s
-        go (inl q) = subst (marked n) (sym q) (subst (λ (x : List Bool). marked x l) (sym en) (get_or-set_same m l true false h))
-        go (inr q) = subst (λ (x : List Bool). marked x s) (sym en) (get_or-set_other m l s true false q ∙ c)
+        go (inl q) = subst (marked n) (sym q) (subst (λ (x : List Bool). marked x l) (sym en)
+            (get_or-set_same m l true false h))
+        go (inr q) = subst (λ (x : List Bool). marked x s) (sym en)
+            (get_or-set_other m l s true false q ∙ c)
 
-    back : (x : List ℕ) → ((k : ℕ) → k < length x → get_or x k 0 ≢ l) → All (marked n) x → All (marked m) x
+    back : (x : List ℕ) → ((k : ℕ) → k < length x → get_or x k 0 ≢ l) → All (marked n) x →
+        All (marked m) x
     back [] f c = All-nil (marked m)
-    back (s ∷ x) f c = All-cons (marked m) s x (marked_or m s l (f 0 (omega arith)) (subst (λ (y : List Bool). marked y s) en (All-head (marked n) s x c))) (back x (λ k i. f (suc k) (omega arith)) (All-tail (marked n) s x c))
+    back (s ∷ x) f c = All-cons (marked m) s x (marked_or m s l (f 0 (omega arith))
+        (subst (λ (y : List Bool). marked y s) en (All-head (marked n) s x c)))
+        (back x (λ k i. f (suc k) (omega arith)) (All-tail (marked n) s x c))
 
-    waits : (k : ℕ) → k < length g.rules → ClosedAt g m k → Contains (body_of g k) l ⊎ ((j : ℕ) → j < length (body_of g k) → get_or (body_of g k) j 0 ≢ l) → ClosedAt g n k ⊎ Contains w.queue k
-    waits k i c (inl d) = inr (All-contains (λ j. Contains w.queue j) (get_or users l []) k there (a.each k i l d))
+    waits : (k : ℕ) → k < length g.rules → ClosedAt g m k → Contains (body_of g k) l ⊎
+        ((j : ℕ) → j < length (body_of g k) → get_or (body_of g k) j 0 ≢ l) → ClosedAt g n k ⊎
+        Contains w.queue k
+    waits k i c (inl d) = inr (All-contains (λ j. Contains w.queue j) (get_or users l []) k there
+        (a.each k i l d))
     waits k i c (inr d) = inl (λ z. grows (left_of g k) (c (back (body_of g k) d z)))
 
 -- each rule adds nothing, or waits
@@ -152,7 +186,9 @@ pub record Marking (g : ContextFree) (m : List Bool) (w : Line) : Type 0 where
   pub line : length w.marks ≡ length g.rules
   pub waits : (r : ℕ) → r < length g.rules → ClosedAt g m r ⊎ Contains w.queue r
 
-pub marking_none : (g : ContextFree) (m : List Bool) (w : Line) (n : ℕ) → n ≡ g.symbols → m ≡ replicate n false → length w.marks ≡ length g.rules → ((r : ℕ) → r < length g.rules → Contains w.queue r) → Marking g m w
+pub marking_none : (g : ContextFree) (m : List Bool) (w : Line) (n : ℕ) → n ≡ g.symbols →
+    m ≡ replicate n false → length w.marks ≡ length g.rules →
+    ((r : ℕ) → r < length g.rules → Contains w.queue r) → Marking g m w
 marking_none g m w n en em line every = record {
   sized = ap (λ (x : List Bool). length x) em ∙ length-replicate n false ∙ en;
   sound = λ s h. absurd (none_marked n s (subst (λ (x : List Bool). marked x s) em h));
@@ -161,7 +197,9 @@ marking_none g m w n en em line every = record {
 }
 
 -- the rule in front was visited
-pub marking_more : (g : ContextFree) (p : ℕ) (m n : List Bool) (u v w : Line) → Marking g m u → u.queue ≡ p ∷ v.queue → length v.marks ≡ length u.marks → Visits g p m v n w → SoundNullable g n → Marking g n w
+pub marking_more : (g : ContextFree) (p : ℕ) (m n : List Bool) (u v w : Line) → Marking g m u →
+    u.queue ≡ p ∷ v.queue → length v.marks ≡ length u.marks → Visits g p m v n w →
+    SoundNullable g n → Marking g n w
 marking_more g p m n u v w a e ev z s = record {
   sized = z.sized ∙ a.sized;
   sound = s;
@@ -169,26 +207,37 @@ marking_more g p m n u v w a e ev z s = record {
   waits = λ r h. waits r h (same_or r p) (a.waits r h);
 }
   where
-    waits : (r : ℕ) → r < length g.rules → (r ≡ p) ⊎ (r ≢ p) → ClosedAt g m r ⊎ Contains u.queue r → ClosedAt g n r ⊎ Contains w.queue r
+    waits : (r : ℕ) → r < length g.rules → (r ≡ p) ⊎ (r ≢ p) → ClosedAt g m r ⊎ Contains u.queue r →
+        ClosedAt g n r ⊎ Contains w.queue r
     waits r h (inl q) d = inl (subst (ClosedAt g n) (sym q) z.closed)
     waits r h (inr q) (inl d) = z.waits r h d
-    waits r h (inr q) (inr d) = inr (z.kept r (rest (head_or v.queue p r (subst (λ xs. Contains xs r) e d))))
+    waits r h (inr q) (inr d) =
+        inr (z.kept r (rest (head_or v.queue p r (subst (λ xs. Contains xs r) e d))))
       where
         rest : (r ≡ p) ⊎ Contains v.queue r → Contains v.queue r
         rest (inl y) = absurd (q y)
         rest (inr y) = y
 
 -- taking a rule that waits, and visiting it, brings the end nearer
-pub marking_nearer : (g : ContextFree) (p : ℕ) (m n : List Bool) (u v w : Line) → u.queue ≡ p ∷ v.queue → length v.marks ≡ length u.marks → Visits g p m v n w → unmarked n * (length w.marks + 1) + length w.queue < unmarked m * (length u.marks + 1) + length u.queue
-marking_nearer g p m n u v w e ev z = line_nearer (unmarked m) (unmarked n) u v w p e ev z.line z.few z.fewer z.calm
+pub marking_nearer : (g : ContextFree) (p : ℕ) (m n : List Bool) (u v w : Line) →
+    u.queue ≡ p ∷ v.queue → length v.marks ≡ length u.marks → Visits g p m v n w →
+    unmarked n * (length w.marks + 1) + length w.queue < unmarked m * (length u.marks + 1) + length
+    u.queue
+marking_nearer g p m n u v w e ev z = line_nearer (unmarked m) (unmarked n) u v w p e ev z.line
+    z.few z.fewer z.calm
 
-complete : {g : ContextFree} {x : List ℕ} (m : List Bool) → ClosedNullable g m → Vanishes g x → All (marked m) x
+complete : {g : ContextFree} {x : List ℕ} (m : List Bool) → ClosedNullable g m → Vanishes g x →
+    All (marked m) x
 complete m c none = All-nil (marked m)
-complete m c (more {s = s} {x = x} r h e b v) = All-cons (marked m) s x (subst (marked m) (sym e) (c r h (complete m c b))) (complete m c v)
+complete m c (more {s = s} {x = x} r h e b v) = All-cons (marked m) s x
+    (subst (marked m) (sym e) (c r h (complete m c b))) (complete m c v)
 
 -- no rule waits
-pub marking_end : (g : ContextFree) (m : List Bool) (w : Line) → Marking g m w → w.queue ≡ [] → IsNullable g m
-marking_end g m w a e s = (a.sound s, λ d. All-head (marked m) s [] (complete m (λ r h. on r (a.waits r h)) (vanishes_from_nullable d)))
+pub marking_end : (g : ContextFree) (m : List Bool) (w : Line) → Marking g m w → w.queue ≡ [] →
+    IsNullable g m
+marking_end g m w a e s =
+    (a.sound s, λ d. All-head (marked m) s [] (complete m (λ r h. on r (a.waits r h))
+    (vanishes_from_nullable d)))
   where
     nowhere : (r : ℕ) → Contains {X = ℕ} [] r → ⊥
     nowhere r c = let h = c.1 in omega arith

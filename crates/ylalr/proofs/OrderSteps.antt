@@ -1,9 +1,13 @@
 -- One turn more: a row that is entered, or left.
-use Rattle.std.proofs.Common.{ℕ, suc, Bool, true, false, ◌≡◌, ◌≢◌, ◌<◌, ◌⊎◌, List, [], ◌∷◌, ◌++◌, length, map, replicate, sym, ◌∙◌, ap, subst, inl, inr, arith, get_or-set_same, get_or-set_other}
+use Rattle.std.proofs.Common.{ℕ, suc, Bool, true, false, ◌≡◌, ◌≢◌, ◌<◌, ◌⊎◌, List, [], ◌∷◌, ◌++◌}
+use Rattle.std.proofs.Common.{length, map, replicate, sym, ◌∙◌, ap, subst, inl, inr, arith}
+use Rattle.std.proofs.Common.{get_or-set_same, get_or-set_other}
 use Rattle.std.proofs.Math.ListN.{set, length-set}
 use Rattle.std.specs.List.{All, Contains}
 use Rattle.std.specs.Prelude.{sum_by}
-use Rattle.std.proofs.lemmas.List.Elements.{All-nil, All-cons, All-append, All-map, Contains-push, Contains-push_cases, Contains-append_left, Contains-append_right}
+use Rattle.std.proofs.lemmas.List.Elements.{All-nil, All-cons, All-append, All-map, Contains-push}
+use Rattle.std.proofs.lemmas.List.Elements.{Contains-push_cases, Contains-append_left}
+use Rattle.std.proofs.lemmas.List.Elements.{Contains-append_right}
 use Rattle.ylalr.specs.declared.order.Turn.{Turn}
 use Rattle.ylalr.specs.declared.order.Turn.TheVariants.{Enter, Leave}
 use Rattle.ylalr.specs.Marks.{marked}
@@ -11,7 +15,8 @@ use Rattle.ylalr.specs.Order.{AreTurns, row_of}
 use Rattle.ylalr.proofs.NullableSteps.{marked_cases, none_marked}
 
 -- no row was seen
-pub turns_none : (n : ℕ) (m : List Bool) (t : List Turn) (o : List ℕ) → m ≡ replicate n false → t ≡ [] → o ≡ [] → AreTurns m t o
+pub turns_none : (n : ℕ) (m : List Bool) (t : List Turn) (o : List ℕ) → m ≡ replicate n false →
+    t ≡ [] → o ≡ [] → AreTurns m t o
 turns_none n m t o em et eo = record {
   turns = subst (All (λ t. row_of t < length m)) (sym et) (All-nil (λ t. row_of t < length m));
   order = subst (All (λ p. p < length m)) (sym eo) (All-nil (λ p. p < length m));
@@ -24,11 +29,14 @@ last_turn P (y ∷ t) x a = last_turn P t x (λ k d h. a (suc k) d (omega arith)
 
 first_turns : (P : Turn → Type 0) (t : List Turn) (x : Turn) → All P (t ++ x ∷ []) → All P t
 first_turns P [] x a = All-nil P
-first_turns P (y ∷ t) x a = All-cons P y t (a 0 y (omega arith)) (first_turns P t x (λ k d h. a (suc k) d (omega arith)))
+first_turns P (y ∷ t) x a = All-cons P y t (a 0 y (omega arith))
+    (first_turns P t x (λ k d h. a (suc k) d (omega arith)))
 
 -- the row of the turn that is taken
-pub turn_below : (m : List Bool) (v t : List Turn) (x : Turn) (o : List ℕ) → v ≡ t ++ x ∷ [] → AreTurns m v o → row_of x < length m
-turn_below m v t x o e a = last_turn (λ y. row_of y < length m) t x (subst (All (λ y. row_of y < length m)) e a.turns)
+pub turn_below : (m : List Bool) (v t : List Turn) (x : Turn) (o : List ℕ) → v ≡ t ++ x ∷ [] →
+    AreTurns m v o → row_of x < length m
+turn_below m v t x o e a = last_turn (λ y. row_of y < length m) t x
+    (subst (All (λ y. row_of y < length m)) e a.turns)
 
 enter_leave : (p q : ℕ) → Enter p ≡ Leave q → ⊥
 enter_leave p q e = absurd (cc)
@@ -37,9 +45,11 @@ leave_same : (p q : ℕ) → Leave p ≡ Leave q → p ≡ q
 leave_same p q e = ap row_of e
 
 -- a turn to enter a row that was seen
-pub turns_skip : (m : List Bool) (v t : List Turn) (p : ℕ) (o : List ℕ) → v ≡ t ++ Enter p ∷ [] → AreTurns m v o → AreTurns m t o
+pub turns_skip : (m : List Bool) (v t : List Turn) (p : ℕ) (o : List ℕ) → v ≡ t ++ Enter p ∷ [] →
+    AreTurns m v o → AreTurns m t o
 turns_skip m v t p o e a = record {
-  turns = first_turns (λ y. row_of y < length m) t (Enter p) (subst (All (λ y. row_of y < length m)) e a.turns);
+  turns = first_turns (λ y. row_of y < length m) t (Enter p)
+      (subst (All (λ y. row_of y < length m)) e a.turns);
   order = a.order;
   left = λ q h. go q (a.left q h);
 }
@@ -50,12 +60,18 @@ turns_skip m v t p o e a = record {
 
     go : (q : ℕ) → Contains o q ⊎ Contains v (Leave q) → Contains o q ⊎ Contains t (Leave q)
     go q (inl c) = inl c
-    go q (inr c) = two q (Contains-push_cases t (Enter p) (Leave q) (subst (λ xs. Contains xs (Leave q)) e c))
+    go q (inr c) = two q (Contains-push_cases t (Enter p) (Leave q)
+        (subst (λ xs. Contains xs (Leave q)) e c))
 
 -- a row is entered
-pub turns_enter : (m n : List Bool) (t w : List Turn) (p : ℕ) (to o : List ℕ) → p < length m → All (λ k. k < length m) to → n ≡ set m p true → w ≡ t ++ Leave p ∷ map Enter to → AreTurns m t o → AreTurns n w o
+pub turns_enter : (m n : List Bool) (t w : List Turn) (p : ℕ) (to o : List ℕ) → p < length m →
+    All (λ k. k < length m) to → n ≡ set m p true → w ≡ t ++ Leave p ∷ map Enter to →
+    AreTurns m t o → AreTurns n w o
 turns_enter m n t w p to o h l en ew a = record {
-  turns = subst (λ k. All (λ y. row_of y < k) w) (sym sized) (subst (All (λ y. row_of y < length m)) (sym ew) (All-append (λ y. row_of y < length m) t (Leave p ∷ map Enter to) a.turns (All-cons (λ y. row_of y < length m) (Leave p) (map Enter to) h (All-map (λ y. row_of y < length m) Enter to l))));
+  turns = subst (λ k. All (λ y. row_of y < k) w) (sym sized) (subst (All (λ y. row_of y < length m))
+      (sym ew) (All-append (λ y. row_of y < length m) t (Leave p ∷ map Enter to) a.turns
+      (All-cons (λ y. row_of y < length m) (Leave p) (map Enter to) h
+      (All-map (λ y. row_of y < length m) Enter to l))));
   order = subst (λ k. All (λ q. q < k) o) (sym sized) a.order;
   left = λ q k. go q (marked_cases m p q (subst (λ (x : List Bool). marked x q) en k));
 }
@@ -65,35 +81,46 @@ turns_enter m n t w p to o h l en ew a = record {
 
     two : (q : ℕ) → Contains o q ⊎ Contains t (Leave q) → Contains o q ⊎ Contains w (Leave q)
     two q (inl c) = inl c
-    two q (inr c) = inr (subst (λ xs. Contains xs (Leave q)) (sym ew) (Contains-append_left t (Leave p ∷ map Enter to) (Leave q) c))
+    two q (inr c) = inr (subst (λ xs. Contains xs (Leave q)) (sym ew)
+        (Contains-append_left t (Leave p ∷ map Enter to) (Leave q) c))
 
     go : (q : ℕ) → (q ≡ p) ⊎ marked m q → Contains o q ⊎ Contains w (Leave q)
-    go q (inl e) = inr (subst (λ xs. Contains xs (Leave q)) (sym ew) (Contains-append_right t (Leave p ∷ map Enter to) (Leave q) (0, omega arith, ap Leave (sym e))))
+    go q (inl e) = inr (subst (λ xs. Contains xs (Leave q)) (sym ew)
+        (Contains-append_right t (Leave p ∷ map Enter to) (Leave q)
+        (0, omega arith, ap Leave (sym e))))
     go q (inr k) = two q (a.left q k)
 
 -- a row is left
-pub turns_leave : (m : List Bool) (v t : List Turn) (p : ℕ) (o u : List ℕ) → v ≡ t ++ Leave p ∷ [] → u ≡ o ++ p ∷ [] → AreTurns m v o → AreTurns m t u
+pub turns_leave : (m : List Bool) (v t : List Turn) (p : ℕ) (o u : List ℕ) → v ≡ t ++ Leave p ∷ [] →
+    u ≡ o ++ p ∷ [] → AreTurns m v o → AreTurns m t u
 turns_leave m v t p o u e eu a = record {
-  turns = first_turns (λ y. row_of y < length m) t (Leave p) (subst (All (λ y. row_of y < length m)) e a.turns);
-  order = subst (All (λ q. q < length m)) (sym eu) (All-append (λ q. q < length m) o (p ∷ []) a.order (All-cons (λ q. q < length m) p [] (turn_below m v t (Leave p) o e a) (All-nil (λ q. q < length m))));
+  turns = first_turns (λ y. row_of y < length m) t (Leave p)
+      (subst (All (λ y. row_of y < length m)) e a.turns);
+  order = subst (All (λ q. q < length m)) (sym eu)
+      (All-append (λ q. q < length m) o (p ∷ []) a.order (All-cons (λ q. q < length m) p []
+      (turn_below m v t (Leave p) o e a) (All-nil (λ q. q < length m))));
   left = λ q h. go q (a.left q h);
 }
   where
     two : (q : ℕ) → Contains t (Leave q) ⊎ (Leave p ≡ Leave q) → Contains u q ⊎ Contains t (Leave q)
     two q (inl c) = inr c
-    two q (inr c) = inl (subst (λ xs. Contains xs q) (sym eu) (subst (λ k. Contains (o ++ p ∷ []) k) (leave_same p q c) (Contains-push o p)))
+    two q (inr c) = inl (subst (λ xs. Contains xs q) (sym eu) (subst (λ k. Contains (o ++ p ∷ []) k)
+        (leave_same p q c) (Contains-push o p)))
 
     go : (q : ℕ) → Contains o q ⊎ Contains v (Leave q) → Contains u q ⊎ Contains t (Leave q)
     go q (inl c) = inl (subst (λ xs. Contains xs q) (sym eu) (Contains-append_left o (p ∷ []) q c))
-    go q (inr c) = two q (Contains-push_cases t (Leave p) (Leave q) (subst (λ xs. Contains xs (Leave q)) e c))
+    go q (inr c) = two q (Contains-push_cases t (Leave p) (Leave q)
+        (subst (λ xs. Contains xs (Leave q)) e c))
 
 -- no turn is left
-pub turns_over : (m : List Bool) (t : List Turn) (o : List ℕ) (p : ℕ) → t ≡ [] → AreTurns m t o → marked m p → Contains o p
+pub turns_over : (m : List Bool) (t : List Turn) (o : List ℕ) (p : ℕ) → t ≡ [] → AreTurns m t o →
+    marked m p → Contains o p
 turns_over m t o p e a h = go (a.left p h)
   where
     go : Contains o p ⊎ Contains t (Leave p) → Contains o p
     go (inl c) = c
-    go (inr c) = absurd (let z = subst (λ xs. Contains xs (Leave p)) e c in let k = z.1 in omega arith)
+    go (inr c) = absurd (let z = subst (λ xs. Contains xs (Leave p)) e c in let k = z.1 in
+        omega arith)
 
 -- how many links there are
 abbrev pub size_of : List (List ℕ) → ℕ
@@ -105,7 +132,8 @@ mark_size m n p e = ap (λ (x : List Bool). length x) e ∙ length-set m p true
 same_or : (a b : ℕ) → (a ≡ b) ⊎ (a ≢ b)
 same_or a b = grind arith
 
-pub kept_marked : (m n : List Bool) (p q : ℕ) → p < length m → n ≡ set m p true → marked m q → marked n q
+pub kept_marked : (m n : List Bool) (p q : ℕ) → p < length m → n ≡ set m p true → marked m q →
+    marked n q
 kept_marked m n p q h e c = subst (λ (x : List Bool). marked x q) (sym e) (go (same_or q p))
   where
     go : (q ≡ p) ⊎ (q ≢ p) → marked (set m p true) q

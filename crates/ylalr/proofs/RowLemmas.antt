@@ -1,11 +1,15 @@
 -- What a word united with another does to the bits of rows, and to the room that is left.
-use Rattle.std.proofs.Common.{ℕ, ◌≡◌, ◌≢◌, ◌<◌, ◌≤◌, ◌+◌, ◌-◌, ◌*◌, ◌/◌, ◌%◌, ◌^◌, ◌⊎◌, ◌↔◌, length, get_or, sym, ◌∙◌, ap, subst, inl, inr, arith, max, bit_or, get_or-set_same, get_or-set_other}
+use Rattle.std.proofs.Common.{ℕ, ◌≡◌, ◌≢◌, ◌<◌, ◌≤◌, ◌+◌, ◌-◌, ◌*◌, ◌/◌, ◌%◌, ◌^◌, ◌⊎◌, ◌↔◌, length}
+use Rattle.std.proofs.Common.{get_or, sym, ◌∙◌, ap, subst, inl, inr, arith, max, bit_or}
+use Rattle.std.proofs.Common.{get_or-set_same, get_or-set_other}
 use Rattle.std.specs.Int.{bit_at, trailing_zeros, w64}
 use Rattle.std.specs.Int.Count.{trailing_of_zero}
 use Rattle.std.proofs.Math.Nat.{div-div-eq-div-mul}
 use Rattle.std.proofs.Math.ListN.{set, length-set}
-use Rattle.std.proofs.lemmas.Nat.{le_or_l, same_from_place, one_shl, div-add-mod', mod_below, mul-add-lt, pow-add}
-use Rattle.std.proofs.lemmas.Nat.Bits.{bit_at_or, bit_at-lt, bit_at-pow_same, bit_at-pow_other, bit_at-zero, bit_at-trailing_zeros}
+use Rattle.std.proofs.lemmas.Nat.{le_or_l, same_from_place, one_shl, div-add-mod', mod_below}
+use Rattle.std.proofs.lemmas.Nat.{mul-add-lt, pow-add}
+use Rattle.std.proofs.lemmas.Nat.Bits.{bit_at_or, bit_at-lt, bit_at-pow_same, bit_at-pow_other}
+use Rattle.std.proofs.lemmas.Nat.Bits.{bit_at-zero, bit_at-trailing_zeros}
 use Rattle.std.proofs.lemmas.List.Sums.{sum_by-set}
 use Rattle.ylalr.specs.Rows.{BitRows, IsBitRows, Holds, word_of, room, united, AddsFrom}
 
@@ -18,7 +22,9 @@ room_le m at more h =
     let l = le_or_l (get_or m.words at 0) more in
     omega arith
 
-pub room_lt : (m : BitRows) (at more : ℕ) → at < length m.words → bit_or (get_or m.words at 0) more < 2 ^ 64 → bit_or (get_or m.words at 0) more ≢ get_or m.words at 0 → room (united m at more) < room m
+pub room_lt : (m : BitRows) (at more : ℕ) → at < length m.words → bit_or (get_or m.words at 0) more
+    < 2 ^ 64 → bit_or (get_or m.words at 0) more ≢ get_or m.words at 0 →
+    room (united m at more) < room m
 room_lt m at more h k n =
     let e = sum_by-set (λ w. 2 ^ 64 - 1 - w) m.words at (bit_or (get_or m.words at 0) more) 0 h in
     let l = le_or_l (get_or m.words at 0) more in
@@ -26,7 +32,8 @@ room_lt m at more h k n =
 
 -- the rows with another word
 abbrev pub worded : BitRows → ℕ → ℕ → BitRows
-worded m at w = record { height = m.height; width = m.width; span = m.span; words = set m.words at w }
+worded m at w = record { height = m.height; width = m.width; span = m.span; words =
+    set m.words at w }
 
 -- whether bit k of a word is set
 abbrev pub BitIs : ℕ → ℕ → Type 0
@@ -52,8 +59,11 @@ in_span m f c h =
     let d = mod_below m.width 64 (omega arith) in
     omega arith
 
--- what is so of the bits of the word with column k of row i, after the word j of row r is united with more
-pub unite_holds : (m : BitRows) → IsBitRows m → (r j more : ℕ) → r < m.height → j < m.span → (i k : ℕ) → Holds (united m (r * m.span + j) more) i k ↔ (Holds m i k ⊎ ((i ≡ r) × (k < m.width) × (k / 64 ≡ j) × (bit_at more (k % 64) ≡ 1)))
+-- what is so of the bits of the word with column k of row i, after the word j of row r is united
+-- with more
+pub unite_holds : (m : BitRows) → IsBitRows m → (r j more : ℕ) → r < m.height → j < m.span →
+    (i k : ℕ) → Holds (united m (r * m.span + j) more) i k ↔ (Holds m i k ⊎
+    ((i ≡ r) × (k < m.width) × (k / 64 ≡ j) × (bit_at more (k % 64) ≡ 1)))
 unite_holds m f r j more hr hj i k = (to, from)
   where
     at : ℕ
@@ -66,47 +76,72 @@ unite_holds m f r j more hr hj i k = (to, from)
     within = let e = f.sized in let z = mul-add-lt r m.span j m.height hr hj in grind arith
 
     -- the word of the row is the united one, or another
-    word_same : (k < m.width) → (i < m.height) → (i * m.span + k / 64 ≡ r * m.span + j) → word_of (united m (r * m.span + j) more) i k ≡ bit_or (word_of m i k) more
-    word_same hk hi e = rw e (get_or-set_same m.words (r * m.span + j) (bit_or (get_or m.words (r * m.span + j) 0) more) 0 within)
+    word_same : (k < m.width) → (i < m.height) → (i * m.span + k / 64 ≡ r * m.span + j) →
+        word_of (united m (r * m.span + j) more) i k ≡ bit_or (word_of m i k) more
+    word_same hk hi e = rw e (get_or-set_same m.words (r * m.span + j)
+        (bit_or (get_or m.words (r * m.span + j) 0) more) 0 within)
 
-    word_other : (i * m.span + k / 64 ≢ r * m.span + j) → word_of (united m (r * m.span + j) more) i k ≡ word_of m i k
-    word_other e = get_or-set_other m.words (r * m.span + j) (i * m.span + k / 64) (bit_or (get_or m.words (r * m.span + j) 0) more) 0 e
+    word_other : (i * m.span + k / 64 ≢ r * m.span + j) → word_of (united m (r * m.span + j) more) i
+        k ≡ word_of m i k
+    word_other e = get_or-set_other m.words (r * m.span + j) (i * m.span + k / 64)
+        (bit_or (get_or m.words (r * m.span + j) 0) more) 0 e
 
-    to : Holds (united m (r * m.span + j) more) i k → Holds m i k ⊎ ((i ≡ r) × (k < m.width) × (k / 64 ≡ j) × (bit_at more (k % 64) ≡ 1))
+    to : Holds (united m (r * m.span + j) more) i k → Holds m i k ⊎
+        ((i ≡ r) × (k < m.width) × (k / 64 ≡ j) × (bit_at more (k % 64) ≡ 1))
     to h = go (same_or (i * m.span + k / 64) (r * m.span + j))
       where
-        pick : (i * m.span + k / 64 ≡ r * m.span + j) → (bit_at (word_of m i k) (k % 64) ≡ 1) ⊎ (bit_at more (k % 64) ≡ 1) → Holds m i k ⊎ ((i ≡ r) × (k < m.width) × (k / 64 ≡ j) × (bit_at more (k % 64) ≡ 1))
+        pick : (i * m.span + k / 64 ≡ r * m.span + j) → (bit_at (word_of m i k) (k % 64) ≡ 1) ⊎
+            (bit_at more (k % 64) ≡ 1) → Holds m i k ⊎ ((i ≡ r) × (k < m.width) × (k / 64 ≡ j) ×
+            (bit_at more (k % 64) ≡ 1))
         pick e (inl b) = inl (record { row = h.row; column = h.column; bit = b })
         pick e (inr b) =
             let s = same_from_place i (k / 64) r j m.span (in_span m f k h.column) hj e in
             inr (s.0, h.column, s.1, b)
 
-        go : (i * m.span + k / 64 ≡ r * m.span + j) ⊎ (i * m.span + k / 64 ≢ r * m.span + j) → Holds m i k ⊎ ((i ≡ r) × (k < m.width) × (k / 64 ≡ j) × (bit_at more (k % 64) ≡ 1))
-        go (inl e) = pick e (max_cases (bit_at (word_of m i k) (k % 64)) (bit_at more (k % 64)) (bit_at-lt (word_of m i k) (k % 64)) (bit_at-lt more (k % 64)) (sym (bit_at_or (word_of m i k) more (k % 64)) ∙ ap (λ w. bit_at w (k % 64)) (sym (word_same h.column h.row e)) ∙ h.bit))
-        go (inr e) = inl (record { row = h.row; column = h.column; bit = ap (λ w. bit_at w (k % 64)) (sym (word_other e)) ∙ h.bit })
+        go : (i * m.span + k / 64 ≡ r * m.span + j) ⊎ (i * m.span + k / 64 ≢ r * m.span + j) →
+            Holds m i k ⊎ ((i ≡ r) × (k < m.width) × (k / 64 ≡ j) × (bit_at more (k % 64) ≡ 1))
+        go (inl e) = pick e (max_cases (bit_at (word_of m i k) (k % 64)) (bit_at more (k % 64))
+            (bit_at-lt (word_of m i k) (k % 64)) (bit_at-lt more (k % 64))
+            (sym (bit_at_or (word_of m i k) more (k % 64)) ∙ ap (λ w. bit_at w (k % 64))
+            (sym (word_same h.column h.row e)) ∙ h.bit))
+        go (inr e) = inl (record { row = h.row; column = h.column; bit = ap (λ w. bit_at w (k % 64))
+            (sym (word_other e)) ∙ h.bit })
 
-    from : Holds m i k ⊎ ((i ≡ r) × (k < m.width) × (k / 64 ≡ j) × (bit_at more (k % 64) ≡ 1)) → Holds (united m (r * m.span + j) more) i k
-    from (inl h) = record { row = h.row; column = h.column; bit = go (same_or (i * m.span + k / 64) (r * m.span + j)) }
+    from : Holds m i k ⊎ ((i ≡ r) × (k < m.width) × (k / 64 ≡ j) × (bit_at more (k % 64) ≡ 1)) →
+        Holds (united m (r * m.span + j) more) i k
+    from (inl h) = record { row = h.row; column = h.column; bit =
+        go (same_or (i * m.span + k / 64) (r * m.span + j)) }
       where
-        go : (i * m.span + k / 64 ≡ r * m.span + j) ⊎ (i * m.span + k / 64 ≢ r * m.span + j) → bit_at (word_of (united m (r * m.span + j) more) i k) (k % 64) ≡ 1
-        go (inl e) = ap (λ w. bit_at w (k % 64)) (word_same h.column h.row e) ∙ bit_at_or (word_of m i k) more (k % 64) ∙ max_left (bit_at (word_of m i k) (k % 64)) (bit_at more (k % 64)) (bit_at-lt more (k % 64)) h.bit
+        go : (i * m.span + k / 64 ≡ r * m.span + j) ⊎ (i * m.span + k / 64 ≢ r * m.span + j) →
+            bit_at (word_of (united m (r * m.span + j) more) i k) (k % 64) ≡ 1
+        go (inl e) = ap (λ w. bit_at w (k % 64)) (word_same h.column h.row e) ∙ bit_at_or
+            (word_of m i k) more (k % 64) ∙ max_left (bit_at (word_of m i k) (k % 64))
+            (bit_at more (k % 64)) (bit_at-lt more (k % 64)) h.bit
         go (inr e) = ap (λ w. bit_at w (k % 64)) (word_other e) ∙ h.bit
     from (inr h) =
-        let e : i * m.span + k / 64 ≡ r * m.span + j = ap (λ (t : ℕ). t * m.span + k / 64) h.0 ∙ ap (λ (t : ℕ). r * m.span + t) h.2 in
+        let e : i * m.span + k / 64 ≡ r * m.span + j = ap (λ (t : ℕ). t * m.span + k / 64) h.0 ∙ ap
+                (λ (t : ℕ). r * m.span + t) h.2 in
         let hi : i < m.height = subst (λ t. t < m.height) (sym h.0) hr in
-        record { row = hi; column = h.1; bit = ap (λ w. bit_at w (k % 64)) (word_same h.1 hi e) ∙ bit_at_or (word_of m i k) more (k % 64) ∙ max_right (bit_at (word_of m i k) (k % 64)) (bit_at more (k % 64)) (bit_at-lt (word_of m i k) (k % 64)) h.3 }
+        record { row = hi; column = h.1; bit = ap (λ w. bit_at w (k % 64)) (word_same h.1 hi e) ∙
+            bit_at_or (word_of m i k) more (k % 64) ∙ max_right (bit_at (word_of m i k) (k % 64))
+            (bit_at more (k % 64)) (bit_at-lt (word_of m i k) (k % 64)) h.3 }
 
 pub united_fits : (m : BitRows) (at more : ℕ) → IsBitRows m → IsBitRows (united m at more)
-united_fits m at more f = record { sized = length-set m.words at (bit_or (get_or m.words at 0) more) ∙ f.sized; wide = f.wide }
+united_fits m at more f = record { sized = length-set m.words at (bit_or (get_or m.words at 0) more)
+    ∙ f.sized; wide = f.wide }
 
 -- one bit is set
-pub mark_holds : (m : BitRows) → IsBitRows m → (r c : ℕ) → r < m.height → c < m.width → (i k : ℕ) → Holds (united m (r * m.span + c / 64) ((1 * 2 ^ (c % 64)) % 2 ^ 64)) i k ↔ (Holds m i k ⊎ ((i ≡ r) × (k ≡ c)))
+pub mark_holds : (m : BitRows) → IsBitRows m → (r c : ℕ) → r < m.height → c < m.width →
+    (i k : ℕ) → Holds (united m (r * m.span + c / 64) ((1 * 2 ^ (c % 64)) % 2 ^ 64)) i k ↔
+    (Holds m i k ⊎ ((i ≡ r) × (k ≡ c)))
 mark_holds m f r c hr hc i k = (to, from)
   where
     one : (1 * 2 ^ (c % 64)) % 2 ^ 64 ≡ 2 ^ (c % 64)
     one = one_shl (c % 64) 64 (mod_below c 64 (omega arith))
 
-    u : Holds (united m (r * m.span + c / 64) ((1 * 2 ^ (c % 64)) % 2 ^ 64)) i k ↔ (Holds m i k ⊎ ((i ≡ r) × (k < m.width) × (k / 64 ≡ c / 64) × (bit_at ((1 * 2 ^ (c % 64)) % 2 ^ 64) (k % 64) ≡ 1)))
+    u : Holds (united m (r * m.span + c / 64) ((1 * 2 ^ (c % 64)) % 2 ^ 64)) i k ↔ (Holds m i k ⊎
+        ((i ≡ r) × (k < m.width) × (k / 64 ≡ c / 64) ×
+        (bit_at ((1 * 2 ^ (c % 64)) % 2 ^ 64) (k % 64) ≡ 1)))
     u = unite_holds m f r (c / 64) ((1 * 2 ^ (c % 64)) % 2 ^ 64) hr (in_span m f c hc) i k
 
     bit_place : bit_at ((1 * 2 ^ (c % 64)) % 2 ^ 64) (k % 64) ≡ 1 → k % 64 ≡ c % 64
@@ -114,12 +149,15 @@ mark_holds m f r c hr hc i k = (to, from)
       where
         go : (k % 64 ≡ c % 64) ⊎ (k % 64 ≢ c % 64) → k % 64 ≡ c % 64
         go (inl e) = e
-        go (inr e) = absurd (let z : bit_at ((1 * 2 ^ (c % 64)) % 2 ^ 64) (k % 64) ≡ 0 = ap (λ w. bit_at w (k % 64)) one ∙ bit_at-pow_other (c % 64) (k % 64) e in omega arith)
+        go (inr e) = absurd (let z : bit_at ((1 * 2 ^ (c % 64)) % 2 ^ 64) (k % 64) ≡ 0 =
+            ap (λ w. bit_at w (k % 64)) one ∙ bit_at-pow_other (c % 64) (k % 64) e in omega arith)
 
-    to : Holds (united m (r * m.span + c / 64) ((1 * 2 ^ (c % 64)) % 2 ^ 64)) i k → Holds m i k ⊎ ((i ≡ r) × (k ≡ c))
+    to : Holds (united m (r * m.span + c / 64) ((1 * 2 ^ (c % 64)) % 2 ^ 64)) i k → Holds m i k ⊎
+        ((i ≡ r) × (k ≡ c))
     to h = go (u.0 h)
       where
-        go : Holds m i k ⊎ ((i ≡ r) × (k < m.width) × (k / 64 ≡ c / 64) × (bit_at ((1 * 2 ^ (c % 64)) % 2 ^ 64) (k % 64) ≡ 1)) → Holds m i k ⊎ ((i ≡ r) × (k ≡ c))
+        go : Holds m i k ⊎ ((i ≡ r) × (k < m.width) × (k / 64 ≡ c / 64) ×
+            (bit_at ((1 * 2 ^ (c % 64)) % 2 ^ 64) (k % 64) ≡ 1)) → Holds m i k ⊎ ((i ≡ r) × (k ≡ c))
         go (inl x) = inl x
         go (inr x) =
             let p = bit_place x.3 in
@@ -128,13 +166,17 @@ mark_holds m f r c hr hc i k = (to, from)
             let b = div-add-mod' c 64 in
             inr (x.0, omega arith)
 
-    from : Holds m i k ⊎ ((i ≡ r) × (k ≡ c)) → Holds (united m (r * m.span + c / 64) ((1 * 2 ^ (c % 64)) % 2 ^ 64)) i k
+    from : Holds m i k ⊎ ((i ≡ r) × (k ≡ c)) →
+        Holds (united m (r * m.span + c / 64) ((1 * 2 ^ (c % 64)) % 2 ^ 64)) i k
     from (inl x) = u.1 (inl x)
-    from (inr x) = u.1 (inr (x.0, subst (λ t. t < m.width) (sym x.1) hc, ap (λ (t : ℕ). t / 64) x.1, ap (λ (t : ℕ). bit_at ((1 * 2 ^ (c % 64)) % 2 ^ 64) (t % 64)) x.1 ∙ ap (λ w. bit_at w (c % 64)) one ∙ bit_at-pow_same (c % 64)))
+    from (inr x) = u.1 (inr (x.0, subst (λ t. t < m.width) (sym x.1) hc, ap (λ (t : ℕ). t / 64) x.1,
+        ap (λ (t : ℕ). bit_at ((1 * 2 ^ (c % 64)) % 2 ^ 64) (t % 64)) x.1 ∙ ap
+        (λ w. bit_at w (c % 64)) one ∙ bit_at-pow_same (c % 64)))
 
 -- n has in row `to` also the columns of P whose words are before k
 abbrev pub AddsWords : BitRows → BitRows → ℕ → (ℕ → Type 0) → ℕ → Type 0
-AddsWords m n to P k = (r c : ℕ) → Holds n r c ↔ (Holds m r c ⊎ ((r ≡ to) × (c < m.width) × (c / 64 < k) × P c))
+AddsWords m n to P k = (r c : ℕ) → Holds n r c ↔ (Holds m r c ⊎
+    ((r ≡ to) × (c < m.width) × (c / 64 < k) × P c))
 
 pub adds_none : (m : BitRows) (to : ℕ) (P : ℕ → Type 0) → AddsWords m m to P 0
 adds_none m to P r c = ((λ h. inl h), back)
@@ -146,24 +188,33 @@ adds_none m to P r c = ((λ h. inl h), back)
 below_or_is : (k i : ℕ) → k < i + 1 → (k < i) ⊎ (k ≡ i)
 below_or_is k i h = grind arith
 
-pub adds_word : (m n : BitRows) → IsBitRows n → (to k more : ℕ) (P : ℕ → Type 0) → n.width ≡ m.width → to < n.height → k < n.span → AddsWords m n to P k → ((c : ℕ) → c < m.width → c / 64 ≡ k → bit_at more (c % 64) ≡ 1 ↔ P c) → AddsWords m (united n (to * n.span + k) more) to P (k + 1)
+pub adds_word : (m n : BitRows) → IsBitRows n → (to k more : ℕ) (P : ℕ → Type 0) →
+    n.width ≡ m.width → to < n.height → k < n.span → AddsWords m n to P k →
+    ((c : ℕ) → c < m.width → c / 64 ≡ k → bit_at more (c % 64) ≡ 1 ↔ P c) →
+    AddsWords m (united n (to * n.span + k) more) to P (k + 1)
 adds_word m n f to k more P same ht hk a b r c = (down, up)
   where
-    u : Holds (united n (to * n.span + k) more) r c ↔ (Holds n r c ⊎ ((r ≡ to) × (c < n.width) × (c / 64 ≡ k) × (bit_at more (c % 64) ≡ 1)))
+    u : Holds (united n (to * n.span + k) more) r c ↔ (Holds n r c ⊎
+        ((r ≡ to) × (c < n.width) × (c / 64 ≡ k) × (bit_at more (c % 64) ≡ 1)))
     u = unite_holds n f to k more ht hk r c
 
-    down : Holds (united n (to * n.span + k) more) r c → Holds m r c ⊎ ((r ≡ to) × (c < m.width) × (c / 64 < k + 1) × P c)
+    down : Holds (united n (to * n.span + k) more) r c → Holds m r c ⊎
+        ((r ≡ to) × (c < m.width) × (c / 64 < k + 1) × P c)
     down h = go (u.0 h)
       where
-        old : Holds m r c ⊎ ((r ≡ to) × (c < m.width) × (c / 64 < k) × P c) → Holds m r c ⊎ ((r ≡ to) × (c < m.width) × (c / 64 < k + 1) × P c)
+        old : Holds m r c ⊎ ((r ≡ to) × (c < m.width) × (c / 64 < k) × P c) → Holds m r c ⊎
+            ((r ≡ to) × (c < m.width) × (c / 64 < k + 1) × P c)
         old (inl x) = inl x
         old (inr x) = inr (x.0, x.1, (let l = x.2 in omega arith), x.3)
 
-        go : Holds n r c ⊎ ((r ≡ to) × (c < n.width) × (c / 64 ≡ k) × (bit_at more (c % 64) ≡ 1)) → Holds m r c ⊎ ((r ≡ to) × (c < m.width) × (c / 64 < k + 1) × P c)
+        go : Holds n r c ⊎ ((r ≡ to) × (c < n.width) × (c / 64 ≡ k) × (bit_at more (c % 64) ≡ 1)) →
+            Holds m r c ⊎ ((r ≡ to) × (c < m.width) × (c / 64 < k + 1) × P c)
         go (inl x) = old ((a r c).0 x)
-        go (inr x) = let l : c < m.width = subst (λ t. c < t) same x.1 in inr (x.0, l, (let e = x.2 in omega arith), (b c l x.2).0 x.3)
+        go (inr x) = let l : c < m.width = subst (λ t. c < t) same x.1 in
+            inr (x.0, l, (let e = x.2 in omega arith), (b c l x.2).0 x.3)
 
-    up : Holds m r c ⊎ ((r ≡ to) × (c < m.width) × (c / 64 < k + 1) × P c) → Holds (united n (to * n.span + k) more) r c
+    up : Holds m r c ⊎ ((r ≡ to) × (c < m.width) × (c / 64 < k + 1) × P c) →
+        Holds (united n (to * n.span + k) more) r c
     up (inl x) = u.1 (inl ((a r c).1 (inl x)))
     up (inr x) = go (below_or_is (c / 64) k x.2)
       where
@@ -172,14 +223,18 @@ adds_word m n f to k more P same ht hk a b r c = (down, up)
         go (inr e) = u.1 (inr (x.0, subst (λ t. c < t) (sym same) x.1, e, (b c x.1 e).1 x.3))
 
 -- the bits of a word of a row are the row's columns there
-pub word_bits : (m : BitRows) (from k c : ℕ) → from < m.height → c < m.width → c / 64 ≡ k → bit_at (get_or m.words (from * m.span + k) 0) (c % 64) ≡ 1 ↔ Holds m from c
+pub word_bits : (m : BitRows) (from k c : ℕ) → from < m.height → c < m.width → c / 64 ≡ k →
+    bit_at (get_or m.words (from * m.span + k) 0) (c % 64) ≡ 1 ↔ Holds m from c
 word_bits m from k c hf hc e = (
-  (λ b. record { row = hf; column = hc; bit = ap (λ (t : ℕ). bit_at (get_or m.words (from * m.span + t) 0) (c % 64)) e ∙ b }),
+  (λ b. record { row = hf; column = hc; bit =
+      ap (λ (t : ℕ). bit_at (get_or m.words (from * m.span + t) 0) (c % 64)) e ∙ b }),
   (λ h. ap (λ (t : ℕ). bit_at (get_or m.words (from * m.span + t) 0) (c % 64)) (sym e) ∙ h.bit),
 )
 
 -- the same, of rows to which the row itself is being added
-pub own_bits : (m n : BitRows) (to from k c : ℕ) → n.height ≡ m.height → n.width ≡ m.width → from < m.height → AddsWords m n to (Holds m from) k → c < m.width → c / 64 ≡ k → bit_at (get_or n.words (from * n.span + k) 0) (c % 64) ≡ 1 ↔ Holds m from c
+pub own_bits : (m n : BitRows) (to from k c : ℕ) → n.height ≡ m.height → n.width ≡ m.width →
+    from < m.height → AddsWords m n to (Holds m from) k → c < m.width → c / 64 ≡ k →
+    bit_at (get_or n.words (from * n.span + k) 0) (c % 64) ≡ 1 ↔ Holds m from c
 own_bits m n to from k c eh ew hf a hc e = (down, up)
   where
     w : bit_at (get_or n.words (from * n.span + k) 0) (c % 64) ≡ 1 ↔ Holds n from c
@@ -188,7 +243,8 @@ own_bits m n to from k c eh ew hf a hc e = (down, up)
     down : bit_at (get_or n.words (from * n.span + k) 0) (c % 64) ≡ 1 → Holds m from c
     down b = go ((a from c).0 (w.0 b))
       where
-        go : Holds m from c ⊎ ((from ≡ to) × (c < m.width) × (c / 64 < k) × Holds m from c) → Holds m from c
+        go : Holds m from c ⊎ ((from ≡ to) × (c < m.width) × (c / 64 < k) × Holds m from c) →
+            Holds m from c
         go (inl x) = x
         go (inr x) = x.3
 
@@ -196,13 +252,15 @@ own_bits m n to from k c eh ew hf a hc e = (down, up)
     up h = w.1 ((a from c).1 (inl h))
 
 -- all words of the row were added
-pub adds_whole : (m n other : BitRows) → IsBitRows m → (to from k : ℕ) → k ≡ m.span → other.width ≡ m.width → AddsWords m n to (Holds other from) k → AddsFrom m n to other from
+pub adds_whole : (m n other : BitRows) → IsBitRows m → (to from k : ℕ) → k ≡ m.span →
+    other.width ≡ m.width → AddsWords m n to (Holds other from) k → AddsFrom m n to other from
 adds_whole m n other f to from k e same a r c = (down, up)
   where
     down : Holds n r c → Holds m r c ⊎ ((r ≡ to) × Holds other from c)
     down h = go ((a r c).0 h)
       where
-        go : Holds m r c ⊎ ((r ≡ to) × (c < m.width) × (c / 64 < k) × Holds other from c) → Holds m r c ⊎ ((r ≡ to) × Holds other from c)
+        go : Holds m r c ⊎ ((r ≡ to) × (c < m.width) × (c / 64 < k) × Holds other from c) →
+            Holds m r c ⊎ ((r ≡ to) × Holds other from c)
         go (inl x) = inl x
         go (inr x) = inr (x.0, x.3)
 
@@ -216,11 +274,14 @@ adds_whole m n other f to from k e same a r c = (down, up)
 pub shared_span : (m n : BitRows) → IsBitRows m → IsBitRows n → m.width ≡ n.width → m.span ≡ n.span
 shared_span m n f h e = f.wide ∙ ap (λ (t : ℕ). t / 64 + 1) e ∙ sym h.wide
 
-pub word_within : (m : BitRows) → IsBitRows m → (r j : ℕ) → r < m.height → j < m.span → r * m.span + j < length m.words
-word_within m f r j hr hj = let e = f.sized in let z = mul-add-lt r m.span j m.height hr hj in grind arith
+pub word_within : (m : BitRows) → IsBitRows m → (r j : ℕ) → r < m.height → j < m.span →
+    r * m.span + j < length m.words
+word_within m f r j hr hj = let e = f.sized in let z = mul-add-lt r m.span j m.height hr hj in
+    grind arith
 
 shifted_bit : (n s i : ℕ) → bit_at (n / 2 ^ s) i ≡ bit_at n (s + i)
-shifted_bit n s i = ap (λ (t : ℕ). t % 2) (div-div-eq-div-mul n (2 ^ s) (2 ^ i) ∙ ap (λ (t : ℕ). n / t) (sym (pow-add 2 s i)))
+shifted_bit n s i = ap (λ (t : ℕ). t % 2) (div-div-eq-div-mul n (2 ^ s) (2 ^ i) ∙ ap
+    (λ (t : ℕ). n / t) (sym (pow-add 2 s i)))
 
 zero_or : (n : ℕ) → (n ≡ 0) ⊎ (0 < n)
 zero_or n = grind arith
@@ -234,7 +295,9 @@ clear_bits n i h l = go (zero_or n)
     go (inr p) = (bit_at-trailing_zeros w64 n p h).2 i l
 
 -- a row has no column before the next set bit of the word, nor before the word ends
-pub after_none : (m : BitRows) (r c k step : ℕ) → word_of m r c / 2 ^ (c % 64) < 2 ^ 64 → step ≤ trailing_zeros w64 (word_of m r c / 2 ^ (c % 64)) → step ≤ 64 - c % 64 → c ≤ k → k < c + step → Holds m r k → ⊥
+pub after_none : (m : BitRows) (r c k step : ℕ) → word_of m r c / 2 ^ (c % 64) < 2 ^ 64 →
+    step ≤ trailing_zeros w64 (word_of m r c / 2 ^ (c % 64)) → step ≤ 64 - c % 64 → c ≤ k →
+    k < c + step → Holds m r k → ⊥
 after_none m r c k step hw hz hs le lt h =
     let a = div-add-mod' c 64 in
     let b = div-add-mod' k 64 in
@@ -242,19 +305,32 @@ after_none m r c k step hw hz hs le lt h =
     let y = mod_below k 64 (omega arith) in
     let same : k / 64 ≡ c / 64 = omega arith in
     let on : k % 64 ≡ c % 64 + (k - c) = omega arith in
-    let w : bit_at (word_of m r c) (c % 64 + (k - c)) ≡ 0 = sym (shifted_bit (word_of m r c) (c % 64) (k - c)) ∙ clear_bits (word_of m r c / 2 ^ (c % 64)) (k - c) hw (omega arith) in
-    let z : bit_at (word_of m r c) (c % 64 + (k - c)) ≡ 1 = ap (λ (t : ℕ). bit_at (word_of m r c) t) (sym on) ∙ ap (λ (t : ℕ). bit_at (get_or m.words (r * m.span + t) 0) (k % 64)) (sym same) ∙ h.bit in
+    let w : bit_at (word_of m r c) (c % 64 + (k - c)) ≡ 0 =
+            sym (shifted_bit (word_of m r c) (c % 64) (k - c)) ∙ clear_bits
+            (word_of m r c / 2 ^ (c % 64)) (k - c) hw (omega arith) in
+    let z : bit_at (word_of m r c) (c % 64 + (k - c)) ≡ 1 = ap (λ (t : ℕ). bit_at (word_of m r c) t)
+            (sym on) ∙ ap (λ (t : ℕ). bit_at (get_or m.words (r * m.span + t) 0) (k % 64))
+            (sym same) ∙ h.bit in
     omega (arith, w, z)
 
 -- where the row lacks the column, the next set bit stands behind it
-pub after_further : (m : BitRows) (r c : ℕ) → r < m.height → c < m.width → word_of m r c / 2 ^ (c % 64) < 2 ^ 64 → (Holds m r c → ⊥) → 0 < trailing_zeros w64 (word_of m r c / 2 ^ (c % 64))
-after_further m r c hr hc hw absent = go (zero_or (word_of m r c / 2 ^ (c % 64))) (zero_or (trailing_zeros w64 (word_of m r c / 2 ^ (c % 64))))
+pub after_further : (m : BitRows) (r c : ℕ) → r < m.height → c < m.width → word_of m r c / 2 ^
+    (c % 64) < 2 ^ 64 → (Holds m r c → ⊥) → 0 < trailing_zeros w64 (word_of m r c / 2 ^ (c % 64))
+after_further m r c hr hc hw absent = go (zero_or (word_of m r c / 2 ^ (c % 64)))
+    (zero_or (trailing_zeros w64 (word_of m r c / 2 ^ (c % 64))))
   where
-    go : (word_of m r c / 2 ^ (c % 64) ≡ 0) ⊎ (0 < word_of m r c / 2 ^ (c % 64)) → (trailing_zeros w64 (word_of m r c / 2 ^ (c % 64)) ≡ 0) ⊎ (0 < trailing_zeros w64 (word_of m r c / 2 ^ (c % 64))) → 0 < trailing_zeros w64 (word_of m r c / 2 ^ (c % 64))
+    go : (word_of m r c / 2 ^ (c % 64) ≡ 0) ⊎ (0 < word_of m r c / 2 ^ (c % 64)) →
+        (trailing_zeros w64 (word_of m r c / 2 ^ (c % 64)) ≡ 0) ⊎
+        (0 < trailing_zeros w64 (word_of m r c / 2 ^ (c % 64))) → 0 < trailing_zeros w64
+        (word_of m r c / 2 ^ (c % 64))
     go a (inr h) = h
-    go (inl e) (inl z) = absurd (let y : trailing_zeros w64 (word_of m r c / 2 ^ (c % 64)) ≡ 64 = ap (λ (t : ℕ). trailing_zeros w64 t) e ∙ trailing_of_zero 64 in omega (arith, y, z))
+    go (inl e) (inl z) = absurd (let y : trailing_zeros w64 (word_of m r c / 2 ^ (c % 64)) ≡ 64 =
+        ap (λ (t : ℕ). trailing_zeros w64 t) e ∙ trailing_of_zero 64 in omega (arith, y, z))
     go (inr p) (inl z) =
         let b = (bit_at-trailing_zeros w64 (word_of m r c / 2 ^ (c % 64)) p hw).1 in
-        let d : bit_at (word_of m r c) (c % 64 + 0) ≡ 1 = sym (shifted_bit (word_of m r c) (c % 64) 0) ∙ ap (λ (t : ℕ). bit_at (word_of m r c / 2 ^ (c % 64)) t) (sym z) ∙ b in
+        let d : bit_at (word_of m r c) (c % 64 + 0) ≡ 1 =
+                sym (shifted_bit (word_of m r c) (c % 64) 0) ∙ ap
+                (λ (t : ℕ). bit_at (word_of m r c / 2 ^ (c % 64)) t) (sym z) ∙ b in
         let e : c % 64 + 0 ≡ c % 64 = omega arith in
-        absurd (absent (record { row = hr; column = hc; bit = subst (λ t. bit_at (word_of m r c) t ≡ 1) e d }))
+        absurd (absent (record { row = hr; column = hc; bit =
+            subst (λ t. bit_at (word_of m r c) t ≡ 1) e d }))

@@ -60,12 +60,14 @@ pub record GivesForm (P : Parts) (d : DraftValue) (y : List ℕ) (p t : ℕ) : T
 -- the closure rule is kept from the item i of state q, with the row p
 abbrev pub OpensAt : Parts → DraftValue → ℕ → Item → ℕ → Type 0
 OpensAt P d q i p =
-    (n t : ℕ) (y : List ℕ) → drop i.dot (body_of P.grammar.bare i.rule) ≡ left_of P.grammar.bare n ∷ y → PlaceIn P q (record { rule = n; dot = 0 }) t → GivesForm P d y p t
+    (n t : ℕ) (y : List ℕ) → drop i.dot (body_of P.grammar.bare i.rule) ≡ left_of P.grammar.bare n ∷
+        y → PlaceIn P q (record { rule = n; dot = 0 }) t → GivesForm P d y p t
 
 -- the goto rule is kept from there
 abbrev pub ShiftsAt : Parts → DraftValue → ℕ → Item → ℕ → Type 0
 ShiftsAt P d q i p =
-    (x n t : ℕ) (y : List ℕ) → drop i.dot (body_of P.grammar.bare i.rule) ≡ x ∷ y → x ≢ end_token → goto_of P.gotos q x ≡ Some n → PlaceIn P n (step_of i) t → Linked d.links p t
+    (x n t : ℕ) (y : List ℕ) → drop i.dot (body_of P.grammar.bare i.rule) ≡ x ∷ y → x ≢ end_token →
+        goto_of P.gotos q x ≡ Some n → PlaceIn P n (step_of i) t → Linked d.links p t
 
 -- both are
 pub record ServesAt (P : Parts) (d : DraftValue) (q : ℕ) (i : Item) (p : ℕ) : Type 0 where
@@ -98,7 +100,8 @@ FirstSized P = IsSized P.grammar.bare.symbols P.grammar.bare.tokens P.first
 
 -- n has no more than m and, in row t, what the form y begins with
 abbrev pub AddsAtMost : Parts → List ℕ → ℕ → BitRows → BitRows → Type 0
-AddsAtMost P y t m n = (r b : ℕ) → Holds n r b → Holds m r b ⊎ ((r ≡ t) × FormHas P.nullable P.first y b)
+AddsAtMost P y t m n = (r b : ℕ) → Holds n r b → Holds m r b ⊎
+    ((r ≡ t) × FormHas P.nullable P.first y b)
 
 -- row t has what the form y begins with
 abbrev pub HasForm : Parts → List ℕ → ℕ → BitRows → Type 0

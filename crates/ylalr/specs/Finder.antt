@@ -4,7 +4,8 @@ use Rattle.ylalr.specs.declared.collection.Finder.{Finder}
 use Rattle.ylalr.specs.Sets.{AreOpens, HasRules}
 use Rattle.ylalr.specs.States.{FewStates}
 
--- the rules that symbols lead to are those of the grammar, the row is one of its rules, and the states are some of its own
+-- the rules that symbols lead to are those of the grammar, the row is one of its rules, and the
+-- states are some of its own
 pub record FitFinder (g : ContextFree) (f : Finder) : Type 0 where
   pub opens : AreOpens g f.opens
   pub wanted : HasRules g 1 f.wanted

@@ -27,7 +27,8 @@ CarryFirst g l = (s n t : ℕ) → Linked l s n → First g (s ∷ []) t → Fir
 
 -- there is a link to the left side of rule r from place k of its body, if all before it vanish
 abbrev pub PlaceLinked : ContextFree → List Bool → List (List ℕ) → ℕ → ℕ → Type 0
-PlaceLinked g n l r k = k < length (body_of g r) → All (marked n) (take k (body_of g r)) → Linked l (slice_index (body_of g r) k) (left_of g r)
+PlaceLinked g n l r k = k < length (body_of g r) → All (marked n) (take k (body_of g r)) →
+    Linked l (slice_index (body_of g r) k) (left_of g r)
 
 -- from each such place
 abbrev pub RuleLinked : ContextFree → List Bool → List (List ℕ) → ℕ → Type 0

@@ -1,5 +1,6 @@
 -- The gotos of states: for each state a list, by symbol.
-use Rattle.std.specs.Prelude.{ℕ, ◌<◌, ◌==◌, List, [], ◌∷◌, slice_index_or, Option, Some, None, AllPairs, if◌then◌else◌}
+use Rattle.std.specs.Prelude.{ℕ, ◌<◌, ◌==◌, List, [], ◌∷◌, slice_index_or, Option, Some, None}
+use Rattle.std.specs.Prelude.{AllPairs, if◌then◌else◌}
 use Rattle.ylalr.specs.declared.gotos.Goto.{Goto}
 
 -- what a list of gotos answers for x: the first that has it

@@ -1,4 +1,5 @@
--- Valid items of prefixes, cores, merged lookaheads. A prefix is a list of symbols, the newest first.
+-- Valid items of prefixes, cores, merged lookaheads. A prefix is a list of symbols, the newest
+-- first.
 use Rattle.std.specs.Prelude.{ℕ, suc, ◌≡◌, ◌≢◌, ◌<◌, ◌↔◌, List, [], ◌∷◌, ◌++◌, length, drop}
 use Rattle.std.specs.List.{Contains}
 use Rattle.ylalr.specs.declared.items.Item.{Item}
@@ -8,8 +9,11 @@ use Rattle.ygrammar.specs.Forms.{First}
 -- The item (rule r, dot d) is valid for a prefix with the lookahead a.
 pub data Valid (g : ContextFree) : List ℕ → ℕ → ℕ → ℕ → Type 0 where
   start : Valid g [] 0 0 end_token
-  closure : {p : List ℕ} {r d a s b : ℕ} {y : List ℕ} → Valid g p r d a → drop d (body_of g r) ≡ left_of g s ∷ y → s < length g.rules → First g (y ++ a ∷ []) b → Valid g p s 0 b
-  move : {p : List ℕ} {r d a x : ℕ} {y : List ℕ} → Valid g p r d a → drop d (body_of g r) ≡ x ∷ y → x ≢ end_token → Valid g (x ∷ p) r (suc d) a
+  closure : {p : List ℕ} {r d a s b : ℕ} {y : List ℕ} → Valid g p r d a →
+      drop d (body_of g r) ≡ left_of g s ∷ y → s < length g.rules → First g (y ++ a ∷ []) b →
+      Valid g p s 0 b
+  move : {p : List ℕ} {r d a x : ℕ} {y : List ℕ} → Valid g p r d a → drop d (body_of g r) ≡ x ∷ y →
+      x ≢ end_token → Valid g (x ∷ p) r (suc d) a
 
 -- The item is in the core of the prefix.
 abbrev pub InCore : ContextFree → List ℕ → Item → Type 0

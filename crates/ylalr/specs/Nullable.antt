@@ -34,8 +34,10 @@ pub record AreUsers (g : ContextFree) (l : List (List ℕ)) : Type 0 where
   pub within : (s r : ℕ) → Linked l s r → r < length g.rules
   pub each : (r : ℕ) → r < length g.rules → HasUses g l r
 
--- The rule was visited: it adds nothing any more, and each other one that adds something now waits, or did before.
-pub record Visits (g : ContextFree) (rule : ℕ) (m : List Bool) (v : Line) (n : List Bool) (w : Line) : Type 0 where
+-- The rule was visited: it adds nothing any more, and each other one that adds something now waits,
+-- or did before.
+pub record Visits (g : ContextFree) (rule : ℕ) (m : List Bool) (v : Line) (n : List Bool)
+    (w : Line) : Type 0 where
   pub sized : length n ≡ length m
   pub line : length w.marks ≡ length v.marks
   pub few : length w.queue ≤ length w.marks

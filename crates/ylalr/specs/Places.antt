@@ -1,5 +1,7 @@
--- The rows of the items of numbered states: in each state the items of one left side with the dot at 0 share one.
-use Rattle.std.specs.Prelude.{ℕ, ◌≡◌, ◌<◌, ◌≤◌, ◌+◌, ◌⊎◌, List, [], length, slice_index_or, slice_set, Option, Some, None, MatchOption}
+-- The rows of the items of numbered states: in each state the items of one left side with the dot
+-- at 0 share one.
+use Rattle.std.specs.Prelude.{ℕ, ◌≡◌, ◌<◌, ◌≤◌, ◌+◌, ◌⊎◌, List, [], length, slice_index_or}
+use Rattle.std.specs.Prelude.{slice_set, Option, Some, None, MatchOption}
 use Rattle.ygrammar.specs.Grammar.{ContextFree, left_of}
 use Rattle.ylalr.specs.declared.items.Item.{Item}
 use Rattle.ylalr.specs.Rows.{BitRows, Holds, IsSized}
@@ -32,31 +34,39 @@ Shares g i k = (i ≡ k) ⊎ ((i.dot ≡ 0) × Opened g (left_of g i.rule) k)
 pub record AreRows (g : ContextFree) (items : List Item) (rows : List ℕ) : Type 0 where
   pub sized : length rows ≡ length items
   pub apart : (i k : Item) (p : ℕ) → At items rows i p → At items rows k p → Shares g i k
-  pub shared : (i k : Item) (p t : ℕ) → At items rows i p → At items rows k t → i.dot ≡ 0 → Opened g (left_of g i.rule) k → p ≡ t
+  pub shared : (i k : Item) (p t : ℕ) → At items rows i p → At items rows k t → i.dot ≡ 0 →
+      Opened g (left_of g i.rule) k → p ≡ t
 
 -- the rows from first on and below end are those of these items
-pub record FillRows (g : ContextFree) (items : List Item) (rows : List ℕ) (first end : ℕ) : Type 0 where
+pub record FillRows (g : ContextFree) (items : List Item) (rows : List ℕ) (first end : ℕ) : Type 0
+    where
   pub are : AreRows g items rows
   pub bounds : (i : Item) (p : ℕ) → At items rows i p → (first ≤ p) × (p < end)
   pub rising : first ≤ end
   pub short : end ≤ first + length items
 
 -- by left side the row of its items with the dot at 0
-pub record AreLefts (g : ContextFree) (items : List Item) (rows : List ℕ) (lefts : List (Option ℕ)) : Type 0 where
+pub record AreLefts (g : ContextFree) (items : List Item) (rows : List ℕ)
+    (lefts : List (Option ℕ)) : Type 0 where
   pub sized : length lefts ≡ g.symbols
-  pub found : (s p : ℕ) → slice_index_or lefts s None ≡ Some p → (i : Item) × At items rows i p × Opened g s i
-  pub every : (i : Item) (p : ℕ) → At items rows i p → i.dot ≡ 0 → slice_index_or lefts (left_of g i.rule) None ≡ Some p
+  pub found : (s p : ℕ) → slice_index_or lefts s None ≡ Some p → (i : Item) × At items rows i p ×
+      Opened g s i
+  pub every : (i : Item) (p : ℕ) → At items rows i p → i.dot ≡ 0 → slice_index_or lefts
+      (left_of g i.rule) None ≡ Some p
 
 -- the row of bits has each symbol that has a row
 pub record HasUsed (lefts : List (Option ℕ)) (m : BitRows) : Type 0 where
   pub sized : IsSized 1 (length lefts) m
   pub empty : (s : ℕ) → (Holds m 0 s → ⊥) → slice_index_or lefts s None ≡ None
 
--- the item i gets the row p: that of its left side, or a fresh one, which the left side of an item with the dot at 0 then has
+-- the item i gets the row p: that of its left side, or a fresh one, which the left side of an item
+-- with the dot at 0 then has
 abbrev pub TakesRow : ContextFree → Item → ℕ → List (Option ℕ) → List (Option ℕ) → ℕ → Type 0
 TakesRow g i fresh old new p =
     ((i.dot ≡ 0) × (slice_index_or old (left_of g i.rule) None ≡ Some p) × (new ≡ old))
-    ⊎ ((p ≡ fresh) × (((0 < i.dot) × (new ≡ old)) ⊎ ((i.dot ≡ 0) × (slice_index_or old (left_of g i.rule) None ≡ None) × (new ≡ slice_set old (left_of g i.rule) (Some fresh)))))
+    ⊎ ((p ≡ fresh) × (((0 < i.dot) × (new ≡ old)) ⊎
+        ((i.dot ≡ 0) × (slice_index_or old (left_of g i.rule) None ≡ None) ×
+        (new ≡ slice_set old (left_of g i.rule) (Some fresh)))))
 
 -- p is the row of the item i of state q
 pub record IsPlace (s : StateLists) (l : Places) (q : ℕ) (i : Item) (p : ℕ) : Type 0 where

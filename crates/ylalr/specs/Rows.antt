@@ -1,5 +1,6 @@
 -- Rows of bits, one bit for each column, kept in words of 64.
-use Rattle.std.specs.Prelude.{ℕ, Bool, true, false, List, ◌≡◌, ◌<◌, ◌≤◌, ◌+◌, ◌-◌, ◌*◌, ◌/◌, ◌%◌, ◌^◌, ◌⊎◌, ◌↔◌, length, slice_index_or, slice_set, sum_by, bit_or}
+use Rattle.std.specs.Prelude.{ℕ, Bool, true, false, List, ◌≡◌, ◌<◌, ◌≤◌, ◌+◌, ◌-◌, ◌*◌, ◌/◌, ◌%◌}
+use Rattle.std.specs.Prelude.{◌^◌, ◌⊎◌, ◌↔◌, length, slice_index_or, slice_set, sum_by, bit_or}
 use Rattle.std.specs.Int.{bit_at}
 
 -- so many rows, each of so many columns in so many words
@@ -35,11 +36,13 @@ room m = sum_by (λ w. 2 ^ 64 - 1 - w) m.words
 
 -- the rows with one word united with another
 abbrev pub united : BitRows → ℕ → ℕ → BitRows
-united m at more = record { height = m.height; width = m.width; span = m.span; words = slice_set m.words at (bit_or (slice_index_or m.words at 0) more) }
+united m at more = record { height = m.height; width = m.width; span = m.span; words =
+    slice_set m.words at (bit_or (slice_index_or m.words at 0) more) }
 
 -- n has in row `to` also what the row `from` of another has
 abbrev pub AddsFrom : BitRows → BitRows → ℕ → BitRows → ℕ → Type 0
-AddsFrom m n to other from = (r c : ℕ) → Holds n r c ↔ (Holds m r c ⊎ ((r ≡ to) × Holds other from c))
+AddsFrom m n to other from = (r c : ℕ) → Holds n r c ↔ (Holds m r c ⊎
+    ((r ≡ to) × Holds other from c))
 
 -- n has all that m has
 abbrev pub Grows : BitRows → BitRows → Type 0

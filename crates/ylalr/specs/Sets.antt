@@ -1,5 +1,6 @@
 -- Sets of items without lookaheads: closure and goto (Aho, Sethi, Ullman, section 4.7).
-use Rattle.std.specs.Prelude.{ℕ, suc, ◌≡◌, ◌≢◌, ◌<◌, ◌≤◌, ◌⊎◌, ◌↔◌, List, ◌∷◌, length, slice_index_or, drop, All, AllPairs}
+use Rattle.std.specs.Prelude.{ℕ, suc, ◌≡◌, ◌≢◌, ◌<◌, ◌≤◌, ◌⊎◌, ◌↔◌, List, ◌∷◌, length}
+use Rattle.std.specs.Prelude.{slice_index_or, drop, All, AllPairs}
 use Rattle.std.specs.List.{Contains}
 use Rattle.ygrammar.specs.Grammar.{ContextFree, left_of, body_of, end_token}
 use Rattle.ylalr.specs.declared.items.Item.{Item}
@@ -9,11 +10,13 @@ use Rattle.ylalr.specs.Rows.{BitRows, Holds, IsSized}
 -- the items that a set of items leads to at one prefix
 pub data Closed (g : ContextFree) (K : ℕ → ℕ → Type 0) : ℕ → ℕ → Type 0 where
   given : {r d : ℕ} → K r d → Closed g K r d
-  opened : {r d s : ℕ} {y : List ℕ} → Closed g K r d → drop d (body_of g r) ≡ left_of g s ∷ y → s < length g.rules → Closed g K s 0
+  opened : {r d s : ℕ} {y : List ℕ} → Closed g K r d → drop d (body_of g r) ≡ left_of g s ∷ y →
+      s < length g.rules → Closed g K s 0
 
 -- the item (r, d) comes from K by a move of the dot over x
 pub data Moved (g : ContextFree) (K : ℕ → ℕ → Type 0) (x : ℕ) : ℕ → ℕ → Type 0 where
-  moved : {r d : ℕ} {y : List ℕ} → K r d → drop d (body_of g r) ≡ x ∷ y → x ≢ end_token → Moved g K x r (suc d)
+  moved : {r d : ℕ} {y : List ℕ} → K r d → drop d (body_of g r) ≡ x ∷ y → x ≢ end_token →
+      Moved g K x r (suc d)
 
 -- the first item of rule 0
 pub data Begin : ℕ → ℕ → Type 0 where
@@ -45,7 +48,8 @@ IsAscending k = AllPairs Before k
 -- the symbol s after a dot leads to the first item of rule r
 pub data Opens (g : ContextFree) : ℕ → ℕ → Type 0 where
   itself : {s r : ℕ} → r < length g.rules → s ≡ left_of g r → Opens g s r
-  through : {s t r n : ℕ} {y : List ℕ} → n < length g.rules → s ≡ left_of g n → body_of g n ≡ t ∷ y → Opens g t r → Opens g s r
+  through : {s t r n : ℕ} {y : List ℕ} → n < length g.rules → s ≡ left_of g n →
+      body_of g n ≡ t ∷ y → Opens g t r → Opens g s r
 
 -- an item of K has its dot before a symbol that leads to rule r
 pub record OpenedBy (g : ContextFree) (K : ℕ → ℕ → Type 0) (r : ℕ) : Type 0 where
@@ -104,7 +108,9 @@ step_of i = record { rule = i.rule; dot = suc i.dot }
 
 -- s stands after the dot
 abbrev pub IsNext : ContextFree → Item → ℕ → Type 0
-IsNext g i s = (s < g.symbols) × (drop i.dot (body_of g i.rule) ≡ s ∷ drop (suc i.dot) (body_of g i.rule)) × (i.dot < length (body_of g i.rule))
+IsNext g i s = (s < g.symbols) ×
+    (drop i.dot (body_of g i.rule) ≡ s ∷ drop (suc i.dot) (body_of g i.rule)) ×
+    (i.dot < length (body_of g i.rule))
 
 -- the dot moves over s, and stays within the longest body
 abbrev pub IsMove : ContextFree → Item → ℕ → Type 0
@@ -118,6 +124,8 @@ IsAt w i k = (k < length w) × (slice_index_or w k i ≡ i)
 abbrev pub IsMerged : BitRows → List Item → List Item → Type 0
 IsMerged m k w = (i : Item) → Contains w i ↔ (Contains k i ⊎ ((i.dot ≡ 0) × Holds m 0 i.rule))
 
--- w has the items of v, and the first items of those rules in the row that are from n on and below z
+-- w has the items of v, and the first items of those rules in the row that are from n on and below
+-- z
 abbrev pub AddsOpened : BitRows → ℕ → ℕ → List Item → List Item → Type 0
-AddsOpened m n z v w = (i : Item) → Contains w i ↔ (Contains v i ⊎ ((i.dot ≡ 0) × (n ≤ i.rule) × (i.rule < z) × Holds m 0 i.rule))
+AddsOpened m n z v w = (i : Item) → Contains w i ↔ (Contains v i ⊎
+    ((i.dot ≡ 0) × (n ≤ i.rule) × (i.rule < z) × Holds m 0 i.rule))

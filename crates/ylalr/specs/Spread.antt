@@ -9,7 +9,8 @@ abbrev pub SameRow : BitRows → BitRows → ℕ → Type 0
 SameRow m n r = (c : ℕ) → Holds n r c → Holds m r c
 
 -- the rows listed got what row p has; each that grew waits, and so does each that waited
-pub record Gives (to : List ℕ) (p : ℕ) (m : BitRows) (v : Line) (n : BitRows) (w : Line) : Type 0 where
+pub record Gives (to : List ℕ) (p : ℕ) (m : BitRows) (v : Line) (n : BitRows) (w : Line) : Type 0
+    where
   pub sized : IsSized m.height m.width n
   pub line : length w.marks ≡ length v.marks
   pub few : length w.queue ≤ length w.marks

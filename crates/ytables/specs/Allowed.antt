@@ -18,9 +18,11 @@ accept_item = record { rule = 0; dot = 1 }
 
 -- an item of the state has its dot before the token, which is not the end
 abbrev pub ShiftsIn : ContextFree → List Item → ℕ → Type 0
-ShiftsIn g k t = (i : Item) × Contains k i × ((y : List ℕ) × (after_dot g i ≡ t ∷ y)) × (t ≢ end_token)
+ShiftsIn g k t = (i : Item) × Contains k i × ((y : List ℕ) × (after_dot g i ≡ t ∷ y)) ×
+    (t ≢ end_token)
 
--- A shift has an item before its token, a reduction its complete item, an acceptance the item of rule 0 before the end.
+-- A shift has an item before its token, a reduction its complete item, an acceptance the item of
+-- rule 0 before the end.
 abbrev pub Allows : ContextFree → List Item → ℕ → Action → Type 0
 Allows g k t (Shift n) = ShiftsIn g k t
 Allows g k t (Reduce r) = (r ≢ 0) × (r < length g.rules) × Contains k (complete_of g r)
@@ -29,4 +31,5 @@ Allows g k t Error = Unit {0}
 
 -- The tables' actions are all allowed.
 abbrev pub CellsAllow : TablesValue → Type 0
-CellsAllow v = (q t : ℕ) → q < length v.built.states → t < v.built.grammar.bare.tokens → Allows (bare_of v.built) (state_of v.built q) t (action_at v q t)
+CellsAllow v = (q t : ℕ) → q < length v.built.states → t < v.built.grammar.bare.tokens →
+    Allows (bare_of v.built) (state_of v.built q) t (action_at v q t)

@@ -1,5 +1,7 @@
--- The cell of a state and a token: what is done there, and which conflicts it counts (POSIX yacc, "Conflicts").
-use Rattle.std.specs.Prelude.{ℕ, Bool, true, false, not, List, [], ◌∷◌, length, min, Option, Some, None, if◌then◌else◌, nat_lt, nat_eq}
+-- The cell of a state and a token: what is done there, and which conflicts it counts (POSIX yacc,
+-- "Conflicts").
+use Rattle.std.specs.Prelude.{ℕ, Bool, true, false, not, List, [], ◌∷◌, length, min, Option, Some}
+use Rattle.std.specs.Prelude.{None, if◌then◌else◌, nat_lt, nat_eq}
 use Rattle.std.specs.List.{filter, list_any, list_all, count_by, fold}
 use Rattle.ygrammar.specs.declared.precedence.Precedence.{Precedence}
 use Rattle.ygrammar.specs.declared.precedence.Associativity.{Associativity}
@@ -21,7 +23,8 @@ abbrev pub class_of : Option Precedence → Option Precedence → Class
 class_of None rule = Rest
 class_of (Some token) None = Rest
 class_of (Some token) (Some rule) =
-    if nat_lt token.level rule.level then Beat else if nat_lt rule.level token.level then Lose else class_of_kind token.kind
+    if nat_lt token.level rule.level then Beat else if nat_lt rule.level token.level then Lose else
+        class_of_kind token.kind
 
 abbrev pub is_beat : Class → Bool
 is_beat Beat = true
@@ -49,20 +52,25 @@ is_rest Rest = true
 
 -- a cell that counts nothing
 abbrev pub lone : Action → Bool → Cell
-lone action choice = record { action = action; shift_reduce = 0; reduce_reduce = 0; choice = choice }
+lone action choice = record { action = action; shift_reduce = 0; reduce_reduce = 0; choice =
+    choice }
 
 -- reduce by the least rule; each further one counts as a conflict
 abbrev pub reduced : Bool → List ℕ → Cell
 reduced choice [] = lone Error choice
-reduced choice (r ∷ rules) = record { action = Reduce (fold min r rules); shift_reduce = 0; reduce_reduce = length rules; choice = choice }
+reduced choice (r ∷ rules) = record { action = Reduce (fold min r rules); shift_reduce = 0;
+    reduce_reduce = length rules; choice = choice }
 
--- The cell where the shift is a candidate or not and these are the rules whose complete items look at the token.
+-- The cell where the shift is a candidate or not and these are the rules whose complete items look
+-- at the token.
 abbrev pub cell_of : (ℕ → Class) → Option Action → List ℕ → Cell
 cell_of class None rules = reduced (nat_lt 1 (length rules)) rules
 cell_of class (Some shift) rules =
     if list_any (λ r. is_ban (class r)) rules then lone Error true
-    else if list_any (λ r. is_beat (class r)) rules then reduced true (filter (λ r. not (is_lose (class r))) rules)
-    else record { action = shift; shift_reduce = count_by (λ r. is_rest (class r)) rules; reduce_reduce = 0; choice = nat_lt 0 (length rules) }
+    else if list_any (λ r. is_beat (class r)) rules then reduced true
+        (filter (λ r. not (is_lose (class r))) rules)
+    else record { action = shift; shift_reduce = count_by (λ r. is_rest (class r)) rules;
+        reduce_reduce = 0; choice = nat_lt 0 (length rules) }
 
 abbrev pub is_filled : Action → Bool
 is_filled (Shift n) = true

@@ -14,9 +14,11 @@ has_failed link = link.failed
 -- a read took n bytes, none only at the end or with no room; a failed one took nothing
 abbrev pub LinkReads : Option (List ℕ) → Option (List ℕ) → Option ℕ → List ℕ → Type 0
 LinkReads old new None buf = Keeps old new
-LinkReads old new (Some n) buf = (n ≤ length buf) × Consumes old new (take n buf) × (n ≡ 0 → 0 < length buf → IsAtEnd new)
+LinkReads old new (Some n) buf = (n ≤ length buf) × Consumes old new (take n buf) ×
+    (n ≡ 0 → 0 < length buf → IsAtEnd new)
 
 -- a write took n bytes, some where there were some; a failed one took nothing
 abbrev pub LinkWrites : Option (List ℕ) → Option (List ℕ) → Option ℕ → List ℕ → Type 0
 LinkWrites old new None bytes = Keeps old new
-LinkWrites old new (Some n) bytes = (n ≤ length bytes) × Appends old new (take n bytes) × (0 < length bytes → 0 < n)
+LinkWrites old new (Some n) bytes = (n ≤ length bytes) × Appends old new (take n bytes) ×
+    (0 < length bytes → 0 < n)

@@ -1,12 +1,16 @@
--- The text of the report: rules, those that can't be reached, tokens, and each state with its items, actions and conflicts.
-use Rattle.std.specs.Prelude.{ℕ, ◌&&◌, ◌++◌, List, [], length, codes, decimal, take, Option, Some, None, false, if◌then◌else◌, nat_eq, slice_get, slice_index_or, unwrap_or, flat_map}
+-- The text of the report: rules, those that can't be reached, tokens, and each state with its
+-- items, actions and conflicts.
+use Rattle.std.specs.Prelude.{ℕ, ◌&&◌, ◌++◌, List, [], length, codes, decimal, take, Option, Some}
+use Rattle.std.specs.Prelude.{None, false, if◌then◌else◌, nat_eq, slice_get, slice_index_or}
+use Rattle.std.specs.Prelude.{unwrap_or, flat_map}
 use Rattle.ygrammar.specs.Grammar.{GrammarValue, left_of, body_of}
 use Rattle.ylalr.specs.declared.items.Item.{Item}
 use Rattle.ylalr.specs.Collection.{Guide, state_of, goto_in}
 use Rattle.ytables.specs.declared.cell.Action.{Action}
 use Rattle.ytables.specs.declared.cell.Action.TheVariants.{Shift, Reduce, Accept, Error}
 use Rattle.ytables.specs.declared.cell.Cell.{Cell}
-use Rattle.ytables.specs.Tables.{TablesValue, action_at, default_at, cell_in, after_dot, is_empty, tokens_of, states_of}
+use Rattle.ytables.specs.Tables.{TablesValue, action_at, default_at, cell_in, after_dot, is_empty}
+use Rattle.ytables.specs.Tables.{tokens_of, states_of}
 use Rattle.ytables.specs.Text.{name_of, count_line, pair_line, rules_of, nonterminals_of}
 
 -- each name after a space
@@ -22,10 +26,12 @@ rule_text v r = headed v r (codes ":") ++ (spaced v (body_of v.bare r) ++ codes 
 
 -- the line of a rule whose left side can't be reached
 abbrev pub unreachable_line : GrammarValue → ℕ → List ℕ
-unreachable_line v r = if slice_index_or v.reachable (left_of v.bare r) false then [] else headed v r (codes "\n")
+unreachable_line v r = if slice_index_or v.reachable (left_of v.bare r) false then [] else headed v
+    r (codes "\n")
 
 abbrev pub token_line : GrammarValue → ℕ → List ℕ
-token_line v t = decimal (unwrap_or (slice_get v.numbers t) 0) ++ (codes " " ++ (name_of v t ++ codes "\n"))
+token_line v t = decimal (unwrap_or (slice_get v.numbers t) 0) ++
+    (codes " " ++ (name_of v t ++ codes "\n"))
 
 -- the token after a space, where it is a lookahead of the item
 abbrev pub look_text : TablesValue → Guide → ℕ → Item → ℕ → List ℕ
@@ -36,7 +42,8 @@ looks_text v u q i = flat_map (look_text v u q i) (tokens_of v.built.grammar)
 
 -- what follows a complete item
 abbrev pub on_text : TablesValue → Guide → ℕ → Item → List ℕ
-on_text v u q i = if is_empty (after_dot v.built.grammar.bare i) then codes " on" ++ looks_text v u q i else []
+on_text v u q i = if is_empty (after_dot v.built.grammar.bare i) then codes " on" ++ looks_text v u
+    q i else []
 
 -- the left side of an item, and a colon
 abbrev pub item_left : GrammarValue → ℕ → List ℕ
@@ -48,7 +55,8 @@ item_front v i = item_left v i.rule ++ (spaced v (take i.dot (body_of v.bare i.r
 
 -- the body from the dot on, and for a complete item its lookaheads
 abbrev pub item_back : TablesValue → Guide → ℕ → Item → List ℕ
-item_back v u q i = spaced v.built.grammar (after_dot v.built.grammar.bare i) ++ (on_text v u q i ++ codes "\n")
+item_back v u q i = spaced v.built.grammar (after_dot v.built.grammar.bare i) ++
+    (on_text v u q i ++ codes "\n")
 
 abbrev pub item_line : TablesValue → Guide → ℕ → Item → List ℕ
 item_line v u q i = item_front v.built.grammar i ++ item_back v u q i
@@ -69,10 +77,12 @@ goto_line v x (Some n) = named v x (count_line (codes " goto ") n)
 
 -- the line of a cell that counts a conflict
 abbrev pub conflict_line : GrammarValue → ℕ → Cell → List ℕ
-conflict_line v t c = if nat_eq c.shift_reduce 0 && nat_eq c.reduce_reduce 0 then [] else named v t (pair_line (codes " conflicts ") c.shift_reduce c.reduce_reduce)
+conflict_line v t c = if nat_eq c.shift_reduce 0 && nat_eq c.reduce_reduce 0 then [] else named v t
+    (pair_line (codes " conflicts ") c.shift_reduce c.reduce_reduce)
 
 abbrev pub actions_text : TablesValue → ℕ → List ℕ
-actions_text v q = flat_map (λ t. action_line v.built.grammar t (action_at v q t)) (tokens_of v.built.grammar)
+actions_text v q = flat_map (λ t. action_line v.built.grammar t (action_at v q t))
+    (tokens_of v.built.grammar)
 
 -- the default rule of a consistent state, or the actions
 abbrev pub rule_or_actions : TablesValue → ℕ → Option ℕ → List ℕ
@@ -80,10 +90,12 @@ rule_or_actions v q (Some r) = count_line (codes "  . reduce ") r
 rule_or_actions v q None = actions_text v q
 
 abbrev pub gotos_text : TablesValue → ℕ → List ℕ
-gotos_text v q = flat_map (λ x. goto_line v.built.grammar x (goto_in v.built q x)) (nonterminals_of v.built.grammar)
+gotos_text v q = flat_map (λ x. goto_line v.built.grammar x (goto_in v.built q x))
+    (nonterminals_of v.built.grammar)
 
 abbrev pub conflicts_text : TablesValue → Guide → ℕ → List ℕ
-conflicts_text v u q = flat_map (λ t. conflict_line v.built.grammar t (cell_in v.built u q t)) (tokens_of v.built.grammar)
+conflicts_text v u q = flat_map (λ t. conflict_line v.built.grammar t (cell_in v.built u q t))
+    (tokens_of v.built.grammar)
 
 abbrev pub items_text : TablesValue → Guide → ℕ → List ℕ
 items_text v u q = flat_map (item_line v u q) (state_of v.built q)
@@ -95,17 +107,21 @@ abbrev pub state_text : TablesValue → Guide → ℕ → List ℕ
 state_text v u q = count_line (codes "State ") q ++ (items_text v u q ++ cells_text v u q)
 
 abbrev pub counts_text : TablesValue → List ℕ
-counts_text v = count_line (codes "States ") (length v.built.states) ++ pair_line (codes "Conflicts ") v.shift_reduce v.reduce_reduce
+counts_text v = count_line (codes "States ") (length v.built.states) ++ pair_line
+    (codes "Conflicts ") v.shift_reduce v.reduce_reduce
 
 abbrev pub states_text : TablesValue → Guide → List ℕ
 states_text v u = flat_map (state_text v u) (states_of v.built)
 
 abbrev pub tokens_part : TablesValue → Guide → List ℕ
-tokens_part v u = codes "Tokens\n" ++ (flat_map (token_line v.built.grammar) (tokens_of v.built.grammar) ++ (states_text v u ++ counts_text v))
+tokens_part v u = codes "Tokens\n" ++ (flat_map (token_line v.built.grammar)
+    (tokens_of v.built.grammar) ++ (states_text v u ++ counts_text v))
 
 abbrev pub unreachable_part : TablesValue → Guide → List ℕ
-unreachable_part v u = codes "Unreachable\n" ++ (flat_map (unreachable_line v.built.grammar) (rules_of v.built.grammar) ++ tokens_part v u)
+unreachable_part v u = codes "Unreachable\n" ++ (flat_map (unreachable_line v.built.grammar)
+    (rules_of v.built.grammar) ++ tokens_part v u)
 
 -- The text of the report.
 abbrev pub report_of : TablesValue → Guide → List ℕ
-report_of v u = codes "Rules\n" ++ (flat_map (rule_text v.built.grammar) (rules_of v.built.grammar) ++ unreachable_part v u)
+report_of v u = codes "Rules\n" ++ (flat_map (rule_text v.built.grammar)
+    (rules_of v.built.grammar) ++ unreachable_part v u)

@@ -14,7 +14,8 @@ abbrev pub InGrammar : ContextFree → List Item → Type 0
 InGrammar g items = All (λ (i : Item). i.rule < length g.rules) items
 
 -- the cells of state q at the tokens below n, and what they count
-pub record IsRowTo (m : Collection) (u : Guide) (q n : ℕ) (row : List Action) (shifts reduces : ℕ) (chosen : Bool) : Type 0 where
+pub record IsRowTo (m : Collection) (u : Guide) (q n : ℕ) (row : List Action) (shifts reduces : ℕ)
+    (chosen : Bool) : Type 0 where
   pub actions : row ≡ map (λ t. (cell_in m u q t).action) (range_with_len 0 n)
   pub shift_reduce : shifts ≡ sum_by (λ t. (cell_in m u q t).shift_reduce) (range_with_len 0 n)
   pub reduce_reduce : reduces ≡ sum_by (λ t. (cell_in m u q t).reduce_reduce) (range_with_len 0 n)
@@ -27,6 +28,7 @@ pub record ReduceBy (r : ℕ) (actions : List Action) : Type 0 where
   pub same : list_all (is_reduce r) rest ≡ true
 
 -- The whole row of state q: the actions of its cells, its default rule, and what the cells count.
-pub record IsRow (m : Collection) (u : Guide) (q : ℕ) (row : List Action) (rule : Option ℕ) (shifts reduces : ℕ) (chosen : Bool) : Type 0 where
+pub record IsRow (m : Collection) (u : Guide) (q : ℕ) (row : List Action) (rule : Option ℕ)
+    (shifts reduces : ℕ) (chosen : Bool) : Type 0 where
   pub cells : IsRowTo m u q m.grammar.bare.tokens row shifts reduces chosen
   pub default : rule ≡ default_in m u q

@@ -17,6 +17,7 @@ Grows old new true text = Appends old new text
 Grows old new false text = Begins old new text
 
 -- A text went through a link: all of it, or a beginning of it exactly where the link failed.
-pub record Sends {W : Type 0} (contents : W → Option (List ℕ)) (old new : Link W) (whole : Bool) (text : List ℕ) : Type 0 where
+pub record Sends {W : Type 0} (contents : W → Option (List ℕ)) (old new : Link W) (whole : Bool)
+    (text : List ℕ) : Type 0 where
   pub bytes : Grows (contents (device_of old)) (contents (device_of new)) whole text
   pub failed : has_failed new ≡ (if whole then has_failed old else true)

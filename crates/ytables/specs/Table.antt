@@ -1,5 +1,7 @@
--- The text of the table: symbols, rules, and for each state its default rule or its actions, and its gotos.
-use Rattle.std.specs.Prelude.{ℕ, ◌++◌, List, [], length, codes, decimal, Option, Some, None, slice_get, flat_map}
+-- The text of the table: symbols, rules, and for each state its default rule or its actions, and
+-- its gotos.
+use Rattle.std.specs.Prelude.{ℕ, ◌++◌, List, [], length, codes, decimal, Option, Some, None}
+use Rattle.std.specs.Prelude.{slice_get, flat_map}
 use Rattle.std.specs.List.{range_with_len}
 use Rattle.ygrammar.specs.Grammar.{GrammarValue, left_of, body_of}
 use Rattle.ylalr.specs.Collection.{goto_in}
@@ -14,11 +16,13 @@ number_text (Some n) = codes " t " ++ decimal n
 number_text None = codes " n -"
 
 abbrev pub symbol_line : GrammarValue → ℕ → List ℕ
-symbol_line v s = decimal s ++ (number_text (slice_get v.numbers s) ++ (codes " " ++ (name_of v s ++ codes "\n")))
+symbol_line v s = decimal s ++ (number_text (slice_get v.numbers s) ++
+    (codes " " ++ (name_of v s ++ codes "\n")))
 
 -- the number of a rule, its left side and the length of its body
 abbrev pub rule_line : GrammarValue → ℕ → List ℕ
-rule_line v r = decimal r ++ (codes " " ++ pair_line [] (left_of v.bare r) (length (body_of v.bare r)))
+rule_line v r = decimal r ++ (codes " " ++ pair_line [] (left_of v.bare r)
+    (length (body_of v.bare r)))
 
 -- what begins the line of state q and the symbol t
 abbrev pub place_text : List ℕ → ℕ → ℕ → List ℕ
@@ -49,7 +53,8 @@ rule_or_actions v q (Some r) = pair_line (codes "d ") q r
 rule_or_actions v q None = actions_text v q
 
 abbrev pub gotos_text : TablesValue → ℕ → List ℕ
-gotos_text v q = flat_map (λ x. goto_line q x (goto_in v.built q x)) (nonterminals_of v.built.grammar)
+gotos_text v q = flat_map (λ x. goto_line q x (goto_in v.built q x))
+    (nonterminals_of v.built.grammar)
 
 abbrev pub state_lines : TablesValue → ℕ → List ℕ
 state_lines v q = rule_or_actions v q (default_at v q) ++ gotos_text v q
@@ -64,11 +69,14 @@ abbrev pub all_states : TablesValue → List ℕ
 all_states v = flat_map (state_lines v) (states_of v.built)
 
 abbrev pub states_part : TablesValue → List ℕ
-states_part v = count_line (codes "states ") (length v.built.states) ++ (all_states v ++ codes "end\n")
+states_part v = count_line (codes "states ") (length v.built.states) ++
+    (all_states v ++ codes "end\n")
 
 abbrev pub rules_part : TablesValue → List ℕ
-rules_part v = count_line (codes "rules ") (length v.built.grammar.bare.rules) ++ (rule_lines v.built.grammar ++ states_part v)
+rules_part v = count_line (codes "rules ") (length v.built.grammar.bare.rules) ++
+    (rule_lines v.built.grammar ++ states_part v)
 
 -- The text of the table.
 abbrev pub table_of : TablesValue → List ℕ
-table_of v = count_line (codes "table 2\nsymbols ") v.built.grammar.bare.symbols ++ (symbol_lines v.built.grammar ++ rules_part v)
+table_of v = count_line (codes "table 2\nsymbols ") v.built.grammar.bare.symbols ++
+    (symbol_lines v.built.grammar ++ rules_part v)

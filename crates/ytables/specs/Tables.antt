@@ -1,5 +1,7 @@
 -- What the tables of an automaton say: its cells, with default reductions in consistent states.
-use Rattle.std.specs.Prelude.{ℕ, ◌≡◌, ◌+◌, ◌-◌, ◌<◌, ◌≤◌, Bool, true, false, not, ◌&&◌, List, [], ◌∷◌, length, map, drop, Option, Some, None, if◌then◌else◌, nat_eq, slice_index_or, unwrap_or}
+use Rattle.std.specs.Prelude.{ℕ, ◌≡◌, ◌+◌, ◌-◌, ◌<◌, ◌≤◌, Bool, true, false, not, ◌&&◌, List, []}
+use Rattle.std.specs.Prelude.{◌∷◌, length, map, drop, Option, Some, None, if◌then◌else◌, nat_eq}
+use Rattle.std.specs.Prelude.{slice_index_or, unwrap_or}
 use Rattle.std.specs.List.{filter, list_any, sum_by, range_with_len}
 use Rattle.ygrammar.specs.declared.precedence.Precedence.{Precedence}
 use Rattle.ygrammar.specs.Grammar.{ContextFree, GrammarValue, body_of, end_token}
@@ -64,9 +66,11 @@ class_at v level r = class_of level (slice_index_or v.rule_precedences r None)
 abbrev pub class_in : GrammarValue → ℕ → ℕ → Class
 class_in v t = class_at v (slice_index_or v.token_precedences t None)
 
--- The cell of the state with these items at the token t, by the gotos from the state and the lookaheads of its items.
+-- The cell of the state with these items at the token t, by the gotos from the state and the
+-- lookaheads of its items.
 abbrev pub cell_by : GrammarValue → (ℕ → Option ℕ) → (Item → ℕ → Bool) → List Item → ℕ → Cell
-cell_by v to looks k t = cell_of (class_in v t) (shift_by v.bare to k t) (rules_by (λ i. looks i t) (ready_in v.bare k))
+cell_by v to looks k t = cell_of (class_in v t) (shift_by v.bare to k t)
+    (rules_by (λ i. looks i t) (ready_in v.bare k))
 
 abbrev pub tokens_of : GrammarValue → List ℕ
 tokens_of v = range_with_len 0 v.bare.tokens
@@ -74,10 +78,12 @@ tokens_of v = range_with_len 0 v.bare.tokens
 abbrev pub row_by : GrammarValue → (ℕ → Option ℕ) → (Item → ℕ → Bool) → List Item → List Action
 row_by v to looks k = map (λ t. (cell_by v to looks k t).action) (tokens_of v)
 
--- The rule of a consistent state: no item has its dot before a token, and all filled cells reduce by this rule.
+-- The rule of a consistent state: no item has its dot before a token, and all filled cells reduce
+-- by this rule.
 abbrev pub default_by : GrammarValue → (ℕ → Option ℕ) → (Item → ℕ → Bool) → List Item → Option ℕ
 default_by v to looks k =
-    if list_any (has_before v.bare k) (tokens_of v) then None else common (filter is_filled (row_by v to looks k))
+    if list_any (has_before v.bare k) (tokens_of v) then None else common
+        (filter is_filled (row_by v to looks k))
 
 -- the same by number
 abbrev pub cell_in : Collection → Guide → ℕ → ℕ → Cell
@@ -117,7 +123,8 @@ abbrev pub rule_at : List (Option ℕ) → ℕ → Option ℕ
 rule_at defaults q = slice_index_or defaults q None
 
 abbrev pub act_at : List (List (Option Action)) → List (Option ℕ) → ℕ → ℕ → Action
-act_at actions defaults q t = by_default (rule_at defaults q) (unwrap_or (entry_of actions q t) Error)
+act_at actions defaults q t = by_default (rule_at defaults q)
+    (unwrap_or (entry_of actions q t) Error)
 
 abbrev pub default_at : TablesValue → ℕ → Option ℕ
 default_at v q = rule_at v.defaults q
@@ -126,17 +133,20 @@ abbrev pub action_at : TablesValue → ℕ → ℕ → Action
 action_at v q t = act_at v.actions v.defaults q t
 
 -- The actions and default rules of the states below n are those of the cells.
-pub record AreRowsTo (m : Collection) (u : Guide) (n : ℕ) (act : ℕ → ℕ → Action) (rule : ℕ → Option ℕ) : Type 0 where
+pub record AreRowsTo (m : Collection) (u : Guide) (n : ℕ) (act : ℕ → ℕ → Action)
+    (rule : ℕ → Option ℕ) : Type 0 where
   pub action : (q t : ℕ) → q < n → t < m.grammar.bare.tokens → act q t ≡ action_in m u q t
   pub default : (q : ℕ) → q < n → rule q ≡ default_in m u q
 
 -- The sums over all cells of the states below n.
-pub record AreSumsTo (m : Collection) (u : Guide) (n shifts reduces : ℕ) (chosen : Bool) : Type 0 where
+pub record AreSumsTo (m : Collection) (u : Guide) (n shifts reduces : ℕ) (chosen : Bool) : Type 0
+    where
   pub shift_reduce : shifts ≡ sum_by (row_shift_reduce m u) (range_with_len 0 n)
   pub reduce_reduce : reduces ≡ sum_by (row_reduce_reduce m u) (range_with_len 0 n)
   pub choice : chosen ≡ list_any (row_choice m u) (range_with_len 0 n)
 
--- The tables go by these gotos and lookaheads: all cells, and the sums over all states and all tokens.
+-- The tables go by these gotos and lookaheads: all cells, and the sums over all states and all
+-- tokens.
 pub record FollowsGuide (v : TablesValue) (u : Guide) : Type 0 where
   pub rows : AreRowsTo v.built u (length v.built.states) (action_at v) (default_at v)
   pub sums : AreSumsTo v.built u (length v.built.states) v.shift_reduce v.reduce_reduce v.choice
@@ -144,10 +154,12 @@ pub record FollowsGuide (v : TablesValue) (u : Guide) : Type 0 where
 abbrev pub AreTables : TablesValue → Type 0
 AreTables v = (u : Guide) → IsGuide v.built u → FollowsGuide v u
 
--- The rows of the states below n are their gotos over nonterminals, the first of which has the first column.
+-- The rows of the states below n are their gotos over nonterminals, the first of which has the
+-- first column.
 abbrev pub AreGotosTo : Collection → ℕ → List (List (Option ℕ)) → Type 0
 AreGotosTo m n rows =
-    (q x : ℕ) → q < n → m.grammar.bare.tokens ≤ x → x < m.grammar.bare.symbols → entry_of rows q (x - m.grammar.bare.tokens) ≡ goto_in m q x
+    (q x : ℕ) → q < n → m.grammar.bare.tokens ≤ x → x < m.grammar.bare.symbols → entry_of rows q
+        (x - m.grammar.bare.tokens) ≡ goto_in m q x
 
 -- the gotos of all states
 pub record AreGotos (m : Collection) (packed : PackedRows ℕ) : Type 0 where

@@ -1,5 +1,6 @@
 -- What one pass over the rules of a cell finds.
-use Rattle.std.specs.Prelude.{ℕ, ◌≡◌, ◌+◌, ◌-◌, ◌<◌, ◌≤◌, ◌^◌, Bool, true, false, not, List, [], ◌∷◌, length, min, Option, Some, None, if◌then◌else◌, nat_lt, nat_eq}
+use Rattle.std.specs.Prelude.{ℕ, ◌≡◌, ◌+◌, ◌-◌, ◌<◌, ◌≤◌, ◌^◌, Bool, true, false, not, List, []}
+use Rattle.std.specs.Prelude.{◌∷◌, length, min, Option, Some, None, if◌then◌else◌, nat_lt, nat_eq}
 use Rattle.std.specs.List.{filter, list_any, count_by, fold}
 use Rattle.ytables.specs.declared.class.Class.{Class}
 use Rattle.ytables.specs.declared.class.Class.TheVariants.{Beat, Lose, Ban, Rest}
@@ -23,22 +24,28 @@ abbrev pub lesser : Tally → ℕ → ℕ
 lesser y r = if nat_eq y.kept 0 then r else min y.first r
 
 abbrev pub tally_more : Tally → ℕ → Class → Tally
-tally_more y r Beat = record { banned = y.banned; beaten = true; rests = y.rests; kept = y.kept + 1; first = lesser y r; all = y.all + 1 }
-tally_more y r Lose = record { banned = y.banned; beaten = y.beaten; rests = y.rests; kept = y.kept; first = y.first; all = y.all + 1 }
-tally_more y r Ban = record { banned = true; beaten = y.beaten; rests = y.rests; kept = y.kept + 1; first = lesser y r; all = y.all + 1 }
-tally_more y r Rest = record { banned = y.banned; beaten = y.beaten; rests = y.rests + 1; kept = y.kept + 1; first = lesser y r; all = y.all + 1 }
+tally_more y r Beat = record { banned = y.banned; beaten = true; rests = y.rests; kept = y.kept + 1;
+    first = lesser y r; all = y.all + 1 }
+tally_more y r Lose = record { banned = y.banned; beaten = y.beaten; rests = y.rests; kept = y.kept;
+    first = y.first; all = y.all + 1 }
+tally_more y r Ban = record { banned = true; beaten = y.beaten; rests = y.rests; kept = y.kept + 1;
+    first = lesser y r; all = y.all + 1 }
+tally_more y r Rest = record { banned = y.banned; beaten = y.beaten; rests = y.rests + 1; kept =
+    y.kept + 1; first = lesser y r; all = y.all + 1 }
 
 abbrev pub reduced_by : Tally → Bool → Cell
 reduced_by y choice =
     if nat_eq y.kept 0 then lone Error choice
-    else record { action = Reduce y.first; shift_reduce = 0; reduce_reduce = y.kept - 1; choice = choice }
+    else record { action = Reduce y.first; shift_reduce = 0; reduce_reduce = y.kept - 1; choice =
+        choice }
 
 abbrev pub settled : Tally → Option Action → Cell
 settled y None = reduced_by y (nat_lt 1 y.all)
 settled y (Some shift) =
     if y.banned then lone Error true
     else if y.beaten then reduced_by y true
-    else record { action = shift; shift_reduce = y.rests; reduce_reduce = 0; choice = nat_lt 0 y.all }
+    else record { action = shift; shift_reduce = y.rests; reduce_reduce = 0; choice =
+        nat_lt 0 y.all }
 
 -- the least of the rules, or 0
 abbrev pub least_of : List ℕ → ℕ

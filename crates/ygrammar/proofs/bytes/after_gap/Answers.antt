@@ -8,10 +8,14 @@ loop-rest-init c = gap_none c.args.bytes.now
 
 pub loop-rest-preserved-then-is_blank : goal.loop-rest-preserved-then-is_blank
 loop-rest-preserved-then-is_blank c =
-    let some = some_length c.loop-rest.rest.now c.is_empty.result c.is_empty.ensures c.loop-rest-test.true in
-    gap_blank c.args.bytes.now c.loop-rest.rest.now c.split_at.result.1.now _ c.loop-rest.invariant (head_is c.loop-rest.rest.now c.split_at.result.1.now some c.split_at.ensures.back) (sym c.if-is_blank.ensures)
+    let some = some_length c.loop-rest.rest.now c.is_empty.result c.is_empty.ensures
+            c.loop-rest-test.true in
+    gap_blank c.args.bytes.now c.loop-rest.rest.now c.split_at.result.1.now _ c.loop-rest.invariant
+        (head_is c.loop-rest.rest.now c.split_at.result.1.now some c.split_at.ensures.back)
+        (sym c.if-is_blank.ensures)
 
 pub loop-rest-preserved : goal.loop-rest-preserved
 loop-rest-preserved c =
     let (text, comment, whole) = c.in-Some.ensures in
-    gap_comment c.args.bytes.now c.loop-rest.rest.now c.in-Some.tail.now text c.loop-rest.invariant comment whole
+    gap_comment c.args.bytes.now c.loop-rest.rest.now c.in-Some.tail.now text c.loop-rest.invariant
+        comment whole

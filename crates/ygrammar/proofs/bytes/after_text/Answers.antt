@@ -4,4 +4,5 @@ use Rattle.std.proofs.lemmas.Slice.Eq.{strip_prefix_is}
 use Rattle.ygrammar.proofs.bytes.after_text.Goals as goal
 
 pub returns : goal.returns
-returns c = strip_prefix_is {A = ℕ} {E = λ x y. eqb x y} Decides-eqb c.args.bytes.now c.args.text.now c.strip_prefix.result c.strip_prefix.ensures.cases
+returns c = strip_prefix_is {A = ℕ} {E = λ x y. eqb x y} Decides-eqb c.args.bytes.now
+    c.args.text.now c.strip_prefix.result c.strip_prefix.ensures.cases

@@ -7,6 +7,8 @@ use Rattle.ygrammar.proofs.checks.first_token.Given as goal
 
 abbrev pub invariant-loop-name : goal.invariant-loop-name
 invariant-loop-name l = record {
-  found : list_any (is_among (texts l.tokens)) (map name_view (drop l.name-index l.names)) ≡ list_any (is_among (texts l.tokens)) (map name_view l.names);
-  place : find (λ m. is_among (texts l.tokens) (name_view m)) (drop l.name-index l.names) ≡ find (λ m. is_among (texts l.tokens) (name_view m)) l.names;
+  found : list_any (is_among (texts l.tokens)) (map name_view (drop l.name-index l.names)) ≡
+      list_any (is_among (texts l.tokens)) (map name_view l.names);
+  place : find (λ m. is_among (texts l.tokens) (name_view m)) (drop l.name-index l.names) ≡ find
+      (λ m. is_among (texts l.tokens) (name_view m)) l.names;
 }

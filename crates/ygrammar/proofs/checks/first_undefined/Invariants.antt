@@ -7,6 +7,10 @@ use Rattle.ygrammar.proofs.checks.first_undefined.Given as goal
 
 abbrev pub invariant-loop-mention : goal.invariant-loop-mention
 invariant-loop-mention l = record {
-  found : list_any (λ i. not (is_among (texts l.symbols) (printed i))) (map mention_view (drop l.mention-index l.mentions)) ≡ list_any (λ i. not (is_among (texts l.symbols) (printed i))) (map mention_view l.mentions);
-  place : find (λ m. not (is_among (texts l.symbols) (printed (mention_view m)))) (drop l.mention-index l.mentions) ≡ find (λ m. not (is_among (texts l.symbols) (printed (mention_view m)))) l.mentions;
+  found : list_any (λ i. not (is_among (texts l.symbols) (printed i)))
+      (map mention_view (drop l.mention-index l.mentions)) ≡ list_any
+      (λ i. not (is_among (texts l.symbols) (printed i))) (map mention_view l.mentions);
+  place : find (λ m. not (is_among (texts l.symbols) (printed (mention_view m))))
+      (drop l.mention-index l.mentions) ≡ find
+      (λ m. not (is_among (texts l.symbols) (printed (mention_view m)))) l.mentions;
 }

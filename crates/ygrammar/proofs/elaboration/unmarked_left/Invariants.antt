@@ -6,4 +6,7 @@ use Rattle.ygrammar.specs.TreeViews.{name_view}
 use Rattle.ygrammar.proofs.elaboration.unmarked_left.Given as goal
 
 abbrev pub invariant-loop-left : goal.invariant-loop-left
-invariant-loop-left l = find (λ m. not (slice_index_or l.marks (number_in (texts l.names) (name_view m)) true)) (drop l.left-index l.lefts) ≡ find (λ m. not (slice_index_or l.marks (number_in (texts l.names) (name_view m)) true)) l.lefts
+invariant-loop-left l = find
+    (λ m. not (slice_index_or l.marks (number_in (texts l.names) (name_view m)) true))
+    (drop l.left-index l.lefts) ≡ find
+    (λ m. not (slice_index_or l.marks (number_in (texts l.names) (name_view m)) true)) l.lefts

@@ -15,7 +15,10 @@ loop-mention-preserved c = record {
       let xs = c.args.mentions.now in
       let i = c.loop-mention.mention-index in
       let h : i < length xs = omega arith in
-      c.fill_literal.ensures.told _ own (subst (λ (ys : List Mention). OwnSoFar (texts c.args.tokens.now) c.loop-mention.table.items (literal_value (map mention_view ys ++ more)) own) (drop_more xs i _ h) (c.loop-mention.invariant.told more own s));
+      c.fill_literal.ensures.told _ own
+          (subst (λ (ys : List Mention). OwnSoFar (texts c.args.tokens.now)
+          c.loop-mention.table.items (literal_value (map mention_view ys ++ more)) own)
+          (drop_more xs i _ h) (c.loop-mention.invariant.told more own s));
 }
 
 pub returns-clause-told : goal.returns-clause-told
@@ -23,4 +26,6 @@ returns-clause-told c = λ more own s.
     let xs = c.args.mentions.now in
     let i = c.loop-mention.mention-index in
     let e : drop i xs ≡ [] = take_none xs i c.loop-mention-test.false in
-    subst (λ (ys : List Mention). OwnSoFar (texts c.args.tokens.now) c.loop-mention.table.items (literal_value (map mention_view ys ++ more)) own) e (c.loop-mention.invariant.told more own s)
+    subst (λ (ys : List Mention). OwnSoFar (texts c.args.tokens.now) c.loop-mention.table.items
+        (literal_value (map mention_view ys ++ more)) own) e
+        (c.loop-mention.invariant.told more own s)

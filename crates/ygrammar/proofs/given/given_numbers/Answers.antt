@@ -1,4 +1,5 @@
-use Rattle.std.proofs.Common.{◌<◌, ap, sym, ◌∙◌, length, map, get_or, arith, inl, inr, None, is_some, refl, rules}
+use Rattle.std.proofs.Common.{◌<◌, ap, sym, ◌∙◌, length, map, get_or, arith, inl, inr, None}
+use Rattle.std.proofs.Common.{is_some, refl, rules}
 use Rattle.std.specs.Str.Parse.{digits_value}
 use Rattle.std.proofs.lemmas.List.{get_or_read}
 use Rattle.ygrammar.specs.Elaboration.{digits_number}
@@ -17,8 +18,13 @@ loop-one-preserved c =
     let h : i < length xs = omega arith in
     let l : k < length table = search rules in
     record {
-      told = says_at digits_number _ (texts c.args.tokens.now) table xs i (map listed_view xs) c.in-Some-fit_number.number k h (digits_are (get_or xs i _) c.in-Some.digits c.in-Some-fit_number.number c.in-Some.is c.in-Some-fit_number.ensures.0) c.number_of-token.ensures l (is_none (get_or table k None) (search rules)) c.loop-one.invariant.told;
-      fit = fit_more table k c.in-Some-fit_number.number l c.in-Some-fit_number.ensures.1 c.loop-one.invariant.fit;
+      told = says_at digits_number _ (texts c.args.tokens.now) table xs i (map listed_view xs)
+          c.in-Some-fit_number.number k h
+          (digits_are (get_or xs i _) c.in-Some.digits c.in-Some-fit_number.number c.in-Some.is
+          c.in-Some-fit_number.ensures.0) c.number_of-token.ensures l
+          (is_none (get_or table k None) (search rules)) c.loop-one.invariant.told;
+      fit = fit_more table k c.in-Some-fit_number.number l c.in-Some-fit_number.ensures.1
+          c.loop-one.invariant.fit;
     }
 
 pub returns-then-is_some : goal.returns-then-is_some
@@ -29,7 +35,12 @@ returns-then-is_some c =
     let i = c.loop-one.one-index in
     let h : i < length xs = omega arith in
     let l : k < length table = search rules in
-    inr (twice_at digits_number _ (texts c.args.tokens.now) table xs i (map listed_view xs) c.in-Some-fit_number.number k h (digits_are (get_or xs i _) c.in-Some.digits c.in-Some-fit_number.number c.in-Some.is c.in-Some-fit_number.ensures.0) c.number_of-token.ensures l (ap is_some (sym (get_or_read table k c.index.result.now l c.index.ensures None)) ∙ sym c.is_some.ensures ∙ c.if-is_some.true) c.loop-one.invariant.told)
+    inr (twice_at digits_number _ (texts c.args.tokens.now) table xs i (map listed_view xs)
+        c.in-Some-fit_number.number k h
+        (digits_are (get_or xs i _) c.in-Some.digits c.in-Some-fit_number.number c.in-Some.is
+        c.in-Some-fit_number.ensures.0) c.number_of-token.ensures l
+        (ap is_some (sym (get_or_read table k c.index.result.now l c.index.ensures None)) ∙ sym
+        c.is_some.ensures ∙ c.if-is_some.true) c.loop-one.invariant.told)
 
 pub loop-one-preserved-then-token-len : goal.loop-one-preserved-then-token-len
 loop-one-preserved-then-token-len c =
@@ -37,7 +48,9 @@ loop-one-preserved-then-token-len c =
     let i = c.loop-one.one-index in
     let h : i < length xs = omega arith in
     record {
-      told = passes_at digits_number _ (texts c.args.tokens.now) c.loop-one.given.items xs i (map listed_view xs) c.number_of-token.result h c.number_of-token.ensures (search rules) c.loop-one.invariant.told;
+      told = passes_at digits_number _ (texts c.args.tokens.now) c.loop-one.given.items xs i
+          (map listed_view xs) c.number_of-token.result h c.number_of-token.ensures (search rules)
+          c.loop-one.invariant.told;
       fit = c.loop-one.invariant.fit;
     }
 
@@ -47,4 +60,6 @@ returns-in_default-fit_number c =
     let i = c.loop-one.one-index in
     let h : i < length xs = omega arith in
     let n = digits_value 10 c.in-Some.digits.digits.now in
-    inl (_, n, said_there digits_number _ xs i n h (digits_are (get_or xs i _) c.in-Some.digits n c.in-Some.is refl), unfit n c.in_default-fit_number.ensures)
+    inl (_, n, said_there digits_number _ xs i n h
+        (digits_are (get_or xs i _) c.in-Some.digits n c.in-Some.is refl),
+        unfit n c.in_default-fit_number.ensures)

@@ -8,6 +8,7 @@ use Rattle.ygrammar.proofs.given.given_numbers.Given as goal
 
 abbrev pub invariant-loop-one : goal.invariant-loop-one
 invariant-loop-one l = record {
-  told : SoFar digits_number (texts l.tokens) l.given.items (map listed_view (drop l.one-index l.listed)) (map listed_view l.listed);
+  told : SoFar digits_number (texts l.tokens) l.given.items
+      (map listed_view (drop l.one-index l.listed)) (map listed_view l.listed);
   fit : AllFit l.given.items;
 }

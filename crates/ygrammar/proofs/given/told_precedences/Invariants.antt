@@ -6,4 +6,5 @@ use Rattle.ygrammar.specs.Told.{SoFar}
 use Rattle.ygrammar.proofs.given.told_precedences.Given as goal
 
 abbrev pub invariant-loop-one : goal.invariant-loop-one
-invariant-loop-one l = SoFar gives_of (texts l.tokens) l.given.items (map listed_view (drop l.one-index l.listed)) (map listed_view l.listed)
+invariant-loop-one l = SoFar gives_of (texts l.tokens) l.given.items
+    (map listed_view (drop l.one-index l.listed)) (map listed_view l.listed)

@@ -8,13 +8,20 @@ use Rattle.ygrammar.proofs.kept.act_at.Goals as goal
 
 pub overflow_sub-bytes : goal.overflow_sub-bytes
 overflow_sub-bytes c =
-    act_shorter c.args.bytes.now c.split_at.result.1.now c.in-Some.rest.now (first_is 123 c.args.bytes.now c.split_at.result.1.now c.requires c.split_at.ensures.back) (sym c.in-Some.ensures)
+    act_shorter c.args.bytes.now c.split_at.result.1.now c.in-Some.rest.now
+        (first_is 123 c.args.bytes.now c.split_at.result.1.now c.requires c.split_at.ensures.back)
+        (sym c.in-Some.ensures)
 
 pub returns-in-None : goal.returns-in-None
 returns-in-None c =
-    act_open c.args.bytes.now c.split_at.result.1.now (first_is 123 c.args.bytes.now c.split_at.result.1.now c.requires c.split_at.ensures.back) (sym c.in-None.ensures)
+    act_open c.args.bytes.now c.split_at.result.1.now
+        (first_is 123 c.args.bytes.now c.split_at.result.1.now c.requires c.split_at.ensures.back)
+        (sym c.in-None.ensures)
 
 pub returns-in-Some : goal.returns-in-Some
 returns-in-Some c =
-    let part = act_part c.args.bytes.now c.split_at.result.1.now c.in-Some.rest.now (first_is 123 c.args.bytes.now c.split_at.result.1.now c.requires c.split_at.ensures.back) (sym c.in-Some.ensures) in
-    subst (λ t. PartAt c.args.bytes.now (lexeme (act t)) c.in-Some.rest.now) (sym c.split_at-in-Some.ensures.front) part
+    let part = act_part c.args.bytes.now c.split_at.result.1.now c.in-Some.rest.now
+            (first_is 123 c.args.bytes.now c.split_at.result.1.now c.requires
+            c.split_at.ensures.back) (sym c.in-Some.ensures) in
+    subst (λ t. PartAt c.args.bytes.now (lexeme (act t)) c.in-Some.rest.now)
+        (sym c.split_at-in-Some.ensures.front) part

@@ -4,7 +4,8 @@ use Rattle.ygrammar.specs.Kept.{closes}
 use Rattle.ygrammar.proofs.kept.after_kept.Given as goal
 
 abbrev pub invariant-loop-rest : goal.invariant-loop-rest
-invariant-loop-rest l = (closes l.mode l.depth l.rest ≡ closes Outside 0 l.bytes) × (l.depth + length l.rest ≤ length l.bytes)
+invariant-loop-rest l = (closes l.mode l.depth l.rest ≡ closes Outside 0 l.bytes) ×
+    (l.depth + length l.rest ≤ length l.bytes)
 
 abbrev pub decreases-loop-rest : goal.decreases-loop-rest
 decreases-loop-rest l = length l.rest

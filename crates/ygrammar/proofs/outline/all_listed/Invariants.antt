@@ -6,6 +6,8 @@ use Rattle.ygrammar.proofs.outline.all_listed.Given as goal
 
 abbrev pub invariant-loop-definition : goal.invariant-loop-definition
 invariant-loop-definition l = record {
-  so_far : map listed_view l.found.items ++ listings_from l.level (map definition_view (drop l.definition-index l.definitions)) ≡ listings_from 0 (map definition_view l.definitions);
+  so_far : map listed_view l.found.items ++ listings_from l.level
+      (map definition_view (drop l.definition-index l.definitions)) ≡ listings_from 0
+      (map definition_view l.definitions);
   low : l.level ≤ l.definition-index;
 }

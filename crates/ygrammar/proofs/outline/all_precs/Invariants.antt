@@ -5,4 +5,5 @@ use Rattle.ygrammar.specs.TreeViews.{clause_view, mention_view}
 use Rattle.ygrammar.proofs.outline.all_precs.Given as goal
 
 abbrev pub invariant-loop-clause : goal.invariant-loop-clause
-invariant-loop-clause l = map mention_view l.found.items ++ flat_map prec_of (map clause_view (drop l.clause-index l.clauses)) ≡ flat_map prec_of (map clause_view l.clauses)
+invariant-loop-clause l = map mention_view l.found.items ++ flat_map prec_of
+    (map clause_view (drop l.clause-index l.clauses)) ≡ flat_map prec_of (map clause_view l.clauses)

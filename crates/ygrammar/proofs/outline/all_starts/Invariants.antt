@@ -6,4 +6,6 @@ use Rattle.ygrammar.specs.Outline.{start_view}
 use Rattle.ygrammar.proofs.outline.all_starts.Given as goal
 
 abbrev pub invariant-loop-definition : goal.invariant-loop-definition
-invariant-loop-definition l = map start_view l.found.items ++ flat_map started (map definition_view (drop l.definition-index l.definitions)) ≡ flat_map started (map definition_view l.definitions)
+invariant-loop-definition l = map start_view l.found.items ++ flat_map started
+    (map definition_view (drop l.definition-index l.definitions)) ≡ flat_map started
+    (map definition_view l.definitions)

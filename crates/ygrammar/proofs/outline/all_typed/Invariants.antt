@@ -5,4 +5,6 @@ use Rattle.ygrammar.specs.TreeViews.{definition_view, name_view}
 use Rattle.ygrammar.proofs.outline.all_typed.Given as goal
 
 abbrev pub invariant-loop-definition : goal.invariant-loop-definition
-invariant-loop-definition l = map name_view l.found.items ++ flat_map typed (map definition_view (drop l.definition-index l.definitions)) ≡ flat_map typed (map definition_view l.definitions)
+invariant-loop-definition l = map name_view l.found.items ++ flat_map typed
+    (map definition_view (drop l.definition-index l.definitions)) ≡ flat_map typed
+    (map definition_view l.definitions)

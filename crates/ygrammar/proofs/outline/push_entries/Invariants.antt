@@ -4,4 +4,6 @@ use Rattle.ygrammar.specs.TreeViews.{entry_view, mention_view}
 use Rattle.ygrammar.proofs.outline.push_entries.Given as goal
 
 abbrev pub invariant-loop-entry : goal.invariant-loop-entry
-invariant-loop-entry l = map mention_view l.found.items ++ map who_of (map entry_view (drop l.entry-index l.entries)) ≡ map mention_view l.fn.found.items ++ map who_of (map entry_view l.entries)
+invariant-loop-entry l = map mention_view l.found.items ++ map who_of
+    (map entry_view (drop l.entry-index l.entries)) ≡ map mention_view l.fn.found.items ++ map
+    who_of (map entry_view l.entries)

@@ -1,5 +1,6 @@
 use Rattle.std.proofs.Common.{ℕ, ◌≤◌, ◌<◌, ◌-◌, length}
-use Rattle.ygrammar.specs.Marking.{AreDots, Grows, IsSettled, IsWorklist, MarksProductive, numbered_grammar, rule_at}
+use Rattle.ygrammar.specs.Marking.{AreDots, Grows, IsSettled, IsWorklist, MarksProductive}
+use Rattle.ygrammar.specs.Marking.{numbered_grammar, rule_at}
 use Rattle.ygrammar.proofs.productive.drain.Given as goal
 
 abbrev pub invariant-loop-done : goal.invariant-loop-done
@@ -8,8 +9,10 @@ invariant-loop-done l = record {
   grows : Grows l.fn.marks.items l.fn.order.items l.marks.items l.order.items;
   dots : AreDots l.rules l.dots.items l.marks.items;
   list : IsWorklist l.marks.items l.order.items;
-  settled : (k : ℕ) → k < length l.rules → IsSettled (rule_at l.rules k) l.marks.items l.order.items l.done;
-  sound : (tokens symbols : ℕ) → MarksProductive (numbered_grammar tokens symbols l.rules) l.fn.marks.items → MarksProductive (numbered_grammar tokens symbols l.rules) l.marks.items;
+  settled : (k : ℕ) → k < length l.rules → IsSettled (rule_at l.rules k) l.marks.items l.order.items
+      l.done;
+  sound : (tokens symbols : ℕ) → MarksProductive (numbered_grammar tokens symbols l.rules)
+      l.fn.marks.items → MarksProductive (numbered_grammar tokens symbols l.rules) l.marks.items;
 }
 
 abbrev pub decreases-loop-done : goal.decreases-loop-done

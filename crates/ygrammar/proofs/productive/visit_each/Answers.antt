@@ -10,8 +10,11 @@ loop-r-preserved c =
     record {
       grows = grows_then c.loop-r.invariant.grows g;
       dots = c.in_ok-visit.ensures.dots;
-      settled = below_more (λ (k : ℕ). IsSettled (rule_at rs k) c.visit.new.marks.items c.visit.new.order.items 0) c.loop-r.r (λ k h. settled_grows (rule_at rs k) 0 g (omega arith) (c.loop-r.invariant.settled k h)) (c.in_ok-visit.ensures.settled 0);
-      sound = λ tokens symbols f. c.in_ok-visit.ensures.sound tokens symbols (c.loop-r.invariant.sound tokens symbols f);
+      settled = below_more (λ (k : ℕ). IsSettled (rule_at rs k) c.visit.new.marks.items
+          c.visit.new.order.items 0) c.loop-r.r (λ k h. settled_grows (rule_at rs k) 0 g
+          (omega arith) (c.loop-r.invariant.settled k h)) (c.in_ok-visit.ensures.settled 0);
+      sound = λ tokens symbols f. c.in_ok-visit.ensures.sound tokens symbols
+          (c.loop-r.invariant.sound tokens symbols f);
     }
 
 pub returns-clause-settled : goal.returns-clause-settled

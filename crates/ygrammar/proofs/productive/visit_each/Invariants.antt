@@ -1,5 +1,6 @@
 use Rattle.std.proofs.Common.{ℕ, ◌<◌}
-use Rattle.ygrammar.specs.Marking.{AreDots, Grows, IsSettled, MarksProductive, numbered_grammar, rule_at}
+use Rattle.ygrammar.specs.Marking.{AreDots, Grows, IsSettled, MarksProductive, numbered_grammar}
+use Rattle.ygrammar.specs.Marking.{rule_at}
 use Rattle.ygrammar.proofs.productive.visit_each.Given as goal
 
 abbrev pub invariant-loop-r : goal.invariant-loop-r
@@ -7,5 +8,6 @@ invariant-loop-r l = record {
   grows : Grows l.fn.marks.items l.fn.order.items l.marks.items l.order.items;
   dots : AreDots l.rules l.dots.items l.marks.items;
   settled : (k : ℕ) → k < l.r → IsSettled (rule_at l.rules k) l.marks.items l.order.items 0;
-  sound : (tokens symbols : ℕ) → MarksProductive (numbered_grammar tokens symbols l.rules) l.fn.marks.items → MarksProductive (numbered_grammar tokens symbols l.rules) l.marks.items;
+  sound : (tokens symbols : ℕ) → MarksProductive (numbered_grammar tokens symbols l.rules)
+      l.fn.marks.items → MarksProductive (numbered_grammar tokens symbols l.rules) l.marks.items;
 }

@@ -12,8 +12,12 @@ loop-r-preserved c =
     record {
       grows = grows_then c.loop-r.invariant.grows g;
       dots = c.in_ok-visit.ensures.dots;
-      settled = λ taken t. below_more (λ (k : ℕ). IsSettled (rule_at rs (slice_index xs k)) c.visit.new.marks.items c.visit.new.order.items taken) c.loop-r.r-index (λ k h. settled_grows (rule_at rs (slice_index xs k)) taken g (omega (arith, longer, t)) (c.loop-r.invariant.settled taken t k h)) (c.in_ok-visit.ensures.settled taken);
-      sound = λ tokens symbols f. c.in_ok-visit.ensures.sound tokens symbols (c.loop-r.invariant.sound tokens symbols f);
+      settled = λ taken t. below_more (λ (k : ℕ). IsSettled (rule_at rs (slice_index xs k))
+          c.visit.new.marks.items c.visit.new.order.items taken) c.loop-r.r-index
+          (λ k h. settled_grows (rule_at rs (slice_index xs k)) taken g (omega (arith, longer, t))
+          (c.loop-r.invariant.settled taken t k h)) (c.in_ok-visit.ensures.settled taken);
+      sound = λ tokens symbols f. c.in_ok-visit.ensures.sound tokens symbols
+          (c.loop-r.invariant.sound tokens symbols f);
     }
 
 pub returns-clause-settled : goal.returns-clause-settled

@@ -13,6 +13,10 @@ loop-r-preserved c =
     let g = c.in_ok-mark_body.ensures.grows in
     record {
       grows = grows_then c.loop-r.invariant.grows g;
-      all = below_more (λ (k : ℕ). EachIndex (rule_at rs (slice_index xs k)).body (λ j. IsMarked m2 (slice_index (rule_at rs (slice_index xs k)).body j))) i (λ k h j n. g.kept (slice_index (rule_at rs (slice_index xs k)).body j) (c.loop-r.invariant.all k h j n)) c.in_ok-mark_body.ensures.all;
-      sound = λ tokens symbols p f. c.in_ok-mark_body.ensures.sound tokens symbols (p i l) (c.loop-r.invariant.sound tokens symbols p f);
+      all = below_more (λ (k : ℕ). EachIndex (rule_at rs (slice_index xs k)).body
+          (λ j. IsMarked m2 (slice_index (rule_at rs (slice_index xs k)).body j))) i
+          (λ k h j n. g.kept (slice_index (rule_at rs (slice_index xs k)).body j)
+          (c.loop-r.invariant.all k h j n)) c.in_ok-mark_body.ensures.all;
+      sound = λ tokens symbols p f. c.in_ok-mark_body.ensures.sound tokens symbols (p i l)
+          (c.loop-r.invariant.sound tokens symbols p f);
     }

@@ -6,6 +6,11 @@ use Rattle.ygrammar.proofs.reachable.mark_bodies.Given as goal
 abbrev pub invariant-loop-r : goal.invariant-loop-r
 invariant-loop-r l = record {
   grows : Grows l.fn.marks.items l.fn.order.items l.marks.items l.order.items;
-  all : (k : ℕ) → k < l.r-index → EachIndex (rule_at l.rules (slice_index l.listed k)).body (λ j. IsMarked l.marks.items (slice_index (rule_at l.rules (slice_index l.listed k)).body j));
-  sound : (tokens symbols : ℕ) → EachIndex l.listed (λ k. IsReachable (numbered_grammar tokens symbols l.rules) (rule_at l.rules (slice_index l.listed k)).left) → MarksReachable (numbered_grammar tokens symbols l.rules) l.fn.marks.items → MarksReachable (numbered_grammar tokens symbols l.rules) l.marks.items;
+  all : (k : ℕ) → k < l.r-index → EachIndex (rule_at l.rules (slice_index l.listed k)).body
+      (λ j. IsMarked l.marks.items (slice_index (rule_at l.rules (slice_index l.listed k)).body j));
+  sound : (tokens symbols : ℕ) → EachIndex l.listed
+      (λ k. IsReachable (numbered_grammar tokens symbols l.rules)
+      (rule_at l.rules (slice_index l.listed k)).left) → MarksReachable
+      (numbered_grammar tokens symbols l.rules) l.fn.marks.items → MarksReachable
+      (numbered_grammar tokens symbols l.rules) l.marks.items;
 }

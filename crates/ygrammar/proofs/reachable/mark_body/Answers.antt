@@ -15,6 +15,11 @@ loop-s-preserved c =
     let l : i < length body = omega arith in
     record {
       grows = grows_then c.loop-s.invariant.grows c.in_ok-mark.ensures.grows;
-      all = below_more (λ (k : ℕ). IsMarked m2 (slice_index (rule_at rs r).body k)) i (λ k h. c.in_ok-mark.ensures.grows.kept (slice_index (rule_at rs r).body k) (c.loop-s.invariant.all k h)) (subst (λ (b : List ℕ). IsMarked m2 (slice_index b i)) c.body_at-s-items.ensures c.in_ok-mark.ensures.marked);
-      sound = λ tokens symbols p f. symbol_marked tokens symbols rs m m2 r i (slice_index body i) body c.requires.within c.body_at-s-items.ensures l refl c.in_ok-mark.ensures.only p (c.loop-s.invariant.sound tokens symbols p f);
+      all = below_more (λ (k : ℕ). IsMarked m2 (slice_index (rule_at rs r).body k)) i
+          (λ k h. c.in_ok-mark.ensures.grows.kept (slice_index (rule_at rs r).body k)
+          (c.loop-s.invariant.all k h)) (subst (λ (b : List ℕ). IsMarked m2 (slice_index b i))
+          c.body_at-s-items.ensures c.in_ok-mark.ensures.marked);
+      sound = λ tokens symbols p f. symbol_marked tokens symbols rs m m2 r i (slice_index body i)
+          body c.requires.within c.body_at-s-items.ensures l refl c.in_ok-mark.ensures.only p
+          (c.loop-s.invariant.sound tokens symbols p f);
     }

@@ -7,5 +7,7 @@ abbrev pub invariant-loop-s : goal.invariant-loop-s
 invariant-loop-s l = record {
   grows : Grows l.fn.marks.items l.fn.order.items l.marks.items l.order.items;
   all : (k : ℕ) → k < l.s-index → IsMarked l.marks.items (slice_index (rule_at l.rules l.r).body k);
-  sound : (tokens symbols : ℕ) → IsReachable (numbered_grammar tokens symbols l.rules) (rule_at l.rules l.r).left → MarksReachable (numbered_grammar tokens symbols l.rules) l.fn.marks.items → MarksReachable (numbered_grammar tokens symbols l.rules) l.marks.items;
+  sound : (tokens symbols : ℕ) → IsReachable (numbered_grammar tokens symbols l.rules)
+      (rule_at l.rules l.r).left → MarksReachable (numbered_grammar tokens symbols l.rules)
+      l.fn.marks.items → MarksReachable (numbered_grammar tokens symbols l.rules) l.marks.items;
 }

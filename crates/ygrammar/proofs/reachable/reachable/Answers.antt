@@ -6,7 +6,8 @@ use Rattle.ygrammar.proofs.ReachableSteps.{all_marked, first_marked, none_marked
 use Rattle.ygrammar.proofs.reachable.reachable.Goals as goal
 
 pub spread-requires-clause-list : goal.spread-requires-clause-list
-spread-requires-clause-list c = c.in_ok-mark.ensures.grows.list (worklist_none c.in_ok-marks.marks.items c.new-order.result.items c.new-order.ensures.items)
+spread-requires-clause-list c = c.in_ok-mark.ensures.grows.list
+    (worklist_none c.in_ok-marks.marks.items c.new-order.result.items c.new-order.ensures.items)
 
 pub returns-clause-exact : goal.returns-clause-exact
 returns-clause-exact c = λ t s l.
@@ -15,8 +16,14 @@ returns-clause-exact c = λ t s l.
     let m0 = c.in_ok-marks.marks.items in
     let one = c.in_ok-mark.ensures in
     let two = c.in_ok-spread.ensures in
-    let none : (u : ℕ) → IsUnmarked m0 u = λ u. none_marked m0 n u (c.in_ok-marks.ensures.items_if_clones_equal (λ y h. h)) in
-    let start : MarksReachable (numbered_grammar t n rs) m0 = λ u k. absurd (not_both (get_or m0 u false) k (none u)) in (
-      two.sound t n (first_marked t n rs m0 c.mark.new.marks.items c.left_at.result c.left_at.ensures one.only start) s,
-      all_marked t n rs c.spread.new.marks.items c.spread.new.order.items (length c.spread.new.order.items) (omega arith) two.spread (two.grows.kept (rule_at rs 0).left (subst (IsMarked c.mark.new.marks.items) c.left_at.ensures one.marked)) s,
+    let none : (u : ℕ) → IsUnmarked m0 u =
+            λ u. none_marked m0 n u (c.in_ok-marks.ensures.items_if_clones_equal (λ y h. h)) in
+    let start : MarksReachable (numbered_grammar t n rs) m0 =
+            λ u k. absurd (not_both (get_or m0 u false) k (none u)) in (
+      two.sound t n (first_marked t n rs m0 c.mark.new.marks.items c.left_at.result
+          c.left_at.ensures one.only start) s,
+      all_marked t n rs c.spread.new.marks.items c.spread.new.order.items
+          (length c.spread.new.order.items) (omega arith) two.spread
+          (two.grows.kept (rule_at rs 0).left
+          (subst (IsMarked c.mark.new.marks.items) c.left_at.ensures one.marked)) s,
     )

@@ -11,7 +11,12 @@ pub overflow_add-next : goal.overflow_add-next
 overflow_add-next c =
     let i = c.loop-item.item-index in
     let xs : List CodeItem = c.args.items.now in
-    let e : drop i xs ≡ items.Action c.in-Action.field-0 ∷ drop (i + 1) xs = drop_more xs i _ (omega arith) ∙ ap (λ (y : CodeItem). y ∷ drop (i + 1) xs) c.in-Action.is in
-    let h : (body_from c.loop-item.next (map item_view (drop i xs))).next < 18446744073709551616 = subst (λ k. k < 18446744073709551616) (sym c.loop-item.invariant.next) c.requires in
-    let l : c.loop-item.next + 1 < 18446744073709551616 = action_room c.loop-item.next 18446744073709551616 c.in-Action.field-0.now (map item_view (drop (i + 1) xs)) (subst (λ (ys : List CodeItem). (body_from c.loop-item.next (map item_view ys)).next < 18446744073709551616) e h) in
+    let e : drop i xs ≡ items.Action c.in-Action.field-0 ∷ drop (i + 1) xs = drop_more xs i _
+            (omega arith) ∙ ap (λ (y : CodeItem). y ∷ drop (i + 1) xs) c.in-Action.is in
+    let h : (body_from c.loop-item.next (map item_view (drop i xs))).next < 18446744073709551616 =
+            subst (λ k. k < 18446744073709551616) (sym c.loop-item.invariant.next) c.requires in
+    let l : c.loop-item.next + 1 < 18446744073709551616 = action_room c.loop-item.next
+            18446744073709551616 c.in-Action.field-0.now (map item_view (drop (i + 1) xs))
+            (subst (λ (ys : List CodeItem). (body_from c.loop-item.next (map item_view ys)).next <
+            18446744073709551616) e h) in
     omega arith

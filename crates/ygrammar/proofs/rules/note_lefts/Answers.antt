@@ -1,4 +1,5 @@
-use Rattle.std.proofs.Common.{◌≡◌, ◌<◌, ◌∙◌, ◌∷◌, ◌+◌, sym, subst, ap, drop, map, length, List, arith}
+use Rattle.std.proofs.Common.{◌≡◌, ◌<◌, ◌∙◌, ◌∷◌, ◌+◌, sym, subst, ap, drop, map, length, List}
+use Rattle.std.proofs.Common.{arith}
 use Rattle.std.proofs.lemmas.List.{drop_more, get_or_read}
 use Rattle.ygrammar.specs.declared.tree.Clause.{Clause}
 use Rattle.ygrammar.specs.Numbered.{inner_after}
@@ -12,6 +13,13 @@ note_inner-requires c =
     let cs : List Clause = c.args.clauses.now in
     let x : Clause = c.clause-item.result in
     let h : i < length cs = omega arith in
-    let e : drop i cs ≡ x ∷ drop (i + 1) cs = drop_more cs i x h ∙ ap (λ (y : Clause). y ∷ drop (i + 1) cs) (sym (get_or_read cs i x h c.clause-item.is x)) in
-    let l : inner_after c.loop-clause.next (map clause_view (drop i cs)) < 18446744073709551616 = subst (λ k. k < 18446744073709551616) (sym c.loop-clause.invariant.counted) c.requires in
-    clause_room c.loop-clause.next 18446744073709551616 (clause_view x) (map clause_view (drop (i + 1) cs)) (map item_view c.final_parts.result.0.now) c.final_parts.ensures.items (subst (λ (ys : List Clause). inner_after c.loop-clause.next (map clause_view ys) < 18446744073709551616) e l)
+    let e : drop i cs ≡ x ∷ drop (i + 1) cs = drop_more cs i x h ∙ ap
+            (λ (y : Clause). y ∷ drop (i + 1) cs) (sym (get_or_read cs i x h c.clause-item.is x)) in
+    let l : inner_after c.loop-clause.next (map clause_view (drop i cs)) < 18446744073709551616 =
+            subst (λ k. k < 18446744073709551616) (sym c.loop-clause.invariant.counted)
+            c.requires in
+    clause_room c.loop-clause.next 18446744073709551616 (clause_view x)
+        (map clause_view (drop (i + 1) cs)) (map item_view c.final_parts.result.0.now)
+        c.final_parts.ensures.items
+        (subst (λ (ys : List Clause). inner_after c.loop-clause.next (map clause_view ys) <
+        18446744073709551616) e l)

@@ -8,6 +8,9 @@ use Rattle.ygrammar.proofs.rules.note_lefts.Given as goal
 
 abbrev pub invariant-loop-clause : goal.invariant-loop-clause
 invariant-loop-clause l = record {
-  names : noted_all (texts l.names) (map rule_left (rules_from l.before l.next (map clause_view (drop l.clause-index l.clauses)))) ≡ noted_all (texts l.fn.names) (map rule_left (rules_from [] 1 (map clause_view l.clauses)));
-  counted : inner_after l.next (map clause_view (drop l.clause-index l.clauses)) ≡ inner_after 1 (map clause_view l.clauses);
+  names : noted_all (texts l.names)
+      (map rule_left (rules_from l.before l.next (map clause_view (drop l.clause-index l.clauses))))
+      ≡ noted_all (texts l.fn.names) (map rule_left (rules_from [] 1 (map clause_view l.clauses)));
+  counted : inner_after l.next (map clause_view (drop l.clause-index l.clauses)) ≡ inner_after 1
+      (map clause_view l.clauses);
 }

@@ -8,7 +8,12 @@ use Rattle.ygrammar.proofs.rules.number_body.Given as goal
 
 abbrev pub invariant-loop-item : goal.invariant-loop-item
 invariant-loop-item l = record {
-  rules : l.rules.items ++ map (inner_numbers (texts l.names)) (body_from l.next (map item_view (drop l.item-index l.items))).inner ≡ l.fn.rules.items ++ map (inner_numbers (texts l.names)) (body_from l.k (map item_view l.items)).inner;
-  symbols : l.symbols.items ++ map (number_in (texts l.names)) (body_from l.next (map item_view (drop l.item-index l.items))).symbols ≡ map (number_in (texts l.names)) (body_from l.k (map item_view l.items)).symbols;
-  next : (body_from l.next (map item_view (drop l.item-index l.items))).next ≡ (body_from l.k (map item_view l.items)).next;
+  rules : l.rules.items ++ map (inner_numbers (texts l.names))
+      (body_from l.next (map item_view (drop l.item-index l.items))).inner ≡ l.fn.rules.items ++ map
+      (inner_numbers (texts l.names)) (body_from l.k (map item_view l.items)).inner;
+  symbols : l.symbols.items ++ map (number_in (texts l.names))
+      (body_from l.next (map item_view (drop l.item-index l.items))).symbols ≡ map
+      (number_in (texts l.names)) (body_from l.k (map item_view l.items)).symbols;
+  next : (body_from l.next (map item_view (drop l.item-index l.items))).next ≡
+      (body_from l.k (map item_view l.items)).next;
 }

@@ -7,6 +7,10 @@ use Rattle.ygrammar.proofs.rules.push_rules.Given as goal
 
 abbrev pub invariant-loop-clause : goal.invariant-loop-clause
 invariant-loop-clause l = record {
-  rules : l.rules.items ++ map (rule_numbers (texts l.names) l.given) (rules_from l.before l.next (map clause_view (drop l.clause-index l.clauses))) ≡ l.fn.rules.items ++ map (rule_numbers (texts l.names) l.given) (rules_from [] 1 (map clause_view l.clauses));
-  counted : inner_after l.next (map clause_view (drop l.clause-index l.clauses)) ≡ inner_after 1 (map clause_view l.clauses);
+  rules : l.rules.items ++ map (rule_numbers (texts l.names) l.given)
+      (rules_from l.before l.next (map clause_view (drop l.clause-index l.clauses))) ≡
+      l.fn.rules.items ++ map (rule_numbers (texts l.names) l.given)
+      (rules_from [] 1 (map clause_view l.clauses));
+  counted : inner_after l.next (map clause_view (drop l.clause-index l.clauses)) ≡ inner_after 1
+      (map clause_view l.clauses);
 }

@@ -13,5 +13,8 @@ returns-in-Ok-clause-fault c = λ r short h. let e = c.in_ok-lexemes.ensures.fau
 pub returns-in-Ok-clause-kept : goal.returns-in-Ok-clause-kept
 returns-in-Ok-clause-kept c =
     let ls : List Placed = c.as_slice.result.now in
-    let placed : AllByRecursion (StandsIn c.args.bytes.now) ls = subst (AllByRecursion (StandsIn c.args.bytes.now)) (sym c.as_slice.ensures.value) c.in_ok-lexemes.ensures.placed in
-    spans_there c.args.bytes.now ls c.in-Ok.syntax.kept.items c.in-Ok.ensures.kept placed ∙ ap kept_texts c.in-Ok.ensures.whole
+    let placed : AllByRecursion (StandsIn c.args.bytes.now) ls =
+            subst (AllByRecursion (StandsIn c.args.bytes.now)) (sym c.as_slice.ensures.value)
+            c.in_ok-lexemes.ensures.placed in
+    spans_there c.args.bytes.now ls c.in-Ok.syntax.kept.items c.in-Ok.ensures.kept placed ∙ ap
+        kept_texts c.in-Ok.ensures.whole

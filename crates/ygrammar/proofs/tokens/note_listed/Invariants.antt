@@ -6,4 +6,6 @@ use Rattle.ygrammar.specs.Outline.{listed_view}
 use Rattle.ygrammar.proofs.tokens.note_listed.Given as goal
 
 abbrev pub invariant-loop-one : goal.invariant-loop-one
-invariant-loop-one l = noted_all (texts l.names) (map listed_name (map listed_view (drop l.one-index l.listed))) ≡ noted_all (texts l.fn.names) (map listed_name (map listed_view l.listed))
+invariant-loop-one l = noted_all (texts l.names)
+    (map listed_name (map listed_view (drop l.one-index l.listed))) ≡ noted_all (texts l.fn.names)
+    (map listed_name (map listed_view l.listed))

@@ -7,4 +7,6 @@ use Rattle.ygrammar.specs.Elaboration.{is_literal}
 use Rattle.ygrammar.proofs.tokens.note_literals.Given as goal
 
 abbrev pub invariant-loop-mention : goal.invariant-loop-mention
-invariant-loop-mention l = noted_all (texts l.names) (map printed (filter is_literal (map mention_view (drop l.mention-index l.mentions)))) ≡ noted_all (texts l.fn.names) (map printed (filter is_literal (map mention_view l.mentions)))
+invariant-loop-mention l = noted_all (texts l.names)
+    (map printed (filter is_literal (map mention_view (drop l.mention-index l.mentions)))) ≡
+    noted_all (texts l.fn.names) (map printed (filter is_literal (map mention_view l.mentions)))

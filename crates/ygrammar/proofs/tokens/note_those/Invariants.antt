@@ -6,4 +6,7 @@ use Rattle.ygrammar.specs.Names.{is_among, noted_all, printed}
 use Rattle.ygrammar.proofs.tokens.note_those.Given as goal
 
 abbrev pub invariant-loop-mention : goal.invariant-loop-mention
-invariant-loop-mention l = noted_all (texts l.tokens) (filter (is_among (texts l.names)) (map printed (map mention_view (drop l.mention-index l.mentions)))) ≡ noted_all (texts l.fn.tokens) (filter (is_among (texts l.names)) (map printed (map mention_view l.mentions)))
+invariant-loop-mention l = noted_all (texts l.tokens) (filter (is_among (texts l.names))
+    (map printed (map mention_view (drop l.mention-index l.mentions)))) ≡ noted_all
+    (texts l.fn.tokens) (filter (is_among (texts l.names))
+    (map printed (map mention_view l.mentions)))

@@ -15,9 +15,17 @@ returns c =
     let u = map mention_view c.args.outline.now.used.items in
     let first : List (List ℕ) = codes "$end" ∷ codes "error" ∷ [] in
     let k = texts c.in_ok-names.names in
-    let one : texts c.note_those.new.tokens ≡ noted_all first (filter (is_among k) (map printed d)) =
-    subst (λ (ms : List Mention). texts c.note_those.new.tokens ≡ noted_all first (filter (is_among k) (map printed (map mention_view ms)))) c.deref.ensures.value
-    (subst (λ (ns : List (List ℕ)). texts c.note_those.new.tokens ≡ noted_all ns (filter (is_among k) (map printed (map mention_view c.deref.result.now)))) c.in_ok-tokens.ensures c.in_ok-note_those.ensures) in
-    let two : texts c.note_those-2.new.tokens ≡ noted_all (texts c.note_those.new.tokens) (filter (is_among k) (map printed u)) =
-    subst (λ (ms : List Mention). texts c.note_those-2.new.tokens ≡ noted_all (texts c.note_those.new.tokens) (filter (is_among k) (map printed (map mention_view ms)))) c.deref-2.ensures.value c.in_ok-note_those-2.ensures in
-    tokens_noted (token_names_of ls (d ++ u)) first k (texts c.note_those.new.tokens) (texts c.note_those-2.new.tokens) d u c.in_ok-names.ensures one two
+    let one : texts c.note_those.new.tokens ≡ noted_all first (filter (is_among k) (map printed d))
+            =
+    subst (λ (ms : List Mention). texts c.note_those.new.tokens ≡ noted_all first
+        (filter (is_among k) (map printed (map mention_view ms)))) c.deref.ensures.value
+    (subst (λ (ns : List (List ℕ)). texts c.note_those.new.tokens ≡ noted_all ns
+        (filter (is_among k) (map printed (map mention_view c.deref.result.now))))
+        c.in_ok-tokens.ensures c.in_ok-note_those.ensures) in
+    let two : texts c.note_those-2.new.tokens ≡ noted_all (texts c.note_those.new.tokens)
+            (filter (is_among k) (map printed u)) =
+    subst (λ (ms : List Mention). texts c.note_those-2.new.tokens ≡ noted_all
+        (texts c.note_those.new.tokens) (filter (is_among k) (map printed (map mention_view ms))))
+        c.deref-2.ensures.value c.in_ok-note_those-2.ensures in
+    tokens_noted (token_names_of ls (d ++ u)) first k (texts c.note_those.new.tokens)
+        (texts c.note_those-2.new.tokens) d u c.in_ok-names.ensures one two

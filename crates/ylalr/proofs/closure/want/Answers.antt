@@ -17,11 +17,17 @@ loop-item-preserved c =
     let i = c.loop-item.invariant in
     elim c.match-symbol_after.branch [
       | in-Some w ↦ record {
-        sized = subst (IsSized 1 (length g.rules)) (sym w.wanted-is) (sized_grown c.loop-item.wanted w.add_from.new.self 1 (length g.rules) w.add_from.result i.sized w.add_from.ensures.grown);
-        wanting = subst (Wanting g xs (n + 1)) (sym w.wanted-is) (wanting_more g xs n c.loop-item.wanted w.add_from.new.self c.args.opens.now p w.in-Some.s _ c.requires.opens.exact h e w.in-Some.ensures.1 w.add_from.ensures.adds i.wanting);
+        sized = subst (IsSized 1 (length g.rules)) (sym w.wanted-is)
+            (sized_grown c.loop-item.wanted w.add_from.new.self 1 (length g.rules) w.add_from.result
+            i.sized w.add_from.ensures.grown);
+        wanting = subst (Wanting g xs (n + 1)) (sym w.wanted-is)
+            (wanting_more g xs n c.loop-item.wanted w.add_from.new.self c.args.opens.now p
+            w.in-Some.s _ c.requires.opens.exact h e w.in-Some.ensures.1 w.add_from.ensures.adds
+            i.wanting);
       }
       | in_default w ↦ record {
         sized = subst (IsSized 1 (length g.rules)) (sym w.wanted-is) i.sized;
-        wanting = subst (Wanting g xs (n + 1)) (sym w.wanted-is) (wanting_end g xs n c.loop-item.wanted p h e w.in_default.ensures i.wanting);
+        wanting = subst (Wanting g xs (n + 1)) (sym w.wanted-is)
+            (wanting_end g xs n c.loop-item.wanted p h e w.in_default.ensures i.wanting);
       }
     ]

@@ -1,4 +1,5 @@
-use Rattle.std.proofs.Common.{◌≡◌, ◌<◌, ◌∙◌, ◌++◌, [], ◌∷◌, List, length, refl, sym, ap, subst, arith}
+use Rattle.std.proofs.Common.{◌≡◌, ◌<◌, ◌∙◌, ◌++◌, [], ◌∷◌, List, length, refl, sym, ap, subst}
+use Rattle.std.proofs.Common.{arith}
 use Rattle.ylalr.specs.declared.gotos.Goto.{Goto}
 use Rattle.ylalr.specs.States.{RowsAre, RowIs}
 use Rattle.ylalr.proofs.StateSteps.{push_length}
@@ -17,13 +18,15 @@ loop-alloc-preserved c =
     let z = push_length xs row in
     let longer = ap (λ (ys : List (List Goto)). length ys) c.in_ok-push.ensures ∙ z in
     let less : length xs < length s.closures = omega arith in
-    let r : RowIs g t (length xs) row = subst (λ q. RowIs g t q row) c.count-in-loop-alloc-2.ensures e.row in
+    let r : RowIs g t (length xs) row = subst (λ q. RowIs g t q row) c.count-in-loop-alloc-2.ensures
+            e.row in
     let p = rows_push g s t (length xs) xs row e.extends i.within refl i.rows r e.order in
     record {
       fit = e.fit;
       sorted = e.sorted;
       within = (let l = e.extends.longer in omega arith);
-      rows = subst (λ (ys : List (List Goto)). RowsAre g t (length ys) ys) (sym c.in_ok-push.ensures) (subst (λ n. RowsAre g t n (xs ++ row ∷ [])) (sym z) p);
+      rows = subst (λ (ys : List (List Goto)). RowsAre g t (length ys) ys)
+          (sym c.in_ok-push.ensures) (subst (λ n. RowsAre g t n (xs ++ row ∷ [])) (sym z) p);
     }
 
 pub returns-clause-collected : goal.returns-clause-collected

@@ -10,5 +10,10 @@ returns-clause-states c =
     let s = c.in_ok-states.states in
     let w = c.in_ok-items.items in
     let k = c.in_ok-key.ensures.ok in
-    let shut = subst (λ k. IsClosure g k w) (c.as_slice.ensures ∙ k) c.in_ok-items.ensures.closure in
-    subst (λ (t : StateLists). AreStates g t) (sym c.in_ok-push.ensures) (subst (λ k. AreStates g (with_state s k w)) (sym k) (states_first g c.symbols-symbols.ensures.well_formed s w c.in_ok-states.ensures.no_kernel c.in_ok-states.ensures.none shut c.in_ok-items.ensures.ascending c.in_ok-items.ensures.range))
+    let shut = subst (λ k. IsClosure g k w) (c.as_slice.ensures ∙ k) c.in_ok-items.ensures.closure
+            in
+    subst (λ (t : StateLists). AreStates g t) (sym c.in_ok-push.ensures)
+        (subst (λ k. AreStates g (with_state s k w)) (sym k)
+        (states_first g c.symbols-symbols.ensures.well_formed s w c.in_ok-states.ensures.no_kernel
+        c.in_ok-states.ensures.none shut c.in_ok-items.ensures.ascending
+        c.in_ok-items.ensures.range))

@@ -13,7 +13,8 @@ returns-then-n-ge-LIMIT-clause-fault c = λ e.
     let w = c.in_ok-items.items in
     let shut = subst (λ k. IsClosure g k w) c.as_slice.ensures c.in_ok-items.ensures.closure in
     let l : 16384 ≤ length s.closures = grind (arith, common_steps) in
-    too_many g (overflows g s c.args.kernel.items w c.requires.fit.states.are c.requires.kernel c.requires.fresh shut c.in_ok-items.ensures.ascending c.in_ok-items.ensures.range l)
+    too_many g (overflows g s c.args.kernel.items w c.requires.fit.states.are c.requires.kernel
+        c.requires.fresh shut c.in_ok-items.ensures.ascending c.in_ok-items.ensures.range l)
 
 pub returns-clause-fit : goal.returns-clause-fit
 returns-clause-fit c =
@@ -21,9 +22,12 @@ returns-clause-fit c =
     let s = c.args.finder.now.states in
     let w = c.in_ok-items.items in
     let shut = subst (λ k. IsClosure g k w) c.as_slice.ensures c.in_ok-items.ensures.closure in
-    let are = subst (λ (t : StateLists). AreStates g t) (sym c.in_ok-push.ensures) (states_push g s c.args.kernel.items w c.requires.fit.states.are c.requires.kernel c.requires.fresh shut c.in_ok-items.ensures.ascending c.in_ok-items.ensures.range) in
+    let are = subst (λ (t : StateLists). AreStates g t) (sym c.in_ok-push.ensures)
+            (states_push g s c.args.kernel.items w c.requires.fit.states.are c.requires.kernel
+            c.requires.fresh shut c.in_ok-items.ensures.ascending c.in_ok-items.ensures.range) in
     let longer = push_length s.closures w in
-    let few = subst (λ (t : StateLists). length t.closures ≤ 16384) (sym c.in_ok-push.ensures) (grind (arith, common_steps)) in
+    let few = subst (λ (t : StateLists). length t.closures ≤ 16384) (sym c.in_ok-push.ensures)
+            (grind (arith, common_steps)) in
     record {
       opens = c.requires.fit.opens;
       wanted = c.in_ok-items.ensures.wanted;

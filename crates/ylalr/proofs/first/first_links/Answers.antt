@@ -11,8 +11,10 @@ loop-r-preserved c =
     record {
       links = e.links;
       sound = e.sound;
-      rules = λ k h. elim (below_or_is k c.loop-r.r h) as (λ _. RuleLinked g c.args.nullable.now c.link_rule.new.links k) [
-        | inl l ↦ rule_more g c.args.nullable.now c.loop-r.links c.link_rule.new.links k e.more (c.loop-r.invariant.rules k l)
+      rules = λ k h. elim (below_or_is k c.loop-r.r h) as
+          (λ _. RuleLinked g c.args.nullable.now c.link_rule.new.links k) [
+        | inl l ↦ rule_more g c.args.nullable.now c.loop-r.links c.link_rule.new.links k e.more
+            (c.loop-r.invariant.rules k l)
         | inr q ↦ subst (RuleLinked g c.args.nullable.now c.link_rule.new.links) (sym q) e.linked
       ];
     }

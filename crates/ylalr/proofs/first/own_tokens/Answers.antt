@@ -8,7 +8,9 @@ loop-t-preserved c =
     let g = c.args.grammar.now.bare in
     let i = c.loop-t.invariant in
     record {
-      sized = sized_grown c.loop-t.first c.mark.new.self g.symbols g.tokens c.mark.result i.sized c.mark.ensures.grown;
-      sound = sound_token g c.loop-t.first c.mark.new.self c.loop-t.t (omega arith) i.sound c.mark.ensures.exact;
+      sized = sized_grown c.loop-t.first c.mark.new.self g.symbols g.tokens c.mark.result i.sized
+          c.mark.ensures.grown;
+      sound = sound_token g c.loop-t.first c.mark.new.self c.loop-t.t (omega arith) i.sound
+          c.mark.ensures.exact;
       own = own_more c.loop-t.first c.mark.new.self (λ k. k) c.loop-t.t i.own c.mark.ensures.exact;
     }

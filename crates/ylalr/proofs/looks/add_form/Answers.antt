@@ -16,5 +16,7 @@ loop-s-preserved c =
     record {
       passed = All-more (marked n) x k 0 h i.passed m;
       sized = record { rows = g.rows ∙ i.sized.rows; columns = g.columns ∙ i.sized.columns };
-      adding = adding_more n c.args.parts.now.first x c.args.looks.now c.loop-s.looks c.add_from.new.self c.args.to k (get_or x k 0) h refl i.passed c.add_from.ensures.adds i.adding;
+      adding = adding_more n c.args.parts.now.first x c.args.looks.now c.loop-s.looks
+          c.add_from.new.self c.args.to k (get_or x k 0) h refl i.passed c.add_from.ensures.adds
+          i.adding;
     }

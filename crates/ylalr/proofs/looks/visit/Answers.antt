@@ -6,6 +6,7 @@ returns-clause-serves c =
     let P = c.args.parts.now in
     let h = c.args.here in
     record {
-      opens = opens_kept P c.open.new.draft c.shift.new.draft h.state h.row h.item c.in_ok-shift.ensures.further c.in_ok-open.ensures.opens;
+      opens = opens_kept P c.open.new.draft c.shift.new.draft h.state h.row h.item
+          c.in_ok-shift.ensures.further c.in_ok-open.ensures.opens;
       shifts = c.in_ok-shift.ensures.shifts;
     }

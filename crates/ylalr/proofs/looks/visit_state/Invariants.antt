@@ -7,5 +7,6 @@ abbrev pub invariant-loop-k : goal.invariant-loop-k
 invariant-loop-k l = record {
   sound : SoundDraft l.parts l.draft;
   further : Further l.initial.draft l.draft;
-  serves : (i : Item) (p : ℕ) (z : PlaceIn l.parts l.q i p) → z.at.index < l.k → ServesAt l.parts l.draft l.q i p;
+  serves : (i : Item) (p : ℕ) (z : PlaceIn l.parts l.q i p) → z.at.index < l.k →
+      ServesAt l.parts l.draft l.q i p;
 }

@@ -3,7 +3,9 @@ use Rattle.ylalr.proofs.NullableSteps.{listing_more, users_all}
 use Rattle.ylalr.proofs.nullable.users_of.Goals as goal
 
 pub loop-r-preserved : goal.loop-r-preserved
-loop-r-preserved c = listing_more c.args.grammar.now.bare c.loop-r.r c.loop-r.users c.list_rule.new.users c.loop-r.invariant c.in_ok-list_rule.ensures.more c.in_ok-list_rule.ensures.uses
+loop-r-preserved c = listing_more c.args.grammar.now.bare c.loop-r.r c.loop-r.users
+    c.list_rule.new.users c.loop-r.invariant c.in_ok-list_rule.ensures.more
+    c.in_ok-list_rule.ensures.uses
 
 pub returns : goal.returns
 returns c =

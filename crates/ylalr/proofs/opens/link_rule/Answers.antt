@@ -16,13 +16,18 @@ returns-in_ok-push-clause-links c =
     let x = c.body-body.result.now in
     let s = get_or x 0 0 in
     let left = c.left.result in
-    let bb : x ≡ body_of g r = c.body-body.ensures ∙ ap (λ (p : Production). p.body) c.rule-r.ensures.production in
+    let bb : x ≡ body_of g r = c.body-body.ensures ∙ ap (λ (p : Production). p.body)
+            c.rule-r.ensures.production in
     let h : 0 < length x = grind (arith, common_steps) in
     let hb : 0 < length (body_of g r) = subst (λ (b : List ℕ). 0 < length b) bb h in
     let be = ap (λ (b : List ℕ). get_or b 0 0) bb in
-    let le : left ≡ left_of g r = c.left.ensures ∙ ap (λ (p : Production). p.left) c.rule-r.ensures.production in
-    let hf : s < length l = subst (λ j. j < length l) (sym be) (subst (λ j. get_or (body_of g r) 0 0 < j) (sym c.requires.links.sized) (f.body r c.requires.within 0 0 hb)) in
-    links_push l n s left hf c.in_ok-push.ensures g.symbols c.requires.links (subst (λ j. j < g.symbols) (sym le) (f.left r c.requires.within))
+    let le : left ≡ left_of g r = c.left.ensures ∙ ap (λ (p : Production). p.left)
+            c.rule-r.ensures.production in
+    let hf : s < length l = subst (λ j. j < length l) (sym be)
+            (subst (λ j. get_or (body_of g r) 0 0 < j) (sym c.requires.links.sized)
+            (f.body r c.requires.within 0 0 hb)) in
+    links_push l n s left hf c.in_ok-push.ensures g.symbols c.requires.links
+        (subst (λ j. j < g.symbols) (sym le) (f.left r c.requires.within))
 
 pub returns-in_ok-push-clause-sound : goal.returns-in_ok-push-clause-sound
 returns-in_ok-push-clause-sound c =
@@ -34,13 +39,18 @@ returns-in_ok-push-clause-sound c =
     let x = c.body-body.result.now in
     let s = get_or x 0 0 in
     let left = c.left.result in
-    let bb : x ≡ body_of g r = c.body-body.ensures ∙ ap (λ (p : Production). p.body) c.rule-r.ensures.production in
+    let bb : x ≡ body_of g r = c.body-body.ensures ∙ ap (λ (p : Production). p.body)
+            c.rule-r.ensures.production in
     let h : 0 < length x = grind (arith, common_steps) in
     let hb : 0 < length (body_of g r) = subst (λ (b : List ℕ). 0 < length b) bb h in
     let be = ap (λ (b : List ℕ). get_or b 0 0) bb in
-    let le : left ≡ left_of g r = c.left.ensures ∙ ap (λ (p : Production). p.left) c.rule-r.ensures.production in
-    let hf : s < length l = subst (λ j. j < length l) (sym be) (subst (λ j. get_or (body_of g r) 0 0 < j) (sym c.requires.links.sized) (f.body r c.requires.within 0 0 hb)) in
-    carry_front g l n r s left (drop 1 x) c.requires.within (sym bb ∙ head_tail x h) le hf c.in_ok-push.ensures c.requires.sound
+    let le : left ≡ left_of g r = c.left.ensures ∙ ap (λ (p : Production). p.left)
+            c.rule-r.ensures.production in
+    let hf : s < length l = subst (λ j. j < length l) (sym be)
+            (subst (λ j. get_or (body_of g r) 0 0 < j) (sym c.requires.links.sized)
+            (f.body r c.requires.within 0 0 hb)) in
+    carry_front g l n r s left (drop 1 x) c.requires.within (sym bb ∙ head_tail x h) le hf
+        c.in_ok-push.ensures c.requires.sound
 
 pub returns-in_ok-push-clause-more : goal.returns-in_ok-push-clause-more
 returns-in_ok-push-clause-more c =
@@ -52,12 +62,16 @@ returns-in_ok-push-clause-more c =
     let x = c.body-body.result.now in
     let s = get_or x 0 0 in
     let left = c.left.result in
-    let bb : x ≡ body_of g r = c.body-body.ensures ∙ ap (λ (p : Production). p.body) c.rule-r.ensures.production in
+    let bb : x ≡ body_of g r = c.body-body.ensures ∙ ap (λ (p : Production). p.body)
+            c.rule-r.ensures.production in
     let h : 0 < length x = grind (arith, common_steps) in
     let hb : 0 < length (body_of g r) = subst (λ (b : List ℕ). 0 < length b) bb h in
     let be = ap (λ (b : List ℕ). get_or b 0 0) bb in
-    let le : left ≡ left_of g r = c.left.ensures ∙ ap (λ (p : Production). p.left) c.rule-r.ensures.production in
-    let hf : s < length l = subst (λ j. j < length l) (sym be) (subst (λ j. get_or (body_of g r) 0 0 < j) (sym c.requires.links.sized) (f.body r c.requires.within 0 0 hb)) in
+    let le : left ≡ left_of g r = c.left.ensures ∙ ap (λ (p : Production). p.left)
+            c.rule-r.ensures.production in
+    let hf : s < length l = subst (λ j. j < length l) (sym be)
+            (subst (λ j. get_or (body_of g r) 0 0 < j) (sym c.requires.links.sized)
+            (f.body r c.requires.within 0 0 hb)) in
     λ p t k. link_kept l n s left hf c.in_ok-push.ensures p t k
 
 pub returns-in_ok-push-clause-linked : goal.returns-in_ok-push-clause-linked
@@ -70,10 +84,15 @@ returns-in_ok-push-clause-linked c =
     let x = c.body-body.result.now in
     let s = get_or x 0 0 in
     let left = c.left.result in
-    let bb : x ≡ body_of g r = c.body-body.ensures ∙ ap (λ (p : Production). p.body) c.rule-r.ensures.production in
+    let bb : x ≡ body_of g r = c.body-body.ensures ∙ ap (λ (p : Production). p.body)
+            c.rule-r.ensures.production in
     let h : 0 < length x = grind (arith, common_steps) in
     let hb : 0 < length (body_of g r) = subst (λ (b : List ℕ). 0 < length b) bb h in
     let be = ap (λ (b : List ℕ). get_or b 0 0) bb in
-    let le : left ≡ left_of g r = c.left.ensures ∙ ap (λ (p : Production). p.left) c.rule-r.ensures.production in
-    let hf : s < length l = subst (λ j. j < length l) (sym be) (subst (λ j. get_or (body_of g r) 0 0 < j) (sym c.requires.links.sized) (f.body r c.requires.within 0 0 hb)) in
-    front_linked g n r hb (subst (λ t. Linked n t (left_of g r)) be (subst (Linked n s) le (link_there l n s left hf c.in_ok-push.ensures)))
+    let le : left ≡ left_of g r = c.left.ensures ∙ ap (λ (p : Production). p.left)
+            c.rule-r.ensures.production in
+    let hf : s < length l = subst (λ j. j < length l) (sym be)
+            (subst (λ j. get_or (body_of g r) 0 0 < j) (sym c.requires.links.sized)
+            (f.body r c.requires.within 0 0 hb)) in
+    front_linked g n r hb (subst (λ t. Linked n t (left_of g r)) be
+        (subst (Linked n s) le (link_there l n s left hf c.in_ok-push.ensures)))

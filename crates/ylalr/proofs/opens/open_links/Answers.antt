@@ -11,11 +11,13 @@ loop-r-preserved c =
     record {
       links = e.links;
       sound = e.sound;
-      rules = λ k h. elim (below_or_is k c.loop-r.r h) as (λ _. FrontLinked g c.link_rule.new.links k) [
+      rules = λ k h. elim (below_or_is k c.loop-r.r h) as
+          (λ _. FrontLinked g c.link_rule.new.links k) [
         | inl l ↦ (λ t y b. e.more t (left_of g k) (c.loop-r.invariant.rules k l t y b))
         | inr q ↦ subst (FrontLinked g c.link_rule.new.links) (sym q) e.linked
       ];
     }
 
 pub returns : goal.returns
-returns c = record { links = c.loop-r.invariant.links; sound = c.loop-r.invariant.sound; rules = λ n h. c.loop-r.invariant.rules n (omega arith) }
+returns c = record { links = c.loop-r.invariant.links; sound = c.loop-r.invariant.sound; rules =
+    λ n h. c.loop-r.invariant.rules n (omega arith) }

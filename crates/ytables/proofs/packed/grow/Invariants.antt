@@ -3,7 +3,8 @@ use Rattle.ytables.specs.Packed.{SameCells}
 use Rattle.ytables.proofs.packed.grow.Given as goal
 
 abbrev pub invariant-loop-cells : goal.invariant-loop-cells
-invariant-loop-cells g l = SameCells l.initial.cells.items l.cells.items l.initial.owners.items l.owners.items
+invariant-loop-cells g l = SameCells l.initial.cells.items l.cells.items l.initial.owners.items
+    l.owners.items
 
 abbrev pub decreases-loop-cells : goal.decreases-loop-cells
 decreases-loop-cells g l = l.end - vec_len l.owners

@@ -7,7 +7,8 @@ use Rattle.ytables.proofs.put.put.Given as goal
 abbrev pub invariant-loop-at : goal.invariant-loop-at
 invariant-loop-at g l = record {
   within : l.at ≤ length l.text;
-  written : Appends (g.W.Write.contents (device_of l.initial.link)) (g.W.Write.contents (device_of l.link)) (take l.at l.text);
+  written : Appends (g.W.Write.contents (device_of l.initial.link))
+      (g.W.Write.contents (device_of l.link)) (take l.at l.text);
   failed : has_failed l.link ≡ has_failed l.initial.link;
 }
 

@@ -7,4 +7,6 @@ use Rattle.ytables.proofs.report.put_actions.Given as goal
 
 -- the lines so far were sent
 abbrev pub invariant-loop-t : goal.invariant-loop-t
-invariant-loop-t g l = Sends g.W.Write.contents l.initial.link l.link true (flat_map (λ t. action_line l.tables.built.grammar t (action_at l.tables l.q t)) (range_with_len 0 l.t))
+invariant-loop-t g l = Sends g.W.Write.contents l.initial.link l.link true
+    (flat_map (λ t. action_line l.tables.built.grammar t (action_at l.tables l.q t))
+    (range_with_len 0 l.t))

@@ -8,4 +8,7 @@ use Rattle.ytables.proofs.report.put_all_conflicts.Given as goal
 
 -- the lines so far were sent
 abbrev pub invariant-loop-t : goal.invariant-loop-t
-invariant-loop-t g l = (u : Guide) → IsGuide l.tables.built u → Sends g.W.Write.contents l.initial.link l.link true (flat_map (λ t. conflict_line l.tables.built.grammar t (cell_in l.tables.built u l.q t)) (range_with_len 0 l.t))
+invariant-loop-t g l = (u : Guide) → IsGuide l.tables.built u →
+    Sends g.W.Write.contents l.initial.link l.link true
+    (flat_map (λ t. conflict_line l.tables.built.grammar t (cell_in l.tables.built u l.q t))
+    (range_with_len 0 l.t))

@@ -12,17 +12,51 @@ use Rattle.ytables.proofs.report.put_back.Goals as goal
 pub returns-in_err-put_names : goal.returns-in_err-put_names
 returns-in_err-put_names g c = λ u h.
     let v = c.args.tables.now in
-    let grammar : c.grammar-grammar.result.now ≡ v.built.grammar = c.grammar-grammar.ensures ∙ ap (λ (m : Collection). m.grammar) c.automaton.ensures.value in
-    first_cut g.W.Write.contents c.args.link.now c.put_names.new.link c.from_residual.result (spaced v.built.grammar (after_dot v.built.grammar.bare c.args.item)) ((on_text v u c.args.q c.args.item) ++ (codes "\n")) c.from_residual.ensures (subst (λ (x : GrammarValue). Sends g.W.Write.contents c.args.link.now c.put_names.new.link false (spaced x (after_dot x.bare c.args.item))) grammar (subst (λ (l : List ℕ). Sends g.W.Write.contents c.args.link.now c.put_names.new.link false (spaced c.grammar-grammar.result.now (drop c.args.item.dot l))) (c.body.ensures ∙ ap (λ (p : Production). p.body) c.rule.ensures.production) (subst (λ (l : List ℕ). Sends g.W.Write.contents c.args.link.now c.put_names.new.link false (spaced c.grammar-grammar.result.now l)) (take_rest c.body.result.now c.args.item.dot) c.in_err-put_names.ensures)))
+    let grammar : c.grammar-grammar.result.now ≡ v.built.grammar = c.grammar-grammar.ensures ∙ ap
+            (λ (m : Collection). m.grammar) c.automaton.ensures.value in
+    first_cut g.W.Write.contents c.args.link.now c.put_names.new.link c.from_residual.result
+        (spaced v.built.grammar (after_dot v.built.grammar.bare c.args.item))
+        ((on_text v u c.args.q c.args.item) ++ (codes "\n")) c.from_residual.ensures
+        (subst (λ (x : GrammarValue). Sends g.W.Write.contents c.args.link.now c.put_names.new.link
+        false (spaced x (after_dot x.bare c.args.item))) grammar
+        (subst (λ (l : List ℕ). Sends g.W.Write.contents c.args.link.now c.put_names.new.link false
+        (spaced c.grammar-grammar.result.now (drop c.args.item.dot l)))
+        (c.body.ensures ∙ ap (λ (p : Production). p.body) c.rule.ensures.production)
+        (subst (λ (l : List ℕ). Sends g.W.Write.contents c.args.link.now c.put_names.new.link false
+        (spaced c.grammar-grammar.result.now l)) (take_rest c.body.result.now c.args.item.dot)
+        c.in_err-put_names.ensures)))
 
 pub returns-in_err-put_on : goal.returns-in_err-put_on
 returns-in_err-put_on g c = λ u h.
     let v = c.args.tables.now in
-    let grammar : c.grammar-grammar.result.now ≡ v.built.grammar = c.grammar-grammar.ensures ∙ ap (λ (m : Collection). m.grammar) c.automaton.ensures.value in
-    second_cut g.W.Write.contents c.args.link.now c.put_names.new.link c.put_on.new.link c.from_residual-in_err-put_on.result (spaced v.built.grammar (after_dot v.built.grammar.bare c.args.item)) (on_text v u c.args.q c.args.item) (codes "\n") c.from_residual-in_err-put_on.ensures (subst (λ (x : GrammarValue). Sends g.W.Write.contents c.args.link.now c.put_names.new.link true (spaced x (after_dot x.bare c.args.item))) grammar (subst (λ (l : List ℕ). Sends g.W.Write.contents c.args.link.now c.put_names.new.link true (spaced c.grammar-grammar.result.now (drop c.args.item.dot l))) (c.body.ensures ∙ ap (λ (p : Production). p.body) c.rule.ensures.production) (subst (λ (l : List ℕ). Sends g.W.Write.contents c.args.link.now c.put_names.new.link true (spaced c.grammar-grammar.result.now l)) (take_rest c.body.result.now c.args.item.dot) c.in_ok-put_names.ensures))) ((c.in_err-put_on.ensures u h))
+    let grammar : c.grammar-grammar.result.now ≡ v.built.grammar = c.grammar-grammar.ensures ∙ ap
+            (λ (m : Collection). m.grammar) c.automaton.ensures.value in
+    second_cut g.W.Write.contents c.args.link.now c.put_names.new.link c.put_on.new.link
+        c.from_residual-in_err-put_on.result
+        (spaced v.built.grammar (after_dot v.built.grammar.bare c.args.item))
+        (on_text v u c.args.q c.args.item) (codes "\n") c.from_residual-in_err-put_on.ensures
+        (subst (λ (x : GrammarValue). Sends g.W.Write.contents c.args.link.now c.put_names.new.link
+        true (spaced x (after_dot x.bare c.args.item))) grammar
+        (subst (λ (l : List ℕ). Sends g.W.Write.contents c.args.link.now c.put_names.new.link true
+        (spaced c.grammar-grammar.result.now (drop c.args.item.dot l)))
+        (c.body.ensures ∙ ap (λ (p : Production). p.body) c.rule.ensures.production)
+        (subst (λ (l : List ℕ). Sends g.W.Write.contents c.args.link.now c.put_names.new.link true
+        (spaced c.grammar-grammar.result.now l)) (take_rest c.body.result.now c.args.item.dot)
+        c.in_ok-put_names.ensures))) ((c.in_err-put_on.ensures u h))
 
 pub returns : goal.returns
 returns g c = λ u h.
     let v = c.args.tables.now in
-    let grammar : c.grammar-grammar.result.now ≡ v.built.grammar = c.grammar-grammar.ensures ∙ ap (λ (m : Collection). m.grammar) c.automaton.ensures.value in
-    three g.W.Write.contents c.args.link.now c.put_names.new.link c.put_on.new.link c.put.new.link (is_some c.put.result) (spaced v.built.grammar (after_dot v.built.grammar.bare c.args.item)) (on_text v u c.args.q c.args.item) (codes "\n") (subst (λ (x : GrammarValue). Sends g.W.Write.contents c.args.link.now c.put_names.new.link true (spaced x (after_dot x.bare c.args.item))) grammar (subst (λ (l : List ℕ). Sends g.W.Write.contents c.args.link.now c.put_names.new.link true (spaced c.grammar-grammar.result.now (drop c.args.item.dot l))) (c.body.ensures ∙ ap (λ (p : Production). p.body) c.rule.ensures.production) (subst (λ (l : List ℕ). Sends g.W.Write.contents c.args.link.now c.put_names.new.link true (spaced c.grammar-grammar.result.now l)) (take_rest c.body.result.now c.args.item.dot) c.in_ok-put_names.ensures))) ((c.in_ok-put_on.ensures u h)) (c.put.ensures)
+    let grammar : c.grammar-grammar.result.now ≡ v.built.grammar = c.grammar-grammar.ensures ∙ ap
+            (λ (m : Collection). m.grammar) c.automaton.ensures.value in
+    three g.W.Write.contents c.args.link.now c.put_names.new.link c.put_on.new.link c.put.new.link
+        (is_some c.put.result) (spaced v.built.grammar (after_dot v.built.grammar.bare c.args.item))
+        (on_text v u c.args.q c.args.item) (codes "\n")
+        (subst (λ (x : GrammarValue). Sends g.W.Write.contents c.args.link.now c.put_names.new.link
+        true (spaced x (after_dot x.bare c.args.item))) grammar
+        (subst (λ (l : List ℕ). Sends g.W.Write.contents c.args.link.now c.put_names.new.link true
+        (spaced c.grammar-grammar.result.now (drop c.args.item.dot l)))
+        (c.body.ensures ∙ ap (λ (p : Production). p.body) c.rule.ensures.production)
+        (subst (λ (l : List ℕ). Sends g.W.Write.contents c.args.link.now c.put_names.new.link true
+        (spaced c.grammar-grammar.result.now l)) (take_rest c.body.result.now c.args.item.dot)
+        c.in_ok-put_names.ensures))) ((c.in_ok-put_on.ensures u h)) (c.put.ensures)

@@ -6,4 +6,6 @@ use Rattle.ytables.proofs.report.put_items.Given as goal
 
 -- the lines so far were sent
 abbrev pub invariant-loop-item : goal.invariant-loop-item
-invariant-loop-item g l = (u : Guide) → IsGuide l.tables.built u → Sends g.W.Write.contents l.initial.link l.link true (flat_map (item_line l.tables u l.q) (take l.item-index l.item-items))
+invariant-loop-item g l = (u : Guide) → IsGuide l.tables.built u →
+    Sends g.W.Write.contents l.initial.link l.link true (flat_map (item_line l.tables u l.q)
+    (take l.item-index l.item-items))

@@ -7,4 +7,6 @@ use Rattle.ytables.proofs.report.put_states.Given as goal
 
 -- the lines so far were sent
 abbrev pub invariant-loop-q : goal.invariant-loop-q
-invariant-loop-q g l = (u : Guide) → IsGuide l.tables.built u → Sends g.W.Write.contents l.initial.link l.link true (flat_map (state_text l.tables u) (range_with_len 0 l.q))
+invariant-loop-q g l = (u : Guide) → IsGuide l.tables.built u →
+    Sends g.W.Write.contents l.initial.link l.link true
+    (flat_map (state_text l.tables u) (range_with_len 0 l.q))

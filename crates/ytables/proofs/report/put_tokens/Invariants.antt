@@ -6,4 +6,5 @@ use Rattle.ytables.proofs.report.put_tokens.Given as goal
 
 -- the lines so far were sent
 abbrev pub invariant-loop-t : goal.invariant-loop-t
-invariant-loop-t g l = Sends g.W.Write.contents l.initial.link l.link true (flat_map (token_line l.grammar) (range_with_len 0 l.t))
+invariant-loop-t g l = Sends g.W.Write.contents l.initial.link l.link true
+    (flat_map (token_line l.grammar) (range_with_len 0 l.t))

@@ -8,5 +8,6 @@ invariant-loop-t l = record {
   len : length l.actions.items ≡ l.t;
   shift_reduce : l.shift_reduce ≤ l.t * 8192;
   reduce_reduce : l.reduce_reduce ≤ l.t * 8192;
-  row : (u : Guide) → IsGuide l.automaton u → IsRowTo l.automaton u l.q l.t l.actions.items l.shift_reduce l.reduce_reduce l.choice;
+  row : (u : Guide) → IsGuide l.automaton u → IsRowTo l.automaton u l.q l.t l.actions.items
+      l.shift_reduce l.reduce_reduce l.choice;
 }

@@ -5,4 +5,5 @@ use Rattle.ytables.specs.Rows.{ReduceBy}
 use Rattle.ytables.proofs.row.common_rule.Given as goal
 
 abbrev pub invariant-loop-action : goal.invariant-loop-action
-invariant-loop-action l = MatchOption l.found (filter is_filled (take l.action-index l.actions) ≡ []) (λ r. ReduceBy r (filter is_filled (take l.action-index l.actions)))
+invariant-loop-action l = MatchOption l.found (filter is_filled (take l.action-index l.actions) ≡
+    []) (λ r. ReduceBy r (filter is_filled (take l.action-index l.actions)))

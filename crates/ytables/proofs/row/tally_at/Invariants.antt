@@ -9,5 +9,7 @@ invariant-loop-item l = record {
   rests : l.tally.rests ≤ l.tally.all;
   kept : l.tally.kept ≤ l.tally.all;
   all : l.tally.all ≤ l.item-index;
-  tally : (u : Guide) → IsGuide l.automaton u → IsTally (class_at l.automaton.grammar l.level) (rules_by (λ i. is_ready l.automaton.grammar.bare i && u.looks l.q i l.t) (take l.item-index l.items)) l.tally;
+  tally : (u : Guide) → IsGuide l.automaton u → IsTally (class_at l.automaton.grammar l.level)
+      (rules_by (λ i. is_ready l.automaton.grammar.bare i && u.looks l.q i l.t)
+      (take l.item-index l.items)) l.tally;
 }

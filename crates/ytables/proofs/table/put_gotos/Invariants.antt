@@ -7,4 +7,6 @@ use Rattle.ytables.proofs.table.put_gotos.Given as goal
 
 -- the lines so far were sent
 abbrev pub invariant-loop-x : goal.invariant-loop-x
-invariant-loop-x g l = Sends g.W.Write.contents l.initial.link l.link true (flat_map (λ x. goto_line l.q x (goto_in l.tables.built l.q x)) (range_with_len l.tables.built.grammar.bare.tokens (l.x - l.tables.built.grammar.bare.tokens)))
+invariant-loop-x g l = Sends g.W.Write.contents l.initial.link l.link true
+    (flat_map (λ x. goto_line l.q x (goto_in l.tables.built l.q x))
+    (range_with_len l.tables.built.grammar.bare.tokens (l.x - l.tables.built.grammar.bare.tokens)))

@@ -6,4 +6,5 @@ use Rattle.ytables.proofs.table.put_rules.Given as goal
 
 -- the lines so far were sent
 abbrev pub invariant-loop-r : goal.invariant-loop-r
-invariant-loop-r g l = Sends g.W.Write.contents l.initial.link l.link true (flat_map (rule_line l.grammar) (range_with_len 0 l.r))
+invariant-loop-r g l = Sends g.W.Write.contents l.initial.link l.link true
+    (flat_map (rule_line l.grammar) (range_with_len 0 l.r))

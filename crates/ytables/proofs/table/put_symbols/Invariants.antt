@@ -6,4 +6,5 @@ use Rattle.ytables.proofs.table.put_symbols.Given as goal
 
 -- the lines so far were sent
 abbrev pub invariant-loop-s : goal.invariant-loop-s
-invariant-loop-s g l = Sends g.W.Write.contents l.initial.link l.link true (flat_map (symbol_line l.grammar) (range_with_len 0 l.s))
+invariant-loop-s g l = Sends g.W.Write.contents l.initial.link l.link true
+    (flat_map (symbol_line l.grammar) (range_with_len 0 l.s))

@@ -1,4 +1,5 @@
-use Rattle.std.proofs.Common.{ℕ, ◌≡◌, ◌<◌, ◌+◌, [], ◌∷◌, List, length, get_or, Option, None, ap, ◌∙◌, subst, arith, unwrap_or, length-append}
+use Rattle.std.proofs.Common.{ℕ, ◌≡◌, ◌<◌, ◌+◌, [], ◌∷◌, List, length, get_or, Option, None, ap}
+use Rattle.std.proofs.Common.{◌∙◌, subst, arith, unwrap_or, length-append}
 use Rattle.ygrammar.specs.Grammar.{GrammarValue}
 use Rattle.ytables.specs.declared.cell.Action.{Action}
 use Rattle.ytables.specs.declared.cell.Action.TheVariants.{Error}
@@ -14,19 +15,32 @@ loop-q-preserved c =
     let inv = c.loop-q.invariant in
     let row = c.in_ok-row.row in
     let entries = c.in_ok-entries.entries.items in
-    let tokens : c.token_count-tokens.result ≡ m.grammar.bare.tokens = c.token_count-tokens.ensures ∙ ap (λ (v : GrammarValue). v.bare.tokens) c.grammar-grammar.ensures in
+    let tokens : c.token_count-tokens.result ≡ m.grammar.bare.tokens = c.token_count-tokens.ensures
+            ∙ ap (λ (v : GrammarValue). v.bare.tokens) c.grammar-grammar.ensures in
     let pushed : IsPushed c.loop-q.actions c.push.new.self entries =
-    subst (λ (l : List (Option Action)). IsPushed c.loop-q.actions c.push.new.self l) c.deref-in-loop-q.ensures.value c.in_ok-push.ensures in
+    subst (λ (l : List (Option Action)). IsPushed c.loop-q.actions c.push.new.self l)
+        c.deref-in-loop-q.ensures.value c.in_ok-push.ensures in
     let longer = c.in_ok-push-2.ensures.items in
-    let same : (t : ℕ) → t < m.grammar.bare.tokens → by_default row.default (unwrap_or (get_or entries t None) Error) ≡ by_default row.default (get_or row.actions.items t Error) = λ t l.
-    c.in_ok-entries.ensures.entries t (let a = ap length c.deref.ensures.value in let b = c.in_ok-row.ensures.len in omega (arith, a, b, l, tokens))
+    let same : (t : ℕ) → t < m.grammar.bare.tokens → by_default row.default
+            (unwrap_or (get_or entries t None) Error) ≡ by_default row.default
+            (get_or row.actions.items t Error) = λ t l.
+    c.in_ok-entries.ensures.entries t (let a = ap length c.deref.ensures.value in
+        let b = c.in_ok-row.ensures.len in omega (arith, a, b, l, tokens))
     ∙ ap (λ (x : List Action). by_default row.default (get_or x t Error)) c.deref.ensures.value in
     record {
       count = pushed.count ∙ ap (λ n. n + 1) inv.count;
       width = pushed.width ∙ inv.width;
-      defaults = ap length longer ∙ length-append c.loop-q.defaults.items (row.default ∷ []) ∙ ap (λ n. n + 1) inv.defaults;
-      shift_reduce = (let a = c.in_ok-row.ensures.shift_reduce in let b = inv.shift_reduce in omega (arith, a, b));
-      reduce_reduce = (let a = c.in_ok-row.ensures.reduce_reduce in let b = inv.reduce_reduce in omega (arith, a, b));
-      rows = λ u h. rows_step m u q row.actions.items row.default row.shift_reduce row.reduce_reduce row.choice (c.in_ok-row.ensures.row u h) c.loop-q.actions c.push.new.self entries c.loop-q.defaults.items c.push-in-loop-q.new.self.items inv.count (inv.width ∙ tokens) inv.defaults pushed longer same (inv.rows u h);
-      sums = λ u h. sums_step m u q row.actions.items row.default row.shift_reduce row.reduce_reduce row.choice (c.in_ok-row.ensures.row u h) c.loop-q.shift_reduce c.loop-q.reduce_reduce c.loop-q.chosen (inv.sums u h);
+      defaults = ap length longer ∙ length-append c.loop-q.defaults.items (row.default ∷ []) ∙ ap
+          (λ n. n + 1) inv.defaults;
+      shift_reduce = (let a = c.in_ok-row.ensures.shift_reduce in let b = inv.shift_reduce in
+          omega (arith, a, b));
+      reduce_reduce = (let a = c.in_ok-row.ensures.reduce_reduce in let b = inv.reduce_reduce in
+          omega (arith, a, b));
+      rows = λ u h. rows_step m u q row.actions.items row.default row.shift_reduce row.reduce_reduce
+          row.choice (c.in_ok-row.ensures.row u h) c.loop-q.actions c.push.new.self entries
+          c.loop-q.defaults.items c.push-in-loop-q.new.self.items inv.count (inv.width ∙ tokens)
+          inv.defaults pushed longer same (inv.rows u h);
+      sums = λ u h. sums_step m u q row.actions.items row.default row.shift_reduce row.reduce_reduce
+          row.choice (c.in_ok-row.ensures.row u h) c.loop-q.shift_reduce c.loop-q.reduce_reduce
+          c.loop-q.chosen (inv.sums u h);
     }

@@ -10,6 +10,8 @@ invariant-loop-q l = record {
   defaults : length l.defaults.items ≡ l.q;
   shift_reduce : l.shift_reduce ≤ l.q * 33554432;
   reduce_reduce : l.reduce_reduce ≤ l.q * 33554432;
-  rows : (u : Guide) → IsGuide l.automaton u → AreRowsTo l.automaton u l.q (act_at l.actions.rows l.defaults.items) (rule_at l.defaults.items);
-  sums : (u : Guide) → IsGuide l.automaton u → AreSumsTo l.automaton u l.q l.shift_reduce l.reduce_reduce l.chosen;
+  rows : (u : Guide) → IsGuide l.automaton u → AreRowsTo l.automaton u l.q
+      (act_at l.actions.rows l.defaults.items) (rule_at l.defaults.items);
+  sums : (u : Guide) → IsGuide l.automaton u → AreSumsTo l.automaton u l.q l.shift_reduce
+      l.reduce_reduce l.chosen;
 }

@@ -9,7 +9,8 @@ use Rattle.ygrammar.proofs.building.Lexemes.definitions.Given as goal
 
 abbrev pub invariant-lines : goal.invariant-lines
 invariant-lines l = record {
-  whole : views l.fn.self ≡ flat_map definition_yield (map definition_view l.definitions.items) ++ views l.self;
+  whole : views l.fn.self ≡ flat_map definition_yield (map definition_view l.definitions.items) ++
+      views l.self;
   shaped : AllByRecursion IsDefinition (map definition_view l.definitions.items);
   goes_on : GoesOn Declarations l.self;
 }

@@ -9,12 +9,15 @@ use Rattle.ygrammar.proofs.building.Lexemes.entries.Goals as goal
 
 pub entries-init : goal.entries-init
 entries-init c = record {
-  whole = ap (λ z. flat_map entry_yield (map entry_view z) ++ views c.args.self.now) (sym c.new-entries.ensures.items);
+  whole = ap (λ z. flat_map entry_yield (map entry_view z) ++ views c.args.self.now)
+      (sym c.new-entries.ensures.items);
   goes_on = tagged_numbered (views c.args.self.now) c.requires;
 }
 
 pub returns-clause-some : goal.returns-clause-some
-returns-clause-some c = entries_some c.entries.entries.items (views c.args.self.now) (views c.entries.self) c.entries.invariant.whole c.requires c.in_default.ensures.taken.0
+returns-clause-some c = entries_some c.entries.entries.items (views c.args.self.now)
+    (views c.entries.self) c.entries.invariant.whole c.requires c.in_default.ensures.taken.0
 
 pub returns-clause-goes_on : goal.returns-clause-goes_on
-returns-clause-goes_on c = subst (Goes Declarations) c.in_default.ensures.taken.1 (entries_end (views c.entries.self) c.entries.invariant.goes_on c.in_default.ensures.taken.0)
+returns-clause-goes_on c = subst (Goes Declarations) c.in_default.ensures.taken.1
+    (entries_end (views c.entries.self) c.entries.invariant.goes_on c.in_default.ensures.taken.0)

@@ -8,12 +8,15 @@ use Rattle.ygrammar.proofs.building.Lexemes.names.Goals as goal
 
 pub names-init : goal.names-init
 names-init c = record {
-  whole = ap (λ z. map name (map name_view z) ++ views c.args.self.now) (sym c.new-names.ensures.items);
+  whole = ap (λ z. map name (map name_view z) ++ views c.args.self.now)
+      (sym c.new-names.ensures.items);
   goes_on = tagged_typed (views c.args.self.now) c.requires;
 }
 
 pub returns-clause-some : goal.returns-clause-some
-returns-clause-some c = names_some c.names.names.items (views c.args.self.now) (views c.names.self) c.names.invariant.whole c.requires c.in_default.ensures.taken.0
+returns-clause-some c = names_some c.names.names.items (views c.args.self.now) (views c.names.self)
+    c.names.invariant.whole c.requires c.in_default.ensures.taken.0
 
 pub returns-clause-goes_on : goal.returns-clause-goes_on
-returns-clause-goes_on c = subst (Goes Declarations) c.in_default.ensures.taken.1 (names_end (views c.names.self) c.names.invariant.goes_on c.in_default.ensures.taken.0)
+returns-clause-goes_on c = subst (Goes Declarations) c.in_default.ensures.taken.1
+    (names_end (views c.names.self) c.names.invariant.goes_on c.in_default.ensures.taken.0)

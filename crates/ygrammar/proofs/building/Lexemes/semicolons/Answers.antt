@@ -8,6 +8,7 @@ semicolons-init c = record { counted = (0, refl, omega arith); goes_on = c.requi
 
 pub semicolons-preserved : goal.semicolons-preserved
 semicolons-preserved c = record {
-  counted = one_more_semicolon c.args.self.now c.semicolons.self c.sign.new.self c.semicolons.invariant.counted c.semicolons-test.ensures;
+  counted = one_more_semicolon c.args.self.now c.semicolons.self c.sign.new.self
+      c.semicolons.invariant.counted c.semicolons-test.ensures;
   goes_on = subst (Goes Semicolons) c.semicolons-test.ensures c.semicolons.invariant.goes_on;
 }

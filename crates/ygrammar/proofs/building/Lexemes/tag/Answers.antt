@@ -5,7 +5,9 @@ use Rattle.ygrammar.proofs.TreeSteps.{Goes, list_tag_ends, untagged}
 use Rattle.ygrammar.proofs.building.Lexemes.tag.Goals as goal
 
 pub tag_name-requires : goal.tag_name-requires
-tag_name-requires c = list_tag_ends (views c.sign.new.self) (subst (Goes ListWord) c.if-sign.ensures c.requires)
+tag_name-requires c = list_tag_ends (views c.sign.new.self)
+    (subst (Goes ListWord) c.if-sign.ensures c.requires)
 
 pub returns-else-sign-clause-goes_on : goal.returns-else-sign-clause-goes_on
-returns-else-sign-clause-goes_on c = subst (Goes ListTagged) c.if-sign.ensures.1 (untagged (views c.args.self.now) c.requires c.if-sign.ensures.0)
+returns-else-sign-clause-goes_on c = subst (Goes ListTagged) c.if-sign.ensures.1
+    (untagged (views c.args.self.now) c.requires c.if-sign.ensures.0)

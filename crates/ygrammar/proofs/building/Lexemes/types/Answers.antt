@@ -8,4 +8,5 @@ pub unreachable-requires : goal.unreachable-requires
 unreachable-requires c = tag_there (views c.args.self.now) c.requires c.if-not-sign.ensures.0
 
 pub tag_name-tag-requires : goal.tag_name-tag-requires
-tag_name-tag-requires c = type_tag_ends (views c.sign.new.self) (subst (Goes TypeWord) c.if-not-sign.ensures c.requires)
+tag_name-tag-requires c = type_tag_ends (views c.sign.new.self)
+    (subst (Goes TypeWord) c.if-not-sign.ensures c.requires)

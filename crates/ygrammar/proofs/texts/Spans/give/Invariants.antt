@@ -5,4 +5,6 @@ use Rattle.ygrammar.specs.TreeViews.{clause_view}
 use Rattle.ygrammar.proofs.texts.Spans.give.Given as goal
 
 abbrev pub invariant-loop-clause : goal.invariant-loop-clause
-invariant-loop-clause l = l.texts.items ++ given_out (flat_map clause_flags (map clause_view (drop l.clause-index l.clauses))) l.self ≡ l.fn.texts.items ++ given_out (flat_map clause_flags (map clause_view l.clauses)) l.fn.self
+invariant-loop-clause l = l.texts.items ++ given_out
+    (flat_map clause_flags (map clause_view (drop l.clause-index l.clauses))) l.self ≡
+    l.fn.texts.items ++ given_out (flat_map clause_flags (map clause_view l.clauses)) l.fn.self

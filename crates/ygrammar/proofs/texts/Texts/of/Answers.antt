@@ -12,8 +12,15 @@ pub returns : goal.returns
 returns c =
     let t = tree_view c.args.tree.now in
     let flags = flat_map clause_flags (map clause_view c.deref-2.result.now) in
-    let whole : c.give.new.texts.items ≡ None ∷ given_out flags c.pass.new.self = c.in_ok-give.ensures ∙ ap (λ (x : List (Option Span)). x ++ given_out flags c.pass.new.self) (c.in_ok-push.ensures.items ∙ ap (λ (x : List (Option Span)). x ++ None ∷ []) c.new-spans.ensures.items) in
+    let whole : c.give.new.texts.items ≡ None ∷ given_out flags c.pass.new.self =
+            c.in_ok-give.ensures ∙ ap (λ (x : List (Option Span)).
+            x ++ given_out flags c.pass.new.self)
+            (c.in_ok-push.ensures.items ∙ ap (λ (x : List (Option Span)). x ++ None ∷ [])
+            c.new-spans.ensures.items) in
     let there = texts_there c.args.source.now t c.args.kept.now flags c.pass.new.self c.requires
     (ap (λ (x : List Clause). flat_map clause_flags (map clause_view x)) c.deref-2.ensures.value)
-    (c.pass.ensures ∙ ap (λ (x : List Definition). behind (map definition_view x) c.args.kept.now) c.deref.ensures.value) in
-    ap (λ (s : List ℕ). map (option_view (part_of s)) c.give.new.texts.items) c.in_ok-source.ensures.items ∙ ap (λ (x : List (Option Span)). map (option_view (part_of c.args.source.now)) x) whole ∙ there
+    (c.pass.ensures ∙ ap (λ (x : List Definition). behind (map definition_view x) c.args.kept.now)
+        c.deref.ensures.value) in
+    ap (λ (s : List ℕ). map (option_view (part_of s)) c.give.new.texts.items)
+        c.in_ok-source.ensures.items ∙ ap (λ (x : List (Option Span)).
+        map (option_view (part_of c.args.source.now)) x) whole ∙ there

@@ -8,8 +8,14 @@ use Rattle.ylalr.proofs.waiting.Waiting.put.Goals as goal
 pub invariant_of-self-then-not-has : goal.invariant_of-self-then-not-has
 invariant_of-self-then-not-has c =
     let w : Line = record { queue = c.self.inside.queue.items; marks = c.self.inside.marks } in
-    let h : c.args.p < length w.marks = subst (λ (v : Line). c.args.p < length v.marks) (sym c.self.view_is) c.requires in
-    subst (λ q. IsLine (record { queue = q; marks = c.mark.new.self })) (sym c.in_ok-push_back.ensures.items) (subst (λ m. IsLine (record { queue = w.queue ++ c.args.p ∷ []; marks = m })) (sym c.mark.ensures.set) (line_push w c.args.p c.self.invariant h (sym c.if-not-has.ensures)))
+    let h : c.args.p < length w.marks = subst (λ (v : Line). c.args.p < length v.marks)
+            (sym c.self.view_is) c.requires in
+    subst (λ q. IsLine (record { queue = q; marks = c.mark.new.self }))
+        (sym c.in_ok-push_back.ensures.items)
+        (subst (λ m. IsLine (record { queue = w.queue ++ c.args.p ∷ []; marks = m }))
+        (sym c.mark.ensures.set) (line_push w c.args.p c.self.invariant h
+        (sym c.if-not-has.ensures)))
 
 pub returns-in_ok-push_back-clause-there : goal.returns-in_ok-push_back-clause-there
-returns-in_ok-push_back-clause-there c = subst (λ xs. Contains xs c.args.p) (sym c.in_ok-push_back.ensures.items) (Contains-push c.self.inside.queue.items c.args.p)
+returns-in_ok-push_back-clause-there c = subst (λ xs. Contains xs c.args.p)
+    (sym c.in_ok-push_back.ensures.items) (Contains-push c.self.inside.queue.items c.args.p)

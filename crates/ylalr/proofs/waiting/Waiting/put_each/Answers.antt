@@ -13,9 +13,11 @@ loop-p-preserved c =
     record {
       sized = e.sized ∙ i.sized;
       few = e.few;
-      there = All-more (λ p. Contains c.put.new.self.queue p) xs k 0 c.loop-p-test.true (λ j d h. e.kept (get_or (take k xs) j d) (i.there j d h)) e.there;
+      there = All-more (λ p. Contains c.put.new.self.queue p) xs k 0 c.loop-p-test.true
+          (λ j d h. e.kept (get_or (take k xs) j d) (i.there j d h)) e.there;
       kept = λ x h. e.kept x (i.kept x h);
     }
 
 pub returns-clause-there : goal.returns-clause-there
-returns-clause-there c = subst (All (λ p. Contains c.loop-p.self.queue p)) (take_all c.args.list.now c.loop-p.p-index c.loop-p-test.false) c.loop-p.invariant.there
+returns-clause-there c = subst (All (λ p. Contains c.loop-p.self.queue p))
+    (take_all c.args.list.now c.loop-p.p-index c.loop-p-test.false) c.loop-p.invariant.there
