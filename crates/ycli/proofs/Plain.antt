@@ -12,9 +12,9 @@ use Rattle.yparse.specs.declared.machine.StepFault.TheVariants.{Halted, NoToken,
 use Rattle.yparse.specs.declared.machine.Mode.{Mode}
 use Rattle.yparse.specs.declared.machine.Mode.TheVariants.{Running, Popping, Accepted, Failed}
 use Rattle.yparse.specs.Machine.{Machine, Configuration, next, edited}
-use Rattle.yparse.specs.Past.{position, undone, rewound}
+use Rattle.yparse.specs.Past.{position, back_by, to_first}
 use Rattle.yparse.specs.History.{History}
-use Rattle.yparse.specs.Unwinding.{NoErrors, is_error_step, tree_lines, unwound_text}
+use Rattle.yparse.specs.Unwinding.{NoErrors, is_error_step, tree_lines, forms_text}
 use Rattle.ycli.specs.Command.{Command}
 use Rattle.ycli.specs.Command.{Run, Back, To, Show, Tree, Unwind, Insert, Drop, Unknown}
 use Rattle.ycli.specs.Line.{Line}
@@ -109,7 +109,7 @@ plain_to : (m : Machine) (h : History) (k : ℕ) (above : Bool) → (text : List
     × GoesToBy (PlainSteps m) m k above h text new
 plain_to m h k true = plain_run m (k - position h) false h
 plain_to m h k false =
-    (undo_text m (position h - k) false h.earlier, undone (position h - k) h, (refl, refl))
+    (undo_text m (position h - k) false h.earlier, back_by (position h - k) h, (refl, refl))
 
 abbrev IsNoError : StepKind × Configuration → Type 0
 IsNoError step = is_error_step step.0 ≡ false
@@ -143,8 +143,8 @@ errors_known (step ∷ earlier) = one_known step earlier (is_error_step step.0) 
 unwinds_some : (m : Machine) (h : History) (mode : Mode) → h.now.mode ≡ mode → NoErrors h.earlier
     ⊎ (NoErrors h.earlier → ⊥) → (text : List ℕ) × (new : History) × Unwinds m h text new
 unwinds_some m h Accepted e (inl none) = (
-  unwound_text m h,
-  rewound h,
+  forms_text m h,
+  to_first h,
   inr
       (inr (e, none, refl, refl)),
 )
@@ -171,7 +171,7 @@ unwinds_some m h Failed e known = (
 plain_reply : (m : Machine) (h : History) (command : Command) → (text : List ℕ)
     × (new : History) × PlainReply m h command text new
 plain_reply m h (Run n) = plain_run m n false h
-plain_reply m h (Back n) = (undo_text m n false h.earlier, undone n h, (refl, refl))
+plain_reply m h (Back n) = (undo_text m n false h.earlier, back_by n h, (refl, refl))
 plain_reply m h (To k) = plain_to m h k (nat_lt (position h) k)
 plain_reply m h Show = (shown m h, h, (refl, refl))
 plain_reply m h Tree = (tree_lines m h.now.stack, h, (refl, refl))

@@ -13,7 +13,7 @@ use Rattle.std.proofs.KnownBytes.{Appends-nil, Appends-kept}
 use Rattle.ytables.specs.Link.{device_of, has_failed}
 use Rattle.ytables.specs.Sends.{Sends}
 use Rattle.yparse.specs.Machine.{Machine, Configuration, next}
-use Rattle.yparse.specs.Past.{Steps, position, undone, undone_from}
+use Rattle.yparse.specs.Past.{Steps, position, back_by, back_from}
 use Rattle.yparse.specs.History.{History}
 use Rattle.ycli.specs.Reply.{shown, Reply, Answers, Runs, GoesBack, GoesTo, refusal, undo_text}
 use Rattle.ycli.specs.Reply.{step_line}
@@ -54,16 +54,16 @@ undo_text-step : (m : Machine) (n : ℕ) (made : Bool) (h new : History) (kind :
 undo_text-step m n made h new kind e = ap (undo_text m (suc n) made) e
 
 undone-step : (n : ℕ) (h new : History) (kind : StepKind) → h.earlier ≡
-    (kind, new.now) ∷ new.earlier → undone (suc n) h ≡ undone n new
-undone-step n h new kind e = ap (undone_from (suc n) h.now) e
+    (kind, new.now) ∷ new.earlier → back_by (suc n) h ≡ back_by n new
+undone-step n h new kind e = ap (back_from (suc n) h.now) e
 
 undo_text-none : (m : Machine) (n : ℕ) (made : Bool) (past : List (StepKind × Configuration))
     → past ≡ [] → undo_text m (suc n) made past ≡ (if made then [] else codes "at start\n")
 undo_text-none m n made past e = ap (undo_text m (suc n) made) e
 
-undone-none : (n : ℕ) (h : History) → h.earlier ≡ [] → undone n h ≡ h
+undone-none : (n : ℕ) (h : History) → h.earlier ≡ [] → back_by n h ≡ h
 undone-none zero h e = refl
-undone-none (suc n) h e = ap (undone_from (suc n) h.now) e
+undone-none (suc n) h e = ap (back_from (suc n) h.now) e
     ∙ ap (λ (p : List (StepKind × Configuration)). let x : History = record {
       now = h.now;
       earlier =
@@ -82,8 +82,8 @@ undo_text-on m count k n made h hi new kind text e f r =
 
 pub undone-on : (count k n : ℕ) (h hi new : History) (kind : StepKind) → k ≡ suc n → hi.earlier ≡
     (kind, new.now) ∷ new.earlier
-    → undone count h ≡ undone k hi → undone count h ≡ undone n new
-undone-on count k n h hi new kind e f r = r ∙ ap (λ (j : ℕ). undone j hi) e ∙ undone-step n hi new
+    → back_by count h ≡ back_by k hi → back_by count h ≡ back_by n new
+undone-on count k n h hi new kind e f r = r ∙ ap (λ (j : ℕ). back_by j hi) e ∙ undone-step n hi new
     kind f
 
 -- no step is left to undo
@@ -96,7 +96,7 @@ undo_text-off m count k n made h hi text e f r =
     (undo_text-none m n made hi.earlier f)
 
 pub undone-off : (count k : ℕ) (h hi new : History) → hi.earlier ≡ [] → new ≡ hi
-    → undone count h ≡ undone k hi → new ≡ undone count h
+    → back_by count h ≡ back_by k hi → new ≡ back_by count h
 undone-off count k h hi new f e r = e ∙ sym (r ∙ undone-none k hi f)
 
 -- ---- steps

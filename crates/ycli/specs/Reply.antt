@@ -15,10 +15,10 @@ use Rattle.ycli.specs.Command.{Command, Run, Back, To, Show, Tree, Unwind, Inser
 use Rattle.ytables.specs.declared.link.Link.{Link}
 use Rattle.ytables.specs.Sends.{Sends}
 use Rattle.yparse.specs.Machine.{Machine, Configuration, symbols, next, edited}
-use Rattle.yparse.specs.Past.{Steps, Changes, position, undone, rewound}
+use Rattle.yparse.specs.Past.{Steps, Changes, position, back_by, to_first}
 use Rattle.yparse.specs.History.{History}
 use Rattle.yparse.specs.Spelling.{IsSpelled}
-use Rattle.yparse.specs.Unwinding.{NoErrors, tokens_left, tree_lines, unwound_text}
+use Rattle.yparse.specs.Unwinding.{NoErrors, tokens_left, tree_lines, forms_text}
 
 -- the words of a step or an edit
 abbrev pub kind_word : StepKind → List ℕ
@@ -80,7 +80,7 @@ undo_text m (suc n) made (s ∷ past) =
 
 -- at most n undos with a line for each
 abbrev pub GoesBack : Machine → ℕ → History → List ℕ → History → Type 0
-GoesBack m n h text new = (text ≡ undo_text m n false h.earlier) × (new ≡ undone n h)
+GoesBack m n h text new = (text ≡ undo_text m n false h.earlier) × (new ≡ back_by n h)
 
 abbrev pub mode_word : Mode → List ℕ
 mode_word Running = codes "running"
@@ -119,8 +119,8 @@ Unwinds m h text new =
     ((h.now.mode ≢ Accepted) × (text ≡ codes "not accepted\n") × (new ≡ h))
     ⊎ (((h.now.mode ≡ Accepted) × (NoErrors h.earlier → ⊥) × (text ≡ codes "had error\n")
     × (new ≡ h))
-    ⊎ ((h.now.mode ≡ Accepted) × NoErrors h.earlier × (text ≡ unwound_text m h)
-    × (new ≡ rewound h)))
+    ⊎ ((h.now.mode ≡ Accepted) × NoErrors h.earlier × (text ≡ forms_text m h)
+    × (new ≡ to_first h)))
 
 module _ (takes : History → Result StepKind StepFault → History → Type 0) (m : Machine) where
   -- at most n steps with a line for each, some having been made before or none

@@ -7,7 +7,7 @@ ghost use Rattle.ytables.specs.Link.{has_failed};
 ghost use Rattle.ytables.specs.Sends.{Sends};
 ghost use Rattle.yparse.specs.Past.{position};
 ghost use Rattle.yparse.specs.Session.{machine_of, history_of};
-ghost use Rattle.yparse.specs.View.{shown_by};
+ghost use Rattle.yparse.specs.View.{configuration_by};
 ghost use Rattle.ycli.specs.Reply.{step_line, refusal, kind_word, kind_tail, mode_word, shown};
 ghost use Rattle.ycli.specs.Reply.{spaced, shown_head, shown_stack, shown_rest, shown_counts};
 ghost use Rattle.ycli.specs.Command.{command_view};

@@ -14,7 +14,6 @@ mod Facts
 mod Shown
 mod Moves
 mod Places
-mod Snapshots
 mod Unwound
 mod Walks
 pub mod Headlines

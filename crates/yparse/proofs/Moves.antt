@@ -21,18 +21,22 @@ use Rattle.yparse.specs.declared.parts.Node.{Node}
 use Rattle.yparse.specs.declared.parts.Node.TheVariants as nodes
 use Rattle.yparse.specs.Machine.{Machine, Configuration, Entry, symbols, entry_of, lookahead}
 use Rattle.yparse.specs.Machine.{without_last, last_ones, Move, Shift, Reduce, Accept, Error, width}
-use Rattle.yparse.specs.Machine.{shifted, reduced, discarded, detected, erred, step_by, popped}
-use Rattle.yparse.specs.Machine.{error_shifted, recover_by, next_in, next, edited_rest, edited_in}
+use Rattle.yparse.specs.Machine.{shift_step, reduce_step, discard_step, detect_step, error_step}
+use Rattle.yparse.specs.Machine.{step_by, pop_step}
+use Rattle.yparse.specs.Machine.{shift_error_step, recover_by, next_in, next, edited_rest}
+use Rattle.yparse.specs.Machine.{edited_in}
 use Rattle.yparse.specs.Machine.{edited}
-use Rattle.yparse.specs.Rest.{Rest, ahead, is_left, place_left, taken, inserted_in}
+use Rattle.yparse.specs.Rest.{Rest, ahead, is_left, place_left, without_first, with_insertion}
 use Rattle.yparse.specs.Tables.{goto_at, goto_from, cell_at, cell_in, rule_of, walk, state_after}
 use Rattle.yparse.specs.Tables.{is_input, token_count}
 use Rattle.yparse.specs.MachineOver.{machine_over, move_of}
 use Rattle.yparse.specs.Sound.{Sound}
 use Rattle.yparse.specs.Machine as machine
 use Rattle.yparse.specs.Content.{Content, Place, entry, width_of, top_state, lead, top_of}
-use Rattle.yparse.specs.Content.{kind_running, kind_popping, kind_in, made, made_of, one_step}
-use Rattle.yparse.specs.Content.{one_back, unmade, place_before, change_at, trees_over, shown_entry}
+use Rattle.yparse.specs.Content.{kind_running, kind_popping, kind_in, place_after, content_after}
+use Rattle.yparse.specs.Content.{one_step}
+use Rattle.yparse.specs.Content.{one_back, content_before, place_before, change_at, trees_over}
+use Rattle.yparse.specs.Content.{entry_view}
 use Rattle.yparse.specs.Content.{rest_of, configuration_of, edit_kind}
 use Rattle.yparse.proofs.Ends.{without_last-append, last_ones-append, both_ends, length-last_ones}
 use Rattle.yparse.proofs.Ends.{top_back}
@@ -45,9 +49,9 @@ use Rattle.yparse.proofs.Shown.{symbol_of, shown-symbols, shown-grown, shown-red
 -- what a step or an edit of this kind is to a content, where this is found of the machine
 pub record Leads (p : Place) (found : Option (StepKind × Configuration)) (kind : StepKind) : Type 0
   where
-    pub follows : found ≡ Some (kind, configuration_of (made kind p))
-    pub facts : FactsOf (made kind p)
-    pub back : place_before (change_at kind p.content) (made kind p) ≡ p
+    pub follows : found ≡ Some (kind, configuration_of (place_after kind p))
+    pub facts : FactsOf (place_after kind p)
+    pub back : place_before (change_at kind p.content) (place_after kind p) ≡ p
 
 abbrev pub Moves : Place → StepKind → Type 0
 Moves p kind = Leads p (next (machine_over p.tables) (configuration_of p)) kind
@@ -154,8 +158,9 @@ module _ (p : Place) (s : Sound p.tables) (f : FactsOf p) where
   -- what was before, from equal parts
   returned : (kind : StepKind)
       → one_back (change_at kind p.content)
-      (unmade p.tables (change_at kind p.content) kind (one_step (made_of p.tables kind p.content)))
-      ≡ p.content → place_before (change_at kind p.content) (made kind p) ≡ p
+      (content_before p.tables (change_at kind p.content) kind
+      (one_step (content_after p.tables kind p.content)))
+      ≡ p.content → place_before (change_at kind p.content) (place_after kind p) ≡ p
   returned kind e = ap (λ (c : Content). let q : Place =
       record { tables = p.tables; tokens = p.tokens; content = c } in q) e
 
@@ -179,14 +184,14 @@ module _ (p : Place) (s : Sound p.tables) (f : FactsOf p) where
       record {
         follows = runs (actions.Shift to) m e
             ∙ ap (λ (l : List (ℕ × ℕ)). let found : Option (StepKind × Configuration) =
-            Some (shifted (configuration_of p) l) in
+            Some (shift_step (configuration_of p) l) in
             found) (left p.tokens p.content.rest inside)
             ∙ ap (λ (d : Configuration). let found : Option (StepKind × Configuration) =
             Some (kinds.Shift token, d) in found)
             (same _ _ (sym (shown-grown c.children c.nodes c.stack
             (lead p.tables (top_state c.stack) token) token leaf f.below)) refl refl refl refl);
         facts = advance p.tables p.tokens _ _ c.children c.rest c.errors (c.steps + 1) grown
-            (taken c.rest) (fits_taken p.tokens c.rest f.read inside);
+            (without_first c.rest) (fits_taken p.tokens c.rest f.read inside);
         back = returned (kinds.Shift token)
             (same_content _ c (without_last-append c.stack _ 1 refl)
             (without_last-append c.nodes _ 1 refl) refl (taken_back p.tokens c.rest) refl refl refl
@@ -257,12 +262,13 @@ module _ (p : Place) (s : Sound p.tables) (f : FactsOf p) where
       → cell_at p.tables (top_state p.content.stack) (ahead p.tokens p.content.rest) ≡ actions.Error
       → (b : Bool) → (p.content.counter == 3) ≡ b
       → next (machine_over p.tables) (configuration_of p)
-      ≡ Some (if b then discarded (configuration_of p) (rest_of p.tokens p.content)
-      else detected (configuration_of p))
+      ≡ Some (if b then discard_step (configuration_of p) (rest_of p.tokens p.content)
+      else detect_step (configuration_of p))
   errs m e b h =
       runs actions.Error m e
       ∙ ap (λ (x : Bool). let found : Option (StepKind × Configuration) =
-      Some (if x then discarded (configuration_of p) (rest_of p.tokens p.content) else detected
+      Some (if x then discard_step (configuration_of p) (rest_of p.tokens p.content) else
+      detect_step
       (configuration_of p)) in found) h
 
   detects : p.content.mode ≡ Running
@@ -298,17 +304,18 @@ module _ (p : Place) (s : Sound p.tables) (f : FactsOf p) where
       record {
         follows = errs m e true h ∙ ap
             (λ (l : List (ℕ × ℕ)). let found : Option (StepKind × Configuration) =
-            Some (discarded (configuration_of p) l) in found) (left p.tokens p.content.rest inside);
+            Some (discard_step (configuration_of p) l) in found)
+            (left p.tokens p.content.rest inside);
         facts = advance p.tables p.tokens c.stack c.nodes c.children c.rest c.errors (c.steps + 1)
             (stay p.tables p.tokens c.stack c.nodes c.children c.rest c.errors c.steps f c.errors
-            (omega arith)) (taken c.rest) (fits_taken p.tokens c.rest f.read inside);
+            (omega arith)) (without_first c.rest) (fits_taken p.tokens c.rest f.read inside);
         back = returned (kinds.Discard (ahead p.tokens c.rest))
             (same_content _ c refl refl refl (taken_back p.tokens c.rest) refl refl refl
             (one_less c.steps));
       }
 
   fails : next (machine_over p.tables) (configuration_of p)
-      ≡ Some (machine.failed (configuration_of p)) → Moves p kinds.Fail
+      ≡ Some (machine.fail_step (configuration_of p)) → Moves p kinds.Fail
   fails e =
       let c = p.content in
       record {
@@ -344,27 +351,27 @@ module _ (p : Place) (s : Sound p.tables) (f : FactsOf p) where
   -- the shown stack, the top first
   shown_top : 0 < length p.content.stack
       → reverse (configuration_of p).stack
-      ≡ shown_entry (trees_over p.content.children p.content.nodes) (top_of p.content.stack)
-      ∷ reverse (map (shown_entry (trees_over p.content.children p.content.nodes))
+      ≡ entry_view (trees_over p.content.children p.content.nodes) (top_of p.content.stack)
+      ∷ reverse (map (entry_view (trees_over p.content.children p.content.nodes))
       (without_last 1 p.content.stack))
   shown_top h =
       let c = p.content in
-      let show = shown_entry (trees_over c.children c.nodes) in
+      let show = entry_view (trees_over c.children c.nodes) in
       ap (λ (l : List StackEntry). reverse (map show l)) (sym (top_back c.stack (entry 0 0 0) h))
       ∙ (ap reverse (map-append show (without_last 1 c.stack) (top_of c.stack ∷ []))
       ∙ reverse-append (map show (without_last 1 c.stack)) (show (top_of c.stack) ∷ []))
 
   drops : 0 < length p.content.stack
       → next (machine_over p.tables) (configuration_of p)
-      ≡ Some (popped (configuration_of p) (reverse (configuration_of p).stack))
+      ≡ Some (pop_step (configuration_of p) (reverse (configuration_of p).stack))
       → Moves p (kinds.Pop (top_of p.content.stack).symbol)
   drops h e =
       let c = p.content in
-      let show = shown_entry (trees_over c.children c.nodes) in
+      let show = entry_view (trees_over c.children c.nodes) in
       record {
         follows = e
             ∙ ap (λ (l : List Entry). let found : Option (StepKind × Configuration) =
-            Some (popped (configuration_of p) l) in found) (shown_top h)
+            Some (pop_step (configuration_of p) l) in found) (shown_top h)
             ∙ ap (λ (d : Configuration). let found : Option (StepKind × Configuration) =
             Some (kinds.Pop (top_of c.stack).symbol, d) in found)
             (same _ _ (reverse-reverse (map show (without_last 1 c.stack))) refl refl refl refl);
@@ -376,15 +383,15 @@ module _ (p : Place) (s : Sound p.tables) (f : FactsOf p) where
 
   -- a pop, or where the stack is empty the end
   pops_or_fails : next (machine_over p.tables) (configuration_of p)
-      ≡ Some (popped (configuration_of p) (reverse (configuration_of p).stack)) → (b : Bool)
+      ≡ Some (pop_step (configuration_of p) (reverse (configuration_of p).stack)) → (b : Bool)
       → (length p.content.stack == 0) ≡ b
       → Moves p (if b then kinds.Fail else kinds.Pop (top_of p.content.stack).symbol)
   pops_or_fails e true h =
       let c = p.content in
       let n : c.stack ≡ [] = empty c.stack (eqb-true (length c.stack) 0 h) in
       fails (e ∙ ap (λ (l : List StackEntry). let found : Option (StepKind × Configuration) =
-      Some (popped (configuration_of p)
-      (reverse (map (shown_entry (trees_over c.children c.nodes)) l))) in found) n)
+      Some (pop_step (configuration_of p)
+      (reverse (map (entry_view (trees_over c.children c.nodes)) l))) in found) n)
     where
       empty : (l : List StackEntry) → length l ≡ 0 → l ≡ []
       empty [] i = refl
@@ -403,7 +410,7 @@ module _ (p : Place) (s : Sound p.tables) (f : FactsOf p) where
   discards_or_fails m e h false i =
       fails (errs m e true h
       ∙ ap (λ (l : List (ℕ × ℕ)). let found : Option (StepKind × Configuration) =
-      Some (discarded (configuration_of p) l) in found)
+      Some (discard_step (configuration_of p) l) in found)
       (none_left p.tokens p.content.rest i))
 
   erring : p.content.mode ≡ Running
@@ -527,7 +534,7 @@ module _ (p : Place) (s : Sound p.tables) (f : FactsOf p) where
             Some (kinds.Insert token, record shown { rest = l }) in
             found) (sym (inserted_first p.tokens token c.rest));
         facts = advance p.tables p.tokens c.stack c.nodes c.children c.rest c.errors (c.steps + 1)
-            still (inserted_in token c.rest) (fits_inserted p.tokens token c.rest f.read);
+            still (with_insertion token c.rest) (fits_inserted p.tokens token c.rest f.read);
         back = returned (kinds.Insert token)
             (same_content _ c refl refl refl (inserted_back token c.rest) refl refl refl
             (one_less c.steps));
@@ -543,7 +550,7 @@ module _ (p : Place) (s : Sound p.tables) (f : FactsOf p) where
             ∙ ap (edited_rest (machine_over p.tables) edits.Drop (configuration_of p))
             (left p.tokens c.rest h);
         facts = advance p.tables p.tokens c.stack c.nodes c.children c.rest c.errors (c.steps + 1)
-            still (taken c.rest) (fits_taken p.tokens c.rest f.read h);
+            still (without_first c.rest) (fits_taken p.tokens c.rest f.read h);
         back = returned (kinds.Drop (ahead p.tokens c.rest))
             (same_content _ c refl refl refl (taken_back p.tokens c.rest) refl refl refl
             (one_less c.steps));

@@ -11,7 +11,7 @@ use Rattle.yparse.specs.declared.parts.Node.TheVariants as nodes
 use Rattle.yparse.specs.Tree.{Tree, error_leaf, node, trees_of, list_of, children_of}
 use Rattle.yparse.specs.Machine.{Entry}
 use Rattle.yparse.specs.Content.{all_below, node_fits, nodes_fit, tree_over, trees_from, trees_over}
-use Rattle.yparse.specs.Content.{node_tree, shown_entry}
+use Rattle.yparse.specs.Content.{node_tree, entry_view}
 use Rattle.yparse.proofs.Ends.{join, first, second}
 
 pub below_weaker : (n m : ℕ) (es : List StackEntry) → n ≤ m → all_below n es ≡ true
@@ -144,14 +144,14 @@ trees-more children more ns h = trees_from-more children more 0 [] ns h
 -- entries whose nodes are there show the same with more trees
 pub shown-more : (trees more : List Tree) (es : List StackEntry)
     → all_below (length trees) es ≡ true
-    → map (shown_entry (trees ++ more)) es ≡ map (shown_entry trees) es
+    → map (entry_view (trees ++ more)) es ≡ map (entry_view trees) es
 shown-more trees more [] h = refl
 shown-more trees more (e ∷ es) h =
     let l = ltb-true e.node (length trees) (first _ _ h) in
     ap (λ (t : Tree). let shown : Entry = record { symbol = e.symbol; tree = t } in
-    shown ∷ map (shown_entry (trees ++ more)) es)
+    shown ∷ map (entry_view (trees ++ more)) es)
     (get_or_append_left trees more error_leaf e.node l)
-    ∙ ap (λ (rest : List Entry). shown_entry trees e ∷ rest)
+    ∙ ap (λ (rest : List Entry). entry_view trees e ∷ rest)
     (shown-more trees more es (second _ _ h))
 
 pub got-more : (trees more : List Tree) (es : List StackEntry) → all_below (length trees) es ≡ true

@@ -10,6 +10,7 @@ use Rattle.ytables.specs.declared.cell.Action.{Action}
 use Rattle.ytables.specs.Cell.{cell_of, common, is_filled, by_default}
 use Rattle.ytables.specs.Tables.{has_before, ready_in, shift_by, class_in, cell_by, row_by}
 use Rattle.ytables.specs.Tables.{default_by, tokens_of}
+use Rattle.yparse.specs.Session.{Setting}
 use Rattle.yparse.specs.Machine.{Machine}
 use Rattle.yparse.specs.MachineOver.{move_of}
 use Rattle.yparse.specs.Headline.{IsStateOf, IsDead, move_by, IsMachineOf}
@@ -76,3 +77,7 @@ one_machine v m n f h stack t = by (f.state stack) (side t v.bare.tokens)
         let same : (i : Item) (c : ℕ) → IsToken v.bare c → a.0 i c ≡ b.0 i c =
         λ i c z. same_bool (a.0 i c) (b.0 i c) _ (a.1 i c z) (b.1 i c z) in
         a.2 ∙ (moves v k.0 a.0 b.0 same t l ∙ sym b.2)
+
+-- what keeps its setting keeps its machine
+pub same_machine : {s t : Setting} → s ≡ t → s.machine ≡ t.machine
+same_machine e = ap (λ (s : Setting). s.machine) e

@@ -12,9 +12,10 @@ use Rattle.yparse.specs.declared.tokens.Tokens.{Tokens}
 use Rattle.yparse.specs.declared.tokens.TokenFault.{TokenFault}
 use Rattle.yparse.specs.declared.tokens.TokenFault.TheVariants as faults
 use Rattle.std.specs.List.{All}
-use Rattle.yparse.specs.TokensFile.{is_blank, is_word_byte, all_pass, begins, WordAt, literal, run}
+use Rattle.ygrammar.specs.Bytes.{is_blank, all_pass, begins}
+use Rattle.yparse.specs.TokensFile.{is_word_byte, WordAt, literal, run}
 use Rattle.yparse.specs.TokensFile.{Front, nothing, word, broken, FrontAt, FrontIs, Says, token}
-use Rattle.yparse.specs.TokensFile.{answer, named, says, with_token, Comes, Reads, Outcome}
+use Rattle.yparse.specs.TokensFile.{answer, by_name, says, with_token, Comes, Reads, Outcome}
 use Rattle.yparse.specs.Tables.{symbol_named, is_input, token_count}
 use Rattle.yparse.specs.Reading.{TokensOf, Gives, Agrees}
 
@@ -147,7 +148,7 @@ module _ (find : List ℕ → Option ℕ) (tokens : ℕ) where
       omega arith in rw t (rw e refl)
 
   pub says_named : (n : ℕ) (name rest : List ℕ) → n < 1000000
-      → says find tokens n (word name rest) ≡ named tokens (n + 1) (find name) rest
+      → says find tokens n (word name rest) ≡ by_name tokens (n + 1) (find name) rest
   says_named n name rest h = let t : nat_lt n 1000000 ≡ true = lt-ltb n 1000000 h in
       let e : n + 1 ≡ suc n = omega arith in rw t (rw e refl)
 
@@ -203,7 +204,7 @@ input_token tokens place x s after rest true h e = let same : s ≡ x = cc in
 input_token tokens place x s after rest false h e = cc
 
 pub named_token : (tokens place x : ℕ) (found : Option ℕ) (after rest : List ℕ)
-    → named tokens place found after ≡ token x rest → (is_input tokens x ≡ true) × (rest ≡ after)
+    → by_name tokens place found after ≡ token x rest → (is_input tokens x ≡ true) × (rest ≡ after)
 named_token tokens place x None after rest e = cc
 named_token tokens place x (Some s) after rest e =
     input_token tokens place x s after rest (is_input tokens s) refl e
@@ -217,7 +218,7 @@ module _ (find : List ℕ → Option ℕ) (tokens : ℕ) where
 
   word_token : (n x : ℕ) (bytes rest name after : List ℕ) → FrontIs bytes (word name after)
       → (b : Bool) → nat_lt n 1000000 ≡ b
-      → (if b then named tokens (suc n) (find name) after else answer (Err faults.TooMany))
+      → (if b then by_name tokens (suc n) (find name) after else answer (Err faults.TooMany))
       ≡ token x rest → Token tokens n x bytes rest
   word_token n x bytes rest name after a true h e =
       let (input, same) = named_token tokens (suc n) x (find name) after rest e in

@@ -11,11 +11,13 @@ use Rattle.yparse.specs.MachineOver.{machine_over}
 use Rattle.yparse.specs.Sound.{Sound}
 use Rattle.ytables.specs.Tables.{TablesValue as Tables}
 use Rattle.yparse.specs.declared.machine.StepKind.TheVariants as kinds
-use Rattle.yparse.specs.Content.{Content, Place, kind_in, made, made_of, unmade, change_at}
+use Rattle.yparse.specs.Content.{Content, Place, kind_in, place_after, content_after}
+use Rattle.yparse.specs.Content.{content_before, change_at}
 use Rattle.yparse.specs.Content.{place_before, place_fits, place_next, place_edited, edit_kind}
 use Rattle.yparse.specs.Content.{configuration_of, valid}
+use Rattle.yparse.specs.Ahead.{LeadsOn}
 use Rattle.yparse.specs.declared.parts.PlaceChange.{PlaceChange}
-use Rattle.yparse.specs.Rest.{Rest, taken, given_back}
+use Rattle.yparse.specs.Rest.{Rest, without_first, with_first_back}
 use Rattle.yparse.specs.Machine.{without_last}
 use Rattle.yparse.proofs.Facts.{facts, is_valid}
 use Rattle.yparse.proofs.Moves.{Leads, moves, halts, changes, unchanged, unmoving}
@@ -23,31 +25,25 @@ use Rattle.yparse.proofs.Moves.{Leads, moves, halts, changes, unchanged, unmovin
 abbrev pub KindIs : Place → Option StepKind → Type 0
 KindIs p kind = kind_in p.tables p.tokens p.content p.content.mode ≡ kind
 
-abbrev onward : Place → Option (StepKind × Configuration) → Option (StepKind × Place)
-onward p found = option_map (λ (step : StepKind × Configuration). let taken : StepKind × Place =
-    (step.0, made step.0 p) in taken) found
+-- what the machine leads to, as a content
+abbrev pub onward : Place → Option (StepKind × Configuration) → Option (StepKind × Place)
+onward p found = option_map (λ (step : StepKind × Configuration). let pair : StepKind × Place =
+    (step.0, place_after step.0 p) in pair) found
 
 pub halted : (p : Place) → Sound p.tables → IsTrue (valid p) → KindIs p None → place_next p ≡ None
 halted p s v e = ap (onward p) (halts p s (facts p v) e)
 
--- What a step or an edit of a kind is to a content, as a machine's law says it.
-pub record Reached (p : Place) (found : Option (StepKind × Place)) (kind : StepKind) : Type 0 where
-  pub next : found ≡ Some (kind, made kind p)
-  pub back : place_before (change_at kind p.content) (made kind p) ≡ p
-  pub fits : IsTrue (place_fits (change_at kind p.content) (made kind p))
-  pub valid : IsTrue (valid (made kind p))
-
 reached : (p : Place) (found : Option (StepKind × Configuration)) (kind : StepKind)
-    → IsTrue (valid p) → Leads p found kind → Reached p (onward p found) kind
+    → IsTrue (valid p) → Leads p found kind → LeadsOn p (onward p found) kind
 reached p found kind v m = record {
   next = ap (onward p) m.follows;
   back = m.back;
   fits = subst (λ (q : Place). IsTrue (valid q)) (sym m.back) v;
-  valid = is_valid (made kind p) m.facts;
+  valid = is_valid (place_after kind p) m.facts;
 }
 
 pub advanced : (p : Place) (kind : StepKind) → Sound p.tables → IsTrue (valid p)
-    → KindIs p (Some kind) → Reached p (place_next p) kind
+    → KindIs p (Some kind) → LeadsOn p (place_next p) kind
 advanced p kind s v e =
     reached p (next (machine_over p.tables) (configuration_of p)) kind v
     (moves p s (facts p v) kind e)
@@ -55,7 +51,7 @@ advanced p kind s v e =
 -- the same of an edit, which has a kind where a step follows
 pub changed : (p : Place) (edit : Edit) (kind found : StepKind) → Sound p.tables → IsTrue (valid p)
     → KindIs p (Some kind) → edit_kind p.tables p.tokens p.content edit ≡ Some found
-    → Reached p (place_edited edit p) found
+    → LeadsOn p (place_edited edit p) found
 changed p edit kind found s v e h =
     reached p (edited (machine_over p.tables) edit (configuration_of p)) found v
     (changes p s (facts p v) kind e edit found h)
@@ -68,21 +64,22 @@ refused p edit kind s v e h = ap (onward p) (unchanged p s (facts p v) kind e ed
 -- two accounts of one step
 same_step : (p : Place) (kind j : StepKind) (after : Configuration)
     (found : Option (StepKind × Configuration)) → found ≡ Some (kind, after)
-    → found ≡ Some (j, configuration_of (made j p)) → after ≡ configuration_of (made kind p)
+    → found ≡ Some (j, configuration_of (place_after j p)) → after ≡ configuration_of
+    (place_after kind p)
 same_step p kind j after found e f =
-    let x : (kind, after) ≡ (j, configuration_of (made j p)) =
+    let x : (kind, after) ≡ (j, configuration_of (place_after j p)) =
     ap (λ (o : Option (StepKind × Configuration)). unwrap_or o (kind, after)) (sym e ∙ f) in
     ap (λ (step : StepKind × Configuration). step.1) x
-    ∙ ap (λ (k : StepKind). configuration_of (made k p))
+    ∙ ap (λ (k : StepKind). configuration_of (place_after k p))
     (sym (ap (λ (step : StepKind × Configuration). step.0) x))
 
 -- a step of a content shows the machine's step
 pub step_reaches : (p : Place) (kind : StepKind) (after : Configuration) → Sound p.tables
     → IsTrue (valid p) → next (machine_over p.tables) (configuration_of p) ≡ Some (kind, after)
-    → after ≡ configuration_of (made kind p)
+    → after ≡ configuration_of (place_after kind p)
 step_reaches p kind after s v e = by (kind_in p.tables p.tokens p.content p.content.mode) refl
   where
-    by : (k : Option StepKind) → KindIs p k → after ≡ configuration_of (made kind p)
+    by : (k : Option StepKind) → KindIs p k → after ≡ configuration_of (place_after kind p)
     by None h = let bad : false ≡ true =
         sym (ap is_some (halts p s (facts p v) h)) ∙ ap is_some e in cc
     by (Some j) h = same_step p kind j after _ e (moves p s (facts p v) j h).follows
@@ -91,23 +88,25 @@ step_reaches p kind after s v e = by (kind_in p.tables p.tokens p.content p.cont
 pub edit_reaches : (p : Place) (edit : Edit) (kind : StepKind) (after : Configuration)
     → Sound p.tables → IsTrue (valid p)
     → edited (machine_over p.tables) edit (configuration_of p) ≡ Some (kind, after)
-    → after ≡ configuration_of (made kind p)
+    → after ≡ configuration_of (place_after kind p)
 edit_reaches p edit kind after s v e = by (kind_in p.tables p.tokens p.content p.content.mode) refl
   where
     found : (j : StepKind) → KindIs p (Some j) → (k : Option StepKind)
-        → edit_kind p.tables p.tokens p.content edit ≡ k → after ≡ configuration_of (made kind p)
+        → edit_kind p.tables p.tokens p.content edit ≡ k → after ≡ configuration_of
+        (place_after kind p)
     found j h None i = let bad : false ≡ true =
         sym (ap is_some (unchanged p s (facts p v) j h edit i)) ∙ ap is_some e in cc
     found j h (Some k) i =
         same_step p kind k after _ e (changes p s (facts p v) j h edit k i).follows
 
-    by : (k : Option StepKind) → KindIs p k → after ≡ configuration_of (made kind p)
+    by : (k : Option StepKind) → KindIs p k → after ≡ configuration_of (place_after kind p)
     by None h = let bad : false ≡ true =
         sym (ap is_some (unmoving p s (facts p v) edit h)) ∙ ap is_some e in cc
     by (Some j) h = found j h (edit_kind p.tables p.tokens p.content edit) refl
 
 -- no step changes the count of steps but by one
-pub steps-made : (t : Tables) (kind : StepKind) (c : Content) → (made_of t kind c).steps ≡ c.steps
+pub steps-made : (t : Tables) (kind : StepKind) (c : Content) →
+    (content_after t kind c).steps ≡ c.steps
 steps-made t (kinds.Shift token) c = refl
 steps-made t (kinds.Reduce rule) c = refl
 steps-made t kinds.Accept c = refl
@@ -121,7 +120,7 @@ steps-made t (kinds.Drop token) c = refl
 
 -- ---- how many insertions stand
 
-edits-taken : (r : Rest) → (taken r).edits ≡ r.edits
+edits-taken : (r : Rest) → (without_first r).edits ≡ r.edits
 edits-taken r = by (length r.inserted == 0)
   where
     by : (b : Bool)
@@ -131,7 +130,7 @@ edits-taken r = by (length r.inserted == 0)
     by true = refl
     by false = refl
 
-edits-given_back : (place token : ℕ) (r : Rest) → (given_back place token r).edits ≡ r.edits
+edits-given_back : (place token : ℕ) (r : Rest) → (with_first_back place token r).edits ≡ r.edits
 edits-given_back place token r = by (place == 0)
   where
     by : (b : Bool)
@@ -143,7 +142,7 @@ edits-given_back place token r = by (place == 0)
 
 -- a step leaves as many insertions, or one more
 pub edits-made : (t : Tables) (kind : StepKind) (c : Content)
-    → (made_of t kind c).rest.edits ≤ c.rest.edits + 1
+    → (content_after t kind c).rest.edits ≤ c.rest.edits + 1
 edits-made t (kinds.Shift token) c = omega (arith, edits-taken c.rest)
 edits-made t (kinds.Reduce rule) c = omega arith
 edits-made t kinds.Accept c = omega arith
@@ -157,7 +156,7 @@ edits-made t (kinds.Drop token) c = omega (arith, edits-taken c.rest)
 
 -- an undo leaves no more
 pub edits-unmade : (t : Tables) (change : PlaceChange) (kind : StepKind) (c : Content)
-    → (unmade t change kind c).rest.edits ≤ c.rest.edits
+    → (content_before t change kind c).rest.edits ≤ c.rest.edits
 edits-unmade t change (kinds.Shift token) c =
     omega (arith, edits-given_back change.place token c.rest)
 edits-unmade t change (kinds.Reduce rule) c = omega arith
@@ -171,22 +170,3 @@ edits-unmade t change kinds.Fail c = omega arith
 edits-unmade t change (kinds.Insert token) c = omega arith
 edits-unmade t change (kinds.Drop token) c =
     omega (arith, edits-given_back change.place token c.rest)
-
--- ---- the law
-
--- a change that was made of a kind
-pub lawful : (p q : Place) (found : Option (StepKind × Place)) (kind : StepKind)
-    (change : PlaceChange) → Reached p found kind → q ≡ made kind p
-    → change ≡ change_at kind p.content
-    → (found ≡ Some (change.kind, q)) × (place_before change q ≡ p) × IsTrue (place_fits change q)
-lawful p q found kind change a e f = (
-  a.next
-      ∙ ap (λ (x : PlaceChange). let step : Option (StepKind × Place) =
-      Some (x.kind, made kind p) in step) (sym f)
-      ∙ ap (λ (x : Place). let step : Option (StepKind × Place) = Some (change.kind, x) in
-      step) (sym e),
-  ap (λ (x : PlaceChange). place_before x q) f ∙ ap (place_before (change_at kind p.content)) e
-      ∙ a.back,
-  subst (λ (x : PlaceChange). IsTrue (place_fits x q)) (sym f)
-      (subst (λ (x : Place). IsTrue (place_fits (change_at kind p.content) x)) (sym e) a.fits),
-)

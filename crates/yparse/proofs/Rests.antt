@@ -9,8 +9,9 @@ use Rattle.std.proofs.lemmas.List.{get_or_append_left, get_or-append_right, get_
 use Rattle.std.proofs.lemmas.List.{get_or-reverse}
 use Rattle.yparse.specs.Machine.{lookahead, without_last}
 use Rattle.yparse.specs.History.{places_from}
-use Rattle.yparse.specs.Rest.{Rest, unplaced, rest_left, ahead, is_left, place_left, taken}
-use Rattle.yparse.specs.Rest.{given_back, inserted_in, uninserted}
+use Rattle.yparse.specs.Rest.{Rest, at_no_place, rest_left, ahead, is_left, place_left}
+use Rattle.yparse.specs.Rest.{without_first}
+use Rattle.yparse.specs.Rest.{with_first_back, with_insertion, without_insertion}
 use Rattle.yparse.specs.Content.{rest_fits}
 use Rattle.yparse.proofs.Ends.{join, first, second, top_back, without_last-append}
 use Rattle.yparse.proofs.Ends.{length-without_last}
@@ -131,7 +132,7 @@ left_first : (tokens inserted : List ℕ) (at edits : ℕ)
     ≡ (
       ahead tokens (held inserted at edits),
       place_left (held inserted at edits),
-    ) ∷ rest_left tokens (taken (held inserted at edits))
+    ) ∷ rest_left tokens (without_first (held inserted at edits))
 left_first tokens [] at edits h =
     let e : 1 + at ≡ at + 1 = omega arith in
     let k : suc at ≡ at + 1 = omega arith in
@@ -141,13 +142,13 @@ left_first tokens [] at edits h =
     ∙ ap (λ (n : ℕ). let pair : ℕ × ℕ = (get_or tokens at 0, at + 1) in
     pair ∷ drop n (places_from 1 tokens)) k
 left_first tokens (x ∷ xs) at edits h =
-    ap (λ (l : List ℕ). map unplaced l ++ drop at (places_from 1 tokens))
+    ap (λ (l : List ℕ). map at_no_place l ++ drop at (places_from 1 tokens))
     (newest (x ∷ xs) (omega arith))
     ∙ ap (λ (b : Bool). let pair : ℕ × ℕ = (ahead_by b tokens (x ∷ xs) at, place_by b at) in
     pair ∷ rest_left tokens (taken_by b (x ∷ xs) at edits)) (sym (some_inserted x xs))
 
 pub left : (tokens : List ℕ) (r : Rest) → is_left tokens r ≡ true
-    → rest_left tokens r ≡ (ahead tokens r, place_left r) ∷ rest_left tokens (taken r)
+    → rest_left tokens r ≡ (ahead tokens r, place_left r) ∷ rest_left tokens (without_first r)
 left tokens r h = left_first tokens r.inserted r.at r.edits h
 
 none_first : (tokens inserted : List ℕ) (at edits : ℕ)
@@ -182,24 +183,24 @@ pub left_by_ahead : (tokens : List ℕ) (r : Rest) → (ahead tokens r ≡ 0 →
 left_by_ahead tokens r h = left_here tokens r.inserted r.at r.edits h
 
 back_first : (tokens inserted : List ℕ) (at edits : ℕ)
-    → given_back (place_left (held inserted at edits)) (ahead tokens (held inserted at edits))
-    (taken (held inserted at edits)) ≡ held inserted at edits
+    → with_first_back (place_left (held inserted at edits)) (ahead tokens (held inserted at edits))
+    (without_first (held inserted at edits)) ≡ held inserted at edits
 back_first tokens [] at edits =
     ap (λ (b : Bool). if b then held (get_or tokens at 0 ∷ []) (at + 1) edits else held []
     ((at + 1) - 1) edits) (not_zero (at + 1) (omega arith))
     ∙ ap (λ (n : ℕ). held [] n edits) (one_less at)
 back_first tokens (x ∷ xs) at edits =
-    ap (λ (b : Bool). given_back (place_by b at) (ahead_by b tokens (x ∷ xs) at)
+    ap (λ (b : Bool). with_first_back (place_by b at) (ahead_by b tokens (x ∷ xs) at)
     (taken_by b (x ∷ xs) at edits)) (some_inserted x xs)
     ∙ ap (λ (l : List ℕ). held l at edits) (top_back (x ∷ xs) 0 (omega arith))
 
 -- a token that was taken and comes back
 pub taken_back : (tokens : List ℕ) (r : Rest)
-    → given_back (place_left r) (ahead tokens r) (taken r) ≡ r
+    → with_first_back (place_left r) (ahead tokens r) (without_first r) ≡ r
 taken_back tokens r = back_first tokens r.inserted r.at r.edits
 
 -- an insertion that is undone
-pub inserted_back : (token : ℕ) (r : Rest) → uninserted (inserted_in token r) ≡ r
+pub inserted_back : (token : ℕ) (r : Rest) → without_insertion (with_insertion token r) ≡ r
 inserted_back token r =
     ap (λ (l : List ℕ). held l r.at ((r.edits + 1) - 1))
     (without_last-append r.inserted (token ∷ []) 1 refl)
@@ -207,15 +208,15 @@ inserted_back token r =
 
 -- an inserted token comes first
 pub inserted_first : (tokens : List ℕ) (token : ℕ) (r : Rest)
-    → rest_left tokens (inserted_in token r) ≡ (token, 0) ∷ rest_left tokens r
+    → rest_left tokens (with_insertion token r) ≡ (token, 0) ∷ rest_left tokens r
 inserted_first tokens token r =
-    ap (λ (l : List ℕ). map unplaced l ++ drop r.at (places_from 1 tokens))
+    ap (λ (l : List ℕ). map at_no_place l ++ drop r.at (places_from 1 tokens))
     (reverse-append r.inserted (token ∷ []))
 
 fits_first : (tokens inserted : List ℕ) (at edits : ℕ)
     → rest_fits tokens (held inserted at edits) ≡ true
     → is_left tokens (held inserted at edits) ≡ true
-    → rest_fits tokens (taken (held inserted at edits)) ≡ true
+    → rest_fits tokens (without_first (held inserted at edits)) ≡ true
 fits_first tokens [] at edits f h =
     join (first _ _ f) (le-leb (at + 1) (length tokens) (let l = ltb-true at (length tokens) h in
     omega (arith, l)))
@@ -226,11 +227,11 @@ fits_first tokens (x ∷ xs) at edits f h =
     ∙ join (le-leb (length (without_last 1 (x ∷ xs))) edits (omega (arith, l, few))) (second _ _ f)
 
 pub fits_taken : (tokens : List ℕ) (r : Rest) → rest_fits tokens r ≡ true → is_left tokens r ≡ true
-    → rest_fits tokens (taken r) ≡ true
+    → rest_fits tokens (without_first r) ≡ true
 fits_taken tokens r f h = fits_first tokens r.inserted r.at r.edits f h
 
 pub fits_inserted : (tokens : List ℕ) (token : ℕ) (r : Rest) → rest_fits tokens r ≡ true
-    → rest_fits tokens (inserted_in token r) ≡ true
+    → rest_fits tokens (with_insertion token r) ≡ true
 fits_inserted tokens token r f =
     let few = leb-true (length r.inserted) r.edits (first _ _ f) in
     let l = length-append r.inserted (token ∷ []) in
@@ -242,8 +243,9 @@ fits_inserted tokens token r f =
 pub length-left : (tokens : List ℕ) (r : Rest)
     → length (rest_left tokens r) ≡ length r.inserted + (length tokens - r.at)
 length-left tokens r =
-    let a = length-append (map unplaced (reverse r.inserted)) (drop r.at (places_from 1 tokens)) in
-    let b = length-map (reverse r.inserted) unplaced in
+    let a = length-append (map at_no_place (reverse r.inserted))
+    (drop r.at (places_from 1 tokens)) in
+    let b = length-map (reverse r.inserted) at_no_place in
     let c = length-reverse r.inserted in
     let d = length-drop r.at (places_from 1 tokens) in
     let e = length-places_from 1 tokens in
@@ -253,14 +255,14 @@ length-left tokens r =
 pub left_inserted : (tokens : List ℕ) (r : Rest) (k : ℕ) → k < length r.inserted
     → get_or (rest_left tokens r) k (0, 0) ≡ (get_or r.inserted (length r.inserted - 1 - k) 0, 0)
 left_inserted tokens r k h =
-    let a = length-map (reverse r.inserted) unplaced in
+    let a = length-map (reverse r.inserted) at_no_place in
     let b = length-reverse r.inserted in
-    get_or_append_left (map unplaced (reverse r.inserted)) (drop r.at (places_from 1 tokens)) (
+    get_or_append_left (map at_no_place (reverse r.inserted)) (drop r.at (places_from 1 tokens)) (
       0,
       0,
     ) k (omega (arith, a, b, h))
-    ∙ get_or-map unplaced (reverse r.inserted) k 0 (0, 0) (omega (arith, b, h))
-    ∙ ap unplaced (get_or-reverse r.inserted k 0 h)
+    ∙ get_or-map at_no_place (reverse r.inserted) k 0 (0, 0) (omega (arith, b, h))
+    ∙ ap at_no_place (get_or-reverse r.inserted k 0 h)
 
 -- one that was read
 pub left_read : (tokens : List ℕ) (r : Rest) (k : ℕ) → length r.inserted ≤ k
@@ -269,13 +271,13 @@ pub left_read : (tokens : List ℕ) (r : Rest) (k : ℕ) → length r.inserted �
     × (get_or (rest_left tokens r) k (0, 0)
     ≡ (get_or tokens (r.at + (k - length r.inserted)) 0, r.at + (k - length r.inserted) + 1))
 left_read tokens r k h i =
-    let a = length-map (reverse r.inserted) unplaced in
+    let a = length-map (reverse r.inserted) at_no_place in
     let b = length-reverse r.inserted in
     let j = k - length r.inserted in
     let inside : r.at + j < length tokens = omega (arith, h, i, length-left tokens r) in
     let place : 1 + r.at + j ≡ r.at + j + 1 = omega arith in (
       inside,
-      get_or-append_right (map unplaced (reverse r.inserted)) (drop r.at (places_from 1 tokens))
+      get_or-append_right (map at_no_place (reverse r.inserted)) (drop r.at (places_from 1 tokens))
           (length r.inserted) k (0, 0) (omega (arith, a, b)) h
           ∙ get-places_from 1 r.at j tokens inside
           ∙ ap (λ (n : ℕ). let pair : ℕ × ℕ = (get_or tokens (r.at + j) 0, n) in pair) place,

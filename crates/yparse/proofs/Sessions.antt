@@ -12,53 +12,58 @@ use Rattle.yparse.specs.declared.machine.StepKind.{StepKind}
 use Rattle.yparse.specs.declared.machine.StepFault.{StepFault}
 use Rattle.yparse.specs.declared.machine.StepFault.TheVariants.{Halted, NoToken, Limit, Memory}
 use Rattle.yparse.specs.declared.machine.AtStart.{AtStart}
+use Rattle.yparse.specs.declared.machine.Deed.{Deed}
+use Rattle.yparse.specs.declared.machine.Deed.TheVariants as deeds
 use Rattle.yparse.specs.declared.machine.Edit.{Edit}
-use Rattle.yparse.specs.Machine.{Configuration, next, edited}
+use Rattle.yparse.specs.Machine.{Configuration, next, edited, deed_by}
 use Rattle.yparse.specs.MachineOver.{machine_over}
 use Rattle.yparse.specs.Past.{Past, LeadsTo, Comes, Changes}
 use Rattle.yparse.specs.History.{IsHistory, first_configuration}
 use Rattle.yparse.specs.Reversible.{StepsOn, StepsBack}
+use Rattle.yparse.specs.Session.{setting_at}
 use Rattle.yparse.specs.Sound.{Sound}
-use Rattle.yparse.specs.Content.{Place, made, place_next, place_edited, configuration_of, valid}
-use Rattle.yparse.specs.Shown.{KeepsGround, shown_step, shown_past}
-use Rattle.yparse.proofs.Places.{step_reaches, edit_reaches}
+use Rattle.yparse.specs.Content.{Place, place_after, place_next, place_edited, place_deed}
+use Rattle.yparse.specs.Content.{configuration_of, valid}
+use Rattle.yparse.specs.Shown.{KeepsGround, step_view, past_view}
+use Rattle.yparse.proofs.Places.{onward, step_reaches, edit_reaches}
 use Rattle.yparse.proofs.Shown.{length-map}
 
 -- the history that is shown begins with the first configuration, and goes by the machine of the
 -- tables
 abbrev pub IsShown : Past StepKind Place → Type 0
-IsShown h = IsHistory (machine_over h.now.tables) h.now.tokens (shown_past h)
-
-abbrev onward : Place → Option (StepKind × Configuration) → Option (StepKind × Place)
-onward p found = option_map (λ (step : StepKind × Configuration). let taken : StepKind × Place =
-    (step.0, made step.0 p) in taken) found
+IsShown h = IsHistory (machine_over h.now.tables) h.now.tokens (past_view h)
 
 -- What is made of the content of a parse, and what that is to the machine: its kind leads on to
 -- what the machine's own leads to.
-pub record Deed (p : Place) (what : Place
+pub record IsDeed (p : Place) (what : Place
     → Option (StepKind × Place)) (found : Option (StepKind × Configuration)) : Type 0 where
   pub is : what p ≡ onward p found
   pub reaches : (kind : StepKind) (after : Configuration) → found ≡ Some (kind, after)
-      → after ≡ configuration_of (made kind p)
+      → after ≡ configuration_of (place_after kind p)
   pub comes : (kind : StepKind) (after : Configuration) → found ≡ Some (kind, after)
       → Comes (next (machine_over p.tables)) (edited (machine_over p.tables)) (configuration_of p)
       kind after
 
-pub a_step : (p : Place) → Sound p.tables → IsTrue (valid p)
-    → Deed p place_next (next (machine_over p.tables) (configuration_of p))
+a_step : (p : Place) → Sound p.tables → IsTrue (valid p)
+    → IsDeed p place_next (next (machine_over p.tables) (configuration_of p))
 a_step p s v = record {
   is = refl;
   reaches = λ kind after e. step_reaches p kind after s v e;
   comes = λ kind after e. inl e;
 }
 
-pub an_edit : (p : Place) (edit : Edit) → Sound p.tables → IsTrue (valid p)
-    → Deed p (place_edited edit) (edited (machine_over p.tables) edit (configuration_of p))
+an_edit : (p : Place) (edit : Edit) → Sound p.tables → IsTrue (valid p)
+    → IsDeed p (place_edited edit) (edited (machine_over p.tables) edit (configuration_of p))
 an_edit p edit s v = record {
   is = refl;
   reaches = λ kind after e. edit_reaches p edit kind after s v e;
   comes = λ kind after e. inr (edit, e);
 }
+
+pub a_deed : (p : Place) (deed : Deed) → Sound p.tables → IsTrue (valid p)
+    → IsDeed p (place_deed deed) (deed_by (machine_over p.tables) deed (configuration_of p))
+a_deed p deeds.Step s v = a_step p s v
+a_deed p (deeds.Edit edit) s v = an_edit p edit s v
 
 -- what a deed leads to
 record Led (p q : Place) (found : Option (StepKind × Configuration)) (kind : StepKind) : Type 0
@@ -69,15 +74,15 @@ record Led (p q : Place) (found : Option (StepKind × Configuration)) (kind : St
 
 led : (p q : Place) (what : Place
     → Option (StepKind × Place)) (found : Option (StepKind × Configuration)) (kind : StepKind)
-    → Deed p what found → what p ≡ Some (kind, q) → Led p q found kind
+    → IsDeed p what found → what p ≡ Some (kind, q) → Led p q found kind
 led p q what found kind d e = by found refl (sym d.is ∙ e)
   where
     by : (o : Option (StepKind × Configuration)) → found ≡ o → onward p o ≡ Some (kind, q)
         → Led p q found kind
     by None f h = let bad : false ≡ true = ap is_some h in cc
     by (Some s) f h =
-        let y : (s.0, made s.0 p) ≡ (kind, q) =
-        ap (λ (o : Option (StepKind × Place)). unwrap_or o (s.0, made s.0 p)) h in
+        let y : (s.0, place_after s.0 p) ≡ (kind, q) =
+        ap (λ (o : Option (StepKind × Place)). unwrap_or o (s.0, place_after s.0 p)) h in
         let after = d.reaches s.0 s.1 f in
         record {
           shown = f
@@ -118,21 +123,21 @@ Shows t tokens now earlier =
     (configuration_of now) earlier
 
 module _ (what : Place → Option (StepKind × Place)) (found : Option (StepKind × Configuration))
-    (h new : Past StepKind Place) (d : Deed h.now what found) where
+    (h new : Past StepKind Place) (d : IsDeed h.now what found) where
   -- from one configuration to the next, over tables and tokens that stay
   longer : (kind : StepKind) → what h.now ≡ Some (kind, new.now)
       → new.earlier ≡ (kind, h.now) ∷ h.earlier → IsShown h → IsShown new
   longer kind f e i =
       let g = led h.now new.now what found kind d f in
-      let on : Shows h.now.tables h.now.tokens new.now (map shown_step ((kind, h.now) ∷ h.earlier))
+      let on : Shows h.now.tables h.now.tokens new.now (map step_view ((kind, h.now) ∷ h.earlier))
       = (d.comes kind (configuration_of new.now) g.shown, i) in
-      let past : Shows h.now.tables h.now.tokens new.now (map shown_step new.earlier) =
+      let past : Shows h.now.tables h.now.tokens new.now (map step_view new.earlier) =
       subst (λ (l : List (StepKind × Place)). Shows h.now.tables h.now.tokens new.now
-      (map shown_step l)) (sym e) on in
-      let tables : Shows new.now.tables h.now.tokens new.now (map shown_step new.earlier) =
-      subst (λ (t : Tables). Shows t h.now.tokens new.now (map shown_step new.earlier))
+      (map step_view l)) (sym e) on in
+      let tables : Shows new.now.tables h.now.tokens new.now (map step_view new.earlier) =
+      subst (λ (t : Tables). Shows t h.now.tokens new.now (map step_view new.earlier))
       (sym g.tables) past in
-      subst (λ (l : List ℕ). Shows new.now.tables l new.now (map shown_step new.earlier))
+      subst (λ (l : List ℕ). Shows new.now.tables l new.now (map step_view new.earlier))
       (sym g.tokens) tables
 
   -- whatever is answered, the history is one
@@ -161,22 +166,22 @@ module _ (what : Place → Option (StepKind × Place)) (found : Option (StepKind
       → StepsOn place_next what h (Ok tt) new
       → option_map (λ (step : StepKind × Place). step.0) (slice_get new.earlier 0) ≡ Some kind
       → (after : Past StepKind Place) → after ≡ new
-      → Changes (next (machine_over h.now.tables)) shown (shown_past h) (Ok kind)
-      (shown_past after)
+      → Changes (next (machine_over h.now.tables)) shown (past_view h) (Ok kind)
+      (past_view after)
   deed_shown shown f kind steps e after a =
       let same = newest steps.0 kind h.now h.earlier new.earlier steps.1.1.1 e in
       let g = led h.now new.now what found steps.0 d steps.1.1.0 in
-      let past : map shown_step new.earlier
-      ≡ (steps.0, configuration_of h.now) ∷ map shown_step h.earlier =
-      ap (map shown_step) steps.1.1.1 in
+      let past : map step_view new.earlier
+      ≡ (steps.0, configuration_of h.now) ∷ map step_view h.earlier =
+      ap (map step_view) steps.1.1.1 in
       subst (λ (x : Past StepKind Place). Changes (next (machine_over h.now.tables)) shown
-      (shown_past h) (Ok kind) (shown_past x)) (sym a) (
-        subst (λ (n : ℕ). n < 1000000) (sym (length-map shown_step h.earlier)) steps.1.0,
+      (past_view h) (Ok kind) (past_view x)) (sym a) (
+        subst (λ (n : ℕ). n < 1000000) (sym (length-map step_view h.earlier)) steps.1.0,
         (
           f ∙ g.shown ∙ ap (λ (k : StepKind). let step : Option (StepKind × Configuration) =
               Some (k, configuration_of new.now) in step) same,
           past ∙ ap (λ (k : StepKind). let step : StepKind × Configuration =
-              (k, configuration_of h.now) in step ∷ map shown_step h.earlier) same,
+              (k, configuration_of h.now) in step ∷ map step_view h.earlier) same,
         ),
       )
 
@@ -184,31 +189,31 @@ module _ (what : Place → Option (StepKind × Place)) (found : Option (StepKind
   pub refusal_shown : (shown : Configuration → Option (StepKind × Configuration))
       → shown (configuration_of h.now) ≡ found → (fault : StepFault)
       → StepsOn place_next what h (Err fault) new
-      → Changes (next (machine_over h.now.tables)) shown (shown_past h) (Err fault) (shown_past new)
+      → Changes (next (machine_over h.now.tables)) shown (past_view h) (Err fault) (past_view new)
   refusal_shown shown f Halted steps = (
     none_on h.now (next (machine_over h.now.tables) (configuration_of h.now)) steps.0,
-    ap shown_past steps.1,
+    ap past_view steps.1,
   )
   refusal_shown shown f NoToken steps = (
     (
       some_on h.now (next (machine_over h.now.tables) (configuration_of h.now)) steps.0.0,
       f ∙ none_on h.now found (sym d.is ∙ steps.0.1),
     ),
-    ap shown_past steps.1,
+    ap past_view steps.1,
   )
   refusal_shown shown f Limit steps = (
     (
       subst IsSome (sym f) (some_on h.now found (subst IsSome d.is steps.0.0)),
-      subst (λ (n : ℕ). 1000000 ≤ n) (sym (length-map shown_step h.earlier)) steps.0.1,
+      subst (λ (n : ℕ). 1000000 ≤ n) (sym (length-map step_view h.earlier)) steps.0.1,
     ),
-    ap shown_past steps.1,
+    ap past_view steps.1,
   )
   refusal_shown shown f Memory steps = (
     (
       subst IsSome (sym f) (some_on h.now found (subst IsSome d.is steps.0.0)),
-      subst (λ (n : ℕ). n < 1000000) (sym (length-map shown_step h.earlier)) steps.0.1,
+      subst (λ (n : ℕ). n < 1000000) (sym (length-map step_view h.earlier)) steps.0.1,
     ),
-    ap shown_past steps.1,
+    ap past_view steps.1,
   )
 
   -- what was made and taken back has changed nothing
@@ -246,15 +251,15 @@ module _ (what : Place → Option (StepKind × Place)) (found : Option (StepKind
   pub wanting : (shown : Configuration → Option (StepKind × Configuration))
       → shown (configuration_of h.now) ≡ found → (after : Past StepKind Place)
       → StepsOn place_next what h (Ok tt) new → StepsBack {E = AtStart} new (Ok tt) after
-      → Changes (next (machine_over h.now.tables)) shown (shown_past h) (Err Memory)
-      (shown_past after)
+      → Changes (next (machine_over h.now.tables)) shown (past_view h) (Err Memory)
+      (past_view after)
   wanting shown f after steps back =
       let g = led h.now new.now what found steps.0 d steps.1.1.0 in (
         (
           subst IsSome (sym f) (ap is_some g.shown),
-          subst (λ (n : ℕ). n < 1000000) (sym (length-map shown_step h.earlier)) steps.1.0,
+          subst (λ (n : ℕ). n < 1000000) (sym (length-map step_view h.earlier)) steps.1.0,
         ),
-        ap shown_past (undone_deed after steps back),
+        ap past_view (undone_deed after steps back),
       )
 
 -- what an undo gives back
@@ -283,16 +288,23 @@ shorter (Ok done) h new back g i =
     ∥∥₁_map i (λ (shown : IsShown h).
     let led = (subst (λ (l : List (StepKind × Place)). LeadsTo (next (machine_over h.now.tables))
     (edited (machine_over h.now.tables)) (first_configuration h.now.tokens)
-    (configuration_of h.now) (map shown_step l)) back.1 shown).1 in
+    (configuration_of h.now) (map step_view l)) back.1 shown).1 in
     let tables : LeadsTo (next (machine_over new.now.tables)) (edited (machine_over new.now.tables))
-    (first_configuration h.now.tokens) (configuration_of new.now) (map shown_step new.earlier) =
+    (first_configuration h.now.tokens) (configuration_of new.now) (map step_view new.earlier) =
     subst (λ (t : Tables). LeadsTo (next (machine_over t)) (edited (machine_over t))
-    (first_configuration h.now.tokens) (configuration_of new.now) (map shown_step new.earlier))
+    (first_configuration h.now.tokens) (configuration_of new.now) (map step_view new.earlier))
     (sym s.0) led in
     subst (λ (l : List ℕ). LeadsTo (next (machine_over new.now.tables))
     (edited (machine_over new.now.tables)) (first_configuration l) (configuration_of new.now)
-    (map shown_step new.earlier)) (sym s.1) tables)
+    (map step_view new.earlier)) (sym s.1) tables)
 shorter (Err e) h new back g i = subst (λ (x : Past StepKind Place). ∥ IsShown x ∥₁) (sym back.1) i
+
+-- contents on one ground have one setting
+pub setting_same : (p q : Place) → p.tables ≡ q.tables → p.tokens ≡ q.tokens
+    → setting_at p ≡ setting_at q
+setting_same p q e f =
+    ap (λ (t : Tables). setting_at (record p { tables = t })) e
+    ∙ ap (λ (l : List ℕ). setting_at (record q { tokens = l })) f
 
 -- whatever an undo answers, there is room
 pub shorter_room : {E : Type 0} (r : Result (Unit {0}) E) (h new : Past StepKind Place)
@@ -307,6 +319,6 @@ shorter_room (Err e) h new back later r =
 -- no newest step, no step
 pub no_step : (earlier : List (StepKind × Place))
     → option_map (λ (step : StepKind × Place). step.0) (slice_get earlier 0) ≡ None
-    → map shown_step earlier ≡ []
+    → map step_view earlier ≡ []
 no_step [] e = refl
 no_step (step ∷ earlier) e = let bad : true ≡ false = ap is_some e in cc

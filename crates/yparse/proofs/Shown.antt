@@ -8,7 +8,7 @@ use Rattle.yparse.specs.declared.parts.Node.{Node}
 use Rattle.yparse.specs.declared.parts.Node.TheVariants as nodes
 use Rattle.yparse.specs.Tree.{Tree, error_leaf, node, trees_of}
 use Rattle.yparse.specs.Machine.{Entry, entry_of, symbols, without_last, last_ones}
-use Rattle.yparse.specs.Content.{entry, all_below, nodes_fit, tree_over, trees_over, shown_entry}
+use Rattle.yparse.specs.Content.{entry, all_below, nodes_fit, tree_over, trees_over, entry_view}
 use Rattle.yparse.proofs.Ends.{length-last_ones}
 use Rattle.yparse.proofs.Nodes.{below_take, trees-push, trees-more, length-trees, shown-more}
 
@@ -20,12 +20,12 @@ abbrev pub symbol_of : StackEntry → ℕ
 symbol_of e = e.symbol
 
 pub shown-symbols : (trees : List Tree) (es : List StackEntry)
-    → symbols (map (shown_entry trees) es) ≡ map symbol_of es
+    → symbols (map (entry_view trees) es) ≡ map symbol_of es
 shown-symbols trees [] = refl
 shown-symbols trees (e ∷ es) = ap (λ (l : List ℕ). e.symbol ∷ l) (shown-symbols trees es)
 
 pub shown-trees : (trees : List Tree) (es : List StackEntry)
-    → map (λ (e : Entry). e.tree) (map (shown_entry trees) es)
+    → map (λ (e : Entry). e.tree) (map (entry_view trees) es)
     ≡ map (λ (e : StackEntry). get_or trees e.node error_leaf) es
 shown-trees trees [] = refl
 shown-trees trees (e ∷ es) =
@@ -37,8 +37,8 @@ module _ (children : List StackEntry) (ns : List Node) where
 
   -- the same entries, with a tree more
   kept_more : (t : Tree) (es : List StackEntry) → all_below (length ns) es ≡ true
-      → map (shown_entry (trees_over children ns ++ t ∷ [])) es
-      ≡ map (shown_entry (trees_over children ns)) es
+      → map (entry_view (trees_over children ns ++ t ∷ [])) es
+      ≡ map (entry_view (trees_over children ns)) es
   kept_more t es h =
       shown-more (trees_over children ns) (t ∷ []) es
       (subst (λ n. all_below n es ≡ true) (sym (length-trees children ns)) h)
@@ -50,37 +50,37 @@ module _ (children : List StackEntry) (ns : List Node) where
 
   -- entries, and one with the newest node
   with_new : (t : Tree) (es : List StackEntry) (state symbol : ℕ) → all_below (length ns) es ≡ true
-      → map (shown_entry (trees_over children ns ++ t ∷ []))
+      → map (entry_view (trees_over children ns ++ t ∷ []))
       (es ++ entry state symbol (length ns) ∷ [])
-      ≡ map (shown_entry (trees_over children ns)) es ++ entry_of symbol t ∷ []
+      ≡ map (entry_view (trees_over children ns)) es ++ entry_of symbol t ∷ []
   with_new t es state symbol h =
-      map-append (shown_entry (trees_over children ns ++ t ∷ [])) es
+      map-append (entry_view (trees_over children ns ++ t ∷ [])) es
       (entry state symbol (length ns) ∷ [])
-      ∙ ap (λ (l : List Entry). l ++ shown_entry (trees_over children ns ++ t ∷ [])
+      ∙ ap (λ (l : List Entry). l ++ entry_view (trees_over children ns ++ t ∷ [])
       (entry state symbol (length ns)) ∷ []) (kept_more t es h)
-      ∙ ap (λ (x : Tree). map (shown_entry (trees_over children ns)) es ++ entry_of symbol x ∷ [])
+      ∙ ap (λ (x : Tree). map (entry_view (trees_over children ns)) es ++ entry_of symbol x ∷ [])
       (new_tree t)
 
   pub shown-grown : (es : List StackEntry) (state symbol : ℕ) (n : Node)
       → all_below (length ns) es ≡ true
-      → map (shown_entry (trees_over children (ns ++ n ∷ [])))
+      → map (entry_view (trees_over children (ns ++ n ∷ [])))
       (es ++ entry state symbol (length ns) ∷ [])
-      ≡ map (shown_entry (trees_over children ns)) es
+      ≡ map (entry_view (trees_over children ns)) es
       ++ entry_of symbol (tree_over children (trees_over children ns) n) ∷ []
   shown-grown es state symbol n h =
-      ap (λ (l : List Tree). map (shown_entry l) (es ++ entry state symbol (length ns) ∷ []))
+      ap (λ (l : List Tree). map (entry_view l) (es ++ entry state symbol (length ns) ∷ []))
       (trees-push children ns n)
       ∙ with_new (tree_over children (trees_over children ns) n) es state symbol h
 
   pub shown-reduced : (es : List StackEntry) (state left rule width : ℕ)
       → all_below (length ns) es ≡ true → nodes_fit children 0 ns ≡ true → width ≤ length es
-      → map (shown_entry (trees_over (children ++ last_ones width es)
+      → map (entry_view (trees_over (children ++ last_ones width es)
       (ns ++ nodes.Rule rule (length children) width ∷ [])))
       (without_last width es ++ entry state left (length ns) ∷ [])
-      ≡ without_last width (map (shown_entry (trees_over children ns)) es)
+      ≡ without_last width (map (entry_view (trees_over children ns)) es)
       ++ entry_of left
       (node rule (trees_of (map (λ (e : Entry). e.tree)
-      (last_ones width (map (shown_entry (trees_over children ns)) es))))) ∷ []
+      (last_ones width (map (entry_view (trees_over children ns)) es))))) ∷ []
   shown-reduced es state left rule width h f w =
       let more = last_ones width es in
       let n : Node = nodes.Rule rule (length children) width in
@@ -93,26 +93,26 @@ module _ (children : List StackEntry) (ns : List Node) where
       let part : take width (drop (length children) (children ++ more)) ≡ more =
       ap (take width) (drop-append_seam children more)
       ∙ take_all width more (let l = length-last_ones width es w in omega (arith, l)) in
-      let lengths : length es ≡ length (map (shown_entry old) es) =
-      sym (length-map (shown_entry old) es) in
-      let last : last_ones width (map (shown_entry old) es) ≡ map (shown_entry old) more =
-      ap (λ (n : ℕ). drop (n - width) (map (shown_entry old) es)) (sym lengths)
-      ∙ drop-map (shown_entry old) (length es - width) es in
-      let kept : map (shown_entry old) (without_last width es)
-      ≡ without_last width (map (shown_entry old) es) =
-      sym (take-map (shown_entry old) (length es - width) es)
-      ∙ ap (λ (n : ℕ). take (n - width) (map (shown_entry old) es)) lengths in
+      let lengths : length es ≡ length (map (entry_view old) es) =
+      sym (length-map (entry_view old) es) in
+      let last : last_ones width (map (entry_view old) es) ≡ map (entry_view old) more =
+      ap (λ (n : ℕ). drop (n - width) (map (entry_view old) es)) (sym lengths)
+      ∙ drop-map (entry_view old) (length es - width) es in
+      let kept : map (entry_view old) (without_last width es)
+      ≡ without_last width (map (entry_view old) es) =
+      sym (take-map (entry_view old) (length es - width) es)
+      ∙ ap (λ (n : ℕ). take (n - width) (map (entry_view old) es)) lengths in
       let tree : t
       ≡ node rule (trees_of (map (λ (e : Entry). e.tree)
-      (last_ones width (map (shown_entry old) es)))) =
+      (last_ones width (map (entry_view old) es)))) =
       ap (λ (l : List StackEntry). node rule
       (trees_of (map (λ (e : StackEntry). get_or old e.node error_leaf) l))) part
       ∙ ap (λ (l : List Tree). node rule (trees_of l))
       (sym (ap (map (λ (e : Entry). e.tree)) last ∙ shown-trees old more)) in
-      ap (λ (l : List Tree). map (shown_entry l)
+      ap (λ (l : List Tree). map (entry_view l)
       (without_last width es ++ entry state left (length ns) ∷ [])) pushed
       ∙ with_new t (without_last width es) state left
       (below_take (length ns) (length es - width) es h)
       ∙ ap (λ (l : List Entry). l ++ entry_of left t ∷ []) kept
-      ∙ ap (λ (x : Tree). without_last width (map (shown_entry old) es) ++ entry_of left x ∷ [])
+      ∙ ap (λ (x : Tree). without_last width (map (entry_view old) es) ++ entry_of left x ∷ [])
       tree

@@ -5,7 +5,7 @@ use Rattle.std.proofs.Common.{refl, sym, ◌∙◌, subst}
 use Rattle.yparse.specs.declared.tokens.TokenFault.{TokenFault}
 use Rattle.yparse.specs.declared.tokens.TokenFault.TheVariants as faults
 use Rattle.yparse.specs.TokensFile.{Front, nothing, word, broken, Says, token, answer}
-use Rattle.yparse.specs.TokensFile.{named, says, with_token, Comes, Reads, Outcome}
+use Rattle.yparse.specs.TokensFile.{by_name, says, with_token, Comes, Reads, Outcome}
 use Rattle.std.specs.Prelude.{IfSome, is_some}
 use Rattle.yparse.specs.Tables.{is_input}
 use Rattle.yparse.specs.Machine.{Machine}
@@ -17,7 +17,8 @@ use Rattle.ygrammar.specs.declared.literal.Stage.TheVariants.{Opened}
 use Rattle.ygrammar.specs.Stages.{Answer, found, stuck, short, scan}
 use Rattle.ygrammar.specs.Names.{printed_literal}
 use Rattle.ygrammar.proofs.Literals.{literal_of_scan, no_literal_of_scan}
-use Rattle.yparse.specs.TokensFile.{is_blank, is_word_byte, all_pass, begins, literal, run, FrontAt}
+use Rattle.ygrammar.specs.Bytes.{is_blank, all_pass, begins}
+use Rattle.yparse.specs.TokensFile.{is_word_byte, literal, run, FrontAt}
 use Rattle.yparse.specs.TokensFile.{FrontIs}
 use Rattle.yparse.specs.Spelling.{IsSpelled}
 use Rattle.yparse.proofs.Ends.{join}
@@ -25,7 +26,7 @@ use Rattle.yparse.proofs.OneOutcome.{one_coming, one_outcome, no_word, token_fac
 
 -- what an answer of one token says
 one_named : (x : ℕ) (tokens place : ℕ) (found : Option ℕ) (after : List ℕ)
-    → named tokens place found after ≡ answer (Ok (x ∷ [])) → ⊥
+    → by_name tokens place found after ≡ answer (Ok (x ∷ [])) → ⊥
 one_named x tokens place None after e = cc
 one_named x tokens place (Some s) after e = by (is_input tokens s) e
   where
@@ -40,7 +41,7 @@ module _ (find : List ℕ → Option ℕ) (tokens : ℕ) where
   one_said x n nothing e = cc
   one_said x n (word name rest) e = by (nat_lt n 1000000) e
     where
-      by : (b : Bool) → (if b then named tokens (suc n) (find name) rest
+      by : (b : Bool) → (if b then by_name tokens (suc n) (find name) rest
           else answer (Err faults.TooMany)) ≡ answer (Ok (x ∷ [])) → ⊥
       by true h = one_named x tokens (suc n) (find name) rest h
       by false h = cc

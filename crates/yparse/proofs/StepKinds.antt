@@ -12,8 +12,10 @@ use Rattle.yparse.specs.declared.machine.Edit.TheVariants as edits
 use Rattle.yparse.specs.declared.machine.StepKind.{StepKind}
 use Rattle.yparse.specs.declared.machine.StepKind.TheVariants as kinds
 use Rattle.yparse.specs.Machine.{Machine, Move, Shift, Reduce, Accept, Error, Entry, Configuration}
-use Rattle.yparse.specs.Machine.{symbols, lookahead, without_last, width, failed, shifted, reduced}
-use Rattle.yparse.specs.Machine.{discarded, detected, step_by, popped, recover_by, next, next_in}
+use Rattle.yparse.specs.Machine.{symbols, lookahead, without_last, width, fail_step, shift_step}
+use Rattle.yparse.specs.Machine.{reduce_step}
+use Rattle.yparse.specs.Machine.{discard_step, detect_step, step_by, pop_step, recover_by, next}
+use Rattle.yparse.specs.Machine.{next_in}
 use Rattle.yparse.specs.Machine.{edited, edited_in, edited_rest}
 use Rattle.yparse.specs.Past.{Comes}
 use Rattle.yparse.specs.Tables.{is_input}
@@ -99,11 +101,12 @@ inserted_found b token c = if b then Some (
 ) else None
 
 module _ (m : Machine) (c : Configuration) (k : StepKind) (n : Configuration) where
-  by_failing : failed c ≡ (k, n) → Stepped m c k n
+  by_failing : fail_step c ≡ (k, n) → Stepped m c k n
   by_failing s = let o = sym s in fails (ap kind_in o) (ap stack_in o) (ap rest_in o) (ap mode_in o)
 
   by_shift : (rest : List (ℕ × ℕ)) → c.mode ≡ Running
-      → m.cell (symbols c.stack) (lookahead rest) ≡ Shift → c.rest ≡ rest → shifted c rest ≡ (k, n)
+      → m.cell (symbols c.stack) (lookahead rest) ≡ Shift → c.rest ≡ rest → shift_step c rest ≡
+      (k, n)
       → Stepped m c k n
   by_shift [] r h e s = by_failing s
   by_shift (t ∷ rest) r h e s =
@@ -112,7 +115,7 @@ module _ (m : Machine) (c : Configuration) (k : StepKind) (n : Configuration) wh
       ∙ map-append symbol_in c.stack _) (ap rest_in o) (ap mode_in o ∙ r)
 
   by_reduce : (r : ℕ) → c.mode ≡ Running → m.cell (symbols c.stack) (lookahead c.rest) ≡ Reduce r
-      → reduced m c r ≡ (k, n) → Stepped m c k n
+      → reduce_step m c r ≡ (k, n) → Stepped m c k n
   by_reduce r d h s =
       let o = sym s in
       reduces r d h (ap kind_in o)
@@ -122,13 +125,13 @@ module _ (m : Machine) (c : Configuration) (k : StepKind) (n : Configuration) wh
 
   by_discard : (rest : List (ℕ × ℕ)) → c.mode ≡ Running
       → m.cell (symbols c.stack) (lookahead rest) ≡ Error → c.rest ≡ rest
-      → discarded c rest ≡ (k, n) → Stepped m c k n
+      → discard_step c rest ≡ (k, n) → Stepped m c k n
   by_discard [] r h e s = by_failing s
   by_discard (t ∷ rest) r h e s = let o = sym s in
       discards t rest r h e (ap kind_in o) (ap stack_in o) (ap rest_in o) (ap mode_in o ∙ r)
 
   by_error : (b : Bool) → c.mode ≡ Running → m.cell (symbols c.stack) (lookahead c.rest) ≡ Error
-      → (if b then discarded c c.rest else detected c) ≡ (k, n) → Stepped m c k n
+      → (if b then discard_step c c.rest else detect_step c) ≡ (k, n) → Stepped m c k n
   by_error true r h s = by_discard c.rest r h refl s
   by_error false r h s = let o = sym s in
       detects r h (ap kind_in o) (ap stack_in o) (ap rest_in o) (ap mode_in o)
@@ -141,7 +144,7 @@ module _ (m : Machine) (c : Configuration) (k : StepKind) (n : Configuration) wh
       accepts r h (ap kind_in o) (ap stack_in o) (ap rest_in o) (ap mode_in o)
   by_running Error r h s = by_error (c.counter == 3) r h s
 
-  by_pop : (xs : List Entry) → c.mode ≡ Popping → reverse c.stack ≡ xs → popped c xs ≡ (k, n)
+  by_pop : (xs : List Entry) → c.mode ≡ Popping → reverse c.stack ≡ xs → pop_step c xs ≡ (k, n)
       → Stepped m c k n
   by_pop [] p e s = by_failing s
   by_pop (top ∷ below) p e s =

@@ -17,7 +17,7 @@ use Rattle.yparse.specs.Machine.{Machine, Reduce, Configuration, symbols, lookah
 use Rattle.yparse.specs.Machine.{width, next, edited}
 use Rattle.yparse.specs.Past.{LeadsTo}
 use Rattle.yparse.specs.History.{History, IsHistory, places_from, first_configuration}
-use Rattle.yparse.specs.Unwinding.{tokens_left, form_of, shifted_from, shifted_before, is_reduction}
+use Rattle.yparse.specs.Unwinding.{tokens_left, form_of, shifts_from, shifts_before, is_reduction}
 use Rattle.yparse.specs.Unwinding.{is_error_step, is_edit, NoErrors, NoEdits, forms_before}
 use Rattle.yparse.specs.Cells.{Expects, IsSound}
 use Rattle.yparse.specs.Rightmost.{AreInput, UnwindsRight}
@@ -64,7 +64,7 @@ left_of_places n (token ∷ tokens) = ap (λ z. token ∷ z) (left_of_places (su
 abbrev Runs : ContextFree → List ℕ → List (StepKind × Configuration) → List ℕ → List (List ℕ)
     → Type 0
 Runs g later earlier form rest =
-    IsRightmostRun g form rest × (last_of form rest ≡ shifted_before earlier later)
+    IsRightmostRun g form rest × (last_of form rest ≡ shifts_before earlier later)
 
 module _ (g : ContextFree) (m : Machine) (w : WellFormed g) (s : IsSound g m) where
   -- the body of a rule that a cell names is on top of the stack, and a goto for its left side is
@@ -133,22 +133,22 @@ module _ (g : ContextFree) (m : Machine) (w : WellFormed g) (s : IsSound g m) wh
 
   -- the stack and the kind of a step that leaves the stack as it is
   unmoved : (c n : Configuration) (k : StepKind) (later : List ℕ) → n.stack ≡ c.stack
-      → shifted_from k later ≡ later → form_of n later ≡ form_of c (shifted_from k later)
+      → shifts_from k later ≡ later → form_of n later ≡ form_of c (shifts_from k later)
   unmoved c n k later st e = ap (λ z. symbols z ++ later) st
       ∙ ap (λ z. symbols c.stack ++ z) (sym e)
 
   -- a step that is no reduction keeps the form
   pub form_kept : {c n : Configuration} {k : StepKind} (later : List ℕ) → Stepped m c k n
       → is_error_step k ≡ false → is_reduction k ≡ false
-      → form_of n later ≡ form_of c (shifted_from k later)
+      → form_of n later ≡ form_of c (shifts_from k later)
   form_kept {c = c} later (shifts t rest r h e k st re mo) x y =
       ap (λ z. z ++ later) st ∙ (append_assoc (symbols c.stack) (t.0 ∷ []) later
-      ∙ ap (λ z. symbols c.stack ++ shifted_from z later) (sym k))
+      ∙ ap (λ z. symbols c.stack ++ shifts_from z later) (sym k))
   form_kept later (reduces r d h k st re mo) x y = absurd (true_false (sym (ap is_reduction k) ∙ y))
   form_kept {c = c} {n = n} later (accepts d h k st re mo) x y =
-      unmoved c n _ later st (ap (λ z. shifted_from z later) k)
+      unmoved c n _ later st (ap (λ z. shifts_from z later) k)
   form_kept {c = c} {n = n} later (fails k st re mo) x y =
-      unmoved c n _ later st (ap (λ z. shifted_from z later) k)
+      unmoved c n _ later st (ap (λ z. shifts_from z later) k)
   form_kept later (detects d h k st re mo) x y = absurd (true_false (sym (ap is_error_step k) ∙ x))
   form_kept later (discards t rest r h e k st re mo) x y =
       absurd (true_false (sym (ap is_error_step k) ∙ x))
@@ -156,14 +156,14 @@ module _ (g : ContextFree) (m : Machine) (w : WellFormed g) (s : IsSound g m) wh
   form_kept later (shifts_error p h k st re mo) x y =
       absurd (true_false (sym (ap is_error_step k) ∙ x))
   form_kept {c = c} {n = n} later (inserts t d i k st re mo) x y =
-      unmoved c n _ later st (ap (λ z. shifted_from z later) k)
+      unmoved c n _ later st (ap (λ z. shifts_from z later) k)
   form_kept {c = c} {n = n} later (drops t rest d e k st re mo) x y =
-      unmoved c n _ later st (ap (λ z. shifted_from z later) k)
+      unmoved c n _ later st (ap (λ z. shifts_from z later) k)
 
   -- an undone reduction replaces its left side, with tokens alone behind it
   pub form_replaced : {c n : Configuration} {k : StepKind} (later : List ℕ) → Stepped m c k n
       → is_reduction k ≡ true → All (IsToken g) later
-      → (s : Replaces g (form_of n later) (form_of c (shifted_from k later)))
+      → (s : Replaces g (form_of n later) (form_of c (shifts_from k later)))
       × All (IsToken g) s.after
   form_replaced {c = c} {n = n} later (reduces r d h k st re mo) y a =
       let f = found c (lookahead c.rest) r h in (
@@ -174,7 +174,7 @@ module _ (g : ContextFree) (m : Machine) (w : WellFormed g) (s : IsSound g m) wh
           within = f.within;
           source = ap (λ z. z ++ later) (st ∙ f.left)
               ∙ append_assoc (reverse f.below) (left_of g r ∷ []) later;
-          target = ap (λ z. form_of c (shifted_from z later)) k
+          target = ap (λ z. form_of c (shifts_from z later)) k
               ∙ (ap (λ z. z ++ later) f.parts ∙ append_assoc (reverse f.below) (body_of g r) later);
         },
         a,
@@ -216,27 +216,27 @@ module _ (g : ContextFree) (m : Machine) (w : WellFormed g) (s : IsSound g m) wh
   -- what holds of all tokens left and of those shifted later holds of those shifted from before a
   -- step on
   later_kept : (P : ℕ → Type 0) {c n : Configuration} {k : StepKind} (later : List ℕ)
-      → Stepped m c k n → All P (tokens_left c.rest) → All P later → All P (shifted_from k later)
+      → Stepped m c k n → All P (tokens_left c.rest) → All P later → All P (shifts_from k later)
   later_kept P later (shifts t rest r h e k st re mo) a l =
-      subst (λ z. All P (shifted_from z later)) (sym k)
+      subst (λ z. All P (shifts_from z later)) (sym k)
       (All-cons P t.0 later (All-head P t.0 (tokens_left rest)
       (subst (λ z. All P (tokens_left z)) e a)) l)
   later_kept P later (reduces r d h k st re mo) a l =
-      subst (λ z. All P (shifted_from z later)) (sym k) l
+      subst (λ z. All P (shifts_from z later)) (sym k) l
   later_kept P later (accepts d h k st re mo) a l =
-      subst (λ z. All P (shifted_from z later)) (sym k) l
-  later_kept P later (fails k st re mo) a l = subst (λ z. All P (shifted_from z later)) (sym k) l
+      subst (λ z. All P (shifts_from z later)) (sym k) l
+  later_kept P later (fails k st re mo) a l = subst (λ z. All P (shifts_from z later)) (sym k) l
   later_kept P later (detects d h k st re mo) a l =
-      subst (λ z. All P (shifted_from z later)) (sym k) l
+      subst (λ z. All P (shifts_from z later)) (sym k) l
   later_kept P later (discards t rest r h e k st re mo) a l =
-      subst (λ z. All P (shifted_from z later)) (sym k) l
-  later_kept P later (pops t p k st re mo) a l = subst (λ z. All P (shifted_from z later)) (sym k) l
+      subst (λ z. All P (shifts_from z later)) (sym k) l
+  later_kept P later (pops t p k st re mo) a l = subst (λ z. All P (shifts_from z later)) (sym k) l
   later_kept P later (shifts_error p h k st re mo) a l =
-      subst (λ z. All P (shifted_from z later)) (sym k) l
+      subst (λ z. All P (shifts_from z later)) (sym k) l
   later_kept P later (inserts t d i k st re mo) a l =
-      subst (λ z. All P (shifted_from z later)) (sym k) l
+      subst (λ z. All P (shifts_from z later)) (sym k) l
   later_kept P later (drops t rest d e k st re mo) a l =
-      subst (λ z. All P (shifted_from z later)) (sym k) l
+      subst (λ z. All P (shifts_from z later)) (sym k) l
 
   -- an input token is a token of the grammar
   input_token : (t : ℕ) → is_input m.tokens t ≡ true → IsToken g t
@@ -250,16 +250,16 @@ module _ (g : ContextFree) (m : Machine) (w : WellFormed g) (s : IsSound g m) wh
 
   -- without an error step or an edit, the tokens shifted and those left stay
   whole_kept : {c n : Configuration} {k : StepKind} → Stepped m c k n → is_error_step k ≡ false
-      → is_edit k ≡ false → shifted_from k (tokens_left n.rest) ≡ tokens_left c.rest
+      → is_edit k ≡ false → shifts_from k (tokens_left n.rest) ≡ tokens_left c.rest
   whole_kept {n = n} (shifts t rest r h e k st re mo) x y =
-      ap (λ z. shifted_from z (tokens_left n.rest)) k
+      ap (λ z. shifts_from z (tokens_left n.rest)) k
       ∙ (ap (λ z. t.0 ∷ tokens_left z) re ∙ ap tokens_left (sym e))
   whole_kept {n = n} (reduces r d h k st re mo) x y =
-      ap (λ z. shifted_from z (tokens_left n.rest)) k ∙ ap tokens_left re
+      ap (λ z. shifts_from z (tokens_left n.rest)) k ∙ ap tokens_left re
   whole_kept {n = n} (accepts d h k st re mo) x y =
-      ap (λ z. shifted_from z (tokens_left n.rest)) k ∙ ap tokens_left re
+      ap (λ z. shifts_from z (tokens_left n.rest)) k ∙ ap tokens_left re
   whole_kept {n = n} (fails k st re mo) x y =
-      ap (λ z. shifted_from z (tokens_left n.rest)) k ∙ ap tokens_left re
+      ap (λ z. shifts_from z (tokens_left n.rest)) k ∙ ap tokens_left re
   whole_kept (detects d h k st re mo) x y = absurd (true_false (sym (ap is_error_step k) ∙ x))
   whole_kept (discards t rest r h e k st re mo) x y =
       absurd (true_false (sym (ap is_error_step k) ∙ x))
@@ -282,10 +282,10 @@ module _ (g : ContextFree) (m : Machine) (w : WellFormed g) (s : IsSound g m) wh
     -- without error steps and edits, the whole input is the first one
     pub whole : (now : Configuration) (earlier : List (StepKind × Configuration))
         → LeadsTo (next m) (edited m) first now earlier → NoErrors earlier → NoEdits earlier
-        → shifted_before earlier (tokens_left now.rest) ≡ tokens_left first.rest
+        → shifts_before earlier (tokens_left now.rest) ≡ tokens_left first.rest
     whole now [] h x y = ap (λ (c : Configuration). tokens_left c.rest) h
     whole now (step ∷ earlier) h x y =
-        ap (shifted_before earlier) (whole_kept (came m step.1 step.0 now h.0)
+        ap (shifts_before earlier) (whole_kept (came m step.1 step.0 now h.0)
         (All-head quiet step earlier x) (All-head unedited step earlier y))
         ∙ whole step.1 earlier h.1 (All-tail quiet step earlier x)
         (All-tail unedited step earlier y)
@@ -296,32 +296,32 @@ module _ (g : ContextFree) (m : Machine) (w : WellFormed g) (s : IsSound g m) wh
         → All (IsToken g) (tokens_left first.rest) → All (IsToken g) later
         → IsRightmostRun g (form_of now later) (forms_before later earlier)
         × (last_of (form_of now later) (forms_before later earlier)
-        ≡ shifted_before earlier later)
+        ≡ shifts_before earlier later)
     unwinds later now [] h x a l =
         (tt, ap (λ (c : Configuration). form_of c later) h ∙ ap (λ z. symbols z ++ later) empty)
     unwinds later now (step ∷ earlier) h x a l =
-        by (is_reduction step.0) refl (unwinds (shifted_from step.0 later) step.1 earlier h.1
+        by (is_reduction step.0) refl (unwinds (shifts_from step.0 later) step.1 earlier h.1
         (All-tail quiet step earlier x) a more)
       where
         v : Stepped m step.1 step.0 now
         v = came m step.1 step.0 now h.0
 
-        more : All (IsToken g) (shifted_from step.0 later)
+        more : All (IsToken g) (shifts_from step.0 later)
         more = later_kept (IsToken g) later v
             (rest_history (IsToken g) input_token step.1 earlier h.1 a) l
 
         by : (b : Bool) → is_reduction step.0 ≡ b
-            → Runs g (shifted_from step.0 later) earlier
-            (form_of step.1 (shifted_from step.0 later))
-            (forms_before (shifted_from step.0 later) earlier)
-            → Runs g (shifted_from step.0 later) earlier (form_of now later)
-            (if b then form_of step.1 (shifted_from step.0 later)
-            ∷ forms_before (shifted_from step.0 later) earlier else forms_before
-            (shifted_from step.0 later) earlier)
+            → Runs g (shifts_from step.0 later) earlier
+            (form_of step.1 (shifts_from step.0 later))
+            (forms_before (shifts_from step.0 later) earlier)
+            → Runs g (shifts_from step.0 later) earlier (form_of now later)
+            (if b then form_of step.1 (shifts_from step.0 later)
+            ∷ forms_before (shifts_from step.0 later) earlier else forms_before
+            (shifts_from step.0 later) earlier)
         by true e before = ((form_replaced later v e l, before.0), before.1)
         by false e before =
-            subst (λ z. Runs g (shifted_from step.0 later) earlier z
-            (forms_before (shifted_from step.0 later) earlier))
+            subst (λ z. Runs g (shifts_from step.0 later) earlier z
+            (forms_before (shifts_from step.0 later) earlier))
             (sym (form_kept later v (All-head quiet step earlier x) e)) before
 
     -- what an accepted configuration has: the start symbol alone, and no token
@@ -384,7 +384,7 @@ module _ (g : ContextFree) (m : Machine) (w : WellFormed g) (s : IsSound g m) wh
         (
           accepted_form tokens h a p d,
           u.0,
-          u.1 ∙ ap (λ z. shifted_before h.earlier (tokens_left z)) (sym none),
+          u.1 ∙ ap (λ z. shifts_before h.earlier (tokens_left z)) (sym none),
         ),
         λ y. whole (first_configuration tokens) refl h.now h.earlier p x y ∙ here,
       )

@@ -11,19 +11,19 @@ use Rattle.ytables.proofs.Sent.{Begins-more, flat_map-append}
 use Rattle.yparse.specs.declared.machine.StepKind.{StepKind}
 use Rattle.yparse.specs.declared.parts.PlaceChange.{PlaceChange}
 use Rattle.yparse.specs.Machine.{Machine, Configuration}
-use Rattle.yparse.specs.Past.{Past, undone, undone_from, LeadsTo, first_past}
+use Rattle.yparse.specs.Past.{Past, back_by, back_from, LeadsTo, first_past}
 use Rattle.yparse.specs.History.{History}
 use Rattle.yparse.specs.Content.{Place}
-use Rattle.yparse.specs.Shown.{shown_step}
-use Rattle.yparse.specs.Unwinding.{is_reduction, is_error_step, NoErrors, form_of, shifted_from}
-use Rattle.yparse.specs.Unwinding.{forms_before, forms_from, forms_of, joined, form_line}
-use Rattle.yparse.specs.Unwinding.{unwound_text}
+use Rattle.yparse.specs.Shown.{step_view}
+use Rattle.yparse.specs.Unwinding.{is_reduction, is_error_step, NoErrors, form_of, shifts_from}
+use Rattle.yparse.specs.Unwinding.{forms_before, forms_from, forms_of, names_text, form_line}
+use Rattle.yparse.specs.Unwinding.{forms_text}
 use Rattle.std.proofs.lemmas.List.Elements.{All-append, All-cons, All-map, All-nil}
 use Rattle.std.proofs.lemmas.List.{get_or-map, reverse-reverse, reverse-append}
 use Rattle.std.proofs.lemmas.List.{length-append, length-reverse}
 use Rattle.yparse.specs.declared.parts.StackEntry.{StackEntry}
 use Rattle.yparse.specs.Tree.{Tree}
-use Rattle.yparse.specs.Content.{shown_entry}
+use Rattle.yparse.specs.Content.{entry_view}
 use Rattle.yparse.specs.Machine.{Entry, symbols}
 use Rattle.yparse.proofs.Shown.{length-map}
 use Rattle.yparse.specs.Unwound.{gap, Stops, GoesBack}
@@ -32,40 +32,40 @@ use Rattle.yparse.specs.Unwound.{gap, Stops, GoesBack}
 
 -- with one name more
 pub joined-take : (m : Machine) (xs : List ℕ) (i : ℕ) → i < length xs
-    → joined m (take (suc i) xs) ≡ joined m (take i xs) ++ (gap i ++ m.name (get_or xs i 0))
+    → names_text m (take (suc i) xs) ≡ names_text m (take i xs) ++ (gap i ++ m.name (get_or xs i 0))
 joined-take m [] i h = absurd (omega arith)
 joined-take m (x ∷ xs) zero h = refl
 joined-take m (x ∷ []) (suc i) h = absurd (omega arith)
 joined-take m (x ∷ y ∷ xs) (suc zero) h = refl
 joined-take m (x ∷ y ∷ xs) (suc (suc i)) h =
     ap (λ (l : List ℕ). m.name x ++ (32 ∷ l)) (joined-take m (y ∷ xs) (suc i) (omega arith))
-    ∙ sym (append_assoc (m.name x) (32 ∷ joined m (take (suc i) (y ∷ xs))) _)
+    ∙ sym (append_assoc (m.name x) (32 ∷ names_text m (take (suc i) (y ∷ xs))) _)
 
 -- what follows the first names
 pub joined-cut : (m : Machine) (xs : List ℕ) (i : ℕ)
-    → (more : List ℕ) × (joined m xs ≡ joined m (take i xs) ++ more)
-joined-cut m xs zero = (joined m xs, refl)
+    → (more : List ℕ) × (names_text m xs ≡ names_text m (take i xs) ++ more)
+joined-cut m xs zero = (names_text m xs, refl)
 joined-cut m [] (suc i) = ([], refl)
 joined-cut m (x ∷ []) (suc zero) = ([], sym (append-nil (m.name x)))
 joined-cut m (x ∷ []) (suc (suc i)) = ([], sym (append-nil (m.name x)))
-joined-cut m (x ∷ y ∷ xs) (suc zero) = (32 ∷ joined m (y ∷ xs), refl)
+joined-cut m (x ∷ y ∷ xs) (suc zero) = (32 ∷ names_text m (y ∷ xs), refl)
 joined-cut m (x ∷ y ∷ xs) (suc (suc i)) =
     let r = joined-cut m (y ∷ xs) (suc i) in (
       r.0,
       ap (λ (l : List ℕ). m.name x ++ (32 ∷ l)) r.1
-          ∙ sym (append_assoc (m.name x) (32 ∷ joined m (take (suc i) (y ∷ xs))) r.0),
+          ∙ sym (append_assoc (m.name x) (32 ∷ names_text m (take (suc i) (y ∷ xs))) r.0),
     )
 
 -- ---- undos
 
 module _ {K S : Type 0} where
   pub undone-next : (n : ℕ) (now : S) (earlier : List (K × S)) (mid new : Past K S) (kind : K)
-      → mid ≡ undone_from n now earlier → mid.earlier ≡ (kind, new.now) ∷ new.earlier
-      → new ≡ undone_from (suc n) now earlier
+      → mid ≡ back_from n now earlier → mid.earlier ≡ (kind, new.now) ∷ new.earlier
+      → new ≡ back_from (suc n) now earlier
   undone-next zero now earlier mid new kind e f =
       let g : earlier ≡ (kind, new.now) ∷ new.earlier =
       sym (ap (λ (p : Past K S). p.earlier) e) ∙ f in
-      sym (ap (undone_from (suc zero) now) g)
+      sym (ap (back_from (suc zero) now) g)
   undone-next (suc n) now [] mid new kind e f = let bad : [] ≡ (kind, new.now) ∷ new.earlier =
       sym (ap (λ (p : Past K S). p.earlier) e) ∙ f in cc
   undone-next (suc n) now (step ∷ earlier) mid new kind e f =
@@ -75,7 +75,7 @@ module _ {K S : Type 0} where
   pub undone-all : {E : Type 0} (next : S → Option (K × S)) (edited : E → S
       → Option (K × S)) (first now : S) (earlier : List (K × S))
       → LeadsTo next edited first now earlier
-      → undone_from (length earlier) now earlier ≡ first_past first
+      → back_from (length earlier) now earlier ≡ first_past first
   undone-all next edited first now [] h = ap (λ (s : S). first_past s) h
   undone-all next edited first now (step ∷ earlier) h =
       undone-all next edited first step.1 earlier h.1
@@ -88,19 +88,19 @@ formed b later new = if b then form_of new.now later
 
 pub forms-reduction : (kind : StepKind) (later : List ℕ) (mid new : History)
     → mid.earlier ≡ (kind, new.now) ∷ new.earlier → is_reduction kind ≡ true
-    → forms_before later mid.earlier ≡ forms_from (shifted_from kind later) new
+    → forms_before later mid.earlier ≡ forms_from (shifts_from kind later) new
 forms-reduction kind later mid new e r =
-    ap (forms_before later) e ∙ ap (λ (b : Bool). formed b (shifted_from kind later) new) r
+    ap (forms_before later) e ∙ ap (λ (b : Bool). formed b (shifts_from kind later) new) r
 
 pub forms-other : (kind : StepKind) (later : List ℕ) (mid new : History)
     → mid.earlier ≡ (kind, new.now) ∷ new.earlier → is_reduction kind ≡ false
-    → forms_before later mid.earlier ≡ forms_before (shifted_from kind later) new.earlier
+    → forms_before later mid.earlier ≡ forms_before (shifts_from kind later) new.earlier
 forms-other kind later mid new e r =
-    ap (forms_before later) e ∙ ap (λ (b : Bool). formed b (shifted_from kind later) new) r
+    ap (forms_before later) e ∙ ap (λ (b : Bool). formed b (shifts_from kind later) new) r
 
 -- where the link fails at the line of a form
 pub stops : (a b c : Option (List ℕ)) (m : Machine) (h new : History) (steps : ℕ)
-    (before : List (List ℕ)) (later : List ℕ) → new ≡ undone steps h
+    (before : List (List ℕ)) (later : List ℕ) → new ≡ back_by steps h
     → forms_of h ≡ before ++ forms_from later new
     → Appends a b (flat_map (form_line m) before) → Begins b c (form_line m (form_of new.now later))
     → Stops a c m h new
@@ -116,7 +116,7 @@ stops a b c m h new steps before later l f p q =
       written = written;
     } in
     let after = flat_map (form_line m) (forms_before later new.earlier) in
-    let whole : unwound_text m h ≡ (flat_map (form_line m) before ++ form) ++ after =
+    let whole : forms_text m h ≡ (flat_map (form_line m) before ++ form) ++ after =
     ap (flat_map (form_line m)) f ∙ flat_map-append (form_line m) before (forms_from later new)
     ∙ sym (append_assoc (flat_map (form_line m) before) form after) in
     record {
@@ -147,12 +147,12 @@ lines-push m xs x = flat_map-append (form_line m) xs (x ∷ [])
 
 -- how many there are
 pub form-length : (trees : List Tree) (stack : List StackEntry) (later : List ℕ)
-    → length (symbols (map (shown_entry trees) stack) ++ reverse later)
+    → length (symbols (map (entry_view trees) stack) ++ reverse later)
     ≡ length stack + length later
 form-length trees stack later =
-    let a = length-append (symbols (map (shown_entry trees) stack)) (reverse later) in
-    let b = length-map (λ (e : Entry). e.symbol) (map (shown_entry trees) stack) in
-    let c = length-map (shown_entry trees) stack in
+    let a = length-append (symbols (map (entry_view trees) stack)) (reverse later) in
+    let b = length-map (λ (e : Entry). e.symbol) (map (entry_view trees) stack) in
+    let c = length-map (entry_view trees) stack in
     let d = length-reverse later in
     omega (arith, a, b, c, d)
 
@@ -189,20 +189,20 @@ step_kinds steps = map (λ (step : StepKind × Place). step.0) steps
 -- no change is one of recovery exactly where no step of the history is
 pub quiet : (changes : List PlaceChange) (earlier : List (StepKind × Place))
     → change_kinds (reverse changes) ≡ step_kinds earlier → All change_quiet changes
-    → NoErrors (map shown_step earlier)
+    → NoErrors (map step_view earlier)
 quiet changes earlier e h =
     let kinds = All-map kind_quiet (λ (change : PlaceChange). change.kind) (reverse changes)
     (All-reversed change_quiet changes h) in
-    All-map step_quiet shown_step earlier
+    All-map step_quiet step_view earlier
     (All-unmap kind_quiet (λ (step : StepKind × Place). step.0) earlier
     (subst (All kind_quiet) e kinds))
 
 pub unquiet : (changes : List PlaceChange) (earlier : List (StepKind × Place))
-    → change_kinds (reverse changes) ≡ step_kinds earlier → NoErrors (map shown_step earlier)
+    → change_kinds (reverse changes) ≡ step_kinds earlier → NoErrors (map step_view earlier)
     → All change_quiet changes
 unquiet changes earlier e h =
     let kinds = All-map kind_quiet (λ (step : StepKind × Place). step.0) earlier
-    (All-unmap step_quiet shown_step earlier h) in
+    (All-unmap step_quiet step_view earlier h) in
     let back = All-unmap kind_quiet (λ (change : PlaceChange). change.kind) (reverse changes)
     (subst (All kind_quiet) (sym e) kinds) in
     subst (All change_quiet) (reverse-reverse changes)

@@ -15,9 +15,10 @@ use Rattle.yparse.specs.declared.walk.Frame.{Frame}
 use Rattle.yparse.specs.Tree.{Tree, error_leaf}
 use Rattle.yparse.specs.Machine.{Machine}
 use Rattle.yparse.specs.Content.{entry, all_below, node_fits, nodes_fit, node_tree, tree_over}
-use Rattle.yparse.specs.Content.{trees_over, shown_entry}
+use Rattle.yparse.specs.Content.{trees_over, entry_view}
 use Rattle.yparse.specs.Unwinding.{tree_text, tree_lines}
-use Rattle.yparse.specs.Walk.{frame, head_text, opened, kids_text, range_of, open_from, open_text}
+use Rattle.yparse.specs.Walk.{frame, head_text, frames_of, kids_text, range_of, open_from}
+use Rattle.yparse.specs.Walk.{open_text}
 use Rattle.yparse.specs.Walk.{frame_fits, frames_fit}
 use Rattle.yparse.proofs.Ends.{join, first, second}
 use Rattle.yparse.proofs.Nodes.{below_weaker, below_at, seen}
@@ -51,7 +52,7 @@ fit-push children b (g ∷ fs) f h k =
 -- what a node opens fits below the node
 pub fit-opened : (children : List StackEntry) (b number : ℕ) (fs : List Frame) (n : Node)
     → frames_fit children b fs ≡ true → node_fits children number n ≡ true → number ≤ b - length fs
-    → frames_fit children b (fs ++ opened n) ≡ true
+    → frames_fit children b (fs ++ frames_of n) ≡ true
 fit-opened children b number fs (nodes.Leaf token place) h f l =
     subst (λ x. frames_fit children b x ≡ true) (sym (append-nil fs)) h
 fit-opened children b number fs nodes.ErrorLeaf h f l =
@@ -86,7 +87,7 @@ module _ (m : Machine) (children : List StackEntry) (trees : List Tree) where
   -- the text of a tree is its head and the text of what it opens
   pub tree_parts : (fs : List Frame) (n : Node)
       → tree_text m (tree_over children trees n) ++ open_text m children trees fs
-      ≡ head_text m n ++ open_text m children trees (fs ++ opened n)
+      ≡ head_text m n ++ open_text m children trees (fs ++ frames_of n)
   tree_parts fs (nodes.Leaf token place) =
       ap (λ x. head_text m (nodes.Leaf token place) ++ open_text m children trees x)
       (sym (append-nil fs))
@@ -144,7 +145,7 @@ next_node children ns f = get_or ns (get_or children f.next (entry 0 0 0)).node 
 
 -- what is open once that node is begun
 abbrev pub deeper : List Frame → Frame → Node → List Frame
-deeper outer f n = (outer ++ frame (f.next + 1) f.end ∷ []) ++ opened n
+deeper outer f n = (outer ++ frame (f.next + 1) f.end ∷ []) ++ frames_of n
 
 -- what is known of the next child of the innermost open node, where one is left
 pub record Opens (m : Machine) (children : List StackEntry) (ns : List Node) (root : ℕ)
@@ -259,7 +260,7 @@ pub root-text : (m : Machine) (children : List StackEntry) (ns : List Node) (roo
     → get_or (trees_over children ns) root error_leaf
     ≡ tree_over children (trees_over children ns) n
     → tree_text m (get_or (trees_over children ns) root error_leaf)
-    ≡ head_text m n ++ open_text m children (trees_over children ns) (opened n)
+    ≡ head_text m n ++ open_text m children (trees_over children ns) (frames_of n)
 root-text m children ns root n e =
     ap (tree_text m) e
     ∙ sym (append-nil (tree_text m (tree_over children (trees_over children ns) n)))
@@ -269,9 +270,9 @@ root-text m children ns root n e =
 pub record Rooted (m : Machine) (children : List StackEntry) (ns : List Node) (root : ℕ) (n : Node)
     : Type 0 where
   pub fits : node_fits children root n ≡ true
-  pub frames : frames_fit children root (opened n) ≡ true
+  pub frames : frames_fit children root (frames_of n) ≡ true
   pub line : tree_text m (get_or (trees_over children ns) root error_leaf) ++ codes "\n"
-      ≡ head_text m n ++ (open_text m children (trees_over children ns) (opened n) ++ codes "\n")
+      ≡ head_text m n ++ (open_text m children (trees_over children ns) (frames_of n) ++ codes "\n")
 
 pub rooted : (m : Machine) (children : List StackEntry) (ns : List Node) (root : ℕ)
     → nodes_fit children 0 ns ≡ true → root < length ns
@@ -279,7 +280,7 @@ pub rooted : (m : Machine) (children : List StackEntry) (ns : List Node) (root :
 rooted m children ns root fit there =
     let n = get_or ns root (nodes.Leaf 0 0) in
     let s = seen children ns root (nodes.Leaf 0 0) n fit there refl in
-    let more = open_text m children (trees_over children ns) (opened n) in
+    let more = open_text m children (trees_over children ns) (frames_of n) in
     record {
       fits = s.fits;
       frames = fit-opened children root root [] n refl s.fits (omega arith);
@@ -290,7 +291,7 @@ rooted m children ns root fit there =
 
 -- the lines of a stack, by its entries
 pub lines-entries : (m : Machine) (trees : List Tree) (es : List StackEntry)
-    → tree_lines m (map (shown_entry trees) es)
+    → tree_lines m (map (entry_view trees) es)
     ≡ flat_map (λ (e : StackEntry). tree_text m (node_tree trees e) ++ codes "\n") es
 lines-entries m trees [] = refl
 lines-entries m trees (e ∷ es) =

@@ -11,6 +11,8 @@ use Rattle.ytables.specs.declared.cell.Action.{Action}
 use Rattle.ytables.specs.declared.cell.Action.TheVariants as actions
 use Rattle.yparse.specs.declared.machine.Mode.{Mode}
 use Rattle.yparse.specs.declared.machine.Mode.TheVariants.{Running, Popping, Accepted, Failed}
+use Rattle.yparse.specs.declared.machine.Deed.{Deed}
+use Rattle.yparse.specs.declared.machine.Deed.TheVariants as deeds
 use Rattle.yparse.specs.declared.machine.Edit.{Edit}
 use Rattle.yparse.specs.declared.machine.Edit.TheVariants as edits
 use Rattle.yparse.specs.declared.machine.StepKind.{StepKind}
@@ -22,8 +24,9 @@ use Rattle.yparse.specs.declared.parts.PlaceChange.{PlaceChange}
 use Rattle.yparse.specs.Tree.{Tree, leaf, error_leaf, node, trees_of}
 use Rattle.yparse.specs.Machine.{Configuration, Entry, entry_of, without_last, last_ones, next}
 use Rattle.yparse.specs.Machine.{edited}
-use Rattle.yparse.specs.Rest.{Rest, rest_left, ahead, is_left, place_left, taken, given_back}
-use Rattle.yparse.specs.Rest.{inserted_in, uninserted, first_rest}
+use Rattle.yparse.specs.Rest.{Rest, rest_left, ahead, is_left, place_left, without_first}
+use Rattle.yparse.specs.Rest.{with_first_back}
+use Rattle.yparse.specs.Rest.{with_insertion, without_insertion, first_rest}
 use Rattle.yparse.specs.Tables.{goto_at, cell_at, rule_of, is_input, token_count}
 use Rattle.yparse.specs.MachineOver.{machine_over}
 
@@ -66,81 +69,85 @@ abbrev pub lead : Tables → ℕ → ℕ → ℕ
 lead t state symbol = unwrap_or (goto_at t state symbol) 0
 
 -- an entry with a node of its own goes on top
-abbrev pub grown : Content → ℕ → ℕ → Node → Content
-grown c state symbol n = record c {
+abbrev pub with_entry : Content → ℕ → ℕ → Node → Content
+with_entry c state symbol n = record c {
   stack = c.stack ++ entry state symbol (length c.nodes) ∷ [];
   nodes = c.nodes ++ n ∷ [];
 }
 
 -- the entries on top become the children of a new one
-abbrev pub reduced : Content → ℕ → ℕ → ℕ → ℕ → Content
-reduced c state left rule width = record c {
+abbrev pub with_parent : Content → ℕ → ℕ → ℕ → ℕ → Content
+with_parent c state left rule width = record c {
   stack = without_last width c.stack ++ entry state left (length c.nodes) ∷ [];
   nodes = c.nodes ++ nodes.Rule rule (length c.children) width ∷ [];
   children = c.children ++ last_ones width c.stack;
 }
 
 -- an error is reported where the counter is 0
-abbrev pub detected : Content → Content
-detected c = record c {
+abbrev pub with_error : Content → Content
+with_error c = record c {
   counter = 3;
   errors = (if c.counter == 0 then c.errors + 1 else c.errors);
   mode = Popping;
 }
 
 -- what a step of a kind makes of a content
-abbrev pub made_of : Tables → StepKind → Content → Content
-made_of t (kinds.Shift token) c =
-    record (grown c (lead t (top_state c.stack) token) token (nodes.Leaf token (place_left c.rest)))
-    { rest = taken c.rest; counter = c.counter - 1 }
-made_of t (kinds.Reduce rule) c =
-    reduced c (lead t (top_state (without_last (width_of t rule) c.stack)) (rule_of t rule).left)
+abbrev pub content_after : Tables → StepKind → Content → Content
+content_after t (kinds.Shift token) c =
+    record (with_entry c (lead t (top_state c.stack) token) token
+    (nodes.Leaf token (place_left c.rest)))
+    { rest = without_first c.rest; counter = c.counter - 1 }
+content_after t (kinds.Reduce rule) c =
+    with_parent c (lead t (top_state (without_last (width_of t rule) c.stack))
+    (rule_of t rule).left)
     (rule_of t rule).left rule (width_of t rule)
-made_of t kinds.Accept c = record c { mode = Accepted }
-made_of t kinds.Detect c = detected c
-made_of t (kinds.Pop symbol) c = record c { stack = without_last 1 c.stack }
-made_of t kinds.ShiftError c =
-    record (grown c (lead t (top_state c.stack) error_token) error_token nodes.ErrorLeaf) {
+content_after t kinds.Accept c = record c { mode = Accepted }
+content_after t kinds.Detect c = with_error c
+content_after t (kinds.Pop symbol) c = record c { stack = without_last 1 c.stack }
+content_after t kinds.ShiftError c =
+    record (with_entry c (lead t (top_state c.stack) error_token) error_token nodes.ErrorLeaf) {
       mode = Running;
     }
-made_of t (kinds.Discard token) c = record c { rest = taken c.rest }
-made_of t kinds.Fail c = record c { mode = Failed }
-made_of t (kinds.Insert token) c = record c { rest = inserted_in token c.rest }
-made_of t (kinds.Drop token) c = record c { rest = taken c.rest }
+content_after t (kinds.Discard token) c = record c { rest = without_first c.rest }
+content_after t kinds.Fail c = record c { mode = Failed }
+content_after t (kinds.Insert token) c = record c { rest = with_insertion token c.rest }
+content_after t (kinds.Drop token) c = record c { rest = without_first c.rest }
 
 abbrev pub one_step : Content → Content
 one_step c = record c { steps = c.steps + 1 }
 
-abbrev pub made : StepKind → Place → Place
-made kind p = record p { content = one_step (made_of p.tables kind p.content) }
+abbrev pub place_after : StepKind → Place → Place
+place_after kind p = record p { content = one_step (content_after p.tables kind p.content) }
 
 -- the entry on top goes, with its node
-abbrev pub ungrown : Content → Content
-ungrown c = record c { stack = without_last 1 c.stack; nodes = without_last 1 c.nodes }
+abbrev pub without_entry : Content → Content
+without_entry c = record c { stack = without_last 1 c.stack; nodes = without_last 1 c.nodes }
 
 -- the entry on top becomes as many of the last children
-abbrev pub unreduced : Content → ℕ → Content
-unreduced c width = record c {
+abbrev pub without_parent : Content → ℕ → Content
+without_parent c width = record c {
   stack = without_last 1 c.stack ++ last_ones width c.children;
   nodes = without_last 1 c.nodes;
   children = without_last width c.children;
 }
 
 -- what a change was made of, but for the counter, the mode and the steps
-abbrev pub unmade : Tables → PlaceChange → StepKind → Content → Content
-unmade t change (kinds.Shift token) c =
-    record (ungrown c) { rest = given_back change.place token c.rest }
-unmade t change (kinds.Reduce rule) c = unreduced c (width_of t rule)
-unmade t change kinds.Accept c = c
-unmade t change kinds.Detect c =
+abbrev pub content_before : Tables → PlaceChange → StepKind → Content → Content
+content_before t change (kinds.Shift token) c =
+    record (without_entry c) { rest = with_first_back change.place token c.rest }
+content_before t change (kinds.Reduce rule) c = without_parent c (width_of t rule)
+content_before t change kinds.Accept c = c
+content_before t change kinds.Detect c =
     record c { errors = (if change.counter == 0 then c.errors - 1 else c.errors) }
-unmade t change (kinds.Pop symbol) c =
+content_before t change (kinds.Pop symbol) c =
     record c { stack = c.stack ++ entry change.state symbol change.node ∷ [] }
-unmade t change kinds.ShiftError c = ungrown c
-unmade t change (kinds.Discard token) c = record c { rest = given_back change.place token c.rest }
-unmade t change kinds.Fail c = c
-unmade t change (kinds.Insert token) c = record c { rest = uninserted c.rest }
-unmade t change (kinds.Drop token) c = record c { rest = given_back change.place token c.rest }
+content_before t change kinds.ShiftError c = without_entry c
+content_before t change (kinds.Discard token) c =
+    record c { rest = with_first_back change.place token c.rest }
+content_before t change kinds.Fail c = c
+content_before t change (kinds.Insert token) c = record c { rest = without_insertion c.rest }
+content_before t change (kinds.Drop token) c =
+    record c { rest = with_first_back change.place token c.rest }
 
 abbrev pub one_back : PlaceChange → Content → Content
 one_back change c = record c { counter = change.counter; mode = change.mode; steps = c.steps - 1 }
@@ -148,7 +155,7 @@ one_back change c = record c { counter = change.counter; mode = change.mode; ste
 -- what was before a change
 abbrev pub place_before : PlaceChange → Place → Place
 place_before change p = record p {
-  content = one_back change (unmade p.tables change change.kind p.content);
+  content = one_back change (content_before p.tables change change.kind p.content);
 }
 
 -- the tree of a node, where those of the nodes before it are known
@@ -172,8 +179,8 @@ trees_over children ns = trees_from children [] ns
 abbrev pub node_tree : List Tree → StackEntry → Tree
 node_tree trees e = slice_index_or trees e.node error_leaf
 
-abbrev pub shown_entry : List Tree → StackEntry → Entry
-shown_entry trees e = entry_of e.symbol (node_tree trees e)
+abbrev pub entry_view : List Tree → StackEntry → Entry
+entry_view trees e = entry_of e.symbol (node_tree trees e)
 
 abbrev pub rest_of : List ℕ → Content → List (ℕ × ℕ)
 rest_of tokens c = rest_left tokens c.rest
@@ -181,7 +188,7 @@ rest_of tokens c = rest_left tokens c.rest
 -- the configuration that a content shows, over the tokens first read
 abbrev pub configuration_in : List ℕ → Content → Configuration
 configuration_in tokens c = record {
-  stack = map (shown_entry (trees_over c.children c.nodes)) c.stack;
+  stack = map (entry_view (trees_over c.children c.nodes)) c.stack;
   rest = rest_of tokens c;
   counter = c.counter;
   errors = c.errors;
@@ -194,14 +201,19 @@ configuration_of p = configuration_in p.tokens p.content
 -- the next step is that of the machine, and leaves what a step of its kind makes
 abbrev pub place_next : Place → Option (StepKind × Place)
 place_next p =
-    option_map (λ (step : StepKind × Configuration). (step.0, made step.0 p))
+    option_map (λ (step : StepKind × Configuration). (step.0, place_after step.0 p))
     (next (machine_over p.tables) (configuration_of p))
 
 -- an edit is that of the machine, and leaves what its kind makes
 abbrev pub place_edited : Edit → Place → Option (StepKind × Place)
 place_edited edit p =
-    option_map (λ (step : StepKind × Configuration). (step.0, made step.0 p))
+    option_map (λ (step : StepKind × Configuration). (step.0, place_after step.0 p))
     (edited (machine_over p.tables) edit (configuration_of p))
+
+-- the same of either
+abbrev pub place_deed : Deed → Place → Option (StepKind × Place)
+place_deed deeds.Step = place_next
+place_deed (deeds.Edit edit) = place_edited edit
 
 -- the kind of the step from a running content, by the cell, the token ahead, the counter, and
 -- whether a token is left

@@ -16,6 +16,7 @@ pub mod Reading
 pub mod Spelling
 pub mod Content
 pub mod Parts
+pub mod Ahead
 pub mod Place
 pub mod Snapshot
 pub mod Shown

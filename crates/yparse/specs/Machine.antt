@@ -4,6 +4,8 @@ use Rattle.std.specs.Prelude.{ℕ, ◌+◌, ◌-◌, ◌==◌, List, [], ◌∷�
 use Rattle.std.specs.Prelude.{reverse, Option, Some, None, if◌then◌else◌}
 use Rattle.yparse.specs.declared.machine.Mode.{Mode}
 use Rattle.yparse.specs.declared.machine.Mode.TheVariants.{Running, Popping, Accepted, Failed}
+use Rattle.yparse.specs.declared.machine.Deed.{Deed}
+use Rattle.yparse.specs.declared.machine.Deed.TheVariants as deeds
 use Rattle.yparse.specs.declared.machine.Edit.{Edit}
 use Rattle.yparse.specs.declared.machine.Edit.TheVariants as edits
 use Rattle.yparse.specs.declared.machine.StepKind.{StepKind}
@@ -65,13 +67,13 @@ abbrev pub width : Machine → ℕ → ℕ
 width m r = length (m.rule r).body
 
 -- the parse gives up
-abbrev pub failed : Configuration → StepKind × Configuration
-failed c = (kinds.Fail, record c { mode = Failed })
+abbrev pub fail_step : Configuration → StepKind × Configuration
+fail_step c = (kinds.Fail, record c { mode = Failed })
 
 -- the first token left goes to the stack, and the counter falls by one, not below 0
-abbrev pub shifted : Configuration → List (ℕ × ℕ) → StepKind × Configuration
-shifted c [] = failed c
-shifted c (token ∷ rest) = (
+abbrev pub shift_step : Configuration → List (ℕ × ℕ) → StepKind × Configuration
+shift_step c [] = fail_step c
+shift_step c (token ∷ rest) = (
   kinds.Shift token.0,
   record c {
     stack = c.stack ++ entry_of token.0 (leaf token.0 token.1) ∷ [];
@@ -81,8 +83,8 @@ shifted c (token ∷ rest) = (
 )
 
 -- the left side takes the place of the body, whose trees are its children
-abbrev pub reduced : Machine → Configuration → ℕ → StepKind × Configuration
-reduced m c r = (
+abbrev pub reduce_step : Machine → Configuration → ℕ → StepKind × Configuration
+reduce_step m c r = (
   kinds.Reduce r,
   record c {
     stack = without_last (width m r) c.stack
@@ -92,13 +94,13 @@ reduced m c r = (
 )
 
 -- the first token left is dropped; where none is left the parse gives up
-abbrev pub discarded : Configuration → List (ℕ × ℕ) → StepKind × Configuration
-discarded c [] = failed c
-discarded c (token ∷ rest) = (kinds.Discard token.0, record c { rest = rest })
+abbrev pub discard_step : Configuration → List (ℕ × ℕ) → StepKind × Configuration
+discard_step c [] = fail_step c
+discard_step c (token ∷ rest) = (kinds.Discard token.0, record c { rest = rest })
 
 -- an error is reported where the counter is 0
-abbrev pub detected : Configuration → StepKind × Configuration
-detected c = (
+abbrev pub detect_step : Configuration → StepKind × Configuration
+detect_step c = (
   kinds.Detect,
   record c {
     counter = 3;
@@ -109,35 +111,35 @@ detected c = (
 
 -- an error: where no token was shifted since the last one a token is discarded, else the error is
 -- detected
-abbrev pub erred : Configuration → StepKind × Configuration
-erred c = if c.counter == 3 then discarded c c.rest else detected c
+abbrev pub error_step : Configuration → StepKind × Configuration
+error_step c = if c.counter == 3 then discard_step c c.rest else detect_step c
 
 -- the step that a cell says
 abbrev pub step_by : Machine → Configuration → Move → StepKind × Configuration
-step_by m c Shift = shifted c c.rest
-step_by m c (Reduce r) = reduced m c r
+step_by m c Shift = shift_step c c.rest
+step_by m c (Reduce r) = reduce_step m c r
 step_by m c Accept = (kinds.Accept, record c { mode = Accepted })
-step_by m c Error = erred c
+step_by m c Error = error_step c
 
 -- the entry on top is dropped; from an empty stack the parse gives up. The list is the stack, the
 -- top first.
-abbrev pub popped : Configuration → List Entry → StepKind × Configuration
-popped c [] = failed c
-popped c (top ∷ below) = (kinds.Pop top.symbol, record c { stack = reverse below })
+abbrev pub pop_step : Configuration → List Entry → StepKind × Configuration
+pop_step c [] = fail_step c
+pop_step c (top ∷ below) = (kinds.Pop top.symbol, record c { stack = reverse below })
 
 -- `error` goes to the stack
-abbrev pub error_shifted : Configuration → StepKind × Configuration
-error_shifted c = (
+abbrev pub shift_error_step : Configuration → StepKind × Configuration
+shift_error_step c = (
   kinds.ShiftError,
   record c { stack = c.stack ++ entry_of error_token error_leaf ∷ []; mode = Running },
 )
 
 -- the step of recovery, by what the cell of `error` says
 abbrev pub recover_by : Configuration → Move → StepKind × Configuration
-recover_by c Shift = error_shifted c
-recover_by c (Reduce r) = popped c (reverse c.stack)
-recover_by c Accept = popped c (reverse c.stack)
-recover_by c Error = popped c (reverse c.stack)
+recover_by c Shift = shift_error_step c
+recover_by c (Reduce r) = pop_step c (reverse c.stack)
+recover_by c Accept = pop_step c (reverse c.stack)
+recover_by c Error = pop_step c (reverse c.stack)
 
 -- the step in a mode
 abbrev pub next_in : Machine → Configuration → Mode → Option (StepKind × Configuration)
@@ -170,3 +172,8 @@ edited_in m edit c Failed = None
 -- the kind of an edit of the tokens left and what it leaves, where it can be made
 unfoldable pub edited : Machine → Edit → Configuration → Option (StepKind × Configuration)
 edited m edit c = edited_in m edit c c.mode
+
+-- the kind of a step or an edit and what it leaves, where it can be made
+abbrev pub deed_by : Machine → Deed → Configuration → Option (StepKind × Configuration)
+deed_by m deeds.Step = next m
+deed_by m (deeds.Edit edit) = edited m edit

@@ -23,17 +23,17 @@ abbrev pub first_past : {K S : Type 0} → S → Past K S
 first_past now = record { now = now; earlier = [] }
 
 -- after n undos, none of them beyond the first content
-abbrev pub undone_from : {K S : Type 0} → ℕ → S → List (K × S) → Past K S
-undone_from zero now earlier = record { now = now; earlier = earlier }
-undone_from (suc n) now [] = record { now = now; earlier = [] }
-undone_from (suc n) now (step ∷ earlier) = undone_from n step.1 earlier
+abbrev pub back_from : {K S : Type 0} → ℕ → S → List (K × S) → Past K S
+back_from zero now earlier = record { now = now; earlier = earlier }
+back_from (suc n) now [] = record { now = now; earlier = [] }
+back_from (suc n) now (step ∷ earlier) = back_from n step.1 earlier
 
-abbrev pub undone : {K S : Type 0} → ℕ → Past K S → Past K S
-undone n h = undone_from n h.now h.earlier
+abbrev pub back_by : {K S : Type 0} → ℕ → Past K S → Past K S
+back_by n h = back_from n h.now h.earlier
 
 -- the first content alone
-abbrev pub rewound : {K S : Type 0} → Past K S → Past K S
-rewound h = undone (position h) h
+abbrev pub to_first : {K S : Type 0} → Past K S → Past K S
+to_first h = back_by (position h) h
 
 -- what is made of this kind leads from one content to the one after it
 abbrev pub Follows : {K S : Type 0} → (S → Option (K × S)) → S → K → S → Type 0

@@ -17,12 +17,12 @@ abbrev pub rest_in : Remaining → Rest
 rest_in r = record { inserted = r.inserted.items; at = r.at; edits = r.edits }
 
 -- an inserted token has the place 0
-abbrev pub unplaced : ℕ → ℕ × ℕ
-unplaced token = (token, 0)
+abbrev pub at_no_place : ℕ → ℕ × ℕ
+at_no_place token = (token, 0)
 
 -- the tokens left with their places
 abbrev pub rest_left : List ℕ → Rest → List (ℕ × ℕ)
-rest_left tokens r = map unplaced (reverse r.inserted) ++ drop r.at (places_from 1 tokens)
+rest_left tokens r = map at_no_place (reverse r.inserted) ++ drop r.at (places_from 1 tokens)
 
 -- the token ahead, or the end
 abbrev pub ahead : List ℕ → Rest → ℕ
@@ -39,24 +39,24 @@ abbrev pub place_left : Rest → ℕ
 place_left r = if length r.inserted == 0 then r.at + 1 else 0
 
 -- the first token left goes
-abbrev pub taken : Rest → Rest
-taken r =
+abbrev pub without_first : Rest → Rest
+without_first r =
     if length r.inserted == 0 then record r { at = r.at + 1 }
     else record r { inserted = without_last 1 r.inserted }
 
 -- a token that was taken from this place comes back
-abbrev pub given_back : ℕ → ℕ → Rest → Rest
-given_back place token r =
+abbrev pub with_first_back : ℕ → ℕ → Rest → Rest
+with_first_back place token r =
     if place == 0 then record r { inserted = r.inserted ++ token ∷ [] }
     else record r { at = r.at - 1 }
 
 -- a token comes first
-abbrev pub inserted_in : ℕ → Rest → Rest
-inserted_in token r = record r { inserted = r.inserted ++ token ∷ []; edits = r.edits + 1 }
+abbrev pub with_insertion : ℕ → Rest → Rest
+with_insertion token r = record r { inserted = r.inserted ++ token ∷ []; edits = r.edits + 1 }
 
 -- what was before an insertion
-abbrev pub uninserted : Rest → Rest
-uninserted r = record r { inserted = without_last 1 r.inserted; edits = r.edits - 1 }
+abbrev pub without_insertion : Rest → Rest
+without_insertion r = record r { inserted = without_last 1 r.inserted; edits = r.edits - 1 }
 
 -- all tokens first read are left
 abbrev pub first_rest : Rest

@@ -8,27 +8,41 @@ use Rattle.yparse.specs.Past.{Past}
 use Rattle.yparse.specs.History.{History}
 use Rattle.yparse.specs.MachineOver.{machine_over}
 use Rattle.yparse.specs.Content.{Place}
-use Rattle.yparse.specs.Shown.{shown_past}
+use Rattle.yparse.specs.Shown.{past_view}
 
 -- the contents of a parse, now and before
 abbrev pub past_of : Session → Past StepKind Place
 past_of s = s.journal
 
--- what a session goes by
-unfoldable pub machine_of : Session → Machine
-machine_of s = machine_over s.journal.now.tables
+-- what a session goes by from its first step to its last: a grammar, its machine, and the tokens
+-- first read
+pub record Setting : Type 0 where
+  pub grammar : GrammarValue
+  pub machine : Machine
+  pub tokens : List ℕ
 
--- the grammar of its tables
-unfoldable pub grammar_of : Session → GrammarValue
-grammar_of s = s.journal.now.tables.built.grammar
+abbrev pub setting_at : Place → Setting
+setting_at p = record {
+  grammar = p.tables.built.grammar;
+  machine = machine_over p.tables;
+  tokens = p.tokens;
+}
 
--- the tokens first read
-unfoldable pub tokens_of : Session → List ℕ
-tokens_of s = s.journal.now.tokens
+unfoldable pub setting_of : Session → Setting
+setting_of s = setting_at s.journal.now
+
+abbrev pub grammar_of : Session → GrammarValue
+grammar_of s = (setting_of s).grammar
+
+abbrev pub machine_of : Session → Machine
+machine_of s = (setting_of s).machine
+
+abbrev pub tokens_of : Session → List ℕ
+tokens_of s = (setting_of s).tokens
 
 -- the configuration now and all those before it
 unfoldable pub history_of : Session → History
-history_of s = shown_past (past_of s)
+history_of s = past_view (past_of s)
 
 -- the tokens that were shifted by the steps that an unwinding has undone
 unfoldable pub later_of : Session → List ℕ

@@ -6,12 +6,12 @@ use Rattle.yparse.specs.Past.{Past}
 use Rattle.yparse.specs.History.{History}
 use Rattle.yparse.specs.Content.{Place, configuration_of}
 
-abbrev pub shown_step : StepKind × Place → StepKind × Configuration
-shown_step step = (step.0, configuration_of step.1)
+abbrev pub step_view : StepKind × Place → StepKind × Configuration
+step_view step = (step.0, configuration_of step.1)
 
 -- the history that a past of contents shows
-abbrev pub shown_past : Past StepKind Place → History
-shown_past p = record { now = configuration_of p.now; earlier = map shown_step p.earlier }
+abbrev pub past_view : Past StepKind Place → History
+past_view p = record { now = configuration_of p.now; earlier = map step_view p.earlier }
 
 -- the step began with the tables and the tokens of this content
 abbrev pub KeepsGround : Place → StepKind × Place → Type 0

@@ -1,7 +1,8 @@
 -- The input token that some bytes spell.
 use Rattle.std.specs.Prelude.{ℕ, ◌≡◌, ◌-◌, ◌||◌, Bool, false, List, [], ◌∷◌, length, slice_index_or}
 use Rattle.std.specs.Prelude.{Option, Some, None, Ok}
-use Rattle.yparse.specs.TokensFile.{is_blank, Outcome}
+use Rattle.ygrammar.specs.Bytes.{is_blank}
+use Rattle.yparse.specs.TokensFile.{Outcome}
 use Rattle.yparse.specs.Machine.{Machine}
 
 -- whether the first byte or the last one is a blank

@@ -3,29 +3,16 @@ use Rattle.std.specs.Prelude.{ℕ, suc, ◌≡◌, ◌<◌, nat_lt, ◌==◌, �
 use Rattle.std.specs.Prelude.{List, [], ◌∷◌, ◌++◌, length, Option, Some, None, Result, Ok, Err}
 use Rattle.std.specs.Prelude.{if◌then◌else◌}
 use Prim.Native.Nat.{zero}
+use Rattle.ygrammar.specs.Bytes.{is_blank, all_pass, begins}
 use Rattle.ygrammar.specs.Lexemes.{LiteralAt}
 use Rattle.ygrammar.specs.Names.{printed_literal}
 use Rattle.yparse.specs.declared.tokens.TokenFault.{TokenFault}
 use Rattle.yparse.specs.declared.tokens.TokenFault.TheVariants as faults
 use Rattle.yparse.specs.Tables.{is_input}
 
--- space, tab, newline, carriage return, form feed
-abbrev pub is_blank : ℕ → Bool
-is_blank b = b == 32 || b == 9 || b == 10 || b == 13 || b == 12
-
 -- a byte of a word that is no literal: neither a blank nor a quote
 abbrev pub is_word_byte : ℕ → Bool
 is_word_byte b = not (is_blank b || b == 39)
-
--- every byte passes
-abbrev pub all_pass : (ℕ → Bool) → List ℕ → Bool
-all_pass p [] = true
-all_pass p (b ∷ bs) = p b && all_pass p bs
-
--- the first byte is there and passes
-abbrev pub begins : (ℕ → Bool) → List ℕ → Bool
-begins p [] = false
-begins p (b ∷ bs) = p b
 
 -- The printed name of the word at the front, and what follows it: a literal in any spelling, which
 -- what follows may touch, or the longest run of bytes that are neither blanks nor quotes.
@@ -65,16 +52,17 @@ pub data Says : Type 0 where
   answer : Result (List ℕ) TokenFault → Says
 
 -- the symbol that a word names: none is K1, and one that is no input K2
-abbrev pub named : ℕ → ℕ → Option ℕ → List ℕ → Says
-named tokens place None rest = answer (Err (faults.Unknown place))
-named tokens place (Some symbol) rest =
+abbrev pub by_name : ℕ → ℕ → Option ℕ → List ℕ → Says
+by_name tokens place None rest = answer (Err (faults.Unknown place))
+by_name tokens place (Some symbol) rest =
     if is_input tokens symbol then token symbol rest else answer (Err (faults.NotInput place))
 
 -- behind n tokens: at 1,000,000 a further word is K3, and a quote that begins no literal is K5
 abbrev pub says : (List ℕ → Option ℕ) → ℕ → ℕ → Front → Says
 says find tokens n nothing = answer (Ok [])
 says find tokens n (word name rest) =
-    if nat_lt n 1000000 then named tokens (suc n) (find name) rest else answer (Err faults.TooMany)
+    if nat_lt n 1000000 then by_name tokens (suc n) (find name) rest else answer
+    (Err faults.TooMany)
 says find tokens n broken =
     if nat_lt n 1000000 then answer (Err (faults.BadLiteral (suc n)))
     else answer (Err faults.TooMany)

@@ -13,9 +13,9 @@ abbrev pub tokens_left : List (ℕ × ℕ) → List ℕ
 tokens_left rest = map (λ (token : ℕ × ℕ). token.0) rest
 
 -- the tokens that are shifted from before a step of this kind on, where these are shifted after it
-abbrev pub shifted_from : StepKind → List ℕ → List ℕ
-shifted_from (kinds.Shift token) later = token ∷ later
-shifted_from _ later = later
+abbrev pub shifts_from : StepKind → List ℕ → List ℕ
+shifts_from (kinds.Shift token) later = token ∷ later
+shifts_from _ later = later
 
 -- the form of a configuration: the symbols of its stack, and the tokens that later steps shift
 abbrev pub form_of : Configuration → List ℕ → List ℕ
@@ -48,22 +48,22 @@ abbrev pub NoEdits : List (StepKind × Configuration) → Type 0
 NoEdits earlier = All (λ (step : StepKind × Configuration). is_edit step.0 ≡ false) earlier
 
 -- the tokens that the past has shifted, and these
-abbrev pub shifted_before : List (StepKind × Configuration) → List ℕ → List ℕ
-shifted_before [] later = later
-shifted_before (step ∷ earlier) later = shifted_before earlier (shifted_from step.0 later)
+abbrev pub shifts_before : List (StepKind × Configuration) → List ℕ → List ℕ
+shifts_before [] later = later
+shifts_before (step ∷ earlier) later = shifts_before earlier (shifts_from step.0 later)
 
 -- the whole input as it stands: the tokens shifted, and those left
 abbrev pub whole_input : History → List ℕ
-whole_input h = shifted_before h.earlier (tokens_left h.now.rest)
+whole_input h = shifts_before h.earlier (tokens_left h.now.rest)
 
 -- the forms before the reductions of the past, the newest first, where these tokens are shifted
 -- later
 abbrev pub forms_before : List ℕ → List (StepKind × Configuration) → List (List ℕ)
 forms_before later [] = []
 forms_before later (step ∷ earlier) =
-    if is_reduction step.0 then form_of step.1 (shifted_from step.0 later)
-    ∷ forms_before (shifted_from step.0 later) earlier
-    else forms_before (shifted_from step.0 later) earlier
+    if is_reduction step.0 then form_of step.1 (shifts_from step.0 later)
+    ∷ forms_before (shifts_from step.0 later) earlier
+    else forms_before (shifts_from step.0 later) earlier
 
 -- the forms that unwinding goes through from where these tokens are shifted later
 abbrev pub forms_from : List ℕ → History → List (List ℕ)
@@ -73,16 +73,16 @@ abbrev pub forms_of : History → List (List ℕ)
 forms_of h = forms_from [] h
 
 -- names with one space between
-abbrev pub joined : Machine → List ℕ → List ℕ
-joined m [] = []
-joined m (s ∷ []) = m.name s
-joined m (s ∷ t ∷ form) = m.name s ++ (32 ∷ joined m (t ∷ form))
+abbrev pub names_text : Machine → List ℕ → List ℕ
+names_text m [] = []
+names_text m (s ∷ []) = m.name s
+names_text m (s ∷ t ∷ form) = m.name s ++ (32 ∷ names_text m (t ∷ form))
 
 abbrev pub form_line : Machine → List ℕ → List ℕ
-form_line m form = joined m form ++ codes "\n"
+form_line m form = names_text m form ++ codes "\n"
 
-abbrev pub unwound_text : Machine → History → List ℕ
-unwound_text m h = flat_map (form_line m) (forms_of h)
+abbrev pub forms_text : Machine → History → List ℕ
+forms_text m h = flat_map (form_line m) (forms_of h)
 
 -- a tree as text
 abbrev mutual

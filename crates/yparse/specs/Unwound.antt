@@ -8,9 +8,9 @@ use Rattle.yparse.specs.declared.machine.Mode.TheVariants.{Accepted}
 use Rattle.yparse.specs.declared.machine.UnwindFault.{UnwindFault}
 use Rattle.yparse.specs.declared.machine.UnwindFault.TheVariants.{NotAccepted, HadError, Write}
 use Rattle.yparse.specs.Machine.{Machine}
-use Rattle.yparse.specs.Past.{position, undone, rewound}
+use Rattle.yparse.specs.Past.{position, back_by, to_first}
 use Rattle.yparse.specs.History.{History}
-use Rattle.yparse.specs.Unwinding.{NoErrors, form_of, forms_from, forms_of, form_line, unwound_text}
+use Rattle.yparse.specs.Unwinding.{NoErrors, form_of, forms_from, forms_of, form_line, forms_text}
 
 -- the space before a name that isn't the first
 abbrev pub gap : ℕ → List ℕ
@@ -21,7 +21,7 @@ gap (suc index) = 32 ∷ []
 -- later, were written, and a beginning of its line, which is a beginning of the whole text.
 pub record Stops (old known : Option (List ℕ)) (m : Machine) (h new : History) : Type 0 where
   pub steps : ℕ
-  pub left : new ≡ undone steps h
+  pub left : new ≡ back_by steps h
   pub before : List (List ℕ)
   pub later : List ℕ
   pub forms : forms_of h ≡ before ++ forms_from later new
@@ -29,14 +29,14 @@ pub record Stops (old known : Option (List ℕ)) (m : Machine) (h new : History)
   pub back : List ℕ
   pub line : form_line m (form_of new.now later) ≡ front ++ back
   pub written : Appends old known (flat_map (form_line m) before ++ front)
-  pub begins : Begins old known (unwound_text m h)
+  pub begins : Begins old known (forms_text m h)
 
 -- the whole text was written and the first configuration is left, or the link failed at the form
 -- that stands
 abbrev pub GoesBack : Option (List ℕ) → Option (List ℕ) → Machine → History → Bool → History
     → Type 0
 GoesBack old known m h true new =
-    Appends old known (unwound_text m h) × (new ≡ rewound h) × (position new ≡ 0)
+    Appends old known (forms_text m h) × (new ≡ to_first h) × (position new ≡ 0)
 GoesBack old known m h false new = Stops old known m h new
 
 -- What unwinding answers, and leaves of the known bytes and the history. It is refused where the

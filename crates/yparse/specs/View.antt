@@ -10,8 +10,8 @@ use Rattle.yparse.specs.Content.{configuration_in, trees_over}
 use Rattle.yparse.specs.Parts.{content_of}
 
 -- the configuration that a view shows
-unfoldable pub shown_by : View → Configuration
-shown_by v = configuration_in v.tokens.now (content_of v.parts.now)
+unfoldable pub configuration_by : View → Configuration
+configuration_by v = configuration_in v.tokens.now (content_of v.parts.now)
 
 -- the tree that a view shows
 unfoldable pub tree_by : TreeView → Tree

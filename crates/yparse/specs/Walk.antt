@@ -20,10 +20,10 @@ head_text m nodes.ErrorLeaf = codes "error"
 head_text m (nodes.Rule rule from count) = 40 ∷ decimal rule
 
 -- what a node opens
-abbrev pub opened : Node → List Frame
-opened (nodes.Leaf token place) = []
-opened nodes.ErrorLeaf = []
-opened (nodes.Rule rule from count) = frame from (from + count) ∷ []
+abbrev pub frames_of : Node → List Frame
+frames_of (nodes.Leaf token place) = []
+frames_of nodes.ErrorLeaf = []
+frames_of (nodes.Rule rule from count) = frame from (from + count) ∷ []
 
 -- children, each after a space
 abbrev pub kids_text : Machine → List Tree → List StackEntry → List ℕ

@@ -3,6 +3,7 @@
 #![tactic(auto)]
 
 mod journal;
+mod kinds;
 pub mod machine;
 mod parts;
 mod place;

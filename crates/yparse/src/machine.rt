@@ -53,6 +53,13 @@ pub enum Edit {
     Drop,
 }
 
+/// What may be made of a parse: its next step, or an edit of the tokens left.
+#[derive(Clone, Copy, Debug, PartialEq, Eq)]
+pub enum Deed {
+    Step,
+    Edit(Edit),
+}
+
 /// Why a step or an edit is refused. What is refused changes nothing.
 #[derive(Clone, Copy, Debug, PartialEq, Eq, Error)]
 pub enum StepFault {

@@ -1,9 +1,12 @@
 //! The content of a parse as flat lists, and the steps on them, forward and backward.
 
-ghost use Rattle.std.specs.Prelude.{◌≡◌, ◌<◌, ◌≤◌, ◌+◌, ◌-◌, ◌^◌, length, drop, OnOk, vec_len, vec_capacity};
-ghost use Rattle.yparse.specs.Content.{state_from, lead, grown, reduced, unreduced, detected, made_of, one_step};
+ghost use Rattle.std.specs.Prelude.{◌≡◌, ◌<◌, ◌≤◌, ◌+◌, ◌-◌, ◌^◌, length, drop, OnOk, vec_len};
+ghost use Rattle.std.specs.Prelude.{vec_capacity};
+ghost use Rattle.yparse.specs.Content.{state_from, lead, with_entry, with_parent, without_parent};
+ghost use Rattle.yparse.specs.Content.{with_error, content_after, one_step};
 ghost use Rattle.yparse.specs.Content.{first_content};
-ghost use Rattle.yparse.specs.Content.{unmade, ungrown, one_back, change_at, taken_by};
+ghost use Rattle.yparse.specs.Content.{content_before, without_entry, one_back, change_at};
+ghost use Rattle.yparse.specs.Content.{taken_by};
 ghost use Rattle.yparse.specs.declared.machine.StepKind.TheVariants as kinds;
 ghost use Rattle.yparse.specs.Parts.{content_of, HasRoomFor, KeepsRoom};
 
@@ -116,7 +119,7 @@ pub(crate) fn state_below(stack: &[StackEntry], count: usize) -> usize
 /// An entry with a node of its own goes on top.
 fn grow(parts: &mut Parts, state: usize, symbol: Sym, node: Node)
     requires { HasRoomFor parts.old 0 }
-    ensures content { content_of parts.new ≡ grown (content_of parts.old) state symbol node }
+    ensures content { content_of parts.new ≡ with_entry (content_of parts.old) state symbol node }
     ensures capacity { KeepsRoom parts.old parts.new }
 {
     let entry = StackEntry {
@@ -131,7 +134,8 @@ fn grow(parts: &mut Parts, state: usize, symbol: Sym, node: Node)
 /// The entries on top become the children of a new one.
 fn fold(parts: &mut Parts, state: usize, left: Sym, rule: usize, width: usize)
     requires room { HasRoomFor parts.old width }
-    ensures content { content_of parts.new ≡ reduced (content_of parts.old) state left rule width }
+    ensures content { content_of parts.new
+        ≡ with_parent (content_of parts.old) state left rule width }
     ensures capacity { KeepsRoom parts.old parts.new }
 {
     let start = parts.stack.len().saturating_sub(width);
@@ -155,7 +159,7 @@ fn unfold(parts: &mut Parts, width: usize)
     requires { (vec_len parts.old.stack - 1)
         + length (drop (vec_len parts.old.children - width) parts.old.children.items)
         ≤ vec_capacity parts.old.stack }
-    ensures content { content_of parts.new ≡ unreduced (content_of parts.old) width }
+    ensures content { content_of parts.new ≡ without_parent (content_of parts.old) width }
     ensures capacity { KeepsRoom parts.old parts.new }
 {
     let start = parts.children.len().saturating_sub(width);
@@ -211,7 +215,7 @@ fn shift(tables: &Tables, parts: &mut Parts, token: Sym)
     requires room { HasRoomFor parts.old 0 }
     requires at { parts.old.rest.at < 2 ^ 63 }
     ensures content { content_of parts.new
-        ≡ made_of tables.now (kinds.Shift token) (content_of parts.old) }
+        ≡ content_after tables.now (kinds.Shift token) (content_of parts.old) }
     ensures capacity { KeepsRoom parts.old parts.new }
 {
     let state = lead_of(tables, state_below(&parts.stack, parts.stack.len()), token);
@@ -225,7 +229,7 @@ fn shift(tables: &Tables, parts: &mut Parts, token: Sym)
 fn reduce(tables: &Tables, parts: &mut Parts, rule: usize)
     requires room { HasRoomFor parts.old (taken_by tables.now (kinds.Reduce rule)) }
     ensures content { content_of parts.new
-        ≡ made_of tables.now (kinds.Reduce rule) (content_of parts.old) }
+        ≡ content_after tables.now (kinds.Reduce rule) (content_of parts.old) }
     ensures capacity { KeepsRoom parts.old parts.new }
 {
     let (left, body) = rule_of(tables, rule);
@@ -237,7 +241,7 @@ fn reduce(tables: &Tables, parts: &mut Parts, rule: usize)
 /// An error is detected, and reported where the counter is 0.
 fn detect(parts: &mut Parts)
     requires { parts.old.errors < 2 ^ 63 }
-    ensures content { content_of parts.new ≡ detected (content_of parts.old) }
+    ensures content { content_of parts.new ≡ with_error (content_of parts.old) }
     ensures capacity { KeepsRoom parts.old parts.new }
 {
     if parts.counter == 0 {
@@ -251,7 +255,7 @@ fn detect(parts: &mut Parts)
 fn shift_error(tables: &Tables, parts: &mut Parts)
     requires room { HasRoomFor parts.old 0 }
     ensures content { content_of parts.new
-        ≡ made_of tables.now kinds.ShiftError (content_of parts.old) }
+        ≡ content_after tables.now kinds.ShiftError (content_of parts.old) }
     ensures capacity { KeepsRoom parts.old parts.new }
 {
     let state = lead_of(tables, state_below(&parts.stack, parts.stack.len()), 1);
@@ -267,7 +271,7 @@ pub(crate) fn make(tables: &Tables, parts: &mut Parts, kind: StepKind) -> PlaceC
     requires steps { parts.old.steps < 2 ^ 63 }
     requires few { vec_len parts.old.rest.inserted ≤ parts.old.rest.edits }
     ensures content { content_of parts.new
-        ≡ one_step (made_of tables.now kind (content_of parts.old)) }
+        ≡ one_step (content_after tables.now kind (content_of parts.old)) }
     ensures change { result ≡ change_at kind (content_of parts.old) }
     ensures capacity { KeepsRoom parts.old parts.new }
 {
@@ -289,7 +293,7 @@ pub(crate) fn make(tables: &Tables, parts: &mut Parts, kind: StepKind) -> PlaceC
 
 /// Takes the entry on top away, with its node.
 fn ungrow(parts: &mut Parts)
-    ensures content { content_of parts.new ≡ ungrown (content_of parts.old) }
+    ensures content { content_of parts.new ≡ without_entry (content_of parts.old) }
     ensures capacity { KeepsRoom parts.old parts.new }
 {
     parts.stack.pop();
@@ -298,12 +302,12 @@ fn ungrow(parts: &mut Parts)
 
 /// Takes a change back. It takes no memory.
 pub(crate) fn unmake(tables: &Tables, parts: &mut Parts, change: PlaceChange)
-    requires stack { length (one_back change (unmade tables.now change change.kind
+    requires stack { length (one_back change (content_before tables.now change change.kind
         (content_of parts.old))).stack ≤ vec_capacity parts.old.stack }
-    requires inserted { length (one_back change (unmade tables.now change change.kind
+    requires inserted { length (one_back change (content_before tables.now change change.kind
         (content_of parts.old))).rest.inserted ≤ vec_capacity parts.old.rest.inserted }
     ensures content { content_of parts.new
-        ≡ one_back change (unmade tables.now change change.kind (content_of parts.old)) }
+        ≡ one_back change (content_before tables.now change change.kind (content_of parts.old)) }
     ensures capacity { KeepsRoom parts.old parts.new }
 {
     parts.counter = change.counter;

@@ -1,14 +1,17 @@
 //! A parse that goes by tables, and steps forward and back in place.
 
-ghost use Rattle.std.specs.Prelude.{◌≡◌, ◌<◌, IsTrue, IfOk, IfSome, OnOk, OnErr, is_some, length};
+ghost use Rattle.std.specs.Prelude.{◌≡◌, ◌<◌, IsTrue, IfSome, Option, is_some, length};
 ghost use Rattle.std.specs.Prelude.{slice_index_or};
-ghost use Rattle.yparse.specs.Content.{running_at, popping_at, kind_in, edit_kind, first_place};
-ghost use Rattle.yparse.specs.Content.{configuration_of, made, change_at, valid};
+ghost use Rattle.yparse.specs.Ahead.{LeadsOn};
+ghost use Rattle.yparse.specs.Content.{Place, configuration_of, first_place, place_after, valid};
+ghost use Rattle.yparse.specs.Content.{place_next, place_before, place_fits};
 ghost use Rattle.yparse.specs.History.{History};
 ghost use Rattle.yparse.specs.MachineOver.{machine_over};
 ghost use Rattle.yparse.specs.Parts.{content_of};
 ghost use Rattle.yparse.specs.Place.{IsKept};
+ghost use Rattle.yparse.specs.Reversible.{Advances};
 ghost use Rattle.yparse.specs.Rightmost.{UnwindsRight};
+ghost use Rattle.yparse.specs.declared.machine.StepKind.{StepKind as Kind};
 ghost use Rattle.yparse.specs.Spelling.{Spells};
 ghost use Rattle.yparse.specs.Tables.{name_of, is_input};
 ghost use Rattle.yparse.specs.Tokens.{Fits, symbols_of};
@@ -17,19 +20,19 @@ ghost use Rattle.yparse.specs.Unwinding.{tree_lines};
 ghost use Rattle.yparse.specs.View.{tree_by, trees_in};
 ghost use Rattle.ytables.specs.Sends.{Sends};
 
-use crate::machine::{Edit, Mode, StepFault, StepKind};
-use crate::parts::{Parts, PlaceChange, children_of, make, make_room, state_below, unmake};
-use crate::rest::{is_left, token_ahead};
+use crate::kinds::{edit_ahead, step_ahead};
+use crate::machine::{Edit, StepFault, StepKind};
+use crate::parts::{Parts, PlaceChange, children_of, make, make_room, unmake};
 use crate::reversible::Reversible;
-use crate::tables::{cell, grammar_of, known, name_of};
-use crate::tokens::{Tokens, has_blank_end, is_input, only_token};
+use crate::tables::{grammar_of, known, name_of};
+use crate::tokens::{Tokens, has_blank_end, only_token};
 use crate::tree_view::TreeView;
 use crate::walk::{Frame, write_lines};
-use std::alloc::{AllocError, Global};
+use std::alloc::Global;
 use std::io::Write;
 use std::marker::Model;
 use ygrammar::Sym;
-use ytables::{Action, Link, Tables};
+use ytables::{Link, Tables};
 
 /// A parse of some tokens by some tables, as it is now. Trees lie in flat lists, and a step back
 /// cuts their ends off. The walk has room for all nodes that a tree may have open; a step reserves
@@ -53,67 +56,6 @@ impl Model for PlaceParser {
     ghost view = { λ p. place_of p.tables p.tokens p.parts };
 
     ghost invariant = { λ p. IsPlace p.tables p.tokens p.parts (vec_capacity p.walk) };
-}
-
-/// The kind of the step of a running parse.
-fn kind_running(tables: &Tables, tokens: &[Sym], parts: &Parts, state: usize) -> StepKind
-    ensures { result ≡ running_at tables.now tokens.now (content_of parts.now) state }
-{
-    let token = token_ahead(tokens, &parts.rest);
-    match cell(tables, state, token) {
-        Action::Shift(_) => StepKind::Shift(token),
-        Action::Reduce(rule) => StepKind::Reduce(rule),
-        Action::Accept => StepKind::Accept,
-        Action::Error if parts.counter != 3 => StepKind::Detect,
-        Action::Error if is_left(tokens, &parts.rest) => StepKind::Discard(token),
-        Action::Error => StepKind::Fail,
-    }
-}
-
-/// The kind of the step that looks for a state in which `error` can be shifted.
-fn kind_popping(tables: &Tables, parts: &Parts, state: usize) -> StepKind
-    ensures { result ≡ popping_at tables.now (content_of parts.now) state }
-{
-    if let Action::Shift(_) = cell(tables, state, 1) {
-        return StepKind::ShiftError;
-    }
-    let len = parts.stack.len();
-    if len == 0 {
-        StepKind::Fail
-    } else {
-        StepKind::Pop(parts.stack[len - 1].symbol)
-    }
-}
-
-/// The kind of an edit, where it can be made.
-pub(crate) fn edit_kind(
-    tables: &Tables,
-    tokens: &[Sym],
-    parts: &Parts,
-    edit: Edit,
-) -> Option<StepKind>
-    ensures { result ≡ edit_kind tables.now tokens.now (content_of parts.now) edit }
-{
-    match edit {
-        Edit::Insert(token) if is_input(grammar_of(tables), token) => Some(StepKind::Insert(token)),
-        Edit::Drop if is_left(tokens, &parts.rest) => {
-            Some(StepKind::Drop(token_ahead(tokens, &parts.rest)))
-        }
-        Edit::Insert(_) | Edit::Drop => None,
-    }
-}
-
-/// The kind of the next step, where there is one.
-pub(crate) fn next_kind(tables: &Tables, tokens: &[Sym], parts: &Parts) -> Option<StepKind>
-    ensures { result ≡ kind_in tables.now tokens.now (content_of parts.now) parts.now.mode }
-{
-    let state = state_below(&parts.stack, parts.stack.len());
-    match parts.mode {
-        Mode::Running => Some(kind_running(tables, tokens, parts, state)),
-        Mode::Popping => Some(kind_popping(tables, parts, state)),
-        Mode::Accepted => None,
-        Mode::Failed => None,
-    }
 }
 
 impl PlaceParser {
@@ -191,12 +133,12 @@ impl PlaceParser {
         )
     }
 
-    /// Makes a step or an edit of this kind, which leaves a parse. An `Err` changes nothing.
-    fn change(&mut self, kind: StepKind) -> Result<PlaceChange, AllocError>
-        requires { IsTrue (valid (made kind self.old)) }
-        ensures made { OnOk result (self.new ≡ made kind self.old) }
-        ensures change { IfOk result (λ change. change ≡ change_at kind self.old.content) }
-        ensures same { OnErr result (self.new ≡ self.old) }
+    /// Makes a step or an edit of this kind, which leads on. An `Err` changes nothing.
+    fn change(&mut self, kind: StepKind) -> Result<PlaceChange, StepFault>
+        requires { IsTrue (valid (place_after kind self.old)) }
+        ensures { (found : Place → Option (Kind × Place)) → LeadsOn self.old (found self.old) kind →
+            Advances place_next found place_before (λ c. c.kind) place_fits
+            self.old result self.new }
     {
         let count = children_of(&self.tables, kind);
         make_room(&mut self.parts, &mut self.walk, count)?;
@@ -243,30 +185,13 @@ impl Reversible for PlaceParser {
     ghost fits = { place_fits };
 
     fn advance(&mut self) -> Result<PlaceChange, StepFault> {
-        known(&self.tables);
-        match next_kind(&self.tables, &self.tokens.symbols, &self.parts) {
-            None => Err(StepFault::Halted),
-            Some(kind) => match self.change(kind) {
-                Ok(change) => Ok(change),
-                Err(_) => Err(StepFault::Memory),
-            },
-        }
+        let kind = step_ahead(&self.tables, &self.tokens, &self.parts)?;
+        self.change(kind)
     }
 
     fn edit(&mut self, edit: Edit) -> Result<PlaceChange, StepFault> {
-        known(&self.tables);
-        let tokens: &[Sym] = &self.tokens.symbols;
-        match next_kind(&self.tables, tokens, &self.parts) {
-            None => return Err(StepFault::Halted),
-            Some(_) => {}
-        }
-        match edit_kind(&self.tables, tokens, &self.parts, edit) {
-            None => Err(StepFault::NoToken),
-            Some(kind) => match self.change(kind) {
-                Ok(change) => Ok(change),
-                Err(_) => Err(StepFault::Memory),
-            },
-        }
+        let kind = edit_ahead(&self.tables, &self.tokens, &self.parts, edit)?;
+        self.change(kind)
     }
 
     fn revert(&mut self, change: PlaceChange) {

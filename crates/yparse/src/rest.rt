@@ -2,8 +2,9 @@
 
 ghost use Rattle.std.specs.Prelude.{◌≡◌, ◌<◌, ◌≤◌, ◌^◌, length, slice_index_or};
 ghost use Rattle.std.specs.Prelude.{IfOk, OnOk, vec_len, vec_capacity};
-ghost use Rattle.yparse.specs.Rest.{rest_in, rest_left, ahead, is_left, place_left, taken, given_back};
-ghost use Rattle.yparse.specs.Rest.{inserted_in, uninserted, first_rest};
+ghost use Rattle.yparse.specs.Rest.{rest_in, rest_left, ahead, is_left, place_left, without_first};
+ghost use Rattle.yparse.specs.Rest.{with_first_back};
+ghost use Rattle.yparse.specs.Rest.{with_insertion, without_insertion, first_rest};
 
 use std::alloc::{AllocError, Global};
 use ygrammar::Sym;
@@ -93,7 +94,7 @@ pub(crate) fn place_left(rest: &Remaining) -> usize
 /// The first token left goes.
 pub(crate) fn take(rest: &mut Remaining)
     requires { rest.old.at < 2 ^ 63 }
-    ensures rest { rest_in rest.new ≡ taken (rest_in rest.old) }
+    ensures rest { rest_in rest.new ≡ without_first (rest_in rest.old) }
     ensures capacity { vec_capacity rest.old.inserted ≤ vec_capacity rest.new.inserted }
 {
     if rest.inserted.len() == 0 {
@@ -105,9 +106,9 @@ pub(crate) fn take(rest: &mut Remaining)
 
 /// A token that was taken from this place comes back. It takes no memory.
 pub(crate) fn give_back(rest: &mut Remaining, place: usize, token: Sym)
-    requires { length (given_back place token (rest_in rest.old)).inserted
+    requires { length (with_first_back place token (rest_in rest.old)).inserted
         ≤ vec_capacity rest.old.inserted }
-    ensures rest { rest_in rest.new ≡ given_back place token (rest_in rest.old) }
+    ensures rest { rest_in rest.new ≡ with_first_back place token (rest_in rest.old) }
     ensures capacity { vec_capacity rest.old.inserted ≤ vec_capacity rest.new.inserted }
 {
     if place == 0 {
@@ -132,7 +133,7 @@ pub(crate) fn make_room(rest: &mut Remaining) -> Result<(), AllocError>
 pub(crate) fn insert(rest: &mut Remaining, token: Sym)
     requires room { rest.old.edits < vec_capacity rest.old.inserted }
     requires few { vec_len rest.old.inserted ≤ rest.old.edits }
-    ensures rest { rest_in rest.new ≡ inserted_in token (rest_in rest.old) }
+    ensures rest { rest_in rest.new ≡ with_insertion token (rest_in rest.old) }
     ensures capacity { vec_capacity rest.old.inserted ≤ vec_capacity rest.new.inserted }
 {
     rest.inserted.push(token).unwrap();
@@ -141,7 +142,7 @@ pub(crate) fn insert(rest: &mut Remaining, token: Sym)
 
 /// An insertion is undone.
 pub(crate) fn uninsert(rest: &mut Remaining)
-    ensures rest { rest_in rest.new ≡ uninserted (rest_in rest.old) }
+    ensures rest { rest_in rest.new ≡ without_insertion (rest_in rest.old) }
     ensures capacity { vec_capacity rest.old.inserted ≤ vec_capacity rest.new.inserted }
 {
     rest.inserted.pop();

@@ -3,13 +3,14 @@
 ghost use Rattle.std.specs.Prelude.{◌≡◌, ◌+◌, ◌≤◌, ◌<◌, All, Some, Ok, IfSome, is_some, false};
 ghost use Rattle.std.specs.Prelude.{length, vec_len, vec_capacity, option_map, slice_get};
 ghost use Rattle.yparse.specs.declared.machine.AtStart.{AtStart};
-ghost use Rattle.yparse.specs.Reversible.{StepsBack};
+ghost use Rattle.yparse.specs.Content.{place_next, place_deed};
+ghost use Rattle.yparse.specs.Reversible.{StepsOn, StepsBack};
 ghost use Rattle.yparse.specs.History.{IsHistory};
 ghost use Rattle.yparse.specs.MachineOver.{machine_over};
-ghost use Rattle.yparse.specs.Shown.{KeepsGround, shown_past};
+ghost use Rattle.yparse.specs.Shown.{KeepsGround, past_view};
 
 use crate::journal::Journal;
-use crate::machine::{AtStart, Edit, StepFault, StepKind};
+use crate::machine::{AtStart, Deed, Edit, StepFault, StepKind};
 use crate::place::PlaceParser;
 use crate::tables::known;
 use crate::tokens::Tokens;
@@ -25,9 +26,19 @@ pub struct Session {
     /// There is room for a token for each step.
     pub(crate) later: Vec<Sym>,
     ghost steps: { ∥ IsHistory (machine_over journal.now.tables) journal.now.tokens
-        (shown_past journal) ∥₁ },
+        (past_view journal) ∥₁ },
     ghost ground: { All (KeepsGround journal.now) journal.earlier },
     ghost room: { vec_len later + length journal.earlier ≤ vec_capacity later },
+}
+
+/// Makes a step or an edit.
+fn make(journal: &mut Journal<PlaceParser>, deed: Deed) -> Result<(), StepFault>
+    ensures { StepsOn place_next (place_deed deed) journal.old result journal.new }
+{
+    match deed {
+        Deed::Step => journal.step(),
+        Deed::Edit(edit) => journal.edit(edit),
+    }
 }
 
 /// The kind of what was made last, with room for a token for each step. Where the room is refused,
@@ -38,7 +49,8 @@ fn settle(journal: &mut Journal<PlaceParser>, later: &mut Vec<Sym>) -> Option<St
     ensures kind { IfSome result (λ kind. option_map (λ step. step.0)
         (slice_get journal.old.earlier 0) ≡ Some kind) }
     ensures kept { IfSome result (λ _. journal.new ≡ journal.old) }
-    ensures back { is_some result ≡ false → StepsBack {E = AtStart} journal.old (Ok tt) journal.new }
+    ensures back { is_some result ≡ false →
+        StepsBack {E = AtStart} journal.old (Ok tt) journal.new }
     ensures room { vec_len later.new + length journal.new.earlier ≤ vec_capacity later.new }
 {
     later.clear();
@@ -55,21 +67,23 @@ fn settle(journal: &mut Journal<PlaceParser>, later: &mut Vec<Sym>) -> Option<St
     }
 }
 
-#[tactic(auto, unfolding(crate::specs::Session::machine_of, crate::specs::Session::history_of, crate::specs::Session::tokens_of, crate::specs::Session::grammar_of))]
+#[tactic(auto, unfolding(crate::specs::Session::setting_of, crate::specs::Session::history_of))]
 impl Session {
     ghost use Rattle.std.specs.Prelude.{◌≤◌, IsTrue, slice_get, option_map};
     ghost use Rattle.yparse.specs.declared.machine.Edit.TheVariants as edits;
     ghost use Rattle.yparse.specs.Tables.{is_input};
     ghost use Rattle.yparse.specs.Spelling.{Spells};
     ghost use Rattle.std.specs.Prelude.{IfSome};
-    ghost use Rattle.yparse.specs.Machine.{next, edited};
+    ghost use Rattle.yparse.specs.Machine.{next, edited, deed_by};
     ghost use Rattle.yparse.specs.Past.{Steps, Changes, Undoes, position, most_steps};
     ghost use Rattle.yparse.specs.History.{first_history};
     ghost use Rattle.yparse.specs.Headline.{IsMachineOf};
     ghost use Rattle.yparse.specs.History.{History};
     ghost use Rattle.yparse.specs.Rightmost.{UnwindsRight};
     ghost use Rattle.yparse.specs.Tokens.{Fits, symbols_of};
-    ghost use Rattle.yparse.specs.Session.{machine_of, history_of, tokens_of, grammar_of, past_of};
+    ghost use Rattle.yparse.specs.Session.{setting_of, machine_of, history_of, tokens_of};
+    ghost use Rattle.yparse.specs.Session.{grammar_of};
+    ghost use Rattle.yparse.specs.Session.{past_of};
 
     /// The first configuration alone: an empty stack, all tokens, no error. It takes no memory.
     pub fn new(alloc: Global, tables: Tables, tokens: Tokens) -> Session
@@ -103,30 +117,19 @@ impl Session {
     pub fn step(&mut self) -> Result<StepKind, StepFault>
         ensures steps { Steps (next (machine_of self.old)) (history_of self.old) result
             (history_of self.new) }
-        ensures machine { machine_of self.new ≡ machine_of self.old }
-        ensures tokens { tokens_of self.new ≡ tokens_of self.old }
-        ensures grammar { grammar_of self.new ≡ grammar_of self.old }
+        ensures setting { setting_of self.new ≡ setting_of self.old }
     {
-        self.journal.machine().kept();
-        match self.journal.step() {
-            Err(fault) => Err(fault),
-            Ok(()) => match settle(&mut self.journal, &mut self.later) {
-                Some(kind) => Ok(kind),
-                None => Err(StepFault::Memory),
-            },
-        }
+        self.change(Deed::Step)
     }
 
-    /// One edit of the tokens left, and its kind.
-    fn edit(&mut self, edit: Edit) -> Result<StepKind, StepFault>
-        ensures edits { Changes (next (machine_of self.old)) (edited (machine_of self.old) edit)
+    /// One step, or one edit of the tokens left, and its kind.
+    fn change(&mut self, deed: Deed) -> Result<StepKind, StepFault>
+        ensures changes { Changes (next (machine_of self.old)) (deed_by (machine_of self.old) deed)
             (history_of self.old) result (history_of self.new) }
-        ensures machine { machine_of self.new ≡ machine_of self.old }
-        ensures tokens { tokens_of self.new ≡ tokens_of self.old }
-        ensures grammar { grammar_of self.new ≡ grammar_of self.old }
+        ensures setting { setting_of self.new ≡ setting_of self.old }
     {
         self.journal.machine().kept();
-        match self.journal.edit(edit) {
+        match make(&mut self.journal, deed) {
             Err(fault) => Err(fault),
             Ok(()) => match settle(&mut self.journal, &mut self.later) {
                 Some(kind) => Ok(kind),
@@ -143,11 +146,9 @@ impl Session {
         ensures edits { Changes (next (machine_of self.old))
             (edited (machine_of self.old) (edits.Insert token)) (history_of self.old) result
             (history_of self.new) }
-        ensures machine { machine_of self.new ≡ machine_of self.old }
-        ensures tokens { tokens_of self.new ≡ tokens_of self.old }
-        ensures grammar { grammar_of self.new ≡ grammar_of self.old }
+        ensures setting { setting_of self.new ≡ setting_of self.old }
     {
-        self.edit(Edit::Insert(token))
+        self.change(Deed::Edit(Edit::Insert(token)))
     }
 
     /// The first of the tokens left is taken out: one position more. An `Err` changes nothing: S1
@@ -157,19 +158,15 @@ impl Session {
         ensures edits { Changes (next (machine_of self.old))
             (edited (machine_of self.old) edits.Drop) (history_of self.old) result
             (history_of self.new) }
-        ensures machine { machine_of self.new ≡ machine_of self.old }
-        ensures tokens { tokens_of self.new ≡ tokens_of self.old }
-        ensures grammar { grammar_of self.new ≡ grammar_of self.old }
+        ensures setting { setting_of self.new ≡ setting_of self.old }
     {
-        self.edit(Edit::Drop)
+        self.change(Deed::Edit(Edit::Drop))
     }
 
     /// One step or edit back.
     pub(crate) fn undo(&mut self) -> Result<StepKind, AtStart>
         ensures undoes { Undoes (history_of self.old) result (history_of self.new) }
-        ensures machine { machine_of self.new ≡ machine_of self.old }
-        ensures tokens { tokens_of self.new ≡ tokens_of self.old }
-        ensures grammar { grammar_of self.new ≡ grammar_of self.old }
+        ensures setting { setting_of self.new ≡ setting_of self.old }
         ensures later { self.new.later ≡ self.old.later }
     {
         let kind = match self.last_kind() {
@@ -184,9 +181,7 @@ impl Session {
     /// It takes no memory, and is refused at position 0 alone.
     pub fn back(&mut self) -> Result<StepKind, AtStart>
         ensures undoes { Undoes (history_of self.old) result (history_of self.new) }
-        ensures machine { machine_of self.new ≡ machine_of self.old }
-        ensures tokens { tokens_of self.new ≡ tokens_of self.old }
-        ensures grammar { grammar_of self.new ≡ grammar_of self.old }
+        ensures setting { setting_of self.new ≡ setting_of self.old }
     {
         self.undo()
     }
@@ -196,21 +191,22 @@ impl Session {
     pub fn position(&self) -> usize
         ensures position { result ≡ position (history_of self.now) }
         ensures few { result ≤ most_steps }
-        ensures history { ∥ IsHistory (machine_of self.now) (tokens_of self.now) (history_of self.now) ∥₁ }
+        ensures history { ∥ IsHistory (machine_of self.now) (tokens_of self.now)
+            (history_of self.now) ∥₁ }
     {
         self.journal.position()
     }
 
     /// The printed name of a symbol; empty for a number that is no symbol.
-    #[tactic(auto, unfolding(crate::specs::Session::machine_of, crate::specs::MachineOver::machine_over))]
+    #[tactic(auto, unfolding(crate::specs::Session::setting_of, crate::specs::MachineOver::machine_over))]
     pub fn name(&self, symbol: Sym) -> &[u8]
         ensures { result.now ≡ (machine_of self.now).name symbol }
     {
         self.journal.machine().name(symbol)
     }
 
-    /// The input token that these bytes spell: one literal or one word, as in a tokens file, with no
-    /// blank before or after it. `None` where they spell none. It takes no memory.
+    /// The input token that these bytes spell: one literal or one word, as in a tokens file, with
+    /// no blank before or after it. `None` where they spell none. It takes no memory.
     pub fn token(&self, bytes: &[u8]) -> Option<Sym>
         ensures spells { Spells (machine_of self.now) bytes.now result }
         ensures input { IfSome result (λ token. IsTrue

@@ -1,21 +1,23 @@
 //! A parse that goes by tables, and keeps each earlier configuration whole.
 
-ghost use Rattle.std.specs.Prelude.{◌≡◌, ◌≤◌, ◌+◌, IsTrue, IfOk, OnOk, OnErr, vec_len, vec_capacity};
-ghost use Rattle.yparse.specs.Content.{first_place, made, valid};
+ghost use Rattle.std.specs.Prelude.{◌≡◌, ◌≤◌, ◌+◌, IsTrue, IfOk, Option, vec_len, vec_capacity};
+ghost use Rattle.yparse.specs.Ahead.{LeadsOn};
+ghost use Rattle.yparse.specs.Content.{Place, first_place, place_after, place_next, valid};
 ghost use Rattle.yparse.specs.Parts.{content_of, HasRoomFor};
+ghost use Rattle.yparse.specs.Reversible.{Advances};
+ghost use Rattle.yparse.specs.Snapshot.{snapshot_before, snapshot_fits};
 ghost use Rattle.yparse.specs.Tokens.{Fits, symbols_of};
+ghost use Rattle.yparse.specs.declared.machine.StepKind.{StepKind as Kind};
 
+use crate::kinds::{edit_ahead, step_ahead};
 use crate::machine::{Edit, StepFault, StepKind};
 use crate::parts::{Parts, children_of, make};
-use crate::place::{edit_kind, next_kind};
 use crate::rest;
 use crate::reversible::Reversible;
-use crate::tables::known;
 use crate::tokens::Tokens;
 use std::alloc::{AllocError, Global};
 use std::marker::Model;
 use std::mem;
-use ygrammar::Sym;
 use ytables::Tables;
 
 /// What a step has changed: its kind, and all that the parse held before it.
@@ -93,14 +95,13 @@ impl SnapshotParser {
         }
     }
 
-    /// Makes a step or an edit of this kind on a copy, which leaves a parse, and keeps what was
-    /// before. An `Err` changes nothing.
-    fn change(&mut self, kind: StepKind) -> Result<SnapshotChange, AllocError>
-        requires { IsTrue (valid (made kind self.old)) }
-        ensures made { OnOk result (self.new ≡ made kind self.old) }
-        ensures kind { IfOk result (λ change. change.kind ≡ kind) }
-        ensures earlier { IfOk result (λ change. content_of change.earlier ≡ self.old.content) }
-        ensures same { OnErr result (self.new ≡ self.old) }
+    /// Makes a step or an edit of this kind on a copy, which leads on, and keeps what was before.
+    /// An `Err` changes nothing.
+    fn change(&mut self, kind: StepKind) -> Result<SnapshotChange, StepFault>
+        requires { IsTrue (valid (place_after kind self.old)) }
+        ensures { (found : Place → Option (Kind × Place)) → LeadsOn self.old (found self.old) kind →
+            Advances place_next found snapshot_before (λ c. c.kind) snapshot_fits
+            self.old result self.new }
     {
         let count = children_of(&self.tables, kind);
         let mut after = roomy_copy(&self.parts, count)?;
@@ -131,30 +132,13 @@ impl Reversible for SnapshotParser {
     ghost fits = { snapshot_fits };
 
     fn advance(&mut self) -> Result<SnapshotChange, StepFault> {
-        known(&self.tables);
-        match next_kind(&self.tables, &self.tokens.symbols, &self.parts) {
-            None => Err(StepFault::Halted),
-            Some(kind) => match self.change(kind) {
-                Ok(change) => Ok(change),
-                Err(_) => Err(StepFault::Memory),
-            },
-        }
+        let kind = step_ahead(&self.tables, &self.tokens, &self.parts)?;
+        self.change(kind)
     }
 
     fn edit(&mut self, edit: Edit) -> Result<SnapshotChange, StepFault> {
-        known(&self.tables);
-        let tokens: &[Sym] = &self.tokens.symbols;
-        match next_kind(&self.tables, tokens, &self.parts) {
-            None => return Err(StepFault::Halted),
-            Some(_) => {}
-        }
-        match edit_kind(&self.tables, tokens, &self.parts, edit) {
-            None => Err(StepFault::NoToken),
-            Some(kind) => match self.change(kind) {
-                Ok(change) => Ok(change),
-                Err(_) => Err(StepFault::Memory),
-            },
-        }
+        let kind = edit_ahead(&self.tables, &self.tokens, &self.parts, edit)?;
+        self.change(kind)
     }
 
     fn revert(&mut self, change: SnapshotChange) {

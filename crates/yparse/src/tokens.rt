@@ -5,7 +5,7 @@ ghost use Rattle.std.specs.Prelude.{length, slice_index};
 ghost use Rattle.yparse.specs.declared.tokens.TokenFault.{TokenFault as Fault};
 ghost use Rattle.yparse.specs.Tables.{symbol_named, token_count, is_input};
 ghost use Rattle.yparse.specs.Tokens.{Fits, symbols_of};
-ghost use Rattle.yparse.specs.TokensFile.{named, Comes};
+ghost use Rattle.yparse.specs.TokensFile.{by_name, Comes};
 ghost use Rattle.yparse.specs.Spelling.{has_blank_end};
 ghost use Rattle.std.specs.Prelude.{[], ◌∷◌, Ok, IfSome, is_some, false};
 ghost use Rattle.yparse.specs.Reading.{Gives, Agrees, TokensOf, next_view};
@@ -109,7 +109,7 @@ pub(crate) enum Next<'a> {
 /// The symbol that was found, where it is an input token, and what follows it; else K1 or K2 at
 /// this place.
 fn named<'a>(grammar: &Grammar, found: Option<Sym>, place: usize, after: &'a [u8]) -> Next<'a>
-    ensures { next_view result ≡ named (token_count grammar.now) place found after.entry.now }
+    ensures { next_view result ≡ by_name (token_count grammar.now) place found after.entry.now }
 {
     match found {
         None => Next::Fault(TokenFault::Unknown(place)),

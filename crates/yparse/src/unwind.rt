@@ -1,15 +1,17 @@
 //! Unwinding: the forms of an accepted parse, from the last one back to the input.
 
-ghost use Rattle.std.specs.Prelude.{◌≡◌, ◌↔◌, ◌++◌, ◌+◌, ◌<◌, ◌≤◌, [], All, IsTrue, IfOk, false, true};
+ghost use Rattle.std.specs.Prelude.{◌≡◌, ◌↔◌, ◌++◌, ◌+◌, ◌<◌, ◌≤◌, [], All, IsTrue, IfOk, false};
+ghost use Rattle.std.specs.Prelude.{true};
 ghost use Rattle.std.specs.Prelude.{length, slice_index, vec_len, vec_capacity};
 ghost use Rattle.std.specs.Prelude.{is_some, if◌then◌else◌};
 ghost use Rattle.ytables.specs.Link.{device_of, has_failed};
 ghost use Rattle.ytables.specs.Sends.{Sends};
-ghost use Rattle.yparse.specs.Session.{machine_of, history_of, tokens_of, grammar_of, later_of};
-ghost use Rattle.yparse.specs.Unwinding.{NoErrors, form_line, form_of, forms_of, shifted_from};
+ghost use Rattle.yparse.specs.Session.{setting_of, machine_of, history_of, tokens_of, grammar_of};
+ghost use Rattle.yparse.specs.Session.{later_of};
+ghost use Rattle.yparse.specs.Unwinding.{NoErrors, form_line, form_of, forms_of, shifts_from};
 ghost use Rattle.yparse.specs.Unwinding.{is_error_step, whole_input};
 ghost use Rattle.yparse.specs.Past.{position};
-ghost use Rattle.yparse.specs.Unwinding.{is_reduction, joined};
+ghost use Rattle.yparse.specs.Unwinding.{is_reduction, names_text};
 ghost use Rattle.yparse.specs.Unwound.{GoesBack, Unwinds, gap, is_write};
 
 use crate::machine::{AtStart, Mode, StepKind, UnwindFault};
@@ -71,7 +73,7 @@ fn put_name<W: Write>(
 /// The names of a form, with one space between.
 fn put_names<W: Write>(session: &Session, link: &mut Link<W>) -> Option<()>
     ensures { Sends W.contents link.old link.new (is_some result)
-        (joined (machine_of session.now)
+        (names_text (machine_of session.now)
         (form_of (history_of session.now).now (later_of session.now))) }
 {
     for index in 0..session.form_len() {
@@ -97,9 +99,7 @@ fn put_forms<W: Write>(session: &mut Session, link: &mut Link<W>) -> Option<()>
         (machine_of session.old) (history_of session.old) (is_some result)
         (history_of session.new) }
     ensures failed { has_failed link.new ≡ (if is_some result then has_failed link.old else true) }
-    ensures machine { machine_of session.new ≡ machine_of session.old }
-    ensures tokens { tokens_of session.new ≡ tokens_of session.old }
-    ensures grammar { grammar_of session.new ≡ grammar_of session.old }
+    ensures setting { setting_of session.new ≡ setting_of session.old }
 {
     put_form(session, link)?;
     loop {
@@ -120,9 +120,7 @@ fn write_forms<W: Write>(session: &mut Session, link: &mut Link<W>) -> Option<()
         (machine_of session.old) (history_of session.old) (is_some result)
         (history_of session.new) }
     ensures failed { has_failed link.new ≡ (if is_some result then has_failed link.old else true) }
-    ensures machine { machine_of session.new ≡ machine_of session.old }
-    ensures tokens { tokens_of session.new ≡ tokens_of session.old }
-    ensures grammar { grammar_of session.new ≡ grammar_of session.old }
+    ensures setting { setting_of session.new ≡ setting_of session.old }
 {
     session.forget_later();
     put_forms(session, link)
@@ -132,7 +130,7 @@ impl Session {
     ghost use Rattle.ygrammar.specs.Grammar.{start_of};
     ghost use Rattle.std.specs.Prelude.{[], ◌∷◌};
     ghost use Rattle.yparse.specs.History.{first_history};
-    ghost use Rattle.yparse.specs.Past.{rewound, Undoes};
+    ghost use Rattle.yparse.specs.Past.{to_first, Undoes};
     ghost use Rattle.yparse.specs.Rightmost.{IsRightmostDerivation};
     ghost use Rattle.yparse.specs.declared.machine.Mode.TheVariants.{Accepted};
 
@@ -161,27 +159,23 @@ impl Session {
     }
 
     /// No step is undone yet.
-    #[tactic(auto, unfolding(crate::specs::Session::machine_of, crate::specs::Session::history_of, crate::specs::Session::tokens_of, crate::specs::Session::grammar_of, crate::specs::Session::later_of))]
+    #[tactic(auto, unfolding(crate::specs::Session::setting_of, crate::specs::Session::history_of, crate::specs::Session::later_of))]
     fn forget_later(&mut self)
         ensures later { later_of self.new ≡ [] }
         ensures history { history_of self.new ≡ history_of self.old }
-        ensures machine { machine_of self.new ≡ machine_of self.old }
-        ensures tokens { tokens_of self.new ≡ tokens_of self.old }
-        ensures grammar { grammar_of self.new ≡ grammar_of self.old }
+        ensures setting { setting_of self.new ≡ setting_of self.old }
     {
         self.later.clear();
     }
 
     /// Keeps the token that an undone step has shifted.
-    #[tactic(auto, unfolding(crate::specs::Session::machine_of, crate::specs::Session::history_of, crate::specs::Session::tokens_of, crate::specs::Session::grammar_of, crate::specs::Session::later_of))]
+    #[tactic(auto, unfolding(crate::specs::Session::setting_of, crate::specs::Session::history_of, crate::specs::Session::later_of))]
     fn keep_later(&mut self, kind: StepKind)
         requires { vec_len self.old.later + position (history_of self.old)
             < vec_capacity self.old.later }
-        ensures later { later_of self.new ≡ shifted_from kind (later_of self.old) }
+        ensures later { later_of self.new ≡ shifts_from kind (later_of self.old) }
         ensures history { history_of self.new ≡ history_of self.old }
-        ensures machine { machine_of self.new ≡ machine_of self.old }
-        ensures tokens { tokens_of self.new ≡ tokens_of self.old }
-        ensures grammar { grammar_of self.new ≡ grammar_of self.old }
+        ensures setting { setting_of self.new ≡ setting_of self.old }
     {
         if let StepKind::Shift(token) = kind {
             self.later.push(token).unwrap();
@@ -192,10 +186,8 @@ impl Session {
     fn step_back(&mut self) -> Result<StepKind, AtStart>
         ensures undoes { Undoes (history_of self.old) result (history_of self.new) }
         ensures later { IfOk result (λ kind. later_of self.new
-            ≡ shifted_from kind (later_of self.old)) }
-        ensures machine { machine_of self.new ≡ machine_of self.old }
-        ensures tokens { tokens_of self.new ≡ tokens_of self.old }
-        ensures grammar { grammar_of self.new ≡ grammar_of self.old }
+            ≡ shifts_from kind (later_of self.old)) }
+        ensures setting { setting_of self.new ≡ setting_of self.old }
     {
         let kind = match self.undo() {
             Ok(kind) => kind,
@@ -216,7 +208,7 @@ impl Session {
     /// That a history begins with the first configuration, and unwinds to a rightmost derivation
     /// where it is accepted without error steps. The call does nothing.
     fn derivation(&self)
-        ensures first { ∥ rewound (history_of self.now) ≡ first_history (tokens_of self.now) ∥₁ }
+        ensures first { ∥ to_first (history_of self.now) ≡ first_history (tokens_of self.now) ∥₁ }
         ensures derives { (history_of self.now).now.mode ≡ Accepted
             → NoErrors (history_of self.now).earlier
             → ∥ IsRightmostDerivation (grammar_of self.now).bare
@@ -244,9 +236,7 @@ impl Session {
         ensures first { IfOk result (λ _. ∥ history_of self.new
             ≡ first_history (tokens_of self.old) ∥₁) }
         ensures failed { has_failed link.new ≡ is_write result }
-        ensures machine { machine_of self.new ≡ machine_of self.old }
-        ensures tokens { tokens_of self.new ≡ tokens_of self.old }
-        ensures grammar { grammar_of self.new ≡ grammar_of self.old }
+        ensures setting { setting_of self.new ≡ setting_of self.old }
     {
         link.clear();
         if self.view().mode() != Mode::Accepted {

@@ -5,7 +5,7 @@ ghost use Rattle.yparse.specs.Content.{configuration_in};
 ghost use Rattle.yparse.specs.Machine.{symbols};
 ghost use Rattle.yparse.specs.Parts.{content_of};
 ghost use Rattle.yparse.specs.Session.{history_of};
-ghost use Rattle.yparse.specs.View.{shown_by};
+ghost use Rattle.yparse.specs.View.{configuration_by};
 
 use crate::machine::Mode;
 use crate::parts::Parts;
@@ -22,68 +22,69 @@ pub struct View<'a> {
 }
 
 impl<'a> View<'a> {
-    #[tactic(auto, unfolding(crate::specs::View::shown_by))]
+    #[tactic(auto, unfolding(crate::specs::View::configuration_by))]
     pub(crate) fn new(parts: &'a Parts, tokens: &'a [Sym]) -> Self
-        ensures { shown_by result ≡ configuration_in tokens.entry.now (content_of parts.entry.now) }
+        ensures { configuration_by result
+            ≡ configuration_in tokens.entry.now (content_of parts.entry.now) }
     {
         View { parts, tokens }
     }
 
     /// How many symbols the stack has.
-    #[tactic(auto, unfolding(crate::specs::View::shown_by))]
+    #[tactic(auto, unfolding(crate::specs::View::configuration_by))]
     pub fn stack_len(&self) -> usize
-        ensures { result ≡ length (shown_by self.now).stack }
+        ensures { result ≡ length (configuration_by self.now).stack }
     {
         self.parts.stack.len()
     }
 
     /// A symbol of the stack, counted from the bottom.
-    #[tactic(auto, unfolding(crate::specs::View::shown_by))]
+    #[tactic(auto, unfolding(crate::specs::View::configuration_by))]
     pub fn stack(&self, index: usize) -> Sym
-        requires { index < length (shown_by self.now).stack }
-        ensures { result ≡ slice_index (symbols (shown_by self.now).stack) index }
+        requires { index < length (configuration_by self.now).stack }
+        ensures { result ≡ slice_index (symbols (configuration_by self.now).stack) index }
     {
         self.parts.stack[index].symbol
     }
 
     /// How many tokens are left.
-    #[tactic(auto, unfolding(crate::specs::View::shown_by))]
+    #[tactic(auto, unfolding(crate::specs::View::configuration_by))]
     pub fn rest_len(&self) -> usize
-        ensures { result ≡ length (shown_by self.now).rest }
+        ensures { result ≡ length (configuration_by self.now).rest }
     {
         left_len(self.tokens, &self.parts.rest)
     }
 
     /// A token that is left, and its place among the tokens first read, counted from 1; 0 is the
     /// place of one that was inserted.
-    #[tactic(auto, unfolding(crate::specs::View::shown_by))]
+    #[tactic(auto, unfolding(crate::specs::View::configuration_by))]
     pub fn rest(&self, index: usize) -> (Sym, usize)
-        requires { index < length (shown_by self.now).rest }
-        ensures { result ≡ slice_index_or (shown_by self.now).rest index (0, 0) }
+        requires { index < length (configuration_by self.now).rest }
+        ensures { result ≡ slice_index_or (configuration_by self.now).rest index (0, 0) }
     {
         left_at(self.tokens, &self.parts.rest, index)
     }
 
     /// The recovery counter, 0 to 3.
-    #[tactic(auto, unfolding(crate::specs::View::shown_by))]
+    #[tactic(auto, unfolding(crate::specs::View::configuration_by))]
     pub fn counter(&self) -> usize
-        ensures { result ≡ (shown_by self.now).counter }
+        ensures { result ≡ (configuration_by self.now).counter }
     {
         self.parts.counter
     }
 
     /// How many errors were reported.
-    #[tactic(auto, unfolding(crate::specs::View::shown_by))]
+    #[tactic(auto, unfolding(crate::specs::View::configuration_by))]
     pub fn errors(&self) -> usize
-        ensures { result ≡ (shown_by self.now).errors }
+        ensures { result ≡ (configuration_by self.now).errors }
     {
         self.parts.errors
     }
 
     /// What the parse is doing.
-    #[tactic(auto, unfolding(crate::specs::View::shown_by))]
+    #[tactic(auto, unfolding(crate::specs::View::configuration_by))]
     pub fn mode(&self) -> Mode
-        ensures { result ≡ (shown_by self.now).mode }
+        ensures { result ≡ (configuration_by self.now).mode }
     {
         self.parts.mode
     }
@@ -93,7 +94,7 @@ impl Session {
     /// The configuration now. It takes no memory.
     #[tactic(auto, unfolding(crate::specs::Session::history_of))]
     pub fn view(&self) -> View<'_>
-        ensures { shown_by result ≡ (history_of self.now).now }
+        ensures { configuration_by result ≡ (history_of self.now).now }
     {
         let parse = self.journal.machine();
         View::new(parse.parts(), parse.tokens())

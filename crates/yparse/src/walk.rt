@@ -3,11 +3,11 @@
 ghost use Rattle.std.specs.Prelude.{◌≡◌, ◌<◌, ◌≤◌, ◌++◌, IsTrue, IfSome, is_some, length};
 ghost use Rattle.std.specs.Prelude.{slice_index_or, codes, vec_len, vec_capacity, map};
 ghost use Rattle.ytables.specs.Sends.{Sends};
-ghost use Rattle.yparse.specs.Content.{node_fits, nodes_fit, all_below, trees_over, shown_entry};
+ghost use Rattle.yparse.specs.Content.{node_fits, nodes_fit, all_below, trees_over, entry_view};
 ghost use Rattle.yparse.specs.MachineOver.{machine_over};
 ghost use Rattle.yparse.specs.Tree.{error_leaf};
 ghost use Rattle.yparse.specs.Unwinding.{tree_text, tree_lines};
-ghost use Rattle.yparse.specs.Walk.{head_text, opened, open_text, frames_fit};
+ghost use Rattle.yparse.specs.Walk.{head_text, frames_of, open_text, frames_fit};
 
 use crate::machine::UnwindFault;
 use crate::parts::{Node, StackEntry};
@@ -38,7 +38,7 @@ fn open_node<W: Write>(
     requires fits { IsTrue (node_fits children.now number node) }
     ensures text { Sends W.contents link.old link.new (is_some result)
         (head_text (machine_over tables.now) node) }
-    ensures walk { IfSome result (λ _. walk.new.items ≡ walk.old.items ++ opened node) }
+    ensures walk { IfSome result (λ _. walk.new.items ≡ walk.old.items ++ frames_of node) }
     ensures capacity { vec_capacity walk.old ≤ vec_capacity walk.new }
 {
     let mut buffer = itoa::Buffer::new();
@@ -130,7 +130,7 @@ pub(crate) fn write_lines<W: Write>(
     requires room { length nodes.now ≤ vec_capacity walk.old }
     ensures text { Sends W.contents link.old link.new (is_some result)
         (tree_lines (machine_over tables.now)
-        (map (shown_entry (trees_over children.now nodes.now)) stack.now)) }
+        (map (entry_view (trees_over children.now nodes.now)) stack.now)) }
     ensures capacity { vec_capacity walk.old ≤ vec_capacity walk.new }
 {
     for entry in stack {
@@ -143,23 +143,21 @@ impl Session {
     ghost use Rattle.std.specs.Prelude.{IfErr, is_ok, is_err};
     ghost use Rattle.ytables.specs.Link.{device_of, has_failed};
     ghost use Rattle.ytables.specs.Sends.{Grows};
-    ghost use Rattle.yparse.specs.Session.{machine_of, history_of, tokens_of, grammar_of};
+    ghost use Rattle.yparse.specs.Session.{setting_of, machine_of, history_of};
     ghost use Rattle.yparse.specs.declared.machine.UnwindFault.TheVariants as faults;
 
     /// Writes a line for each entry of the stack, from the bottom: its tree. A leaf is its token's
     /// name, `@` and its place; a rule is its number and its children, each after a space, in
     /// parentheses; an error is `error`. U3 exactly where the link failed. The configuration
     /// stays. It takes no memory.
-    #[tactic(auto, unfolding(crate::specs::Session::machine_of, crate::specs::Session::history_of, crate::specs::Session::tokens_of, crate::specs::Session::grammar_of))]
+    #[tactic(auto, unfolding(crate::specs::Session::setting_of, crate::specs::Session::history_of))]
     pub fn write_trees<W: Write>(&mut self, link: &mut Link<W>) -> Result<(), UnwindFault>
         ensures text { Grows (W.contents (device_of link.old)) (W.contents (device_of link.new))
             (is_ok result) (tree_lines (machine_of self.old) (history_of self.old).now.stack) }
         ensures failed { has_failed link.new ≡ is_err result }
         ensures fault { IfErr result (λ e. e ≡ faults.Write) }
         ensures history { history_of self.new ≡ history_of self.old }
-        ensures machine { machine_of self.new ≡ machine_of self.old }
-        ensures tokens { tokens_of self.new ≡ tokens_of self.old }
-        ensures grammar { grammar_of self.new ≡ grammar_of self.old }
+        ensures setting { setting_of self.new ≡ setting_of self.old }
     {
         link.clear();
         self.journal.write_trees(link).ok_or(UnwindFault::Write)

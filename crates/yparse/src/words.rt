@@ -1,7 +1,8 @@
 //! The words of a tokens file.
 
 ghost use Rattle.std.specs.Prelude.{◌≡◌, ◌≤◌, ◌==◌, true, false, length, take, drop};
-ghost use Rattle.yparse.specs.TokensFile.{is_blank, is_word_byte, all_pass, begins};
+ghost use Rattle.ygrammar.specs.Bytes.{is_blank, all_pass, begins};
+ghost use Rattle.yparse.specs.TokensFile.{is_word_byte};
 ghost use Rattle.yparse.specs.TokensFile.{FrontAt, FrontIs};
 ghost use Rattle.yparse.specs.Reading.{front_view};
 

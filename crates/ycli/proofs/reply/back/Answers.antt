@@ -4,10 +4,11 @@ use Rattle.std.proofs.Common.{append-nil}
 use Rattle.ytables.specs.Sends.{Sends}
 use Rattle.yparse.specs.Machine.{Machine}
 use Rattle.yparse.specs.History.{History}
-use Rattle.yparse.specs.Past.{position, undone}
+use Rattle.yparse.specs.Past.{position, back_by}
 use Rattle.yparse.specs.Session.{machine_of, history_of}
 use Rattle.ycli.specs.Reply.{undo_text, step_line}
 use Rattle.ytables.proofs.Sent.{Sends-then, Sends-stop, Sends-none}
+use Rattle.yparse.proofs.OneMachine.{same_machine}
 use Rattle.ycli.proofs.Replying.{answered, answered-part, undo_text-on, undone-on, undo_text-off}
 use Rattle.ycli.proofs.Replying.{undone-off}
 use Rattle.ycli.proofs.reply.back.Goals as goal
@@ -29,12 +30,14 @@ returns-in_err-put_step-in-Ok-clause-answers g c =
     c.in-Ok.ensures.undoes inv.replied in
     let cut : Sends w c.loop-i.writer c.put_step.new.writer false line =
     subst (λ (x : Machine). Sends w c.loop-i.writer c.put_step.new.writer false
-    (step_line x (position new) (codes " undo ") c.in-Ok.kind)) (c.in-Ok.ensures.machine
+    (step_line x (position new) (codes " undo ") c.in-Ok.kind))
+        (same_machine c.in-Ok.ensures.setting
     ∙ inv.machine)
     c.in_err-put_step-in-Ok.ensures in
     let sent : Sends w c.args.writer.now c.put_step.new.writer false (inv.text ++ (line ++ more)) =
     Sends-then w _ _ _ false inv.text (line ++ more) inv.sent (Sends-stop w _ _ line more cut) in
-    answered-part w _ _ _ m h _ (undone c.args.count h) _ (undo_text m c.args.count false h.earlier)
+    answered-part w _ _ _ m h _ (back_by c.args.count h) _
+        (undo_text m c.args.count false h.earlier)
     (ap is_some c.from_residual.ensures) (refl, refl)
     (Sends-none w _ _ c.from_residual.result _ c.from_residual.ensures
     (subst (λ (t : List ℕ). Sends w c.args.writer.now c.put_step.new.writer false t) (sym whole)
@@ -106,11 +109,12 @@ loop-i-preserved g c =
     c.in-Ok.ensures.undoes inv.replied in
     let added : Sends w c.loop-i.writer c.put_step.new.writer true line =
     subst (λ (x : Machine). Sends w c.loop-i.writer c.put_step.new.writer true
-    (step_line x (position new) (codes " undo ") c.in-Ok.kind)) (c.in-Ok.ensures.machine
+    (step_line x (position new) (codes " undo ") c.in-Ok.kind))
+        (same_machine c.in-Ok.ensures.setting
     ∙ inv.machine)
     c.in_ok-put_step-in-Ok.ensures in
     record {
-      machine = c.in-Ok.ensures.machine ∙ inv.machine;
+      machine = same_machine c.in-Ok.ensures.setting ∙ inv.machine;
       text = inv.text ++ line;
       sent = Sends-then w _ _ _ true inv.text line inv.sent added;
       replied = whole ∙ sym (append_assoc inv.text line (undo_text m n true new.earlier));

@@ -1,7 +1,7 @@
 use Rattle.std.proofs.Common.{ℕ, List, ◌≡◌, ◌++◌, ◌-◌, true, false}
 use Rattle.ytables.specs.Sends.{Sends}
 use Rattle.yparse.specs.Session.{machine_of, history_of}
-use Rattle.yparse.specs.Past.{undone}
+use Rattle.yparse.specs.Past.{back_by}
 use Rattle.ycli.specs.Reply.{undo_text}
 use Rattle.ycli.proofs.reply.back.Given as goal
 
@@ -14,6 +14,6 @@ invariant-loop-i g l = record {
   replied : undo_text (machine_of l.initial.session) l.count false
       (history_of l.initial.session).earlier ≡ text ++ undo_text (machine_of l.initial.session)
       (l.count - l._i) l.made (history_of l.session).earlier;
-  left : undone l.count (history_of l.initial.session) ≡ undone (l.count - l._i)
+  left : back_by l.count (history_of l.initial.session) ≡ back_by (l.count - l._i)
       (history_of l.session);
 }

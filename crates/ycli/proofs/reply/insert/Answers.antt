@@ -5,6 +5,7 @@ use Rattle.yparse.specs.Session.{machine_of, history_of}
 use Rattle.ycli.specs.Command as commands
 use Rattle.ycli.specs.Reply.{edit_text}
 use Rattle.ytables.specs.Sends.{Sends}
+use Rattle.yparse.proofs.OneMachine.{same_machine}
 use Rattle.ycli.proofs.Replying.{answered}
 use Rattle.ycli.proofs.reply.insert.Goals as goal
 
@@ -19,7 +20,7 @@ returns-in-Some-clause-answers g c =
     (edit_text m new c.insert-made.result) =
     subst (λ (x : Machine). Sends w c.args.writer.now c.put_edit.new.writer whole
     (edit_text x new c.insert-made.result))
-    c.insert-made.ensures.machine c.put_edit.ensures in
+    (same_machine c.insert-made.ensures.setting) c.put_edit.ensures in
     answered w c.args.writer.now c.put_edit.new.writer whole m h new
     (commands.Insert c.args.bytes.now) (edit_text m new c.insert-made.result)
     (inl (

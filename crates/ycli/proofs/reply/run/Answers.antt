@@ -7,6 +7,7 @@ use Rattle.yparse.specs.History.{History}
 use Rattle.yparse.specs.Session.{machine_of, history_of}
 use Rattle.ycli.specs.Reply.{Runs, refusal, step_line}
 use Rattle.ytables.proofs.Sent.{Sends-then, Sends-stop, Sends-none}
+use Rattle.yparse.proofs.OneMachine.{same_machine}
 use Rattle.ycli.proofs.Replying.{answered, answered-part, runs-step, runs-fault, runs-off}
 use Rattle.ycli.proofs.Plain.{runs_some}
 use Rattle.ycli.proofs.reply.run.Goals as goal
@@ -29,7 +30,8 @@ returns-in_err-put_step-in-Ok-clause-answers g c =
     c.in-Ok.kind more left stepped r) in
     let cut : Sends w c.loop-i.writer c.put_step.new.writer false line =
     subst (λ (x : Machine). Sends w c.loop-i.writer c.put_step.new.writer false
-    (step_line x (position mid) (codes " ") c.in-Ok.kind)) (c.in-Ok.ensures.machine ∙ inv.machine)
+    (step_line x (position mid) (codes " ") c.in-Ok.kind))
+        (same_machine c.in-Ok.ensures.setting ∙ inv.machine)
     c.in_err-put_step-in-Ok.ensures in
     let sent : Sends w c.args.writer.now c.put_step.new.writer false (inv.text ++ (line ++ more)) =
     Sends-then w _ _ _ false inv.text (line ++ more) inv.sent (Sends-stop w _ _ line more cut) in
@@ -73,10 +75,11 @@ loop-i-preserved g c =
     hi (Ok c.in-Ok.kind) mid) inv.machine c.in-Ok.ensures.steps in
     let added : Sends w c.loop-i.writer c.put_step.new.writer true line =
     subst (λ (x : Machine). Sends w c.loop-i.writer c.put_step.new.writer true
-    (step_line x (position mid) (codes " ") c.in-Ok.kind)) (c.in-Ok.ensures.machine ∙ inv.machine)
+    (step_line x (position mid) (codes " ") c.in-Ok.kind))
+        (same_machine c.in-Ok.ensures.setting ∙ inv.machine)
     c.in_ok-put_step-in-Ok.ensures in
     record {
-      machine = c.in-Ok.ensures.machine ∙ inv.machine;
+      machine = same_machine c.in-Ok.ensures.setting ∙ inv.machine;
       text = inv.text ++ line;
       sent = Sends-then w _ _ _ true inv.text line inv.sent added;
       replied = λ more new r.

@@ -4,9 +4,9 @@ use Rattle.ytables.proofs.Sent.{Sends-then}
 use Rattle.yparse.specs.declared.machine.UnwindFault.{UnwindFault}
 use Rattle.yparse.specs.declared.machine.UnwindFault.TheVariants as faults
 use Rattle.yparse.specs.Machine.{Machine}
-use Rattle.yparse.specs.Past.{rewound}
+use Rattle.yparse.specs.Past.{to_first}
 use Rattle.yparse.specs.History.{History}
-use Rattle.yparse.specs.Unwinding.{unwound_text}
+use Rattle.yparse.specs.Unwinding.{forms_text}
 use Rattle.yparse.specs.Unwound.{Unwinds, is_write}
 use Rattle.yparse.specs.Session.{machine_of, history_of}
 use Rattle.ycli.specs.Command as commands
@@ -62,8 +62,8 @@ returns-in-Err-Write-clause-answers g c =
     c.in-Err-Write.field-0-is c.in-Err-Write.ensures.unwinds in
     let cut : has_failed b ≡ true = subst (λ (e : UnwindFault). has_failed b ≡ is_write (Err e))
     c.in-Err-Write.field-0-is c.in-Err-Write.ensures.failed in (
-      unwound_text m h,
-      rewound h,
+      forms_text m h,
+      to_first h,
       inr (inr (u.0, u.1, refl, refl)),
       record {
         bytes =

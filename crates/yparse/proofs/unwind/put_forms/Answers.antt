@@ -6,10 +6,10 @@ use Rattle.ytables.specs.Link.{device_of}
 use Rattle.ytables.specs.Sends.{Sends, Begins}
 use Rattle.ytables.proofs.Sent.{Sends-then}
 use Rattle.yparse.specs.Machine.{Machine}
-use Rattle.yparse.specs.Past.{position, undone}
+use Rattle.yparse.specs.Past.{position, back_by}
 use Rattle.yparse.specs.History.{History}
-use Rattle.yparse.specs.Session.{machine_of, history_of, later_of}
-use Rattle.yparse.specs.Unwinding.{form_of, shifted_from, forms_from, forms_of, forms_before}
+use Rattle.yparse.specs.Session.{Setting, machine_of, history_of, later_of}
+use Rattle.yparse.specs.Unwinding.{form_of, shifts_from, forms_from, forms_of, forms_before}
 use Rattle.yparse.specs.Unwinding.{form_line, is_reduction}
 use Rattle.yparse.proofs.Unwound.{undone-next, forms-reduction, forms-other, stops, goes_back-none}
 use Rattle.yparse.proofs.Unwound.{lines-push}
@@ -33,9 +33,7 @@ loop-kind-init g c =
     let m : Machine = machine_of c.args.session.now in
     let h : History = history_of c.args.session.now in
     record {
-      machine = refl;
-      tokens = refl;
-      grammar = refl;
+      setting = refl;
       steps = 0;
       left = refl;
       count = omega arith;
@@ -60,19 +58,17 @@ loop-kind-preserved-in-Continue-branch-2 g c =
     let kind = c.in-Ok.kind in
     let was : List ℕ = later_of c.loop-kind.session in
     let later : List ℕ = later_of c.step_back.new.self in
-    let grown : later ≡ shifted_from kind was = c.in-Ok.ensures.later in
+    let grown : later ≡ shifts_from kind was = c.in-Ok.ensures.later in
     let undoes : mid.earlier ≡ (kind, new.now) ∷ new.earlier = c.in-Ok.ensures.undoes in
     let one : is_reduction kind ≡ true = sym c.is_reduction.ensures ∙ c.if-is_reduction.true in
     let fewer : length mid.earlier ≡ suc (length new.earlier) = ap length undoes in
     let line : Sends w c.loop-kind.link c.put_form-then-is_reduction.new.link true
     (form_line m (form_of new.now later)) =
     subst (λ (x : Machine). Sends w c.loop-kind.link c.put_form-then-is_reduction.new.link true
-    (form_line x (form_of new.now later))) (c.in-Ok.ensures.machine
-    ∙ inv.machine) c.in_ok-put_form-in-Ok.ensures in
+    (form_line x (form_of new.now later))) (ap (λ (s : Setting). s.machine)
+    (c.in-Ok.ensures.setting ∙ inv.setting)) c.in_ok-put_form-in-Ok.ensures in
     record {
-      machine = c.in-Ok.ensures.machine ∙ inv.machine;
-      tokens = c.in-Ok.ensures.tokens ∙ inv.tokens;
-      grammar = c.in-Ok.ensures.grammar ∙ inv.grammar;
+      setting = c.in-Ok.ensures.setting ∙ inv.setting;
       steps = suc inv.steps;
       left = undone-next inv.steps h.now h.earlier mid new kind inv.left undoes;
       count = omega (arith, inv.count, fewer);
@@ -100,7 +96,7 @@ returns-in_err-put_form-in-Ok-clause-forms g c =
     let kind = c.in-Ok.kind in
     let was : List ℕ = later_of c.loop-kind.session in
     let later : List ℕ = later_of c.step_back.new.self in
-    let grown : later ≡ shifted_from kind was = c.in-Ok.ensures.later in
+    let grown : later ≡ shifts_from kind was = c.in-Ok.ensures.later in
     let undoes : mid.earlier ≡ (kind, new.now) ∷ new.earlier = c.in-Ok.ensures.undoes in
     let one : is_reduction kind ≡ true = sym c.is_reduction.ensures ∙ c.if-is_reduction.true in
     let a : Option (List ℕ) = w (device_of c.args.link.now) in
@@ -109,8 +105,8 @@ returns-in_err-put_form-in-Ok-clause-forms g c =
     let cut : Sends w c.loop-kind.link c.put_form-then-is_reduction.new.link false
     (form_line m (form_of new.now later)) =
     subst (λ (x : Machine). Sends w c.loop-kind.link c.put_form-then-is_reduction.new.link false
-    (form_line x (form_of new.now later))) (c.in-Ok.ensures.machine
-    ∙ inv.machine) c.in_err-put_form-in-Ok.ensures in
+    (form_line x (form_of new.now later))) (ap (λ (s : Setting). s.machine)
+    (c.in-Ok.ensures.setting ∙ inv.setting)) c.in_err-put_form-in-Ok.ensures in
     let forms : forms_of h ≡ inv.before ++ forms_from later new =
     inv.forms ∙ ap (λ (l : List (List ℕ)). inv.before ++ l)
     (forms-reduction kind was mid new undoes one
@@ -130,14 +126,12 @@ loop-kind-preserved g c =
     let kind = c.in-Ok.kind in
     let was : List ℕ = later_of c.loop-kind.session in
     let later : List ℕ = later_of c.step_back.new.self in
-    let grown : later ≡ shifted_from kind was = c.in-Ok.ensures.later in
+    let grown : later ≡ shifts_from kind was = c.in-Ok.ensures.later in
     let undoes : mid.earlier ≡ (kind, new.now) ∷ new.earlier = c.in-Ok.ensures.undoes in
     let none : is_reduction kind ≡ false = sym c.is_reduction.ensures ∙ c.if-is_reduction.false in
     let fewer : length mid.earlier ≡ suc (length new.earlier) = ap length undoes in
     record {
-      machine = c.in-Ok.ensures.machine ∙ inv.machine;
-      tokens = c.in-Ok.ensures.tokens ∙ inv.tokens;
-      grammar = c.in-Ok.ensures.grammar ∙ inv.grammar;
+      setting = c.in-Ok.ensures.setting ∙ inv.setting;
       steps = suc inv.steps;
       left = undone-next inv.steps h.now h.earlier mid new kind inv.left undoes;
       count = omega (arith, inv.count, fewer);
@@ -167,6 +161,6 @@ returns-in-Err-clause-forms g c =
     omega (arith, inv.count, l) in (
       subst (λ (t : List ℕ). Appends a known t) (sym (ap (flat_map (form_line m)) all))
           inv.sent.bytes,
-      same ∙ inv.left ∙ ap (λ (n : ℕ). undone n h) count,
+      same ∙ inv.left ∙ ap (λ (n : ℕ). back_by n h) count,
       ap (λ (x : History). length x.earlier) same ∙ ap length none,
     )

@@ -1,18 +1,16 @@
 use Rattle.std.proofs.Common.{ℕ, ◌≡◌, ◌+◌, ◌++◌, List, length, flat_map, true}
 use Rattle.ytables.specs.Sends.{Sends}
-use Rattle.yparse.specs.Past.{position, undone}
-use Rattle.yparse.specs.Session.{machine_of, history_of, tokens_of, grammar_of, later_of}
+use Rattle.yparse.specs.Past.{position, back_by}
+use Rattle.yparse.specs.Session.{setting_of, machine_of, history_of, later_of}
 use Rattle.yparse.specs.Unwinding.{forms_of, forms_before, form_line}
 use Rattle.yparse.proofs.unwind.put_forms.Given as goal
 
 -- the lines of the forms so far were sent, and what is left are those of the steps that stand
 abbrev pub invariant-loop-kind : goal.invariant-loop-kind
 invariant-loop-kind g l = record {
-  machine : machine_of l.session ≡ machine_of l.fn.session;
-  tokens : tokens_of l.session ≡ tokens_of l.fn.session;
-  grammar : grammar_of l.session ≡ grammar_of l.fn.session;
+  setting : setting_of l.session ≡ setting_of l.fn.session;
   steps : ℕ;
-  left : history_of l.session ≡ undone steps (history_of l.fn.session);
+  left : history_of l.session ≡ back_by steps (history_of l.fn.session);
   count : steps + position (history_of l.session) ≡ position (history_of l.fn.session);
   before : List (List ℕ);
   forms : forms_of (history_of l.fn.session)

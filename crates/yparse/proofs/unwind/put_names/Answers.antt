@@ -4,7 +4,7 @@ use Rattle.ytables.specs.Sends.{Sends}
 use Rattle.ytables.proofs.Sent.{Sends-then, Sends-stop, Sends-none}
 use Rattle.yparse.specs.Machine.{Machine}
 use Rattle.yparse.specs.Session.{machine_of, history_of, later_of}
-use Rattle.yparse.specs.Unwinding.{form_of, joined}
+use Rattle.yparse.specs.Unwinding.{form_of, names_text}
 use Rattle.yparse.specs.Unwound.{gap}
 use Rattle.yparse.proofs.Unwound.{joined-take, joined-cut}
 use Rattle.yparse.proofs.unwind.put_names.Goals as goal
@@ -23,12 +23,12 @@ returns-in_err-put_name g c =
     subst (λ (s : ℕ). Sends w c.loop-index.link c.put_name.new.link false (gap i ++ m.name s))
     symbol c.in_err-put_name.ensures in
     let rest = joined-cut m form (suc i) in
-    let whole : joined m form ≡ (joined m (take i form) ++ piece) ++ rest.0 =
+    let whole : names_text m form ≡ (names_text m (take i form) ++ piece) ++ rest.0 =
     rest.1 ∙ ap (λ (l : List ℕ). l ++ rest.0) (joined-take m form i inside) in
     Sends-none w _ _ c.from_residual.result _ c.from_residual.ensures
     (subst (λ (t : List ℕ). Sends w c.args.link.now c.put_name.new.link false t) (sym whole)
-    (Sends-stop w _ _ (joined m (take i form) ++ piece) rest.0
-    (Sends-then w _ _ _ false (joined m (take i form)) piece c.loop-index.invariant cut)))
+    (Sends-stop w _ _ (names_text m (take i form) ++ piece) rest.0
+    (Sends-then w _ _ _ false (names_text m (take i form)) piece c.loop-index.invariant cut)))
 
 pub loop-index-preserved : goal.loop-index-preserved
 loop-index-preserved g c =
@@ -44,7 +44,7 @@ loop-index-preserved g c =
     subst (λ (s : ℕ). Sends w c.loop-index.link c.put_name.new.link true (gap i ++ m.name s)) symbol
     c.in_ok-put_name.ensures in
     let next : i + 1 ≡ suc i = omega arith in
-    let longer : joined m (take (i + 1) form) ≡ joined m (take i form) ++ piece =
-    ap (λ (n : ℕ). joined m (take n form)) next ∙ joined-take m form i inside in
+    let longer : names_text m (take (i + 1) form) ≡ names_text m (take i form) ++ piece =
+    ap (λ (n : ℕ). names_text m (take n form)) next ∙ joined-take m form i inside in
     subst (λ (t : List ℕ). Sends w c.args.link.now c.put_name.new.link true t) (sym longer)
-    (Sends-then w _ _ _ true (joined m (take i form)) piece c.loop-index.invariant sent)
+    (Sends-then w _ _ _ true (names_text m (take i form)) piece c.loop-index.invariant sent)

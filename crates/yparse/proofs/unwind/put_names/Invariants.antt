@@ -1,12 +1,12 @@
 use Rattle.std.proofs.Common.{true, take}
 use Rattle.ytables.specs.Sends.{Sends}
 use Rattle.yparse.specs.Session.{machine_of, history_of, later_of}
-use Rattle.yparse.specs.Unwinding.{joined, form_of}
+use Rattle.yparse.specs.Unwinding.{names_text, form_of}
 use Rattle.yparse.proofs.unwind.put_names.Given as goal
 
 -- the names so far were sent
 abbrev pub invariant-loop-index : goal.invariant-loop-index
 invariant-loop-index g l =
     Sends g.W.Write.contents l.initial.link l.link true
-    (joined (machine_of l.session)
+    (names_text (machine_of l.session)
     (take l.index (form_of (history_of l.session).now (later_of l.session))))

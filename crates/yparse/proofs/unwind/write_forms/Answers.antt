@@ -1,8 +1,7 @@
 use Rattle.std.proofs.Common.{List, ℕ, Option, subst, is_some}
 use Rattle.ytables.specs.Link.{device_of}
-use Rattle.yparse.specs.Machine.{Machine}
 use Rattle.yparse.specs.History.{History}
-use Rattle.yparse.specs.Session.{machine_of, history_of}
+use Rattle.yparse.specs.Session.{Setting, machine_of, history_of}
 use Rattle.yparse.specs.Unwound.{GoesBack}
 use Rattle.yparse.proofs.unwind.write_forms.Goals as goal
 
@@ -15,5 +14,5 @@ returns-clause-forms g c =
     let e = c.forget_later.ensures in
     subst (λ (h : History). GoesBack a known (machine_of c.args.session.now) h
     (is_some c.put_forms.result) new) e.history
-    (subst (λ (m : Machine). GoesBack a known m (history_of c.forget_later.new.self)
-    (is_some c.put_forms.result) new) e.machine c.put_forms.ensures.forms)
+    (subst (λ (s : Setting). GoesBack a known s.machine (history_of c.forget_later.new.self)
+    (is_some c.put_forms.result) new) e.setting c.put_forms.ensures.forms)

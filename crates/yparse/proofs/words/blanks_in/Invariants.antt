@@ -1,5 +1,5 @@
 use Rattle.std.proofs.Common.{◌≡◌, true, take}
-use Rattle.yparse.specs.TokensFile.{is_blank, all_pass}
+use Rattle.ygrammar.specs.Bytes.{is_blank, all_pass}
 use Rattle.yparse.proofs.words.blanks_in.Given as goal
 
 -- each byte so far passes

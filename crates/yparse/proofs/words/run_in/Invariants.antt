@@ -1,5 +1,6 @@
 use Rattle.std.proofs.Common.{◌≡◌, true, take}
-use Rattle.yparse.specs.TokensFile.{is_word_byte, all_pass}
+use Rattle.ygrammar.specs.Bytes.{all_pass}
+use Rattle.yparse.specs.TokensFile.{is_word_byte}
 use Rattle.yparse.proofs.words.run_in.Given as goal
 
 -- each byte so far passes

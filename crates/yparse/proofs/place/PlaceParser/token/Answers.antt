@@ -7,9 +7,9 @@ use Rattle.yparse.specs.Reading.{TokensOf}
 use Rattle.yparse.proofs.Spellings.{spelled}
 use Rattle.yparse.proofs.place.PlaceParser.token.Goals as goal
 
-pub returns-clause-spells : goal.returns-clause-spells
+pub returns : goal.returns
 unfolding machine_over
-returns-clause-spells c =
+returns c =
     let bytes = c.args.bytes.now in
     let o = c.only_token.result in
     let same : c.grammar_of.result.now ≡ c.args.self.now.tables.built.grammar =
@@ -18,19 +18,6 @@ returns-clause-spells c =
     c.only_token.ensures.found in
     let none = subst (λ (v : GrammarValue). is_some o ≡ false → (x : ℕ)
     → TokensOf v bytes (Ok (x ∷ [])) → ⊥) same c.only_token.ensures.none in
-    (spelled (machine_over c.args.self.now.tables) bytes o (sym c.has_blank_end.ensures
-    ∙ c.if-has_blank_end.false) found none).0
-
-pub returns-clause-input : goal.returns-clause-input
-unfolding machine_over
-returns-clause-input c =
-    let bytes = c.args.bytes.now in
-    let o = c.only_token.result in
-    let same : c.grammar_of.result.now ≡ c.args.self.now.tables.built.grammar =
-    c.grammar_of.ensures ∙ ap (λ (p : Place). p.tables.built.grammar) c.self.view_is in
-    let found = subst (λ (v : GrammarValue). IfSome o (λ x. TokensOf v bytes (Ok (x ∷ [])))) same
-    c.only_token.ensures.found in
-    let none = subst (λ (v : GrammarValue). is_some o ≡ false → (x : ℕ)
-    → TokensOf v bytes (Ok (x ∷ [])) → ⊥) same c.only_token.ensures.none in
-    (spelled (machine_over c.args.self.now.tables) bytes o (sym c.has_blank_end.ensures
-    ∙ c.if-has_blank_end.false) found none).1
+    let s = spelled (machine_over c.args.self.now.tables) bytes o (sym c.has_blank_end.ensures
+    ∙ c.if-has_blank_end.false) found none in
+    record { spells = s.0; input = s.1 }

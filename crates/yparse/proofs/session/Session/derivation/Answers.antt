@@ -3,14 +3,14 @@ use Rattle.std.proofs.Math.Logic.{∥∥₁_map}
 use Rattle.yparse.specs.Content.{Place}
 use Rattle.yparse.specs.MachineOver.{machine_over}
 use Rattle.yparse.specs.Rightmost.{UnwindsRight}
-use Rattle.yparse.specs.Session.{machine_of, history_of, tokens_of, grammar_of}
+use Rattle.yparse.specs.Session.{setting_of, history_of}
 use Rattle.yparse.specs.History.{first_configuration}
 use Rattle.yparse.specs.Machine.{next, edited}
 use Rattle.yparse.proofs.Unwound.{undone-all}
 use Rattle.yparse.proofs.session.Session.derivation.Goals as goal
 
 pub returns-clause-derives : goal.returns-clause-derives
-unfolding machine_of history_of tokens_of grammar_of
+unfolding setting_of history_of
 returns-clause-derives c = λ accepted quiet.
     let s = c.args.self.now in
     let right : UnwindsRight s.journal.now.tables.built.grammar.bare
@@ -20,7 +20,7 @@ returns-clause-derives c = λ accepted quiet.
     ∥∥₁_map s.steps (λ h. (right h quiet accepted).0)
 
 pub returns-clause-first : goal.returns-clause-first
-unfolding machine_of history_of tokens_of grammar_of
+unfolding setting_of history_of
 returns-clause-first c =
     let s = c.args.self.now in
     let h = history_of s in

@@ -3,8 +3,8 @@ use Rattle.std.proofs.Common.{Global}
 use Rattle.std.specs.Prelude.{vec_len, vec_capacity, reverse}
 use Rattle.yparse.specs.Past.{position}
 use Rattle.yparse.specs.Session.{history_of, later_of}
-use Rattle.yparse.specs.Shown.{shown_step}
-use Rattle.yparse.specs.Unwinding.{shifted_from}
+use Rattle.yparse.specs.Shown.{step_view}
+use Rattle.yparse.specs.Unwinding.{shifts_from}
 use Rattle.yparse.proofs.Shown.{length-map}
 use Rattle.yparse.proofs.session.Session.step_back.Goals as goal
 
@@ -14,7 +14,7 @@ keep_later-requires c =
     let s = c.args.self.now in
     let new = c.undo.new.self in
     let room = s.room in
-    let many = length-map shown_step s.journal.earlier in
+    let many = length-map step_view s.journal.earlier in
     let fewer : length (history_of s).earlier ≡ suc (length (history_of new).earlier) =
     ap length c.in-Ok.ensures.undoes in
     subst (λ (later : Vec ℕ Global). vec_len later + position (history_of new) < vec_capacity later)
@@ -24,5 +24,5 @@ pub returns-clause-later : goal.returns-clause-later
 unfolding later_of
 returns-clause-later c =
     c.keep_later.ensures.later ∙ ap
-    (λ (later : Vec ℕ Global). shifted_from c.in-Ok.kind (reverse later.items))
+    (λ (later : Vec ℕ Global). shifts_from c.in-Ok.kind (reverse later.items))
     c.in-Ok.ensures.later
