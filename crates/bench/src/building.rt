@@ -51,7 +51,8 @@ pub fn peak(rt: &HostRuntime) -> io::Result<String> {
     Ok(String::from_str(rt.alloc(), "unknown")?)
 }
 
-/// Makes the automaton of a file's grammar several times, and prints the least time, and the most memory.
+/// Makes the automaton of a file's grammar several times, and prints the least time, and the most
+/// memory.
 pub fn time_build(rt: &HostRuntime, path: &str) -> io::Result<()> {
     let alloc = rt.alloc();
     let file = fs::read(rt, path)?;

@@ -7,7 +7,8 @@ use std::{fs, io};
 use ylalr::build;
 use ytables::resolve;
 
-/// Makes the tables of a file's grammar several times, and prints the least time, and the most memory.
+/// Makes the tables of a file's grammar several times, and prints the least time, and the most
+/// memory.
 pub fn time_resolve(rt: &HostRuntime, path: &str) -> io::Result<()> {
     let alloc = rt.alloc();
     let file = fs::read(rt, path)?;

@@ -12,8 +12,10 @@ fn a_token_is_discarded_behind_an_error(rt: HostRuntime) -> Result<(), Fail> {
         b"NUM NUM ';' NUM ';'",
         b"run 20\ntree\nunwind\n",
     )?;
-    let want =
-        b"1 reduce 1\n2 shift NUM\n3 detect\n4 pop NUM\n5 shift error\n6 discard NUM\n7 shift ';'\n8 reduce 3\n9 shift NUM\n10 shift ';'\n11 reduce 2\n12 accept\n(2 (3 (1) error ';'@3) NUM@4 ';'@5)\nhad error\n";
+    let want = b"\
+        1 reduce 1\n2 shift NUM\n3 detect\n4 pop NUM\n5 shift error\n6 discard NUM\n7 shift ';'\n\
+        8 reduce 3\n9 shift NUM\n10 shift ';'\n11 reduce 2\n12 accept\n\
+        (2 (3 (1) error ';'@3) NUM@4 ';'@5)\nhad error\n";
     assert_eq!(rt; sink.text(), want.as_slice());
     Ok(())
 }
@@ -26,13 +28,17 @@ fn undone_recovery_can_be_gone_through_again(rt: HostRuntime) -> Result<(), Fail
         b"NUM NUM ';' NUM ';'",
         b"run 20\nback 12\nshow\nto 6\nshow\n",
     )?;
-    let forward =
-        b"1 reduce 1\n2 shift NUM\n3 detect\n4 pop NUM\n5 shift error\n6 discard NUM\n7 shift ';'\n8 reduce 3\n9 shift NUM\n10 shift ';'\n11 reduce 2\n12 accept\n";
-    let back =
-        b"11 undo accept\n10 undo reduce 2\n9 undo shift ';'\n8 undo shift NUM\n7 undo reduce 3\n6 undo shift ';'\n5 undo discard NUM\n4 undo shift error\n3 undo pop NUM\n2 undo detect\n1 undo shift NUM\n0 undo reduce 1\n";
+    let forward = b"\
+        1 reduce 1\n2 shift NUM\n3 detect\n4 pop NUM\n5 shift error\n6 discard NUM\n7 shift ';'\n\
+        8 reduce 3\n9 shift NUM\n10 shift ';'\n11 reduce 2\n12 accept\n";
+    let back = b"\
+        11 undo accept\n10 undo reduce 2\n9 undo shift ';'\n8 undo shift NUM\n7 undo reduce 3\n\
+        6 undo shift ';'\n5 undo discard NUM\n4 undo shift error\n3 undo pop NUM\n2 undo detect\n\
+        1 undo shift NUM\n0 undo reduce 1\n";
     let first = b"0 running\nstack:\nrest: NUM NUM ';' NUM ';'\ncounter: 0\nerrors: 0\n";
-    let again =
-        b"1 reduce 1\n2 shift NUM\n3 detect\n4 pop NUM\n5 shift error\n6 discard NUM\n6 running\nstack: list error\nrest: ';' NUM ';'\ncounter: 3\nerrors: 1\n";
+    let again = b"\
+        1 reduce 1\n2 shift NUM\n3 detect\n4 pop NUM\n5 shift error\n6 discard NUM\n\
+        6 running\nstack: list error\nrest: ';' NUM ';'\ncounter: 3\nerrors: 1\n";
     let text = sink.text();
     assert!(rt; text.starts_with(forward));
     let text = text.get(forward.len()..).unwrap_or(b"");
@@ -52,8 +58,13 @@ fn the_counter_falls_with_each_shift(rt: HostRuntime) -> Result<(), Fail> {
         b"NUM NUM ';' NUM ';'",
         b"to 3\nshow\nto 7\nshow\nto 9\nshow\nto 10\nshow\n",
     )?;
-    let want =
-        b"1 reduce 1\n2 shift NUM\n3 detect\n3 popping\nstack: list NUM\nrest: NUM ';' NUM ';'\ncounter: 3\nerrors: 1\n4 pop NUM\n5 shift error\n6 discard NUM\n7 shift ';'\n7 running\nstack: list error ';'\nrest: NUM ';'\ncounter: 2\nerrors: 1\n8 reduce 3\n9 shift NUM\n9 running\nstack: list NUM\nrest: ';'\ncounter: 1\nerrors: 1\n10 shift ';'\n10 running\nstack: list NUM ';'\nrest:\ncounter: 0\nerrors: 1\n";
+    let want = b"\
+        1 reduce 1\n2 shift NUM\n3 detect\n\
+        3 popping\nstack: list NUM\nrest: NUM ';' NUM ';'\ncounter: 3\nerrors: 1\n4 pop NUM\n\
+        5 shift error\n6 discard NUM\n7 shift ';'\n\
+        7 running\nstack: list error ';'\nrest: NUM ';'\ncounter: 2\nerrors: 1\n8 reduce 3\n\
+        9 shift NUM\n9 running\nstack: list NUM\nrest: ';'\ncounter: 1\nerrors: 1\n10 shift ';'\n\
+        10 running\nstack: list NUM ';'\nrest:\ncounter: 0\nerrors: 1\n";
     assert_eq!(rt; sink.text(), want.as_slice());
     Ok(())
 }
@@ -66,8 +77,11 @@ fn a_second_error_within_three_shifts_is_not_reported(rt: HostRuntime) -> Result
         b"NUM NUM ';' NUM NUM ';'",
         b"run 20\nshow\n",
     )?;
-    let want =
-        b"1 reduce 1\n2 shift NUM\n3 detect\n4 pop NUM\n5 shift error\n6 discard NUM\n7 shift ';'\n8 reduce 3\n9 shift NUM\n10 detect\n11 pop NUM\n12 shift error\n13 discard NUM\n14 shift ';'\n15 reduce 3\n16 accept\n16 accepted\nstack: list\nrest:\ncounter: 2\nerrors: 1\n";
+    let want = b"\
+        1 reduce 1\n2 shift NUM\n3 detect\n4 pop NUM\n5 shift error\n6 discard NUM\n7 shift ';'\n\
+        8 reduce 3\n9 shift NUM\n10 detect\n11 pop NUM\n12 shift error\n13 discard NUM\n\
+        14 shift ';'\n15 reduce 3\n16 accept\n\
+        16 accepted\nstack: list\nrest:\ncounter: 2\nerrors: 1\n";
     assert_eq!(rt; sink.text(), want.as_slice());
     Ok(())
 }
@@ -99,8 +113,9 @@ fn a_token_is_discarded_after_a_reduction_of_an_error(rt: HostRuntime) -> Result
         b"'a' 'a'",
         b"run 9\nshow\n",
     )?;
-    let want =
-        b"1 shift 'a'\n2 reduce 1\n3 detect\n4 pop s\n5 shift error\n6 reduce 2\n7 discard 'a'\n8 accept\n8 accepted\nstack: s\nrest:\ncounter: 3\nerrors: 1\n";
+    let want = b"\
+        1 shift 'a'\n2 reduce 1\n3 detect\n4 pop s\n5 shift error\n6 reduce 2\n7 discard 'a'\n\
+        8 accept\n8 accepted\nstack: s\nrest:\ncounter: 3\nerrors: 1\n";
     assert_eq!(rt; sink.text(), want.as_slice());
     Ok(())
 }
@@ -113,8 +128,9 @@ fn without_error_rules_every_entry_is_popped(rt: HostRuntime) -> Result<(), Fail
         b"NUM '<' NUM '<' NUM",
         b"run 20\nunwind\n",
     )?;
-    let want =
-        b"1 shift NUM\n2 reduce 2\n3 shift '<'\n4 shift NUM\n5 reduce 2\n6 detect\n7 pop e\n8 pop '<'\n9 pop e\n10 fail\nnot accepted\n";
+    let want = b"\
+        1 shift NUM\n2 reduce 2\n3 shift '<'\n4 shift NUM\n5 reduce 2\n6 detect\n7 pop e\n\
+        8 pop '<'\n9 pop e\n10 fail\nnot accepted\n";
     assert_eq!(rt; less.text(), want.as_slice());
     let merged = replies(
         rt.alloc(),

@@ -21,8 +21,9 @@ fn an_empty_rule(rt: HostRuntime) -> Result<(), Fail> {
         b"",
         b"step\nstep\nstep\nback 2\nshow\n",
     )?;
-    let want =
-        b"1 reduce 1\n2 accept\nhalted\n1 undo accept\n0 undo reduce 1\n0 running\nstack:\nrest:\ncounter: 0\nerrors: 0\n";
+    let want = b"\
+        1 reduce 1\n2 accept\nhalted\n1 undo accept\n0 undo reduce 1\n\
+        0 running\nstack:\nrest:\ncounter: 0\nerrors: 0\n";
     assert_eq!(rt; sink.text(), want.as_slice());
     Ok(())
 }
@@ -38,8 +39,10 @@ fn a_lookahead_decides(rt: HostRuntime) -> Result<(), Fail> {
         b"'*' 'i' '=' 'i'",
         b"step\nstep\nstep\nstep\nstep\nstep\nstep\nstep\nstep\nstep\nstep\nshow\n",
     )?;
-    let want =
-        b"1 shift '*'\n2 shift 'i'\n3 reduce 4\n4 reduce 5\n5 reduce 3\n6 shift '='\n7 shift 'i'\n8 reduce 4\n9 reduce 5\n10 reduce 1\n11 accept\n11 accepted\nstack: s\nrest:\ncounter: 0\nerrors: 0\n";
+    let want = b"\
+        1 shift '*'\n2 shift 'i'\n3 reduce 4\n4 reduce 5\n5 reduce 3\n6 shift '='\n7 shift 'i'\n\
+        8 reduce 4\n9 reduce 5\n10 reduce 1\n11 accept\n\
+        11 accepted\nstack: s\nrest:\ncounter: 0\nerrors: 0\n";
     assert_eq!(rt; sink.text(), want.as_slice());
     Ok(())
 }
@@ -65,8 +68,9 @@ fn precedences_decide(rt: HostRuntime) -> Result<(), Fail> {
         b"NUM '+' NUM '*' NUM",
         b"run 20\n",
     )?;
-    let want =
-        b"1 shift NUM\n2 reduce 3\n3 shift '+'\n4 shift NUM\n5 reduce 3\n6 shift '*'\n7 shift NUM\n8 reduce 3\n9 reduce 2\n10 reduce 1\n11 accept\n";
+    let want = b"\
+        1 shift NUM\n2 reduce 3\n3 shift '+'\n4 shift NUM\n5 reduce 3\n6 shift '*'\n7 shift NUM\n\
+        8 reduce 3\n9 reduce 2\n10 reduce 1\n11 accept\n";
     assert_eq!(rt; sums.text(), want.as_slice());
     Ok(())
 }
@@ -79,8 +83,9 @@ fn conflicts_take_the_shift_or_the_least_rule(rt: HostRuntime) -> Result<(), Fai
         b"IF IF X ELSE X",
         b"run 10\nstep\n",
     )?;
-    let want =
-        b"1 shift IF\n2 shift IF\n3 shift X\n4 reduce 3\n5 shift ELSE\n6 shift X\n7 reduce 3\n8 reduce 2\n9 reduce 1\n10 accept\nhalted\n";
+    let want = b"\
+        1 shift IF\n2 shift IF\n3 shift X\n4 reduce 3\n5 shift ELSE\n6 shift X\n7 reduce 3\n\
+        8 reduce 2\n9 reduce 1\n10 accept\nhalted\n";
     assert_eq!(rt; dangling.text(), want.as_slice());
     let accepted = replies(rt.alloc(), b"%% s : s | 'x' ;", b"'x'", b"run 9\n")?;
     let want = b"1 shift 'x'\n2 reduce 2\n3 accept\n";
@@ -92,8 +97,10 @@ fn conflicts_take_the_shift_or_the_least_rule(rt: HostRuntime) -> Result<(), Fai
 fn a_reduction_without_end(rt: HostRuntime) -> Result<(), Fail> {
     let grammar = b"%left 'x' %left HI %% s : e s | 'x' ; e : %prec HI ;";
     let sink = replies(rt.alloc(), grammar, b"'x'", b"run 5\nshow\nback 5\n")?;
-    let want =
-        b"1 reduce 3\n2 reduce 3\n3 reduce 3\n4 reduce 3\n5 reduce 3\n5 running\nstack: e e e e e\nrest: 'x'\ncounter: 0\nerrors: 0\n4 undo reduce 3\n3 undo reduce 3\n2 undo reduce 3\n1 undo reduce 3\n0 undo reduce 3\n";
+    let want = b"\
+        1 reduce 3\n2 reduce 3\n3 reduce 3\n4 reduce 3\n5 reduce 3\n\
+        5 running\nstack: e e e e e\nrest: 'x'\ncounter: 0\nerrors: 0\n4 undo reduce 3\n\
+        3 undo reduce 3\n2 undo reduce 3\n1 undo reduce 3\n0 undo reduce 3\n";
     assert_eq!(rt; sink.text(), want.as_slice());
     Ok(())
 }
@@ -136,8 +143,10 @@ fn tokens_are_named_and_quoted(rt: HostRuntime) -> Result<(), Fail> {
 
 #[test]
 fn other_lines_are_unknown(rt: HostRuntime) -> Result<(), Fail> {
-    let lines =
-        b"\nstep \n step\nSTEP\nstepp\nback\nback \nback 0\nback 1000001\nback 00000001\nback  1\nback 1 \nback -1\nback x\nshow 1\nrun 0\nrun 00000001\nto 1000001\ntree \nunwind 1\nstep\r\nquit now\n";
+    let lines = b"\
+        \nstep \n step\nSTEP\nstepp\nback\nback \nback 0\nback 1000001\nback 00000001\nback  1\n\
+        back 1 \nback -1\nback x\nshow 1\nrun 0\nrun 00000001\nto 1000001\ntree \nunwind 1\n\
+        step\r\nquit now\n";
     let sink = replies(rt.alloc(), ONE, b"'x'", lines)?;
     let text = sink.text();
     let unknown = b"unknown command\n";

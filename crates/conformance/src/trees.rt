@@ -18,8 +18,9 @@ fn a_sum_is_unwound(rt: HostRuntime) -> Result<(), Fail> {
 #[test]
 fn one_token_is_unwound(rt: HostRuntime) -> Result<(), Fail> {
     let one = replies(rt.alloc(), ONE, b"'x'", b"run 9\nunwind\nshow\n")?;
-    let want =
-        b"1 shift 'x'\n2 reduce 1\n3 accept\ns\n'x'\n0 running\nstack:\nrest: 'x'\ncounter: 0\nerrors: 0\n";
+    let want = b"\
+        1 shift 'x'\n2 reduce 1\n3 accept\ns\n'x'\n\
+        0 running\nstack:\nrest: 'x'\ncounter: 0\nerrors: 0\n";
     assert_eq!(rt; one.text(), want.as_slice());
     let none = replies(rt.alloc(), b"%% s : ;", b"", b"run 9\nunwind\n")?;
     assert_eq!(rt; none.text(), b"1 reduce 1\n2 accept\ns\n\n".as_slice());
@@ -34,8 +35,9 @@ fn commands_follow_one_another(rt: HostRuntime) -> Result<(), Fail> {
         b"'x'",
         b"back 1\nunwind\nfrob\n\nto 3\nstep\nto 3\ntree\nback 9\n",
     )?;
-    let want =
-        b"at start\nnot accepted\nunknown command\nunknown command\n1 shift 'x'\n2 reduce 1\n3 accept\nhalted\n(1 'x'@1)\n2 undo accept\n1 undo reduce 1\n0 undo shift 'x'\n";
+    let want = b"\
+        at start\nnot accepted\nunknown command\nunknown command\n1 shift 'x'\n2 reduce 1\n\
+        3 accept\nhalted\n(1 'x'@1)\n2 undo accept\n1 undo reduce 1\n0 undo shift 'x'\n";
     assert_eq!(rt; sink.text(), want.as_slice());
     Ok(())
 }
@@ -48,8 +50,9 @@ fn trees_of_a_stack_behind_an_error(rt: HostRuntime) -> Result<(), Fail> {
         b"NUM NUM ';'",
         b"tree\nto 2\ntree\nto 6\ntree\n",
     )?;
-    let want =
-        b"1 reduce 1\n2 shift NUM\n(1)\nNUM@1\n3 detect\n4 pop NUM\n5 shift error\n6 discard NUM\n(1)\nerror\n";
+    let want = b"\
+        1 reduce 1\n2 shift NUM\n(1)\nNUM@1\n3 detect\n4 pop NUM\n5 shift error\n6 discard NUM\n\
+        (1)\nerror\n";
     assert_eq!(rt; sink.text(), want.as_slice());
     Ok(())
 }

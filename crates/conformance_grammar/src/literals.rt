@@ -21,43 +21,61 @@ fn fails(text: &[u8]) -> Result<(), Fail> {
 
 #[test]
 fn escapes_of_one_byte(_rt: HostRuntime) -> Result<(), Fail> {
-    reads(b"'\\''", 39)?;
-    reads(b"'\\\"'", 34)?;
-    reads(b"'\\?'", 63)?;
-    reads(b"'\\\\'", 92)?;
-    reads(b"'\\a'", 7)?;
-    reads(b"'\\b'", 8)?;
-    reads(b"'\\f'", 12)?;
-    reads(b"'\\n'", 10)?;
-    reads(b"'\\r'", 13)?;
-    reads(b"'\\t'", 9)?;
-    reads(b"'\\v'", 11)
+    let literals: [(&[u8], u8); 11] = [
+        (b"'\\''", 39),
+        (b"'\\\"'", 34),
+        (b"'\\?'", 63),
+        (b"'\\\\'", 92),
+        (b"'\\a'", 7),
+        (b"'\\b'", 8),
+        (b"'\\f'", 12),
+        (b"'\\n'", 10),
+        (b"'\\r'", 13),
+        (b"'\\t'", 9),
+        (b"'\\v'", 11),
+    ];
+    for (text, value) in literals {
+        reads(text, value)?;
+    }
+    Ok(())
 }
 
 #[test]
 fn escapes_with_digits(_rt: HostRuntime) -> Result<(), Fail> {
-    reads(b"'\\1'", 1)?;
-    reads(b"'\\12'", 10)?;
-    reads(b"'\\012'", 10)?;
-    reads(b"'\\377'", 255)?;
-    reads(b"'\\x41'", 65)?;
-    reads(b"'\\xfF'", 255)?;
-    reads(b"'\\x0000000a'", 10)?;
-    reads(b"'~'", 126)
+    let literals: [(&[u8], u8); 8] = [
+        (b"'\\1'", 1),
+        (b"'\\12'", 10),
+        (b"'\\012'", 10),
+        (b"'\\377'", 255),
+        (b"'\\x41'", 65),
+        (b"'\\xfF'", 255),
+        (b"'\\x0000000a'", 10),
+        (b"'~'", 126),
+    ];
+    for (text, value) in literals {
+        reads(text, value)?;
+    }
+    Ok(())
 }
 
 #[test]
 fn no_literal(_rt: HostRuntime) -> Result<(), Fail> {
-    fails(b"'\\0'")?;
-    fails(b"'\\000'")?;
-    fails(b"'\\400'")?;
-    fails(b"'\\0101'")?;
-    fails(b"'\\x100'")?;
-    fails(b"'\\x'")?;
-    fails(b"'\\8'")?;
-    fails(b"''")?;
-    fails(b"'ab'")?;
-    fails(b"'a")?;
-    fails(b"a")?;
-    fails(b"")
+    let texts: [&[u8]; 12] = [
+        b"'\\0'",
+        b"'\\000'",
+        b"'\\400'",
+        b"'\\0101'",
+        b"'\\x100'",
+        b"'\\x'",
+        b"'\\8'",
+        b"''",
+        b"'ab'",
+        b"'a",
+        b"a",
+        b"",
+    ];
+    for text in texts {
+        fails(text)?;
+    }
+    Ok(())
 }

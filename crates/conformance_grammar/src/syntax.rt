@@ -6,121 +6,73 @@ use ygrammar::GrammarFault;
 
 #[test]
 fn texts_without_an_end(rt: HostRuntime) -> Result<(), Fail> {
-    let alloc = rt.alloc();
-    refused(
-        alloc,
-        b"%% s : 'a' { \"}\" ;",
-        GrammarFault::Unfinished { line: 1 },
-    )?;
-    refused(
-        alloc,
-        b"%%\ns :\n{ open\n\n",
-        GrammarFault::Unfinished { line: 3 },
-    )?;
-    refused(
-        alloc,
-        b"%% s : 'a'\n/* open\n",
-        GrammarFault::Unfinished { line: 2 },
-    )?;
-    refused(alloc, b"%%\n/* open", GrammarFault::Unfinished { line: 2 })?;
-    refused(alloc, b"\n%{ open", GrammarFault::Unfinished { line: 2 })?;
-    refused(
-        alloc,
-        b"%% s : { open",
-        GrammarFault::Unfinished { line: 1 },
-    )?;
-    refused(alloc, b"%% s : '\\0", GrammarFault::Unfinished { line: 1 })?;
-    refused(alloc, b"%% s : /*/ ;", GrammarFault::Unfinished { line: 1 })?;
-    refused(
-        alloc,
-        b"%% s : a /* open",
-        GrammarFault::Unfinished { line: 1 },
-    )
+    let files: [(usize, &[u8]); 9] = [
+        (1, b"%% s : 'a' { \"}\" ;"),
+        (3, b"%%\ns :\n{ open\n\n"),
+        (2, b"%% s : 'a'\n/* open\n"),
+        (2, b"%%\n/* open"),
+        (2, b"\n%{ open"),
+        (1, b"%% s : { open"),
+        (1, b"%% s : '\\0"),
+        (1, b"%% s : /*/ ;"),
+        (1, b"%% s : a /* open"),
+    ];
+    for (line, file) in files {
+        refused(rt.alloc(), file, GrammarFault::Unfinished { line })?;
+    }
+    Ok(())
 }
 
 #[test]
 fn bad_literals(rt: HostRuntime) -> Result<(), Fail> {
-    let alloc = rt.alloc();
-    refused(
-        alloc,
-        b"%% s : 'ab' ;",
-        GrammarFault::BadLiteral { line: 1 },
-    )?;
-    refused(
-        alloc,
-        b"%% s : '\\400' ;",
-        GrammarFault::BadLiteral { line: 1 },
-    )?;
-    refused(
-        alloc,
-        b"%%\ns :\n'ab' ;",
-        GrammarFault::BadLiteral { line: 3 },
-    )?;
-    refused(
-        alloc,
-        b"%% s : '\\000",
-        GrammarFault::BadLiteral { line: 1 },
-    )?;
-    refused(alloc, b"%% s : ''", GrammarFault::BadLiteral { line: 1 })
+    let files: [(usize, &[u8]); 5] = [
+        (1, b"%% s : 'ab' ;"),
+        (1, b"%% s : '\\400' ;"),
+        (3, b"%%\ns :\n'ab' ;"),
+        (1, b"%% s : '\\000"),
+        (1, b"%% s : ''"),
+    ];
+    for (line, file) in files {
+        refused(rt.alloc(), file, GrammarFault::BadLiteral { line })?;
+    }
+    Ok(())
 }
 
 #[test]
 fn bytes_and_words_that_begin_no_lexeme(rt: HostRuntime) -> Result<(), Fail> {
-    let alloc = rt.alloc();
-    refused(alloc, b"%% s : @ ;", GrammarFault::Foreign { line: 1 })?;
-    refused(
-        alloc,
-        b"%token s %% s : t @ ;",
-        GrammarFault::Foreign { line: 1 },
-    )?;
-    refused(
-        alloc,
-        b"%{\n\n%}\n%tokens A %% s : A ;",
-        GrammarFault::Foreign { line: 4 },
-    )?;
-    refused(
-        alloc,
-        b"%token s\n%%\ns : t\n@ ;",
-        GrammarFault::Foreign { line: 4 },
-    )?;
-    refused(
-        alloc,
-        b"/* a\n b\n */ %token A %% s : A\n\n @",
-        GrammarFault::Foreign { line: 5 },
-    )?;
-    refused(
-        alloc,
-        b"%{ int i;\n\n %} %% s : /*\n*/ { f(\n\"\n\"); } ; }",
-        GrammarFault::Foreign { line: 6 },
-    )?;
-    refused(
-        alloc,
-        b"%tokenx A %% s : ;",
-        GrammarFault::Foreign { line: 1 },
-    )?;
-    refused(alloc, b"%% s : / ;", GrammarFault::Foreign { line: 1 })?;
-    refused(alloc, b"%% : ;", GrammarFault::Foreign { line: 1 })
+    let files: [(usize, &[u8]); 9] = [
+        (1, b"%% s : @ ;"),
+        (1, b"%token s %% s : t @ ;"),
+        (4, b"%{\n\n%}\n%tokens A %% s : A ;"),
+        (4, b"%token s\n%%\ns : t\n@ ;"),
+        (5, b"/* a\n b\n */ %token A %% s : A\n\n @"),
+        (6, b"%{ int i;\n\n %} %% s : /*\n*/ { f(\n\"\n\"); } ; }"),
+        (1, b"%tokenx A %% s : ;"),
+        (1, b"%% s : / ;"),
+        (1, b"%% : ;"),
+    ];
+    for (line, file) in files {
+        refused(rt.alloc(), file, GrammarFault::Foreign { line })?;
+    }
+    Ok(())
 }
 
 #[test]
 fn lexemes_that_begin_no_file(rt: HostRuntime) -> Result<(), Fail> {
-    let alloc = rt.alloc();
-    refused(alloc, b"", GrammarFault::Syntax { line: 1 })?;
-    refused(alloc, b"%%", GrammarFault::Syntax { line: 1 })?;
-    refused(alloc, b"%%\n", GrammarFault::Syntax { line: 2 })?;
-    refused(
-        alloc,
-        b"%%\ns : 'a'\n%left ;\n",
-        GrammarFault::Syntax { line: 3 },
-    )?;
-    refused(
-        alloc,
-        b"%%\n s\n /* here */\n : ; { }",
-        GrammarFault::Syntax { line: 4 },
-    )?;
-    refused(alloc, b"s\n\n :", GrammarFault::Syntax { line: 1 })?;
-    refused(alloc, b"%% s s ;", GrammarFault::Syntax { line: 1 })?;
-    refused(alloc, b"%% a /* open", GrammarFault::Syntax { line: 1 })
+    let files: [(usize, &[u8]); 8] = [
+        (1, b""),
+        (1, b"%%"),
+        (2, b"%%\n"),
+        (3, b"%%\ns : 'a'\n%left ;\n"),
+        (4, b"%%\n s\n /* here */\n : ; { }"),
+        (1, b"s\n\n :"),
+        (1, b"%% s s ;"),
+        (1, b"%% a /* open"),
+    ];
+    for (line, file) in files {
+        refused(rt.alloc(), file, GrammarFault::Syntax { line })?;
+    }
+    Ok(())
 }
 
 #[test]

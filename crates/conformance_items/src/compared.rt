@@ -58,7 +58,9 @@ const WORKED: [&[u8]; 28] = [
     b"%% s : 'p' a 'q' ; a : 'r' b ; b : 't' c ; c : 'y' ;",
     b"%% s : p '+' | q '+' | 'n' '+' ; p : 'n' ; q : 'n' ;",
     b"%left '+' %left HI %% s : p '+' | q '+' | 'n' '+' ; p : 'n' %prec HI ; q : 'n' ;",
-    b"%left LO %left '+' %left HI %% s : p '+' | q '+' | 'n' '+' ; p : 'n' %prec HI ; q : 'n' %prec LO ;",
+    b"\
+        %left LO %left '+' %left HI %% s : p '+' | q '+' | 'n' '+' ; p : 'n' %prec HI ; q : 'n' \
+        %prec LO ;",
     b"%nonassoc '+' %% s : p '+' | q '+' | 'n' '+' ; p : 'n' %prec '+' ; q : 'n' ;",
     b"%% s : 'x' ; t : 'y' ;",
     b"%% s : 'a' | error ;",

@@ -73,18 +73,22 @@ fn is_edited_later(alloc: Global, edit: &[u8], want: &[u8]) -> Result<bool, Fail
 #[test]
 fn a_refused_edit_changes_nothing(rt: HostRuntime) -> Result<(), Fail> {
     let alloc = rt.alloc();
-    let inserted =
-        b"no memory\nbad token\n0 running\nstack:\nrest: 'x'\ncounter: 0\nerrors: 0\n1 insert 'x'\n0 undo insert 'x'\n0 running\nstack:\nrest: 'x'\ncounter: 0\nerrors: 0\n";
+    let inserted = b"\
+        no memory\nbad token\n0 running\nstack:\nrest: 'x'\ncounter: 0\nerrors: 0\n1 insert 'x'\n\
+        0 undo insert 'x'\n0 running\nstack:\nrest: 'x'\ncounter: 0\nerrors: 0\n";
     assert!(rt; is_edited_later(alloc, b"insert 'x'\n", inserted)?);
-    let dropped =
-        b"no memory\nbad token\n0 running\nstack:\nrest: 'x'\ncounter: 0\nerrors: 0\n1 drop 'x'\n0 undo drop 'x'\n0 running\nstack:\nrest: 'x'\ncounter: 0\nerrors: 0\n";
+    let dropped = b"\
+        no memory\nbad token\n0 running\nstack:\nrest: 'x'\ncounter: 0\nerrors: 0\n1 drop 'x'\n\
+        0 undo drop 'x'\n0 running\nstack:\nrest: 'x'\ncounter: 0\nerrors: 0\n";
     assert!(rt; is_edited_later(alloc, b"drop\n", dropped)?);
     Ok(())
 }
 
 /// The undos of the spoiled list.
-const UNDONE: &[u8] =
-    b"11 undo accept\n10 undo reduce 2\n9 undo shift ';'\n8 undo shift NUM\n7 undo reduce 3\n6 undo shift ';'\n5 undo discard NUM\n4 undo shift error\n3 undo pop NUM\n2 undo detect\n1 undo shift NUM\n0 undo reduce 1\n";
+const UNDONE: &[u8] = b"\
+    11 undo accept\n10 undo reduce 2\n9 undo shift ';'\n8 undo shift NUM\n7 undo reduce 3\n\
+    6 undo shift ';'\n5 undo discard NUM\n4 undo shift error\n3 undo pop NUM\n2 undo detect\n\
+    1 undo shift NUM\n0 undo reduce 1\n";
 
 /// What a session of the spoiled list writes, where memory is taken behind so many steps of its
 /// first run, and given back before its second; and whether memory was refused.

@@ -174,14 +174,18 @@ fn too_many_tokens_are_refused(rt: HostRuntime) -> Result<(), Fail> {
     Ok(())
 }
 
-// The texts over two letters whose 15th letter from the end is an `a`: an automaton has to keep in mind which of the
-// last letters were, in more than 16,384 sets.
+// The texts over two letters whose 15th letter from the end is an `a`: an automaton has to keep in
+// mind which of the last letters were, in more than 16,384 sets.
 #[test]
 fn too_many_sets_are_refused(rt: HostRuntime) -> Result<(), Fail> {
     fs::write(
         &rt,
         "sets.y",
-        "%% s : 'a' s | 'b' s | 'a' p1 ; p1 : 'a' p2 | 'b' p2 ; p2 : 'a' p3 | 'b' p3 ; p3 : 'a' p4 | 'b' p4 ; p4 : 'a' p5 | 'b' p5 ; p5 : 'a' p6 | 'b' p6 ; p6 : 'a' p7 | 'b' p7 ; p7 : 'a' p8 | 'b' p8 ; p8 : 'a' p9 | 'b' p9 ; p9 : 'a' p10 | 'b' p10 ; p10 : 'a' p11 | 'b' p11 ; p11 : 'a' p12 | 'b' p12 ; p12 : 'a' p13 | 'b' p13 ; p13 : 'a' p14 | 'b' p14 ; p14 : 'a' | 'b' ;",
+        "%% s : 'a' s | 'b' s | 'a' p1 ; p1 : 'a' p2 | 'b' p2 ; p2 : 'a' p3 | 'b' p3 ; \
+            p3 : 'a' p4 | 'b' p4 ; p4 : 'a' p5 | 'b' p5 ; p5 : 'a' p6 | 'b' p6 ; \
+            p6 : 'a' p7 | 'b' p7 ; p7 : 'a' p8 | 'b' p8 ; p8 : 'a' p9 | 'b' p9 ; \
+            p9 : 'a' p10 | 'b' p10 ; p10 : 'a' p11 | 'b' p11 ; p11 : 'a' p12 | 'b' p12 ; \
+            p12 : 'a' p13 | 'b' p13 ; p13 : 'a' p14 | 'b' p14 ; p14 : 'a' | 'b' ;",
     )?;
     assert!(rt; refuses(&rt, &["ystep", "sets.y", "absent"], 3, b"ystep: B1\n"));
     fs::remove_file(&rt, "sets.y")?;

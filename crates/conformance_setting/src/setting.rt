@@ -17,8 +17,9 @@ pub const ONE: &[u8] = b"%% s : 'x' ;";
 pub const COMMANDS: &[u8] = b"step\nshow\nstep\nstep\nstep\nback 9\nback 1\n";
 
 /// What they reply to the token `'x'`.
-pub const REPLIES: &[u8] =
-    b"1 shift 'x'\n1 running\nstack: 'x'\nrest:\ncounter: 0\nerrors: 0\n2 reduce 1\n3 accept\nhalted\n2 undo accept\n1 undo reduce 1\n0 undo shift 'x'\nat start\n";
+pub const REPLIES: &[u8] = b"\
+    1 shift 'x'\n1 running\nstack: 'x'\nrest:\ncounter: 0\nerrors: 0\n2 reduce 1\n3 accept\n\
+    halted\n2 undo accept\n1 undo reduce 1\n0 undo shift 'x'\nat start\n";
 
 /// The tables of a grammar text.
 pub fn tables_of(alloc: Global, grammar: &[u8]) -> Result<Tables, Fail> {

@@ -24,7 +24,10 @@ pub const THREE: &[u8] = b"run 20\ntree\nunwind\n";
 pub const SPOILED: Worked = Worked {
     grammar: LIST,
     tokens: b"NUM NUM ';' NUM ';'",
-    text: b"1 reduce 1\n2 shift NUM\n3 detect\n4 pop NUM\n5 shift error\n6 discard NUM\n7 shift ';'\n8 reduce 3\n9 shift NUM\n10 shift ';'\n11 reduce 2\n12 accept\n(2 (3 (1) error ';'@3) NUM@4 ';'@5)\nhad error\n",
+    text: b"\
+        1 reduce 1\n2 shift NUM\n3 detect\n4 pop NUM\n5 shift error\n6 discard NUM\n7 shift ';'\n\
+        8 reduce 3\n9 shift NUM\n10 shift ';'\n11 reduce 2\n12 accept\n\
+        (2 (3 (1) error ';'@3) NUM@4 ';'@5)\nhad error\n",
     lines: [0, 12, 13, 14],
 };
 
@@ -32,7 +35,11 @@ pub const SPOILED: Worked = Worked {
 pub const SUM: Worked = Worked {
     grammar: SUMS,
     tokens: b"NUM '+' NUM '*' NUM",
-    text: b"1 shift NUM\n2 reduce 3\n3 shift '+'\n4 shift NUM\n5 reduce 3\n6 shift '*'\n7 shift NUM\n8 reduce 3\n9 reduce 2\n10 reduce 1\n11 accept\n(1 (3 NUM@1) '+'@2 (2 (3 NUM@3) '*'@4 (3 NUM@5)))\ne\ne '+' e\ne '+' e '*' e\ne '+' e '*' NUM\ne '+' NUM '*' NUM\nNUM '+' NUM '*' NUM\n",
+    text: b"\
+        1 shift NUM\n2 reduce 3\n3 shift '+'\n4 shift NUM\n5 reduce 3\n6 shift '*'\n7 shift NUM\n\
+        8 reduce 3\n9 reduce 2\n10 reduce 1\n11 accept\n\
+        (1 (3 NUM@1) '+'@2 (2 (3 NUM@3) '*'@4 (3 NUM@5)))\ne\ne '+' e\ne '+' e '*' e\n\
+        e '+' e '*' NUM\ne '+' NUM '*' NUM\nNUM '+' NUM '*' NUM\n",
     lines: [0, 11, 12, 18],
 };
 

@@ -5,9 +5,17 @@ use crate::grammars::{DANGLING, ITSELF, MERGED, ONE, UNREACHED};
 use std::alloc::Global;
 use std::test::Fail;
 
-/// Whether the text is this one.
-fn is_written(alloc: Global, grammar: &[u8], text: Text, want: &[u8]) -> Result<bool, Fail> {
-    Ok(written(alloc, grammar, text)?.as_slice() == want)
+/// Whether the text is made of these parts, one behind the other.
+fn is_written(alloc: Global, grammar: &[u8], text: Text, parts: &[&[u8]]) -> Result<bool, Fail> {
+    let text = written(alloc, grammar, text)?;
+    let mut rest = text.as_slice();
+    for part in parts {
+        match rest.strip_prefix(*part) {
+            Some(behind) => rest = behind,
+            None => return Ok(false),
+        }
+    }
+    Ok(rest.is_empty())
 }
 
 /// Whether the text has these lines, one after the other.
@@ -16,8 +24,8 @@ fn has_lines(alloc: Global, grammar: &[u8], text: Text, lines: &[u8]) -> Result<
     Ok((0..text.len()).any(|at| text[at..].starts_with(lines)))
 }
 
-/// The report of one rule.
-const ONE_REPORT: &[u8] = b"\
+/// What the report of one rule begins with.
+const ONE_HEAD: &[u8] = b"\
     Rules\n\
     0 $accept: s $end\n\
     1 s: 'x'\n\
@@ -26,6 +34,10 @@ const ONE_REPORT: &[u8] = b"\
     0 $end\n\
     256 error\n\
     120 'x'\n\
+";
+
+/// The states of both, and the last lines.
+const ONE_STATES: &[u8] = b"\
     State 0\n\
     \x20 $accept: . s $end\n\
     \x20 s: . 'x'\n\
@@ -61,8 +73,8 @@ const ONE_TABLE: &[u8] = b"\
     end\n\
 ";
 
-/// The report where a second symbol has a rule that is never reached.
-const UNREACHED_REPORT: &[u8] = b"\
+/// What it begins with where a second symbol has a rule that is never reached.
+const UNREACHED_HEAD: &[u8] = b"\
     Rules\n\
     0 $accept: s $end\n\
     1 s: 'x'\n\
@@ -74,19 +86,6 @@ const UNREACHED_REPORT: &[u8] = b"\
     256 error\n\
     120 'x'\n\
     121 'y'\n\
-    State 0\n\
-    \x20 $accept: . s $end\n\
-    \x20 s: . 'x'\n\
-    \x20 'x' shift 1\n\
-    \x20 s goto 2\n\
-    State 1\n\
-    \x20 s: 'x' . on $end\n\
-    \x20 . reduce 1\n\
-    State 2\n\
-    \x20 $accept: s . $end\n\
-    \x20 $end accept\n\
-    States 3\n\
-    Conflicts 0 0\n\
 ";
 
 /// The report of a rule of itself.
@@ -223,32 +222,39 @@ const MERGED_STATE: &[u8] = b"\
 
 #[test]
 fn the_report_of_one_rule(rt: HostRuntime) -> Result<(), Fail> {
-    assert!(rt; is_written(rt.alloc(), ONE, Text::Report, ONE_REPORT)?);
+    assert!(rt; is_written(rt.alloc(), ONE, Text::Report, &[ONE_HEAD, ONE_STATES])?);
     Ok(())
 }
 
 #[test]
 fn the_table_of_one_rule(rt: HostRuntime) -> Result<(), Fail> {
-    assert!(rt; is_written(rt.alloc(), ONE, Text::Table, ONE_TABLE)?);
+    assert!(rt; is_written(rt.alloc(), ONE, Text::Table, &[ONE_TABLE])?);
     Ok(())
 }
 
 #[test]
 fn rules_that_are_never_reached_are_named(rt: HostRuntime) -> Result<(), Fail> {
-    assert!(rt; is_written(rt.alloc(), UNREACHED, Text::Report, UNREACHED_REPORT)?);
+    assert!(rt;
+        is_written(
+            rt.alloc(),
+            UNREACHED,
+            Text::Report,
+            &[UNREACHED_HEAD, ONE_STATES]
+        )?
+    );
     Ok(())
 }
 
 #[test]
 fn conflicts_stand_below_their_state(rt: HostRuntime) -> Result<(), Fail> {
-    assert!(rt; is_written(rt.alloc(), ITSELF, Text::Report, ITSELF_REPORT)?);
+    assert!(rt; is_written(rt.alloc(), ITSELF, Text::Report, &[ITSELF_REPORT])?);
     Ok(())
 }
 
 #[test]
 fn both_texts_of_a_dangling_else(rt: HostRuntime) -> Result<(), Fail> {
-    assert!(rt; is_written(rt.alloc(), DANGLING, Text::Report, DANGLING_REPORT)?);
-    assert!(rt; is_written(rt.alloc(), DANGLING, Text::Table, DANGLING_TABLE)?);
+    assert!(rt; is_written(rt.alloc(), DANGLING, Text::Report, &[DANGLING_REPORT])?);
+    assert!(rt; is_written(rt.alloc(), DANGLING, Text::Table, &[DANGLING_TABLE])?);
     Ok(())
 }
 

@@ -34,11 +34,15 @@ fn ends(rt: &HostRuntime, words: &[&str], status: u8, message: &[u8]) -> bool {
     outcome.status == status && outcome.messages.as_slice() == message && outcome.replies.is_empty()
 }
 
-const TABLE: &[u8] =
-    b"table 2\nsymbols 5\n0 t 0 $end\n1 t 256 error\n2 t 120 'x'\n3 n - $accept\n4 n - s\nrules 2\n0 3 2\n1 4 1\nstates 3\na 0 2 s 1\ng 0 4 2\nd 1 1\na 2 0 acc\nend\n";
+const TABLE: &[u8] = b"\
+    table 2\nsymbols 5\n0 t 0 $end\n1 t 256 error\n2 t 120 'x'\n3 n - $accept\n4 n - s\nrules 2\n\
+    0 3 2\n1 4 1\nstates 3\na 0 2 s 1\ng 0 4 2\nd 1 1\na 2 0 acc\nend\n";
 
-const REPORT: &[u8] =
-    b"Rules\n0 $accept: s $end\n1 s: 'x'\nUnreachable\nTokens\n0 $end\n256 error\n120 'x'\nState 0\n  $accept: . s $end\n  s: . 'x'\n  'x' shift 1\n  s goto 2\nState 1\n  s: 'x' . on $end\n  . reduce 1\nState 2\n  $accept: s . $end\n  $end accept\nStates 3\nConflicts 0 0\n";
+const REPORT: &[u8] = b"\
+    Rules\n0 $accept: s $end\n1 s: 'x'\nUnreachable\nTokens\n0 $end\n256 error\n120 'x'\n\
+    State 0\n  $accept: . s $end\n  s: . 'x'\n  'x' shift 1\n  s goto 2\nState 1\n\
+    \x20 s: 'x' . on $end\n  . reduce 1\nState 2\n  $accept: s . $end\n  $end accept\nStates 3\n\
+    Conflicts 0 0\n";
 
 #[test]
 fn the_table_alone(rt: HostRuntime) -> Result<(), Fail> {

@@ -5,3 +5,4 @@ mod Transcripts
 mod Required
 mod Running
 pub mod Generated
+mod Words

@@ -6,7 +6,7 @@ use Rattle.std.proofs.Common.{append_assoc, inl, inr}
 use Rattle.std.proofs.lemmas.Bool.{cases_lt, lt-ltb, eqb-true}
 use Rattle.ycli.specs.Command.{Unknown}
 use Rattle.ycli.specs.Line.{Command}
-use Rattle.ycli.specs.Line.{line_of}
+use Rattle.ycli.specs.Line.{line_in}
 use Rattle.std.proofs.lemmas.List.{take_all, take_more_set, take_at}
 use Rattle.std.proofs.Math.ListN.{set}
 use Rattle.std.specs.List.{flat_map}
@@ -86,15 +86,15 @@ take-front zero xs ys = refl
 take-front (suc n) [] ys = refl
 take-front (suc n) (x ∷ xs) ys = ap (λ (l : List ℕ). x ∷ l) (take-front n xs ys)
 
-pub long-unknown : (line : List ℕ) → 4096 < length line → line_of line ≡ Command Unknown
-unfolding line_of
+pub long-unknown : (line : List ℕ) → 4096 < length line → line_in line ≡ Command Unknown
+unfolding line_in
 long-unknown line h =
     let e : nat_lt 4096 (length line) ≡ true = lt-ltb 4096 (length line) h in rw e refl
 
-pub line_of-front : (n : ℕ) (line : List ℕ) → n ≡ 4097 → line_of (take n line) ≡ line_of line
-line_of-front n line e =
+pub line_in-front : (n : ℕ) (line : List ℕ) → n ≡ 4097 → line_in (take n line) ≡ line_in line
+line_in-front n line e =
     elim (cases_lt n (length line)) [
-      | inr h ↦ ap line_of (take_all n line h)
+      | inr h ↦ ap line_in (take_all n line h)
       | inl h ↦
           let all : length (take n line) ≡ n = length-take-le n line (omega arith) in
           long-unknown (take n line) (omega arith) ∙ sym (long-unknown line (omega arith))

@@ -19,7 +19,7 @@ use Rattle.ycli.specs.Command.{Command}
 use Rattle.ycli.specs.Command.{Run, Back, To, Show, Tree, Unwind, Insert, Drop, Unknown}
 use Rattle.ycli.specs.Line.{Line}
 use Rattle.ycli.specs.Line as words
-use Rattle.ycli.specs.Line.{line_of}
+use Rattle.ycli.specs.Line.{line_in}
 use Rattle.std.proofs.Common.{ap₂}
 use Rattle.yparse.specs.declared.machine.Edit.{Edit}
 use Rattle.yparse.specs.declared.machine.Edit.TheVariants as edits
@@ -29,7 +29,7 @@ use Rattle.yparse.specs.Spelling.{Spells}
 use Rattle.yparse.proofs.Spellings.{spells_some, one_spelled}
 use Rattle.ycli.specs.Reply.{Edits, EditsBy, InsertsBy, edit_text}
 use Rattle.ycli.specs.Reply.{GoesOn, RunsBy, GoesToBy, Runs, GoesTo, Reply, Unwinds, refusal}
-use Rattle.ycli.specs.Reply.{shown, step_line, undo_text}
+use Rattle.ycli.specs.Reply.{configuration_text, step_line, undo_text}
 use Rattle.ycli.specs.Transcript.{Continues, Transcript}
 use Rattle.ycli.specs.Plain.{PlainSteps, PlainEdits, PlainReply, PlainTranscript, HasOneText}
 
@@ -173,7 +173,7 @@ plain_reply : (m : Machine) (h : History) (command : Command) → (text : List �
 plain_reply m h (Run n) = plain_run m n false h
 plain_reply m h (Back n) = (undo_text m n false h.earlier, back_by n h, (refl, refl))
 plain_reply m h (To k) = plain_to m h k (nat_lt (position h) k)
-plain_reply m h Show = (shown m h, h, (refl, refl))
+plain_reply m h Show = (configuration_text m h, h, (refl, refl))
 plain_reply m h Tree = (tree_lines m h.now.stack, h, (refl, refl))
 plain_reply m h Unwind = unwinds_some m h h.now.mode refl (errors_known h.earlier)
 plain_reply m h (Insert bytes) = plain_insert m bytes h
@@ -193,7 +193,7 @@ plain_text : (m : Machine) (h : History) (lines : List (List ℕ)) → (text : L
     × PlainTranscript m h lines text
 plain_text m h [] = ([], refl)
 plain_text m h (line ∷ lines) =
-    plain_line m h (line_of line) (λ mid more. PlainTranscript m mid lines more)
+    plain_line m h (line_in line) (λ mid more. PlainTranscript m mid lines more)
     (λ mid. plain_text m mid lines)
 
 -- ---- it is a text of the session
@@ -246,7 +246,7 @@ text_is : (m : Machine) (h : History) (lines : List (List ℕ)) (text : List ℕ
     → PlainTranscript m h lines text → Transcript m h lines text
 text_is m h [] text p = p
 text_is m h (line ∷ lines) text p =
-    line_is m h (line_of line) text (λ mid more. PlainTranscript m mid lines more)
+    line_is m h (line_in line) text (λ mid more. PlainTranscript m mid lines more)
     (λ mid more. Transcript m mid lines more) (λ mid more. text_is m mid lines more) p
 
 -- so each line has a reply, and all lines have a text
@@ -442,7 +442,7 @@ one_text : (m : Machine) (h : History) (lines : List (List ℕ)) (s t : List ℕ
     → PlainTranscript m h lines s → PlainTranscript m h lines t → s ≡ t
 one_text m h [] s t e f = e ∙ sym f
 one_text m h (line ∷ lines) s t p q =
-    one_line m h (line_of line) (λ mid more. PlainTranscript m mid lines more) s t
+    one_line m h (line_in line) (λ mid more. PlainTranscript m mid lines more) s t
     (λ mid x y. one_text m mid lines x y) p q
 
 pub has_one_text : (m : Machine) (h : History) (lines : List (List ℕ)) → HasOneText m h lines

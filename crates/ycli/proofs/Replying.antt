@@ -1,7 +1,11 @@
 -- How replies join.
-use Rattle.std.proofs.Common.{ℕ, zero, arith, suc, ◌≡◌, ◌<◌, ◌≤◌, ◌-◌, ◌++◌, nat_lt, Bool, true}
+use Rattle.std.proofs.Common.{ℕ, arith, suc, ◌≡◌, ◌<◌, ◌≤◌, ◌-◌, ◌++◌, nat_lt, Bool, true}
 use Rattle.std.proofs.Common.{false, List, [], ◌∷◌, Option, Ok, Err, codes, if◌then◌else◌, refl}
-use Rattle.std.proofs.Common.{sym, ap, subst, ◌∙◌, append-nil}
+use Rattle.std.proofs.Common.{sym, ap, subst, ◌∙◌, append-nil, append_assoc, is_some, Some, None}
+use Rattle.std.proofs.Common.{length, get_or}
+use Rattle.std.proofs.lemmas.List.{length-map}
+use Rattle.std.proofs.Math.ListN.{get_or-map}
+use Rattle.yparse.specs.Unwinding.{tokens_left}
 use Rattle.std.proofs.lemmas.Bool.{lt-ltb, false_from_ne_true, ltb-true}
 use Rattle.yparse.specs.declared.machine.StepKind.{StepKind}
 use Rattle.yparse.specs.declared.machine.StepFault.{StepFault}
@@ -12,10 +16,12 @@ use Rattle.std.specs.Io.KnownBytes.{Appends, Keeps}
 use Rattle.std.proofs.KnownBytes.{Appends-nil, Appends-kept}
 use Rattle.ytables.specs.Link.{device_of, has_failed}
 use Rattle.ytables.specs.Sends.{Sends}
+use Rattle.ytables.proofs.Sent.{Sends-then, Sends-stop, Sends-none, Sends-nothing}
 use Rattle.yparse.specs.Machine.{Machine, Configuration, next}
 use Rattle.yparse.specs.Past.{Steps, position, back_by, back_from}
 use Rattle.yparse.specs.History.{History}
-use Rattle.ycli.specs.Reply.{shown, Reply, Answers, Runs, GoesBack, GoesTo, refusal, undo_text}
+use Rattle.ycli.specs.Reply.{configuration_text, Reply, Answers, Runs, GoesBack, GoesTo, refusal}
+use Rattle.ycli.specs.Reply.{undo_text}
 use Rattle.ycli.specs.Reply.{step_line}
 
 module _ {W : Type 0} (contents : W → Option (List ℕ)) where
@@ -28,8 +34,10 @@ module _ {W : Type 0} (contents : W → Option (List ℕ)) where
 
   -- the configuration now was shown, or a line answered that is no command
   pub told_show : (old new : Link W) (whole : Bool) (m : Machine) (h : History)
-      → Sends contents old new whole (shown m h) → Answers contents old new whole m h Show h
-  told_show old new whole m h s = answered old new whole m h h Show (shown m h) (refl, refl) s
+      → Sends contents old new whole (configuration_text m h) → Answers contents old new whole m h
+      Show h
+  told_show old new whole m h s = answered old new whole m h h Show (configuration_text m h)
+      (refl, refl) s
 
   pub told_unknown : (old new : Link W) (whole : Bool) (m : Machine) (h : History)
       → Sends contents old new whole (codes "unknown command\n")
@@ -37,92 +45,184 @@ module _ {W : Type 0} (contents : W → Option (List ℕ)) where
   told_unknown old new whole m h s =
       answered old new whole m h h Unknown (codes "unknown command\n") (refl, refl) s
 
-  -- a beginning of a reply was sent
-  pub answered-part : (old new : Link W) (whole : Bool) (m : Machine) (h now left : History)
-      (command : Command) (text : List ℕ) → whole ≡ false → Reply m h command text left
-      → Sends contents old new whole text → Answers contents old new whole m h command now
-  answered-part old new true m h now left command text e r s = cc
-  answered-part old new false m h now left command text e r s = (text, left, r, s)
+-- a front of a text was sent, and this is left of it
+pub record Front {W : Type 0} (contents : W → Option (List ℕ)) (a b : Link W) (whole left : List ℕ)
+    : Type 0 where
+  pub text : List ℕ
+  pub sent : Sends contents a b true text
+  pub parts : whole ≡ text ++ left
+
+-- lines of a reply were sent, and each text of those that are left completes it
+pub record Replied {W : Type 0} (contents : W → Option (List ℕ)) (a b : Link W) (m : Machine)
+    (h : History) (command : Command) (Left : List ℕ → History → Type 0) : Type 0 where
+  pub text : List ℕ
+  pub sent : Sends contents a b true text
+  pub completes : (more : List ℕ) (new : History) → Left more new
+      → Reply m h command (text ++ more) new
+
+module _ {W : Type 0} (contents : W → Option (List ℕ)) where
+  -- ---- a text in pieces
+
+  pub front_none : (a : Link W) (text : List ℕ) → Front contents a a text text
+  front_none a text = record { text = []; sent = Sends-nothing contents a; parts = refl }
+
+  pub front_then : (a b c : Link W) (whole s t : List ℕ) → Front contents a b whole (s ++ t)
+      → Sends contents b c true s → Front contents a c whole t
+  front_then a b c whole s t f p = record {
+    text = f.text ++ s;
+    sent = Sends-then contents a b c true f.text s f.sent p;
+    parts = f.parts ∙ sym (append_assoc f.text s t);
+  }
+
+  pub front_cut : {X : Type 0} (a b c : Link W) (o : Option X) (whole s t : List ℕ)
+      → Front contents a b whole (s ++ t) → Sends contents b c false s → o ≡ None
+      → Sends contents a c (is_some o) whole
+  front_cut a b c o whole s t f p none =
+      let sent = Sends-then contents a b c false f.text (s ++ t) f.sent
+      (Sends-stop contents b c s t p) in
+      Sends-none contents a c o whole none
+      (subst (λ (l : List ℕ). Sends contents a c false l) (sym f.parts) sent)
+
+  -- ---- a reply of many lines
+
+  -- nothing was sent yet
+  pub replied_none : (a : Link W) (m : Machine) (h : History) (command : Command)
+      (Left : ℕ → List ℕ → History → Type 0) (k n : ℕ) → k ≡ n
+      → ((more : List ℕ) (new : History) → Left n more new → Reply m h command more new)
+      → Replied contents a a m h command (Left k)
+  replied_none a m h command Left k n e f = record {
+    text = [];
+    sent = Sends-nothing contents a;
+    completes = λ more new l. f more new (subst (λ (j : ℕ). Left j more new) e l);
+  }
+
+  -- one more line of a step or an undo
+  pub replied_line : (a b c : Link W) (m x : Machine) (h mid : History) (command : Command)
+      (Left Later : List ℕ → History → Type 0) (between : List ℕ) (kind : StepKind)
+      → Replied contents a b m h command Left → x ≡ m
+      → Sends contents b c true (step_line x (position mid) between kind)
+      → ((more : List ℕ) (new : History) → Later more new
+      → Left (step_line m (position mid) between kind ++ more) new)
+      → Replied contents a c m h command Later
+  replied_line a b c m x h mid command Left Later between kind r e s f =
+      let line : List ℕ = step_line m (position mid) between kind in
+      let added = subst (λ (y : Machine). Sends contents b c true
+      (step_line y (position mid) between kind)) e s in record {
+        text = r.text ++ line;
+        sent = Sends-then contents a b c true r.text line r.sent added;
+        completes = λ more new l. subst (λ (t : List ℕ). Reply m h command t new)
+            (sym (append_assoc r.text line more)) (r.completes (line ++ more) new (f more new l));
+      }
+
+  -- a line of a step or an undo was cut
+  pub replied_cut : {X : Type 0} (a b c : Link W) (o : Option X) (m x : Machine)
+      (h mid left now : History) (command : Command) (Left : List ℕ → History → Type 0)
+      (between : List ℕ) (kind : StepKind) (more : List ℕ)
+      → Replied contents a b m h command Left → x ≡ m
+      → Sends contents b c false (step_line x (position mid) between kind) → o ≡ None
+      → Left (step_line m (position mid) between kind ++ more) left
+      → Answers contents a c (is_some o) m h command now
+  replied_cut a b c None m x h mid left now command Left between kind more r e s none l =
+      let line : List ℕ = step_line m (position mid) between kind in
+      let cut = subst (λ (y : Machine). Sends contents b c false
+      (step_line y (position mid) between kind)) e s in (
+        r.text ++ (line ++ more),
+        left,
+        r.completes (line ++ more) left l,
+        Sends-then contents a b c false r.text (line ++ more) r.sent
+            (Sends-stop contents b c line more cut),
+      )
+  replied_cut a b c (Some y) m x h mid left now command Left between kind more r e s none l = cc
+
+  -- what is left was sent, or a beginning of it
+  pub replied_last : (a b c : Link W) (whole : Bool) (m : Machine) (h now : History)
+      (command : Command) (Left : List ℕ → History → Type 0) (more : List ℕ)
+      → Replied contents a b m h command Left → Sends contents b c whole more → Left more now
+      → Answers contents a c whole m h command now
+  replied_last a b c whole m h now command Left more r s l =
+      answered contents a c whole m h now command (r.text ++ more) (r.completes more now l)
+      (Sends-then contents a b c whole r.text more r.sent s)
+
+  -- nothing is left
+  pub replied_all : (a b : Link W) (m : Machine) (h now : History) (command : Command)
+      (Left : List ℕ → History → Type 0) → Replied contents a b m h command Left → Left [] now
+      → Answers contents a b true m h command now
+  replied_all a b m h now command Left r l = (
+    r.text,
+    subst (λ (t : List ℕ). Reply m h command t now) (append-nil r.text) (r.completes [] now l),
+    r.sent,
+  )
 
 -- ---- undos
 
--- an undo: what it leaves of the text, and of the history
-undo_text-step : (m : Machine) (n : ℕ) (made : Bool) (h new : History) (kind : StepKind)
-    → h.earlier ≡ (kind, new.now) ∷ new.earlier
-    → undo_text m (suc n) made h.earlier ≡ step_line m (position new) (codes " undo ") kind
-    ++ undo_text m n true new.earlier
-undo_text-step m n made h new kind e = ap (undo_text m (suc n) made) e
+-- the lines of at most n undos, some having been made before or none
+abbrev pub Undos : Machine → ℕ → Bool → History → List ℕ → History → Type 0
+Undos m n made h text new = (text ≡ undo_text m n made h.earlier) × (new ≡ back_by n h)
 
-undone-step : (n : ℕ) (h new : History) (kind : StepKind) → h.earlier ≡
-    (kind, new.now) ∷ new.earlier → back_by (suc n) h ≡ back_by n new
-undone-step n h new kind e = ap (back_from (suc n) h.now) e
-
-undo_text-none : (m : Machine) (n : ℕ) (made : Bool) (past : List (StepKind × Configuration))
-    → past ≡ [] → undo_text m (suc n) made past ≡ (if made then [] else codes "at start\n")
-undo_text-none m n made past e = ap (undo_text m (suc n) made) e
-
-undone-none : (n : ℕ) (h : History) → h.earlier ≡ [] → back_by n h ≡ h
-undone-none zero h e = refl
-undone-none (suc n) h e = ap (back_from (suc n) h.now) e
-    ∙ ap (λ (p : List (StepKind × Configuration)). let x : History = record {
-      now = h.now;
-      earlier =
-          p;
-    } in x) (sym e)
-
--- one more undo, of those that are left
-pub undo_text-on : (m : Machine) (count k n : ℕ) (made : Bool) (h hi new : History)
-    (kind : StepKind) (text : List ℕ) → k ≡ suc n → hi.earlier ≡ (kind, new.now) ∷ new.earlier
-    → undo_text m count false h.earlier ≡ text ++ undo_text m k made hi.earlier
-    → undo_text m count false h.earlier ≡ text ++ (step_line m (position new) (codes " undo ") kind
-    ++ undo_text m n true new.earlier)
-undo_text-on m count k n made h hi new kind text e f r =
-    r ∙ ap (λ (j : ℕ). text ++ undo_text m j made hi.earlier) e ∙ ap (λ (l : List ℕ). text ++ l)
-    (undo_text-step m n made hi new kind f)
-
-pub undone-on : (count k n : ℕ) (h hi new : History) (kind : StepKind) → k ≡ suc n → hi.earlier ≡
-    (kind, new.now) ∷ new.earlier
-    → back_by count h ≡ back_by k hi → back_by count h ≡ back_by n new
-undone-on count k n h hi new kind e f r = r ∙ ap (λ (j : ℕ). back_by j hi) e ∙ undone-step n hi new
-    kind f
+-- an undo with its line, and then what comes later
+pub undos_line : (m : Machine) (k n : ℕ) (made : Bool) (h new : History) (kind : StepKind)
+    → k ≡ suc n → h.earlier ≡ (kind, new.now) ∷ new.earlier → (more : List ℕ) (last : History)
+    → Undos m n true new more last
+    → Undos m k made h (step_line m (position new) (codes " undo ") kind ++ more) last
+undos_line m k n made h new kind e f more last (t, l) =
+    let line : List ℕ = step_line m (position new) (codes " undo ") kind in
+    subst (λ (j : ℕ). Undos m j made h (line ++ more) last) (sym e) (
+      ap (λ (s : List ℕ). line ++ s) t ∙ sym (ap (undo_text m (suc n) made) f),
+      l ∙ sym (ap (back_from (suc n) h.now) f),
+    )
 
 -- no step is left to undo
-pub undo_text-off : (m : Machine) (count k n : ℕ) (made : Bool) (h hi : History) (text : List ℕ)
-    → k ≡ suc n → hi.earlier ≡ []
-    → undo_text m count false h.earlier ≡ text ++ undo_text m k made hi.earlier → undo_text m count
-    false h.earlier ≡ text ++ (if made then [] else codes "at start\n")
-undo_text-off m count k n made h hi text e f r =
-    r ∙ ap (λ (j : ℕ). text ++ undo_text m j made hi.earlier) e ∙ ap (λ (l : List ℕ). text ++ l)
-    (undo_text-none m n made hi.earlier f)
+pub undos_none : (m : Machine) (k n : ℕ) (made b : Bool) (h new : History) → k ≡ suc n → made ≡ b
+    → h.earlier ≡ [] → new ≡ h → Undos m k made h (if b then [] else codes "at start\n") new
+undos_none m k n made b h new e g f same =
+    subst (λ (j : ℕ). Undos m j made h (if b then [] else codes "at start\n") new) (sym e) (
+      ap (λ (x : Bool). if x then [] else codes "at start\n") (sym g)
+          ∙ sym (ap (undo_text m (suc n) made) f),
+      same ∙ sym (undone-none n h f),
+    )
+  where
+    undone-none : (n : ℕ) (h : History) → h.earlier ≡ [] → back_by (suc n) h ≡ h
+    undone-none n h e = ap (back_from (suc n) h.now) e
+        ∙ ap (λ (p : List (StepKind × Configuration)). let x : History = record {
+          now = h.now;
+          earlier = p;
+        } in x) (sym e)
 
-pub undone-off : (count k : ℕ) (h hi new : History) → hi.earlier ≡ [] → new ≡ hi
-    → back_by count h ≡ back_by k hi → new ≡ back_by count h
-undone-off count k h hi new f e r = e ∙ sym (r ∙ undone-none k hi f)
+-- none more is to be made
+pub undos_off : (m : Machine) (k : ℕ) (made : Bool) (h : History) → k ≡ 0 → Undos m k made h [] h
+undos_off m k made h e = subst (λ (j : ℕ). Undos m j made h [] h) (sym e) (refl, refl)
 
 -- ---- steps
 
 -- a step with its line, and then what comes later
-pub runs-step : (m : Machine) (k n : ℕ) (made : Bool) (h mid new : History) (kind : StepKind)
-    (more : List ℕ) → k ≡ suc n → Steps (next m) h (Ok kind) mid → Runs m n true mid more new
+pub runs_line : (m x : Machine) (k n : ℕ) (made : Bool) (h mid : History) (kind : StepKind)
+    → k ≡ suc n → x ≡ m → Steps (next x) h (Ok kind) mid → (more : List ℕ) (new : History)
+    → Runs m n true mid more new
     → Runs m k made h (step_line m (position mid) (codes " ") kind ++ more) new
-runs-step m k n made h mid new kind more e s r =
+runs_line m x k n made h mid kind e f s more new r =
     subst (λ (j : ℕ). Runs m j made h (step_line m (position mid) (codes " ") kind ++ more) new)
-    (sym e) (Ok kind, mid, s, (more, refl, r))
+    (sym e) (
+      Ok kind,
+      mid,
+      subst (λ (y : Machine). Steps (next y) h (Ok kind) mid) f s,
+      (more, refl, r),
+    )
 
 -- a step that is refused ends it
-pub runs-fault : (m : Machine) (k n : ℕ) (made : Bool) (h mid : History) (fault : StepFault)
-    → k ≡ suc n → Steps (next m) h (Err fault) mid → Runs m k made h (refusal made fault) mid
-runs-fault m k n made h mid fault e s =
+pub runs_fault : (m x : Machine) (k n : ℕ) (made : Bool) (h mid : History) (fault : StepFault)
+    → k ≡ suc n → x ≡ m → Steps (next x) h (Err fault) mid
+    → Runs m k made h (refusal made fault) mid
+runs_fault m x k n made h mid fault e f s =
     subst (λ (j : ℕ). Runs m j made h (refusal made fault) mid) (sym e) (
       Err fault,
       mid,
-      s,
+      subst (λ (y : Machine). Steps (next y) h (Err fault) mid) f s,
       (refl, refl),
     )
 
 -- no step is left to make
-pub runs-off : (m : Machine) (k : ℕ) (made : Bool) (h : History) → k ≡ 0 → Runs m k made h [] h
-runs-off m k made h e = subst (λ (j : ℕ). Runs m j made h [] h) (sym e) (refl, refl)
+pub runs_off : (m : Machine) (k : ℕ) (made : Bool) (h : History) → k ≡ 0 → Runs m k made h [] h
+runs_off m k made h e = subst (λ (j : ℕ). Runs m j made h [] h) (sym e) (refl, refl)
 
 le-not-ltb : (k n : ℕ) → k ≤ n → nat_lt n k ≡ false
 le-not-ltb k n h = false_from_ne_true (nat_lt n k) (λ e. let l = ltb-true n k e in
@@ -161,11 +261,31 @@ module _ {W : Type 0} (contents : W → Option (List ℕ)) where
     },
   )
 
-  -- nothing was sent, and no link failed
-  pub kept_link : (a b : Link W) → contents (device_of b) ≡ contents (device_of a)
-      → has_failed a ≡ false → has_failed b ≡ false → Sends contents a b true []
-  kept_link a b same unset still = record {
-    bytes = subst (λ (x : Option (List ℕ)). Appends (contents (device_of a)) x []) (sym same)
-        (Appends-nil (contents (device_of a)));
-    failed = still ∙ sym unset;
-  }
+  -- nothing was sent, no link failed, and then a reply was sent
+  pub answered-later : (a b c : Link W) (whole : Bool) (m : Machine) (h now : History)
+      (command : Command) (text : List ℕ) → contents (device_of b) ≡ contents (device_of a)
+      → has_failed a ≡ false → has_failed b ≡ false → Reply m h command text now
+      → Sends contents b c whole text → Answers contents a c whole m h command now
+  answered-later a b c whole m h now command text same unset still r s =
+      let none : Sends contents a b true [] = record {
+        bytes = subst (λ (x : Option (List ℕ)). Appends (contents (device_of a)) x []) (sym same)
+            (Appends-nil (contents (device_of a)));
+        failed = still ∙ sym unset;
+      } in
+      answered contents a c whole m h now command text r
+      (Sends-then contents a b c whole [] text none s)
+
+-- ---- the tokens that are left
+
+-- the token at a place of those that a view shows
+pub rest_at : (d now : Configuration) (token : ℕ × ℕ) (i : ℕ) → d ≡ now
+    → token ≡ get_or d.rest i (0, 0) → token.0 ≡ get_or (tokens_left now.rest) i 0
+rest_at d now token i e f =
+    let first : ℕ × ℕ → ℕ = λ t. t.0 in
+    ap first (f ∙ ap (λ (x : Configuration). get_or x.rest i (0, 0)) e)
+    ∙ sym (get_or-map first now.rest i (0, 0))
+
+pub rest_count : (d now : Configuration) (n : ℕ) → d ≡ now → n ≡ length d.rest
+    → n ≡ length (tokens_left now.rest)
+rest_count d now n e f =
+    f ∙ ap (λ (x : Configuration). length x.rest) e ∙ sym (length-map now.rest (λ token. token.0))

@@ -10,14 +10,14 @@ use Rattle.ycli.specs.declared.arguments.YstepWords.{YstepWords}
 use Rattle.ycli.specs.declared.arguments.YaccWords.{YaccWords}
 
 -- a required argument, by its place, of one value
-abbrev pub wanted : List ℕ → Rule
-wanted id = record (new_rule id) { action = Some Set; required = true }
+abbrev pub required_argument : List ℕ → Rule
+required_argument id = record (new_rule id) { action = Some Set; required = true }
 
 -- `ystep grammar tokens`
 unfoldable pub ystep_app : App
 ystep_app =
-    with_rule (with_rule (new_app (codes "ystep")) (wanted (codes "grammar")))
-    (wanted (codes "tokens"))
+    with_rule (with_rule (new_app (codes "ystep")) (required_argument (codes "grammar")))
+    (required_argument (codes "tokens"))
 
 -- the paths are the values that these words give the two arguments
 abbrev pub ArePathsIn : List (List ℕ) → YstepWords → Type 0
@@ -31,18 +31,19 @@ HasBoth found =
     (is_some (first_value (found_of found) (codes "grammar")) ≡ true)
     × (is_some (first_value (found_of found) (codes "tokens")) ≡ true)
 
--- a flag of one letter, with a value or without
-abbrev pub lettered : List ℕ → ℕ → Rule
-lettered id letter = record (new_rule id) { action = Some Set; short = Some letter }
+-- a flag of one letter with a value
+abbrev pub short_option : List ℕ → ℕ → Rule
+short_option id letter = record (new_rule id) { action = Some Set; short = Some letter }
 
-abbrev pub flagged : List ℕ → ℕ → Rule
-flagged id letter = record (new_rule id) { action = Some SetTrue; short = Some letter }
+-- a flag of one letter without a value
+abbrev pub short_flag : List ℕ → ℕ → Rule
+short_flag id letter = record (new_rule id) { action = Some SetTrue; short = Some letter }
 
 -- `yacc [-v] [-b prefix] grammar`: 118 is `v`, 98 is `b`
 unfoldable pub yacc_app : App
 yacc_app =
-    with_rule (with_rule (with_rule (new_app (codes "yacc")) (flagged (codes "verbose") 118))
-    (lettered (codes "prefix") 98)) (wanted (codes "grammar"))
+    with_rule (with_rule (with_rule (new_app (codes "yacc")) (short_flag (codes "verbose") 118))
+    (short_option (codes "prefix") 98)) (required_argument (codes "grammar"))
 
 -- what these words give: a grammar, a prefix or else `y`, and whether the flag stands among them
 pub record AreYaccWordsIn (words : List (List ℕ)) (said : YaccWords) : Type 0 where

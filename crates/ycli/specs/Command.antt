@@ -28,15 +28,19 @@ command_view (code.Insert bytes) = Insert bytes.now
 command_view code.Drop = Drop
 command_view code.Unknown = Unknown
 
+-- the greatest number that a command takes
+abbrev pub greatest_count : ℕ
+greatest_count = 1000000
+
 -- a number from the least one to 1,000,000
-abbrev pub counted : ℕ → ℕ → Option ℕ
-counted least n = if nat_lt n least || nat_lt 1000000 n then None else Some n
+abbrev pub number_within : ℕ → ℕ → Option ℕ
+number_within least n = if nat_lt n least || nat_lt greatest_count n then None else Some n
 
 -- one to seven decimal digits with such a value
 abbrev pub number_in : ℕ → List ℕ → Option ℕ
 number_in least digits =
     if nat_lt 0 (length digits) && (nat_le (length digits) 7 && all_ascii_digits digits)
-    then counted least (digits_value 10 digits) else None
+    then number_within least (digits_value 10 digits) else None
 
 -- the number after a word
 abbrev pub number_after : ℕ → List ℕ → List ℕ → Option ℕ
@@ -45,8 +49,8 @@ number_after least word line =
     then number_in least (drop (length word) line) else None
 
 -- a command with a number after it
-abbrev pub counting : List ℕ → Command
-counting line =
+abbrev pub number_command : List ℕ → Command
+number_command line =
     option_map_or Run (number_after 1 (codes "run ") line)
     (option_map_or Back (number_after 1 (codes "back ") line)
     (option_map_or To (number_after 0 (codes "to ") line) Unknown))
@@ -65,4 +69,4 @@ command_of line =
     else (if bytes_eq line (codes "tree") then Tree
     else (if bytes_eq line (codes "unwind") then Unwind
     else (if bytes_eq line (codes "drop") then Drop
-    else option_map_or Insert (text_after (codes "insert ") line) (counting line)))))
+    else option_map_or Insert (text_after (codes "insert ") line) (number_command line)))))

@@ -52,8 +52,8 @@ pub record Generates (counts : Counts) : Type 0 where
   pub reduce_reduce : counts.reduce_reduce ≡ tables.reduce_reduce
 
 -- the words are taken, and say this
-abbrev pub Said : List (List ℕ) → YaccWords → Type 0
-Said words said = AreTaken yacc_app words × AreYaccWordsIn words said
+abbrev pub Say : List (List ℕ) → YaccWords → Type 0
+Say words said = AreTaken yacc_app words × AreYaccWordsIn words said
 
 -- why a file of this prefix wasn't written
 abbrev pub WriteFails : YaccWords → Trouble → Type 0
@@ -82,18 +82,18 @@ module _ {W : Type 0} (words : List (List ℕ)) (w : W) (writer : Link W) where
   -- A run over these words ended so; but for help, nothing went to the writer.
   abbrev pub EndsIn : Result Done Trouble → Type 0
   EndsIn (Ok Helped) = AskHelp yacc_app words
-  EndsIn (Ok (Wrote counts)) = ((said : YaccWords) × Said words said) × Generates counts
+  EndsIn (Ok (Wrote counts)) = ((said : YaccWords) × Say words said) × Generates counts
       × (device_of writer ≡ w)
   EndsIn (Err Usage) = AreMistaken yacc_app words × (device_of writer ≡ w)
   EndsIn (Err NoMemory) = device_of writer ≡ w
-  EndsIn (Err (Grammar fault)) = ((said : YaccWords) × Said words said × FilesFail said
+  EndsIn (Err (Grammar fault)) = ((said : YaccWords) × Say words said × FilesFail said
       (Grammar fault)) × (device_of writer ≡ w)
-  EndsIn (Err TooManySets) = ((said : YaccWords) × Said words said × FilesFail said TooManySets)
+  EndsIn (Err TooManySets) = ((said : YaccWords) × Say words said × FilesFail said TooManySets)
       × (device_of writer ≡ w)
-  EndsIn (Err (CannotRead path)) = ((said : YaccWords) × Said words said × FilesFail said
+  EndsIn (Err (CannotRead path)) = ((said : YaccWords) × Say words said × FilesFail said
       (CannotRead path)) × (device_of writer ≡ w)
   EndsIn (Err (CannotWrite prefix ending)) =
-      ((said : YaccWords) × Said words said × FilesFail said (CannotWrite prefix ending))
+      ((said : YaccWords) × Say words said × FilesFail said (CannotWrite prefix ending))
       × (device_of writer ≡ w)
   EndsIn (Err (Tokens fault)) = ⊥
   EndsIn (Err (Session fault)) = ⊥
@@ -103,11 +103,12 @@ abbrev pub said_of : Done → List ℕ
 said_of Helped = []
 said_of (Wrote counts) = conflicts_line counts
 
--- the message and the status of a run
+-- the message of a run
 abbrev pub message_after : Result Done Trouble → List ℕ
 message_after (Ok done) = said_of done
 message_after (Err trouble) = message Yacc trouble
 
+-- the exit status after an end of a run
 abbrev pub status_after : Result Done Trouble → ℕ
 status_after (Ok done) = 0
 status_after (Err trouble) = status trouble

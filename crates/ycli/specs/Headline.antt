@@ -55,11 +55,12 @@ module _ {R W : Type 0} (remaining : R → Option (List ℕ)) (contents : W → 
   Ends (Err (Session fault)) = Served (Err fault)
   Ends (Err fault) = Refuses source tokens fault × Rests r reader w writer
 
--- whether the link of the reader failed, or that of the writer
+-- whether the link of the reader failed
 abbrev pub reader_failed : Result (Unit {0}) StepperFault → Bool
 reader_failed (Err (Session streams.Read)) = true
 reader_failed _ = false
 
+-- whether the link of the writer failed
 abbrev pub writer_failed : Result (Unit {0}) StepperFault → Bool
 writer_failed (Err (Session streams.Write)) = true
 writer_failed _ = false

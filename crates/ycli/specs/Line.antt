@@ -16,9 +16,17 @@ abbrev pub line_view : CodeLine → Line
 line_view code.Quit = Quit
 line_view (code.Command command) = Command (command_view command)
 
+-- the most bytes of a line that may be a command
+abbrev pub longest_line : ℕ
+longest_line = 4096
+
+-- the bytes of a line that tell what it says: one more tells a longer line from the longest
+abbrev pub line_room : ℕ
+line_room = 4097
+
 -- the end of the session or a command; a line of more than 4,096 bytes is unknown
-unfoldable pub line_of : List ℕ → Line
-line_of line =
-    if nat_lt 4096 (length line) then Command commands.Unknown
+unfoldable pub line_in : List ℕ → Line
+line_in line =
+    if nat_lt longest_line (length line) then Command commands.Unknown
     else (if bytes_eq line (codes "quit") then Quit
     else Command (command_of line))

@@ -15,6 +15,7 @@ use Rattle.ycli.specs.declared.message.Trouble.TheVariants.{Usage, Grammar, Toke
 use Rattle.ycli.specs.declared.message.Trouble.TheVariants.{NoMemory, CannotRead, CannotWrite}
 use Rattle.ycli.specs.declared.message.Trouble.TheVariants.{Session}
 
+-- the name that messages begin with
 abbrev pub name_of : Program → List ℕ
 name_of Yacc = codes "yacc"
 name_of Ystep = codes "ystep"
@@ -24,7 +25,7 @@ abbrev pub usage_of : Program → List ℕ
 usage_of Yacc = codes "usage: yacc [-v] [-b prefix] grammar\n"
 usage_of Ystep = codes "usage: ystep grammar tokens\n"
 
--- the code of a fault of a grammar file, and its line
+-- the code of a fault of a grammar file
 abbrev pub grammar_code : GrammarFault → List ℕ
 grammar_code grammars.TooLong = codes "G1"
 grammar_code (grammars.Unfinished line) = codes "G2"
@@ -41,6 +42,7 @@ grammar_code (grammars.BadPrec line) = codes "G12"
 grammar_code (grammars.Limit line) = codes "G13"
 grammar_code grammars.Memory = codes "no memory"
 
+-- the line of a fault of a grammar file, where it has one
 abbrev pub grammar_line : GrammarFault → Option ℕ
 grammar_line grammars.TooLong = None
 grammar_line (grammars.Unfinished line) = Some line
@@ -57,7 +59,7 @@ grammar_line (grammars.BadPrec line) = Some line
 grammar_line (grammars.Limit line) = Some line
 grammar_line grammars.Memory = None
 
--- the code of a fault of a tokens file, and the place of its token
+-- the code of a fault of a tokens file
 abbrev pub token_code : TokenFault → List ℕ
 token_code (tokens.Unknown place) = codes "K1"
 token_code (tokens.NotInput place) = codes "K2"
@@ -65,6 +67,7 @@ token_code tokens.TooMany = codes "K3"
 token_code tokens.Memory = codes "no memory"
 token_code (tokens.BadLiteral place) = codes "K5"
 
+-- the place of the token of such a fault, where it has one
 abbrev pub token_place : TokenFault → Option ℕ
 token_place (tokens.Unknown place) = Some place
 token_place (tokens.NotInput place) = Some place
@@ -78,21 +81,24 @@ session_word streams.Read = codes "read fault"
 session_word streams.Write = codes "write fault"
 
 -- the program, what it says, and where
-abbrev pub said : Program → List ℕ → List ℕ → Option ℕ → List ℕ
-said p what where_ None = name_of p ++ (codes ": " ++ (what ++ codes "\n"))
-said p what where_ (Some n) =
+abbrev pub message_line : Program → List ℕ → List ℕ → Option ℕ → List ℕ
+message_line p what where_ None = name_of p ++ (codes ": " ++ (what ++ codes "\n"))
+message_line p what where_ (Some n) =
     name_of p ++ (codes ": " ++ (what ++ (where_ ++ (decimal n ++ codes "\n"))))
 
+-- the line that tells why a program ends
 abbrev pub message : Program → Trouble → List ℕ
 message p Usage = usage_of p
-message p (Grammar fault) = said p (grammar_code fault) (codes " at line ") (grammar_line fault)
-message p (Tokens fault) = said p (token_code fault) (codes " at token ") (token_place fault)
-message p TooManySets = said p (codes "B1") [] None
-message p NoMemory = said p (codes "no memory") [] None
+message p (Grammar fault) = message_line p (grammar_code fault) (codes " at line ")
+    (grammar_line fault)
+message p (Tokens fault) = message_line p (token_code fault) (codes " at token ")
+    (token_place fault)
+message p TooManySets = message_line p (codes "B1") [] None
+message p NoMemory = message_line p (codes "no memory") [] None
 message p (CannotRead path) = name_of p ++ (codes ": cannot read " ++ (path.now ++ codes "\n"))
 message p (CannotWrite prefix ending) =
     name_of p ++ (codes ": cannot write " ++ (prefix.now ++ (ending.now ++ codes "\n")))
-message p (Session fault) = said p (session_word fault) [] None
+message p (Session fault) = message_line p (session_word fault) [] None
 
 -- the line on conflicts, where there is one
 abbrev pub conflicts_line : Counts → List ℕ

@@ -20,10 +20,11 @@ PlainSteps m h result new = Steps (next m) h result new × (result ≢ Err Memor
 abbrev pub PlainEdits : Machine → Edit → History → Result StepKind StepFault → History → Type 0
 PlainEdits m edit h result new = Edits m edit h result new × (result ≢ Err Memory)
 
--- a reply, and a text of a session, by such steps and edits
+-- a reply by such steps and edits
 abbrev pub PlainReply : Machine → History → Command → List ℕ → History → Type 0
 PlainReply m h command text new = ReplyBy (PlainSteps m) (PlainEdits m) m h command text new
 
+-- a text of a session by such replies
 abbrev pub PlainTranscript : Machine → History → List (List ℕ) → List ℕ → Type 0
 PlainTranscript m h lines text = TranscriptBy (PlainReply m) h lines text
 

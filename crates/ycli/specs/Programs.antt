@@ -62,6 +62,7 @@ abbrev pub message_after : Program → Result (Unit {0}) Trouble → List ℕ
 message_after p (Ok done) = []
 message_after p (Err trouble) = message p trouble
 
+-- the exit status after an end of a run
 abbrev pub status_after : Result (Unit {0}) Trouble → ℕ
 status_after (Ok done) = 0
 status_after (Err trouble) = status trouble
@@ -88,10 +89,12 @@ abbrev pub of_unread : IoKind → Bor (List ℕ) → Trouble
 of_unread errors.OutOfMemory path = NoMemory
 of_unread _ path = CannotRead path
 
+-- why tables that were refused end the program
 abbrev pub of_tables : BuildFault → Trouble
 of_tables building.TooManySets = TooManySets
 of_tables building.Memory = NoMemory
 
+-- why a tokens file that was refused ends the program
 abbrev pub of_tokens : TokenFault → Trouble
 of_tokens (tokens.Unknown place) = Tokens (tokens.Unknown place)
 of_tokens (tokens.NotInput place) = Tokens (tokens.NotInput place)
@@ -99,6 +102,7 @@ of_tokens tokens.TooMany = Tokens tokens.TooMany
 of_tokens tokens.Memory = NoMemory
 of_tokens (tokens.BadLiteral place) = Tokens (tokens.BadLiteral place)
 
+-- why a stepper that did not start ends the program
 abbrev pub of_start : StepperFault → Trouble
 of_start (starts.Grammar fault) = of_grammar fault
 of_start (starts.Build fault) = of_tables fault

@@ -82,6 +82,7 @@ undo_text m (suc n) made (s ∷ past) =
 abbrev pub GoesBack : Machine → ℕ → History → List ℕ → History → Type 0
 GoesBack m n h text new = (text ≡ undo_text m n false h.earlier) × (new ≡ back_by n h)
 
+-- the word of a mode
 abbrev pub mode_word : Mode → List ℕ
 mode_word Running = codes "running"
 mode_word Popping = codes "popping"
@@ -89,27 +90,30 @@ mode_word Accepted = codes "accepted"
 mode_word Failed = codes "failed"
 
 -- each name after a space
-abbrev pub spaced : Machine → List ℕ → List ℕ
-spaced m form = flat_map (λ symbol. 32 ∷ m.name symbol) form
+abbrev pub spaced_names : Machine → List ℕ → List ℕ
+spaced_names m form = flat_map (λ symbol. 32 ∷ m.name symbol) form
 
 -- the position, the mode, and what begins the line of the stack
 abbrev pub shown_head : History → List ℕ
 shown_head h = decimal (position h) ++ (codes " " ++ (mode_word h.now.mode ++ codes "\nstack:"))
 
+-- the symbols of the stack from the bottom
 abbrev pub shown_stack : Machine → History → List ℕ
-shown_stack m h = spaced m (symbols h.now.stack)
+shown_stack m h = spaced_names m (symbols h.now.stack)
 
+-- the tokens that are left
 abbrev pub shown_rest : Machine → History → List ℕ
-shown_rest m h = spaced m (tokens_left h.now.rest)
+shown_rest m h = spaced_names m (tokens_left h.now.rest)
 
+-- the recovery counter and the errors reported
 abbrev pub shown_counts : History → List ℕ
 shown_counts h =
     codes "\ncounter: " ++ (decimal h.now.counter
     ++ (codes "\nerrors: " ++ (decimal h.now.errors ++ codes "\n")))
 
 -- the five lines of a configuration
-abbrev pub shown : Machine → History → List ℕ
-shown m h =
+abbrev pub configuration_text : Machine → History → List ℕ
+configuration_text m h =
     shown_head h ++ (shown_stack m h ++ (codes "\nrest:" ++ (shown_rest m h ++ shown_counts h)))
 
 -- the forms of an accepted parse without error steps, from the last to the first, and then its
@@ -155,7 +159,7 @@ module _ (takes : History → Result StepKind StepFault → History → Type 0) 
   ReplyBy h (Run n) text new = RunsBy takes m n false h text new
   ReplyBy h (Back n) text new = GoesBack m n h text new
   ReplyBy h (To k) text new = GoesToBy takes m k (nat_lt (position h) k) h text new
-  ReplyBy h Show text new = (text ≡ shown m h) × (new ≡ h)
+  ReplyBy h Show text new = (text ≡ configuration_text m h) × (new ≡ h)
   ReplyBy h Tree text new = (text ≡ tree_lines m h.now.stack) × (new ≡ h)
   ReplyBy h Unwind text new = Unwinds m h text new
   ReplyBy h (Insert bytes) text new = InsertsBy bytes h text new
@@ -170,9 +174,11 @@ Edits m edit h result new = Changes (next m) (edited m edit) h result new
 abbrev pub Reply : Machine → History → Command → List ℕ → History → Type 0
 Reply m h command text new = ReplyBy (Steps (next m)) (Edits m) m h command text new
 
+-- at most n steps of the machine
 abbrev pub Runs : Machine → ℕ → Bool → History → List ℕ → History → Type 0
 Runs m n made h text new = RunsBy (Steps (next m)) m n made h text new
 
+-- to a position by steps and undos of the machine
 abbrev pub GoesTo : Machine → ℕ → Bool → History → List ℕ → History → Type 0
 GoesTo m k above h text new = GoesToBy (Steps (next m)) m k above h text new
 

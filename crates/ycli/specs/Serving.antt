@@ -11,6 +11,7 @@ use Rattle.ycli.specs.declared.fault.SessionFault.TheVariants as faults
 use Rattle.ytables.specs.Sends.{Sends}
 use Rattle.yparse.specs.Machine.{Machine}
 use Rattle.yparse.specs.History.{History}
+use Rattle.ycli.specs.Line.{line_room}
 use Rattle.ycli.specs.Lines.{last_line}
 use Rattle.ycli.specs.Transcript.{Transcript}
 
@@ -25,10 +26,11 @@ abbrev pub rest_after : List ℕ → List ℕ → List ℕ
 rest_after line [] = line
 rest_after line (b ∷ bs) = if b == 10 then rest_after [] bs else rest_after (line ++ b ∷ []) bs
 
--- the lines that end in a newline, and what comes after the last of them
+-- the lines that end in a newline
 abbrev pub whole_lines : List ℕ → List (List ℕ)
 whole_lines bytes = whole_after [] bytes
 
+-- what comes after the last newline of bytes
 abbrev pub rest_line : List ℕ → List ℕ
 rest_line bytes = rest_after [] bytes
 
@@ -57,7 +59,8 @@ abbrev pub ChunkTells : {W : Type 0} → (W → Option (List ℕ)) → Link W �
     → Machine → History → List ℕ → List ℕ → History → List ℕ → Type 0
 ChunkTells contents old new (Some flow) m h line bytes now held =
     (text : List ℕ) × Replies m h (whole_after line bytes) flow text now
-    × Sends contents old new true text × (flow ≡ GoesOn → held ≡ take 4097 (rest_after line bytes))
+    × Sends contents old new true text ×
+    (flow ≡ GoesOn → held ≡ take line_room (rest_after line bytes))
 ChunkTells contents old new None m h line bytes now held =
     Breaks contents old new m h (whole_after line bytes)
 
@@ -68,7 +71,7 @@ ReadTells contents old new before left (Ok flow) m h now held =
     (taken : List ℕ) × (text : List ℕ) × Consumes before left taken
     × Replies m h (whole_lines taken) flow text now × Sends contents old new true text
     × (flow ≡ GoesOn
-    → (IsAtEnd left ⊎ (2 ^ 64 - 1 ≤ length taken)) × (held ≡ take 4097 (rest_line taken)))
+    → (IsAtEnd left ⊎ (2 ^ 64 - 1 ≤ length taken)) × (held ≡ take line_room (rest_line taken)))
 ReadTells contents old new before left (Err faults.Read) m h now held =
     (taken : List ℕ) × (text : List ℕ) × Consumes before left taken
     × Replies m h (whole_lines taken) GoesOn text now × Sends contents old new true text

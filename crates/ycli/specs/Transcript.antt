@@ -10,7 +10,7 @@ use Rattle.ycli.specs.Command.{Command}
 use Rattle.ytables.specs.Sends.{Begins}
 use Rattle.yparse.specs.Machine.{Machine}
 use Rattle.yparse.specs.History.{History}
-use Rattle.ycli.specs.Line.{line_of}
+use Rattle.ycli.specs.Line.{line_in}
 use Rattle.ycli.specs.Lines.{IsCut, AreLines}
 use Rattle.ycli.specs.Reply.{Reply}
 
@@ -27,7 +27,7 @@ module _ (replies : History → Command → List ℕ → History → Type 0) whe
   abbrev pub TranscriptBy : History → List (List ℕ) → List ℕ → Type 0
   TranscriptBy h [] text = text ≡ []
   TranscriptBy h (line ∷ rest) text =
-      Continues h (line_of line) (λ mid more. TranscriptBy mid rest more) text
+      Continues h (line_in line) (λ mid more. TranscriptBy mid rest more) text
 
 -- a text of a session for these lines
 abbrev pub Transcript : Machine → History → List (List ℕ) → List ℕ → Type 0
@@ -49,12 +49,13 @@ Tells m h input left old new (Err faults.Write) =
     (lines : List (List ℕ)) × (text : List ℕ) × AreLines input lines × Transcript m h lines text
     × Begins old new text
 
--- whether the fault is that of the reader, or of the writer
+-- whether the fault is that of the reader
 abbrev pub failed_read : {A : Type 0} → Result A SessionFault → Bool
 failed_read (Err faults.Read) = true
 failed_read (Err faults.Write) = false
 failed_read (Ok done) = false
 
+-- whether the fault is that of the writer
 abbrev pub failed_write : {A : Type 0} → Result A SessionFault → Bool
 failed_write (Err faults.Write) = true
 failed_write (Err faults.Read) = false

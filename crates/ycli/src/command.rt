@@ -4,15 +4,16 @@ ghost use Rattle.std.specs.Prelude.{◌≡◌};
 ghost use Rattle.std.specs.Prelude.{option_map, codes};
 ghost use Rattle.std.specs.Option.{option_map_or};
 ghost use Rattle.ycli.specs.Command.{Insert};
-ghost use Rattle.ycli.specs.Command.{command_of, command_view, counting, number_after, number_in};
+ghost use Rattle.ycli.specs.Command.{command_of, command_view, number_command, number_after};
+ghost use Rattle.ycli.specs.Command.{number_in};
 ghost use Rattle.ycli.specs.Command.{text_after};
-ghost use Rattle.ycli.specs.Line.{line_of, line_view};
+ghost use Rattle.ycli.specs.Line.{line_in, line_view};
 
 /// The most bytes that a command line may have.
-pub(crate) const MAX_LINE: usize = 4096;
+pub(crate) const LONGEST_LINE: usize = 4096;
 
 /// The greatest number that a command takes.
-const MAX_NUMBER: usize = 1_000_000;
+const GREATEST_COUNT: usize = 1_000_000;
 
 /// What a line says.
 #[derive(Clone, Copy, Debug, PartialEq, Eq)]
@@ -47,11 +48,11 @@ pub enum Command<'a> {
 }
 
 /// What a line says. A line of more than 4,096 bytes is an unknown command.
-#[tactic(auto, unfolding(crate::specs::Line::line_of))]
+#[tactic(auto, unfolding(crate::specs::Line::line_in))]
 pub(crate) fn line_in(line: &[u8]) -> Line<'_>
-    ensures { line_view result ≡ line_of line.now }
+    ensures { line_view result ≡ line_in line.now }
 {
-    if line.len() > MAX_LINE {
+    if line.len() > LONGEST_LINE {
         Line::Command(Command::Unknown)
     } else if line == b"quit".as_slice() {
         Line::Quit
@@ -76,7 +77,7 @@ fn command_in(line: &[u8]) -> Command<'_>
     } else if line == b"drop".as_slice() {
         Command::Drop
     } else {
-        inserting(line)
+        insert_command(line)
     }
 }
 
@@ -92,19 +93,19 @@ fn text_after<'a>(word: &[u8], line: &'a [u8]) -> Option<&'a [u8]>
 }
 
 /// A token to insert, or a command with a number after it.
-fn inserting(line: &[u8]) -> Command<'_>
+fn insert_command(line: &[u8]) -> Command<'_>
     ensures { command_view result
-        ≡ option_map_or Insert (text_after (codes "insert ") line.now) (counting line.now) }
+        ≡ option_map_or Insert (text_after (codes "insert ") line.now) (number_command line.now) }
 {
     match text_after(b"insert ", line) {
         Some(bytes) => Command::Insert(bytes),
-        None => counting(line),
+        None => number_command(line),
     }
 }
 
 /// A command with a number after it.
-fn counting(line: &[u8]) -> Command<'_>
-    ensures { command_view result ≡ counting line.now }
+fn number_command(line: &[u8]) -> Command<'_>
+    ensures { command_view result ≡ number_command line.now }
 {
     if let Some(count) = number_after(1, b"run ", line) {
         return Command::Run(count);
@@ -143,7 +144,7 @@ fn number_in(least: usize, digits: &[u8]) -> Option<usize>
         }
         number = number * 10 + usize::from(*digit - b'0');
     }
-    if number < least || number > MAX_NUMBER {
+    if number < least || number > GREATEST_COUNT {
         None
     } else {
         Some(number)

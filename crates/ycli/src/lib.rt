@@ -6,7 +6,7 @@ mod command;
 pub mod fault;
 mod files;
 pub mod generator;
-mod held;
+mod line_buffer;
 mod message;
 pub mod programs;
 mod reply;

@@ -3,7 +3,8 @@
 ghost use Rattle.std.specs.Prelude.{◌≡◌, ◌++◌, ◌==◌, ◌&&◌, is_some, codes};
 ghost use Rattle.ytables.specs.Sends.{Sends};
 ghost use Rattle.ycli.specs.Messages.{conflicts_line, grammar_code, grammar_line, message, name_of};
-ghost use Rattle.ycli.specs.Messages.{said, session_word, token_code, token_place, usage_of};
+ghost use Rattle.ycli.specs.Messages.{message_line, session_word, token_code};
+ghost use Rattle.ycli.specs.Messages.{token_place, usage_of};
 ghost use Rattle.ycli.specs.Programs.{status};
 
 use crate::fault::SessionFault;
@@ -54,7 +55,7 @@ impl Program {
         number: Option<usize>,
     ) -> Option<()>
         ensures { Sends E.contents link.old link.new (is_some result)
-            (said self what.now at.now number) }
+            (message_line self what.now at.now number) }
     {
         let Some(number) = number else {
             return put_line(link, self.name(), b": ", what);

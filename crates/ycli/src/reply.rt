@@ -8,8 +8,9 @@ ghost use Rattle.ytables.specs.Sends.{Sends};
 ghost use Rattle.yparse.specs.Past.{position};
 ghost use Rattle.yparse.specs.Session.{machine_of, history_of};
 ghost use Rattle.yparse.specs.View.{configuration_by};
-ghost use Rattle.ycli.specs.Reply.{step_line, refusal, kind_word, kind_tail, mode_word, shown};
-ghost use Rattle.ycli.specs.Reply.{spaced, shown_head, shown_stack, shown_rest, shown_counts};
+ghost use Rattle.ycli.specs.Reply.{step_line, refusal, kind_word, kind_tail};
+ghost use Rattle.ycli.specs.Reply.{mode_word, configuration_text};
+ghost use Rattle.ycli.specs.Reply.{spaced_names, shown_head, shown_stack, shown_rest, shown_counts};
 ghost use Rattle.ycli.specs.Command.{command_view};
 ghost use Rattle.ycli.specs.Reply.{Answers, edit_text};
 
@@ -229,7 +230,7 @@ fn put_counts<W: Write>(session: &Session, writer: &mut Link<W>) -> Option<()>
 /// The five lines of the configuration now.
 fn put_shown<W: Write>(session: &Session, writer: &mut Link<W>) -> Option<()>
     ensures { Sends W.contents writer.old writer.new (is_some result)
-        (shown (machine_of session.now) (history_of session.now)) }
+        (configuration_text (machine_of session.now) (history_of session.now)) }
 {
     put_head(session, writer)?;
     put_stack(session, writer)?;

@@ -6,11 +6,12 @@ ghost use Rattle.ytables.specs.Link.{device_of, has_failed};
 ghost use Rattle.yparse.specs.Session.{machine_of, history_of};
 ghost use Rattle.ycli.specs.Transcript.{Tells, failed_read, failed_write};
 ghost use Rattle.ycli.specs.Plain.{HasOneText};
+ghost use Rattle.ycli.specs.Line.{line_room};
 ghost use Rattle.ycli.specs.Serving.{ChunkTells, ReadTells, Ends};
 
 use crate::command::{Line, line_in};
 use crate::fault::SessionFault;
-use crate::held::Held;
+use crate::line_buffer::LineBuffer;
 use crate::reply::answer;
 use std::io::{Read, Write};
 use yparse::Session;
@@ -32,12 +33,12 @@ enum Flow {
 /// the writer.
 fn take_chunk<W: Write>(
     session: &mut Session,
-    held: &mut Held,
+    held: &mut LineBuffer,
     bytes: &[u8],
     writer: &mut Link<W>,
 ) -> Option<Flow>
     requires { has_failed writer.old ≡ false }
-    ensures tells { (line : List ℕ) → held.old ≡ take 4097 line →
+    ensures tells { (line : List ℕ) → held.old ≡ take line_room line →
         ChunkTells W.contents writer.old writer.new result (machine_of session.old)
         (history_of session.old) line bytes.now (history_of session.new) held.new }
     ensures machine { machine_of session.new ≡ machine_of session.old }
@@ -61,7 +62,7 @@ fn take_chunk<W: Write>(
 /// Answers each line whose newline is read, up to a `quit` or to the end of the input.
 fn read_lines<R: Read, W: Write>(
     session: &mut Session,
-    held: &mut Held,
+    held: &mut LineBuffer,
     reader: &mut Link<R>,
     writer: &mut Link<W>,
 ) -> Result<Flow, SessionFault>
@@ -92,9 +93,13 @@ fn read_lines<R: Read, W: Write>(
 }
 
 /// Answers a last line that lacks its newline.
-fn answer_last<W: Write>(session: &mut Session, held: &Held, writer: &mut Link<W>) -> Option<()>
+fn answer_last<W: Write>(
+    session: &mut Session,
+    held: &LineBuffer,
+    writer: &mut Link<W>,
+) -> Option<()>
     requires { has_failed writer.old ≡ false }
-    ensures tells { (line : List ℕ) → held.now ≡ take 4097 line →
+    ensures tells { (line : List ℕ) → held.now ≡ take line_room line →
         Ends W.contents writer.old writer.new (is_some result) (machine_of session.old)
         (history_of session.old) line }
     ensures failed { has_failed writer.new ≡
@@ -125,7 +130,7 @@ fn serve<R: Read, W: Write>(
         has_failed reader.new ≡ failed_read result }
     ensures write_fault { has_failed writer.new ≡ failed_write result }
 {
-    let mut held = Held::new();
+    let mut held = LineBuffer::new();
     match read_lines(session, &mut held, reader, writer)? {
         Flow::Quit => return Ok(()),
         Flow::GoesOn => {}

@@ -2,24 +2,24 @@
 use Rattle.std.proofs.Common.{sym, ◌∙◌}
 use Rattle.std.proofs.Common.{ℕ, List, Result, Ok, Err, IfOk}
 use Rattle.std.specs.Global.{Vec}
-use Rattle.ygrammar.specs.declared.cutting.Placed.{Placed}
-use Rattle.ygrammar.specs.declared.fault.SyntaxFault.{SyntaxFault}
-use Rattle.ygrammar.specs.declared.fault.SyntaxFault.TheVariants as faults
+use Rattle.ygrammar.specs.declared.lexer.Placed.{Placed}
+use Rattle.ygrammar.specs.declared.fault.GrammarFault.{GrammarFault}
+use Rattle.ygrammar.specs.declared.fault.GrammarFault.TheVariants as faults
 use Rattle.ygrammar.specs.Lexemes.{Lexeme}
-use Rattle.ygrammar.specs.Cuttings.{SpellsSyntax, unfinished, bad_literal, foreign, syntax, Refusal}
-use Rattle.ygrammar.specs.Cuttings.{refusal, Outcome}
+use Rattle.ygrammar.specs.Lexer.{SpellsSyntax, unfinished, bad_literal, foreign, syntax, Refusal}
+use Rattle.ygrammar.specs.Lexer.{refusal, Outcome}
 use Rattle.ygrammar.specs.Answers.{views, Answers, Gives}
 use Rattle.ygrammar.specs.Tree.{HasOneTree}
 use Rattle.ygrammar.proofs.Trees.{tree_of}
 use Rattle.ygrammar.proofs.OneTree.{one_tree}
 use Rattle.ygrammar.proofs.Outcomes.{one_outcome, outcome_spells}
 
-pub gives_spells : (bytes : List ℕ) (r : Result (Vec Placed) SyntaxFault) → Gives bytes r →
+pub gives_spells : (bytes : List ℕ) (r : Result (Vec Placed) GrammarFault) → Gives bytes r →
     IfOk r (λ v. SpellsSyntax bytes (views v.items))
 gives_spells bytes (Ok v) h = outcome_spells bytes (views v.items) h
 gives_spells bytes (Err e) h = tt
 
-pub gives_answers : (bytes : List ℕ) (r : Result (Vec Placed) SyntaxFault)
+pub gives_answers : (bytes : List ℕ) (r : Result (Vec Placed) GrammarFault)
     (o : Result (List Lexeme) Refusal) → Gives bytes r → Outcome bytes o → Answers r o
 gives_answers bytes (Ok v) o h k = one_outcome bytes o (Ok (views v.items)) k h
 gives_answers bytes (Err (faults.Unfinished line)) o h k = one_outcome bytes o
@@ -30,14 +30,19 @@ gives_answers bytes (Err (faults.Foreign line)) o h k = one_outcome bytes o
     (Err (refusal foreign line)) k h
 gives_answers bytes (Err (faults.Syntax line)) o h k = one_outcome bytes o
     (Err (refusal syntax line)) k h
-gives_answers bytes (Err faults.TooLong) o h k = h
 gives_answers bytes (Err faults.Memory) o h k = tt
+gives_answers bytes (Err _) o h k = absurd h
 
-pub gives_tree : (bytes : List ℕ) (r : Result (Vec Placed) SyntaxFault) → Gives bytes r →
+pub gives_tree : (bytes : List ℕ) (r : Result (Vec Placed) GrammarFault) → Gives bytes r →
     IfOk r (λ v. HasOneTree (views v.items))
 gives_tree bytes (Ok v) h =
     let s = outcome_spells bytes (views v.items) h in
     let (t, shaped, e) = tree_of (views v.items) s.derived in
-    record { tree = t; shaped = shaped; yields = e; only = λ u k f. one_tree t u shaped k
-        (sym e ∙ f) }
+    record {
+      tree = t;
+      shaped = shaped;
+      yields = e;
+      only = λ u k f. one_tree t u shaped k
+          (sym e ∙ f);
+    }
 gives_tree bytes (Err e) h = tt

@@ -5,8 +5,7 @@ use Rattle.std.proofs.Common.{Ok, Err, refl, sym, ap, ◌∙◌, subst, arith, a
 use Rattle.std.proofs.lemmas.Bool.{eqb-true, and_parts, or_cases, not-true, both_ways}
 use Rattle.std.proofs.lemmas.List.{map_push}
 use Rattle.std.proofs.Math.Seq.{drop-append_seam}
-use Rattle.std.specs.List.{AllByRecursion}
-use Rattle.ygrammar.specs.declared.cutting.Placed.{Placed}
+use Rattle.ygrammar.specs.declared.lexer.Placed.{Placed}
 use Rattle.ygrammar.specs.declared.kind.Kind.{Kind}
 use Rattle.ygrammar.specs.declared.kind.Kind.TheVariants as kind
 use Rattle.ygrammar.specs.declared.kind.Sign.TheVariants as sign
@@ -23,11 +22,11 @@ use Rattle.ygrammar.specs.declared.recogniser.State.TheVariants.{End}
 use Rattle.ygrammar.specs.Syntax.{BeginsSpec}
 use Rattle.ygrammar.specs.Recogniser.{next_state, reached, is_final, is_final_at, is_end}
 use Rattle.ygrammar.specs.Lexemes.{Lexeme, fixed, kind_of}
-use Rattle.ygrammar.specs.Cuttings.{Part, lexeme, PartAt, Cuts, lexemes, kinds, is_mark, marks}
-use Rattle.ygrammar.specs.Cuttings.{syntax, FaultAt, refusal, IsLine, ended, marked, lexical, stray}
-use Rattle.ygrammar.specs.Cuttings.{early, Outcome}
+use Rattle.ygrammar.specs.Lexer.{Part, lexeme, PartAt, Cuts, lexemes, kinds, is_mark, marks}
+use Rattle.ygrammar.specs.Lexer.{syntax, FaultAt, refusal, IsLine, ended, marked, lexical, stray}
+use Rattle.ygrammar.specs.Lexer.{early, Outcome}
 use Rattle.ygrammar.specs.Views.{lexeme_view, fault_view}
-use Rattle.ygrammar.specs.Answers.{views, fault_at, Fails, Comes, StandsIn}
+use Rattle.ygrammar.specs.Answers.{views, fault_at, Fails, Comes, StandIn, StandsIn}
 use Rattle.ygrammar.proofs.Accepted.{reached_append, recognised}
 use Rattle.ygrammar.proofs.Shapes.{derived}
 use Rattle.ygrammar.proofs.Viable.{viable, not_viable}
@@ -102,9 +101,12 @@ counted : (q : State) (k : Kind) (r : State) → next_state q k ≡ Some r → C
 counted q k r e =
     let h : counts q k (Some r) ≡ true = ap (counts q k) (sym e) ∙ good q k in
     let p = and_parts (eqb (marks_of r) (marks_of q + count_mark k)) (not (is_end r) || is_mark k)
-            h in
-    record { sum = eqb-true (marks_of r) (marks_of q + count_mark k) p.0; last =
-        λ t. either t (or_cases (not (is_end r)) (is_mark k) p.1) }
+    h in
+    record {
+      sum = eqb-true (marks_of r) (marks_of q + count_mark k) p.0;
+      last =
+          λ t. either t (or_cases (not (is_end r)) (is_mark k) p.1);
+    }
   where
     either : is_end r ≡ true → (not (is_end r) ≡ true) ⊎ (is_mark k ≡ true) → is_mark k ≡ true
     either t (inl n) = absurd (both_ways (is_end r) (not-true (is_end r) n) t)
@@ -163,8 +165,17 @@ cuts_more [] bytes rest p m e h = (m, subst (λ z. PartAt z p m) (sym e) h, refl
 cuts_more (q ∷ ps) bytes rest p m (n, a, c) h = (n, a, cuts_more ps n rest p m c h)
 
 pub comes_start : (bytes : List ℕ) → Comes bytes [] bytes Declarations
-comes_start bytes = record { cut = record { parts = []; cut = refl; read = refl; unfinished =
-    omega arith }; state_is = refl; placed = tt }
+comes_start bytes = record {
+  cut = record {
+    parts = [];
+    cut = refl;
+    read = refl;
+    unfinished =
+        omega arith;
+  };
+  state_is = refl;
+  placed = tt;
+}
 
 pub goes_gap : (bytes rest m : List ℕ) (ls : List Placed) (q : State) (p : Part) →
     Comes bytes ls rest q → lexemes (p ∷ []) ≡ [] → PartAt rest p m → Comes bytes ls m q
@@ -189,7 +200,7 @@ reached_push : (ls : List Lexeme) (l : Lexeme) (q : State) (o : Option State) �
     reached (Some Declarations) (kinds (ls ++ l ∷ [])) ≡ o
 reached_push ls l q o e h =
     ap (reached (Some Declarations)) (kinds_append ls (l ∷ [])) ∙ reached_append (Some Declarations)
-        (kinds ls) (kind_of l ∷ []) ∙ ap (λ z. reached z (kind_of l ∷ [])) e ∙ h
+    (kinds ls) (kind_of l ∷ []) ∙ ap (λ z. reached z (kind_of l ∷ [])) e ∙ h
 
 -- a lexeme that is read stands where the rest began
 here : (before rest : List ℕ) (at : ℕ) → at ≡ length (before ++ rest) - length rest →
@@ -200,17 +211,17 @@ here before rest at e =
 
 pub placed_more : (bytes rest m : List ℕ) (ls new : List Placed) (q : State) (p : Placed) →
     Comes bytes ls rest q → PartAt rest (lexeme (lexeme_view p.lexeme)) m →
-    p.at ≡ length bytes - length rest → new ≡ ls ++ p ∷ [] → AllByRecursion (StandsIn bytes) new
+    p.at ≡ length bytes - length rest → new ≡ ls ++ p ∷ [] → StandIn bytes new
 placed_more bytes rest m ls new q p c h a f =
     let (before, w) = cut_before c.cut.parts bytes rest c.cut.cut in
     let there : drop p.at bytes ≡ rest = ap (λ (x : List ℕ). drop p.at x) w ∙ here before rest p.at
-            (a ∙ ap (λ (x : List ℕ). length x - length rest) w) in
+    (a ∙ ap (λ (x : List ℕ). length x - length rest) w) in
     let one : StandsIn bytes p =
-            (m, subst (λ (x : List ℕ). PartAt x (lexeme (lexeme_view p.lexeme)) m) (sym there) h) in
-    subst (AllByRecursion (StandsIn bytes)) (sym f) (all ls one c.placed)
+    (m, subst (λ (x : List ℕ). PartAt x (lexeme (lexeme_view p.lexeme)) m) (sym there) h) in
+    subst (StandIn bytes) (sym f) (all ls one c.placed)
   where
-    all : (ls : List Placed) → StandsIn bytes p → AllByRecursion (StandsIn bytes) ls →
-        AllByRecursion (StandsIn bytes) (ls ++ p ∷ [])
+    all : (ls : List Placed) → StandsIn bytes p → StandIn bytes ls →
+        StandIn bytes (ls ++ p ∷ [])
     all [] one a = (one, tt)
     all (l ∷ ls) one a = (a.0, all ls one a.1)
 
@@ -218,13 +229,13 @@ pub goes_lexeme : (bytes rest m : List ℕ) (ls new : List Placed) (q r : State)
     Comes bytes ls rest q → PartAt rest (lexeme (lexeme_view p.lexeme)) m →
     p.at ≡ length bytes - length rest
     → next_state q (kind_of (lexeme_view p.lexeme)) ≡ Some r → is_end r ≡ false →
-        new ≡ ls ++ p ∷ [] → Comes bytes new m r
+    new ≡ ls ++ p ∷ [] → Comes bytes new m r
 goes_lexeme bytes rest m ls new q r p c h a e n f =
     let l = lexeme_view p.lexeme in
     let v : views new ≡ views ls ++ l ∷ [] = ap views f ∙ views_push ls p in
     let s : reached (Some Declarations) (kinds (views new)) ≡ Some r =
-            ap (λ z. reached (Some Declarations) (kinds z)) v ∙ reached_push (views ls) l q
-            (Some r) c.state_is e in
+    ap (λ z. reached (Some Declarations) (kinds z)) v ∙ reached_push (views ls) l q
+    (Some r) c.state_is e in
     let k = reads_marks (views new) Declarations r s in
     let w = few r n in
     record {
@@ -263,12 +274,36 @@ line_here bytes rest ls q c = let (b, e) = place bytes rest ls q c in
 pub stops_lexical : (bytes rest : List ℕ) (ls : List Placed) (q : State) (f : LexicalFault)
     (line : ℕ) → Comes bytes ls rest q → FaultAt rest (fault_view f) → IsLine bytes rest line →
     Fails (fault_at f line) bytes
-stops_lexical bytes rest ls q code_faults.Unfinished line c h l = record { before = views ls; rest =
-    rest; line = line; comes = c.cut; begun = begun bytes rest ls q c; here = l; stops = lexical h }
-stops_lexical bytes rest ls q code_faults.BadLiteral line c h l = record { before = views ls; rest =
-    rest; line = line; comes = c.cut; begun = begun bytes rest ls q c; here = l; stops = lexical h }
-stops_lexical bytes rest ls q code_faults.Foreign line c h l = record { before = views ls; rest =
-    rest; line = line; comes = c.cut; begun = begun bytes rest ls q c; here = l; stops = lexical h }
+stops_lexical bytes rest ls q code_faults.Unfinished line c h l = record {
+  before = views ls;
+  rest =
+      rest;
+  line = line;
+  comes = c.cut;
+  begun = begun bytes rest ls q c;
+  here = l;
+  stops = lexical h;
+}
+stops_lexical bytes rest ls q code_faults.BadLiteral line c h l = record {
+  before = views ls;
+  rest =
+      rest;
+  line = line;
+  comes = c.cut;
+  begun = begun bytes rest ls q c;
+  here = l;
+  stops = lexical h;
+}
+stops_lexical bytes rest ls q code_faults.Foreign line c h l = record {
+  before = views ls;
+  rest =
+      rest;
+  line = line;
+  comes = c.cut;
+  begun = begun bytes rest ls q c;
+  here = l;
+  stops = lexical h;
+}
 
 pub stops_stray : (bytes rest m : List ℕ) (ls : List Placed) (q : State) (l : Lexeme) (line : ℕ) →
     Comes bytes ls rest q → PartAt rest (lexeme l) m → next_state q (kind_of l) ≡ None →
@@ -287,7 +322,7 @@ stops_stray bytes rest m ls q l line c h e i = record {
 pub stops_marked : (bytes rest m : List ℕ) (ls new : List Placed) (q r : State) (p : Placed) →
     Comes bytes ls rest q → PartAt rest (lexeme (lexeme_view p.lexeme)) m
     → next_state q (kind_of (lexeme_view p.lexeme)) ≡ Some r → is_end r ≡ true →
-        new ≡ ls ++ p ∷ [] → Outcome bytes (Ok (views new))
+    new ≡ ls ++ p ∷ [] → Outcome bytes (Ok (views new))
 stops_marked bytes rest m ls new q r p c h e n f =
     let l = lexeme_view p.lexeme in
     let k = counted q (kind_of l) r e in
@@ -298,10 +333,10 @@ stops_marked bytes rest m ls new q r p c h e n f =
     let w = two r n in
     let so_far = reads_marks (views ls) Declarations q c.state_is in
     let v : views new ≡ views ls ++ fixed sign.Mark ∷ [] = ap views f ∙ views_push ls p ∙ ap
-            (λ z. views ls ++ z ∷ []) mark in
+    (λ z. views ls ++ z ∷ []) mark in
     let s : reached (Some Declarations) (kinds (views ls ++ fixed sign.Mark ∷ [])) ≡ Some r =
-            reached_push (views ls) (fixed sign.Mark) q (Some r) c.state_is
-            (ap (λ z. next_state q (kind_of z)) (sym mark) ∙ e) in
+    reached_push (views ls) (fixed sign.Mark) q (Some r) c.state_is
+    (ap (λ z. next_state q (kind_of z)) (sym mark) ∙ e) in
     let (line, i) = line_here bytes rest ls q c in
     subst (λ z. Outcome bytes (Ok z)) (sym v) (record {
       before = views ls;

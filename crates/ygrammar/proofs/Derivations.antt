@@ -27,8 +27,15 @@ within a b (step r d) = step (replaces_within a b r) (within a b d)
 -- one production, somewhere in a form
 pub replaced : {S : Type 0} {P : S → List S → Type 0} (n : S) (body a b : List S) → P n body →
     Derives P (a ++ n ∷ b) (a ++ (body ++ b))
-replaced n body a b p = step (record { before = a; symbol = n; body = body; after = b; rule = p;
-    from = refl; to = sym (append_assoc a body b) }) done
+replaced n body a b p = step (record {
+  before = a;
+  symbol = n;
+  body = body;
+  after = b;
+  rule = p;
+  from = refl;
+  to = sym (append_assoc a body b);
+}) done
 
 -- a list is cut into one piece for each symbol of a form, each with the meaning of its symbol
 abbrev pub Stands : {S K : Type 0} (M : S → List K → Type 0) → List S → List K → Type 0
@@ -54,8 +61,14 @@ pub cut : {S K : Type 0} (M : S → List K → Type 0) (a c : List S) (z : List 
 cut M [] c z p = record { left = []; right = z; whole = refl; first = refl; second = p }
 cut M (s ∷ a) c z (y, rest, e, m, p) =
     let r = cut M a c rest p in
-    record { left = y ++ r.left; right = r.right; whole = e ∙ ap (λ t. y ++ t) r.whole ∙ sym
-        (append_assoc y r.left r.right); first = (y, r.left, refl, m, r.first); second = r.second }
+    record {
+      left = y ++ r.left;
+      right = r.right;
+      whole = e ∙ ap (λ t. y ++ t) r.whole ∙ sym
+          (append_assoc y r.left r.right);
+      first = (y, r.left, refl, m, r.first);
+      second = r.second;
+    }
 
 -- Where each symbol's set of lists is closed under the productions, whatever is derived from a form
 -- is in the form's set.
@@ -71,9 +84,15 @@ sound M P closed x y z (step r d) h =
         let outer = cut M (r.before ++ r.body) r.after z i in
         let inner = cut M r.before r.body outer.left outer.first in
         let all = joined M r.before (r.symbol ∷ r.after) inner.left (inner.right ++ outer.right)
-                inner.first (inner.right, outer.right, refl, closed r.symbol r.body inner.right
-                r.rule inner.second, outer.second) in
+        inner.first (
+          inner.right,
+          outer.right,
+          refl,
+          closed r.symbol r.body inner.right
+              r.rule inner.second,
+          outer.second,
+        ) in
         subst (λ t. Stands M t z) (sym r.from)
-            (subst (λ t. Stands M (r.before ++ r.symbol ∷ r.after) t)
-            (sym (outer.whole ∙ ap (λ t. t ++ outer.right) inner.whole ∙ append_assoc inner.left
-            inner.right outer.right)) all)
+        (subst (λ t. Stands M (r.before ++ r.symbol ∷ r.after) t)
+        (sym (outer.whole ∙ ap (λ t. t ++ outer.right) inner.whole ∙ append_assoc inner.left
+        inner.right outer.right)) all)

@@ -9,7 +9,7 @@ pub stuck_at : (p : Production) (m : List Bool) (o : List ℕ) (taken dot : ℕ)
 stuck_at p m o taken dot body e f n u =
     let l : dot < length body = let w = f.within in omega arith in
     stuck dot (subst (λ (x : List ℕ). dot < length x) e l)
-        (subst (λ (x : List ℕ). IsUnmarked m (slice_index x dot)) e (u l))
+    (subst (λ (x : List ℕ). IsUnmarked m (slice_index x dot)) e (u l))
 
 pub whole_marked : (p : Production) (m : List Bool) (dot : ℕ) (body : List ℕ) → body ≡ p.body →
     DotFits body m dot → dot ≡ length body → (k : ℕ) → k < length p.body →

@@ -35,24 +35,24 @@ pub taken_settled : {m m2 : List Bool} {o o2 : List ℕ} (rules : List RuleValue
     s ≡ slice_index o taken → AreOccurrences rules n symbols lists → q < n → Grows m o m2 o2 →
     taken + 1 ≤ length o
     → ((k : ℕ) → k < length listed → IsSettled (rule_at rules (slice_index listed k)) m2 o2
-        (taken + 1))
+    (taken + 1))
     → IsSettled (rule_at rules q) m o (taken + 1) ⊎ ((j : ℕ) × (j < length (rule_at rules q).body) ×
-        (slice_index o taken ≡ slice_index (rule_at rules q).body j))
+    (slice_index o taken ≡ slice_index (rule_at rules q).body j))
     → IsSettled (rule_at rules q) m2 o2 (taken + 1)
 taken_settled rules n symbols s taken q lists listed e t a h g d f (inl c) =
     settled_grows (rule_at rules q) (taken + 1) g d c
 taken_settled {m2 = m2} {o2 = o2} rules n symbols s taken q lists listed e t a h g d f
     (inr (j, l, i)) =
     of_listed listed q (λ (u : ℕ). IsSettled (rule_at rules u) m2 o2 (taken + 1)) f
-        (subst (λ (x : List ℕ). Contains x q) (sym e)
-        (subst (λ (u : ℕ). Contains (list_at lists u) q) (sym (t ∙ i)) (a.each q j h l)))
+    (subst (λ (x : List ℕ). Contains x q) (sym e)
+    (subst (λ (u : ℕ). Contains (list_at lists u) q) (sym (t ∙ i)) (a.each q j h l)))
 
 -- one symbol was taken, and the rules in whose bodies it stands were visited
 pub drain_next : {m m2 : List Bool} {o o2 : List ℕ} (rules : List RuleValue) (n symbols s taken : ℕ)
     (lists : List (List ℕ)) (listed : List ℕ) → listed ≡ list_at lists s → s ≡ slice_index o taken →
     AreOccurrences rules n symbols lists → Grows m o m2 o2 → taken + 1 ≤ length o
     → ((k : ℕ) → k < length listed → IsSettled (rule_at rules (slice_index listed k)) m2 o2
-        (taken + 1))
+    (taken + 1))
     → ((q : ℕ) → q < n → IsSettled (rule_at rules q) m o taken)
     → (q : ℕ) → q < n → IsSettled (rule_at rules q) m2 o2 (taken + 1)
 drain_next rules n symbols s taken lists listed e t a g d f old q h = taken_settled rules n symbols
@@ -69,15 +69,15 @@ taken_spread : {m m2 : List Bool} {o o2 : List ℕ} (rules : List RuleValue) (n 
     (lists : List (List ℕ)) (listed : List ℕ) → listed ≡ list_at lists s → s ≡ slice_index o taken →
     AreByLeft rules n symbols lists → q < n → Grows m o m2 o2 → taken + 1 ≤ length o
     → ((k : ℕ) → k < length listed → IsSpread (rule_at rules (slice_index listed k)) m2 o2
-        (taken + 1))
+    (taken + 1))
     → IsSpread (rule_at rules q) m o (taken + 1) ⊎ (slice_index o taken ≡ (rule_at rules q).left)
     → IsSpread (rule_at rules q) m2 o2 (taken + 1)
 taken_spread rules n symbols s taken q lists listed e t a h g d f (inl c) =
     spread_grows (rule_at rules q) (taken + 1) g d c
 taken_spread {m2 = m2} {o2 = o2} rules n symbols s taken q lists listed e t a h g d f (inr i) =
     of_listed listed q (λ (u : ℕ). IsSpread (rule_at rules u) m2 o2 (taken + 1)) f
-        (subst (λ (x : List ℕ). Contains x q) (sym e)
-        (subst (λ (u : ℕ). Contains (list_at lists u) q) (sym (t ∙ i)) (a.each q h)))
+    (subst (λ (x : List ℕ). Contains x q) (sym e)
+    (subst (λ (u : ℕ). Contains (list_at lists u) q) (sym (t ∙ i)) (a.each q h)))
 
 -- one symbol was taken, and the bodies of its rules were marked
 pub spread_more : {m m2 : List Bool} {o o2 : List ℕ} (rules : List RuleValue)
@@ -85,7 +85,7 @@ pub spread_more : {m m2 : List Bool} {o o2 : List ℕ} (rules : List RuleValue)
     s ≡ slice_index o taken → AreByLeft rules n symbols lists → Grows m o m2 o2 →
     taken + 1 ≤ length o
     → ((k : ℕ) → k < length listed → IsSpread (rule_at rules (slice_index listed k)) m2 o2
-        (taken + 1))
+    (taken + 1))
     → ((q : ℕ) → q < n → IsSpread (rule_at rules q) m o taken)
     → (q : ℕ) → q < n → IsSpread (rule_at rules q) m2 o2 (taken + 1)
 spread_more rules n symbols s taken lists listed e t a g d f old q h = taken_spread rules n symbols

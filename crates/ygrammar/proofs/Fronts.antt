@@ -12,10 +12,10 @@ pub first_is : (n : ℕ) (bytes tail : List ℕ) → begins (λ b. eqb b n) byte
 first_is n [] tail h e = cc
 first_is n (b ∷ bytes) tail h e = let w : b ≡ n = eqb-true b n h in cc
 
-pub head_is : (bytes tail : List ℕ) → 0 < length bytes → tail ≡ drop 1 bytes →
+pub c_identifier_is : (bytes tail : List ℕ) → 0 < length bytes → tail ≡ drop 1 bytes →
     bytes ≡ get_or bytes 0 0 ∷ tail
-head_is [] tail h e = absurd (omega arith)
-head_is (b ∷ bytes) tail h e = ap (λ z. b ∷ z) (sym e)
+c_identifier_is [] tail h e = absurd (omega arith)
+c_identifier_is (b ∷ bytes) tail h e = ap (λ z. b ∷ z) (sym e)
 
 pub some_length : (bytes : List ℕ) (r : Bool) → r ≡ eqb (length bytes) 0 → r ≡ false →
     0 < length bytes
@@ -24,7 +24,7 @@ some_length bytes r e f = let w = eqb-false (length bytes) 0 (sym e ∙ f) in om
 pub comment_answer : (bytes more : List ℕ) (o : Option (Bor (List ℕ))) → bytes ≡ 47 ∷ 42 ∷ more →
     slice_of o ≡ pair_after 42 47 more
     → MatchOption o ((text rest : List ℕ) → IsComment text → bytes ≡ text ++ rest → ⊥) (λ rest.
-        (text : List ℕ) × IsComment text × (bytes ≡ text ++ rest.now))
+    (text : List ℕ) × IsComment text × (bytes ≡ text ++ rest.now))
 comment_answer bytes more None e h = λ text rest c w. let z : None ≡ Some rest =
     h ∙ between_after 47 42 42 47 text rest more c (sym w ∙ e) in cc
 comment_answer bytes more (Some r) e h = let (t, w, c) = between_made 47 42 42 47 more r.now

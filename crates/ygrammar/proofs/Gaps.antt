@@ -44,20 +44,20 @@ gap_one _ _ x s (blank {b = b} {gap = g} hb p) (blank {b = c} {gap = h} hc q) nb
 gap_one _ _ x s (blank {b = b} {gap = g} hb p) (comment {text = t} {gap = h} c q) nb nc e =
     let (more, w) = between_begins 47 42 42 47 t c in
     let k : b ≡ 47 = heads_are b 47 (g ++ x) ((42 ∷ more ++ h) ++ 58 ∷ s)
-            (e ∙ ap (λ z. (z ++ h) ++ 58 ∷ s) w) in
+    (e ∙ ap (λ z. (z ++ h) ++ 58 ∷ s) w) in
     let v : false ≡ true = sym (ap is_blank k) ∙ hb in absurd (let z : ⊥ = cc in z)
 gap_one _ _ x s (comment {text = t} {gap = g} c p) nothing nb nc e =
     let (more, w) = between_begins 47 42 42 47 t c in
     absurd (eqb-false 47 58 refl (heads_are 47 58 ((42 ∷ more ++ g) ++ x) s
-        (sym (ap (λ z. (z ++ g) ++ x) w) ∙ e)))
+    (sym (ap (λ z. (z ++ g) ++ x) w) ∙ e)))
 gap_one _ _ x s (comment {text = t} {gap = g} c p) (blank {b = b} {gap = h} hb q) nb nc e =
     let (more, w) = between_begins 47 42 42 47 t c in
     let k : 47 ≡ b = heads_are 47 b ((42 ∷ more ++ g) ++ x) (h ++ 58 ∷ s)
-            (sym (ap (λ z. (z ++ g) ++ x) w) ∙ e) in
+    (sym (ap (λ z. (z ++ g) ++ x) w) ∙ e) in
     let v : false ≡ true = ap is_blank k ∙ hb in absurd (let z : ⊥ = cc in z)
 gap_one _ _ x s (comment {text = t} {gap = g} c p) (comment {text = u} {gap = h} d q) nb nc e =
     let b = between_one 47 42 42 47 t u (g ++ x) (h ++ 58 ∷ s) c d
-            (sym (append_assoc t g x) ∙ e ∙ append_assoc u h (58 ∷ s)) in
+    (sym (append_assoc t g x) ∙ e ∙ append_assoc u h (58 ∷ s)) in
     let r = gap_one g h x s p q nb nc b.1 in
     let b0 : t ≡ u = b.0 in
     let r0 : g ≡ h = r.0 in

@@ -28,8 +28,14 @@ module _ (tokens : ℕ) where
       (fold later last xs ≡ Some s))
 
   behind_one : (x s : ℕ) (xs : List ℕ) → IsLastToken tokens xs s → IsLastToken tokens (x ∷ xs) s
-  behind_one x s xs l = record { before = x ∷ l.before; after = l.after; whole =
-      ap (λ (ys : List ℕ). x ∷ ys) l.whole; token = l.token; last = l.last }
+  behind_one x s xs l = record {
+    before = x ∷ l.before;
+    after = l.after;
+    whole =
+        ap (λ (ys : List ℕ). x ∷ ys) l.whole;
+    token = l.token;
+    last = l.last;
+  }
 
   found : (last : Option ℕ) (xs : List ℕ) → Found last xs
   found last [] = inl (tt, refl)
@@ -44,8 +50,18 @@ module _ (tokens : ℕ) where
       go : (b : Bool) → nat_lt x tokens ≡ b → Found (Some x) xs → Found last xs →
           Found last (x ∷ xs)
       go true q (inl h) k = rw q
-          (inr (x, record { before = []; after = xs; whole = refl; token = is_token q; last =
-          All-from_recursion (λ y. tokens ≤ y) xs h.0 }, h.1))
+          (inr (
+            x,
+            record {
+              before = [];
+              after = xs;
+              whole = refl;
+              token = is_token q;
+              last =
+                  All-from_recursion (λ y. tokens ≤ y) xs h.0;
+            },
+            h.1,
+          ))
       go true q (inr h) k = rw q (inr (h.0, behind_one x h.0 xs h.1, h.2))
       go false q k (inl h) = rw q (inl ((is_none q, h.0), h.1))
       go false q k (inr h) = rw q (inr (h.0, behind_one x h.0 xs h.1, h.2))
@@ -65,7 +81,7 @@ module _ (tokens : ℕ) where
       ap (fold later None) l.whole
       ∙ fold-append later None l.before (s ∷ l.after)
       ∙ passed (later (fold later None l.before) s) l.after
-          (recursion_from_All (λ x. tokens ≤ x) l.after l.last)
+      (recursion_from_All (λ x. tokens ≤ x) l.after l.last)
       ∙ here (nat_lt s tokens) refl
     where
       here : (b : Bool) → nat_lt s tokens ≡ b → later (fold later None l.before) s ≡ Some s
@@ -96,10 +112,14 @@ one_chosen ns tokens None body None h =
 pub have_precedences : (ns : List Name) (given : List (Option Precedence)) (rs : List Rule) →
     HavePrecedences ns given rs (map (rule_precedence ns given) rs)
 have_precedences ns given [] = tt
-have_precedences ns given (r ∷ rs) =
-    ((chosen_token ns (length given) r.prec (map (number_in ns) r.body),
-    chosen_is ns (length given) r.prec (map (number_in ns) r.body), refl),
-    have_precedences ns given rs)
+have_precedences ns given (r ∷ rs) = (
+  (
+    chosen_token ns (length given) r.prec (map (number_in ns) r.body),
+    chosen_is ns (length given) r.prec (map (number_in ns) r.body),
+    refl,
+  ),
+  have_precedences ns given rs,
+)
 
 -- and no others
 pub one_precedences : (ns : List Name) (given : List (Option Precedence)) (rs : List Rule)
@@ -111,7 +131,7 @@ one_precedences ns given (r ∷ rs) [] h = absurd h
 one_precedences ns given (r ∷ rs) (p ∷ ps) h =
     let (chosen, is, e) = h.0 in
     ap (λ (q : Option Precedence). q ∷ ps)
-        (e ∙ ap (precedence_at given) (one_chosen ns (length given) r.prec
-        (map (number_in ns) r.body) chosen is))
+    (e ∙ ap (precedence_at given) (one_chosen ns (length given) r.prec
+    (map (number_in ns) r.body) chosen is))
     ∙ ap (λ (qs : List (Option Precedence)). rule_precedence ns given r ∷ qs)
-        (one_precedences ns given rs ps h.1)
+    (one_precedences ns given rs ps h.1)

@@ -37,5 +37,5 @@ pub mod ElaborationSteps
 pub mod Once
 pub mod MeaningSteps
 pub mod ReaderSteps
-pub mod SpanSteps
+pub mod TextSteps
 pub mod InnerSteps

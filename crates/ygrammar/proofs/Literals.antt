@@ -50,14 +50,14 @@ octal_moves n v b r P e f = go (ltb (digit_value b) 8) refl
     go : (t : Bool) → ltb (digit_value b) 8 ≡ t → P
     go true h =
         let w : octal_with n v (Some (digit_value b)) ≡ Some r = ap (octal_with n v)
-                (sym (cond-true (ltb (digit_value b) 8) (Some (digit_value b)) None h)) ∙ e in
+        (sym (cond-true (ltb (digit_value b) 8) (Some (digit_value b)) None h)) ∙ e in
         choose (octal_fits n (v * 8 + digit_value b))
-            (Some (Octals (n + 1) (v * 8 + digit_value b))) None (Some r) w
+        (Some (Octals (n + 1) (v * 8 + digit_value b))) None (Some r) w
         (λ t i. f (ltb-true (digit_value b) 8 h) t (some_is _ r i))
-            (λ t i. absurd (let z : ⊥ = cc in z))
+        (λ t i. absurd (let z : ⊥ = cc in z))
     go false h =
         let w : octal_with n v None ≡ Some r = ap (octal_with n v)
-                (sym (cond-false (ltb (digit_value b) 8) (Some (digit_value b)) None h)) ∙ e in
+        (sym (cond-false (ltb (digit_value b) 8) (Some (digit_value b)) None h)) ∙ e in
         absurd (let z : ⊥ = cc in z)
 
 hex_moves : (v b : ℕ) (r : Stage) (P : Type 0) → more_hex v b ≡ Some r →
@@ -67,14 +67,14 @@ hex_moves v b r P e f = go (ltb (digit_value b) 16) refl
     go : (t : Bool) → ltb (digit_value b) 16 ≡ t → P
     go true h =
         let w : hex_with v (Some (digit_value b)) ≡ Some r = ap (hex_with v)
-                (sym (cond-true (ltb (digit_value b) 16) (Some (digit_value b)) None h)) ∙ e in
+        (sym (cond-true (ltb (digit_value b) 16) (Some (digit_value b)) None h)) ∙ e in
         choose (leb (v * 16 + digit_value b) 255) (Some (Hexed (v * 16 + digit_value b))) None
-            (Some r) w
+        (Some r) w
         (λ t i. f (ltb-true (digit_value b) 16 h) (leb-true _ 255 t) (some_is _ r i))
-            (λ t i. absurd (let z : ⊥ = cc in z))
+        (λ t i. absurd (let z : ⊥ = cc in z))
     go false h =
         let w : hex_with v None ≡ Some r = ap (hex_with v)
-                (sym (cond-false (ltb (digit_value b) 16) (Some (digit_value b)) None h)) ∙ e in
+        (sym (cond-false (ltb (digit_value b) 16) (Some (digit_value b)) None h)) ∙ e in
         absurd (let z : ⊥ = cc in z)
 
 moves : (q : Stage) (b : ℕ) (r : Stage) → next_stage q b ≡ Some r → Move q b r
@@ -95,7 +95,7 @@ moves Backslash b r e = go (escape_value b) refl
         choose (eqb b 120) (Some HexMark) (more_octals 0 0 b) (Some r) w
         (λ u j. subst (Move Backslash b) (some_is HexMark r j) (hex_sign (eqb-true b 120 u)))
         (λ u j. octal_moves 0 0 b r (Move Backslash b r) j (λ d f i. subst (Move Backslash b) i
-            (first_octal d)))
+        (first_octal d)))
 moves (Shut v) b r e = cc
 moves (Octals n v) b r e = octal_moves n v b r (Move (Octals n v) b r) e
     (λ d f i. subst (Move (Octals n v) b) i (next_octal d f))
@@ -151,9 +151,13 @@ plain_parts : (b : ℕ) → is_plain b ≡ true → (32 ≤ b) × (b ≤ 126) ×
 plain_parts b h =
     let a = and_parts (leb 32 b && leb b 126 && not (eqb b 39)) (not (eqb b 92)) h in
     let c = and_parts (leb 32 b && leb b 126) (not (eqb b 39)) a.0 in
-    let d = and_parts (leb 32 b) (leb b 126) c.0 in
-    (leb-true 32 b d.0, leb-true b 126 d.1, eqb-false b 39 (not-true (eqb b 39) c.1), eqb-false b 92
-        (not-true (eqb b 92) a.1))
+    let d = and_parts (leb 32 b) (leb b 126) c.0 in (
+      leb-true 32 b d.0,
+      leb-true b 126 d.1,
+      eqb-false b 39 (not-true (eqb b 39) c.1),
+      eqb-false b 92
+          (not-true (eqb b 92) a.1),
+    )
 
 spells_more : (q : Stage) (b : ℕ) (r : Stage) (text : List ℕ) (v : ℕ) → Move q b r →
     Spells r text v → Spells q (b ∷ text) v
@@ -162,13 +166,13 @@ spells_more _ b _ text v (plain_byte t) s =
     let s0 = s.0 in let s1 = s.1 in
     let e : v ≡ b = s1 in
     plain (let w : b ∷ text ≡ v ∷ [] = cc in w) (subst (λ z. 32 ≤ z) (sym e) p.0)
-        (subst (λ z. z ≤ 126) (sym e) p.1) (subst (λ z. z ≢ 39) (sym e) p.2)
-        (subst (λ z. z ≢ 92) (sym e) p.3)
+    (subst (λ z. z ≤ 126) (sym e) p.1) (subst (λ z. z ≢ 39) (sym e) p.2)
+    (subst (λ z. z ≢ 92) (sym e) p.3)
 spells_more _ b _ text v (backslash e) s = subst (λ z. IsCharacter (z ∷ text) v) (sym e) s
 spells_more _ b _ text v (escape_byte {v = w} e) s =
     let s0 = s.0 in let s1 = s.1 in
     escape {b = b} (let z : 92 ∷ b ∷ text ≡ 92 ∷ b ∷ [] = cc in z)
-        (let z : escape_value b ≡ Some v = cc in z)
+    (let z : escape_value b ≡ Some v = cc in z)
 spells_more _ b _ text v (hex_sign e) s = subst (λ z. IsCharacter (92 ∷ z ∷ text) v) (sym e)
     (hexadecimal {digits = text} refl s.0 s.1 s.2 s.3 s.4)
 spells_more _ b _ text v (first_octal d) s =
@@ -186,13 +190,13 @@ spells_end (Shut w) v l e = (refl, let z : v ≡ w = cc in z)
 spells_end (Octals n w) v l e =
     choose (leb 1 w) (Some w) None (Some v) e
     (λ t i. let z : v ≡ w = cc in let u = leb-true 1 w t in let l0 = l.0 in let l1 = l.1 in
-        (tt, omega (arith, l0), z, omega (arith, u, z), omega (arith, l1, z)))
+    (tt, omega (arith, l0), z, omega (arith, u, z), omega (arith, l1, z)))
     (λ t i. absurd (let z : ⊥ = cc in z))
 spells_end HexMark v l e = cc
 spells_end (Hexed w) v l e =
     choose (leb 1 w) (Some w) None (Some v) e
     (λ t i. let z : v ≡ w = cc in let u = leb-true 1 w t in
-        (tt, z, omega (arith, u, z), omega (arith, l, z)))
+    (tt, z, omega (arith, u, z), omega (arith, l, z)))
     (λ t i. absurd (let z : ⊥ = cc in z))
 
 -- ---- what is found is a literal
@@ -217,8 +221,12 @@ read q (b ∷ bs) v rest l e = go (next_stage q b) refl (λ r m h. read r bs v r
         let m = moves q b r h in
         let f : step q b bs (Some r) ≡ found v rest = ap (step q b bs) (sym h) ∙ e in
         let a = again r (live q b r l m) f in
-        record { text = b ∷ a.text; whole = ap (λ t. b ∷ t) a.whole; spells =
-            spells_more q b r a.text v m a.spells }
+        record {
+          text = b ∷ a.text;
+          whole = ap (λ t. b ∷ t) a.whole;
+          spells =
+              spells_more q b r a.text v m a.spells;
+        }
     go None h again =
         let f : step q b bs None ≡ found v rest = ap (step q b bs) (sym h) ∙ e in
         last (closed_stage q) refl f
@@ -229,10 +237,10 @@ read q (b ∷ bs) v rest l e = go (next_stage q b) refl (λ r m h. read r bs v r
             (sym i) ∙ f in absurd (let z : ⊥ = cc in z)
         last (Some w) i f =
             let g : shut_with (Some w) b bs ≡ found v rest = ap (λ c. shut_with c b bs)
-                    (sym i) ∙ f in
+            (sym i) ∙ f in
             choose (eqb b 39) (found w bs) stuck (found v rest) g
             (λ t j. let k : b ≡ 39 = eqb-true b 39 t in let x : w ≡ v = cc in let y : bs ≡ rest =
-                cc in
+            cc in
             record { text = []; whole = cc; spells = spells_end q v l (i ∙ ap Some x) })
             (λ t j. absurd (let z : ⊥ = cc in z))
 
@@ -259,9 +267,9 @@ octal_step : (n w d : ℕ) → digit_value d < 8 → n < 3 → w * 8 + digit_val
 octal_step n w d h few small last =
     let m = w * 8 + digit_value d in
     ap (octal_with n w) (digit_some 8 d h) ∙ cond-true (octal_fits n m) (Some (Octals (n + 1) m))
-        None (and_from (ltb n 3 && leb m 255) (ltb n 2 || leb 1 m)
-        (and_from (ltb n 3) (leb m 255) (lt-ltb n 3 few) (le-leb m 255 small))
-        (either (cases_lt n 2)))
+    None (and_from (ltb n 3 && leb m 255) (ltb n 2 || leb 1 m)
+    (and_from (ltb n 3) (leb m 255) (lt-ltb n 3 few) (le-leb m 255 small))
+    (either (cases_lt n 2)))
   where
     either : (n < 2) ⊎ (2 ≤ n) → (ltb n 2 || leb 1 (w * 8 + digit_value d)) ≡ true
     either (inl t) = or_left (ltb n 2) (leb 1 (w * 8 + digit_value d)) (lt-ltb n 2 t)
@@ -284,9 +292,9 @@ octals_found n w [] v rest s =
     let s2 = s.2 in let s3 = s.3 in
     let e : v ≡ w = s2 in
     let t : closed_stage (Octals n w) ≡ Some w = cond-true (leb 1 w) (Some w) None
-            (le-leb 1 w (omega (arith, e, s3))) in
+    (le-leb 1 w (omega (arith, e, s3))) in
     let g : scan (Octals n w) (39 ∷ rest) ≡ shut_with (Some w) 39 rest =
-            ap (λ c. shut_with c 39 rest) t in
+    ap (λ c. shut_with c 39 rest) t in
     g ∙ ap (λ z. found z rest) (sym e)
 octals_found n w (d ∷ ds) v rest s =
     let s0 = s.0 in let s1 = s.1 in let s2 = s.2 in let s3 = s.3 in let s4 = s.4 in
@@ -295,8 +303,8 @@ octals_found n w (d ∷ ds) v rest s =
     let e : v ≡ digits_value_after 8 m ds = s2 in
     goes (Octals n w) d (Octals (n + 1) m) (ds ++ 39 ∷ rest) v rest
     (octal_step n w d s0.0 (omega (arith, s1)) (omega (arith, bound, e, s4)) (λ t. let z : ds ≡ [] =
-        short_tail ds (omega (arith, s1, t)) in let y : v ≡ m = e ∙ ap (digits_value_after 8 m) z in
-        omega (arith, y, s3)))
+    short_tail ds (omega (arith, s1, t)) in let y : v ≡ m = e ∙ ap (digits_value_after 8 m) z in
+    omega (arith, y, s3)))
     (octals_found (n + 1) m ds v rest (s0.1, omega (arith, s1), s2, s3, s4))
   where
     short_tail : (ds : List ℕ) → length ds ≤ 0 → ds ≡ []
@@ -309,9 +317,9 @@ hexed_found w [] v rest s =
     let s1 = s.1 in let s2 = s.2 in
     let e : v ≡ w = s1 in
     let t : closed_stage (Hexed w) ≡ Some w = cond-true (leb 1 w) (Some w) None
-            (le-leb 1 w (omega (arith, e, s2))) in
+    (le-leb 1 w (omega (arith, e, s2))) in
     let g : scan (Hexed w) (39 ∷ rest) ≡ shut_with (Some w) 39 rest = ap (λ c. shut_with c 39 rest)
-            t in
+    t in
     g ∙ ap (λ z. found z rest) (sym e)
 hexed_found w (d ∷ ds) v rest s =
     let s0 = s.0 in let s1 = s.1 in let s2 = s.2 in let s3 = s.3 in
@@ -319,21 +327,21 @@ hexed_found w (d ∷ ds) v rest s =
     let bound : m ≤ digits_value_after 16 m ds = after_sixteen m ds in
     let e : v ≡ digits_value_after 16 m ds = s1 in
     goes (Hexed w) d (Hexed m) (ds ++ 39 ∷ rest) v rest
-        (hex_step w d s0.0 (omega (arith, bound, e, s3)))
-        (hexed_found m ds v rest (s0.1, s1, s2, s3))
+    (hex_step w d s0.0 (omega (arith, bound, e, s3)))
+    (hexed_found m ds v rest (s0.1, s1, s2, s3))
 
 character_found : (body : List ℕ) (v : ℕ) (rest : List ℕ) → IsCharacter body v →
     scan Opened (body ++ 39 ∷ rest) ≡ found v rest
 character_found body v rest (plain e low high no_quote no_slash) =
     let t : is_plain v ≡ true = and_from (leb 32 v && leb v 126 && not (eqb v 39)) (not (eqb v 92))
-            (and_from (leb 32 v && leb v 126) (not (eqb v 39))
-            (and_from (leb 32 v) (leb v 126) (le-leb 32 v low) (le-leb v 126 high))
-            (ap not (ne_eqb v 39 no_quote))) (ap not (ne_eqb v 92 no_slash)) in
+    (and_from (leb 32 v && leb v 126) (not (eqb v 39))
+    (and_from (leb 32 v) (leb v 126) (le-leb 32 v low) (le-leb v 126 high))
+    (ap not (ne_eqb v 39 no_quote))) (ap not (ne_eqb v 92 no_slash)) in
     ap (λ z. scan Opened (z ++ 39 ∷ rest)) e ∙ goes Opened v (Shut v) (39 ∷ rest) v rest
-        (cond-true (is_plain v) (Some (Shut v)) (cond (eqb v 92) (Some Backslash) None) t) refl
+    (cond-true (is_plain v) (Some (Shut v)) (cond (eqb v 92) (Some Backslash) None) t) refl
 character_found body v rest (escape {b = b} e h) =
     ap (λ z. scan Opened (z ++ 39 ∷ rest)) e ∙ goes Backslash b (Shut v) (39 ∷ rest) v rest
-        (ap (escaped_with b) h) refl
+    (ap (escaped_with b) h) refl
 character_found body v rest (octal {digits = ds} e some few digits is low high) =
     ap (λ z. scan Opened (z ++ 39 ∷ rest)) e ∙ begun ds some few digits is
   where
@@ -346,7 +354,7 @@ character_found body v rest (octal {digits = ds} e some few digits is low high) 
         let m = 0 * 8 + digit_value d in
         goes Backslash d (Octals (0 + 1) m) (ds ++ 39 ∷ rest) v rest
         (ap (escaped_with d) o.0 ∙ cond-false (eqb d 120) (Some HexMark) (more_octals 0 0 d) o.1 ∙
-            octal_step 0 0 d a0 (omega arith) (omega (arith, a0)) (λ t. absurd (omega (arith, t))))
+        octal_step 0 0 d a0 (omega arith) (omega (arith, a0)) (λ t. absurd (omega (arith, t))))
         (octals_found (0 + 1) m ds v rest (a.1, omega (arith, f), i, low, high))
 character_found body v rest (hexadecimal {digits = ds} e some digits is low high) =
     ap (λ z. scan Opened (z ++ 39 ∷ rest)) e ∙ begun ds some digits is
@@ -358,7 +366,7 @@ character_found body v rest (hexadecimal {digits = ds} e some digits is low high
         let a0 = a.0 in
         let m = 0 * 16 + digit_value d in
         goes HexMark d (Hexed m) (ds ++ 39 ∷ rest) v rest (hex_step 0 d a0 (omega (arith, a0)))
-            (hexed_found m ds v rest (a.1, i, low, high))
+        (hexed_found m ds v rest (a.1, i, low, high))
 
 -- ---- with more bytes
 
@@ -379,7 +387,7 @@ stuck_stays q (b ∷ bs) more e = go (next_stage q b) refl (λ r h. stuck_stays 
         last None i f = ap (λ c. shut_with c b (bs ++ more)) i
         last (Some w) i f =
             ap (λ c. shut_with c b (bs ++ more)) i ∙ choose (eqb b 39) (found w bs) stuck stuck
-                (ap (λ c. shut_with c b bs) (sym i) ∙ f)
+            (ap (λ c. shut_with c b bs) (sym i) ∙ f)
             (λ t j. absurd (let z : ⊥ = cc in z))
             (λ t j. cond-false (eqb b 39) (found w (bs ++ more)) stuck t)
 
@@ -390,8 +398,12 @@ record Finish (q : Stage) (bytes : List ℕ) : Type 0 where
   finds : scan q (bytes ++ more) ≡ found value []
 
 closing : (q : Stage) (v : ℕ) → next_stage q 39 ≡ None → closed_stage q ≡ Some v → Finish q []
-closing q v e c = record { more = 39 ∷ []; value = v; finds = ap (step q 39 []) e ∙ ap
-    (λ z. shut_with z 39 []) c }
+closing q v e c = record {
+  more = 39 ∷ [];
+  value = v;
+  finds = ap (step q 39 []) e ∙ ap
+      (λ z. shut_with z 39 []) c;
+}
 
 finish : (q : Stage) → Live q → Finish q []
 finish Opened l = record { more = 32 ∷ 39 ∷ []; value = 32; finds = refl }
@@ -404,21 +416,34 @@ finish (Octals n v) l = go (cases_lt v 1)
         let l2 = l.2 in
         let z : v ≡ 0 = omega (arith, t) in
         let u = l2 z in
-        record { more = 49 ∷ 39 ∷ []; value = v * 8 + 1; finds = goes (Octals n v) 49
-            (Octals (n + 1) (v * 8 + 1)) (39 ∷ []) (v * 8 + 1) [] (octal_step n v 49 (omega arith) u
-            (omega (arith, z)) (λ w. omega arith)) (octals_found (n + 1) (v * 8 + 1) []
-            (v * 8 + 1) [] (tt, omega (arith, u), refl, omega arith, omega (arith, z))) }
+        record {
+          more = 49 ∷ 39 ∷ [];
+          value = v * 8 + 1;
+          finds = goes (Octals n v) 49
+              (Octals (n + 1) (v * 8 + 1)) (39 ∷ []) (v * 8 + 1) []
+              (octal_step n v 49 (omega arith) u
+              (omega (arith, z)) (λ w. omega arith)) (octals_found (n + 1) (v * 8 + 1) []
+              (v * 8 + 1) [] (tt, omega (arith, u), refl, omega arith, omega (arith, z)));
+        }
     go (inr t) = closing (Octals n v) v refl (cond-true (leb 1 v) (Some v) None (le-leb 1 v t))
 finish HexMark l = record { more = 49 ∷ 39 ∷ []; value = 1; finds = refl }
 finish (Hexed v) l = go (cases_lt v 1)
   where
     go : (v < 1) ⊎ (1 ≤ v) → Finish (Hexed v) []
     go (inl t) =
-        record { more = 49 ∷ 39 ∷ []; value = v * 16 + 1; finds = goes (Hexed v) 49
-            (Hexed (v * 16 + 1)) (39 ∷ []) (v * 16 + 1) []
-            (hex_step v 49 (omega arith) (omega (arith, t)))
-            (hexed_found (v * 16 + 1) [] (v * 16 + 1) [] (tt, refl, omega arith, omega (arith, t)))
-            }
+        record {
+          more = 49 ∷ 39 ∷ [];
+          value = v * 16 + 1;
+          finds = goes (Hexed v) 49
+              (Hexed (v * 16 + 1)) (39 ∷ []) (v * 16 + 1) []
+              (hex_step v 49 (omega arith) (omega (arith, t)))
+              (hexed_found (v * 16 + 1) [] (v * 16 + 1) [] (
+                tt,
+                refl,
+                omega arith,
+                omega (arith, t),
+              ));
+        }
     go (inr t) = closing (Hexed v) v refl (cond-true (leb 1 v) (Some v) None (le-leb 1 v t))
 
 short_finishes : (q : Stage) (bytes : List ℕ) → Live q → scan q bytes ≡ short → Finish q bytes
@@ -446,16 +471,18 @@ pub literal_found : (text tail rest : List ℕ) (v : ℕ) → IsLiteral text v �
     39 ∷ tail ≡ text ++ rest → scan Opened tail ≡ found v rest
 literal_found text tail rest v h e =
     let w : 39 ∷ tail ≡ 39 ∷ (h.body ++ 39 ∷ rest) = e ∙ ap (λ t. t ++ rest) h.whole ∙ ap
-            (λ t. 39 ∷ t) (append_assoc h.body (39 ∷ []) rest) in
+    (λ t. 39 ∷ t) (append_assoc h.body (39 ∷ []) rest) in
     let u : tail ≡ h.body ++ 39 ∷ rest = cc in
     ap (scan Opened) u ∙ character_found h.body v rest h.character
 
 pub literal_spelled : (tail rest : List ℕ) (v : ℕ) → scan Opened tail ≡ found v rest →
     (text : List ℕ) × (39 ∷ tail ≡ text ++ rest) × IsLiteral text v
 literal_spelled tail rest v e =
-    let r = read Opened tail v rest tt e in
-    (39 ∷ r.text ++ 39 ∷ [], ap (λ t. 39 ∷ t) (r.whole ∙ sym (append_assoc r.text (39 ∷ []) rest)),
-        record { body = r.text; whole = refl; character = r.spells })
+    let r = read Opened tail v rest tt e in (
+      39 ∷ r.text ++ 39 ∷ [],
+      ap (λ t. 39 ∷ t) (r.whole ∙ sym (append_assoc r.text (39 ∷ []) rest)),
+      record { body = r.text; whole = refl; character = r.spells },
+    )
 
 pub stuck_begins_none : (tail more text rest : List ℕ) (v : ℕ) → scan Opened tail ≡ stuck →
     (39 ∷ tail) ++ more ≡ text ++ rest → IsLiteral text v → ⊥
@@ -493,8 +520,12 @@ one_literal bytes r s v w a (text, h, e) =
 -- it takes bytes
 pub literal_shorter : (bytes rest : List ℕ) (v : ℕ) → LiteralAt bytes v rest →
     length rest < length bytes
-literal_shorter bytes rest v (text, h, e) = omega (arith, ap length e, length-append text rest,
-    ap length h.whole)
+literal_shorter bytes rest v (text, h, e) = omega (
+  arith,
+  ap length e,
+  length-append text rest,
+  ap length h.whole,
+)
 
 pub literal_of_scan : (bytes tail rest : List ℕ) (v : ℕ) → bytes ≡ 39 ∷ tail →
     scan Opened tail ≡ found v rest → LiteralAt bytes v rest

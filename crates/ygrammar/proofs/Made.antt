@@ -14,11 +14,12 @@ use Rattle.ygrammar.specs.declared.kind.Sign.TheVariants as sign
 use Rattle.ygrammar.specs.declared.literal.Stage.TheVariants.{Opened}
 use Rattle.ygrammar.specs.Bytes.{is_blank, is_digit, is_name_start, is_name_byte, all_pass, begins}
 use Rattle.ygrammar.specs.Bytes.{IsBetween, IsComment}
-use Rattle.ygrammar.specs.Lexemes.{Lexeme, name, head, literal, number, act, code, fixed, IsName}
-use Rattle.ygrammar.specs.Lexemes.{IsHead, Spells, spelling}
-use Rattle.ygrammar.specs.Cuttings.{Part, blank, comment, lexeme, IsPart, IsPercentWord, PartAt}
-use Rattle.ygrammar.specs.Cuttings.{BeginsLiteral, Fault, unfinished, bad_literal, foreign, Opens}
-use Rattle.ygrammar.specs.Cuttings.{open_comment, open_code, open_act, Quotes, IsLexical, FaultAt}
+use Rattle.ygrammar.specs.Lexemes.{Lexeme, name, c_identifier, literal, number, braced, code, fixed}
+use Rattle.ygrammar.specs.Lexemes.{IsName}
+use Rattle.ygrammar.specs.Lexemes.{IsCIdentifier, Spells, spelling}
+use Rattle.ygrammar.specs.Lexer.{Part, blank, comment, lexeme, IsPart, IsPercentWord, PartAt}
+use Rattle.ygrammar.specs.Lexer.{BeginsLiteral, Fault, unfinished, bad_literal, foreign, Opens}
+use Rattle.ygrammar.specs.Lexer.{open_comment, open_code, open_braced, Quotes, IsLexical, FaultAt}
 use Rattle.ygrammar.specs.Stages.{found, stuck, short, scan}
 use Rattle.ygrammar.specs.Kept.{closes}
 use Rattle.ygrammar.specs.Views.{pair_after, sign_of, word_of, is_other, is_lone, SkipsGap}
@@ -27,7 +28,7 @@ use Rattle.ygrammar.proofs.Runs.{between_begins, between_made, between_one}
 use Rattle.ygrammar.proofs.Gaps.{gap_first, gap_one}
 use Rattle.ygrammar.proofs.Literals.{literal_found, literal_spelled, stuck_begins_none}
 use Rattle.ygrammar.proofs.Literals.{short_begins}
-use Rattle.ygrammar.proofs.KeptTexts.{act_found, act_spelled}
+use Rattle.ygrammar.proofs.KeptTexts.{braced_found, braced_spelled}
 use Rattle.ygrammar.proofs.Parts.{Class, blanks, digits, slashes, letters, quotes, percents, braces}
 use Rattle.ygrammar.proofs.Parts.{signs, others, class, is_sign, is_word, lexeme_class, class_of}
 use Rattle.ygrammar.proofs.Parts.{one_class, class_at, no_blank_lexeme, no_slash_lexeme}
@@ -36,20 +37,20 @@ use Rattle.ygrammar.proofs.Parts.{one_class, class_at, no_blank_lexeme, no_slash
 
 data OfClass : Class → Lexeme → Type 0 where
   of_name : {n : List ℕ} → OfClass letters (name n)
-  of_head : {n : List ℕ} → OfClass letters (head n)
+  of_c_identifier : {n : List ℕ} → OfClass letters (c_identifier n)
   of_literal : {v : ℕ} → OfClass quotes (literal v)
   of_number : {ds : List ℕ} → OfClass digits (number ds)
-  of_act : {t : List ℕ} → OfClass braces (act t)
+  of_braced : {t : List ℕ} → OfClass braces (braced t)
   of_code : OfClass percents code
   of_word : {s : Sign} → is_word s ≡ true → OfClass percents (fixed s)
   of_sign : {s : Sign} → is_word s ≡ false → OfClass signs (fixed s)
 
 of_class : (l : Lexeme) → OfClass (lexeme_class l) l
 of_class (name n) = of_name
-of_class (head n) = of_head
+of_class (c_identifier n) = of_c_identifier
 of_class (literal v) = of_literal
 of_class (number ds) = of_number
-of_class (act t) = of_act
+of_class (braced t) = of_braced
 of_class code = of_code
 of_class (fixed s) = go (is_word s) refl
   where
@@ -99,9 +100,9 @@ short_sign sign.Prec h = cc
 
 made : (bytes : List ℕ) (p : Part) (t r : List ℕ) → bytes ≡ t ++ r → IsPart p t
     → ((l : Lexeme) (longer after : List ℕ) → bytes ≡ longer ++ after →
-        lexeme_class l ≡ class_of p → Spells l longer → length longer ≤ length t)
+    lexeme_class l ≡ class_of p → Spells l longer → length longer ≤ length t)
     → ((word after : List ℕ) → bytes ≡ (37 ∷ word) ++ after → all_pass is_name_byte word ≡ true →
-        percents ≡ class_of p → length (37 ∷ word) ≤ length t)
+    percents ≡ class_of p → length (37 ∷ word) ≤ length t)
     → PartAt bytes p r
 made bytes p t r e h f g = record {
   text = t;
@@ -112,7 +113,7 @@ made bytes p t r e h f g = record {
   longest_word = λ longer after w k.
       let z : bytes ≡ (37 ∷ k.word) ++ after = w ∙ ap (λ y. y ++ after) k.whole in
       subst (λ y. length y ≤ length t) (sym k.whole)
-          (g k.word after z k.each (class_at p t r 37 (k.word ++ after) (sym e ∙ z) h));
+      (g k.word after z k.each (class_at p t r 37 (k.word ++ after) (sym e ∙ z) h));
 }
 
 pub blank_part : (b : ℕ) (rest : List ℕ) → is_blank b ≡ true → PartAt (b ∷ rest) blank rest
@@ -124,7 +125,7 @@ pub comment_part : (bytes more rest : List ℕ) → bytes ≡ 47 ∷ 42 ∷ more
 comment_part bytes more rest e h =
     let (t, w, c) = between_made 47 42 42 47 more rest h in
     made bytes comment t rest (e ∙ w) c (λ l longer after w c s. absurd (no_slash_lexeme l (sym c)))
-        (λ word after w k c. cc)
+    (λ word after w k c. cc)
 
 run_some : (p : ℕ → Bool) (bytes run rest : List ℕ) → bytes ≡ run ++ rest → begins p rest ≡ false →
     begins p bytes ≡ true → (0 < length run) × (begins p run ≡ true)
@@ -136,7 +137,7 @@ pub number_part : (bytes run rest : List ℕ) → bytes ≡ run ++ rest → all_
     rest
 number_part bytes run rest e each stop h =
     made bytes (lexeme (number run)) run rest e
-        (refl, record { some = (run_some is_digit bytes run rest e stop h).0; each = each })
+    (refl, record { some = (run_some is_digit bytes run rest e stop h).0; each = each })
     (λ l longer after w c s. go l longer after w (with_class l digits c) s) (λ word after w k c. cc)
   where
     go : (l : Lexeme) (longer after : List ℕ) → bytes ≡ longer ++ after → OfClass digits l →
@@ -158,20 +159,20 @@ record IsSign (b : ℕ) (s : Sign) : Type 0 where
 sign_is : (b : ℕ) (s : Sign) → sign_of b ≡ Some s → IsSign b s
 sign_is b s e =
     choose (eqb b 60) (Some sign.Less) (cond (eqb b 62) (Some sign.Greater)
-        (cond (eqb b 124) (Some sign.Bar) (cond (eqb b 59) (Some sign.Semicolon) None))) (Some s) e
+    (cond (eqb b 124) (Some sign.Bar) (cond (eqb b 59) (Some sign.Semicolon) None))) (Some s) e
     (λ t i. at 60 sign.Less (eqb-true b 60 t) (let z : sign.Less ≡ s = cc in z)
-        (record { spelled = refl; short = refl }))
+    (record { spelled = refl; short = refl }))
     (λ t i. choose (eqb b 62) (Some sign.Greater)
-        (cond (eqb b 124) (Some sign.Bar) (cond (eqb b 59) (Some sign.Semicolon) None)) (Some s) i
+    (cond (eqb b 124) (Some sign.Bar) (cond (eqb b 59) (Some sign.Semicolon) None)) (Some s) i
     (λ t i. at 62 sign.Greater (eqb-true b 62 t) (let z : sign.Greater ≡ s = cc in z)
-        (record { spelled = refl; short = refl }))
+    (record { spelled = refl; short = refl }))
     (λ t i. choose (eqb b 124) (Some sign.Bar) (cond (eqb b 59) (Some sign.Semicolon) None)
-        (Some s) i
+    (Some s) i
     (λ t i. at 124 sign.Bar (eqb-true b 124 t) (let z : sign.Bar ≡ s = cc in z)
-        (record { spelled = refl; short = refl }))
+    (record { spelled = refl; short = refl }))
     (λ t i. choose (eqb b 59) (Some sign.Semicolon) None (Some s) i
     (λ t i. at 59 sign.Semicolon (eqb-true b 59 t) (let z : sign.Semicolon ≡ s = cc in z)
-        (record { spelled = refl; short = refl }))
+    (record { spelled = refl; short = refl }))
     (λ t i. absurd (let z : ⊥ = cc in z)))))
   where
     at : (n : ℕ) (z : Sign) → b ≡ n → z ≡ s → IsSign n z → IsSign b s
@@ -182,9 +183,9 @@ pub sign_part : (b : ℕ) (s : Sign) (rest : List ℕ) → sign_of b ≡ Some s 
 sign_part b s rest e =
     let h = sign_is b s e in
     let c : cond (is_word s) percents signs ≡ signs = cond-false (is_word s) percents signs
-            h.short in
+    h.short in
     made (b ∷ rest) (lexeme (fixed s)) (b ∷ []) rest refl h.spelled (λ l longer after w k i.
-        go l longer (with_class l signs (k ∙ c)) i)
+    go l longer (with_class l signs (k ∙ c)) i)
     (λ word after w k d. let z : percents ≡ signs = d ∙ c in cc)
   where
     go : (l : Lexeme) (longer : List ℕ) → OfClass signs l → Spells l longer → length longer ≤ 1
@@ -197,7 +198,7 @@ pub literal_part : (bytes tail rest : List ℕ) (v : ℕ) → bytes ≡ 39 ∷ t
 literal_part bytes tail rest v e h =
     let (t, w, i) = literal_spelled tail rest v h in
     made bytes (lexeme (literal v)) t rest (e ∙ w) i (λ l longer after u c s. go t l longer after u
-        (e ∙ w) (with_class l quotes c) s) (λ word after w k c. cc)
+    (e ∙ w) (with_class l quotes c) s) (λ word after w k c. cc)
   where
     go : (t : List ℕ) (l : Lexeme) (longer after : List ℕ) → bytes ≡ longer ++ after →
         bytes ≡ t ++ rest → OfClass quotes l → Spells l longer → length longer ≤ length t
@@ -206,30 +207,31 @@ literal_part bytes tail rest v e h =
         let z : found x after ≡ found v rest = sym f ∙ h in
         let y : after ≡ rest = cc in
         let same : longer ≡ t = append_cancel_right longer t rest
-                (ap (λ q. longer ++ q) (sym y) ∙ sym u ∙ w) in
+        (ap (λ q. longer ++ q) (sym y) ∙ sym u ∙ w) in
         omega (arith, ap length same)
 
-pub act_part : (bytes tail rest : List ℕ) → bytes ≡ 123 ∷ tail → closes Outside 0 tail ≡ Some rest →
-    PartAt bytes (lexeme (act (take (length bytes - length rest) bytes))) rest
-act_part bytes tail rest e h =
-    let (t, w, i) = act_spelled tail rest h in
+pub braced_part : (bytes tail rest : List ℕ) → bytes ≡ 123 ∷ tail → closes Outside 0 tail ≡ Some
+    rest →
+    PartAt bytes (lexeme (braced (take (length bytes - length rest) bytes))) rest
+braced_part bytes tail rest e h =
+    let (t, w, i) = braced_spelled tail rest h in
     let whole : bytes ≡ t ++ rest = e ∙ w in
     let long : length bytes ≡ length t + length rest = ap length whole ∙ length-append t rest in
     let n : length t ≡ length bytes - length rest = omega (arith, long) in
     let front : take (length bytes - length rest) bytes ≡ t = ap (take (length bytes - length rest))
-            whole ∙ take_at t rest (length bytes - length rest) n in
-    subst (λ z. PartAt bytes (lexeme (act z)) rest) (sym front)
-    (made bytes (lexeme (act t)) t rest whole (refl, i) (λ l longer after u c s.
-        go t l longer after u whole (with_class l braces c) s) (λ word after w k c. cc))
+    whole ∙ take_at t rest (length bytes - length rest) n in
+    subst (λ z. PartAt bytes (lexeme (braced z)) rest) (sym front)
+    (made bytes (lexeme (braced t)) t rest whole (refl, i) (λ l longer after u c s.
+    go t l longer after u whole (with_class l braces c) s) (λ word after w k c. cc))
   where
     go : (t : List ℕ) (l : Lexeme) (longer after : List ℕ) → bytes ≡ longer ++ after →
         bytes ≡ t ++ rest → OfClass braces l → Spells l longer → length longer ≤ length t
-    go t _ longer after u w (of_act {t = x}) (f, s) =
-        let k = act_found x tail after s (sym e ∙ u ∙ ap (λ q. q ++ after) f) in
+    go t _ longer after u w (of_braced {t = x}) (f, s) =
+        let k = braced_found x tail after s (sym e ∙ u ∙ ap (λ q. q ++ after) f) in
         let z : Some after ≡ Some rest = sym k ∙ h in
         let y : after ≡ rest = cc in
         let same : longer ≡ t = append_cancel_right longer t rest
-                (ap (λ q. longer ++ q) (sym y) ∙ sym u ∙ w) in
+        (ap (λ q. longer ++ q) (sym y) ∙ sym u ∙ w) in
         omega (arith, ap length same)
 
 -- ---- percent signs
@@ -247,7 +249,7 @@ word_next s longer after more b h i e other = go (word_shape s h)
     go (inr (c ∷ v, f, each, first, back)) =
         let w : 37 ∷ (c ∷ v ++ after) ≡ 37 ∷ b ∷ more = sym (ap (λ z. z ++ after) (i ∙ f)) ∙ e in
         let y : c ≡ b = heads_are c b (v ++ after) more
-                (tails_are 37 37 (c ∷ v ++ after) (b ∷ more) w) in
+        (tails_are 37 37 (c ∷ v ++ after) (b ∷ more) w) in
         let z : true ≡ false = sym first ∙ ap is_name_byte y ∙ other in cc
 
 -- a percent word before a byte that is no name byte
@@ -256,7 +258,7 @@ word_short : (word after more : List ℕ) (b : ℕ) → (37 ∷ word) ++ after �
 word_short [] after more b e each other = omega arith
 word_short (c ∷ word) after more b e each other =
     let y : c ≡ b = heads_are c b (word ++ after) more (tails_are 37 37 (c ∷ word ++ after)
-            (b ∷ more) e) in
+    (b ∷ more) e) in
     let f = (and_parts (is_name_byte c) (all_pass is_name_byte word) each).0 in
     let z : true ≡ false = sym f ∙ ap is_name_byte y ∙ other in absurd (let q : ⊥ = cc in q)
 
@@ -267,9 +269,9 @@ code_part bytes more rest e h =
     let (u, x) = between_begins 37 123 37 125 t c in
     let long : length t ≡ suc (suc (length u)) = ap length x in
     made bytes (lexeme code) t rest (e ∙ w) c (λ l longer after u k s. go t c l longer after u
-        (e ∙ w) (with_class l percents k) s)
+    (e ∙ w) (with_class l percents k) s)
     (λ word after w k d. let z = word_short word after more 123 (sym w ∙ e) k refl in
-        omega (arith, z, long))
+    omega (arith, z, long))
   where
     go : (t : List ℕ) → IsBetween 37 123 37 125 t → (l : Lexeme) (longer after : List ℕ) →
         bytes ≡ longer ++ after → bytes ≡ t ++ rest → OfClass percents l → Spells l longer →
@@ -279,26 +281,26 @@ code_part bytes more rest e h =
     go t c _ longer after u w (of_word {s = z} k) s =
         let m = word_next z longer after more 123 k s (sym u ∙ e) refl in
         let f : 37 ∷ 37 ∷ after ≡ 37 ∷ 123 ∷ more = sym (ap (λ y. y ++ after) (s ∙ ap spelling m)) ∙
-                sym u ∙ e in
+        sym u ∙ e in
         absurd (eqb-false 37 123 refl
-            (heads_are 37 123 after more (tails_are 37 37 (37 ∷ after) (123 ∷ more) f)))
+        (heads_are 37 123 after more (tails_are 37 37 (37 ∷ after) (123 ∷ more) f)))
 
 pub mark_part : (bytes rest : List ℕ) → bytes ≡ 37 ∷ 37 ∷ rest →
     PartAt bytes (lexeme (fixed sign.Mark)) rest
 mark_part bytes rest e =
     made bytes (lexeme (fixed sign.Mark)) (37 ∷ 37 ∷ []) rest e refl (λ l longer after u k s.
-        go l longer after u (with_class l percents k) s)
+    go l longer after u (with_class l percents k) s)
     (λ word after w k d. let z = word_short word after rest 37 (sym w ∙ e) k refl in
-        omega (arith, z))
+    omega (arith, z))
   where
     go : (l : Lexeme) (longer after : List ℕ) → bytes ≡ longer ++ after → OfClass percents l →
         Spells l longer → length longer ≤ 2
     go _ longer after u of_code s =
         let (more, x) = between_begins 37 123 37 125 longer s in
         let f : 37 ∷ 123 ∷ (more ++ after) ≡ 37 ∷ 37 ∷ rest = sym (ap (λ y. y ++ after) x) ∙ sym u ∙
-                e in
+        e in
         absurd (eqb-false 123 37 refl (heads_are 123 37 (more ++ after) rest
-            (tails_are 37 37 (123 ∷ (more ++ after)) (37 ∷ rest) f)))
+        (tails_are 37 37 (123 ∷ (more ++ after)) (37 ∷ rest) f)))
     go _ longer after u (of_word {s = z} k) s =
         let m = word_next z longer after rest 37 k s (sym u ∙ e) refl in
         let l : length longer ≡ 2 = ap length (s ∙ ap spelling m) in
@@ -318,15 +320,15 @@ word_is w s e =
     step sign.Start _ refl (record { spelled = refl; long = refl }) e (λ e.
     step sign.Union _ refl (record { spelled = refl; long = refl }) e (λ e.
     step sign.Prec _ refl (record { spelled = refl; long = refl }) e
-        (λ e. absurd (let z : ⊥ = cc in z)))))))))
+    (λ e. absurd (let z : ⊥ = cc in z)))))))))
   where
     step : (z : Sign) (v : List ℕ) → 37 ∷ v ≡ spelling z → IsWord v z → {next : Option Sign} →
         cond (bytes_eq w v) (Some z) next ≡ Some s → (next ≡ Some s → IsWord w s) → IsWord w s
     step z v i h {next} e f =
         choose (bytes_eq w v) (Some z) next (Some s) e
         (λ t j. let y : z ≡ s = cc in
-            subst (λ q. IsWord w q) y (subst (λ q. IsWord q z) (sym ((bytes_eq-Decides w v).0 t))
-            h))
+        subst (λ q. IsWord w q) y (subst (λ q. IsWord q z) (sym ((bytes_eq-Decides w v).0 t))
+        h))
         (λ t j. f j)
 
 -- neither the mark nor a code block begins here
@@ -346,11 +348,11 @@ pub word_part : (bytes w rest : List ℕ) (s : Sign) → IsPlainPercent bytes �
 word_part bytes w rest s n e each stop h =
     let i = word_is w s h in
     let c : cond (is_word s) percents signs ≡ percents = cond-true (is_word s) percents signs
-            i.long in
+    i.long in
     made bytes (lexeme (fixed s)) (37 ∷ w) rest e i.spelled (λ l longer after u k t.
-        go l longer after u (with_class l percents (k ∙ c)) t)
+    go l longer after u (with_class l percents (k ∙ c)) t)
     (λ word after u k d. let z = run_le is_name_byte w word rest after stop k
-        (tails_are 37 37 (w ++ rest) (word ++ after) (sym e ∙ u)) in omega (arith, z))
+    (tails_are 37 37 (w ++ rest) (word ++ after) (sym e ∙ u)) in omega (arith, z))
   where
     long : (z : Sign) (longer after : List ℕ) → bytes ≡ longer ++ after → longer ≡ spelling z →
         (z ≡ sign.Mark) ⊎ ((v : List ℕ) × (spelling z ≡ 37 ∷ v) × (all_pass is_name_byte v ≡ true) ×
@@ -360,7 +362,7 @@ word_part bytes w rest s n e each stop h =
     long z longer after u i (inr (v, f, g, first, back)) =
         let x : bytes ≡ 37 ∷ (v ++ after) = u ∙ ap (λ y. y ++ after) (i ∙ f) in
         let l = run_le is_name_byte w v rest after stop g (tails_are 37 37 (w ++ rest) (v ++ after)
-                (sym e ∙ x)) in
+        (sym e ∙ x)) in
         let k : length longer ≡ suc (length v) = ap length (i ∙ f) in
         omega (arith, l, k)
 
@@ -375,8 +377,10 @@ fault : (bytes : List ℕ) (b : ℕ) (tail : List ℕ) (f : Fault) → bytes ≡
     ((p : Part) (r : List ℕ) → class b ≡ class_of p → PartAt bytes p r → ⊥) → IsLexical bytes f →
     FaultAt bytes f
 fault bytes b tail f e n w =
-    record { none = λ p r h. n p r (class_at p h.text r b tail (sym h.whole ∙ e) h.spelled) h;
-    what = w }
+    record {
+      none = λ p r h. n p r (class_at p h.text r b tail (sym h.whole ∙ e) h.spelled) h;
+      what = w;
+    }
 
 -- a part whose first byte is a slash is a comment
 slash_part : (bytes : List ℕ) (p : Part) (r : List ℕ) → slashes ≡ class_of p → PartAt bytes p r →
@@ -390,7 +394,7 @@ pub comment_open : (bytes more : List ℕ) → bytes ≡ 47 ∷ 42 ∷ more → 
 comment_open bytes more e h =
     fault bytes 47 (42 ∷ more) unfinished e
     (λ p r c a. let (t, w, i) = slash_part bytes p r c a in let z : None ≡ Some r =
-        sym h ∙ between_after 47 42 42 47 t r more i (sym w ∙ e) in cc)
+    sym h ∙ between_after 47 42 42 47 t r more i (sym w ∙ e) in cc)
     (inl (open_comment e))
 
 not_opens : (bytes tail : List ℕ) (b : ℕ) → bytes ≡ b ∷ tail → eqb b 123 ≡ false →
@@ -398,7 +402,7 @@ not_opens : (bytes tail : List ℕ) (b : ℕ) → bytes ≡ b ∷ tail → eqb b
     ((after : List ℕ) → bytes ≡ 37 ∷ 123 ∷ after → ⊥) → Opens bytes → ⊥
 not_opens bytes tail b e n f g (open_comment {after = a} w) = f a w
 not_opens bytes tail b e n f g (open_code {after = a} w) = g a w
-not_opens bytes tail b e n f g (open_act {after = a} w) = eqb-false b 123 n
+not_opens bytes tail b e n f g (open_braced {after = a} w) = eqb-false b 123 n
     (heads_are b 123 tail a (sym e ∙ w))
 
 not_quotes : (bytes tail : List ℕ) (b : ℕ) → bytes ≡ b ∷ tail → eqb b 39 ≡ false → Quotes bytes → ⊥
@@ -413,10 +417,12 @@ pub slash_foreign : (bytes tail : List ℕ) → bytes ≡ 47 ∷ tail →
 slash_foreign bytes tail e n =
     fault bytes 47 tail foreign e
     (λ p r c a. let (t, w, i) = slash_part bytes p r c a in
-        let (more, x) = between_begins 47 42 42 47 t i in n (more ++ r) (w ∙ ap (λ z. z ++ r) x))
-    (some_bytes bytes tail 47 e, not_opens bytes tail 47 e refl n
-        (λ after w. eqb-false 47 37 refl (heads_are 47 37 tail (123 ∷ after) (sym e ∙ w))),
-        not_quotes bytes tail 47 e refl)
+    let (more, x) = between_begins 47 42 42 47 t i in n (more ++ r) (w ∙ ap (λ z. z ++ r) x)) (
+      some_bytes bytes tail 47 e,
+      not_opens bytes tail 47 e refl n
+          (λ after w. eqb-false 47 37 refl (heads_are 47 37 tail (123 ∷ after) (sym e ∙ w))),
+      not_quotes bytes tail 47 e refl,
+    )
 
 -- a part of another class is a lexeme
 lexeme_part : (bytes : List ℕ) (p : Part) (r : List ℕ) (c : Class) → c ≢ blanks → c ≢ slashes →
@@ -425,8 +431,14 @@ lexeme_part : (bytes : List ℕ) (p : Part) (r : List ℕ) (c : Class) → c ≢
     IsPercentWord longer → length longer ≤ length t)
 lexeme_part bytes blank r c n m e h = absurd (n e)
 lexeme_part bytes comment r c n m e h = absurd (m e)
-lexeme_part bytes (lexeme l) r c n m e h = (l, h.text, h.whole, with_class l c (sym e), h.spelled,
-    h.longest_word)
+lexeme_part bytes (lexeme l) r c n m e h = (
+  l,
+  h.text,
+  h.whole,
+  with_class l c (sym e),
+  h.spelled,
+  h.longest_word,
+)
 
 no_literal : (bytes tail : List ℕ) → bytes ≡ 39 ∷ tail →
     ((t r : List ℕ) (v : ℕ) → bytes ≡ t ++ r → Spells (literal v) t → ⊥) → (p : Part) (r : List ℕ) →
@@ -443,32 +455,34 @@ pub literal_stuck : (bytes tail : List ℕ) → bytes ≡ 39 ∷ tail → scan O
 literal_stuck bytes tail e h =
     fault bytes 39 tail bad_literal e
     (no_literal bytes tail e (λ t r v w s. let z : stuck ≡ found v r = sym h ∙ literal_found t tail
-        r v s (sym e ∙ w) in cc))
-    ((tail, e), λ (v, more, s). stuck_begins_none tail more (bytes ++ more) [] v h
-        (ap (λ z. z ++ more) (sym e) ∙ sym (append-nil (bytes ++ more))) s)
+    r v s (sym e ∙ w) in cc)) (
+      (tail, e),
+      λ (v, more, s). stuck_begins_none tail more (bytes ++ more) [] v h
+          (ap (λ z. z ++ more) (sym e) ∙ sym (append-nil (bytes ++ more))) s,
+    )
 
 pub literal_short : (bytes tail : List ℕ) → bytes ≡ 39 ∷ tail → scan Opened tail ≡ short →
     FaultAt bytes unfinished
 literal_short bytes tail e h =
     fault bytes 39 tail unfinished e
     (no_literal bytes tail e (λ t r v w s. let z : short ≡ found v r = sym h ∙ literal_found t tail
-        r v s (sym e ∙ w) in cc))
+    r v s (sym e ∙ w) in cc))
     (inr ((tail, e), begins))
   where
     begins : BeginsLiteral bytes
     begins = let (v, more, s) = short_begins tail h in
         (v, more, subst (λ z. Spells (literal v) (z ++ more)) (sym e) s)
 
-pub act_open : (bytes tail : List ℕ) → bytes ≡ 123 ∷ tail → closes Outside 0 tail ≡ None →
+pub braced_open : (bytes tail : List ℕ) → bytes ≡ 123 ∷ tail → closes Outside 0 tail ≡ None →
     FaultAt bytes unfinished
-act_open bytes tail e h =
+braced_open bytes tail e h =
     fault bytes 123 tail unfinished e
     (λ p r c a. let (l, t, w, k, s, m) = lexeme_part bytes p r braces (λ z. cc) (λ z. cc) c a in
-        go r l t w k s)
-    (inl (open_act e))
+    go r l t w k s)
+    (inl (open_braced e))
   where
     go : (r : List ℕ) (l : Lexeme) (t : List ℕ) → bytes ≡ t ++ r → OfClass braces l → Spells l t → ⊥
-    go r _ t w (of_act {t = x}) (f, s) = let z : None ≡ Some r = sym h ∙ act_found x tail r s
+    go r _ t w (of_braced {t = x}) (f, s) = let z : None ≡ Some r = sym h ∙ braced_found x tail r s
         (sym e ∙ w ∙ ap (λ q. q ++ r) f) in cc
 
 pub code_open : (bytes more : List ℕ) → bytes ≡ 37 ∷ 123 ∷ more → pair_after 37 125 more ≡ None →
@@ -476,7 +490,7 @@ pub code_open : (bytes more : List ℕ) → bytes ≡ 37 ∷ 123 ∷ more → pa
 code_open bytes more e h =
     fault bytes 37 (123 ∷ more) unfinished e
     (λ p r c a. let (l, t, w, k, s, m) = lexeme_part bytes p r percents (λ z. cc) (λ z. cc) c a in
-        go r l t w k s)
+    go r l t w k s)
     (inl (open_code e))
   where
     go : (r : List ℕ) (l : Lexeme) (t : List ℕ) → bytes ≡ t ++ r → OfClass percents l → Spells l t →
@@ -486,7 +500,7 @@ code_open bytes more e h =
     go r _ t w (of_word {s = z} k) s =
         let m = word_next z t r more 123 k s (sym w ∙ e) refl in
         let f : 37 ∷ 37 ∷ r ≡ 37 ∷ 123 ∷ more = sym (ap (λ y. y ++ r) (s ∙ ap spelling m)) ∙ sym w ∙
-                e in
+        e in
         eqb-false 37 123 refl (heads_are 37 123 r more (tails_are 37 37 (37 ∷ r) (123 ∷ more) f))
 
 pub word_foreign : (bytes w rest : List ℕ) → IsPlainPercent bytes → bytes ≡ 37 ∷ (w ++ rest) →
@@ -495,17 +509,20 @@ pub word_foreign : (bytes w rest : List ℕ) → IsPlainPercent bytes → bytes 
 word_foreign bytes w rest n e each stop h =
     fault bytes 37 (w ++ rest) foreign e
     (λ p r c a. let (l, t, x, k, s, m) = lexeme_part bytes p r percents (λ z. cc) (λ z. cc) c a in
-        go r l t x k s m)
-    (some_bytes bytes (w ++ rest) 37 e, not_opens bytes (w ++ rest) 37 e refl
-        (λ after x. eqb-false 37 47 refl (heads_are 37 47 (w ++ rest) (42 ∷ after) (sym e ∙ x)))
-        n.no_code, not_quotes bytes (w ++ rest) 37 e refl)
+    go r l t x k s m) (
+      some_bytes bytes (w ++ rest) 37 e,
+      not_opens bytes (w ++ rest) 37 e refl
+          (λ after x. eqb-false 37 47 refl (heads_are 37 47 (w ++ rest) (42 ∷ after) (sym e ∙ x)))
+          n.no_code,
+      not_quotes bytes (w ++ rest) 37 e refl,
+    )
   where
     known : (r : List ℕ) (z : Sign) (t : List ℕ) → bytes ≡ t ++ r → t ≡ spelling z →
         ((longer after : List ℕ) → bytes ≡ longer ++ after → IsPercentWord longer →
         length longer ≤ length t)
         → (z ≡ sign.Mark) ⊎ ((v : List ℕ) × (spelling z ≡ 37 ∷ v) ×
-            (all_pass is_name_byte v ≡ true) × (begins is_name_byte v ≡ true) ×
-            (word_of v ≡ Some z)) → ⊥
+        (all_pass is_name_byte v ≡ true) × (begins is_name_byte v ≡ true) ×
+        (word_of v ≡ Some z)) → ⊥
     known r z t x i m (inl q) = n.no_mark r (x ∙ ap (λ y. y ++ r) (i ∙ ap spelling q))
     known r z t x i m (inr (v, f, g, first, back)) =
         let y : bytes ≡ 37 ∷ (v ++ r) = x ∙ ap (λ y. y ++ r) (i ∙ f) in
@@ -529,7 +546,7 @@ pub byte_foreign : (b : ℕ) (tail : List ℕ) → class b ≡ others → FaultA
 byte_foreign b tail c =
     fault (b ∷ tail) b tail foreign refl
     (λ p r k a. let (l, t, x, o, s, m) = lexeme_part (b ∷ tail) p r others (λ z. cc) (λ z. cc)
-        (sym c ∙ k) a in no_other l o)
+    (sym c ∙ k) a in no_other l o)
     (omega arith, opens, quotes_not)
   where
     opens : Opens (b ∷ tail) → ⊥
@@ -537,7 +554,7 @@ byte_foreign b tail c =
         (heads_are b 47 tail (42 ∷ a) w) in cc
     opens (open_code {after = a} w) = let z : others ≡ percents = sym c ∙ ap class
         (heads_are b 37 tail (123 ∷ a) w) in cc
-    opens (open_act {after = a} w) = let z : others ≡ braces = sym c ∙ ap class
+    opens (open_braced {after = a} w) = let z : others ≡ braces = sym c ∙ ap class
         (heads_are b 123 tail a w) in cc
 
     quotes_not : Quotes (b ∷ tail) → ⊥
@@ -564,19 +581,19 @@ run_named bytes [] rest h = absurd (none bytes h.whole h.start)
 run_named bytes (b ∷ run) rest h =
     record { start = sym (ap (begins is_name_start) h.whole) ∙ h.start; each = h.each }
 
--- a head there has the run as its name, and the gap that was skipped
-head_there : (bytes run rest end m longer after : List ℕ) → IsRun bytes run rest →
-    SkipsGap rest end → bytes ≡ longer ++ after → IsHead m longer → (end ≡ 58 ∷ after)
-head_there bytes run rest end m longer after h g e k =
+-- a c_identifier there has the run as its name, and the gap that was skipped
+c_identifier_there : (bytes run rest end m longer after : List ℕ) → IsRun bytes run rest →
+    SkipsGap rest end → bytes ≡ longer ++ after → IsCIdentifier m longer → (end ≡ 58 ∷ after)
+c_identifier_there bytes run rest end m longer after h g e k =
     let whole : bytes ≡ m ++ (k.gap ++ 58 ∷ after) = e ∙ ap (λ z. z ++ after) k.whole ∙ append_assoc
-            (m ++ k.gap) (58 ∷ []) after ∙ append_assoc m k.gap (58 ∷ after) in
+    (m ++ k.gap) (58 ∷ []) after ∙ append_assoc m k.gap (58 ∷ after) in
     let both : run ++ rest ≡ m ++ (k.gap ++ 58 ∷ after) = sym h.whole ∙ whole in
     let same : run ≡ m = run_one is_name_byte run m rest (k.gap ++ 58 ∷ after) h.each k.named.each
-            h.stop (gap_first k.gap after k.skipped) both in
+    h.stop (gap_first k.gap after k.skipped) both in
     let tail : rest ≡ k.gap ++ 58 ∷ after = append_cancel run m rest (k.gap ++ 58 ∷ after) same
-            both in
+    both in
     (gap_one g.gap k.gap end after g.skipped k.skipped g.no_blank g.no_comment
-        (sym g.whole ∙ tail)).1
+    (sym g.whole ∙ tail)).1
   where
     append_cancel : (a b x y : List ℕ) → a ≡ b → a ++ x ≡ b ++ y → x ≡ y
     append_cancel a b x y e f = (same_text a b x y (ap length e) f).1
@@ -586,46 +603,52 @@ pub name_part : (bytes run rest end : List ℕ) → IsRun bytes run rest → Ski
 name_part bytes run rest end h g n =
     made bytes (lexeme (name run)) run rest h.whole (refl, run_named bytes run rest h)
     (λ l longer after w c s. go l longer after w (with_class l letters c) s) (λ word after w k c.
-        cc)
+    cc)
   where
     go : (l : Lexeme) (longer after : List ℕ) → bytes ≡ longer ++ after → OfClass letters l →
         Spells l longer → length longer ≤ length run
     go _ longer after w (of_name {n = m}) (f, k) = run_le is_name_byte run longer rest after h.stop
         (ap (all_pass is_name_byte) f ∙ k.each) (sym h.whole ∙ w)
-    go _ longer after w (of_head {n = m}) k =
-        absurd (n after (head_there bytes run rest end m longer after h g w k))
+    go _ longer after w (of_c_identifier {n = m}) k =
+        absurd (n after (c_identifier_there bytes run rest end m longer after h g w k))
 
-pub head_part : (bytes run rest end tail : List ℕ) → IsRun bytes run rest → SkipsGap rest end →
-    end ≡ 58 ∷ tail → PartAt bytes (lexeme (head run)) tail
-head_part bytes run rest end tail h g e =
+pub c_identifier_part : (bytes run rest end tail : List ℕ) → IsRun bytes run rest →
+    SkipsGap rest end →
+    end ≡ 58 ∷ tail → PartAt bytes (lexeme (c_identifier run)) tail
+c_identifier_part bytes run rest end tail h g e =
     let text = run ++ g.gap ++ 58 ∷ [] in
     let whole : bytes ≡ text ++ tail = h.whole ∙ ap (λ z. run ++ z)
-            (g.whole ∙ ap (λ z. g.gap ++ z) e) ∙ sym
-            (append_assoc (run ++ g.gap) (58 ∷ []) tail ∙ append_assoc run g.gap (58 ∷ tail)) in
-    made bytes (lexeme (head run)) text tail whole
-        (record { gap = g.gap; whole = refl; named = run_named bytes run rest h; skipped =
-        g.skipped })
+    (g.whole ∙ ap (λ z. g.gap ++ z) e) ∙ sym
+    (append_assoc (run ++ g.gap) (58 ∷ []) tail ∙ append_assoc run g.gap (58 ∷ tail)) in
+    made bytes (lexeme (c_identifier run)) text tail whole
+    (record {
+      gap = g.gap;
+      whole = refl;
+      named = run_named bytes run rest h;
+      skipped =
+          g.skipped;
+    })
     (λ l longer after w c s. go text whole l longer after w (with_class l letters c) s)
-        (λ word after w k c. cc)
+    (λ word after w k c. cc)
   where
     go : (text : List ℕ) → bytes ≡ text ++ tail → (l : Lexeme) (longer after : List ℕ) →
         bytes ≡ longer ++ after → OfClass letters l → Spells l longer → length longer ≤ length text
     go text whole _ longer after w (of_name {n = m}) (f, k) =
         let a = run_le is_name_byte run longer rest after h.stop
-                (ap (all_pass is_name_byte) f ∙ k.each) (sym h.whole ∙ w) in
+        (ap (all_pass is_name_byte) f ∙ k.each) (sym h.whole ∙ w) in
         let b : length bytes ≡ length run + length rest = ap length h.whole ∙ length-append run
-                rest in
+        rest in
         let c : length rest ≡ length g.gap + length end = ap length g.whole ∙ length-append g.gap
-                end in
+        end in
         let d : length end ≡ suc (length tail) = ap length e in
         let f : length bytes ≡ length text + length tail = ap length whole ∙ length-append text
-                tail in
+        tail in
         omega (arith, a, b, c, d, f)
-    go text whole _ longer after w (of_head {n = m}) k =
-        let x : end ≡ 58 ∷ after = head_there bytes run rest end m longer after h g w k in
+    go text whole _ longer after w (of_c_identifier {n = m}) k =
+        let x : end ≡ 58 ∷ after = c_identifier_there bytes run rest end m longer after h g w k in
         let y : after ≡ tail = tails_are 58 58 after tail (sym x ∙ e) in
         let same : longer ≡ text = append_cancel_right longer text tail
-                (ap (λ z. longer ++ z) (sym y) ∙ sym w ∙ whole) in
+        (ap (λ z. longer ++ z) (sym y) ∙ sym w ∙ whole) in
         omega (arith, ap length same)
 
 -- ---- bytes that are lexemes by themselves
@@ -633,10 +656,10 @@ head_part bytes run rest end tail h g e =
 sign_none : (b : ℕ) → sign_of b ≡ None → is_sign b ≡ false
 sign_none b e =
     choose (eqb b 60) (Some sign.Less) (cond (eqb b 62) (Some sign.Greater)
-        (cond (eqb b 124) (Some sign.Bar) (cond (eqb b 59) (Some sign.Semicolon) None))) None e
+    (cond (eqb b 124) (Some sign.Bar) (cond (eqb b 59) (Some sign.Semicolon) None))) None e
     (λ t i. absurd (let z : ⊥ = cc in z))
     (λ t i. choose (eqb b 62) (Some sign.Greater)
-        (cond (eqb b 124) (Some sign.Bar) (cond (eqb b 59) (Some sign.Semicolon) None)) None i
+    (cond (eqb b 124) (Some sign.Bar) (cond (eqb b 59) (Some sign.Semicolon) None)) None i
     (λ u j. absurd (let z : ⊥ = cc in z))
     (λ u j. choose (eqb b 124) (Some sign.Bar) (cond (eqb b 59) (Some sign.Semicolon) None) None j
     (λ v k. absurd (let z : ⊥ = cc in z))
@@ -654,10 +677,10 @@ lone_class b h s =
     let q = or_parts (is_blank b || is_digit b) (eqb b 47) p.0 in
     let r = or_parts (is_blank b) (is_digit b) q.0 in
     cond-false _ blanks _ r.0 ∙ cond-false _ digits _ r.1 ∙ cond-false _ slashes _ q.1 ∙ cond-false
-        _ letters _ p.1
+    _ letters _ p.1
     ∙ cond-false _ quotes _ (not-true (eqb b 39) d.1) ∙ cond-false _ percents _
-        (not-true (eqb b 37) c.1) ∙ cond-false _ braces _ (not-true (eqb b 123) a.1) ∙ cond-false _
-        signs others s
+    (not-true (eqb b 37) c.1) ∙ cond-false _ braces _ (not-true (eqb b 123) a.1) ∙ cond-false _
+    signs others s
 
 pub other_foreign : (bytes : List ℕ) → begins is_lone bytes ≡ true → sign_of (get_or bytes 0 0) ≡
     None → FaultAt bytes foreign

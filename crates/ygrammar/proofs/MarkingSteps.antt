@@ -86,8 +86,12 @@ grows_new m o s l h = record {
   list = λ w. record {
     marked = λ k i. in_order m o s k l w
         (last_or k (length o) (omega (arith, length-append o (s ∷ []))));
-    few = let f = w.few in omega (arith, length-append o (s ∷ []), unmarked_set m s l h,
-        length-set m s true);
+    few = let f = w.few in omega (
+      arith,
+      length-append o (s ∷ []),
+      unmarked_set m s l h,
+      length-set m s true,
+    );
   };
 }
 

@@ -4,13 +4,19 @@ use Rattle.std.proofs.Common.{length, Option, refl, sym, ◌∙◌, ap, subst, g
 use Rattle.std.proofs.lemmas.List.{length-map}
 use Rattle.std.proofs.lemmas.List.Elements.{All-get_or}
 use Rattle.ygrammar.specs.declared.elaboration.Named.{Named}
+use Rattle.ygrammar.specs.declared.outline.Outline.{Outline}
+use Rattle.ygrammar.specs.declared.tree.Clause.{Clause as CodeClause}
+use Rattle.ygrammar.specs.declared.tree.Tree.{Tree as CodeTree}
+use Rattle.ygrammar.specs.Outline.{Outlines, start_view}
+use Rattle.ygrammar.specs.TreeViews.{clause_view, name_view, tree_view}
+use Rattle.ygrammar.proofs.NameSteps.{length_texts}
 use Rattle.ygrammar.specs.declared.mistake.Mistake.TheVariants.{BadStart, Undefined, Unproductive}
 use Rattle.ygrammar.specs.declared.mistake.Refused.{Refused}
 use Rattle.ygrammar.specs.declared.mistake.Refused.TheVariants as refused
 use Rattle.ygrammar.specs.declared.precedence.Precedence.{Precedence}
-use Rattle.ygrammar.specs.Elaborated.{Fruitful, IsReady}
+use Rattle.ygrammar.specs.Elaborated.{AreNamed, Fruitful, IsReady}
 use Rattle.ygrammar.specs.Elaboration.{HavePrecedences, Rule, bare_of, first_rule, lefts, numbered}
-use Rattle.ygrammar.specs.Elaboration.{own_number, precedence_of as precedence_of_name, rules}
+use Rattle.ygrammar.specs.Elaboration.{own_number, token_precedence, rules}
 use Rattle.ygrammar.specs.Elaboration.{rules_from, starts, symbols, token_precedences, tokens}
 use Rattle.ygrammar.specs.Forms.{IsReachable, Productive}
 use Rattle.ygrammar.specs.Grammar.{ContextFree, Production, RuleValue, blank, precedence_of}
@@ -23,7 +29,7 @@ use Rattle.ygrammar.specs.NameTexts.{texts, value_of}
 use Rattle.ygrammar.specs.Numbered.{rule_numbers, rule_precedence}
 use Rattle.ygrammar.specs.Numbers.{AreNumbers}
 use Rattle.ygrammar.specs.Owned.{Refuses}
-use Rattle.ygrammar.specs.Spans.{rule_text}
+use Rattle.ygrammar.specs.Texts.{rule_text}
 use Rattle.ygrammar.specs.Tree.{Clause, Identifier, IsTree, Tree}
 use Rattle.ygrammar.specs.WellFormed.{IsWhole, StandOnce, WellFormed}
 use Rattle.ygrammar.proofs.LastTokens.{have_precedences}
@@ -54,8 +60,8 @@ bare_same t k n vs e f g =
     ap (λ j. bare_from j n (map production_of vs)) e
     ∙ ap (λ j. bare_from (length (tokens t)) j (map production_of vs)) f
     ∙ ap (λ (ps : List Production). bare_from (length (tokens t)) (length (symbols t)) ps)
-        (ap (λ (xs : List RuleValue). map production_of xs) g ∙ rules_bare (symbols t)
-        (token_precedences t) (rules t))
+    (ap (λ (xs : List RuleValue). map production_of xs) g ∙ rules_bare (symbols t)
+    (token_precedences t) (rules t))
 
 -- the symbols of every rule are in range
 pub are_in : (t : Tree) (k n : ℕ) (vs : List RuleValue) → IsTree t → (Holds t Undefined → ⊥) →
@@ -64,22 +70,30 @@ pub are_in : (t : Tree) (k n : ℕ) (vs : List RuleValue) → IsTree t → (Hold
 are_in t k n vs s u b e f g r h =
     let q : numbered_grammar k n vs ≡ bare_of t = bare_same t k n vs e f g in
     let l : r < length (bare_of t).rules = subst (λ (x : ContextFree). r < length x.rules) q
-            (subst (λ j. r < j) (sym (length-map vs production_of)) h) in
+    (subst (λ j. r < j) (sym (length-map vs production_of)) h) in
     let i = in_range t s u b r l in
     let w : RuleIn (length (symbols t)) (get_or (bare_of t).rules r blank) =
-            record { left = i.left; body = λ k m. All-get_or (λ s. s < length (symbols t))
-            (get_or (bare_of t).rules r blank).body k 0 m i.body } in
+    record {
+      left = i.left;
+      body = λ k m. All-get_or (λ s. s < length (symbols t))
+          (get_or (bare_of t).rules r blank).body k 0 m i.body;
+    } in
     subst (λ j. RuleIn j (rule_at vs r)) (sym f)
-        (subst (λ (x : ContextFree). RuleIn (length (symbols t)) (get_or x.rules r blank))
-        (sym q) w)
+    (subst (λ (x : ContextFree). RuleIn (length (symbols t)) (get_or x.rules r blank))
+    (sym q) w)
 
 -- what is found of a bare grammar is found of the tree
 pub unproductive : (t : Tree) (e : Refused) (g : ContextFree) → g ≡ bare_of t →
     Fruitful {A = Unit {0}} g (Err e) → Refuses t Unproductive e
-unproductive t (refused.Mistake what at) g q (w, (s, a, b, c)) =
-    (w, (s, subst (λ (x : ContextFree). x.tokens ≤ s) q a,
+unproductive t (refused.Mistake what at) g q (w, (s, a, b, c)) = (
+  w,
+  (
+    s,
+    subst (λ (x : ContextFree). x.tokens ≤ s) q a,
     subst (λ (x : ContextFree). s < x.symbols) q b,
-    λ p. c (subst (λ (x : ContextFree). Productive x s) (sym q) p)))
+    λ p. c (subst (λ (x : ContextFree). Productive x s) (sym q) p),
+  ),
+)
 unproductive t refused.Memory g q p = tt
 
 pub all_productive : (t : Tree) (g : ContextFree) → g ≡ bare_of t →
@@ -89,7 +103,7 @@ all_productive t g q h = subst (λ (x : ContextFree). (s : ℕ) → x.tokens ≤
     Productive x s) q h
 
 -- the rules by number are those of the tree
-pub rules_are : (t : Tree) (ns : List Name) (given : List (Option Precedence))
+rules_are : (t : Tree) (ns : List Name) (given : List (Option Precedence))
     (is : List Identifier) (ls : List Name) (cs : List Clause) (vs : List RuleValue) →
     ns ≡ symbols t → given ≡ token_precedences t → is ≡ starts t → ls ≡ lefts t → cs ≡ t.clauses →
     vs ≡ map (rule_numbers ns given) (first_rule is ls ∷ rules_from [] 1 cs) →
@@ -98,13 +112,31 @@ rules_are t ns given is ls cs vs a b c d e h =
     h
     ∙ ap (λ (x : List Name). map (rule_numbers x given) (first_rule is ls ∷ rules_from [] 1 cs)) a
     ∙ ap (λ (x : List (Option Precedence)). map (rule_numbers (symbols t) x)
-        (first_rule is ls ∷ rules_from [] 1 cs)) b
+    (first_rule is ls ∷ rules_from [] 1 cs)) b
     ∙ ap (λ (x : List Identifier). map (rule_numbers (symbols t) (token_precedences t))
-        (first_rule x ls ∷ rules_from [] 1 cs)) c
+    (first_rule x ls ∷ rules_from [] 1 cs)) c
     ∙ ap (λ (x : List Name). map (rule_numbers (symbols t) (token_precedences t))
-        (first_rule (starts t) x ∷ rules_from [] 1 cs)) d
+    (first_rule (starts t) x ∷ rules_from [] 1 cs)) d
     ∙ ap (λ (x : List Clause). map (rule_numbers (symbols t) (token_precedences t))
-        (first_rule (starts t) (lefts t) ∷ rules_from [] 1 x)) e
+    (first_rule (starts t) (lefts t) ∷ rules_from [] 1 x)) e
+
+-- the rules that are numbered are those of the tree
+pub numbered_rules : (tree : CodeTree) (n : Named) (o : Outline)
+    (given : List (Option Precedence)) (cs : List CodeClause) (vs : List RuleValue) →
+    AreNamed (tree_view tree) n → Outlines o (tree_view tree) → given ≡ n.given.items →
+    cs ≡ tree.clauses.items → vs ≡ map (rule_numbers (texts n.names) given)
+    (first_rule (map start_view o.starts.items) (map name_view o.lefts.items) ∷ rules_from [] 1
+    (map clause_view cs)) → vs ≡ map (rule_numbers (symbols (tree_view tree))
+    (token_precedences (tree_view tree))) (rules (tree_view tree))
+numbered_rules tree n o given cs vs a b g e h = rules_are (tree_view tree) (texts n.names) given
+    (map start_view o.starts.items) (map name_view o.lefts.items) (map clause_view cs) vs a.names
+    (g ∙ a.given) b.starts b.lefts (ap (λ (xs : List CodeClause). map clause_view xs) e) h
+
+-- as many names as symbols
+pub symbols_counted : (t : Tree) (n : Named) (count : ℕ) → AreNamed t n →
+    count ≡ length n.names.keys → count ≡ length (symbols t)
+symbols_counted t n count a e = e ∙ sym (length_texts n.names.keys) ∙ ap
+    (λ (x : List Name). length x) a.names
 
 -- the lists of a grammar have each number
 pub whole_of : (t : Tree) (n : Named) (vs : List RuleValue) (ts : List (Option (List ℕ)))
@@ -119,7 +151,7 @@ whole_of t n vs ts numbers marks r a b = record {
   numbers = a.each ∙ ap (λ (x : List (Option ℕ)). length x) r.named.own.numbers ∙ length-map
       (tokens t) (own_number t) ∙ sym r.named.tokens_first;
   token_precedences = ap (λ (x : List (Option Precedence)). length x) r.named.given ∙ length-map
-      (tokens t) (precedence_of_name t) ∙ sym r.named.tokens_first;
+      (tokens t) (token_precedence t) ∙ sym r.named.tokens_first;
   rule_precedences = length-map vs precedence_of ∙ sym (length-map vs production_of);
   texts = ap (λ (x : List (Option (List ℕ))). length x) r.texts ∙ length-map (rules t) rule_text ∙
       sym (length-map (rules t) (rule_numbers (symbols t) (token_precedences t))) ∙ ap
@@ -141,7 +173,7 @@ pub meaning_of : (t : Tree) (n : Named) (vs ws : List RuleValue) (ts : List (Opt
 meaning_of t n vs ws ts numbers marks k r a b e w h =
     let l : k ≡ length (symbols t) = e ∙ ap (λ (x : List Name). length x) r.named.names in
     let g : numbered_grammar n.tokens k ws ≡ bare_of t =
-            bare_same t n.tokens k ws r.named.tokens_first l (w ∙ r.numbered) in
+    bare_same t n.tokens k ws r.named.tokens_first l (w ∙ r.numbered) in
     record {
       sound = r.sound;
       bare = bare_same t n.tokens (length (texts n.names)) vs r.named.tokens_first

@@ -90,16 +90,20 @@ not_found o p xs e h x c = nowhere p xs x (sym e ∙ none_false o h) c
 pub token_typed : (t : Tree) (ns names : List Name) (o : Option ℕ) (k : ℕ) → ns ≡ tokens t →
     names ≡ types_of t → is_some o ≡ list_any (is_among ns) names → o ≡ Some k → Holds t TokenLeft
 token_typed t ns names o k e f h q =
-    let (n, c, p) = found o k (is_among ns) names h q in
-    (n, sym (token_among t n) ∙ subst (λ (x : List Name). is_among x n ≡ true) e p,
-        inr (subst (λ (x : List Name). Contains x n) f c))
+    let (n, c, p) = found o k (is_among ns) names h q in (
+      n,
+      sym (token_among t n) ∙ subst (λ (x : List Name). is_among x n ≡ true) e p,
+      inr (subst (λ (x : List Name). Contains x n) f c),
+    )
 
 pub token_left : (t : Tree) (ns names : List Name) (o : Option ℕ) (k : ℕ) → ns ≡ tokens t →
     names ≡ lefts t → is_some o ≡ list_any (is_among ns) names → o ≡ Some k → Holds t TokenLeft
 token_left t ns names o k e f h q =
-    let (n, c, p) = found o k (is_among ns) names h q in
-    (n, sym (token_among t n) ∙ subst (λ (x : List Name). is_among x n ≡ true) e p,
-        inl (subst (λ (x : List Name). Contains x n) f c))
+    let (n, c, p) = found o k (is_among ns) names h q in (
+      n,
+      sym (token_among t n) ∙ subst (λ (x : List Name). is_among x n ≡ true) e p,
+      inl (subst (λ (x : List Name). Contains x n) f c),
+    )
 
 pub no_token_left : (t : Tree) (ns ms ls : List Name) (o u : Option ℕ) → ns ≡ tokens t →
     ms ≡ types_of t → ls ≡ lefts t → is_some o ≡ list_any (is_among ns) ms → is_some u ≡ list_any
@@ -121,18 +125,22 @@ pub unknown_typed : (t : Tree) (ns names : List Name) (o : Option ℕ) (k : ℕ)
     names ≡ types_of t → is_some o ≡ list_any (λ n. not (is_among ns n)) names → o ≡ Some k →
     Holds t Undefined
 unknown_typed t ns names o k e f h q =
-    let (n, c, p) = found o k (λ n. not (is_among ns n)) names h q in
-    (n, subst (λ (x : List Name). is_among x n ≡ false) e (not_true (is_among ns n) p),
-        inr (subst (λ (x : List Name). Contains x n) f c))
+    let (n, c, p) = found o k (λ n. not (is_among ns n)) names h q in (
+      n,
+      subst (λ (x : List Name). is_among x n ≡ false) e (not_true (is_among ns n) p),
+      inr (subst (λ (x : List Name). Contains x n) f c),
+    )
 
 pub undefined_used : (t : Tree) (ns : List Name) (is : List Identifier) (o : Option ℕ) (k : ℕ) →
     ns ≡ symbols t → is ≡ uses t → is_some o ≡ list_any (λ i. not (is_among ns (printed i))) is →
     o ≡ Some k → Holds t Undefined
 undefined_used t ns is o k e f h q =
-    let (i, c, p) = found o k (λ i. not (is_among ns (printed i))) is h q in
-    (printed i, subst (λ (x : List Name). is_among x (printed i) ≡ false) e
-        (not_true (is_among ns (printed i)) p),
-        inl (printed_there (uses t) i (subst (λ (x : List Identifier). Contains x i) f c)))
+    let (i, c, p) = found o k (λ i. not (is_among ns (printed i))) is h q in (
+      printed i,
+      subst (λ (x : List Name). is_among x (printed i) ≡ false) e
+          (not_true (is_among ns (printed i)) p),
+      inl (printed_there (uses t) i (subst (λ (x : List Identifier). Contains x i) f c)),
+    )
 
 pub all_defined : (t : Tree) (ns ms : List Name) (is : List Identifier) (o u : Option ℕ) →
     ns ≡ symbols t → ms ≡ types_of t → is ≡ uses t → is_some o ≡ list_any (λ n. not (is_among ns n))
@@ -147,8 +155,8 @@ all_defined t ns ms is o u e f g h j q r (n, p, c) = go c
     go (inl c) =
         let (i, d, s) = printed_of (uses t) n c in
         let y : is_among ns (printed i) ≡ true = not_false (is_among ns (printed i))
-                (not_found u (λ i. not (is_among ns (printed i))) is j r i
-                (subst (λ (x : List Identifier). Contains x i) (sym g) d)) in
+        (not_found u (λ i. not (is_among ns (printed i))) is j r i
+        (subst (λ (x : List Identifier). Contains x i) (sym g) d)) in
         false_true (sym no ∙ ap (is_among ns) (sym s) ∙ y)
     go (inr c) = false_true (sym no ∙ not_false (is_among ns n)
         (not_found o (λ n. not (is_among ns n)) ms h q n (subst (λ (x : List Name). Contains x n)
@@ -199,11 +207,11 @@ between_is t n = go (is_among (tokens t) n) refl
         (is_among (symbols t) n)
     go true h =
         let k : number_in (symbols t) n < length (tokens t) = subst (λ j. j < length (tokens t))
-                (sym (ap (λ (x : List Name). number_in x n) whole ∙ number_stays (tokens t)
-                (noted_behind (tokens t) (map rule_left (rules t))).0 n h))
-                (among_number (tokens t) n h) in
+        (sym (ap (λ (x : List Name). number_in x n) whole ∙ number_stays (tokens t)
+        (noted_behind (tokens t) (map rule_left (rules t))).0 n h))
+        (among_number (tokens t) n h) in
         below (length (tokens t)) (length (symbols t)) (number_in (symbols t) n) k ∙ sym
-            (ap (λ b. cond b false (is_among (symbols t) n)) (sym (token_among t n) ∙ h))
+        (ap (λ b. cond b false (is_among (symbols t) n)) (sym (token_among t n) ∙ h))
     go false h = behind h (is_among (symbols t) n) refl ∙ sym
         (ap (λ b. cond b false (is_among (symbols t) n)) (sym (token_among t n) ∙ h))
 
@@ -250,9 +258,13 @@ start_found t ns k m is o a e f g j h q =
         (subst (λ n. 2 ≤ n) j (two x)))
     go (inr x) =
         let (i, c, p) = there (λ i. not (is_between k (length ns) (number_in ns (printed i)))) is
-                x in
-        inr (i, subst (λ (y : List Identifier). Contains y i) g c, sym (between_here t ns k i e f) ∙
-            not_true (is_between k (length ns) (number_in ns (printed i))) p)
+        x in
+        inr (
+          i,
+          subst (λ (y : List Identifier). Contains y i) g c,
+          sym (between_here t ns k i e f) ∙
+              not_true (is_between k (length ns) (number_in ns (printed i))) p,
+        )
 
 pub no_start : (t : Tree) (ns : List Name) (k m : ℕ) (is : List Identifier) (o : Option ℕ) →
     ns ≡ symbols t → k ≡ length (tokens t) → is ≡ starts t → m ≡ length is →
@@ -283,7 +295,7 @@ pub long_found : (t : Tree) (ns : List Name) (vs : List RuleValue) →
     list_any is_long vs ≡ true → Holds t Limit
 long_found t ns vs e h =
     let (r, c, p) = there (λ (r : Rule). is_long (rule_numbers (symbols t) (token_precedences t) r))
-            (rules t) (sym (any_map (rules t)) ∙ ap (list_any is_long) (sym e) ∙ h) in
+    (rules t) (sym (any_map (rules t)) ∙ ap (list_any is_long) (sym e) ∙ h) in
     inr (inr (r, c, long r p))
   where
     any_map : (rs : List Rule) → list_any is_long

@@ -12,7 +12,7 @@ use Rattle.std.proofs.lemmas.List.Elements.{filter-append}
 use Rattle.std.proofs.lemmas.List.{map-append}
 use Rattle.std.specs.Global.{Vec}
 use Rattle.indexmap.specs.IndexSet.{insert_key}
-use Rattle.ygrammar.specs.Names.{Name, is_among, noted, noted_all, number_in, printed}
+use Rattle.ygrammar.specs.Names.{Name, is_among, with_name, with_names, number_in, printed}
 use Rattle.ygrammar.specs.Tree.{Identifier}
 use Rattle.ygrammar.specs.NameTexts.{texts_of}
 
@@ -53,11 +53,11 @@ pub found_or_len : (q : Name) (vs : List (Vec ℕ)) (o : Option ℕ) (m r : ℕ)
 found_or_len q vs o m r e f h =
     let p = position_or_len (λ k. pointwise nat_eq q k.items) vs in
     let le : p ≤ length vs = subst (λ n. n ≤ length vs) (position_texts q vs)
-            (subst (λ n. number_in (texts_of vs) q ≤ n) (length_texts vs)
-            (number_le q (texts_of vs))) in
+    (subst (λ n. number_in (texts_of vs) q ≤ n) (length_texts vs)
+    (number_le q (texts_of vs))) in
     h ∙ ap (λ (x : Option ℕ). unwrap_or x m) e ∙ ap
-        (λ n. unwrap_or (cond (nat_lt p (length vs)) (Some p) None) n) f ∙ one p (length vs) le ∙
-        sym (position_texts q vs)
+    (λ n. unwrap_or (cond (nat_lt p (length vs)) (Some p) None) n) f ∙ one p (length vs) le ∙
+    sym (position_texts q vs)
   where
     one : (p n : ℕ) → p ≤ n → unwrap_or (cond (nat_lt p n) (Some p) None) n ≡ p
     one p n h = grind (arith, nat_tests)
@@ -65,17 +65,17 @@ found_or_len q vs o m r e f h =
 -- a name that is not there is put at the end
 pub noted_texts : (vs ws : List (Vec ℕ)) (v : Vec ℕ) (q : Name) → v.items ≡ q →
     is_among (texts_of vs) q ≡ false → ws ≡ insert_key (λ a b. pointwise nat_eq a.items b.items) vs
-    v → texts_of ws ≡ noted (texts_of vs) q
+    v → texts_of ws ≡ with_name (texts_of vs) q
 noted_texts vs ws v q e f h =
     let t : list_any (λ k. pointwise nat_eq v.items k.items) vs ≡ false = any_texts v.items vs ∙ ap
-            (is_among (texts_of vs)) e ∙ f in
+    (is_among (texts_of vs)) e ∙ f in
     ap texts_of h
     ∙ ap (λ b. texts_of (cond b vs (vs ++ v ∷ []))) t
     ∙ texts_push vs v
     ∙ ap (λ (n : Name). texts_of vs ++ n ∷ []) e
     ∙ sym (ap (λ b. cond b (texts_of vs) (texts_of vs ++ q ∷ [])) f)
 
-pub already : (ns : List Name) (q : Name) → is_among ns q ≡ true → noted ns q ≡ ns
+pub already : (ns : List Name) (q : Name) → is_among ns q ≡ true → with_name ns q ≡ ns
 already ns q f = ap (λ b. cond b ns (ns ++ q ∷ [])) f
 
 same_or : (a b : Name) → (a ≡ b) ⊎ (bytes_eq a b ≡ false)
@@ -92,8 +92,8 @@ eq_self a = go (bytes_eq a a) refl
     go true e = e
     go false e = absurd (other_text a a (sym e) refl)
 
--- what is among the names, once one more is noted
-pub among_noted : (ns : List Name) (m n : Name) → is_among (noted ns m) n ≡
+-- what is among the names, once one more is with_name
+pub among_noted : (ns : List Name) (m n : Name) → is_among (with_name ns m) n ≡
     (is_among ns n || bytes_eq n m)
 among_noted ns m n = go (is_among ns m) refl
   where
@@ -117,23 +117,24 @@ among_noted ns m n = go (is_among ns m) refl
     go false e = rw e (list_any-append (bytes_eq n) ns (m ∷ []) ∙ ap (λ b. is_among ns n || b)
         (or_last (bytes_eq n m)))
 
-pub among_all : (ns ms : List Name) (n : Name) → is_among (noted_all ns ms) n ≡
+pub among_all : (ns ms : List Name) (n : Name) → is_among (with_names ns ms) n ≡
     (is_among ns n || is_among ms n)
 among_all ns [] n = or_nothing (is_among ns n)
   where
     or_nothing : (b : Bool) → b ≡ (b || false)
     or_nothing true = refl
     or_nothing false = refl
-among_all ns (m ∷ ms) n = among_all (noted ns m) ms n ∙ ap (λ b. b || is_among ms n)
+among_all ns (m ∷ ms) n = among_all (with_name ns m) ms n ∙ ap (λ b. b || is_among ms n)
     (among_noted ns m n) ∙ or_assoc (is_among ns n) (bytes_eq n m) (is_among ms n)
   where
     or_assoc : (a b c : Bool) → ((a || b) || c) ≡ (a || (b || c))
     or_assoc true b c = refl
     or_assoc false b c = refl
 
-pub all_append : (ns xs ys : List Name) → noted_all ns (xs ++ ys) ≡ noted_all (noted_all ns xs) ys
+pub all_append : (ns xs ys : List Name) → with_names ns (xs ++ ys) ≡ with_names (with_names ns xs)
+    ys
 all_append ns [] ys = refl
-all_append ns (x ∷ xs) ys = all_append (noted ns x) xs ys
+all_append ns (x ∷ xs) ys = all_append (with_name ns x) xs ys
 
 filter_same : (p q : Name → Bool) → ((n : Name) → p n ≡ q n) → (ns : List Name) →
     filter p ns ≡ filter q ns
@@ -141,17 +142,17 @@ filter_same p q h [] = refl
 filter_same p q h (n ∷ ns) = ap (λ b. cond b (n ∷ filter p ns) (filter p ns)) (h n) ∙ ap
     (λ xs. cond (q n) (n ∷ xs) xs) (filter_same p q h ns)
 
--- both halves of the names and literals are noted
+-- both halves of the names and literals are with_name
 pub tokens_noted : (all first found one two : List Name) (d u : List Identifier) →
-    found ≡ noted_all [] all → one ≡ noted_all first (filter (is_among found) (map printed d)) →
-    two ≡ noted_all one (filter (is_among found) (map printed u)) → two ≡ noted_all first
+    found ≡ with_names [] all → one ≡ with_names first (filter (is_among found) (map printed d)) →
+    two ≡ with_names one (filter (is_among found) (map printed u)) → two ≡ with_names first
     (filter (is_among all) (map printed (d ++ u)))
 tokens_noted all first found one two d u e f g =
     g
-    ∙ ap (λ ns. noted_all ns (filter (is_among found) (map printed u))) f
+    ∙ ap (λ ns. with_names ns (filter (is_among found) (map printed u))) f
     ∙ sym (all_append first (filter (is_among found) (map printed d))
-        (filter (is_among found) (map printed u)))
-    ∙ ap (noted_all first) (sym (filter-append (is_among found) (map printed d) (map printed u)) ∙
-        ap (filter (is_among found)) (sym (map-append printed d u)) ∙ filter_same (is_among found)
-        (is_among all) (λ n. ap (λ ns. is_among ns n) e ∙ among_all [] all n)
-        (map printed (d ++ u)))
+    (filter (is_among found) (map printed u)))
+    ∙ ap (with_names first) (sym (filter-append (is_among found) (map printed d) (map printed u)) ∙
+    ap (filter (is_among found)) (sym (map-append printed d u)) ∙ filter_same (is_among found)
+    (is_among all) (λ n. ap (λ ns. is_among ns n) e ∙ among_all [] all n)
+    (map printed (d ++ u)))

@@ -52,9 +52,12 @@ pub marks_none : (count : ℕ) (own : List (Option ℕ)) (marks : List Bool) →
     marks ≡ replicate count false → Marking count own marks 0
 marks_none count own marks e = record {
   each = ap length e ∙ length_replicate count;
-  exact = λ m. (λ h. absurd
-      (false_true (sym (ap (λ (t : List Bool). get_or t m false) e ∙ nothing_marked count m) ∙ h)),
-      λ p. let (j, l, q) = p in absurd (omega arith));
+  exact = λ m. (
+    λ h. absurd
+        (false_true (sym (ap (λ (t : List Bool). get_or t m false) e ∙ nothing_marked count m) ∙
+        h)),
+    λ p. let (j, l, q) = p in absurd (omega arith),
+  );
   apart = λ a b m h l. absurd (omega arith);
 }
 
@@ -114,7 +117,7 @@ marks_more count own marks i n e within free s = record {
     apart_last a b m l (inr h) p q =
         let k : m ≡ n = one_number own i m n (subst (λ j. slice_get own j ≡ Some (Some m)) h q) e in
         let t : get_or marks n false ≡ true = subst (λ x. get_or marks x false ≡ true) k
-                ((s.exact m).1 (a, subst (λ j. a < j) h l, p)) in
+        ((s.exact m).1 (a, subst (λ j. a < j) h l, p)) in
         false_true (sym free ∙ t)
 
 pub clash_found : (count : ℕ) (own : List (Option ℕ)) (marks : List Bool) (i n : ℕ) →
@@ -126,9 +129,16 @@ pub marks_all : (count : ℕ) (own : List (Option ℕ)) (marks : List Bool) (i :
     Marking count own marks i → MarksBelow count own marks
 marks_all count own marks i e s = record {
   each = s.each;
-  exact = λ m. (λ h. let (j, l, q) = (s.exact m).0 h in
-      (j, q), λ p. (s.exact m).1 (p.0, subst (λ n. p.0 < n) (sym e)
-      (slice_get_within own p.0 (Some m) p.1), p.1));
+  exact = λ m. (
+    λ h. let (j, l, q) = (s.exact m).0 h in
+        (j, q),
+    λ p. (s.exact m).1 (
+      p.0,
+      subst (λ n. p.0 < n) (sym e)
+          (slice_get_within own p.0 (Some m) p.1),
+      p.1,
+    ),
+  );
   apart = λ c. let (a, b, m, l, p, q) = c in
       s.apart a b m l (subst (λ n. b < n) (sym e) (slice_get_within own b (Some m) q)) p q;
 }
@@ -194,14 +204,14 @@ pub numbers_own : (own : List (Option ℕ)) (ns new : List ℕ) (i cursor m : �
     SoFar own new (i + 1) cursor
 numbers_own own ns new i cursor m e q s = subst (λ (xs : List ℕ). SoFar own xs (i + 1) cursor)
     (sym q) (record {
-  each = length_push ns m ∙ ap (λ n. n + 1) s.each;
-  low = s.low;
-  high = let h = s.high in omega arith;
-  kept = λ j n h f. kept_last j n (last_or j i h) f;
-  given = λ j n h f g. given_last j n (last_or j i h) f g;
-  below = λ j p h f g. below_last j p (last_or j i h) f g;
-  taken = λ u a b. taken_more u (s.taken u a b);
-})
+      each = length_push ns m ∙ ap (λ n. n + 1) s.each;
+      low = s.low;
+      high = let h = s.high in omega arith;
+      kept = λ j n h f. kept_last j n (last_or j i h) f;
+      given = λ j n h f g. given_last j n (last_or j i h) f g;
+      below = λ j p h f g. below_last j p (last_or j i h) f g;
+      taken = λ u a b. taken_more u (s.taken u a b);
+    })
   where
     at_i : slice_get (ns ++ m ∷ []) i ≡ Some m
     at_i = ap (slice_get (ns ++ m ∷ [])) (sym s.each) ∙ get_last ns m
@@ -244,14 +254,14 @@ pub numbers_free : (own : List (Option ℕ)) (marks : List Bool) (ns new : List 
     new ≡ ns ++ m ∷ [] → SoFar own ns i cursor → SoFar own new (i + 1) (m + 1)
 numbers_free own marks ns new i cursor m k e from bound free all q s =
     subst (λ (xs : List ℕ). SoFar own xs (i + 1) (m + 1)) (sym q) (record {
-  each = length_push ns m ∙ ap (λ n. n + 1) s.each;
-  low = let h = s.low in omega arith;
-  high = high_of (length marks) k.each bound s.high;
-  kept = λ j n h f. kept_last j n (last_or j i h) f;
-  given = λ j n h f g. given_last j n (last_or j i h) f g;
-  below = λ j p h f g. below_last j p (last_or j i h) f g;
-  taken = λ u a b. taken_more u a (last_or u m b);
-})
+      each = length_push ns m ∙ ap (λ n. n + 1) s.each;
+      low = let h = s.low in omega arith;
+      high = high_of (length marks) k.each bound s.high;
+      kept = λ j n h f. kept_last j n (last_or j i h) f;
+      given = λ j n h f g. given_last j n (last_or j i h) f g;
+      below = λ j p h f g. below_last j p (last_or j i h) f g;
+      taken = λ u a b. taken_more u a (last_or u m b);
+    })
   where
     high_of : (n : ℕ) → n ≡ 32768 → m ≤ max cursor n → cursor ≤ 32768 + i → m + 1 ≤ 32768 + (i + 1)
     high_of n a b c = grind (arith)
@@ -297,9 +307,9 @@ numbers_free own marks ns new i cursor m k e from bound free all q s =
         (s.given j n h f (sym (before j h) ∙ g))
     given_last j n (inr h) f g =
         let r : n ≡ m = some_same n m (slice_get (ns ++ m ∷ []) i)
-                (subst (λ x. slice_get (ns ++ m ∷ []) x ≡ Some n) h g) at_i in
+        (subst (λ x. slice_get (ns ++ m ∷ []) x ≡ Some n) h g) at_i in
         subst (λ x. IsLeast own (ns ++ m ∷ []) x n) (sym h)
-            (subst (λ x. IsLeast own (ns ++ m ∷ []) i x) (sym r) here)
+        (subst (λ x. IsLeast own (ns ++ m ∷ []) i x) (sym r) here)
 
     below_last : (j p : ℕ) → (j < i) ⊎ (j ≡ i) → slice_get own j ≡ Some None →
         slice_get (ns ++ m ∷ []) j ≡ Some p → p < m + 1

@@ -8,7 +8,7 @@ use Rattle.ygrammar.specs.declared.mistake.Mistake.TheVariants.{BadNumber}
 use Rattle.ygrammar.specs.Elaboration.{appearances, listings, own_numbers, rule_left, rules}
 use Rattle.ygrammar.specs.Elaboration.{symbols, token_names_of, tokens}
 use Rattle.ygrammar.specs.Mistakes.{HasNone, Holds, order}
-use Rattle.ygrammar.specs.Names.{Name, is_among, noted_all, number_in, printed}
+use Rattle.ygrammar.specs.Names.{Name, is_among, with_names, number_in, printed}
 use Rattle.ygrammar.specs.Numbers.{AreNumbers, Clashes}
 use Rattle.ygrammar.specs.Tree.{Tree}
 use Rattle.ygrammar.specs.WellFormed.{StandOnce}
@@ -31,11 +31,12 @@ symbols_once t = distinct_once (symbols t) (distinct_all (tokens t) (map rule_le
 
 -- the end and `error` come first
 first_names : (x y : List Name) → (more : List Name) ×
-    (noted_all (noted_all (codes "$end" ∷ codes "error" ∷ []) x) y ≡ codes "$end" ∷ codes "error" ∷
+    (with_names (with_names (codes "$end" ∷ codes "error" ∷ []) x) y ≡ codes "$end" ∷ codes
+    "error" ∷
     more)
 first_names x y =
     let a = noted_behind (codes "$end" ∷ codes "error" ∷ []) x in
-    let b = noted_behind (noted_all (codes "$end" ∷ codes "error" ∷ []) x) y in
+    let b = noted_behind (with_names (codes "$end" ∷ codes "error" ∷ []) x) y in
     (a.0 ++ b.0, b.1 ∙ ap (λ (ns : List Name). ns ++ b.0) a.1)
 
 first_symbols : (t : Tree) → (more : List Name) × (symbols t ≡ codes "$end" ∷ codes "error" ∷ more)

@@ -71,7 +71,7 @@ next_same own ns ms x y i h s = go (gets own i h)
         let a = gets ns i (subst (λ n. i < n) (sym x.each) h) in
         let b = gets ms i (subst (λ n. i < n) (sym y.each) h) in
         a.1 ∙ ap some_of (least_one own ns ms i a.0 b.0 s e (x.given i a.0 e a.1)
-            (y.given i b.0 e b.1)) ∙ sym b.1
+        (y.given i b.0 e b.1)) ∙ sym b.1
 
 below_same : (own : List (Option ℕ)) (ns ms : List ℕ) → AreNumbers own ns → AreNumbers own ms →
     (i : ℕ) → i ≤ length own → SameBelow ns ms i
@@ -102,9 +102,9 @@ one_marks P n [] (y ∷ ys) a b f g = absurd (omega arith)
 one_marks P n (x ∷ xs) [] a b f g = absurd (omega arith)
 one_marks P n (x ∷ xs) (y ∷ ys) a b f g =
     ap (λ (z : Bool). z ∷ xs) (same_mark x y (λ h. (g 0 (omega arith)).1 ((f 0 (omega arith)).0 h))
-        (λ h. (f 0 (omega arith)).1 ((g 0 (omega arith)).0 h)))
+    (λ h. (f 0 (omega arith)).1 ((g 0 (omega arith)).0 h)))
     ∙ ap (λ (zs : List Bool). y ∷ zs) (one_marks (λ s. P (suc s)) (length xs) xs ys refl
-        (omega arith) (λ s h. f (suc s) (omega arith)) (λ s h. g (suc s) (omega arith)))
+    (omega arith) (λ s h. f (suc s) (omega arith)) (λ s h. g (suc s) (omega arith)))
   where
     same_mark : (c d : Bool) → (c ≡ true → d ≡ true) → (d ≡ true → c ≡ true) → c ≡ d
     same_mark true d p q = sym (p refl)
@@ -115,8 +115,15 @@ one_marks P n (x ∷ xs) (y ∷ ys) a b f g =
 
 abbrev value : ContextFree → List (List ℕ) → List ℕ → List (Option Precedence) →
     List (Option Precedence) → List (Option (List ℕ)) → List Bool → GrammarValue
-value b n m p q x r = record { bare = b; names = n; numbers = m; token_precedences = p;
-    rule_precedences = q; texts = x; reachable = r }
+value b n m p q x r = record {
+  bare = b;
+  names = n;
+  numbers = m;
+  token_precedences = p;
+  rule_precedences = q;
+  texts = x;
+  reachable = r;
+}
 
 same_value : (g h : GrammarValue) → g.bare ≡ h.bare → g.names ≡ h.names → g.numbers ≡ h.numbers →
     g.token_precedences ≡ h.token_precedences → g.rule_precedences ≡ h.rule_precedences →
@@ -124,12 +131,12 @@ same_value : (g h : GrammarValue) → g.bare ≡ h.bare → g.names ≡ h.names 
 same_value g h a b c d e f i =
     ap (λ z. value z g.names g.numbers g.token_precedences g.rule_precedences g.texts g.reachable) a
     ∙ ap (λ z. value h.bare z g.numbers g.token_precedences g.rule_precedences g.texts g.reachable)
-        b
+    b
     ∙ ap (λ z. value h.bare h.names z g.token_precedences g.rule_precedences g.texts g.reachable) c
     ∙ ap (λ z. value h.bare h.names h.numbers z g.rule_precedences g.texts g.reachable) d
     ∙ ap (λ z. value h.bare h.names h.numbers h.token_precedences z g.texts g.reachable) e
     ∙ ap (λ z. value h.bare h.names h.numbers h.token_precedences h.rule_precedences z g.reachable)
-        f
+    f
     ∙ ap (λ z. value h.bare h.names h.numbers h.token_precedences h.rule_precedences h.texts z) i
 
 -- a tree means one grammar

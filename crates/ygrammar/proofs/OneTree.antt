@@ -7,11 +7,12 @@ use Rattle.std.specs.List.{flat_map, AllByRecursion}
 use Rattle.std.specs.Prelude.{replicate}
 use Rattle.ygrammar.specs.declared.kind.Sign.{Sign}
 use Rattle.ygrammar.specs.declared.kind.Sign.TheVariants as sign
-use Rattle.ygrammar.specs.Lexemes.{Lexeme, name, head, literal, number, act, code, fixed}
+use Rattle.ygrammar.specs.Lexemes.{Lexeme, name, c_identifier, literal, number, braced, code, fixed}
 use Rattle.ygrammar.specs.Tree.{Identifier, named, quoted, Word, Entry, Definition, start, union}
-use Rattle.ygrammar.specs.Tree.{block, listing, types, Item, symbol, action, Clause, Tree}
+use Rattle.ygrammar.specs.Tree.{block, listing, types, BodyPart, symbol, action, Clause, Tree}
 use Rattle.ygrammar.specs.Tree.{identifier_yield, option_yield, entry_yield, word_sign, tag_yield}
-use Rattle.ygrammar.specs.Tree.{definition_yield, item_yield, left_yield, end_yield, clause_yield}
+use Rattle.ygrammar.specs.Tree.{definition_yield, body_part_yield, left_yield, end_yield}
+use Rattle.ygrammar.specs.Tree.{clause_yield}
 use Rattle.ygrammar.specs.Tree.{mark_yield, yield, IsDefinition, IsClause, IsTree}
 
 -- two things are the same, and so is what follows them
@@ -45,7 +46,7 @@ module _ {A : Type 0} (f : A → List Lexeme) (p : Lexeme → Bool)
   module _ (P : A → Type 0) (q : Lexeme → Bool) (calm : (a : A) (x : List Lexeme) →
       first q (f a ++ x) ≡ false)
       (cancel : (a b : A) (x y : List Lexeme) → P a → P b → first q x ≡ false → first q y ≡ false →
-          f a ++ x ≡ f b ++ y → Same a b x y) where
+      f a ++ x ≡ f b ++ y → Same a b x y) where
     calm_all : (xs : List A) (r : List Lexeme) → first q r ≡ false → first q (flat_map f xs ++ r) ≡
         false
     calm_all [] r h = h
@@ -63,8 +64,8 @@ module _ {A : Type 0} (f : A → List Lexeme) (p : Lexeme → Bool)
         (flat_map f xs ++ r)) k
     many_one (x ∷ xs) (y ∷ ys) r s a b h k i j e =
         let c = cancel x y (flat_map f xs ++ r) (flat_map f ys ++ s) a.0 b.0 (calm_all xs r i)
-                (calm_all ys s j) (sym (append_assoc (f x) (flat_map f xs) r) ∙ e ∙ append_assoc
-                (f y) (flat_map f ys) s) in
+        (calm_all ys s j) (sym (append_assoc (f x) (flat_map f xs) r) ∙ e ∙ append_assoc
+        (f y) (flat_map f ys) s) in
         let t = many_one xs ys r s a.1 b.1 h k i j c.rest in
         let c1 = c.one in let t1 = t.one in
         record { one = cc; rest = t.rest }
@@ -80,11 +81,14 @@ module _ {A : Type 0} (f : A → Lexeme) (p : Lexeme → Bool) (starts : (a : A)
       map f xs ++ r ≡ map f ys ++ s → Same xs ys r s
   map_one xs ys r s h k e =
       many_one (λ a. f a ∷ []) p (λ a x. starts a) (λ a. Unit {0}) (λ l. false) (λ a x. refl)
-      (λ a b x y u v i j w. record { one = same a b (let z : f a ≡ f b = cc in z); rest =
-          (let z : x ≡ y = cc in z) })
+      (λ a b x y u v i j w. record {
+        one = same a b (let z : f a ≡ f b = cc in z);
+        rest =
+            (let z : x ≡ y = cc in z);
+      })
       xs ys r s (every xs) (every ys) h k (none r) (none s)
-          (ap (λ z. z ++ r) (flat_map_single f xs) ∙ e ∙ ap (λ z. z ++ s)
-          (sym (flat_map_single f ys)))
+      (ap (λ z. z ++ r) (flat_map_single f xs) ∙ e ∙ ap (λ z. z ++ s)
+      (sym (flat_map_single f ys)))
     where
       none : (r : List Lexeme) → first (λ l. false) r ≡ false
       none [] = refl
@@ -106,7 +110,7 @@ is_number (number n) = true
 is_number _ = false
 
 abbrev is_act : Lexeme → Bool
-is_act (act n) = true
+is_act (braced n) = true
 is_act _ = false
 
 abbrev is_less : Lexeme → Bool
@@ -135,7 +139,7 @@ is_definition _ = false
 
 -- what begins a rule
 abbrev is_left : Lexeme → Bool
-is_left (head n) = true
+is_left (c_identifier n) = true
 is_left (fixed sign.Bar) = true
 is_left _ = false
 
@@ -143,7 +147,7 @@ is_left _ = false
 abbrev is_item : Lexeme → Bool
 is_item (name n) = true
 is_item (literal v) = true
-is_item (act t) = true
+is_item (braced t) = true
 is_item _ = false
 
 -- what may go on with an entry or a list of names
@@ -157,7 +161,7 @@ goes_on_list _ = false
 abbrev goes_on_rule : Lexeme → Bool
 goes_on_rule (name n) = true
 goes_on_rule (literal v) = true
-goes_on_rule (act t) = true
+goes_on_rule (braced t) = true
 goes_on_rule (fixed sign.Prec) = true
 goes_on_rule (fixed sign.Semicolon) = true
 goes_on_rule _ = false
@@ -191,29 +195,35 @@ id_no_number (quoted v) = refl
 entry_same : (e f : Entry) → e.who ≡ f.who → e.digits ≡ f.digits → e ≡ f
 entry_same e f p q =
     ap (λ (i : Identifier). let r : Entry = record { who = i; digits = e.digits } in r) p ∙ ap
-        (λ (d : Option (List ℕ)). let r : Entry = record { who = f.who; digits = d } in r) q
+    (λ (d : Option (List ℕ)). let r : Entry = record { who = f.who; digits = d } in r) q
 
 entry_cancel : (e f : Entry) (x y : List Lexeme) → Unit {0} → Unit {0} → first is_number x ≡ false →
     first is_number y ≡ false → entry_yield e ++ x ≡ entry_yield f ++ y → Same e f x y
 entry_cancel e f x y u v h k w =
     let s = option_one (λ ds. number ds ∷ []) is_number (λ a z. refl)
-            (λ a b z t i. record { one = (let q : a ≡ b = cc in q); rest =
-            (let q : z ≡ t = cc in q) })
+    (λ a b z t i. record {
+      one = (let q : a ≡ b = cc in q);
+      rest =
+          (let q : z ≡ t = cc in q);
+    })
     e.digits f.digits x y h k
-        (let z : option_yield (λ ds. number ds ∷ []) e.digits ++ x ≡ option_yield
-        (λ ds. number ds ∷ []) f.digits ++ y = cc in z) in
-    record { one = entry_same e f
-        (id_one e.who f.who (let z : identifier_yield e.who ≡ identifier_yield f.who = cc in z))
-        s.one; rest = s.rest }
+    (let z : option_yield (λ ds. number ds ∷ []) e.digits ++ x ≡ option_yield
+    (λ ds. number ds ∷ []) f.digits ++ y = cc in z) in
+    record {
+      one = entry_same e f
+          (id_one e.who f.who (let z : identifier_yield e.who ≡ identifier_yield f.who = cc in z))
+          s.one;
+      rest = s.rest;
+    }
 
 entries_one : (es fs : List Entry) (r s : List Lexeme) → first goes_on_list r ≡ false →
     first goes_on_list s ≡ false → flat_map entry_yield es ++ r ≡ flat_map entry_yield fs ++ s →
     Same es fs r s
 entries_one es fs r s h k e =
     many_one entry_yield is_identifier (λ a x. id_first a.who) (λ a. Unit {0}) is_number
-        (λ a x. id_no_number a.who) entry_cancel es fs r s (every_entry es) (every_entry fs)
+    (λ a x. id_no_number a.who) entry_cancel es fs r s (every_entry es) (every_entry fs)
     (weaker is_identifier goes_on_list ids r h) (weaker is_identifier goes_on_list ids s k)
-        (weaker is_number goes_on_list numbers r h) (weaker is_number goes_on_list numbers s k) e
+    (weaker is_number goes_on_list numbers r h) (weaker is_number goes_on_list numbers s k) e
   where
     every_entry : (es : List Entry) → AllByRecursion (λ a. Unit {0}) es
     every_entry [] = tt
@@ -290,18 +300,21 @@ entries_first (e ∷ es) x h = go e.who
 listing_one : (w v : Word) (d c : Option (List ℕ)) (es fs : List Entry) (x y : List Lexeme) →
     0 < length es → 0 < length fs → first goes_on_list x ≡ false → first goes_on_list y ≡ false
     → definition_yield (listing w d es) ++ x ≡ definition_yield (listing v c fs) ++ y →
-        Same (listing w d es) (listing v c fs) x y
+    Same (listing w d es) (listing v c fs) x y
 listing_one w v d c es fs x y a b h k e =
     let word : word_sign w ≡ word_sign v = cc in
     let tail : (option_yield tag_yield d ++ flat_map entry_yield es) ++ x ≡
-            (option_yield tag_yield c ++ flat_map entry_yield fs) ++ y = cc in
+    (option_yield tag_yield c ++ flat_map entry_yield fs) ++ y = cc in
     let t = option_one tag_yield is_less (λ n z. refl)
-            (λ n m z u i. record { one = (let q : n ≡ m = cc in q); rest =
-            (let q : z ≡ u = cc in q) })
+    (λ n m z u i. record {
+      one = (let q : n ≡ m = cc in q);
+      rest =
+          (let q : z ≡ u = cc in q);
+    })
     d c (flat_map entry_yield es ++ x) (flat_map entry_yield fs ++ y) (entries_first es x a)
-        (entries_first fs y b)
+    (entries_first fs y b)
     (sym (append_assoc (option_yield tag_yield d) (flat_map entry_yield es) x) ∙ tail ∙ append_assoc
-        (option_yield tag_yield c) (flat_map entry_yield fs) y) in
+    (option_yield tag_yield c) (flat_map entry_yield fs) y) in
     let s = entries_one es fs x y h k t.rest in
     let w1 = word_one w v word in let t1 = t.one in let s1 = s.one in
     record { one = cc; rest = s.rest }
@@ -309,7 +322,7 @@ listing_one w v d c es fs x y a b h k e =
 types_one : (n m : List ℕ) (ns ms : List (List ℕ)) (x y : List Lexeme) →
     first goes_on_list x ≡ false → first goes_on_list y ≡ false
     → definition_yield (types n ns) ++ x ≡ definition_yield (types m ms) ++ y → Same (types n ns)
-        (types m ms) x y
+    (types m ms) x y
 types_one n m ns ms x y h k e =
     let tag : n ≡ m = cc in
     let s = names_one ns ms x y h k (let z : map name ns ++ x ≡ map name ms ++ y = cc in z) in
@@ -320,12 +333,18 @@ definition_cancel : (d e : Definition) (x y : List Lexeme) → IsDefinition d �
     first goes_on_list x ≡ false → first goes_on_list y ≡ false →
     definition_yield d ++ x ≡ definition_yield e ++ y → Same d e x y
 definition_cancel (start i) (start j) x y a b h k e =
-    record { one = ap start (id_one i j (let z : identifier_yield i ≡ identifier_yield j = cc in
-    z)); rest = (let z : x ≡ y = cc in z) }
+    record {
+      one = ap start (id_one i j (let z : identifier_yield i ≡ identifier_yield j = cc in
+          z));
+      rest = (let z : x ≡ y = cc in z);
+    }
 definition_cancel (union t) (union u) x y a b h k e =
     record { one = (let z : t ≡ u = cc in ap union z); rest = (let z : x ≡ y = cc in z) }
-definition_cancel block block x y a b h k e = record { one = refl; rest =
-    (let z : x ≡ y = cc in z) }
+definition_cancel block block x y a b h k e = record {
+  one = refl;
+  rest =
+      (let z : x ≡ y = cc in z);
+}
 definition_cancel (listing w d es) (listing v c fs) x y a b h k e = listing_one w v d c es fs x y a
     b h k e
 definition_cancel (types n ns) (types m ms) x y a b h k e = types_one n m ns ms x y h k e
@@ -372,7 +391,7 @@ left_one (Some n) (Some m) e = let z : n ≡ m = cc in ap Some z
 left_one None (Some m) e = cc
 left_one (Some n) None e = cc
 
-item_one : (a b : Item) → item_yield a ≡ item_yield b → a ≡ b
+item_one : (a b : BodyPart) → body_part_yield a ≡ body_part_yield b → a ≡ b
 item_one (symbol i) (symbol j) e = ap symbol (id_one i j e)
 item_one (action t) (action u) e = let z : t ≡ u = cc in ap action z
 item_one (symbol (named n)) (action u) e = cc
@@ -380,7 +399,7 @@ item_one (symbol (quoted n)) (action u) e = cc
 item_one (action t) (symbol (named n)) e = cc
 item_one (action t) (symbol (quoted n)) e = cc
 
-item_starts : (a : Item) → is_item (item_yield a) ≡ true
+item_starts : (a : BodyPart) → is_item (body_part_yield a) ≡ true
 item_starts (symbol (named n)) = refl
 item_starts (symbol (quoted n)) = refl
 item_starts (action t) = refl
@@ -404,14 +423,14 @@ semis_first : (p : Lexeme → Bool) (n : ℕ) (x : List Lexeme) → p (fixed sig
 semis_first p zero x h k = k
 semis_first p (suc n) x h k = h
 
-abbrev act_yield : Option (List ℕ) → List Lexeme
-act_yield t = option_yield (λ t. act t ∷ []) t
+abbrev braced_yield : Option (List ℕ) → List Lexeme
+braced_yield t = option_yield (λ t. braced t ∷ []) t
 
 abbrev prec_yield : Option Identifier → List Lexeme
 prec_yield p = option_yield (λ i. fixed sign.Prec ∷ identifier_yield i ∷ []) p
 
 acts : (l : Lexeme) → is_act l ≡ true → goes_on_rule l ≡ true
-acts (act t) h = refl
+acts (braced t) h = refl
 acts (fixed s) h = cc
 acts _ h = cc
 
@@ -423,20 +442,20 @@ precs _ h = cc
 items : (l : Lexeme) → is_item l ≡ true → goes_on_rule l ≡ true
 items (name n) h = refl
 items (literal n) h = refl
-items (act n) h = refl
+items (braced n) h = refl
 items (fixed s) h = cc
 items _ h = cc
 
 -- behind a precedence no precedence follows
-act_first : (t : Option (List ℕ)) (n : ℕ) (x : List Lexeme) → first goes_on_rule x ≡ false →
-    first is_prec (act_yield t ++ (semis n ++ x)) ≡ false
-act_first None n x h = semis_first is_prec n x refl (weaker is_prec goes_on_rule precs x h)
-act_first (Some t) n x h = refl
+braced_first : (t : Option (List ℕ)) (n : ℕ) (x : List Lexeme) → first goes_on_rule x ≡ false →
+    first is_prec (braced_yield t ++ (semis n ++ x)) ≡ false
+braced_first None n x h = semis_first is_prec n x refl (weaker is_prec goes_on_rule precs x h)
+braced_first (Some t) n x h = refl
 
 -- behind a body no item follows
 end_first : (p : Option Identifier) (t : Option (List ℕ)) (n : ℕ) (x : List Lexeme) →
     (IsSome t → IsSome p) → first goes_on_rule x ≡ false →
-    first is_item (prec_yield p ++ (act_yield t ++ (semis n ++ x))) ≡ false
+    first is_item (prec_yield p ++ (braced_yield t ++ (semis n ++ x))) ≡ false
 end_first (Some i) t n x w h = refl
 end_first None None n x w h = semis_first is_item n x refl (weaker is_item goes_on_rule items x h)
 end_first None (Some t) n x w h = let z : false ≡ true = w refl in cc
@@ -444,16 +463,44 @@ end_first None (Some t) n x w h = let z : false ≡ true = w refl in cc
 clause_same : (c d : Clause) → c.left ≡ d.left → c.body ≡ d.body → c.prec ≡ d.prec →
     c.last ≡ d.last → c.semicolons ≡ d.semicolons → c ≡ d
 clause_same c d e f g h k =
-    ap (λ (z : Option (List ℕ)). let r : Clause = record { left = z; body = c.body; prec = c.prec;
-        last = c.last; semicolons = c.semicolons } in r) e
-    ∙ ap (λ (z : List Item). let r : Clause = record { left = d.left; body = z; prec = c.prec;
-        last = c.last; semicolons = c.semicolons } in r) f
-    ∙ ap (λ (z : Option Identifier). let r : Clause = record { left = d.left; body = d.body; prec =
-        z; last = c.last; semicolons = c.semicolons } in r) g
-    ∙ ap (λ (z : Option (List ℕ)). let r : Clause = record { left = d.left; body = d.body; prec =
-        d.prec; last = z; semicolons = c.semicolons } in r) h
-    ∙ ap (λ (z : ℕ). let r : Clause = record { left = d.left; body = d.body; prec = d.prec; last =
-        d.last; semicolons = z } in r) k
+    ap (λ (z : Option (List ℕ)). let r : Clause = record {
+      left = z;
+      body = c.body;
+      prec = c.prec;
+      last = c.last;
+      semicolons = c.semicolons;
+    } in r) e
+    ∙ ap (λ (z : List BodyPart). let r : Clause = record {
+      left = d.left;
+      body = z;
+      prec = c.prec;
+      last = c.last;
+      semicolons = c.semicolons;
+    } in r) f
+    ∙ ap (λ (z : Option Identifier). let r : Clause = record {
+      left = d.left;
+      body = d.body;
+      prec =
+          z;
+      last = c.last;
+      semicolons = c.semicolons;
+    } in r) g
+    ∙ ap (λ (z : Option (List ℕ)). let r : Clause = record {
+      left = d.left;
+      body = d.body;
+      prec =
+          d.prec;
+      last = z;
+      semicolons = c.semicolons;
+    } in r) h
+    ∙ ap (λ (z : ℕ). let r : Clause = record {
+      left = d.left;
+      body = d.body;
+      prec = d.prec;
+      last =
+          d.last;
+      semicolons = z;
+    } in r) k
 
 regroup : (a b c d x : List Lexeme) → (a ++ (b ++ (c ++ d))) ++ x ≡ a ++ (b ++ (c ++ (d ++ x)))
 regroup a b c d x = simp append_assoc
@@ -463,27 +510,33 @@ clause_cancel : (c d : Clause) (x y : List Lexeme) → IsClause c → IsClause d
     d ++ y → Same c d x y
 clause_cancel c d x y i j h k e =
     let l = left_one c.left d.left (let z : left_yield c.left ≡ left_yield d.left = cc in z) in
-    let tail : (map item_yield c.body ++ end_yield c.prec c.last c.semicolons) ++ x ≡
-            (map item_yield d.body ++ end_yield d.prec d.last d.semicolons) ++ y = cc in
-    let flat = sym (regroup (map item_yield c.body) (prec_yield c.prec) (act_yield c.last)
-            (semis c.semicolons) x) ∙ tail ∙ regroup (map item_yield d.body) (prec_yield d.prec)
-            (act_yield d.last) (semis d.semicolons) y in
-    let b = map_one item_yield is_item item_starts item_one c.body d.body _ _
-            (end_first c.prec c.last c.semicolons x i h)
-            (end_first d.prec d.last d.semicolons y j k) flat in
+    let tail : (map body_part_yield c.body ++ end_yield c.prec c.last c.semicolons) ++ x ≡
+    (map body_part_yield d.body ++ end_yield d.prec d.last d.semicolons) ++ y = cc in
+    let flat = sym (regroup (map body_part_yield c.body) (prec_yield c.prec) (braced_yield c.last)
+    (semis c.semicolons) x) ∙ tail ∙ regroup (map body_part_yield d.body) (prec_yield d.prec)
+    (braced_yield d.last) (semis d.semicolons) y in
+    let b = map_one body_part_yield is_item item_starts item_one c.body d.body _ _
+    (end_first c.prec c.last c.semicolons x i h)
+    (end_first d.prec d.last d.semicolons y j k) flat in
     let p = option_one (λ i. fixed sign.Prec ∷ identifier_yield i ∷ []) is_prec (λ i z. refl)
-            (λ a b z u w. record { one =
-            id_one a b (let q : identifier_yield a ≡ identifier_yield b = cc in q); rest =
-            (let q : z ≡ u = cc in q) })
-    c.prec d.prec (act_yield c.last ++ (semis c.semicolons ++ x))
-        (act_yield d.last ++ (semis d.semicolons ++ y)) (act_first c.last c.semicolons x h)
-        (act_first d.last d.semicolons y k) b.rest in
-    let t = option_one (λ t. act t ∷ []) is_act (λ i z. refl)
-            (λ a b z u w. record { one = (let q : a ≡ b = cc in q); rest =
-            (let q : z ≡ u = cc in q) })
+    (λ a b z u w. record {
+      one =
+          id_one a b (let q : identifier_yield a ≡ identifier_yield b = cc in q);
+      rest =
+          (let q : z ≡ u = cc in q);
+    })
+    c.prec d.prec (braced_yield c.last ++ (semis c.semicolons ++ x))
+    (braced_yield d.last ++ (semis d.semicolons ++ y)) (braced_first c.last c.semicolons x h)
+    (braced_first d.last d.semicolons y k) b.rest in
+    let t = option_one (λ t. braced t ∷ []) is_act (λ i z. refl)
+    (λ a b z u w. record {
+      one = (let q : a ≡ b = cc in q);
+      rest =
+          (let q : z ≡ u = cc in q);
+    })
     c.last d.last (semis c.semicolons ++ x) (semis d.semicolons ++ y)
-        (semis_first is_act c.semicolons x refl (weaker is_act goes_on_rule acts x h))
-        (semis_first is_act d.semicolons y refl (weaker is_act goes_on_rule acts y k)) p.rest in
+    (semis_first is_act c.semicolons x refl (weaker is_act goes_on_rule acts x h))
+    (semis_first is_act d.semicolons y refl (weaker is_act goes_on_rule acts y k)) p.rest in
     let s = semis_one c.semicolons d.semicolons x y h k t.rest in
     record { one = clause_same c d l b.one p.one t.one s.one; rest = s.rest }
 
@@ -517,25 +570,34 @@ mark_first p false h = refl
 tree_same : (t u : Tree) → t.definitions ≡ u.definitions → t.clauses ≡ u.clauses →
     t.second_mark ≡ u.second_mark → t ≡ u
 tree_same t u e f g =
-    ap (λ (z : List Definition). let r : Tree = record { definitions = z; clauses = t.clauses;
-        second_mark = t.second_mark } in r) e
-    ∙ ap (λ (z : List Clause). let r : Tree = record { definitions = u.definitions; clauses = z;
-        second_mark = t.second_mark } in r) f
-    ∙ ap (λ (z : Bool). let r : Tree = record { definitions = u.definitions; clauses = u.clauses;
-        second_mark = z } in r) g
+    ap (λ (z : List Definition). let r : Tree = record {
+      definitions = z;
+      clauses = t.clauses;
+      second_mark = t.second_mark;
+    } in r) e
+    ∙ ap (λ (z : List Clause). let r : Tree = record {
+      definitions = u.definitions;
+      clauses = z;
+      second_mark = t.second_mark;
+    } in r) f
+    ∙ ap (λ (z : Bool). let r : Tree = record {
+      definitions = u.definitions;
+      clauses = u.clauses;
+      second_mark = z;
+    } in r) g
 
 pub one_tree : (t u : Tree) → IsTree t → IsTree u → yield t ≡ yield u → t ≡ u
 one_tree t u h k e =
     let d = many_one definition_yield is_definition definition_starts IsDefinition goes_on_list
-            definition_calm definition_cancel t.definitions u.definitions
+    definition_calm definition_cancel t.definitions u.definitions
     (fixed sign.Mark ∷ (flat_map clause_yield t.clauses ++ mark_yield t.second_mark))
-        (fixed sign.Mark ∷ (flat_map clause_yield u.clauses ++ mark_yield u.second_mark))
+    (fixed sign.Mark ∷ (flat_map clause_yield u.clauses ++ mark_yield u.second_mark))
     h.definitions k.definitions refl refl refl refl e in
     let tail : flat_map clause_yield t.clauses ++ mark_yield t.second_mark ≡ flat_map clause_yield
-            u.clauses ++ mark_yield u.second_mark = let r = d.rest in cc in
+    u.clauses ++ mark_yield u.second_mark = let r = d.rest in cc in
     let c = many_one clause_yield is_left clause_starts IsClause goes_on_rule clause_calm
-            clause_cancel t.clauses u.clauses (mark_yield t.second_mark) (mark_yield u.second_mark)
+    clause_cancel t.clauses u.clauses (mark_yield t.second_mark) (mark_yield u.second_mark)
     h.clauses k.clauses (mark_first is_left t.second_mark refl)
-        (mark_first is_left u.second_mark refl) (mark_first goes_on_rule t.second_mark refl)
-        (mark_first goes_on_rule u.second_mark refl) tail in
+    (mark_first is_left u.second_mark refl) (mark_first goes_on_rule t.second_mark refl)
+    (mark_first goes_on_rule u.second_mark refl) tail in
     tree_same t u d.one c.one (mark_one t.second_mark u.second_mark c.rest)

@@ -7,12 +7,12 @@ use Rattle.std.proofs.lemmas.List.{append_cancel_right, map-append}
 use Rattle.ygrammar.specs.declared.kind.Sign.TheVariants as sign
 use Rattle.ygrammar.specs.Syntax.{IsSpec, BeginsSpec}
 use Rattle.ygrammar.specs.Lexemes.{Lexeme, fixed, kind_of}
-use Rattle.ygrammar.specs.Cuttings.{Part, blank, comment, lexeme, PartAt, Cuts, lexemes, kinds}
-use Rattle.ygrammar.specs.Cuttings.{is_mark, marks, ComesTo, IsCut, at_end, at_mark, SpellsSyntax}
-use Rattle.ygrammar.specs.Cuttings.{Fault, unfinished, bad_literal, foreign, syntax, Opens}
-use Rattle.ygrammar.specs.Cuttings.{open_comment, open_code, open_act, Quotes, IsLexical, FaultAt}
-use Rattle.ygrammar.specs.Cuttings.{Refusal, refusal, newlines, IsLine, Stops, ended, marked}
-use Rattle.ygrammar.specs.Cuttings.{lexical, stray, early, Outcome}
+use Rattle.ygrammar.specs.Lexer.{Part, blank, comment, lexeme, PartAt, Cuts, lexemes, kinds}
+use Rattle.ygrammar.specs.Lexer.{is_mark, marks, ComesTo, IsCut, at_end, at_mark, SpellsSyntax}
+use Rattle.ygrammar.specs.Lexer.{Fault, unfinished, bad_literal, foreign, syntax, Opens}
+use Rattle.ygrammar.specs.Lexer.{open_comment, open_code, open_braced, Quotes, IsLexical, FaultAt}
+use Rattle.ygrammar.specs.Lexer.{Refusal, refusal, newlines, IsLine, Stops, ended, marked}
+use Rattle.ygrammar.specs.Lexer.{lexical, stray, early, Outcome}
 use Rattle.ygrammar.proofs.Runs.{heads_are}
 use Rattle.ygrammar.proofs.Parts.{starts, one_part}
 
@@ -38,7 +38,7 @@ no_fault_at_end {bytes} {f} e h = go f h.what
     go : (f : Fault) → IsLexical bytes f → ⊥
     go unfinished (inl (open_comment {after = a} w)) = let z : [] ≡ 47 ∷ 42 ∷ a = sym e ∙ w in cc
     go unfinished (inl (open_code {after = a} w)) = let z : [] ≡ 37 ∷ 123 ∷ a = sym e ∙ w in cc
-    go unfinished (inl (open_act {after = a} w)) = let z : [] ≡ 123 ∷ a = sym e ∙ w in cc
+    go unfinished (inl (open_braced {after = a} w)) = let z : [] ≡ 123 ∷ a = sym e ∙ w in cc
     go unfinished (inr ((a, w), b)) = let z : [] ≡ 39 ∷ a = sym e ∙ w in cc
     go bad_literal ((a, w), b) = let z : [] ≡ 39 ∷ a = sym e ∙ w in cc
     go foreign (l, o, q) = let z : length bytes ≡ 0 = ap length e in omega (arith, l, z)
@@ -51,7 +51,7 @@ opens_or_quotes {bytes} (open_comment {after = a} w) (b, v) = eqb-false 47 39 re
     (heads_are 47 39 (42 ∷ a) b (sym w ∙ v))
 opens_or_quotes {bytes} (open_code {after = a} w) (b, v) = eqb-false 37 39 refl
     (heads_are 37 39 (123 ∷ a) b (sym w ∙ v))
-opens_or_quotes {bytes} (open_act {after = a} w) (b, v) = eqb-false 123 39 refl
+opens_or_quotes {bytes} (open_braced {after = a} w) (b, v) = eqb-false 123 39 refl
     (heads_are 123 39 a b (sym w ∙ v))
 
 lexical_one : (bytes : List ℕ) (f g : Fault) → IsLexical bytes f → IsLexical bytes g → f ≡ g
@@ -94,9 +94,11 @@ pub kinds_append : (a b : List Lexeme) → kinds (a ++ b) ≡ kinds a ++ kinds b
 kinds_append a b = map-append kind_of a b
 
 pub begins_front : (a b : List Lexeme) → BeginsSpec (kinds (a ++ b)) → BeginsSpec (kinds a)
-begins_front a b (more, h) =
-    (kinds b ++ more, subst IsSpec (ap (λ z. z ++ more) (kinds_append a b) ∙ append_assoc (kinds a)
-    (kinds b) more) h)
+begins_front a b (more, h) = (
+  kinds b ++ more,
+  subst IsSpec (ap (λ z. z ++ more) (kinds_append a b) ∙ append_assoc (kinds a)
+      (kinds b) more) h,
+)
 
 pub whole_begins : (ls : List Lexeme) → IsSpec (kinds ls) → BeginsSpec (kinds ls)
 whole_begins ls h = ([], subst IsSpec (sym (append-nil (kinds ls))) h)
@@ -133,7 +135,7 @@ cut_before (p ∷ ps) bytes rest (m, a, h) =
 line_one : (bytes rest : List ℕ) (n m : ℕ) → IsLine bytes rest n → IsLine bytes rest m → n ≡ m
 line_one bytes rest n m h k =
     let e : h.before ≡ k.before = append_cancel_right h.before k.before rest
-            (sym h.whole ∙ k.whole) in
+    (sym h.whole ∙ k.whole) in
     h.counted ∙ ap (λ z. newlines z + 1) e ∙ sym k.counted
 
 -- ---- why reading stops
@@ -148,15 +150,15 @@ stopped ls rest m line _ p more (lexical f) at few begun = f.none p m at
 stopped ls rest m line _ p more (marked {after = after} mark one h) at few begun =
     let same = one_part p (lexeme (fixed sign.Mark)) rest m after at mark in
     let w : lexemes (p ∷ more) ≡ fixed sign.Mark ∷ lexemes more = ap (λ q. lexemes (q ∷ more))
-            same.part in
+    same.part in
     let a = marks_append ls (lexemes (p ∷ more)) in
     let b : marks (lexemes (p ∷ more)) ≡ suc (marks (lexemes more)) = ap marks w in
     omega (arith, a, b, one, few)
 stopped ls rest m line _ p more (stray {l = l} {after = after} there none) at few begun =
     let same = one_part p (lexeme l) rest m after at there in
     let w : ls ++ lexemes (p ∷ more) ≡ (ls ++ l ∷ []) ++ lexemes more =
-            ap (λ q. ls ++ lexemes (q ∷ more)) same.part ∙ sym
-            (append_assoc ls (l ∷ []) (lexemes more)) in
+    ap (λ q. ls ++ lexemes (q ∷ more)) same.part ∙ sym
+    (append_assoc ls (l ∷ []) (lexemes more)) in
     none (begins_front (ls ++ l ∷ []) (lexemes more) (subst (λ z. BeginsSpec (kinds z)) w begun))
 
 mark_begins : (ls : List Lexeme) (l : Lexeme) → lexeme l ≡ lexeme (fixed sign.Mark) →
@@ -164,7 +166,7 @@ mark_begins : (ls : List Lexeme) (l : Lexeme) → lexeme l ≡ lexeme (fixed sig
 mark_begins ls l e h none =
     let w : fixed sign.Mark ≡ l = cc in
     none (subst (λ z. BeginsSpec (kinds (ls ++ z ∷ []))) w
-        (whole_begins (ls ++ fixed sign.Mark ∷ []) h))
+    (whole_begins (ls ++ fixed sign.Mark ∷ []) h))
 
 -- one reason at one place
 same_place : (ls : List Lexeme) (rest : List ℕ) (line : ℕ) (a b : Result (List Lexeme) Refusal) →
@@ -180,7 +182,7 @@ same_place ls rest line _ _ (marked {after = after} m i k) (lexical f) =
     absurd (f.none (lexeme (fixed sign.Mark)) after m)
 same_place ls rest line _ _ (marked {after = r} m i k) (stray {l = l} {after = s} n none) =
     absurd (mark_begins ls l (one_part (lexeme l) (lexeme (fixed sign.Mark)) rest s r n m).part k
-        none)
+    none)
 same_place ls rest line _ _ (marked m i k) (early e n) = absurd (no_part_at_end e m)
 same_place ls rest line _ _ (lexical k) (ended e h) = absurd (no_fault_at_end e k)
 same_place ls rest line _ _ (lexical f) (marked {after = after} m i k) =
@@ -193,7 +195,7 @@ same_place ls rest line _ _ (lexical f) (early e n) = absurd (no_fault_at_end e 
 same_place ls rest line _ _ (stray m n) (ended e h) = absurd (no_part_at_end e m)
 same_place ls rest line _ _ (stray {l = l} {after = s} n none) (marked {after = r} m i k) =
     absurd (mark_begins ls l (one_part (lexeme l) (lexeme (fixed sign.Mark)) rest s r n m).part k
-        none)
+    none)
 same_place ls rest line _ _ (stray {l = l} {after = after} m n) (lexical f) =
     absurd (f.none (lexeme l) after m)
 same_place ls rest line _ _ (stray m n) (stray i j) = refl
@@ -204,7 +206,7 @@ same_place ls rest line _ _ (early e n) (lexical f) = absurd (no_fault_at_end e 
 same_place ls rest line _ _ (early e h) (stray m n) = absurd (no_part_at_end e m)
 same_place ls rest line _ _ (early e h) (early f k) = refl
 
--- where one cutting goes on from the other's place, it doesn't
+-- where one list of parts goes on from the other's place, it doesn't
 together : (bytes : List ℕ) (a b : Result (List Lexeme) Refusal) (x : Outcome bytes a)
     (y : Outcome bytes b) → GoesOn x.comes.parts x.rest y.comes.parts y.rest → a ≡ b
 together bytes a b x y g = go g.more g.whole g.cut
@@ -219,7 +221,7 @@ together bytes a b x y g = go g.more g.whole g.cut
     go [] e c =
         let same : y.before ≡ x.before = read [] e ∙ append-nil x.before in
         let line : y.line ≡ x.line = line_one bytes y.rest y.line x.line y.here
-                (subst (λ z. IsLine bytes z x.line) c x.here) in
+        (subst (λ z. IsLine bytes z x.line) c x.here) in
         let s1 = subst (λ z. Stops z y.rest y.line b) same y.stops in
         let s2 = subst (λ z. Stops x.before z y.line b) (sym c) s1 in
         let s3 = subst (λ z. Stops x.before x.rest z b) line s2 in
@@ -227,8 +229,8 @@ together bytes a b x y g = go g.more g.whole g.cut
     go (p ∷ more) e (m, at, c) =
         let same : y.before ≡ x.before ++ lexemes (p ∷ more) = read (p ∷ more) e in
         absurd (stopped x.before x.rest m x.line a p more x.stops at
-            (subst (λ z. marks z ≤ 1) same y.comes.unfinished)
-            (subst (λ z. BeginsSpec (kinds z)) same y.begun))
+        (subst (λ z. marks z ≤ 1) same y.comes.unfinished)
+        (subst (λ z. BeginsSpec (kinds z)) same y.begun))
 
 pub one_outcome : (bytes : List ℕ) (a b : Result (List Lexeme) Refusal) → Outcome bytes a →
     Outcome bytes b → a ≡ b
@@ -247,8 +249,10 @@ pub outcome_spells : (bytes : List ℕ) (ls : List Lexeme) → Outcome bytes (Ok
 outcome_spells bytes ls o = go ls o.stops
   where
     go : (ls : List Lexeme) → Stops o.before o.rest o.line (Ok ls) → SpellsSyntax bytes ls
-    go _ (ended e h) = record { cut = at_end (subst (λ z. ComesTo bytes o.before z) e o.comes);
-        derived = h }
+    go _ (ended e h) = record {
+      cut = at_end (subst (λ z. ComesTo bytes o.before z) e o.comes);
+      derived = h;
+    }
     go _ (marked m i h) = record { cut = at_mark o.comes i m; derived = h }
 
 line_at : (bytes rest : List ℕ) (ls : List Lexeme) → ComesTo bytes ls rest →
@@ -264,10 +268,25 @@ spells_outcome bytes ls s = go ls s.cut s.derived
     go : (ls : List Lexeme) → IsCut bytes ls → IsSpec (kinds ls) → Outcome bytes (Ok ls)
     go _ (at_end {ls = ls} c) h =
         let (n, l) = line_at bytes [] ls c in
-        record { before = ls; rest = []; line = n; comes = c; begun = whole_begins ls h; here = l;
-            stops = ended refl h }
+        record {
+          before = ls;
+          rest = [];
+          line = n;
+          comes = c;
+          begun = whole_begins ls h;
+          here = l;
+          stops = ended refl h;
+        }
     go _ (at_mark {ls = ls} {before = before} c i m) h =
         let (n, l) = line_at bytes before ls c in
-        record { before = ls; rest = before; line = n; comes = c; begun = begins_front ls
-            (fixed sign.Mark ∷ []) (whole_begins (ls ++ fixed sign.Mark ∷ []) h); here = l; stops =
-            marked m i h }
+        record {
+          before = ls;
+          rest = before;
+          line = n;
+          comes = c;
+          begun = begins_front ls
+              (fixed sign.Mark ∷ []) (whole_begins (ls ++ fixed sign.Mark ∷ []) h);
+          here = l;
+          stops =
+              marked m i h;
+        }

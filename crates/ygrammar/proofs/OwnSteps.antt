@@ -16,7 +16,7 @@ use Rattle.std.proofs.lemmas.List.{take_more}
 use Rattle.std.proofs.lemmas.List.Elements.{Contains-append_left, Contains-append_right}
 use Rattle.ygrammar.specs.declared.outline.Listed.{Listed}
 use Rattle.ygrammar.specs.declared.tree.Digits.{Digits}
-use Rattle.ygrammar.specs.TreeViews.{digits_view, mention_view, option_view}
+use Rattle.ygrammar.specs.TreeViews.{digits_view, occurrence_view, option_view}
 use Rattle.ygrammar.specs.Elaboration.{Listing, digits_number, listed_name, literal_value}
 use Rattle.ygrammar.specs.Elaboration.{option_list, said_of, usual_of}
 use Rattle.ygrammar.specs.Names.{Name, number_in, printed_literal}
@@ -41,9 +41,9 @@ pub too_large : (ds : List ℕ) (i value digit d : ℕ) → i < length ds → va
     IsFit (digits_value 10 ds) → ⊥
 too_large ds i value digit d h e f g fit =
     let a : digits_value 10 (take (i + 1) ds) ≤ digits_value 10 ds = digits_value-take-le 10 ds
-            (i + 1) (omega arith) in
+    (i + 1) (omega arith) in
     let b : 32767 < digits_value 10 (take (i + 1) ds) = subst (λ n. 32767 < n)
-            (value_more ds i value digit d h e f) g in
+    (value_more ds i value digit d h e f) g in
     let c = fit.1 in
     absurd (omega arith)
 
@@ -128,15 +128,15 @@ fills ns table k v m left right own hk hv other s =
         let e : n ≡ m = same_text n m (sym q) in
         let j : number_in ns n ≡ k = ap (number_in ns) e ∙ sym hk in
         ap (λ (o : Option ℕ). keep o (right n)) (ap (λ a. get_or (set table k (Some v)) a None) j ∙
-            get_or-set_same table k (Some v) None h)
+        get_or-set_same table k (Some v) None h)
         ∙ sym hv ∙ ap left (sym e)
         ∙ sym (ap (λ (o : Option ℕ). keep o (left n)) (ap (λ a. get_or table a None) j ∙ f))
         ∙ s.said n i
     set_here h f n i false q =
         let j : number_in ns n ≡ k → ⊥ =
-                λ a. other_text n m (sym q) (same_number ns n m i (a ∙ hk)) in
+        λ a. other_text n m (sym q) (same_number ns n m i (a ∙ hk)) in
         ap (λ (o : Option ℕ). keep o (right n)) (get_or-set_other table k (number_in ns n)
-            (Some v) None j)
+        (Some v) None j)
         ∙ ap (keep (get_or table (number_in ns n) None)) (sym (other n q))
         ∙ s.said n i
 
@@ -146,11 +146,11 @@ fills ns table k v m left right own hk hv other s =
     left_here f n i true q =
         let j : number_in ns n ≡ k = ap (number_in ns) (same_text n m (sym q)) ∙ sym hk in
         let l : k < length table = subst (λ a. a < length table) j
-                (subst (λ a. number_in ns n < a) (sym s.each) i) in
+        (subst (λ a. number_in ns n < a) (sym s.each) i) in
         let c : is_some (get_or table k None) ≡ true = held_of (nat_lt k (length table))
-                (is_some (get_or table k None)) f (in_table l) in
+        (is_some (get_or table k None)) f (in_table l) in
         kept (get_or table (number_in ns n) None) (right n) (left n)
-            (ap (λ a. is_some (get_or table a None)) j ∙ c) ∙ s.said n i
+        (ap (λ a. is_some (get_or table a None)) j ∙ c) ∙ s.said n i
     left_here f n i false q = ap (keep (get_or table (number_in ns n) None)) (sym (other n q)) ∙
         s.said n i
 
@@ -165,9 +165,9 @@ fills ns table k v m left right own hk hv other s =
         })
     go false e = subst (λ c. OwnSoFar ns (cond c (set table k (Some v)) table) right own) (sym e)
         (record {
-      each = s.each;
-      said = λ n i. left_here e n i (bytes_eq n m) refl;
-    })
+          each = s.each;
+          said = λ n i. left_here e n i (bytes_eq n m) refl;
+        })
 
 -- the value of a literal is given
 pub fills_literal : (ns : List Name) (table new : List (Option ℕ)) (k v : ℕ)
@@ -190,13 +190,13 @@ pub fills_first : (ns : List Name) (table one two : List (Option ℕ)) (a b : �
     OwnSoFar ns table (usual_of is) own → OwnSoFar ns two (literal_value is) own
 fills_first ns table one two a b is own ha hb e f s =
     subst (λ (t : List (Option ℕ)). OwnSoFar ns t (literal_value is) own) (sym f)
-        (fills ns one b 256 (codes "error") (error_or is) (literal_value is) own hb
-        (ap (λ c. cond c (Some 256) (literal_value is (codes "error"))) (eq_self (codes "error")))
-        (λ n q. ap (λ c. cond c (Some 256) (literal_value is n)) q)
+    (fills ns one b 256 (codes "error") (error_or is) (literal_value is) own hb
+    (ap (λ c. cond c (Some 256) (literal_value is (codes "error"))) (eq_self (codes "error")))
+    (λ n q. ap (λ c. cond c (Some 256) (literal_value is n)) q)
     (subst (λ (t : List (Option ℕ)). OwnSoFar ns t (error_or is) own) (sym e)
-        (fills ns table a 0 (codes "$end") (usual_of is) (error_or is) own ha
-        (ap (λ c. cond c (Some 0) (error_or is (codes "$end"))) (eq_self (codes "$end")))
-        (λ n q. ap (λ c. cond c (Some 0) (error_or is n)) q) s)))
+    (fills ns table a 0 (codes "$end") (usual_of is) (error_or is) own ha
+    (ap (λ c. cond c (Some 0) (error_or is (codes "$end"))) (eq_self (codes "$end")))
+    (λ n q. ap (λ c. cond c (Some 0) (error_or is n)) q) s)))
 
 pub take_none : {A : Type 0} (xs : List A) (i : ℕ) → length xs ≤ i → drop i xs ≡ []
 take_none [] zero h = refl
@@ -208,8 +208,12 @@ take_none (x ∷ xs) (suc i) h = take_none xs i (omega arith)
 pub digits_are : (x : Listed) (d : Digits) (v : ℕ) → x.digits ≡ Some d →
     v ≡ digits_value 10 d.digits.now → digits_number (listed_view x) ≡ Some v
 digits_are x d v e f = ap (λ (o : Option Digits).
-    digits_number (record { gives = x.gives; who = mention_view x.who; digits =
-    option_view digits_view o })) e ∙ ap (λ n. some_of n) (sym f)
+    digits_number (record {
+      gives = x.gives;
+      who = occurrence_view x.who;
+      digits =
+          option_view digits_view o;
+    })) e ∙ ap (λ n. some_of n) (sym f)
   where
     some_of : ℕ → Option ℕ
     some_of n = Some n

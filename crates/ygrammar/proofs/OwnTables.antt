@@ -12,7 +12,8 @@ use Rattle.ygrammar.specs.declared.mistake.Refused.TheVariants as refused
 use Rattle.ygrammar.specs.declared.precedence.Precedence.{Precedence}
 use Rattle.ygrammar.specs.Elaboration.{Listing, appearances, declared, uses, digits_number}
 use Rattle.ygrammar.specs.Elaboration.{first_or, gives_of, listings, option_list, own_number}
-use Rattle.ygrammar.specs.Elaboration.{own_numbers, precedence_of, said_of, token_names_of, tokens}
+use Rattle.ygrammar.specs.Elaboration.{own_numbers, token_precedence, said_of, token_names_of}
+use Rattle.ygrammar.specs.Elaboration.{tokens}
 use Rattle.ygrammar.specs.Elaboration.{usual_of}
 use Rattle.ygrammar.specs.Mistakes.{Holds}
 use Rattle.ygrammar.specs.Names.{Name, is_among, number_in, printed}
@@ -55,7 +56,7 @@ not_twice : {A : Type 0} (f : Listing → Option A) (t : Tree) (table : List (Op
 not_twice f t table s p =
     let (n, two) = p in
     one_said (get_or table (number_in (tokens t) n) None) (said_of f (listings t) n)
-        (s.said n (said_token f t n (omega arith))) two
+    (s.said n (said_token f t n (omega arith))) two
 
 -- precedences
 pub precedes : (t : Tree) (ls : List Listing) (ns : List Name)
@@ -78,7 +79,7 @@ precedes t ls ns r e f h = here r (subst (λ (x : List Name). TellsPrecedences x
     here : (r : Result (Vec (Option Precedence) Global) Refused) → TellsPrecedences (tokens t)
         (listings t) r → Precedes t r
     here (Ok v) s = record {
-      table = by_numbers (precedence_of t) (tokens t) v.items None (distinct_tokens t) s.each
+      table = by_numbers (token_precedence t) (tokens t) v.items None (distinct_tokens t) s.each
           (λ n k. first_said (get_or v.items (number_in (tokens t) n) None)
           (said_of gives_of (listings t) n) (s.said n k));
       sound = not_twice gives_of t v.items s;
@@ -140,9 +141,9 @@ numbers_sound t table s fit apart (inl p) =
     let (n, m, there, wrong) = p in
     let xs : List ℕ = said_of digits_number (listings t) n in
     let h : number_in (tokens t) n < length (tokens t) = said_token digits_number t n
-            (let k = there.1 in omega arith) in
+    (let k = there.1 in omega arith) in
     let f : IsFit m = fit (number_in (tokens t) n) m
-            (the_one (get_or table (number_in (tokens t) n) None) xs m (s.said n h) there) in
+    (the_one (get_or table (number_in (tokens t) n) None) xs m (s.said n h) there) in
     not_fit m f wrong
   where
     the_one : (o : Option ℕ) (xs : List ℕ) (m : ℕ) → option_list o ++ [] ≡ xs → Contains xs m →
@@ -171,9 +172,9 @@ pub own_whole : (t : Tree) (ns : List Name) (d u : List Identifier) (given own :
 own_whole t ns d u given own e f s h =
     own_list t own (subst (λ (x : List Name). OwnSoFar x own (λ _. None) (own_number t)) e
     (h (own_number t) (subst (λ (is : List Identifier). OwnSoFar ns given (usual_of is)
-        (own_number t)) (sym f)
+    (own_number t)) (sym f)
     (subst (λ (x : List Name). OwnSoFar x given (usual_of (appearances t)) (own_number t)) (sym e)
-        (own_start t given s)))))
+    (own_start t given s)))))
 
 pub told_here : (t : Tree) (ns : List Name) (ls : List Listing) (table : List (Option ℕ)) →
     ns ≡ tokens t → ls ≡ listings t → IsTold digits_number ns ls table → IsTold digits_number

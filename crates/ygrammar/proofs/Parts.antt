@@ -9,9 +9,10 @@ use Rattle.ygrammar.specs.declared.kind.Sign.{Sign}
 use Rattle.ygrammar.specs.declared.kind.Sign.TheVariants as sign
 use Rattle.ygrammar.specs.Bytes.{is_blank, is_digit, is_name_start, is_name_byte, all_pass, begins}
 use Rattle.ygrammar.specs.Bytes.{IsBetween}
-use Rattle.ygrammar.specs.Lexemes.{Lexeme, name, head, literal, number, act, code, fixed, IsName}
-use Rattle.ygrammar.specs.Lexemes.{IsNumber, IsLiteral, IsHead, Spells, spelling}
-use Rattle.ygrammar.specs.Cuttings.{Part, blank, comment, lexeme, IsPart, PartAt}
+use Rattle.ygrammar.specs.Lexemes.{Lexeme, name, c_identifier, literal, number, braced, code, fixed}
+use Rattle.ygrammar.specs.Lexemes.{IsName}
+use Rattle.ygrammar.specs.Lexemes.{IsNumber, IsLiteral, IsCIdentifier, Spells, spelling}
+use Rattle.ygrammar.specs.Lexer.{Part, blank, comment, lexeme, IsPart, PartAt}
 use Rattle.ygrammar.specs.Stages.{found}
 use Rattle.ygrammar.specs.Views.{sign_of, word_of}
 use Rattle.ygrammar.proofs.Runs.{heads_are, run_one, same_text, between_begins, between_one}
@@ -29,9 +30,9 @@ is_sign b = eqb b 60 || eqb b 62 || eqb b 124 || eqb b 59
 abbrev pub class : ℕ → Class
 class b =
     cond (is_blank b) blanks (cond (is_digit b) digits
-        (cond (eqb b 47) slashes (cond (is_name_start b) letters
+    (cond (eqb b 47) slashes (cond (is_name_start b) letters
     (cond (eqb b 39) quotes (cond (eqb b 37) percents
-        (cond (eqb b 123) braces (cond (is_sign b) signs others)))))))
+    (cond (eqb b 123) braces (cond (is_sign b) signs others)))))))
 
 abbrev pub is_word : Sign → Bool
 is_word sign.Less = false
@@ -42,10 +43,10 @@ is_word _ = true
 
 abbrev pub lexeme_class : Lexeme → Class
 lexeme_class (name n) = letters
-lexeme_class (head n) = letters
+lexeme_class (c_identifier n) = letters
 lexeme_class (literal v) = quotes
 lexeme_class (number ds) = digits
-lexeme_class (act t) = braces
+lexeme_class (braced t) = braces
 lexeme_class code = percents
 lexeme_class (fixed s) = cond (is_word s) percents signs
 
@@ -96,8 +97,8 @@ sign_starts sign.Greater = record { first = _; more = _; whole = refl; classed =
 sign_starts sign.Bar = record { first = _; more = _; whole = refl; classed = refl }
 sign_starts sign.Semicolon = record { first = _; more = _; whole = refl; classed = refl }
 
-head_begins : (n t : List ℕ) → IsHead n t → begins is_name_start t ≡ true
-head_begins n t h = at n h.whole h.named.start
+c_identifier_begins : (n t : List ℕ) → IsCIdentifier n t → begins is_name_start t ≡ true
+c_identifier_begins n t h = at n h.whole h.named.start
   where
     at : (n : List ℕ) → t ≡ n ++ h.gap ++ 58 ∷ [] → begins is_name_start n ≡ true →
         begins is_name_start t ≡ true
@@ -105,19 +106,34 @@ head_begins n t h = at n h.whole h.named.start
     at (b ∷ n) e s = ap (begins is_name_start) e ∙ s
 
 pub starts : (p : Part) (t : List ℕ) → IsPart p t → Starts (class_of p) t
-starts blank t (b, e, h) = record { first = b; more = []; whole = e; classed =
-    cond-true (is_blank b) blanks _ h }
+starts blank t (b, e, h) = record {
+  first = b;
+  more = [];
+  whole = e;
+  classed =
+      cond-true (is_blank b) blanks _ h;
+}
 starts comment t h = let (more, w) = between_begins 47 42 42 47 t h in
     record { first = 47; more = 42 ∷ more; whole = w; classed = refl }
 starts (lexeme (name n)) t (e, h) = run_starts is_name_start letters letter_class t
     (ap (begins is_name_start) e ∙ h.start)
-starts (lexeme (head n)) t h = run_starts is_name_start letters letter_class t (head_begins n t h)
-starts (lexeme (literal v)) t h = record { first = 39; more = h.body ++ 39 ∷ []; whole = h.whole;
-    classed = refl }
+starts (lexeme (c_identifier n)) t h = run_starts is_name_start letters letter_class t
+    (c_identifier_begins n t h)
+starts (lexeme (literal v)) t h = record {
+  first = 39;
+  more = h.body ++ 39 ∷ [];
+  whole = h.whole;
+  classed = refl;
+}
 starts (lexeme (number ds)) t (e, h) = run_starts is_digit digits digit_class t
     (ap (begins is_digit) e ∙ digits_start ds h)
-starts (lexeme (act a)) t (e, h) = record { first = 123; more = h.inside ++ 125 ∷ []; whole =
-    e ∙ h.whole; classed = refl }
+starts (lexeme (braced a)) t (e, h) = record {
+  first = 123;
+  more = h.inside ++ 125 ∷ [];
+  whole =
+      e ∙ h.whole;
+  classed = refl;
+}
 starts (lexeme code) t h = let (more, w) = between_begins 37 123 37 125 t h in
     record { first = 37; more = 123 ∷ more; whole = w; classed = refl }
 starts (lexeme (fixed s)) t e = let h = sign_starts s in
@@ -129,7 +145,7 @@ one_class p q t u r s e h k =
     let a = starts p t h in
     let b = starts q u k in
     let w : a.first ≡ b.first = heads_are a.first b.first (a.more ++ r) (b.more ++ s)
-            (sym (ap (λ z. z ++ r) a.whole) ∙ e ∙ ap (λ z. z ++ s) b.whole) in
+    (sym (ap (λ z. z ++ r) a.whole) ∙ e ∙ ap (λ z. z ++ s) b.whole) in
     sym a.classed ∙ ap class w ∙ b.classed
 
 -- the class of the first byte there
@@ -138,7 +154,7 @@ pub class_at : (p : Part) (t r : List ℕ) (b : ℕ) (u : List ℕ) → t ++ r �
 class_at p t r b u e h =
     let a = starts p t h in
     let w : a.first ≡ b = heads_are a.first b (a.more ++ r) u
-            (sym (ap (λ z. z ++ r) a.whole) ∙ e) in
+    (sym (ap (λ z. z ++ r) a.whole) ∙ e) in
     sym (ap class w) ∙ a.classed
 
 pub not_sign : (c : Class) (s : Sign) → c ≢ percents → c ≢ signs → cond (is_word s) percents signs ≡
@@ -196,16 +212,16 @@ all_pass_end : (p : ℕ → Bool) (x y : List ℕ) → all_pass p (x ++ y) ≡ t
 all_pass_end p [] y h = h
 all_pass_end p (b ∷ x) y h = all_pass_end p x y (and_parts (p b) (all_pass p (x ++ y)) h).1
 
-name_or_head : (n m t : List ℕ) → t ≡ n → IsName n → IsHead m t → ⊥
-name_or_head n m t e h k =
+name_or_c_identifier : (n m t : List ℕ) → t ≡ n → IsName n → IsCIdentifier m t → ⊥
+name_or_c_identifier n m t e h k =
     let w = all_pass_end is_name_byte (m ++ k.gap) (58 ∷ [])
-            (sym (ap (all_pass is_name_byte) (sym e ∙ k.whole)) ∙ h.each) in
+    (sym (ap (all_pass is_name_byte) (sym e ∙ k.whole)) ∙ h.each) in
     let z : false ≡ true = w in cc
 
-head_one : (n m t : List ℕ) → IsHead n t → IsHead m t → n ≡ m
-head_one n m t h k =
+c_identifier_one : (n m t : List ℕ) → IsCIdentifier n t → IsCIdentifier m t → n ≡ m
+c_identifier_one n m t h k =
     run_one is_name_byte n m (h.gap ++ 58 ∷ []) (k.gap ++ 58 ∷ []) h.named.each k.named.each
-        (gap_first h.gap [] h.skipped) (gap_first k.gap [] k.skipped)
+    (gap_first h.gap [] h.skipped) (gap_first k.gap [] k.skipped)
     (sym (append_assoc n h.gap (58 ∷ [])) ∙ sym h.whole ∙ k.whole ∙ append_assoc m k.gap (58 ∷ []))
 
 literal_one : (v w : ℕ) (t : List ℕ) → IsLiteral t v → IsLiteral t w → v ≡ w
@@ -224,26 +240,27 @@ code_or_fixed s t h e =
 spells_one : (l m : Lexeme) (t : List ℕ) → lexeme_class l ≡ lexeme_class m → Spells l t →
     Spells m t → l ≡ m
 spells_one (name n) (name m) t c (e, h) (f, k) = ap name (sym e ∙ f)
-spells_one (name n) (head m) t c (e, h) k = absurd (name_or_head n m t e h k)
-spells_one (head n) (name m) t c h (e, k) = absurd (name_or_head m n t e k h)
-spells_one (head n) (head m) t c h k = ap head (head_one n m t h k)
+spells_one (name n) (c_identifier m) t c (e, h) k = absurd (name_or_c_identifier n m t e h k)
+spells_one (c_identifier n) (name m) t c h (e, k) = absurd (name_or_c_identifier m n t e k h)
+spells_one (c_identifier n) (c_identifier m) t c h k = ap c_identifier (c_identifier_one n m t h k)
 spells_one (literal v) (literal w) t c h k = ap literal (literal_one v w t h k)
 spells_one (number d) (number e) t c (f, h) (g, k) = ap number (sym f ∙ g)
-spells_one (act a) (act b) t c (f, h) (g, k) = ap act (sym f ∙ g)
+spells_one (braced a) (braced b) t c (f, h) (g, k) = ap braced (sym f ∙ g)
 spells_one code code t c h k = refl
 spells_one code (fixed s) t c h k = absurd (code_or_fixed s t h k)
 spells_one (fixed s) code t c h k = absurd (code_or_fixed s t k h)
 spells_one (fixed s) (fixed z) t c h k = ap fixed (spelling_one s z (sym h ∙ k))
 spells_one (fixed s) (name n) t c h k = absurd (not_sign letters s (λ e. cc) (λ e. cc) c)
-spells_one (fixed s) (head n) t c h k = absurd (not_sign letters s (λ e. cc) (λ e. cc) c)
+spells_one (fixed s) (c_identifier n) t c h k = absurd (not_sign letters s (λ e. cc) (λ e. cc) c)
 spells_one (fixed s) (literal n) t c h k = absurd (not_sign quotes s (λ e. cc) (λ e. cc) c)
 spells_one (fixed s) (number n) t c h k = absurd (not_sign digits s (λ e. cc) (λ e. cc) c)
-spells_one (fixed s) (act n) t c h k = absurd (not_sign braces s (λ e. cc) (λ e. cc) c)
+spells_one (fixed s) (braced n) t c h k = absurd (not_sign braces s (λ e. cc) (λ e. cc) c)
 spells_one (name n) (fixed s) t c h k = absurd (not_sign letters s (λ e. cc) (λ e. cc) (sym c))
-spells_one (head n) (fixed s) t c h k = absurd (not_sign letters s (λ e. cc) (λ e. cc) (sym c))
+spells_one (c_identifier n) (fixed s) t c h k =
+    absurd (not_sign letters s (λ e. cc) (λ e. cc) (sym c))
 spells_one (literal n) (fixed s) t c h k = absurd (not_sign quotes s (λ e. cc) (λ e. cc) (sym c))
 spells_one (number n) (fixed s) t c h k = absurd (not_sign digits s (λ e. cc) (λ e. cc) (sym c))
-spells_one (act n) (fixed s) t c h k = absurd (not_sign braces s (λ e. cc) (λ e. cc) (sym c))
+spells_one (braced n) (fixed s) t c h k = absurd (not_sign braces s (λ e. cc) (λ e. cc) (sym c))
 spells_one _ _ t c h k = cc
 
 -- ---- one part begins at a place
@@ -259,14 +276,14 @@ no_lexeme (fixed s) c (inr e) f = not_sign c s (λ z. let w : slashes ≡ percen
     (λ z. let w : slashes ≡ signs = sym e ∙ z in cc) (sym f)
 no_lexeme (name n) c (inl e) f = let w : blanks ≡ letters = sym e ∙ f in cc
 no_lexeme (name n) c (inr e) f = let w : slashes ≡ letters = sym e ∙ f in cc
-no_lexeme (head n) c (inl e) f = let w : blanks ≡ letters = sym e ∙ f in cc
-no_lexeme (head n) c (inr e) f = let w : slashes ≡ letters = sym e ∙ f in cc
+no_lexeme (c_identifier n) c (inl e) f = let w : blanks ≡ letters = sym e ∙ f in cc
+no_lexeme (c_identifier n) c (inr e) f = let w : slashes ≡ letters = sym e ∙ f in cc
 no_lexeme (literal n) c (inl e) f = let w : blanks ≡ quotes = sym e ∙ f in cc
 no_lexeme (literal n) c (inr e) f = let w : slashes ≡ quotes = sym e ∙ f in cc
 no_lexeme (number n) c (inl e) f = let w : blanks ≡ digits = sym e ∙ f in cc
 no_lexeme (number n) c (inr e) f = let w : slashes ≡ digits = sym e ∙ f in cc
-no_lexeme (act n) c (inl e) f = let w : blanks ≡ braces = sym e ∙ f in cc
-no_lexeme (act n) c (inr e) f = let w : slashes ≡ braces = sym e ∙ f in cc
+no_lexeme (braced n) c (inl e) f = let w : blanks ≡ braces = sym e ∙ f in cc
+no_lexeme (braced n) c (inr e) f = let w : slashes ≡ braces = sym e ∙ f in cc
 no_lexeme code c (inl e) f = let w : blanks ≡ percents = sym e ∙ f in cc
 no_lexeme code c (inr e) f = let w : slashes ≡ percents = sym e ∙ f in cc
 
@@ -289,18 +306,27 @@ one_part p q bytes r s a b = go p q (one_class p q a.text b.text r s (sym a.whol
     go blank blank c a b =
         let (x, e, i) = a.spelled in
         let (y, f, j) = b.spelled in
-        record { part = refl; rest = (same_text a.text b.text r s (ap length e ∙ sym (ap length f))
-            (joined a.text b.text a.whole b.whole)).1 }
-    go comment comment c a b = record { part = refl; rest =
-        (between_one 47 42 42 47 a.text b.text r s a.spelled b.spelled
-        (joined a.text b.text a.whole b.whole)).1 }
+        record {
+          part = refl;
+          rest = (same_text a.text b.text r s (ap length e ∙ sym (ap length f))
+              (joined a.text b.text a.whole b.whole)).1;
+        }
+    go comment comment c a b = record {
+      part = refl;
+      rest =
+          (between_one 47 42 42 47 a.text b.text r s a.spelled b.spelled
+          (joined a.text b.text a.whole b.whole)).1;
+    }
     go (lexeme l) (lexeme m) c a b =
         let x = a.longest m b.text s b.whole b.spelled in
         let y = b.longest l a.text r a.whole a.spelled in
         let w = same_text a.text b.text r s (omega (arith, x, y))
-                (joined a.text b.text a.whole b.whole) in
-        record { part = ap lexeme (spells_one l m b.text c (subst (Spells l) w.0 a.spelled)
-            b.spelled); rest = w.1 }
+        (joined a.text b.text a.whole b.whole) in
+        record {
+          part = ap lexeme (spells_one l m b.text c (subst (Spells l) w.0 a.spelled)
+              b.spelled);
+          rest = w.1;
+        }
     go blank comment c a b = cc
     go comment blank c a b = cc
     go blank (lexeme l) c a b = absurd (no_blank_lexeme l c)

@@ -9,8 +9,9 @@ use Rattle.std.proofs.lemmas.List.{length-map}
 use Rattle.ygrammar.specs.Grammar.{ContextFree, Production, left_of, body_of, IsToken}
 use Rattle.ygrammar.specs.Forms.{Derives, done, step, Productive}
 use Rattle.ygrammar.specs.Grammar.{RuleValue}
-use Rattle.ygrammar.specs.Marking.{IsMarked, IsSettled, left, stuck, ahead, MarksProductive}
-use Rattle.ygrammar.specs.Marking.{bare_rule, numbered_grammar, rule_at}
+use Rattle.ygrammar.specs.Marking.{IsMarked, IsSettled, left, stuck, ahead, OnlyProductive}
+use Rattle.ygrammar.specs.Marking.{numbered_grammar, rule_at}
+use Rattle.ygrammar.specs.Grammar.{production_of}
 use Rattle.ygrammar.proofs.MarkingSteps.{not_both, none_waits}
 
 derives_then : {g : ContextFree} {x y z : List ℕ} → Derives g x y → Derives g y z → Derives g x z
@@ -47,31 +48,50 @@ record Word (g : ContextFree) (x : List ℕ) : Type 0 where
   tokens : All (IsToken g) word
   derives : Derives g x word
 
-words : (g : ContextFree) (m : List Bool) → MarksProductive g m → (x : List ℕ) →
+words : (g : ContextFree) (m : List Bool) → OnlyProductive g m → (x : List ℕ) →
     ((k : ℕ) → k < length x → IsMarked m (slice_index x k)) → Word g x
 words g m f [] h = record { word = []; tokens = All-nil (IsToken g); derives = done }
 words g m f (s ∷ x) h =
     let a = f s (h 0 (omega arith)) in
     let b = words g m f x (λ k l. h (suc k) (omega arith)) in
-    record { word = a.word ++ b.word; tokens = All-append (IsToken g) a.word b.word a.tokens
-        b.tokens; derives = derives_then (derives_before a.derives x)
-        (derives_after a.word b.derives) }
+    record {
+      word = a.word ++ b.word;
+      tokens = All-append (IsToken g) a.word b.word a.tokens
+          b.tokens;
+      derives = derives_then (derives_before a.derives x)
+          (derives_after a.word b.derives);
+    }
 
 pub token_productive : (g : ContextFree) (t : ℕ) → IsToken g t → Productive g t
-token_productive g t h = record { word = t ∷ []; tokens = All-cons (IsToken g) t [] h
-    (All-nil (IsToken g)); derives = done }
+token_productive g t h = record {
+  word = t ∷ [];
+  tokens = All-cons (IsToken g) t [] h
+      (All-nil (IsToken g));
+  derives = done;
+}
 
 -- the left side of a rule whose body is marked
-pub body_productive : (g : ContextFree) (m : List Bool) (r : ℕ) → MarksProductive g m →
+pub body_productive : (g : ContextFree) (m : List Bool) (r : ℕ) → OnlyProductive g m →
     r < length g.rules → ((k : ℕ) → k < length (body_of g r) →
     IsMarked m (slice_index (body_of g r) k)) → Productive g (left_of g r)
 body_productive g m r f h a =
     let w = words g m f (body_of g r) a in
-    record { word = w.word; tokens = w.tokens; derives =
-        step (record { before = []; after = []; rule = r; within = h; source = refl; target =
-        sym (append-nil (body_of g r)) }) w.derives }
+    record {
+      word = w.word;
+      tokens = w.tokens;
+      derives =
+          step (record {
+            before = [];
+            after = [];
+            rule = r;
+            within = h;
+            source = refl;
+            target =
+                sym (append-nil (body_of g r));
+          }) w.derives;
+    }
 
-marked_or_left : (g : ContextFree) (m : List Bool) (s l : ℕ) → MarksProductive g m →
+marked_or_left : (g : ContextFree) (m : List Bool) (s l : ℕ) → OnlyProductive g m →
     Productive g l → IsMarked m s ⊎ (s ≡ l) → Productive g s
 marked_or_left g m s l f p (inl k) = f s k
 marked_or_left g m s l f p (inr e) = subst (Productive g) (sym e) p
@@ -80,13 +100,13 @@ pub left_marked : (tokens symbols : ℕ) (rules : List RuleValue) (m m2 : List B
     r < length rules → l ≡ (rule_at rules r).left →
     ((k : ℕ) → k < length (rule_at rules r).body →
     IsMarked m (slice_index (rule_at rules r).body k)) → ((t : ℕ) → IsMarked m2 t → IsMarked m t ⊎
-    (t ≡ l)) → MarksProductive (numbered_grammar tokens symbols rules) m → MarksProductive
+    (t ≡ l)) → OnlyProductive (numbered_grammar tokens symbols rules) m → OnlyProductive
     (numbered_grammar tokens symbols rules) m2
 left_marked tokens symbols rules m m2 r l h e a only f s k =
     let g = numbered_grammar tokens symbols rules in
     marked_or_left g m s l f (subst (Productive g) (sym e)
-        (body_productive g m r f (subst (λ (n : ℕ). r < n) (sym (length-map rules bare_rule)) h) a))
-        (only s k)
+    (body_productive g m r f (subst (λ (n : ℕ). r < n) (sym (length-map rules production_of)) h) a))
+    (only s k)
 
 abbrev Every : (ℕ → Type 0) → List ℕ → Type 0
 Every P xs = AllByRecursion P xs
@@ -113,9 +133,11 @@ covers {g = g} m c (step s d) h =
     let i = subst (Every p) s.target (covers m c d h) in
     let j = back p s.before (body_of g s.rule ++ s.after) i in
     subst (Every p) (sym s.source) (both p s.before (left_of g s.rule ∷ s.after)
-        (front p s.before (body_of g s.rule ++ s.after) i)
-        (c s.rule s.within (front p (body_of g s.rule) s.after j), back p (body_of g s.rule) s.after
-        j))
+    (front p s.before (body_of g s.rule ++ s.after) i) (
+      c s.rule s.within (front p (body_of g s.rule) s.after j),
+      back p (body_of g s.rule) s.after
+          j,
+    ))
 
 every_at : (P : ℕ → Type 0) (xs : List ℕ) (k : ℕ) → k < length xs → Every P xs → P (get_or xs k 0)
 every_at P [] k l h = absurd (omega arith)
@@ -136,6 +158,6 @@ pub all_marked : (tokens symbols : ℕ) (rules : List RuleValue) (m : List Bool)
 all_marked tokens symbols rules m o n z c t s p =
     let g = numbered_grammar tokens symbols rules in
     let w : Every (IsMarked m) p.word = recursion_from_All (IsMarked m) p.word
-            (All-weaker (IsToken g) (IsMarked m) t p.word p.tokens) in
+    (All-weaker (IsToken g) (IsMarked m) t p.word p.tokens) in
     (covers {g = g} m (λ r h e. closed_by (rule_at rules r) m o n z
-        (c r (subst (λ (n : ℕ). r < n) (length-map rules bare_rule) h)) e) p.derives w).0
+    (c r (subst (λ (n : ℕ). r < n) (length-map rules production_of) h)) e) p.derives w).0

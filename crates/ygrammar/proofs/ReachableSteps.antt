@@ -9,10 +9,11 @@ use Rattle.ygrammar.specs.Grammar.{ContextFree, Production}
 use Rattle.ygrammar.specs.Forms.{IsReachable, first, further}
 use Rattle.ygrammar.specs.Grammar.{RuleValue}
 use Rattle.ygrammar.specs.Marking.{IsMarked, IsUnmarked, IsSpread, unseen, ahead, spread}
-use Rattle.ygrammar.specs.Marking.{MarksReachable, bare_rule, numbered_grammar, rule_at}
+use Rattle.ygrammar.specs.Marking.{OnlyReachable, numbered_grammar, rule_at}
+use Rattle.ygrammar.specs.Grammar.{production_of}
 use Rattle.ygrammar.proofs.MarkingSteps.{not_both, none_waits}
 
-either : (g : ContextFree) (m : List Bool) (s x : ℕ) → MarksReachable g m → IsReachable g x →
+either : (g : ContextFree) (m : List Bool) (s x : ℕ) → OnlyReachable g m → IsReachable g x →
     IsMarked m s ⊎ (s ≡ x) → IsReachable g s
 either g m s x f p (inl k) = f s k
 either g m s x f p (inr e) = subst (IsReachable g) (sym e) p
@@ -21,19 +22,20 @@ either g m s x f p (inr e) = subst (IsReachable g) (sym e) p
 pub symbol_marked : (tokens symbols : ℕ) (rules : List RuleValue) (m m2 : List Bool) (r i x : ℕ)
     (body : List ℕ) → r < length rules → body ≡ (rule_at rules r).body → i < length body →
     x ≡ slice_index body i → ((t : ℕ) → IsMarked m2 t → IsMarked m t ⊎ (t ≡ x)) →
-    IsReachable (numbered_grammar tokens symbols rules) (rule_at rules r).left → MarksReachable
-    (numbered_grammar tokens symbols rules) m → MarksReachable
+    IsReachable (numbered_grammar tokens symbols rules) (rule_at rules r).left → OnlyReachable
+    (numbered_grammar tokens symbols rules) m → OnlyReachable
     (numbered_grammar tokens symbols rules) m2
 symbol_marked tokens symbols rules m m2 r i x body h e l n only p f s k =
     let g = numbered_grammar tokens symbols rules in
     let c : Contains (rule_at rules r).body x = subst (λ (b : List ℕ). Contains b x) e
-            (subst (Contains body) (sym n) (Contains-get_or body i 0 l)) in
-    either g m s x f (further {r = r} (subst (λ (j : ℕ). r < j) (sym (length-map rules bare_rule))
-        h) p c) (only s k)
+    (subst (Contains body) (sym n) (Contains-get_or body i 0 l)) in
+    either g m s x f (further {r = r}
+    (subst (λ (j : ℕ). r < j) (sym (length-map rules production_of))
+    h) p c) (only s k)
 
 pub first_marked : (tokens symbols : ℕ) (rules : List RuleValue) (m m2 : List Bool) (x : ℕ) →
-    x ≡ (rule_at rules 0).left → ((t : ℕ) → IsMarked m2 t → IsMarked m t ⊎ (t ≡ x)) → MarksReachable
-    (numbered_grammar tokens symbols rules) m → MarksReachable
+    x ≡ (rule_at rules 0).left → ((t : ℕ) → IsMarked m2 t → IsMarked m t ⊎ (t ≡ x)) → OnlyReachable
+    (numbered_grammar tokens symbols rules) m → OnlyReachable
     (numbered_grammar tokens symbols rules) m2
 first_marked tokens symbols rules m m2 x e only f s k =
     let g = numbered_grammar tokens symbols rules in
@@ -53,8 +55,8 @@ all_marked tokens symbols rules m o n z c b s first = b
 all_marked tokens symbols rules m o n z c b s (further {r = r} h p k) =
     let body = (rule_at rules r).body in
     let f = closed_by (rule_at rules r) m o n z
-            (c r (subst (λ (j : ℕ). r < j) (length-map rules bare_rule) h))
-            (all_marked tokens symbols rules m o n z c b (rule_at rules r).left p) in
+    (c r (subst (λ (j : ℕ). r < j) (length-map rules production_of) h))
+    (all_marked tokens symbols rules m o n z c b (rule_at rules r).left p) in
     All-contains (IsMarked m) body s (All-from_get_or (IsMarked m) body 0 f) k
 
 blank_at : (n s : ℕ) → get_or (replicate n false) s false ≡ false

@@ -1,11 +1,10 @@
 -- A file has one grammar or one fault.
 use Rattle.std.proofs.Common.{ℕ, ◌≡◌, ◌<◌, ◌≤◌, ◌⊎◌, inl, inr, List, Result, Ok, Err, refl, sym, ap}
-use Rattle.std.proofs.Common.{subst, arith, true, false}
+use Rattle.std.proofs.Common.{subst, arith, true, false, length, ◌∙◌}
 use Rattle.std.specs.Result.{IsErrOf}
-use Rattle.ygrammar.specs.declared.fault.SyntaxFault.{SyntaxFault}
-use Rattle.ygrammar.specs.declared.fault.SyntaxFault.TheVariants as syntax_faults
-use Rattle.ygrammar.specs.Answers.{Answers}
+use Rattle.ygrammar.specs.Answers.{Answers, views}
 use Rattle.ygrammar.specs.declared.fault.GrammarFault.{GrammarFault}
+use Rattle.ygrammar.specs.declared.fault.GrammarFault.TheVariants as faults
 use Rattle.ygrammar.specs.declared.mistake.Mistake.{Mistake}
 use Rattle.ygrammar.specs.declared.mistake.Mistake.TheVariants.{TokenLeft, Undefined}
 use Rattle.ygrammar.specs.declared.mistake.Mistake.TheVariants.{TwicePrecedence, BadNumber}
@@ -13,10 +12,11 @@ use Rattle.ygrammar.specs.declared.mistake.Mistake.TheVariants.{BadStart, Unprod
 use Rattle.ygrammar.specs.declared.mistake.Mistake.TheVariants.{Limit}
 use Rattle.ygrammar.specs.declared.mistake.Refused.{Refused}
 use Rattle.ygrammar.specs.declared.mistake.Refused.TheVariants as refused
-use Rattle.ygrammar.specs.Cuttings.{Refusal}
+use Rattle.ygrammar.specs.declared.lexer.Placed.{Placed}
+use Rattle.ygrammar.specs.Lexer.{Refusal, SpellsSyntax}
 use Rattle.ygrammar.specs.Elaborated.{IsFirstRefused}
-use Rattle.ygrammar.specs.Faults.{IsRefusal, line_of, of_syntax}
-use Rattle.ygrammar.specs.Grammar.{GrammarValue}
+use Rattle.ygrammar.specs.Faults.{IsRefusal, line_of}
+use Rattle.ygrammar.specs.Grammar.{GrammarValue, longest_file}
 use Rattle.ygrammar.specs.GrammarOf.{AnswersGrammar, AnswersMistake, AnswersRefusal, HasTree}
 use Rattle.ygrammar.specs.GrammarOf.{IsFaultOf, IsMistaken, mistake_at}
 use Rattle.ygrammar.specs.Lexemes.{Lexeme}
@@ -37,10 +37,33 @@ lexemes_of d (Err r) = d
 abbrev pub read : List Lexeme → Result (List Lexeme) Refusal
 read ls = Ok ls
 
--- a file has one tree
-pub same_tree : (t u : Tree) → IsTree t → IsTree u → read (yield u) ≡ read (yield t) → u ≡ t
+not_long : (n : ℕ) → (1048576 < n → ⊥) → n ≤ 1048576
+not_long n h = go (long_or n)
+  where
+    long_or : (k : ℕ) → (1048576 < k) ⊎ (k ≤ 1048576)
+    long_or k = grind (arith)
+
+    go : (1048576 < n) ⊎ (n ≤ 1048576) → n ≤ 1048576
+    go (inl l) = absurd (h l)
+    go (inr l) = l
+
+-- a file has one tree: that of the lexemes that are read
+pub same_tree : (source : List ℕ) (items now : List Placed) (t u : Tree) → now ≡ items →
+    views now ≡ yield t → IsTree t → ((ks : List Lexeme) → length source ≤ longest_file →
+    SpellsSyntax source ks → read ks ≡ read (views items)) → HasTree source u → u ≡ t
 unfolding lexemes_of
-same_tree t u a b e = one_tree u t b a (ap (lexemes_of (yield u)) e)
+same_tree source items now t u e w s only h = one_tree u t h.shaped s
+    (ap (lexemes_of (yield u)) (only (yield u) h.short h.spelled) ∙ ap views (sym e) ∙ w)
+
+-- the tree of the lexemes that are read is the file's
+pub has_tree : (source : List ℕ) (items now : List Placed) (t : Tree) → now ≡ items →
+    views now ≡ yield t → IsTree t → (longest_file < length source → ⊥) →
+    SpellsSyntax source (views items) → HasTree source t
+has_tree source items now t e w s short found = record {
+  short = not_long (length source) short;
+  spelled = subst (SpellsSyntax source) (ap views (sym e) ∙ w) found;
+  shaped = s;
+}
 
 -- a file has one grammar
 pub same_grammar : (source : List ℕ) (t u : Tree) (g h : GrammarValue) → u ≡ t → IsMeaning t g →
@@ -88,14 +111,14 @@ read_no_fault ls r A e = absurd
     e))
 
 -- the fault of the syntax that is answered is the file's
-pub same_refusal : (e : SyntaxFault) (r : Refusal) → Answers (Err e) (Err r) → AnswersRefusal
-    (err_of (of_syntax e)) r
-same_refusal (syntax_faults.Unfinished line) r h = cc
-same_refusal (syntax_faults.BadLiteral line) r h = cc
-same_refusal (syntax_faults.Foreign line) r h = cc
-same_refusal (syntax_faults.Syntax line) r h = cc
-same_refusal syntax_faults.TooLong r h = absurd h
-same_refusal syntax_faults.Memory r h = tt
+pub same_refusal : (f : GrammarFault) (r : Refusal) → Answers (Err f) (Err r) → AnswersRefusal
+    (err_of f) r
+same_refusal (faults.Unfinished line) r h = cc
+same_refusal (faults.BadLiteral line) r h = cc
+same_refusal (faults.Foreign line) r h = cc
+same_refusal (faults.Syntax line) r h = cc
+same_refusal faults.Memory r h = tt
+same_refusal _ r h = absurd h
 
 -- each mistake is answered as itself
 answers_mistake : (m : Mistake) (line : ℕ) → AnswersMistake (err_of (mistake_at m line)) m
@@ -115,8 +138,8 @@ pub same_mistake : (source : List ℕ) (t u : Tree) (e : Refused) (f : GrammarFa
 same_mistake source t u (refused.Mistake what at) f m e first is h =
     let same : what ≡ m = one_first t order what m first (subst (λ x. IsFirst x order m) e h) in
     subst (λ x. AnswersMistake (err_of x) m) (sym is)
-        (subst (λ x. AnswersMistake (err_of (mistake_at what (line_of source at))) x) same
-        (answers_mistake what (line_of source at)))
+    (subst (λ x. AnswersMistake (err_of (mistake_at what (line_of source at))) x) same
+    (answers_mistake what (line_of source at)))
 same_mistake source t u refused.Memory f m e first is h = subst (λ x. AnswersMistake (err_of x) m)
     (sym is) tt
 
@@ -124,13 +147,3 @@ same_mistake source t u refused.Memory f m e first is h = subst (λ x. AnswersMi
 pub ok_err : {T E : Type 0} (x : T) (e : E) → IsErrOf (ok_of {E = E} x) e → ⊥
 ok_err {T = T} {E = E} x e h =
     false_true (sym (ap (λ (r : Result T E). elim r [ Ok y ↦ true | Err d ↦ false ]) h))
-
-pub not_long : (n : ℕ) → (1048576 < n → ⊥) → n ≤ 1048576
-not_long n h = go (long_or n)
-  where
-    long_or : (k : ℕ) → (1048576 < k) ⊎ (k ≤ 1048576)
-    long_or k = grind (arith)
-
-    go : (1048576 < n) ⊎ (n ≤ 1048576) → n ≤ 1048576
-    go (inl l) = absurd (h l)
-    go (inr l) = l

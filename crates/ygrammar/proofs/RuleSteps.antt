@@ -1,12 +1,13 @@
 -- Bodies, their final actions, and rules by number.
 use Rattle.std.proofs.Common.{ℕ, suc, ◌≡◌, List, [], ◌∷◌, ◌++◌, map, Option, Some, None, refl, sym}
-use Rattle.std.proofs.Common.{◌∙◌, ap, append_assoc, length, Bor}
+use Rattle.std.proofs.Common.{◌∙◌, ap, append_assoc, length}
 use Rattle.std.proofs.lemmas.List.{map-append}
-use Rattle.ygrammar.specs.declared.tree.Item.{Item as CodeItem}
-use Rattle.ygrammar.specs.declared.tree.Item.TheVariants as items
-use Rattle.ygrammar.specs.declared.tree.Mention.{Mention}
-use Rattle.ygrammar.specs.Tree.{Item, symbol, action, Identifier, Clause}
-use Rattle.ygrammar.specs.TreeViews.{item_view, mention_view, text_view}
+use Rattle.ygrammar.specs.declared.tree.BodyPart.{BodyPart as CodeBodyPart}
+use Rattle.ygrammar.specs.declared.tree.BracedText.{BracedText}
+use Rattle.ygrammar.specs.declared.tree.BodyPart.TheVariants as items
+use Rattle.ygrammar.specs.declared.tree.Occurrence.{Occurrence}
+use Rattle.ygrammar.specs.Tree.{BodyPart, symbol, action, Identifier, Clause}
+use Rattle.ygrammar.specs.TreeViews.{braced_view, body_part_view, occurrence_view, option_view}
 use Rattle.ygrammar.specs.Elaboration.{split_last, final_of, Body, Rule, body_from, inner_rule}
 use Rattle.ygrammar.specs.Elaboration.{or_else, precedence_at, rules_from}
 use Rattle.ygrammar.specs.declared.precedence.Precedence.{Precedence}
@@ -14,50 +15,59 @@ use Rattle.ygrammar.specs.Names.{Name, number_in}
 use Rattle.ygrammar.specs.Numbered.{chosen_token, inner_numbers, rule_numbers, rule_precedence}
 use Rattle.ygrammar.specs.Grammar.{RuleValue}
 
-last_action : (xs : List Item) (t : List ℕ) → split_last (xs ++ action t ∷ []) ≡ (xs, Some t)
+last_action : (xs : List BodyPart) (t : List ℕ) → split_last (xs ++ action t ∷ []) ≡ (xs, Some t)
 last_action [] t = refl
 last_action (symbol i ∷ []) t = refl
 last_action (action u ∷ []) t = refl
-last_action (symbol i ∷ (y ∷ xs)) t = ap (λ (r : List Item × Option (List ℕ)).
+last_action (symbol i ∷ (y ∷ xs)) t = ap (λ (r : List BodyPart × Option (List ℕ)).
     (symbol i ∷ r.0, r.1)) (last_action (y ∷ xs) t)
-last_action (action u ∷ (y ∷ xs)) t = ap (λ (r : List Item × Option (List ℕ)).
+last_action (action u ∷ (y ∷ xs)) t = ap (λ (r : List BodyPart × Option (List ℕ)).
     (action u ∷ r.0, r.1)) (last_action (y ∷ xs) t)
 
-last_symbol : (xs : List Item) (i : Identifier) → split_last (xs ++ symbol i ∷ []) ≡
+last_symbol : (xs : List BodyPart) (i : Identifier) → split_last (xs ++ symbol i ∷ []) ≡
     (xs ++ symbol i ∷ [], None)
 last_symbol [] i = refl
 last_symbol (symbol j ∷ []) i = refl
 last_symbol (action u ∷ []) i = refl
-last_symbol (symbol j ∷ (y ∷ xs)) i = ap (λ (r : List Item × Option (List ℕ)).
+last_symbol (symbol j ∷ (y ∷ xs)) i = ap (λ (r : List BodyPart × Option (List ℕ)).
     (symbol j ∷ r.0, r.1)) (last_symbol (y ∷ xs) i)
-last_symbol (action u ∷ (y ∷ xs)) i = ap (λ (r : List Item × Option (List ℕ)).
+last_symbol (action u ∷ (y ∷ xs)) i = ap (λ (r : List BodyPart × Option (List ℕ)).
     (action u ∷ r.0, r.1)) (last_symbol (y ∷ xs) i)
 
 -- the last part of a body is an action
-pub ends_action : (last : Option (Bor (List ℕ))) (body whole rest : List CodeItem) (x : CodeItem)
-    (t : Bor (List ℕ)) → last ≡ None → whole ≡ body → whole ≡ rest ++ x ∷ [] → x ≡ items.Action t →
-    final_of (text_view last) (map item_view body) ≡ (map item_view rest, Some t.now)
-ends_action last body whole rest x t n w e f =
-    ap (λ (o : Option (Bor (List ℕ))). final_of (text_view o) (map item_view body)) n
-    ∙ ap split_last (ap (map item_view) (sym w ∙ e) ∙ map-append item_view rest (x ∷ []) ∙ ap
-        (λ (y : CodeItem). map item_view rest ++ item_view y ∷ []) f)
-    ∙ last_action (map item_view rest) t.now
+pub ends_action : (last : Option BracedText) (body whole rest : List CodeBodyPart)
+    (x : CodeBodyPart)
+    (b : BracedText) → last ≡ None → whole ≡ body → whole ≡ rest ++ x ∷ [] → x ≡ items.Action b →
+    final_of (option_view braced_view last) (map body_part_view body) ≡ (
+      map body_part_view rest,
+      Some b.text.now,
+    )
+ends_action last body whole rest x b n w e f =
+    ap (λ (o : Option BracedText). final_of (option_view braced_view o) (map body_part_view body)) n
+    ∙ ap split_last (ap (map body_part_view) (sym w ∙ e) ∙ map-append body_part_view rest
+    (x ∷ []) ∙ ap
+    (λ (y : CodeBodyPart). map body_part_view rest ++ body_part_view y ∷ []) f)
+    ∙ last_action (map body_part_view rest) b.text.now
 
 -- it is a name or a literal
-pub ends_symbol : (last : Option (Bor (List ℕ))) (body whole rest : List CodeItem) (x : CodeItem)
-    (m : Mention) → last ≡ None → whole ≡ body → whole ≡ rest ++ x ∷ [] → x ≡ items.Symbol m →
-    final_of (text_view last) (map item_view body) ≡ (map item_view whole, None)
+pub ends_symbol : (last : Option BracedText) (body whole rest : List CodeBodyPart)
+    (x : CodeBodyPart)
+    (m : Occurrence) → last ≡ None → whole ≡ body → whole ≡ rest ++ x ∷ [] → x ≡ items.Symbol m →
+    final_of (option_view braced_view last) (map body_part_view body) ≡ (
+      map body_part_view whole,
+      None,
+    )
 ends_symbol last body whole rest x m n w e f =
-    let u : map item_view whole ≡ map item_view rest ++ symbol (mention_view m) ∷ [] =
-            ap (map item_view) e ∙ map-append item_view rest (x ∷ []) ∙ ap
-            (λ (y : CodeItem). map item_view rest ++ item_view y ∷ []) f in
-    ap (λ (o : Option (Bor (List ℕ))). final_of (text_view o) (map item_view body)) n
-    ∙ ap split_last (ap (map item_view) (sym w) ∙ u)
-    ∙ last_symbol (map item_view rest) (mention_view m)
-    ∙ ap (λ (l : List Item). (l, None)) (sym u)
+    let u : map body_part_view whole ≡ map body_part_view rest ++ symbol (occurrence_view m) ∷ [] =
+    ap (map body_part_view) e ∙ map-append body_part_view rest (x ∷ []) ∙ ap
+    (λ (y : CodeBodyPart). map body_part_view rest ++ body_part_view y ∷ []) f in
+    ap (λ (o : Option BracedText). final_of (option_view braced_view o) (map body_part_view body)) n
+    ∙ ap split_last (ap (map body_part_view) (sym w) ∙ u)
+    ∙ last_symbol (map body_part_view rest) (occurrence_view m)
+    ∙ ap (λ (l : List BodyPart). (l, None)) (sym u)
 
 -- the rules of inner actions have no precedence
-pub inner_are : (ns : List Name) (given : List (Option Precedence)) (k : ℕ) (xs : List Item) →
+pub inner_are : (ns : List Name) (given : List (Option Precedence)) (k : ℕ) (xs : List BodyPart) →
     map (rule_numbers ns given) (body_from k xs).inner ≡ map (inner_numbers ns)
     (body_from k xs).inner
 inner_are ns given k [] = refl
@@ -68,7 +78,7 @@ inner_are ns given k (action t ∷ xs) =
 
 -- one more rule of the file is put behind the rules of its inner actions
 pub rule_step : (ns : List Name) (given : List (Option Precedence)) (before : Name) (k : ℕ)
-    (cv : Clause) (cs : List Clause) (items : List Item) (left : Name) (symbols : List ℕ)
+    (cv : Clause) (cs : List Clause) (items : List BodyPart) (left : Name) (symbols : List ℕ)
     (next l : ℕ) (p : Option Precedence) (old mid new whole : List RuleValue)
     → items ≡ (final_of cv.last cv.body).0
     → mid ≡ old ++ map (inner_numbers ns) (body_from k items).inner
@@ -82,7 +92,7 @@ pub rule_step : (ns : List Name) (given : List (Option Precedence)) (before : Na
     → new ++ map (rule_numbers ns given) (rules_from left next cs) ≡ whole
 rule_step ns given before k cv cs items left symbols next l p old mid new whole hi hm hs hn hp hl hk
     hw hall =
-    let it : List Item = (final_of cv.last cv.body).0 in
+    let it : List BodyPart = (final_of cv.last cv.body).0 in
     let tx : Option (List ℕ) = (final_of cv.last cv.body).1 in
     let b : Body = body_from k it in
     let lf : Name = or_else cv.left before in
@@ -90,29 +100,29 @@ rule_step ns given before k cv cs items left symbols next l p old mid new whole 
     let r : Rule = record { left = lf; body = b.symbols; prec = cv.prec; text = tx } in
     let rest : List RuleValue = map f (rules_from lf b.next cs) in
     let m : mid ≡ old ++ map (inner_numbers ns) b.inner =
-            hm ∙ ap (λ (is : List Item). old ++ map (inner_numbers ns) (body_from k is).inner) hi in
+    hm ∙ ap (λ (is : List BodyPart). old ++ map (inner_numbers ns) (body_from k is).inner) hi in
     let s : symbols ≡ map (number_in ns) b.symbols =
-            hs ∙ ap (λ (is : List Item). map (number_in ns) (body_from k is).symbols) hi in
+    hs ∙ ap (λ (is : List BodyPart). map (number_in ns) (body_from k is).symbols) hi in
     let q : p ≡ precedence_at given (chosen_token ns (length given) cv.prec
-            (map (number_in ns) b.symbols)) =
-            hp ∙ ap (λ (ss : List ℕ). precedence_at given
-            (chosen_token ns (length given) cv.prec ss)) s in
+    (map (number_in ns) b.symbols)) =
+    hp ∙ ap (λ (ss : List ℕ). precedence_at given
+    (chosen_token ns (length given) cv.prec ss)) s in
     let e : l ≡ number_in ns lf = hk ∙ ap (number_in ns) hl in
     let same : number_rule l symbols p ≡ f r = same_rule l (number_in ns lf) symbols
-            (map (number_in ns) b.symbols) p (rule_precedence ns given r) e s q in
+    (map (number_in ns) b.symbols) p (rule_precedence ns given r) e s q in
     let w : new ≡ (old ++ map (inner_numbers ns) b.inner) ++ f r ∷ [] =
-            hw ∙ ap (λ (x : RuleValue). mid ++ x ∷ []) same ∙ ap (λ (x : List RuleValue).
-            x ++ f r ∷ []) m in
+    hw ∙ ap (λ (x : RuleValue). mid ++ x ∷ []) same ∙ ap (λ (x : List RuleValue).
+    x ++ f r ∷ []) m in
     let t : map f (rules_from left next cs) ≡ rest = ap (λ (n : Name). map f (rules_from n next cs))
-            hl ∙ ap (λ n. map f (rules_from lf n cs))
-            (hn ∙ ap (λ (is : List Item). (body_from k is).next) hi) in
+    hl ∙ ap (λ n. map f (rules_from lf n cs))
+    (hn ∙ ap (λ (is : List BodyPart). (body_from k is).next) hi) in
     ap (λ (x : List RuleValue). new ++ x) t
     ∙ ap (λ (x : List RuleValue). x ++ rest) w
     ∙ append_assoc (old ++ map (inner_numbers ns) b.inner) (f r ∷ []) rest
     ∙ append_assoc old (map (inner_numbers ns) b.inner) (f r ∷ rest)
     ∙ ap (λ (x : List RuleValue). old ++ (x ++ f r ∷ rest)) (sym (inner_are ns given k it))
     ∙ ap (λ (x : List RuleValue). old ++ x)
-        (sym (map-append f b.inner (r ∷ rules_from lf b.next cs)))
+    (sym (map-append f b.inner (r ∷ rules_from lf b.next cs)))
     ∙ hall
   where
     number_rule : ℕ → List ℕ → Option Precedence → RuleValue

@@ -30,7 +30,7 @@ run_one p (a ∷ n) [] x y hn hm hx hy e =
 run_one p (a ∷ n) (b ∷ m) x y hn hm hx hy e =
     let h : a ≡ b = heads_are a b (n ++ x) (m ++ y) e in
     let t : n ≡ m = run_one p n m x y (and_parts (p a) (all_pass p n) hn).1
-            (and_parts (p b) (all_pass p m) hm).1 hx hy (tails_are a b (n ++ x) (m ++ y) e) in
+    (and_parts (p b) (all_pass p m) hm).1 hx hy (tails_are a b (n ++ x) (m ++ y) e) in
     cc
 
 -- a whole run is the longest
@@ -43,7 +43,7 @@ run_le p [] (b ∷ m) x y hx hm e =
     let w : false ≡ true = cc in cc
 run_le p (a ∷ n) (b ∷ m) x y hx hm e =
     let l = run_le p n m x y hx (and_parts (p b) (all_pass p m) hm).1
-            (tails_are a b (n ++ x) (m ++ y) e) in omega (arith, l)
+    (tails_are a b (n ++ x) (m ++ y) e) in omega (arith, l)
 
 -- texts of one length at one place are one text
 pub same_text : (t u r s : List ℕ) → length t ≡ length u → t ++ r ≡ u ++ s → (t ≡ u) × (r ≡ s)
@@ -63,9 +63,9 @@ pub pair_found : (c d : ℕ) (x r : List ℕ) → has_pair c d (x ++ c ∷ []) �
 pair_found c d [] r h = rw (eq-eqb c c refl, eq-eqb d d refl) refl
 pair_found c d (a ∷ x) r h =
     let parts = or_parts (eqb a c && begins (λ y. eqb y d) (x ++ c ∷ []))
-            (has_pair c d (x ++ c ∷ [])) h in
+    (has_pair c d (x ++ c ∷ [])) h in
     let test : (eqb a c && begins (λ y. eqb y d) (x ++ c ∷ d ∷ r)) ≡ false = ap (λ t. eqb a c && t)
-            (sym (begins_append (λ y. eqb y d) c x (d ∷ r))) ∙ parts.0 in
+    (sym (begins_append (λ y. eqb y d) c x (d ∷ r))) ∙ parts.0 in
     rw test (pair_found c d x r parts.1)
 
 pub record Pair (c d : ℕ) (bytes rest : List ℕ) : Type 0 where
@@ -90,17 +90,21 @@ pair_splits c d (b ∷ bytes) rest e = go (eqb b c && begins (λ y. eqb y d) byt
         let k : b ≡ c = eqb-true b c parts.0 in
         let z = at_pair bytes parts.1 in
         let f : Some (drop 1 bytes) ≡ Some rest =
-                sym (cond-true _ (Some (drop 1 bytes)) (pair_after c d bytes) h) ∙ e in
+        sym (cond-true _ (Some (drop 1 bytes)) (pair_after c d bytes) h) ∙ e in
         let g : drop 1 bytes ≡ rest = cc in
-        record { inside = []; whole = cc; first = or_from (eqb c c && false) false
-            (and_right (eqb c c) false refl) refl }
+        record {
+          inside = [];
+          whole = cc;
+          first = or_from (eqb c c && false) false
+              (and_right (eqb c c) false refl) refl;
+        }
     go false h again =
         let f : pair_after c d bytes ≡ Some rest =
-                sym (cond-false _ (Some (drop 1 bytes)) (pair_after c d bytes) h) ∙ e in
+        sym (cond-false _ (Some (drop 1 bytes)) (pair_after c d bytes) h) ∙ e in
         let p = again f in
         let w : begins (λ y. eqb y d) (p.inside ++ c ∷ []) ≡ begins (λ y. eqb y d) bytes =
-                begins_append (λ y. eqb y d) c p.inside (d ∷ rest) ∙ ap (begins (λ y. eqb y d))
-                (sym p.whole) in
+        begins_append (λ y. eqb y d) c p.inside (d ∷ rest) ∙ ap (begins (λ y. eqb y d))
+        (sym p.whole) in
         record {
           inside = b ∷ p.inside;
           whole = ap (λ t. b ∷ t) p.whole;
@@ -113,7 +117,7 @@ pub between_after : (a b c d : ℕ) (text rest after : List ℕ) → IsBetween a
     text ++ rest ≡ a ∷ b ∷ after → pair_after c d after ≡ Some rest
 between_after a b c d text rest after h e =
     let w : text ++ rest ≡ a ∷ b ∷ (h.inside ++ c ∷ d ∷ rest) = ap (λ t. t ++ rest) h.whole ∙ ap
-            (λ t. a ∷ b ∷ t) (append_assoc h.inside (c ∷ d ∷ []) rest) in
+    (λ t. a ∷ b ∷ t) (append_assoc h.inside (c ∷ d ∷ []) rest) in
     let v : h.inside ++ c ∷ d ∷ rest ≡ after = cc in
     subst (λ t. pair_after c d t ≡ Some rest) v (pair_found c d h.inside rest h.first)
 
@@ -124,10 +128,12 @@ between_begins a b c d text h = (h.inside ++ c ∷ d ∷ [], h.whole)
 pub between_made : (a b c d : ℕ) (after rest : List ℕ) → pair_after c d after ≡ Some rest →
     (text : List ℕ) × (a ∷ b ∷ after ≡ text ++ rest) × IsBetween a b c d text
 between_made a b c d after rest e =
-    let p = pair_splits c d after rest e in
-    (a ∷ b ∷ (p.inside ++ c ∷ d ∷ []), ap (λ t. a ∷ b ∷ t)
-        (p.whole ∙ sym (append_assoc p.inside (c ∷ d ∷ []) rest)),
-        record { inside = p.inside; whole = refl; first = p.first })
+    let p = pair_splits c d after rest e in (
+      a ∷ b ∷ (p.inside ++ c ∷ d ∷ []),
+      ap (λ t. a ∷ b ∷ t)
+          (p.whole ∙ sym (append_assoc p.inside (c ∷ d ∷ []) rest)),
+      record { inside = p.inside; whole = refl; first = p.first },
+    )
 
 pub between_one : (a b c d : ℕ) (t u r s : List ℕ) → IsBetween a b c d t → IsBetween a b c d u →
     t ++ r ≡ u ++ s → (t ≡ u) × (r ≡ s)

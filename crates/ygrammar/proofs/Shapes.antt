@@ -28,11 +28,11 @@ use Rattle.ygrammar.proofs.Accepted.{lost}
 
 -- what stands before a rule's body
 data Front : Type 0 where
-  first head bar : Front
+  first c_identifier bar : Front
 
 abbrev front : Front → List Symbol
-front first = defs ∷ lexeme kind.Mark ∷ lexeme kind.Head ∷ []
-front head = defs ∷ lexeme kind.Mark ∷ rules ∷ lexeme kind.Head ∷ []
+front first = defs ∷ lexeme kind.Mark ∷ lexeme kind.CIdentifier ∷ []
+front c_identifier = defs ∷ lexeme kind.Mark ∷ rules ∷ lexeme kind.CIdentifier ∷ []
 front bar = defs ∷ lexeme kind.Mark ∷ rules ∷ lexeme kind.Bar ∷ []
 
 -- what stands before an entry of a list
@@ -177,7 +177,7 @@ more_entry = at (defs ∷ rword ∷ tag ∷ []) [] nlist _ nlist_more
 -- a rule is done
 ruled : (f : Front) → Form (defs ∷ lexeme kind.Mark ∷ rules ∷ []) (front f ++ rbody ∷ prec ∷ [])
 ruled first = at (defs ∷ lexeme kind.Mark ∷ []) [] rules _ rules_one done
-ruled head = at (defs ∷ lexeme kind.Mark ∷ []) [] rules _ rules_more
+ruled c_identifier = at (defs ∷ lexeme kind.Mark ∷ []) [] rules _ rules_more
     (at (defs ∷ lexeme kind.Mark ∷ rules ∷ []) [] rule _ rule_head done)
 ruled bar = at (defs ∷ lexeme kind.Mark ∷ []) [] rules _ rules_more
     (at (defs ∷ lexeme kind.Mark ∷ rules ∷ []) [] rule _ rule_bar done)
@@ -193,24 +193,28 @@ rule_then : (f : Front) (k : Kind) → MovedTo (after_rule k)
     (front f ++ rbody ∷ prec ∷ lexeme k ∷ [])
 rule_then first kind.Semicolon = by (semicolons first)
     (at (front first ++ rbody ∷ []) [] prec _ prec_semicolon done)
-rule_then head kind.Semicolon = by (semicolons head)
-    (at (front head ++ rbody ∷ []) [] prec _ prec_semicolon done)
+rule_then c_identifier kind.Semicolon = by (semicolons c_identifier)
+    (at (front c_identifier ++ rbody ∷ []) [] prec _ prec_semicolon done)
 rule_then bar kind.Semicolon = by (semicolons bar)
     (at (front bar ++ rbody ∷ []) [] prec _ prec_semicolon done)
-rule_then first kind.Head = by (body head) (at (front head) [] rbody _ rbody_empty
-    (within [] (lexeme kind.Head ∷ []) (ruled first)))
-rule_then head kind.Head = by (body head) (at (front head) [] rbody _ rbody_empty
-    (within [] (lexeme kind.Head ∷ []) (ruled head)))
-rule_then bar kind.Head = by (body head) (at (front head) [] rbody _ rbody_empty
-    (within [] (lexeme kind.Head ∷ []) (ruled bar)))
+rule_then first kind.CIdentifier = by (body c_identifier)
+    (at (front c_identifier) [] rbody _ rbody_empty
+    (within [] (lexeme kind.CIdentifier ∷ []) (ruled first)))
+rule_then c_identifier kind.CIdentifier = by (body c_identifier)
+    (at (front c_identifier) [] rbody _ rbody_empty
+    (within [] (lexeme kind.CIdentifier ∷ []) (ruled c_identifier)))
+rule_then bar kind.CIdentifier = by (body c_identifier)
+    (at (front c_identifier) [] rbody _ rbody_empty
+    (within [] (lexeme kind.CIdentifier ∷ []) (ruled bar)))
 rule_then first kind.Bar = by (body bar) (at (front bar) [] rbody _ rbody_empty
     (within [] (lexeme kind.Bar ∷ []) (ruled first)))
-rule_then head kind.Bar = by (body bar) (at (front bar) [] rbody _ rbody_empty
-    (within [] (lexeme kind.Bar ∷ []) (ruled head)))
+rule_then c_identifier kind.Bar = by (body bar) (at (front bar) [] rbody _ rbody_empty
+    (within [] (lexeme kind.Bar ∷ []) (ruled c_identifier)))
 rule_then bar kind.Bar = by (body bar) (at (front bar) [] rbody _ rbody_empty
     (within [] (lexeme kind.Bar ∷ []) (ruled bar)))
 rule_then first kind.Mark = by whole (marked (front first ++ rbody ∷ prec ∷ []) (ruled first))
-rule_then head kind.Mark = by whole (marked (front head ++ rbody ∷ prec ∷ []) (ruled head))
+rule_then c_identifier kind.Mark = by whole (marked (front c_identifier ++ rbody ∷ prec ∷ [])
+    (ruled c_identifier))
 rule_then bar kind.Mark = by whole (marked (front bar ++ rbody ∷ prec ∷ []) (ruled bar))
 rule_then _ _ = tt
 
@@ -218,8 +222,8 @@ rule_then _ _ = tt
 body_then : (f : Front) (k : Kind) → MovedTo (after_rule k) (front f ++ rbody ∷ lexeme k ∷ [])
 body_then first k = weaken (after_rule k) (rule_then first k)
     (replaced prec [] (front first ++ rbody ∷ []) (lexeme k ∷ []) prec_empty)
-body_then head k = weaken (after_rule k) (rule_then head k)
-    (replaced prec [] (front head ++ rbody ∷ []) (lexeme k ∷ []) prec_empty)
+body_then c_identifier k = weaken (after_rule k) (rule_then c_identifier k)
+    (replaced prec [] (front c_identifier ++ rbody ∷ []) (lexeme k ∷ []) prec_empty)
 body_then bar k = weaken (after_rule k) (rule_then bar k)
     (replaced prec [] (front bar ++ rbody ∷ []) (lexeme k ∷ []) prec_empty)
 
@@ -227,40 +231,41 @@ named_then : (f : Front) (k : Kind) → MovedTo (after_rule k)
     (front f ++ rbody ∷ lexeme kind.Prec ∷ identifier ∷ lexeme k ∷ [])
 named_then first k = weaken (after_rule k) (rule_then first k)
     (replaced prec _ (front first ++ rbody ∷ []) (lexeme k ∷ []) prec_named)
-named_then head k = weaken (after_rule k) (rule_then head k)
-    (replaced prec _ (front head ++ rbody ∷ []) (lexeme k ∷ []) prec_named)
+named_then c_identifier k = weaken (after_rule k) (rule_then c_identifier k)
+    (replaced prec _ (front c_identifier ++ rbody ∷ []) (lexeme k ∷ []) prec_named)
 named_then bar k = weaken (after_rule k) (rule_then bar k)
     (replaced prec _ (front bar ++ rbody ∷ []) (lexeme k ∷ []) prec_named)
 
 in_body : (f : Front) (k : Kind) → Production rbody (rbody ∷ lexeme k ∷ []) →
     Form (front f ++ rbody ∷ []) ((front f ++ rbody ∷ []) ++ lexeme k ∷ [])
 in_body first k p = at (front first) [] rbody _ p done
-in_body head k p = at (front head) [] rbody _ p done
+in_body c_identifier k p = at (front c_identifier) [] rbody _ p done
 in_body bar k p = at (front bar) [] rbody _ p done
 
 symbol_in_body : (f : Front) (k : Kind) → Production identifier (lexeme k ∷ []) →
     Form (front f ++ rbody ∷ []) ((front f ++ rbody ∷ []) ++ lexeme k ∷ [])
 symbol_in_body first k p = at (front first) [] rbody _ rbody_symbol
     (at (front first ++ rbody ∷ []) [] identifier _ p done)
-symbol_in_body head k p = at (front head) [] rbody _ rbody_symbol
-    (at (front head ++ rbody ∷ []) [] identifier _ p done)
+symbol_in_body c_identifier k p = at (front c_identifier) [] rbody _ rbody_symbol
+    (at (front c_identifier ++ rbody ∷ []) [] identifier _ p done)
 symbol_in_body bar k p = at (front bar) [] rbody _ rbody_symbol
     (at (front bar ++ rbody ∷ []) [] identifier _ p done)
 
 prec_name : (f : Front) (k : Kind) → Production identifier (lexeme k ∷ []) →
     Form (form (prec_read f)) (form (prec_word f) ++ lexeme k ∷ [])
 prec_name first k p = at (front first ++ rbody ∷ lexeme kind.Prec ∷ []) [] identifier _ p done
-prec_name head k p = at (front head ++ rbody ∷ lexeme kind.Prec ∷ []) [] identifier _ p done
+prec_name c_identifier k p = at (front c_identifier ++ rbody ∷ lexeme kind.Prec ∷ []) [] identifier
+    _ p done
 prec_name bar k p = at (front bar ++ rbody ∷ lexeme kind.Prec ∷ []) [] identifier _ p done
 
-prec_text : (f : Front) → Form (form (semicolons f)) (form (prec_read f) ++ lexeme kind.Act ∷ [])
+prec_text : (f : Front) → Form (form (semicolons f)) (form (prec_read f) ++ lexeme kind.Braced ∷ [])
 prec_text first = at (front first ++ rbody ∷ []) [] prec _ prec_act done
-prec_text head = at (front head ++ rbody ∷ []) [] prec _ prec_act done
+prec_text c_identifier = at (front c_identifier ++ rbody ∷ []) [] prec _ prec_act done
 prec_text bar = at (front bar ++ rbody ∷ []) [] prec _ prec_act done
 
 prec_begun : (f : Front) → Form (form (prec_word f)) (form (body f) ++ lexeme kind.Prec ∷ [])
 prec_begun first = done
-prec_begun head = done
+prec_begun c_identifier = done
 prec_begun bar = done
 
 moved : (s : Shape) (k : Kind) → MovedTo (next_state (state s) k) (form s ++ lexeme k ∷ [])
@@ -272,7 +277,7 @@ moved start_word kind.Literal =
     by declared (at [] [] defs _ defs_more (at (defs ∷ []) [] def _ def_start
     (at (defs ∷ lexeme kind.Start ∷ []) [] identifier _ identifier_literal done)))
 moved start_word _ = tt
-moved union_word kind.Act =
+moved union_word kind.Braced =
     by declared (at [] [] defs _ defs_more (at (defs ∷ []) [] def _ def_union done))
 moved union_word _ = tt
 moved list_word kind.Less = by tag_open done
@@ -321,25 +326,25 @@ moved type_tagged kind.Name = by typed (at (form type_tagged) [] tlist _ tlist_o
 moved type_tagged _ = tt
 moved typed kind.Name = by typed (at (form type_tagged) [] tlist _ tlist_more done)
 moved typed k = between (form typed) k typed_done
-moved rules_mark kind.Head = by (body first) (at (front first) [] rbody _ rbody_empty done)
+moved rules_mark kind.CIdentifier = by (body first) (at (front first) [] rbody _ rbody_empty done)
 moved rules_mark _ = tt
 moved whole _ = tt
 moved (body f) kind.Name = by (body f) (symbol_in_body f kind.Name identifier_name)
 moved (body f) kind.Literal = by (body f) (symbol_in_body f kind.Literal identifier_literal)
-moved (body f) kind.Act = by (body f) (in_body f kind.Act rbody_act)
+moved (body f) kind.Braced = by (body f) (in_body f kind.Braced rbody_act)
 moved (body f) kind.Prec = by (prec_word f) (prec_begun f)
 moved (body first) k = body_then first k
-moved (body head) k = body_then head k
+moved (body c_identifier) k = body_then c_identifier k
 moved (body bar) k = body_then bar k
 moved (prec_word f) kind.Name = by (prec_read f) (prec_name f kind.Name identifier_name)
 moved (prec_word f) kind.Literal = by (prec_read f) (prec_name f kind.Literal identifier_literal)
 moved (prec_word _) _ = tt
-moved (prec_read f) kind.Act = by (semicolons f) (prec_text f)
+moved (prec_read f) kind.Braced = by (semicolons f) (prec_text f)
 moved (prec_read first) k = named_then first k
-moved (prec_read head) k = named_then head k
+moved (prec_read c_identifier) k = named_then c_identifier k
 moved (prec_read bar) k = named_then bar k
 moved (semicolons first) k = rule_then first k
-moved (semicolons head) k = rule_then head k
+moved (semicolons c_identifier) k = rule_then c_identifier k
 moved (semicolons bar) k = rule_then bar k
 
 file_ends : (f : Front) → Form (spec ∷ []) (front f ++ rbody ∷ prec ∷ [])
@@ -348,12 +353,12 @@ file_ends f = at [] [] spec _ spec_is (at (defs ∷ lexeme kind.Mark ∷ rules �
 
 body_final : (f : Front) → Form (front f ++ rbody ∷ prec ∷ []) (front f ++ rbody ∷ [])
 body_final first = replaced prec [] (front first ++ rbody ∷ []) [] prec_empty
-body_final head = replaced prec [] (front head ++ rbody ∷ []) [] prec_empty
+body_final c_identifier = replaced prec [] (front c_identifier ++ rbody ∷ []) [] prec_empty
 body_final bar = replaced prec [] (front bar ++ rbody ∷ []) [] prec_empty
 
 named_final : (f : Front) → Form (front f ++ rbody ∷ prec ∷ []) (form (prec_read f))
 named_final first = replaced prec _ (front first ++ rbody ∷ []) [] prec_named
-named_final head = replaced prec _ (front head ++ rbody ∷ []) [] prec_named
+named_final c_identifier = replaced prec _ (front c_identifier ++ rbody ∷ []) [] prec_named
 named_final bar = replaced prec _ (front bar ++ rbody ∷ []) [] prec_named
 
 final : (s : Shape) → is_final (state s) ≡ true → Form (spec ∷ []) (form s)
@@ -373,8 +378,8 @@ derived_from s x (k ∷ ks) d e =
     go : (o : Option State) → MovedTo o (form s ++ lexeme k ∷ []) → is_final_at (reached o ks) ≡
         true
         → ((t : Shape) (y : List Symbol) → Form (form t) y →
-            is_final_at (reached (Some (state t)) ks) ≡ true → Form (spec ∷ [])
-            (y ++ map lexeme ks))
+        is_final_at (reached (Some (state t)) ks) ≡ true → Form (spec ∷ [])
+        (y ++ map lexeme ks))
         → Form (spec ∷ []) ((x ++ lexeme k ∷ []) ++ map lexeme ks)
     go None m h again = let n : is_final_at (reached None ks) ≡ false = ap is_final_at (lost ks) in
         cc

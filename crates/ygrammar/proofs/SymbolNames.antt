@@ -7,18 +7,20 @@ use Rattle.std.proofs.lemmas.Bool.Decides.{nat_tests}
 use Rattle.ygrammar.specs.declared.precedence.Precedence.{Precedence}
 use Rattle.ygrammar.specs.declared.kind.Sign.TheVariants as sign
 use Rattle.ygrammar.specs.Bytes.{begins, is_name_start}
-use Rattle.ygrammar.specs.Lexemes.{Lexeme, name, head, literal, number, act, code, fixed, IsName}
+use Rattle.ygrammar.specs.Lexemes.{Lexeme, name, c_identifier, literal, number, braced, code, fixed}
+use Rattle.ygrammar.specs.Lexemes.{IsName}
 use Rattle.ygrammar.specs.Lexemes.{Spells}
-use Rattle.ygrammar.specs.Cuttings.{Part, blank, comment, lexeme, Cuts, ComesTo, IsCut, at_end}
-use Rattle.ygrammar.specs.Cuttings.{at_mark, SpellsSyntax, lexemes}
+use Rattle.ygrammar.specs.Lexer.{Part, blank, comment, lexeme, Cuts, ComesTo, IsCut, at_end}
+use Rattle.ygrammar.specs.Lexer.{at_mark, SpellsSyntax, lexemes}
 use Rattle.ygrammar.specs.Tree.{Identifier, named, quoted, Entry, Definition, start, union, block}
-use Rattle.ygrammar.specs.Tree.{listing, types, Item, symbol, action, Clause, Tree}
+use Rattle.ygrammar.specs.Tree.{listing, types, BodyPart, symbol, action, Clause, Tree}
 use Rattle.ygrammar.specs.Tree.{identifier_yield, option_yield, entry_yield, tag_yield}
-use Rattle.ygrammar.specs.Tree.{definition_yield, item_yield, left_yield, end_yield, clause_yield}
+use Rattle.ygrammar.specs.Tree.{definition_yield, body_part_yield, left_yield, end_yield}
+use Rattle.ygrammar.specs.Tree.{clause_yield}
 use Rattle.ygrammar.specs.Tree.{mark_yield, yield}
 use Rattle.ygrammar.specs.Names.{Name, is_among, printed, printed_literal}
 use Rattle.ygrammar.specs.Elaboration.{appearances, declared, inner_name, is_literal, is_token}
-use Rattle.ygrammar.specs.Elaboration.{item_identifier, lefts, level_at, given_by, clause_left}
+use Rattle.ygrammar.specs.Elaboration.{body_part_identifier, lefts, level_at, given_by, clause_left}
 use Rattle.ygrammar.specs.Elaboration.{listed_name, listing_of, listings, listings_from}
 use Rattle.ygrammar.specs.Elaboration.{option_list, prec_of, typed, types_of, used, uses, who_of}
 use Rattle.ygrammar.proofs.TellingSteps.{false_true, other_name}
@@ -88,19 +90,19 @@ pub record IsNamed (t : Tree) : Type 0 where
 
 abbrev LexemeNamed : Lexeme → Type 0
 LexemeNamed (name n) = IsName n
-LexemeNamed (head n) = IsName n
+LexemeNamed (c_identifier n) = IsName n
 LexemeNamed (literal v) = Unit {0}
 LexemeNamed (number ds) = Unit {0}
-LexemeNamed (act t) = Unit {0}
+LexemeNamed (braced t) = Unit {0}
 LexemeNamed code = Unit {0}
 LexemeNamed (fixed s) = Unit {0}
 
 spelled_named : (l : Lexeme) (text : List ℕ) → Spells l text → LexemeNamed l
 spelled_named (name n) text h = h.1
-spelled_named (head n) text h = h.named
+spelled_named (c_identifier n) text h = h.named
 spelled_named (literal v) text h = tt
 spelled_named (number ds) text h = tt
-spelled_named (act t) text h = tt
+spelled_named (braced t) text h = tt
 spelled_named code text h = tt
 spelled_named (fixed s) text h = tt
 
@@ -129,10 +131,13 @@ identifier_named (quoted v) h = tt
 entries_named : (es : List Entry) → AllByRecursion LexemeNamed (flat_map entry_yield es) →
     AllByRecursion Named (map who_of es)
 entries_named [] h = tt
-entries_named (e ∷ es) h =
-    (identifier_named e.who h.0, entries_named es
-    (each_right LexemeNamed (option_yield (λ ds. number ds ∷ []) e.digits) (flat_map entry_yield es)
-    h.1))
+entries_named (e ∷ es) h = (
+  identifier_named e.who h.0,
+  entries_named es
+      (each_right LexemeNamed (option_yield (λ ds. number ds ∷ []) e.digits)
+      (flat_map entry_yield es)
+      h.1),
+)
 
 declared_named : (d : Definition) → AllByRecursion LexemeNamed (definition_yield d) →
     AllByRecursion Named (declared d)
@@ -152,8 +157,8 @@ typed_named (listing w tag es) h = tt
 typed_named (types tag ns) h = each_from_map LexemeNamed name ns
     (each_right LexemeNamed (tag_yield tag) (map name ns) h.1)
 
-items_named : (xs : List Item) → AllByRecursion LexemeNamed (map item_yield xs) →
-    AllByRecursion Named (flat_map item_identifier xs)
+items_named : (xs : List BodyPart) → AllByRecursion LexemeNamed (map body_part_yield xs) →
+    AllByRecursion Named (flat_map body_part_identifier xs)
 items_named [] h = tt
 items_named (symbol i ∷ xs) h = (identifier_named i h.0, items_named xs h.1)
 items_named (action t ∷ xs) h = items_named xs h.1
@@ -172,11 +177,11 @@ used_named : (c : Clause) → AllByRecursion LexemeNamed (clause_yield c) → Al
     (used c)
 used_named c h =
     let e : List Lexeme = end_yield c.prec c.last c.semicolons in
-    each_join Named (flat_map item_identifier c.body) (prec_of c)
-    (items_named c.body (each_left LexemeNamed (map item_yield c.body) e h.1))
+    each_join Named (flat_map body_part_identifier c.body) (prec_of c)
+    (items_named c.body (each_left LexemeNamed (map body_part_yield c.body) e h.1))
     (prec_named c.prec (each_left LexemeNamed
-        (option_yield (λ i. fixed sign.Prec ∷ identifier_yield i ∷ []) c.prec) _
-        (each_right LexemeNamed (map item_yield c.body) e h.1)))
+    (option_yield (λ i. fixed sign.Prec ∷ identifier_yield i ∷ []) c.prec) _
+    (each_right LexemeNamed (map body_part_yield c.body) e h.1)))
 
 clause_named : (c : Clause) → AllByRecursion LexemeNamed (clause_yield c) → AllByRecursion IsName
     (clause_left c)
@@ -187,16 +192,16 @@ pub spelled_names : (bytes : List ℕ) (ls : List Lexeme) (t : Tree) → SpellsS
     ls ≡ yield t → IsNamed t
 spelled_names bytes ls t s e =
     let all : AllByRecursion LexemeNamed (yield t) = subst (AllByRecursion LexemeNamed) e
-            (cut_named s.cut) in
+    (cut_named s.cut) in
     let front : AllByRecursion LexemeNamed (flat_map definition_yield t.definitions) =
-            each_left LexemeNamed (flat_map definition_yield t.definitions)
-            (fixed sign.Mark ∷ (flat_map clause_yield t.clauses ++ mark_yield t.second_mark)) all in
+    each_left LexemeNamed (flat_map definition_yield t.definitions)
+    (fixed sign.Mark ∷ (flat_map clause_yield t.clauses ++ mark_yield t.second_mark)) all in
     let more : AllByRecursion LexemeNamed
-            (fixed sign.Mark ∷ (flat_map clause_yield t.clauses ++ mark_yield t.second_mark)) =
-            each_right LexemeNamed (flat_map definition_yield t.definitions)
-            (fixed sign.Mark ∷ (flat_map clause_yield t.clauses ++ mark_yield t.second_mark)) all in
+    (fixed sign.Mark ∷ (flat_map clause_yield t.clauses ++ mark_yield t.second_mark)) =
+    each_right LexemeNamed (flat_map definition_yield t.definitions)
+    (fixed sign.Mark ∷ (flat_map clause_yield t.clauses ++ mark_yield t.second_mark)) all in
     let back : AllByRecursion LexemeNamed (flat_map clause_yield t.clauses) = each_left LexemeNamed
-            (flat_map clause_yield t.clauses) (mark_yield t.second_mark) more.1 in
+    (flat_map clause_yield t.clauses) (mark_yield t.second_mark) more.1 in
     record {
       appear = each_join Named (flat_map declared t.definitions) (uses t)
           (each_piece LexemeNamed Named definition_yield declared declared_named t.definitions
@@ -253,11 +258,11 @@ pub listed_each : (P : Name → Type 0) (k : ℕ) (ds : List Definition) → All
 listed_each P k [] h = tt
 listed_each P k (listing w tag es ∷ ds) h =
     each_join (λ l. P (listed_name l)) (map (listing_of (given_by w (level_at w k))) es)
-        (listings_from (level_at w k) ds)
+    (listings_from (level_at w k) ds)
     (entries (given_by w (level_at w k)) es (each_left (λ i. P (printed i)) (map who_of es)
-        (flat_map declared ds) h))
+    (flat_map declared ds) h))
     (listed_each P (level_at w k) ds (each_right (λ i. P (printed i)) (map who_of es)
-        (flat_map declared ds) h))
+    (flat_map declared ds) h))
   where
     entries : (g : Option Precedence) (xs : List Entry) → AllByRecursion (λ i. P (printed i))
         (map who_of xs) → AllByRecursion (λ l. P (listed_name l)) (map (listing_of g) xs)
@@ -279,10 +284,10 @@ tokens_each P t a b h = (
     b,
     each_join P (map listed_name (listings t)) (map printed (filter is_literal (appearances t)))
         (each_to_map P listed_name (listings t)
-            (listed_each P 0 t.definitions
-            (each_left (λ i. P (printed i)) (flat_map declared t.definitions) (uses t) h)))
+        (listed_each P 0 t.definitions
+        (each_left (λ i. P (printed i)) (flat_map declared t.definitions) (uses t) h)))
         (each_to_map P printed (filter is_literal (appearances t))
-            (each_filter (λ i. P (printed i)) is_literal (appearances t) h)),
+        (each_filter (λ i. P (printed i)) is_literal (appearances t) h)),
   ),
 )
 

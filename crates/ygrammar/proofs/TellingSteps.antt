@@ -94,19 +94,19 @@ module _ {A : Type 0} (f : Listing → Option A) where
           option_list (get_or table (number_in ns n) None) ++ said_of f (l ∷ rest) n
       here n h true q =
           let i : number_in ns n ≡ k = ap (number_in ns) (same_text n (printed l.who) (sym q)) ∙ sym
-                  hk in
+          hk in
           ap (λ (o : Option A). option_list o ++ said_of f rest n)
-              (ap (λ j. get_or (set table k (Some v)) j None) i ∙ get_or-set_same table k
-              (Some v) None hl)
+          (ap (λ j. get_or (set table k (Some v)) j None) i ∙ get_or-set_same table k
+          (Some v) None hl)
           ∙ sym (ap (λ (o : Option A). option_list o ++ said_of f (l ∷ rest) n)
-              (ap (λ j. get_or table j None) i ∙ free) ∙ told l rest n v true e q)
+          (ap (λ j. get_or table j None) i ∙ free) ∙ told l rest n v true e q)
       here n h false q =
           let i : number_in ns n ≡ k → ⊥ = λ j. other_text n (printed l.who) (sym q)
-                  (same_number ns n (printed l.who) h (j ∙ hk)) in
+          (same_number ns n (printed l.who) h (j ∙ hk)) in
           ap (λ (o : Option A). option_list o ++ said_of f rest n)
-              (get_or-set_other table k (number_in ns n) (Some v) None i)
+          (get_or-set_other table k (number_in ns n) (Some v) None i)
           ∙ sym (ap (λ (xs : List A). option_list (get_or table (number_in ns n) None) ++ xs)
-              (told l rest n v false e q))
+          (told l rest n v false e q))
 
   -- a second thing is said of a token
   pub twice : (ns : List Name) (table : List (Option A)) (l : Listing) (rest whole : List Listing)
@@ -115,11 +115,11 @@ module _ {A : Type 0} (f : Listing → Option A) where
   twice ns table l rest whole u v k e hk hl held s =
       let n : Name = printed l.who in
       let h : number_in ns n < length ns = subst (λ m. number_in ns n < m) s.each
-              (subst (λ j. j < length table) hk hl) in
+      (subst (λ j. j < length table) hk hl) in
       let w : u ∷ (v ∷ said_of f rest n) ≡ said_of f whole n =
-              sym (ap (λ (o : Option A). option_list o ++ said_of f (l ∷ rest) n)
-              (ap (λ j. get_or table j None) (sym hk) ∙ held) ∙ ap (λ (xs : List A). u ∷ xs)
-              (told l rest n v true e (eq_self n))) ∙ s.said n h in
+      sym (ap (λ (o : Option A). option_list o ++ said_of f (l ∷ rest) n)
+      (ap (λ j. get_or table j None) (sym hk) ∙ held) ∙ ap (λ (xs : List A). u ∷ xs)
+      (told l rest n v true e (eq_self n))) ∙ s.said n h in
       (n, subst (λ (xs : List A). 2 ≤ length xs) w (omega arith))
 
   empty_table : (m k : ℕ) → get_or (replicate {A = Option A} m None) k None ≡ None

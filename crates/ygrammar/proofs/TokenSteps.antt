@@ -11,7 +11,7 @@ use Rattle.ygrammar.specs.Elaboration.{Listing, appearances, declared, is_litera
 use Rattle.ygrammar.specs.Elaboration.{level_at, given_by, listed_name, listing_of, listings}
 use Rattle.ygrammar.specs.Elaboration.{listings_from, option_list, said_of, token_names_of, tokens}
 use Rattle.ygrammar.specs.Elaboration.{uses, who_of}
-use Rattle.ygrammar.specs.Names.{Name, find_in, is_among, noted, noted_all, number_in, printed}
+use Rattle.ygrammar.specs.Names.{Name, find_in, is_among, with_name, with_names, number_in, printed}
 use Rattle.ygrammar.specs.Tree.{Definition, Entry, Identifier, Tree, start, union, block, listing}
 use Rattle.ygrammar.specs.Tree.{types}
 use Rattle.ygrammar.proofs.NameSteps.{among_all, eq_self}
@@ -124,12 +124,12 @@ listed_declared k (listing w tag es ∷ ds) n h =
     let here : List Listing = map (listing_of (given_by w (level_at w k))) es in
     let rest : List Listing = listings_from (level_at w k) ds in
     subst (λ (xs : List Name). is_among xs n ≡ true)
-        (sym (map-append printed (map who_of es) (flat_map declared ds)))
+    (sym (map-append printed (map who_of es) (flat_map declared ds)))
     (split (among_cases (map printed (map who_of es)) (map listed_name rest) n
     (subst (λ (xs : List Name). is_among (xs ++ map listed_name rest) n ≡ true)
-        (listed_entries (listing_of (given_by w (level_at w k))) (λ e. refl) es)
+    (listed_entries (listing_of (given_by w (level_at w k))) (λ e. refl) es)
     (subst (λ (xs : List Name). is_among xs n ≡ true) (map-append listed_name here rest) h)))
-        (listed_declared (level_at w k) ds n))
+    (listed_declared (level_at w k) ds n))
   where
     split : (is_among (map printed (map who_of es)) n ≡ true) ⊎
         (is_among (map listed_name (listings_from (level_at w k) ds)) n ≡ true) →
@@ -271,11 +271,11 @@ number_behind (m ∷ ns) more n h = go (bytes_eq n m) refl (number_behind ns mor
     go true q again k = absurd (false_true (sym k ∙ ap (λ c. c || is_among ns n) q))
     go false q again k =
         let r : length ns ≤ number_in (ns ++ more) n =
-                again (subst (λ c. (c || is_among ns n) ≡ false) q k) in
+        again (subst (λ c. (c || is_among ns n) ≡ false) q k) in
         rw q (omega arith)
 
--- what is noted goes behind
-pub noted_behind : (ns ms : List Name) → (more : List Name) × (noted_all ns ms ≡ ns ++ more)
+-- what is with_name goes behind
+pub noted_behind : (ns ms : List Name) → (more : List Name) × (with_names ns ms ≡ ns ++ more)
 noted_behind ns [] = ([], sym (append_none ns))
   where
     append_none : (xs : List Name) → xs ++ [] ≡ xs
@@ -288,9 +288,9 @@ noted_behind ns (m ∷ ms) = go (is_among ns m) refl (noted_behind ns ms)
     assoc [] ys zs = refl
     assoc (x ∷ xs) ys zs = ap (λ (us : List Name). x ∷ us) (assoc xs ys zs)
 
-    go : (b : Bool) → is_among ns m ≡ b → ((more : List Name) × (noted_all ns ms ≡ ns ++ more)) →
-        ((more : List Name) × (noted_all (ns ++ m ∷ []) ms ≡ (ns ++ m ∷ []) ++ more)) →
-        (more : List Name) × (noted_all (cond (is_among ns m) ns (ns ++ m ∷ [])) ms ≡ ns ++ more)
+    go : (b : Bool) → is_among ns m ≡ b → ((more : List Name) × (with_names ns ms ≡ ns ++ more)) →
+        ((more : List Name) × (with_names (ns ++ m ∷ []) ms ≡ (ns ++ m ∷ []) ++ more)) →
+        (more : List Name) × (with_names (cond (is_among ns m) ns (ns ++ m ∷ [])) ms ≡ ns ++ more)
     go true q p r = rw q p
     go false q p r = rw q (m ∷ r.0, r.1 ∙ assoc ns (m ∷ []) r.0)
 
@@ -298,7 +298,7 @@ noted_behind ns (m ∷ ms) = go (is_among ns m) refl (noted_behind ns ms)
 abbrev pub Distinct : List Name → Type 0
 Distinct ns = (i : ℕ) → i < length ns → number_in ns (get_or ns i []) ≡ i
 
-pub distinct_noted : (ns : List Name) (m : Name) → Distinct ns → Distinct (noted ns m)
+pub distinct_noted : (ns : List Name) (m : Name) → Distinct ns → Distinct (with_name ns m)
 distinct_noted ns m d = go (is_among ns m) refl
   where
     get_before : (xs : List Name) (x : Name) (i : ℕ) → i < length xs → get_or (xs ++ x ∷ []) i [] ≡
@@ -321,7 +321,7 @@ distinct_noted ns m d = go (is_among ns m) refl
     at_end q =
         let a : length ns ≤ number_in (ns ++ m ∷ []) m = number_behind ns (m ∷ []) m q in
         let b : number_in (ns ++ m ∷ []) m < length (ns ++ m ∷ []) = among_number (ns ++ m ∷ []) m
-                (among_right ns (m ∷ []) m (or_left (bytes_eq m m) false (eq_self m))) in
+        (among_right ns (m ∷ []) m (or_left (bytes_eq m m) false (eq_self m))) in
         let c : length (ns ++ m ∷ []) ≡ length ns + 1 = length-append ns (m ∷ []) in
         omega arith
 
@@ -340,9 +340,9 @@ distinct_noted ns m d = go (is_among ns m) refl
     go false q = rw q (λ i h.
         placed q i (last_or i (length ns) (subst (λ k. i < k) (length-append ns (m ∷ [])) h)))
 
-pub distinct_all : (ns ms : List Name) → Distinct ns → Distinct (noted_all ns ms)
+pub distinct_all : (ns ms : List Name) → Distinct ns → Distinct (with_names ns ms)
 distinct_all ns [] d = d
-distinct_all ns (m ∷ ms) d = distinct_all (noted ns m) ms (distinct_noted ns m d)
+distinct_all ns (m ∷ ms) d = distinct_all (with_name ns m) ms (distinct_noted ns m d)
 
 pub distinct_none : Distinct []
 distinct_none i h = absurd (omega arith)
@@ -374,7 +374,7 @@ by_numbers f ns table d u e h = same_lists table (map f ns) d (e ∙ sym (length
         let n : Name = get_or ns i [] in
         let k : number_in ns n ≡ i = u i l in
         ap (λ j. get_or table j d) (sym k) ∙ h n (subst (λ j. j < length ns) (sym k) l) ∙ sym
-            (get_map ns i l)
+        (get_map ns i l)
 
 abbrev pub some_number : ℕ → Option ℕ
 some_number n = Some n

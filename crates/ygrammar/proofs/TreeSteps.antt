@@ -1,12 +1,17 @@
 -- What goes on behind a piece of a syntax tree, by the recogniser's states.
-use Rattle.std.proofs.Common.{ℕ, ◌≡◌, ◌<◌, ◌+◌, ◌-◌, ◌⊎◌, inl, inr, Bool, true, false, List, []}
-use Rattle.std.proofs.Common.{◌∷◌, ◌++◌, map, length, Option, Some, None, IsSome, refl, sym, ap}
+use Rattle.std.proofs.Common.{ℕ, zero, suc, ◌≡◌, ◌<◌, ◌+◌, ◌-◌, ◌⊎◌, inl, inr, Bool, true, false}
+use Rattle.std.proofs.Common.{List, []}
+use Rattle.std.proofs.Common.{◌∷◌, ◌++◌, eqb, map, drop, length, ◌≤◌, Option, Some, None, IsSome}
+use Rattle.std.proofs.Common.{refl, sym, ap}
 use Rattle.std.proofs.Common.{◌∙◌, subst, arith, append_assoc, append-nil, length-append}
+use Rattle.std.proofs.lemmas.Bool.{eqb-true}
+use Rattle.std.specs.Prelude.{not}
 use Rattle.std.proofs.lemmas.Grind.{flat_map-append}
-use Rattle.std.proofs.lemmas.List.{length-map, map-append, replicate_more}
+use Rattle.std.proofs.lemmas.List.{drop-map, length-map, map-append, replicate_more}
+use Rattle.std.proofs.Math.Seq.{drop-append_seam}
 use Rattle.std.specs.List.{flat_map, AllByRecursion}
 use Rattle.std.specs.Prelude.{replicate}
-use Rattle.ygrammar.specs.declared.cutting.Placed.{Placed}
+use Rattle.ygrammar.specs.declared.lexer.Placed.{Placed}
 use Rattle.ygrammar.specs.declared.kind.Kind.{Kind}
 use Rattle.ygrammar.specs.declared.kind.Kind.TheVariants as kind
 use Rattle.ygrammar.specs.declared.kind.Sign.{Sign}
@@ -22,15 +27,19 @@ use Rattle.ygrammar.specs.declared.recogniser.State.TheVariants.{ListTagged, Lis
 use Rattle.ygrammar.specs.declared.recogniser.State.TheVariants.{TypeWord, TypeTagOpen, TypeTagName}
 use Rattle.ygrammar.specs.declared.recogniser.State.TheVariants.{TypeTagged, Typed, RulesMark, Body}
 use Rattle.ygrammar.specs.declared.recogniser.State.TheVariants.{PrecWord, PrecNamed, Semicolons}
-use Rattle.ygrammar.specs.Recogniser.{on_name, on_identifier, on_less, on_greater, on_act, on_head}
+use Rattle.ygrammar.specs.Recogniser.{on_name, on_identifier, on_less, on_greater, on_braced}
+use Rattle.ygrammar.specs.Recogniser.{on_c_identifier}
 use Rattle.ygrammar.specs.Recogniser.{next_state, reached, is_final_at, run}
-use Rattle.ygrammar.specs.Lexemes.{Lexeme, name, head, literal, number, act, fixed, kind_of}
-use Rattle.ygrammar.specs.Cuttings.{kinds}
+use Rattle.ygrammar.specs.Lexemes.{Lexeme, name, c_identifier, literal, number, braced, fixed}
+use Rattle.ygrammar.specs.Lexemes.{kind_of}
+use Rattle.ygrammar.specs.Lexer.{kinds}
 use Rattle.ygrammar.specs.Answers.{views}
 use Rattle.ygrammar.specs.Views.{lexeme_view}
-use Rattle.ygrammar.specs.Building.{NoneOf, NoItem, NoSign, Takes, EndsTag}
-use Rattle.ygrammar.specs.Tree.{Identifier, named, quoted, Item, symbol, action, identifier_yield}
-use Rattle.ygrammar.specs.Tree.{entry_yield, item_yield, left_yield, mark_yield, BeginsWithName}
+use Rattle.ygrammar.specs.TreeBuilder.{NoneOf, NoBodyPart, NoSign, Takes, EndsTag}
+use Rattle.ygrammar.specs.Tree.{Identifier, named, quoted, BodyPart, symbol, action}
+use Rattle.ygrammar.specs.Tree.{identifier_yield}
+use Rattle.ygrammar.specs.Tree.{entry_yield, body_part_yield, left_yield, mark_yield}
+use Rattle.ygrammar.specs.Tree.{BeginsWithName}
 
 -- lexemes that go on with a grammar file
 abbrev pub Goes : State → List Lexeme → Type 0
@@ -73,19 +82,21 @@ needs_less r (fixed sign.Mark) ls h = astray (kinds ls) h
 needs_less r (fixed _) ls h = astray (kinds ls) h
 needs_less r _ ls h = astray (kinds ls) h
 
-needs_act : (r : State) (l : Lexeme) (ls : List Lexeme) →
-    is_final_at (reached (on_act r (kind_of l)) (kinds ls)) ≡ true → (t : List ℕ) × (l ≡ act t)
-needs_act r (act t) ls h = (t, refl)
-needs_act r (fixed sign.Mark) ls h = astray (kinds ls) h
-needs_act r (fixed _) ls h = astray (kinds ls) h
-needs_act r _ ls h = astray (kinds ls) h
+needs_braced : (r : State) (l : Lexeme) (ls : List Lexeme) →
+    is_final_at (reached (on_braced r (kind_of l)) (kinds ls)) ≡ true → (t : List ℕ) ×
+    (l ≡ braced t)
+needs_braced r (braced t) ls h = (t, refl)
+needs_braced r (fixed sign.Mark) ls h = astray (kinds ls) h
+needs_braced r (fixed _) ls h = astray (kinds ls) h
+needs_braced r _ ls h = astray (kinds ls) h
 
-needs_head : (r : State) (l : Lexeme) (ls : List Lexeme) →
-    is_final_at (reached (on_head r (kind_of l)) (kinds ls)) ≡ true → (n : List ℕ) × (l ≡ head n)
-needs_head r (head n) ls h = (n, refl)
-needs_head r (fixed sign.Mark) ls h = astray (kinds ls) h
-needs_head r (fixed _) ls h = astray (kinds ls) h
-needs_head r _ ls h = astray (kinds ls) h
+needs_c_identifier : (r : State) (l : Lexeme) (ls : List Lexeme) →
+    is_final_at (reached (on_c_identifier r (kind_of l)) (kinds ls)) ≡ true → (n : List ℕ) ×
+    (l ≡ c_identifier n)
+needs_c_identifier r (c_identifier n) ls h = (n, refl)
+needs_c_identifier r (fixed sign.Mark) ls h = astray (kinds ls) h
+needs_c_identifier r (fixed _) ls h = astray (kinds ls) h
+needs_c_identifier r _ ls h = astray (kinds ls) h
 
 pub start_there : (ls : List Lexeme) → Goes StartWord ls → NoneOf identifier_yield ls → ⊥
 start_there [] h n = cc
@@ -102,9 +113,10 @@ entry_there [] h n = cc
 entry_there (l ∷ ls) h n = let (i, e) = needs_identifier Listed l ls h in
     n i ls (ap (λ z. z ∷ ls) e)
 
-pub union_there : (ls : List Lexeme) → Goes UnionWord ls → NoneOf act ls → ⊥
+pub union_there : (ls : List Lexeme) → Goes UnionWord ls → NoneOf braced ls → ⊥
 union_there [] h n = cc
-union_there (l ∷ ls) h n = let (t, e) = needs_act Declarations l ls h in n t ls (ap (λ z. z ∷ ls) e)
+union_there (l ∷ ls) h n = let (t, e) = needs_braced Declarations l ls h in
+    n t ls (ap (λ z. z ∷ ls) e)
 
 pub entries_some : (xs : List CodeEntry) (before after : List Lexeme) →
     before ≡ flat_map entry_yield (map entry_view xs) ++ after → Goes ListTagged before →
@@ -128,7 +140,8 @@ tag_there (l ∷ ls) h n = n ls (ap (λ z. z ∷ ls) (needs_less TypeTagOpen l l
 
 pub left_there : (ls : List Lexeme) → Goes RulesMark ls → NoneOf left_yield ls → ⊥
 left_there [] h n = cc
-left_there (l ∷ ls) h n = let (t, e) = needs_head Body l ls h in n (Some t) ls (ap (λ z. z ∷ ls) e)
+left_there (l ∷ ls) h n = let (t, e) = needs_c_identifier Body l ls h in
+    n (Some t) ls (ap (λ z. z ∷ ls) e)
 
 -- ---- identifiers
 
@@ -144,8 +157,12 @@ after_identifier q r e f (quoted v) before after h w =
 
 list_tag_closes : (n : List ℕ) (ls : List Lexeme) → Goes ListTagName ls → EndsTag (name n ∷ ls)
 list_tag_closes n [] h = cc
-list_tag_closes n (l ∷ ls) h = record { tag = n; rest = ls; whole = ap (λ z. name n ∷ z ∷ ls)
-    (needs_greater ListTagged l ls h) }
+list_tag_closes n (l ∷ ls) h = record {
+  tag = n;
+  rest = ls;
+  whole = ap (λ z. name n ∷ z ∷ ls)
+      (needs_greater ListTagged l ls h);
+}
 
 pub list_tag_ends : (ls : List Lexeme) → Goes ListTagOpen ls → EndsTag ls
 list_tag_ends [] h = cc
@@ -156,8 +173,12 @@ list_tag_ends (l ∷ ls) h =
 
 type_tag_closes : (n : List ℕ) (ls : List Lexeme) → Goes TypeTagName ls → EndsTag (name n ∷ ls)
 type_tag_closes n [] h = cc
-type_tag_closes n (l ∷ ls) h = record { tag = n; rest = ls; whole = ap (λ z. name n ∷ z ∷ ls)
-    (needs_greater TypeTagged l ls h) }
+type_tag_closes n (l ∷ ls) h = record {
+  tag = n;
+  rest = ls;
+  whole = ap (λ z. name n ∷ z ∷ ls)
+      (needs_greater TypeTagged l ls h);
+}
 
 pub type_tag_ends : (ls : List Lexeme) → Goes TypeTagOpen ls → EndsTag ls
 type_tag_ends [] h = cc
@@ -219,29 +240,29 @@ names_end (_ ∷ ls) h n = h
 
 -- ---- rules
 
-pub body_goes : (i : Item) (before after : List Lexeme) → Goes Body before →
-    before ≡ item_yield i ∷ after → Goes Body after
+pub body_goes : (i : BodyPart) (before after : List Lexeme) → Goes Body before →
+    before ≡ body_part_yield i ∷ after → Goes Body after
 body_goes (symbol (named n)) before after h e = subst (Goes Body) e h
 body_goes (symbol (quoted v)) before after h e = subst (Goes Body) e h
 body_goes (action t) before after h e = subst (Goes Body) e h
 
-pub no_precedence : (ls : List Lexeme) → Goes Body ls → NoItem ls → NoSign sign.Prec ls →
+pub no_precedence : (ls : List Lexeme) → Goes Body ls → NoBodyPart ls → NoSign sign.Prec ls →
     Goes Semicolons ls
 no_precedence [] h n m = h
 no_precedence (name x ∷ ls) h n m = absurd (n (symbol (named x)) ls refl)
 no_precedence (literal v ∷ ls) h n m = absurd (n (symbol (quoted v)) ls refl)
-no_precedence (act t ∷ ls) h n m = absurd (n (action t) ls refl)
+no_precedence (braced t ∷ ls) h n m = absurd (n (action t) ls refl)
 no_precedence (fixed sign.Prec ∷ ls) h n m = absurd (m ls refl)
 no_precedence (fixed _ ∷ ls) h n m = h
 no_precedence (_ ∷ ls) h n m = h
 
-pub last_goes : (t : Option (List ℕ)) (before after : List Lexeme) → Takes act t before after →
+pub last_goes : (t : Option (List ℕ)) (before after : List Lexeme) → Takes braced t before after →
     Goes PrecNamed before → Goes Semicolons after
 last_goes None before after (none, e) h = subst (Goes Semicolons) e (go before none h)
   where
-    go : (ls : List Lexeme) → NoneOf act ls → Goes PrecNamed ls → Goes Semicolons ls
+    go : (ls : List Lexeme) → NoneOf braced ls → Goes PrecNamed ls → Goes Semicolons ls
     go [] n h = h
-    go (act t ∷ ls) n h = absurd (n t ls refl)
+    go (braced t ∷ ls) n h = absurd (n t ls refl)
     go (fixed sign.Mark ∷ ls) n h = h
     go (fixed _ ∷ ls) n h = h
     go (_ ∷ ls) n h = h
@@ -251,10 +272,12 @@ pub rules_begin : (ls : List Lexeme) → Goes RulesMark ls → Goes Semicolons l
     NoSign sign.Semicolon ls
 rules_begin [] h = cc
 rules_begin (l ∷ ls) h =
-    let (n, e) = needs_head Body l ls h in
-    let w : l ∷ ls ≡ head n ∷ ls = ap (λ z. z ∷ ls) e in
-    subst (λ z. Goes Semicolons z × NoSign sign.Semicolon z) (sym w) (subst (Goes RulesMark) w h,
-        λ r f. cc)
+    let (n, e) = needs_c_identifier Body l ls h in
+    let w : l ∷ ls ≡ c_identifier n ∷ ls = ap (λ z. z ∷ ls) e in
+    subst (λ z. Goes Semicolons z × NoSign sign.Semicolon z) (sym w) (
+      subst (Goes RulesMark) w h,
+      λ r f. cc,
+    )
 
 pub rule_goes : (left : Option (List ℕ)) (before after : List Lexeme) → Goes Semicolons before →
     before ≡ left_yield left ∷ after → Goes Body after
@@ -272,7 +295,7 @@ pub rules_end : (ls : List Lexeme) → Goes Semicolons ls → NoSign sign.Semico
 rules_end [] h n m = (false, refl)
 rules_end (fixed sign.Semicolon ∷ ls) h n m = absurd (n ls refl)
 rules_end (fixed sign.Bar ∷ ls) h n m = absurd (m None ls refl)
-rules_end (head x ∷ ls) h n m = absurd (m (Some x) ls refl)
+rules_end (c_identifier x ∷ ls) h n m = absurd (m (Some x) ls refl)
 rules_end (fixed sign.Mark ∷ []) h n m = (true, refl)
 rules_end (fixed sign.Mark ∷ (l ∷ ls)) h n m = astray (kinds ls) h
 rules_end (fixed _ ∷ ls) h n m = astray (kinds ls) h
@@ -286,9 +309,9 @@ pub one_more_piece : {A B : Type 0} (f : B → List Lexeme) (v : A → B) (xs ne
 one_more_piece f v xs new x whole rest next e g h =
     let made : flat_map f (map v new) ≡ flat_map f (map v xs) ++ f (v x) =
     ap (λ z. flat_map f (map v z)) h ∙ ap (flat_map f) (map-append v xs (x ∷ [])) ∙ flat_map-append
-        f (map v xs) (v x ∷ []) ∙ ap (λ z. flat_map f (map v xs) ++ z) (append-nil (f (v x))) in
+    f (map v xs) (v x ∷ []) ∙ ap (λ z. flat_map f (map v xs) ++ z) (append-nil (f (v x))) in
     e ∙ ap (λ z. flat_map f (map v xs) ++ z) g ∙ sym (append_assoc (flat_map f (map v xs))
-        (f (v x)) next) ∙ ap (λ z. z ++ next) (sym made)
+    (f (v x)) next) ∙ ap (λ z. z ++ next) (sym made)
 
 pub one_more_lexeme : {A B : Type 0} (f : B → Lexeme) (v : A → B) (xs new : List A) (x : A)
     (whole rest next : List Lexeme) → whole ≡ map f (map v xs) ++ rest → rest ≡ f (v x) ∷ next →
@@ -296,17 +319,49 @@ pub one_more_lexeme : {A B : Type 0} (f : B → Lexeme) (v : A → B) (xs new : 
 one_more_lexeme f v xs new x whole rest next e g h =
     let made : map f (map v new) ≡ map f (map v xs) ++ f (v x) ∷ [] =
     ap (λ z. map f (map v z)) h ∙ ap (map f) (map-append v xs (x ∷ [])) ∙ map-append f (map v xs)
-        (v x ∷ []) in
+    (v x ∷ []) in
     e ∙ ap (λ z. map f (map v xs) ++ z) g ∙ sym
-        (append_assoc (map f (map v xs)) (f (v x) ∷ []) next) ∙ ap (λ z. z ++ next) (sym made)
+    (append_assoc (map f (map v xs)) (f (v x) ∷ []) next) ∙ ap (λ z. z ++ next) (sym made)
+
+pub all_more : {A : Type 0} (P : A → Type 0) (xs new : List A) (x : A) → AllByRecursion P xs →
+    P x → new ≡ xs ++ x ∷ [] → AllByRecursion P new
+all_more P xs new x a p h = subst (λ z. AllByRecursion P z) (sym h) (go xs a)
+  where
+    go : (xs : _) → AllByRecursion P xs → AllByRecursion P (xs ++ x ∷ [])
+    go [] a = (p, tt)
+    go (y ∷ ys) a = (a.0, go ys a.1)
+
+pub all_behind : {A : Type 0} (P : A → Type 0) (n : ℕ) (xs : List A) → AllByRecursion P xs →
+    AllByRecursion P (drop n xs)
+all_behind P zero xs a = a
+all_behind P (suc n) [] a = tt
+all_behind P (suc n) (x ∷ xs) a = all_behind P n xs a.1
 
 pub one_more_shaped : {A B : Type 0} (P : B → Type 0) (v : A → B) (xs new : List A) (x : A) →
     AllByRecursion P (map v xs) → P (v x) → new ≡ xs ++ x ∷ [] → AllByRecursion P (map v new)
-one_more_shaped P v xs new x a p h = subst (λ z. AllByRecursion P (map v z)) (sym h) (go xs a)
-  where
-    go : (xs : _) → AllByRecursion P (map v xs) → AllByRecursion P (map v (xs ++ x ∷ []))
-    go [] a = (p, tt)
-    go (y ∷ ys) a = (a.0, go ys a.1)
+one_more_shaped P v xs new x a p h = all_more P (map v xs) (map v new) (v x) a p
+    (ap (map v) h ∙ map-append v xs (x ∷ []))
+
+-- what is left behind a piece is the rest of the lexemes
+pub left_behind : (ls rest : List Placed) (front : List Lexeme) (l : Lexeme) →
+    views ls ≡ front ++ l ∷ views rest →
+    (length rest ≤ length ls) × (views (drop (length ls - length rest) ls) ≡ views rest)
+left_behind ls rest front l f =
+    let piece : List Lexeme = front ++ l ∷ [] in
+    let e : views ls ≡ piece ++ views rest = f ∙ sym (append_assoc front (l ∷ []) (views rest)) in
+    let a : length (piece ++ views rest) ≡ length piece + length (views rest) = length-append piece
+    (views rest) in
+    let b : length (views ls) ≡ length (piece ++ views rest) = ap length e in
+    let c : length (views ls) ≡ length ls = length-map ls (λ (p : Placed). lexeme_view p.lexeme) in
+    let d : length (views rest) ≡ length rest = length-map rest
+    (λ (p : Placed). lexeme_view p.lexeme) in
+    let n : length ls - length rest ≡ length piece = omega (arith, a, b, c, d) in (
+      omega (arith, a, b, c, d),
+      ap (λ k. views (drop k ls)) n
+          ∙ sym (drop-map (λ (p : Placed). lexeme_view p.lexeme) (length piece) ls)
+          ∙ ap (λ (x : List Lexeme). drop (length piece) x) e
+          ∙ drop-append_seam piece (views rest),
+    )
 
 -- what follows a piece is shorter
 pub shorter : (rest next : List Placed) (l : Lexeme) (y : List Lexeme) → views rest ≡ l ∷
@@ -314,11 +369,11 @@ pub shorter : (rest next : List Placed) (l : Lexeme) (y : List Lexeme) → views
 shorter rest next l y e =
     let a : length (views rest) ≡ length (l ∷ (y ++ views next)) = ap length e in
     let b : length (y ++ views next) ≡ length y + length (views next) = length-append y
-            (views next) in
+    (views next) in
     let c : length (views rest) ≡ length rest = length-map rest
-            (λ (p : Placed). lexeme_view p.lexeme) in
+    (λ (p : Placed). lexeme_view p.lexeme) in
     let d : length (views next) ≡ length next = length-map next
-            (λ (p : Placed). lexeme_view p.lexeme) in
+    (λ (p : Placed). lexeme_view p.lexeme) in
     omega (arith, a, b, c, d)
 
 -- ---- words, semicolons and first rules
@@ -326,7 +381,7 @@ shorter rest next l y e =
 pub other_word : (s : Sign) (ls : List Lexeme) → Goes Declarations (fixed s ∷ ls) →
     (s ≡ sign.Mark → ⊥) → (s ≡ sign.Start → ⊥) → (s ≡ sign.Union → ⊥) → (s ≡ sign.Types → ⊥)
     → (s ≡ sign.Token → ⊥) → (s ≡ sign.Left → ⊥) → (s ≡ sign.Right → ⊥) → (s ≡ sign.Nonassoc → ⊥) →
-        ⊥
+    ⊥
 other_word sign.Mark ls h a b c d e f g i = a refl
 other_word sign.Start ls h a b c d e f g i = b refl
 other_word sign.Union ls h a b c d e f g i = c refl
@@ -354,13 +409,16 @@ pub one_more_semicolon : (whole rest next : List Placed) → Counted whole rest 
 one_more_semicolon whole rest next (n, e, l) h =
     let a : length (views rest) ≡ length (fixed sign.Semicolon ∷ views next) = ap length h in
     let c : length (views rest) ≡ length rest = length-map rest
-            (λ (p : Placed). lexeme_view p.lexeme) in
+    (λ (p : Placed). lexeme_view p.lexeme) in
     let d : length (views next) ≡ length next = length-map next
-            (λ (p : Placed). lexeme_view p.lexeme) in
+    (λ (p : Placed). lexeme_view p.lexeme) in
     let made : semis n ++ fixed sign.Semicolon ∷ [] ≡ semis (n + 1) = replicate_more n
-            (fixed sign.Semicolon) in
-    (n + 1, e ∙ ap (λ z. semis n ++ z) h ∙ sym (append_assoc (semis n) (fixed sign.Semicolon ∷ [])
-        (views next)) ∙ ap (λ z. z ++ views next) made, omega (arith, a, c, d, l))
+    (fixed sign.Semicolon) in (
+      n + 1,
+      e ∙ ap (λ z. semis n ++ z) h ∙ sym (append_assoc (semis n) (fixed sign.Semicolon ∷ [])
+          (views next)) ∙ ap (λ z. z ++ views next) made,
+      omega (arith, a, c, d, l),
+    )
 
 pub counted_all : (whole rest : List Placed) (n : ℕ) → Counted whole rest →
     n ≡ length whole - length rest → views whole ≡ semis n ++ views rest
@@ -378,8 +436,8 @@ pub first_keeps : (xs new : List CodeClause) (x : CodeClause) (left : Option Nam
 first_keeps xs new x left before after (inl (g, e)) h k w =
     let only : new ≡ x ∷ [] = w ∙ ap (λ z. z ++ x ∷ []) e in
     let named_left : IsSome (option_view name_view x.left) =
-            subst (λ z. IsSome (option_view name_view z)) (sym k)
-            (first_named (option_view name_view left) after (subst (Goes RulesMark) h g)) in
+    subst (λ z. IsSome (option_view name_view z)) (sym k)
+    (first_named (option_view name_view left) after (subst (Goes RulesMark) h g)) in
     subst (λ z. BeginsWithName (map clause_view z)) (sym only) named_left
 first_keeps [] new x left before after (inr b) h k w = absurd b
 first_keeps (y ∷ ys) new x left before after (inr b) h k w =
@@ -389,3 +447,13 @@ pub first_there : (xs : List CodeClause) (rest : List Lexeme) → FirstNamed xs 
     NoneOf left_yield rest → BeginsWithName (map clause_view xs)
 first_there xs rest (inl (g, e)) n = absurd (left_there rest g n)
 first_there xs rest (inr b) n = b
+
+-- a mark is what is left behind the rules, where something is
+pub end_marked : (ls : List Placed) (b e : Bool) → views ls ≡ mark_yield b →
+    e ≡ eqb (length ls) 0 → views ls ≡ mark_yield (not e)
+end_marked [] true e f g = cc
+end_marked [] false e f g = ap (λ x. mark_yield (not x)) (sym g)
+end_marked (l ∷ ls) false e f g = cc
+end_marked (l ∷ ls) true false f g = f
+end_marked (l ∷ ls) true true f g = let w = eqb-true (length (l ∷ ls)) 0 (sym g) in
+    absurd (omega (arith, w))

@@ -17,22 +17,23 @@ use Rattle.ygrammar.proofs.Shapes.{derived}
 
 -- kinds that lead from a state to the end of a file
 completion : State → List Kind
-completion Declarations = kind.Mark ∷ kind.Head ∷ []
-completion StartWord = kind.Name ∷ kind.Mark ∷ kind.Head ∷ []
-completion UnionWord = kind.Act ∷ kind.Mark ∷ kind.Head ∷ []
-completion ListWord = kind.Name ∷ kind.Mark ∷ kind.Head ∷ []
-completion ListTagOpen = kind.Name ∷ kind.Greater ∷ kind.Name ∷ kind.Mark ∷ kind.Head ∷ []
-completion ListTagName = kind.Greater ∷ kind.Name ∷ kind.Mark ∷ kind.Head ∷ []
-completion ListTagged = kind.Name ∷ kind.Mark ∷ kind.Head ∷ []
-completion TypeWord = kind.Less ∷ kind.Name ∷ kind.Greater ∷ kind.Name ∷ kind.Mark ∷ kind.Head ∷ []
-completion TypeTagOpen = kind.Name ∷ kind.Greater ∷ kind.Name ∷ kind.Mark ∷ kind.Head ∷ []
-completion TypeTagName = kind.Greater ∷ kind.Name ∷ kind.Mark ∷ kind.Head ∷ []
-completion TypeTagged = kind.Name ∷ kind.Mark ∷ kind.Head ∷ []
-completion RulesMark = kind.Head ∷ []
+completion Declarations = kind.Mark ∷ kind.CIdentifier ∷ []
+completion StartWord = kind.Name ∷ kind.Mark ∷ kind.CIdentifier ∷ []
+completion UnionWord = kind.Braced ∷ kind.Mark ∷ kind.CIdentifier ∷ []
+completion ListWord = kind.Name ∷ kind.Mark ∷ kind.CIdentifier ∷ []
+completion ListTagOpen = kind.Name ∷ kind.Greater ∷ kind.Name ∷ kind.Mark ∷ kind.CIdentifier ∷ []
+completion ListTagName = kind.Greater ∷ kind.Name ∷ kind.Mark ∷ kind.CIdentifier ∷ []
+completion ListTagged = kind.Name ∷ kind.Mark ∷ kind.CIdentifier ∷ []
+completion TypeWord = kind.Less ∷ kind.Name ∷ kind.Greater ∷ kind.Name ∷ kind.Mark ∷
+    kind.CIdentifier ∷ []
+completion TypeTagOpen = kind.Name ∷ kind.Greater ∷ kind.Name ∷ kind.Mark ∷ kind.CIdentifier ∷ []
+completion TypeTagName = kind.Greater ∷ kind.Name ∷ kind.Mark ∷ kind.CIdentifier ∷ []
+completion TypeTagged = kind.Name ∷ kind.Mark ∷ kind.CIdentifier ∷ []
+completion RulesMark = kind.CIdentifier ∷ []
 completion PrecWord = kind.Name ∷ []
-completion Listed = kind.Mark ∷ kind.Head ∷ []
-completion Numbered = kind.Mark ∷ kind.Head ∷ []
-completion Typed = kind.Mark ∷ kind.Head ∷ []
+completion Listed = kind.Mark ∷ kind.CIdentifier ∷ []
+completion Numbered = kind.Mark ∷ kind.CIdentifier ∷ []
+completion Typed = kind.Mark ∷ kind.CIdentifier ∷ []
 completion Body = []
 completion PrecNamed = []
 completion Semicolons = []
@@ -62,14 +63,17 @@ completed Semicolons = refl
 completed End = refl
 
 pub viable : (ks : List Kind) (q : State) → reached (Some Declarations) ks ≡ Some q → BeginsSpec ks
-viable ks q e = (completion q, derived (ks ++ completion q)
-    (ap is_final_at (reached_append (Some Declarations) ks (completion q) ∙ ap
-    (λ o. reached o (completion q)) e) ∙ completed q))
+viable ks q e = (
+  completion q,
+  derived (ks ++ completion q)
+      (ap is_final_at (reached_append (Some Declarations) ks (completion q) ∙ ap
+      (λ o. reached o (completion q)) e) ∙ completed q),
+)
 
 pub not_viable : (ks : List Kind) → reached (Some Declarations) ks ≡ None → BeginsSpec ks → ⊥
 not_viable ks e (more, d) =
     let accepted : is_final_at (reached (Some Declarations) (ks ++ more)) ≡ true =
-            recognised (ks ++ more) d in
+    recognised (ks ++ more) d in
     let nowhere : is_final_at (reached (Some Declarations) (ks ++ more)) ≡ false = ap is_final_at
-            (reached_append (Some Declarations) ks more ∙ ap (λ o. reached o more) e ∙ lost more) in
+    (reached_append (Some Declarations) ks more ∙ ap (λ o. reached o more) e ∙ lost more) in
     cc

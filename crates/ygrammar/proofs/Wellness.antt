@@ -16,12 +16,13 @@ use Rattle.ygrammar.specs.Forms.{Productive}
 use Rattle.ygrammar.specs.WellFormed.{WellFormed}
 use Rattle.ygrammar.specs.Lexemes.{IsName}
 use Rattle.ygrammar.specs.Mistakes.{Holds, HasNone, order}
-use Rattle.ygrammar.specs.Names.{Name, is_among, noted_all, number_in, printed}
-use Rattle.ygrammar.specs.Tree.{Identifier, Definition, start, union, block, listing, types, Item}
+use Rattle.ygrammar.specs.Names.{Name, is_among, with_names, number_in, printed}
+use Rattle.ygrammar.specs.Tree.{Identifier, Definition, start, union, block, listing, types}
+use Rattle.ygrammar.specs.Tree.{BodyPart}
 use Rattle.ygrammar.specs.Tree.{symbol, action, Clause, Tree, IsTree, BeginsWithName}
 use Rattle.ygrammar.specs.Elaboration.{Rule, appearances, bare_of, body_from, clause_left, declared}
 use Rattle.ygrammar.specs.Elaboration.{final_of, inner_name, is_nonterminal, is_token}
-use Rattle.ygrammar.specs.Elaboration.{item_identifier, lefts, listings, numbered, option_list}
+use Rattle.ygrammar.specs.Elaboration.{body_part_identifier, lefts, listings, numbered, option_list}
 use Rattle.ygrammar.specs.Elaboration.{or_else, prec_of, rule_left, rules, rules_from, split_last}
 use Rattle.ygrammar.specs.Elaboration.{start_symbol, started, starts, symbols, tokens}
 use Rattle.ygrammar.specs.Elaboration.{token_names_of, used, uses}
@@ -47,11 +48,11 @@ bool_true false h = absurd (h refl)
 -- ---- numbers of names
 
 noted_above : (ns more : List Name) (n : Name) → is_among ns n ≡ false → length ns ≤ number_in
-    (noted_all ns more) n
+    (with_names ns more) n
 noted_above ns more n h = let g = noted_behind ns more in
     subst (λ (xs : List Name). length ns ≤ number_in xs n) (sym g.1) (number_behind ns g.0 n h)
 
-noted_length : (ns more : List Name) → length ns ≤ length (noted_all ns more)
+noted_length : (ns more : List Name) → length ns ≤ length (with_names ns more)
 noted_length ns more = let g = noted_behind ns more in
     subst (λ (xs : List Name). length ns ≤ length xs) (sym g.1) (let e = length-append ns g.0 in
     omega arith)
@@ -60,9 +61,11 @@ noted_length ns more = let g = noted_behind ns more in
 
 pub among_self : (xs : List Name) → AllByRecursion (λ n. is_among xs n ≡ true) xs
 among_self [] = tt
-among_self (x ∷ xs) = (or_left (bytes_eq x x) (is_among xs x) (eq_self x),
-    each_weaker (λ n. is_among xs n ≡ true) (λ n. is_among (x ∷ xs) n ≡ true)
-    (λ n h. or_right (bytes_eq n x) (is_among xs n) h) xs (among_self xs))
+among_self (x ∷ xs) = (
+  or_left (bytes_eq x x) (is_among xs x) (eq_self x),
+  each_weaker (λ n. is_among xs n ≡ true) (λ n. is_among (x ∷ xs) n ≡ true)
+      (λ n h. or_right (bytes_eq n x) (is_among xs n) h) xs (among_self xs),
+)
 
 -- names that are no tokens have none of the first numbers
 pub other_above : (t : Tree) (n : Name) → is_token t n ≡ false → length (tokens t) ≤ number_in
@@ -74,16 +77,16 @@ tokens_within t = noted_length (tokens t) (map rule_left (rules t))
 
 -- the end is the first token
 end_first : (x y : List Name) →
-    number_in (noted_all (noted_all (codes "$end" ∷ codes "error" ∷ []) x) y) (codes "$end") ≡ 0
+    number_in (with_names (with_names (codes "$end" ∷ codes "error" ∷ []) x) y) (codes "$end") ≡ 0
 end_first x y =
     let a = noted_behind (codes "$end" ∷ codes "error" ∷ []) x in
-    let b = noted_behind (noted_all (codes "$end" ∷ codes "error" ∷ []) x) y in
+    let b = noted_behind (with_names (codes "$end" ∷ codes "error" ∷ []) x) y in
     ap (λ (ns : List Name). number_in ns (codes "$end"))
-        (b.1 ∙ ap (λ (ns : List Name). ns ++ b.0) a.1)
+    (b.1 ∙ ap (λ (ns : List Name). ns ++ b.0) a.1)
 
-two_tokens : (x : List Name) → 1 < length (noted_all (codes "$end" ∷ codes "error" ∷ []) x)
+two_tokens : (x : List Name) → 1 < length (with_names (codes "$end" ∷ codes "error" ∷ []) x)
 two_tokens x = let a = noted_length (codes "$end" ∷ codes "error" ∷ []) x in
-    let two : 2 ≤ length (noted_all (codes "$end" ∷ codes "error" ∷ []) x) = a in omega arith
+    let two : 2 ≤ length (with_names (codes "$end" ∷ codes "error" ∷ []) x) = a in omega arith
 
 -- the names and literals that are tokens, as they appear
 abbrev appeared : Tree → List Name
@@ -123,7 +126,7 @@ module _ (P : Name → Type 0) where
   top_passes (c ∷ cs) s h = some_passes c.left [] s
       (each_left P (clause_left c) (flat_map clause_left cs) h)
 
-  inner_passes : ((k : ℕ) → P (inner_name k)) → (k : ℕ) (xs : List Item) → AllByRecursion
+  inner_passes : ((k : ℕ) → P (inner_name k)) → (k : ℕ) (xs : List BodyPart) → AllByRecursion
       (λ r. P r.left) (body_from k xs).inner
   inner_passes f k [] = tt
   inner_passes f k (symbol i ∷ xs) = inner_passes f k xs
@@ -136,12 +139,14 @@ module _ (P : Name → Type 0) where
       (λ r. P r.left) (rules_from before k cs)
   lefts_each f before k [] q h = tt
   lefts_each f before k (c ∷ cs) q h =
-      let items : List Item = (final_of c.last c.body).0 in
+      let items : List BodyPart = (final_of c.last c.body).0 in
       let rest : AllByRecursion P (flat_map clause_left cs) = each_right P (clause_left c)
-              (flat_map clause_left cs) h in
-      each_join (λ r. P r.left) (body_from k items).inner _ (inner_passes f k items)
-          (q, lefts_each f (or_else c.left before) (body_from k items).next cs
-          (next_passes (or_else c.left before) cs q rest) rest)
+      (flat_map clause_left cs) h in
+      each_join (λ r. P r.left) (body_from k items).inner _ (inner_passes f k items) (
+        q,
+        lefts_each f (or_else c.left before) (body_from k items).next cs
+            (next_passes (or_else c.left before) cs q rest) rest,
+      )
 
   left_back : (o : Option Name) (n : Name) → P (or_else o n) → AllByRecursion P (option_list o)
   left_back None n h = tt
@@ -152,35 +157,36 @@ module _ (P : Name → Type 0) where
       (rules_from before k cs) → AllByRecursion P (flat_map clause_left cs)
   lefts_back before k [] h = tt
   lefts_back before k (c ∷ cs) h =
-      let items : List Item = (final_of c.last c.body).0 in
+      let items : List BodyPart = (final_of c.last c.body).0 in
       let g = each_right (λ r. P r.left) (body_from k items).inner _ h in
       each_join P (clause_left c) (flat_map clause_left cs) (left_back c.left before g.0)
-          (lefts_back (or_else c.left before) (body_from k items).next cs g.1)
+      (lefts_back (or_else c.left before) (body_from k items).next cs g.1)
 
 -- ---- bodies
 
-split_used : (xs : List Item) → flat_map item_identifier (split_last xs).0 ≡ flat_map
-    item_identifier xs
+split_used : (xs : List BodyPart) → flat_map body_part_identifier (split_last xs).0 ≡ flat_map
+    body_part_identifier xs
 split_used [] = refl
 split_used (action x ∷ []) = refl
 split_used (symbol i ∷ []) = refl
 split_used (symbol i ∷ (y ∷ xs)) = ap (λ (is : List Identifier). i ∷ is) (split_used (y ∷ xs))
 split_used (action x ∷ (y ∷ xs)) = split_used (y ∷ xs)
 
-final_used : (o : Option (List ℕ)) (xs : List Item) → flat_map item_identifier (final_of o xs).0 ≡
-    flat_map item_identifier xs
+final_used : (o : Option (List ℕ)) (xs : List BodyPart) → flat_map body_part_identifier
+    (final_of o xs).0 ≡
+    flat_map body_part_identifier xs
 final_used None xs = split_used xs
 final_used (Some x) xs = refl
 
 module _ (P : Name → Type 0) where
-  body_names : (k : ℕ) (xs : List Item) → AllByRecursion (λ i. P (printed i))
-      (flat_map item_identifier xs) → AllByRecursion (λ r. P r.left) (body_from k xs).inner →
+  body_names : (k : ℕ) (xs : List BodyPart) → AllByRecursion (λ i. P (printed i))
+      (flat_map body_part_identifier xs) → AllByRecursion (λ r. P r.left) (body_from k xs).inner →
       AllByRecursion P (body_from k xs).symbols
   body_names k [] h q = tt
   body_names k (symbol i ∷ xs) h q = (h.0, body_names k xs h.1 q)
   body_names k (action x ∷ xs) h q = (q.0, body_names (suc k) xs h q.1)
 
-  inner_bodies : (k : ℕ) (xs : List Item) → AllByRecursion (λ r. AllByRecursion P r.body)
+  inner_bodies : (k : ℕ) (xs : List BodyPart) → AllByRecursion (λ r. AllByRecursion P r.body)
       (body_from k xs).inner
   inner_bodies k [] = tt
   inner_bodies k (symbol i ∷ xs) = inner_bodies k xs
@@ -192,16 +198,18 @@ module _ (P : Name → Type 0) where
       (λ r. AllByRecursion P r.body) (rules_from before k cs)
   bodies_each before k [] h q = tt
   bodies_each before k (c ∷ cs) h q =
-      let items : List Item = (final_of c.last c.body).0 in
+      let items : List BodyPart = (final_of c.last c.body).0 in
       let here = each_left (λ i. P (printed i)) (used c) (flat_map used cs) h in
       let mine = subst (AllByRecursion (λ i. P (printed i))) (sym (final_used c.last c.body))
-              (each_left (λ i. P (printed i)) (flat_map item_identifier c.body) (prec_of c) here) in
+      (each_left (λ i. P (printed i)) (flat_map body_part_identifier c.body) (prec_of c) here) in
       let inner = each_left (λ r. P r.left) (body_from k items).inner _ q in
       let later = each_right (λ r. P r.left) (body_from k items).inner _ q in
-      each_join (λ r. AllByRecursion P r.body) (body_from k items).inner _ (inner_bodies k items)
-          (body_names k items mine inner, bodies_each (or_else c.left before)
-          (body_from k items).next cs (each_right (λ i. P (printed i)) (used c) (flat_map used cs)
-          h) later.1)
+      each_join (λ r. AllByRecursion P r.body) (body_from k items).inner _ (inner_bodies k items) (
+        body_names k items mine inner,
+        bodies_each (or_else c.left before)
+            (body_from k items).next cs (each_right (λ i. P (printed i)) (used c) (flat_map used cs)
+            h) later.1,
+      )
 
 -- ---- symbols
 
@@ -254,8 +262,8 @@ start_among : (t : Tree) → IsTree t → (Holds t BadStart → ⊥) →
     Among t (start_symbol (starts t) (lefts t))
 start_among t s h = start_passes (Among t) (starts t) (lefts t)
     (each_weaker (λ i. is_nonterminal t (printed i) ≡ true) (λ i. Among t (printed i)) (λ i q.
-        (nonterminal_parts (is_token t (printed i)) (is_among (symbols t) (printed i)) q).1)
-        (starts t) (starts_nonterminal t h))
+    (nonterminal_parts (is_token t (printed i)) (is_among (symbols t) (printed i)) q).1)
+    (starts t) (starts_nonterminal t h))
     (lefts_back (Among t) [] 1 t.clauses (lefts_among t).1)
     (some_lefts t.clauses s.first)
 
@@ -267,8 +275,11 @@ end_among t = among_all (tokens t) (map rule_left (rules t)) (codes "$end") ∙ 
 -- every name in a body is a symbol
 pub bodies_among : (t : Tree) → IsTree t → (Holds t Undefined → ⊥) → (Holds t BadStart → ⊥) →
     AllByRecursion (λ r. AllByRecursion (λ n. is_among (symbols t) n ≡ true) r.body) (rules t)
-bodies_among t s u b = ((start_among t s b, (end_among t, tt)), bodies_each (Among t) [] 1 t.clauses
-    (uses_among t u) (lefts_among t).1)
+bodies_among t s u b = (
+  (start_among t s b, (end_among t, tt)),
+  bodies_each (Among t) [] 1 t.clauses
+      (uses_among t u) (lefts_among t).1,
+)
 
 -- ---- rules by number
 
@@ -307,8 +318,11 @@ rules_range : (ns : List Name) (rs : List Rule) → AllByRecursion (λ r. is_amo
 rules_range ns rs a b = each_both (λ r. is_among ns r.left ≡ true)
     (λ r. AllByRecursion (λ n. is_among ns n ≡ true) r.body)
     (λ r. InRange (length ns) (numbered ns r))
-    (λ r x y. record { left = among_number ns r.left x; body =
-    body_each ns (λ n. is_among ns n ≡ true) (λ s. s < length ns) (among_number ns) r.body y }) rs a
+    (λ r x y. record {
+      left = among_number ns r.left x;
+      body =
+          body_each ns (λ n. is_among ns n ≡ true) (λ s. s < length ns) (among_number ns) r.body y;
+    }) rs a
     b
 
 -- the rules of a file without undefined names and with a start symbol have symbols in range
@@ -325,13 +339,18 @@ record Ordinary (n : Name) : Type 0 where
   end : n ≡ codes "$end" → ⊥
 
 plain_ordinary : (n : Name) → IsName n → Ordinary n
-plain_ordinary n h = record { accept = plain_other n (codes "$accept") (name_plain n h) refl; end =
-    plain_other n (codes "$end") (name_plain n h) refl }
+plain_ordinary n h = record {
+  accept = plain_other n (codes "$accept") (name_plain n h) refl;
+  end =
+      plain_other n (codes "$end") (name_plain n h) refl;
+}
 
 printed_ordinary : (i : Identifier) → Named i → Ordinary (printed i)
-printed_ordinary i h = record { accept = plain_other (printed i) (codes "$accept")
-    (printed_plain i h) refl; end = plain_other (printed i) (codes "$end") (printed_plain i h) refl
-    }
+printed_ordinary i h = record {
+  accept = plain_other (printed i) (codes "$accept")
+      (printed_plain i h) refl;
+  end = plain_other (printed i) (codes "$end") (printed_plain i h) refl;
+}
 
 inner_ordinary : (k : ℕ) → Ordinary (inner_name k)
 inner_ordinary k = record { accept = inner_accept k; end = inner_end k }
@@ -344,9 +363,12 @@ lefts_tokens t h = each_weaker (Contains (lefts t)) (λ n. is_token t n ≡ fals
 -- no left side is a token
 pub lefts_other : (t : Tree) → IsTree t → IsNamed t → (Holds t TokenLeft → ⊥) → AllByRecursion
     (λ r. is_token t r.left ≡ false) (rules t)
-lefts_other t s n h = (accept_token t n, lefts_each (λ m. is_token t m ≡ false)
-    (λ k. inner_token t k n) [] 1 t.clauses (top_passes (λ m. is_token t m ≡ false) t.clauses
-    s.first (lefts_tokens t h)) (lefts_tokens t h))
+lefts_other t s n h = (
+  accept_token t n,
+  lefts_each (λ m. is_token t m ≡ false)
+      (λ k. inner_token t k n) [] 1 t.clauses (top_passes (λ m. is_token t m ≡ false) t.clauses
+      s.first (lefts_tokens t h)) (lefts_tokens t h),
+)
 
 -- every left side has a number behind those of the tokens
 lefts_above : (t : Tree) → IsTree t → IsNamed t → (Holds t TokenLeft → ⊥) → AllByRecursion
@@ -359,7 +381,7 @@ lefts_ordinary : (t : Tree) → IsTree t → IsNamed t → AllByRecursion (λ r.
     (rules_from [] 1 t.clauses)
 lefts_ordinary t s n =
     let a : AllByRecursion Ordinary (lefts t) = each_weaker IsName Ordinary plain_ordinary
-            (lefts t) n.lefts in
+    (lefts t) n.lefts in
     lefts_each Ordinary inner_ordinary [] 1 t.clauses (top_passes Ordinary t.clauses s.first a) a
 
 appear_ordinary : (t : Tree) → IsNamed t → AllByRecursion (λ i. Ordinary (printed i))
@@ -383,9 +405,9 @@ started_declared P (types tag ns) h = tt
 start_ordinary : (t : Tree) → IsTree t → IsNamed t → Ordinary (start_symbol (starts t) (lefts t))
 start_ordinary t s n = start_passes Ordinary (starts t) (lefts t)
     (each_piece (λ i. Ordinary (printed i)) (λ i. Ordinary (printed i)) declared started
-        (started_declared (λ i. Ordinary (printed i))) t.definitions
-        (each_left (λ i. Ordinary (printed i)) (flat_map declared t.definitions) (uses t)
-        (appear_ordinary t n)))
+    (started_declared (λ i. Ordinary (printed i))) t.definitions
+    (each_left (λ i. Ordinary (printed i)) (flat_map declared t.definitions) (uses t)
+    (appear_ordinary t n)))
     (each_weaker IsName Ordinary plain_ordinary (lefts t) n.lefts)
     (some_lefts t.clauses s.first)
 
@@ -393,22 +415,31 @@ start_other_token : (t : Tree) → IsTree t → (Holds t TokenLeft → ⊥) → 
     is_token t (start_symbol (starts t) (lefts t)) ≡ false
 start_other_token t s l b = start_passes (λ n. is_token t n ≡ false) (starts t) (lefts t)
     (each_weaker (λ i. is_nonterminal t (printed i) ≡ true) (λ i. is_token t (printed i) ≡ false)
-        (λ i q. (nonterminal_parts (is_token t (printed i)) (is_among (symbols t) (printed i)) q).0)
-        (starts t) (starts_nonterminal t b))
+    (λ i q. (nonterminal_parts (is_token t (printed i)) (is_among (symbols t) (printed i)) q).0)
+    (starts t) (starts_nonterminal t b))
     (lefts_tokens t l)
     (some_lefts t.clauses s.first)
 
 -- the first rule, with this start symbol
 abbrev opening : Name → Rule
-opening n = record { left = codes "$accept"; body = n ∷ codes "$end" ∷ []; prec = None; text =
-    None }
+opening n = record {
+  left = codes "$accept";
+  body = n ∷ codes "$end" ∷ [];
+  prec = None;
+  text =
+      None;
+}
 
 abbrev Member : List Name → Name → Type 0
 Member ns n = is_among ns n ≡ true
 
 abbrev grammar_of : ℕ → List Name → Name → List Rule → ContextFree
-grammar_of k ns first rs = record { tokens = k; symbols = length ns; rules = map (numbered ns)
-    (opening first ∷ rs) }
+grammar_of k ns first rs = record {
+  tokens = k;
+  symbols = length ns;
+  rules = map (numbered ns)
+      (opening first ∷ rs);
+}
 
 -- What is known of the names of a grammar's rules.
 record Known (k : ℕ) (ns : List Name) (first : Name) (rs : List Rule) : Type 0 where
@@ -486,9 +517,10 @@ known_well k ns first rs h p = record {
     here : All (λ s. s ≢ number_in ns (codes "$accept"))
         (map (number_in ns) (first ∷ codes "$end" ∷ []))
     here = All-from_recursion (λ s. s ≢ number_in ns (codes "$accept"))
-        (map (number_in ns) (first ∷ codes "$end" ∷ []))
-        (not_accept first h.bodies_in.0.0 h.start_plain.accept,
-        (not_accept (codes "$end") h.bodies_in.0.1.0 end_accept, tt))
+        (map (number_in ns) (first ∷ codes "$end" ∷ [])) (
+          not_accept first h.bodies_in.0.0 h.start_plain.accept,
+          (not_accept (codes "$end") h.bodies_in.0.1.0 end_accept, tt),
+        )
 
     later : AllByRecursion (λ x. All (λ s. s ≢ number_in ns (codes "$accept"))
         (map (number_in ns) x.body)) rs

@@ -5,17 +5,18 @@ use Rattle.std.specs.Global.{Vec}
 use Rattle.ygrammar.specs.declared.recogniser.State.{State}
 use Rattle.ygrammar.specs.declared.recogniser.State.TheVariants.{Declarations}
 use Rattle.ygrammar.specs.Recogniser.{reached}
-use Rattle.ygrammar.specs.declared.cutting.Placed.{Placed}
+use Rattle.ygrammar.specs.declared.lexer.Placed.{Placed}
 use Rattle.ygrammar.specs.declared.part.LexicalFault.{LexicalFault}
 use Rattle.ygrammar.specs.declared.part.LexicalFault.TheVariants as lexical
-use Rattle.ygrammar.specs.declared.fault.SyntaxFault.{SyntaxFault}
-use Rattle.ygrammar.specs.declared.fault.SyntaxFault.TheVariants as faults
+use Rattle.ygrammar.specs.declared.fault.GrammarFault.{GrammarFault}
+use Rattle.ygrammar.specs.declared.fault.GrammarFault.TheVariants as faults
 use Rattle.ygrammar.specs.Lexemes.{Lexeme}
-use Rattle.ygrammar.specs.Cuttings.{kinds, lexeme, PartAt, ComesTo, unfinished, bad_literal}
-use Rattle.ygrammar.specs.Cuttings.{foreign, syntax, refusal, Refusal, Outcome}
+use Rattle.ygrammar.specs.Lexer.{kinds, lexeme, PartAt, ComesTo, unfinished, bad_literal}
+use Rattle.ygrammar.specs.Lexer.{foreign, syntax, refusal, Refusal, Outcome}
 use Rattle.ygrammar.specs.Views.{lexeme_view}
 
-abbrev pub fault_at : LexicalFault → ℕ → SyntaxFault
+-- why no part begins at a place, as a fault on a line
+abbrev pub fault_at : LexicalFault → ℕ → GrammarFault
 fault_at lexical.Unfinished line = faults.Unfinished line
 fault_at lexical.BadLiteral line = faults.BadLiteral line
 fault_at lexical.Foreign line = faults.Foreign line
@@ -25,25 +26,26 @@ abbrev pub views : List Placed → List Lexeme
 views ls = map (λ p. lexeme_view p.lexeme) ls
 
 -- the answer is this outcome, or want of memory
-abbrev pub Answers : Result (Vec Placed) SyntaxFault → Result (List Lexeme) Refusal → Type 0
+abbrev pub Answers : Result (Vec Placed) GrammarFault → Result (List Lexeme) Refusal → Type 0
 Answers (Ok v) o = o ≡ Ok (views v.items)
 Answers (Err (faults.Unfinished line)) o = o ≡ Err (refusal unfinished line)
 Answers (Err (faults.BadLiteral line)) o = o ≡ Err (refusal bad_literal line)
 Answers (Err (faults.Foreign line)) o = o ≡ Err (refusal foreign line)
 Answers (Err (faults.Syntax line)) o = o ≡ Err (refusal syntax line)
-Answers (Err faults.TooLong) o = ⊥
 Answers (Err faults.Memory) o = Unit {0}
+Answers (Err _) o = ⊥
 
-abbrev pub Fails : SyntaxFault → List ℕ → Type 0
+-- the fault is one of the syntax of the file, or want of memory
+abbrev pub Fails : GrammarFault → List ℕ → Type 0
 Fails (faults.Unfinished line) bytes = Outcome bytes (Err (refusal unfinished line))
 Fails (faults.BadLiteral line) bytes = Outcome bytes (Err (refusal bad_literal line))
 Fails (faults.Foreign line) bytes = Outcome bytes (Err (refusal foreign line))
 Fails (faults.Syntax line) bytes = Outcome bytes (Err (refusal syntax line))
-Fails faults.TooLong bytes = ⊥
 Fails faults.Memory bytes = Unit {0}
+Fails _ bytes = ⊥
 
 -- the outcome of the file, or want of memory
-abbrev pub Gives : List ℕ → Result (Vec Placed) SyntaxFault → Type 0
+abbrev pub Gives : List ℕ → Result (Vec Placed) GrammarFault → Type 0
 Gives bytes (Ok v) = Outcome bytes (Ok (views v.items))
 Gives bytes (Err e) = Fails e bytes
 
@@ -52,8 +54,12 @@ abbrev pub StandsIn : List ℕ → Placed → Type 0
 StandsIn source p = (rest : List ℕ)
     × PartAt (drop p.at source) (lexeme (lexeme_view p.lexeme)) rest
 
+-- so of each
+abbrev pub StandIn : List ℕ → List Placed → Type 0
+StandIn source ls = AllByRecursion (StandsIn source) ls
+
 -- reading has come to the rest, in this state
 pub record Comes (bytes : List ℕ) (ls : List Placed) (rest : List ℕ) (state : State) : Type 0 where
   pub cut : ComesTo bytes (views ls) rest
   pub state_is : reached (Some Declarations) (kinds (views ls)) ≡ Some state
-  pub placed : AllByRecursion (StandsIn bytes) ls
+  pub placed : StandIn bytes ls

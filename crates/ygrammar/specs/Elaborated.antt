@@ -14,7 +14,7 @@ use Rattle.ygrammar.specs.Mistakes.{HasNone, Holds, IsFirst, order}
 use Rattle.ygrammar.specs.NameTexts.{texts}
 use Rattle.ygrammar.specs.Numbered.{rule_numbers}
 use Rattle.ygrammar.specs.Owned.{IsOwnTable}
-use Rattle.ygrammar.specs.Spans.{rule_text}
+use Rattle.ygrammar.specs.Texts.{rule_text}
 use Rattle.ygrammar.specs.Tree.{Tree}
 use Rattle.ygrammar.specs.WellFormed.{WellFormed}
 

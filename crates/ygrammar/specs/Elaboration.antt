@@ -10,9 +10,9 @@ use Rattle.std.specs.Fmt.{decimal}
 use Rattle.ygrammar.specs.declared.precedence.Associativity.TheVariants as associativity
 use Rattle.ygrammar.specs.declared.precedence.Precedence.{Precedence}
 use Rattle.ygrammar.specs.Tree.{Identifier, named, quoted, Word, token, left, right, nonassoc}
-use Rattle.ygrammar.specs.Tree.{Entry, Definition, start, union, block, listing, types, Item}
+use Rattle.ygrammar.specs.Tree.{Entry, Definition, start, union, block, listing, types, BodyPart}
 use Rattle.ygrammar.specs.Tree.{symbol, action, Clause, Tree}
-use Rattle.ygrammar.specs.Names.{Name, printed, printed_literal, is_among, noted_all, number_in}
+use Rattle.ygrammar.specs.Names.{Name, printed, printed_literal, is_among, with_names, number_in}
 use Rattle.ygrammar.specs.Grammar.{ContextFree, Production}
 
 abbrev pub option_list : {A : Type 0} → Option A → List A
@@ -100,16 +100,16 @@ declared block = []
 declared (listing w tag es) = map who_of es
 declared (types tag ns) = []
 
-abbrev pub item_identifier : Item → List Identifier
-item_identifier (symbol i) = i ∷ []
-item_identifier (action t) = []
+abbrev pub body_part_identifier : BodyPart → List Identifier
+body_part_identifier (symbol i) = i ∷ []
+body_part_identifier (action t) = []
 
 abbrev pub prec_of : Clause → List Identifier
 prec_of c = option_list c.prec
 
 -- the names and literals of a rule, that of its precedence among them
 abbrev pub used : Clause → List Identifier
-used c = flat_map item_identifier c.body ++ prec_of c
+used c = flat_map body_part_identifier c.body ++ prec_of c
 
 abbrev pub uses : Tree → List Identifier
 uses t = flat_map used t.clauses
@@ -141,7 +141,7 @@ is_token t n = is_among (token_names_of (listings t) (appearances t)) n
 
 -- the tokens by number: the end, `error`, and the others in the order of their first appearance
 abbrev pub tokens_of : List Listing → List Identifier → List Name
-tokens_of ls is = noted_all (codes "$end" ∷ codes "error" ∷ [])
+tokens_of ls is = with_names (codes "$end" ∷ codes "error" ∷ [])
     (filter (is_among (token_names_of ls is)) (map printed is))
 
 abbrev pub tokens : Tree → List Name
@@ -170,25 +170,29 @@ pub record Body : Type 0 where
   pub symbols : List Name
   pub next : ℕ
 
-abbrev pub body_from : ℕ → List Item → Body
+abbrev pub body_from : ℕ → List BodyPart → Body
 body_from k [] = record { inner = []; symbols = []; next = k }
 body_from k (symbol i ∷ items) =
     let b = body_from k items in
     record { inner = b.inner; symbols = printed i ∷ b.symbols; next = b.next }
 body_from k (action text ∷ items) =
     let b = body_from (suc k) items in
-    record { inner = inner_rule k text ∷ b.inner; symbols = inner_name k ∷ b.symbols; next =
-        b.next }
+    record {
+      inner = inner_rule k text ∷ b.inner;
+      symbols = inner_name k ∷ b.symbols;
+      next =
+          b.next;
+    }
 
 -- a body and the action that is its last part, where it is one
-abbrev pub split_last : List Item → List Item × Option (List ℕ)
+abbrev pub split_last : List BodyPart → List BodyPart × Option (List ℕ)
 split_last [] = ([], None)
 split_last (action text ∷ []) = ([], Some text)
 split_last (symbol i ∷ []) = (symbol i ∷ [], None)
 split_last (i ∷ j ∷ items) = let r = split_last (j ∷ items) in (i ∷ r.0, r.1)
 
 -- the final action is the one behind the precedence, or else the last part of the body
-abbrev pub final_of : Option (List ℕ) → List Item → List Item × Option (List ℕ)
+abbrev pub final_of : Option (List ℕ) → List BodyPart → List BodyPart × Option (List ℕ)
 final_of (Some text) items = (items, Some text)
 final_of None items = split_last items
 
@@ -225,7 +229,7 @@ rule_left r = r.left
 
 -- the symbols by number: the tokens, and the left sides in the order of their first rules
 abbrev pub symbols : Tree → List Name
-symbols t = noted_all (tokens t) (map rule_left (rules t))
+symbols t = with_names (tokens t) (map rule_left (rules t))
 
 -- a symbol that is no token
 abbrev pub is_nonterminal : Tree → Name → Bool
@@ -326,12 +330,12 @@ abbrev pub own_number : Tree → Name → Option ℕ
 own_number t n = first_or (numbers_given t n) (usual_of (appearances t) n)
 
 -- the precedence of a token
-abbrev pub precedence_of : Tree → Name → Option Precedence
-precedence_of t n = first_or (precedences_given t n) None
+abbrev pub token_precedence : Tree → Name → Option Precedence
+token_precedence t n = first_or (precedences_given t n) None
 
 -- the numbers that the tokens have by themselves, and their precedences
 abbrev pub own_numbers : Tree → List (Option ℕ)
 own_numbers t = map (own_number t) (tokens t)
 
 abbrev pub token_precedences : Tree → List (Option Precedence)
-token_precedences t = map (precedence_of t) (tokens t)
+token_precedences t = map (token_precedence t) (tokens t)

@@ -33,20 +33,27 @@ pub record GrammarValue : Type 0 where
   -- which symbols can be reached from the first rule
   pub reachable : List Bool
 
--- the limits of this project's profile: symbols, rules, symbols in a body, the number of a token,
--- bytes of a file
+-- the limits of this project's profile: the symbols of a grammar
 abbrev pub most_symbols : ℕ
 most_symbols = 4096
 
+-- its rules
 abbrev pub most_rules : ℕ
 most_rules = 8192
 
+-- the symbols in the body of a rule
 abbrev pub longest_body : ℕ
 longest_body = 255
 
+-- the number of a token
 abbrev pub greatest_number : ℕ
 greatest_number = 32767
 
+-- numbers of tokens are below this
+abbrev pub number_bound : ℕ
+number_bound = 32768
+
+-- the bytes of a grammar file
 abbrev pub longest_file : ℕ
 longest_file = 1048576
 

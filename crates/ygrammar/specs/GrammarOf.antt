@@ -7,8 +7,8 @@ use Rattle.ygrammar.specs.declared.mistake.Mistake.TheVariants.{TokenLeft, Undef
 use Rattle.ygrammar.specs.declared.mistake.Mistake.TheVariants.{TwicePrecedence, BadNumber}
 use Rattle.ygrammar.specs.declared.mistake.Mistake.TheVariants.{BadStart, Unproductive, BadPrec}
 use Rattle.ygrammar.specs.declared.mistake.Mistake.TheVariants.{Limit}
-use Rattle.ygrammar.specs.Cuttings.{Fault, Refusal, Outcome, SpellsSyntax, refusal, unfinished}
-use Rattle.ygrammar.specs.Cuttings.{bad_literal, foreign, syntax}
+use Rattle.ygrammar.specs.Lexer.{Fault, Refusal, Outcome, SpellsSyntax, refusal, unfinished}
+use Rattle.ygrammar.specs.Lexer.{bad_literal, foreign, syntax}
 use Rattle.ygrammar.specs.Grammar.{GrammarValue, longest_file}
 use Rattle.ygrammar.specs.Meaning.{IsMeaning}
 use Rattle.ygrammar.specs.Mistakes.{IsFirst, order}

@@ -15,12 +15,12 @@ use Rattle.ygrammar.specs.Bytes.{IsBetween, IsComment, IsGap}
 pub data Lexeme : Type 0 where
   name : List ℕ → Lexeme
   -- a name with its colon
-  head : List ℕ → Lexeme
+  c_identifier : List ℕ → Lexeme
   literal : ℕ → Lexeme
   -- digits
   number : List ℕ → Lexeme
   -- a kept text, with its braces
-  act : List ℕ → Lexeme
+  braced : List ℕ → Lexeme
   code : Lexeme
   -- a lexeme that has one spelling
   fixed : Sign → Lexeme
@@ -108,13 +108,13 @@ pub data IsKept : List ℕ → Type 0 where
   line : {skipped text : List ℕ} → IsLineComment skipped → IsKept text → IsKept (skipped ++ text)
 
 -- a brace, what stands between, and the brace that closes it
-pub record IsAct (text : List ℕ) : Type 0 where
+pub record IsBraced (text : List ℕ) : Type 0 where
   pub inside : List ℕ
   pub whole : text ≡ 123 ∷ inside ++ 125 ∷ []
   pub kept : IsKept inside
 
 -- a name, a gap and a colon
-pub record IsHead (name text : List ℕ) : Type 0 where
+pub record IsCIdentifier (name text : List ℕ) : Type 0 where
   pub gap : List ℕ
   pub whole : text ≡ name ++ gap ++ 58 ∷ []
   pub named : IsName name
@@ -139,10 +139,10 @@ spelling sign.Semicolon = codes ";"
 -- the bytes spell the lexeme
 abbrev pub Spells : Lexeme → List ℕ → Type 0
 Spells (name n) text = (text ≡ n) × IsName n
-Spells (head n) text = IsHead n text
+Spells (c_identifier n) text = IsCIdentifier n text
 Spells (literal v) text = IsLiteral text v
 Spells (number ds) text = (text ≡ ds) × IsNumber ds
-Spells (act t) text = (text ≡ t) × IsAct t
+Spells (braced t) text = (text ≡ t) × IsBraced t
 Spells code text = IsBetween 37 123 37 125 text
 Spells (fixed p) text = text ≡ spelling p
 
@@ -164,9 +164,9 @@ sign_kind sign.Semicolon = kind.Semicolon
 -- what a lexeme is to the syntax
 abbrev pub kind_of : Lexeme → Kind
 kind_of (name n) = kind.Name
-kind_of (head n) = kind.Head
+kind_of (c_identifier n) = kind.CIdentifier
 kind_of (literal v) = kind.Literal
 kind_of (number ds) = kind.Number
-kind_of (act t) = kind.Act
+kind_of (braced t) = kind.Braced
 kind_of code = kind.Code
 kind_of (fixed p) = sign_kind p

@@ -3,15 +3,14 @@ pub mod Derivation
 pub mod Syntax
 pub mod Recogniser
 pub mod Lexemes
-pub mod Cuttings
+pub mod Lexer
 pub mod Stages
 pub mod Kept
 pub mod Views
 pub mod Answers
 pub mod Tree
 pub mod TreeViews
-pub mod Building
-pub mod TreeAnswers
+pub mod TreeBuilder
 pub mod Forms
 pub mod Grammar
 pub mod WellFormed
@@ -28,5 +27,5 @@ pub mod Owned
 pub mod Faults
 pub mod Elaborated
 pub mod Marking
-pub mod Spans
+pub mod Texts
 pub mod GrammarOf

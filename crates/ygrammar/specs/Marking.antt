@@ -3,23 +3,20 @@ use Rattle.std.specs.Prelude.{ℕ, ◌≡◌, ◌<◌, ◌≤◌, ◌+◌, ◌�
 use Rattle.std.specs.Prelude.{length, map, slice_index, slice_index_or, EachIndex, Vec}
 use Rattle.std.specs.Global.{Global}
 use Rattle.std.specs.List.{Contains}
-use Rattle.ygrammar.specs.Grammar.{ContextFree, Production, RuleValue, blank}
+use Rattle.ygrammar.specs.Grammar.{ContextFree, Production, RuleValue, blank, production_of}
 use Rattle.ygrammar.specs.Forms.{Productive, IsReachable}
-
-abbrev pub bare_rule : RuleValue → Production
-bare_rule r = r.production
 
 -- the bare grammar of rules by number
 abbrev pub numbered_grammar : ℕ → ℕ → List RuleValue → ContextFree
 numbered_grammar tokens symbols rules = record {
   tokens = tokens;
   symbols = symbols;
-  rules = map bare_rule rules;
+  rules = map production_of rules;
 }
 
 -- rule r by number, bare
 abbrev pub rule_at : List RuleValue → ℕ → Production
-rule_at rules r = slice_index_or (map bare_rule rules) r blank
+rule_at rules r = slice_index_or (map production_of rules) r blank
 
 -- each symbol of a rule is below the bound
 pub record RuleIn (symbols : ℕ) (p : Production) : Type 0 where
@@ -87,13 +84,13 @@ pub data IsSpread (p : Production) (m : List Bool) (order : List ℕ) (done : �
   ahead : IsWaiting order done p.left → IsSpread p m order done
   spread : EachIndex p.body (λ k. IsMarked m (slice_index p.body k)) → IsSpread p m order done
 
--- the marked symbols derive a list of tokens
-abbrev pub MarksProductive : ContextFree → List Bool → Type 0
-MarksProductive g m = (s : ℕ) → IsMarked m s → Productive g s
+-- only symbols that derive a list of tokens are marked
+abbrev pub OnlyProductive : ContextFree → List Bool → Type 0
+OnlyProductive g m = (s : ℕ) → IsMarked m s → Productive g s
 
--- the marked symbols can be reached
-abbrev pub MarksReachable : ContextFree → List Bool → Type 0
-MarksReachable g m = (s : ℕ) → IsMarked m s → IsReachable g s
+-- only symbols that can be reached are marked
+abbrev pub OnlyReachable : ContextFree → List Bool → Type 0
+OnlyReachable g m = (s : ℕ) → IsMarked m s → IsReachable g s
 
 abbrev pub items_of : Vec ℕ Global → List ℕ
 items_of v = v.items

@@ -24,12 +24,12 @@ abbrev pub is_among : List Name → Name → Bool
 is_among ns n = list_any (bytes_eq n) ns
 
 -- the names with one more behind them, unless it is there
-abbrev pub noted : List Name → Name → List Name
-noted ns n = if is_among ns n then ns else ns ++ n ∷ []
+abbrev pub with_name : List Name → Name → List Name
+with_name ns n = if is_among ns n then ns else ns ++ n ∷ []
 
 -- the names with those of more behind them, each once, in the order of their first appearance
-abbrev pub noted_all : List Name → List Name → List Name
-noted_all ns more = fold noted ns more
+abbrev pub with_names : List Name → List Name → List Name
+with_names ns more = fold with_name ns more
 
 -- the number of a name among names: how many others stand before it
 abbrev pub number_in : List Name → Name → ℕ

@@ -1,6 +1,7 @@
 -- Numbers for those tokens that have none of their own: in order, the least unused from 257 on.
 use Rattle.std.specs.Prelude.{ℕ, ◌≡◌, ◌<◌, ◌≤◌, ◌⊎◌, ◌↔◌, Bool, true, false, List, length, Option}
 use Rattle.std.specs.Prelude.{Some, None, slice_get, slice_index_or}
+use Rattle.ygrammar.specs.Grammar.{number_bound}
 
 -- a number that some token has by itself
 abbrev pub IsOwn : List (Option ℕ) → ℕ → Type 0
@@ -23,7 +24,7 @@ pub record AreNumbers (own : List (Option ℕ)) (ns : List ℕ) : Type 0 where
 
 -- own numbers are below 32,768
 abbrev pub AreSmall : List (Option ℕ) → Type 0
-AreSmall own = (m : ℕ) → IsOwn own m → m < 32768
+AreSmall own = (m : ℕ) → IsOwn own m → m < number_bound
 
 -- two tokens have one number by themselves
 abbrev pub Clashes : List (Option ℕ) → Type 0
@@ -37,4 +38,4 @@ pub record MarksBelow (count : ℕ) (own : List (Option ℕ)) (marks : List Bool
   pub apart : Clashes own → ⊥
 
 abbrev pub MarksOwn : List (Option ℕ) → List Bool → Type 0
-MarksOwn own marks = MarksBelow 32768 own marks
+MarksOwn own marks = MarksBelow number_bound own marks

@@ -5,26 +5,26 @@ use Rattle.ygrammar.specs.declared.outline.Listed.{Listed}
 use Rattle.ygrammar.specs.declared.outline.Started.{Started}
 use Rattle.ygrammar.specs.declared.outline.Outline.{Outline}
 use Rattle.ygrammar.specs.Tree.{Identifier, Tree}
-use Rattle.ygrammar.specs.TreeViews.{digits_view, mention_view, name_view, option_view}
+use Rattle.ygrammar.specs.TreeViews.{digits_view, occurrence_view, name_view, option_view}
 use Rattle.ygrammar.specs.Elaboration.{Listing, declared, lefts, listings, precs, starts, types_of}
 use Rattle.ygrammar.specs.Elaboration.{uses}
 
 abbrev pub listed_view : Listed → Listing
 listed_view l = record {
   gives = l.gives;
-  who = mention_view l.who;
+  who = occurrence_view l.who;
   digits = option_view digits_view l.digits;
 }
 
 abbrev pub start_view : Started → Identifier
-start_view s = mention_view s.who
+start_view s = occurrence_view s.who
 
 -- the lists are those of the tree
 pub record Outlines (o : Outline) (t : Tree) : Type 0 where
   pub listed : map listed_view o.listed.items ≡ listings t
   pub starts : map start_view o.starts.items ≡ starts t
   pub typed : map name_view o.typed.items ≡ types_of t
-  pub declared : map mention_view o.declared.items ≡ flat_map declared t.definitions
+  pub declared : map occurrence_view o.declared.items ≡ flat_map declared t.definitions
   pub lefts : map name_view o.lefts.items ≡ lefts t
-  pub used : map mention_view o.used.items ≡ uses t
-  pub precs : map mention_view o.precs.items ≡ precs t
+  pub used : map occurrence_view o.used.items ≡ uses t
+  pub precs : map occurrence_view o.precs.items ≡ precs t

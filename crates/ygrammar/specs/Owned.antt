@@ -14,7 +14,7 @@ use Rattle.ygrammar.specs.Elaboration.{token_precedences}
 use Rattle.ygrammar.specs.Mistakes.{Holds}
 use Rattle.ygrammar.specs.Numbers.{MarksOwn}
 use Rattle.ygrammar.specs.Tree.{Tree}
-use Rattle.ygrammar.specs.Grammar.{greatest_number}
+use Rattle.ygrammar.specs.Grammar.{greatest_number, number_bound}
 use Rattle.ygrammar.specs.Names.{Name, number_in}
 use Rattle.ygrammar.specs.Told.{IsTold, SaidTwice}
 
@@ -89,4 +89,4 @@ Precedes t (Err e) = Refuses t mistakes.TwicePrecedence e
 
 -- every number of the table is one that may stand there
 abbrev pub AllSmall : List (Option ℕ) → Type 0
-AllSmall table = (k m : ℕ) → slice_index_or table k None ≡ Some m → m < 32768
+AllSmall table = (k m : ℕ) → slice_index_or table k None ≡ Some m → m < number_bound

@@ -1,9 +1,10 @@
 -- The recogniser's states and moves.
 use Rattle.std.specs.Prelude.{List, [], ◌∷◌, Option, Some, None, Bool, true, false}
 use Rattle.ygrammar.specs.declared.kind.Kind.{Kind}
-use Rattle.ygrammar.specs.declared.kind.Kind.TheVariants.{Name, Head, Literal, Number, Mark, Token}
+use Rattle.ygrammar.specs.declared.kind.Kind.TheVariants.{Name, CIdentifier, Literal, Number, Mark}
+use Rattle.ygrammar.specs.declared.kind.Kind.TheVariants.{Token}
 use Rattle.ygrammar.specs.declared.kind.Kind.TheVariants.{Left, Right, Nonassoc, Types, Start}
-use Rattle.ygrammar.specs.declared.kind.Kind.TheVariants.{Union, Prec, Code, Act, Less, Greater}
+use Rattle.ygrammar.specs.declared.kind.Kind.TheVariants.{Union, Prec, Code, Braced, Less, Greater}
 use Rattle.ygrammar.specs.declared.kind.Kind.TheVariants.{Bar, Semicolon}
 use Rattle.ygrammar.specs.declared.recogniser.State.{State}
 use Rattle.ygrammar.specs.declared.recogniser.State.TheVariants.{Declarations, StartWord}
@@ -43,13 +44,13 @@ abbrev pub on_greater : State → Kind → Option State
 on_greater q Greater = Some q
 on_greater q _ = None
 
-abbrev pub on_act : State → Kind → Option State
-on_act q Act = Some q
-on_act q _ = None
+abbrev pub on_braced : State → Kind → Option State
+on_braced q Braced = Some q
+on_braced q _ = None
 
-abbrev pub on_head : State → Kind → Option State
-on_head q Head = Some q
-on_head q _ = None
+abbrev pub on_c_identifier : State → Kind → Option State
+on_c_identifier q CIdentifier = Some q
+on_c_identifier q _ = None
 
 abbrev pub after_list_word : Kind → Option State
 after_list_word Less = Some ListTagOpen
@@ -70,7 +71,7 @@ after_typed k = after_definition k
 
 abbrev pub after_rule : Kind → Option State
 after_rule Semicolon = Some Semicolons
-after_rule Head = Some Body
+after_rule CIdentifier = Some Body
 after_rule Bar = Some Body
 after_rule Mark = Some End
 after_rule _ = None
@@ -78,18 +79,18 @@ after_rule _ = None
 abbrev pub after_body : Kind → Option State
 after_body Name = Some Body
 after_body Literal = Some Body
-after_body Act = Some Body
+after_body Braced = Some Body
 after_body Prec = Some PrecWord
 after_body k = after_rule k
 
 abbrev pub after_prec : Kind → Option State
-after_prec Act = Some Semicolons
+after_prec Braced = Some Semicolons
 after_prec k = after_rule k
 
 abbrev pub next_state : State → Kind → Option State
 next_state Declarations k = after_definition k
 next_state StartWord k = on_identifier Declarations k
-next_state UnionWord k = on_act Declarations k
+next_state UnionWord k = on_braced Declarations k
 next_state ListWord k = after_list_word k
 next_state ListTagOpen k = on_name ListTagName k
 next_state ListTagName k = on_greater ListTagged k
@@ -101,7 +102,7 @@ next_state TypeTagOpen k = on_name TypeTagName k
 next_state TypeTagName k = on_greater TypeTagged k
 next_state TypeTagged k = on_name Typed k
 next_state Typed k = after_typed k
-next_state RulesMark k = on_head Body k
+next_state RulesMark k = on_c_identifier Body k
 next_state Body k = after_body k
 next_state PrecWord k = on_identifier PrecNamed k
 next_state PrecNamed k = after_prec k

@@ -18,7 +18,7 @@ pub data Production : Symbol → List Symbol → Type 0 where
   defs_empty : Production defs []
   defs_more : Production defs (defs ∷ def ∷ [])
   def_start : Production def (lexeme kind.Start ∷ identifier ∷ [])
-  def_union : Production def (lexeme kind.Union ∷ lexeme kind.Act ∷ [])
+  def_union : Production def (lexeme kind.Union ∷ lexeme kind.Braced ∷ [])
   def_code : Production def (lexeme kind.Code ∷ [])
   def_list : Production def (rword ∷ tag ∷ nlist ∷ [])
   def_type : Production def (lexeme kind.Types ∷ lexeme kind.Less ∷ lexeme kind.Name
@@ -37,16 +37,16 @@ pub data Production : Symbol → List Symbol → Type 0 where
   identifier_literal : Production identifier (lexeme kind.Literal ∷ [])
   tlist_one : Production tlist (lexeme kind.Name ∷ [])
   tlist_more : Production tlist (tlist ∷ lexeme kind.Name ∷ [])
-  rules_one : Production rules (lexeme kind.Head ∷ rbody ∷ prec ∷ [])
+  rules_one : Production rules (lexeme kind.CIdentifier ∷ rbody ∷ prec ∷ [])
   rules_more : Production rules (rules ∷ rule ∷ [])
-  rule_head : Production rule (lexeme kind.Head ∷ rbody ∷ prec ∷ [])
+  rule_head : Production rule (lexeme kind.CIdentifier ∷ rbody ∷ prec ∷ [])
   rule_bar : Production rule (lexeme kind.Bar ∷ rbody ∷ prec ∷ [])
   rbody_empty : Production rbody []
   rbody_symbol : Production rbody (rbody ∷ identifier ∷ [])
-  rbody_act : Production rbody (rbody ∷ lexeme kind.Act ∷ [])
+  rbody_act : Production rbody (rbody ∷ lexeme kind.Braced ∷ [])
   prec_empty : Production prec []
   prec_named : Production prec (lexeme kind.Prec ∷ identifier ∷ [])
-  prec_act : Production prec (lexeme kind.Prec ∷ identifier ∷ lexeme kind.Act ∷ [])
+  prec_act : Production prec (lexeme kind.Prec ∷ identifier ∷ lexeme kind.Braced ∷ [])
   prec_semicolon : Production prec (prec ∷ lexeme kind.Semicolon ∷ [])
 
 -- lexemes of these kinds are derived from `spec`

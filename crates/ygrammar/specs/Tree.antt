@@ -5,7 +5,7 @@ use Rattle.std.specs.Prelude.{Option, Some, None, IsSome, replicate}
 use Rattle.std.specs.List.{flat_map, AllByRecursion}
 use Rattle.ygrammar.specs.declared.kind.Sign.{Sign}
 use Rattle.ygrammar.specs.declared.kind.Sign.TheVariants as sign
-use Rattle.ygrammar.specs.Lexemes.{Lexeme, name, head, literal, number, act, code, fixed}
+use Rattle.ygrammar.specs.Lexemes.{Lexeme, name, c_identifier, literal, number, braced, code, fixed}
 
 -- a name or a literal
 pub data Identifier : Type 0 where
@@ -30,15 +30,15 @@ pub data Definition : Type 0 where
   types : List ℕ → List (List ℕ) → Definition
 
 -- a part of a body
-pub data Item : Type 0 where
-  symbol : Identifier → Item
-  action : List ℕ → Item
+pub data BodyPart : Type 0 where
+  symbol : Identifier → BodyPart
+  action : List ℕ → BodyPart
 
 -- a rule, as it stands in the file
 pub record Clause : Type 0 where
   -- the name before the colon, or a bar
   pub left : Option (List ℕ)
-  pub body : List Item
+  pub body : List BodyPart
   pub prec : Option Identifier
   -- the action behind the precedence
   pub last : Option (List ℕ)
@@ -74,28 +74,28 @@ tag_yield n = fixed sign.Less ∷ name n ∷ fixed sign.Greater ∷ []
 
 abbrev pub definition_yield : Definition → List Lexeme
 definition_yield (start i) = fixed sign.Start ∷ identifier_yield i ∷ []
-definition_yield (union t) = fixed sign.Union ∷ act t ∷ []
+definition_yield (union t) = fixed sign.Union ∷ braced t ∷ []
 definition_yield block = code ∷ []
 definition_yield (listing w tag es) = fixed (word_sign w)
     ∷ (option_yield tag_yield tag ++ flat_map entry_yield es)
 definition_yield (types tag ns) = fixed sign.Types ∷ (tag_yield tag ++ map name ns)
 
-abbrev pub item_yield : Item → Lexeme
-item_yield (symbol i) = identifier_yield i
-item_yield (action t) = act t
+abbrev pub body_part_yield : BodyPart → Lexeme
+body_part_yield (symbol i) = identifier_yield i
+body_part_yield (action t) = braced t
 
 abbrev pub left_yield : Option (List ℕ) → Lexeme
 left_yield None = fixed sign.Bar
-left_yield (Some n) = head n
+left_yield (Some n) = c_identifier n
 
 -- what stands behind a body: a precedence, an action and semicolons
 abbrev pub end_yield : Option Identifier → Option (List ℕ) → ℕ → List Lexeme
 end_yield prec last semicolons = option_yield (λ i. fixed sign.Prec ∷ identifier_yield i ∷ []) prec
-    ++ (option_yield (λ t. act t ∷ []) last ++ replicate semicolons (fixed sign.Semicolon))
+    ++ (option_yield (λ t. braced t ∷ []) last ++ replicate semicolons (fixed sign.Semicolon))
 
 abbrev pub clause_yield : Clause → List Lexeme
 clause_yield c = left_yield c.left
-    ∷ (map item_yield c.body ++ end_yield c.prec c.last c.semicolons)
+    ∷ (map body_part_yield c.body ++ end_yield c.prec c.last c.semicolons)
 
 abbrev pub mark_yield : Bool → List Lexeme
 mark_yield true = fixed sign.Mark ∷ []

@@ -3,28 +3,29 @@ use Rattle.std.specs.Prelude.{ℕ, List, map, Option, Some, None}
 use Rattle.std.specs.Borrow.{Bor}
 use Rattle.ygrammar.specs.declared.tree.Identifier.{Identifier as CodeIdentifier}
 use Rattle.ygrammar.specs.declared.tree.Identifier.TheVariants as identifiers
-use Rattle.ygrammar.specs.declared.tree.Mention.{Mention}
+use Rattle.ygrammar.specs.declared.tree.Occurrence.{Occurrence}
 use Rattle.ygrammar.specs.declared.tree.NameAt.{NameAt}
 use Rattle.ygrammar.specs.declared.tree.Digits.{Digits}
+use Rattle.ygrammar.specs.declared.tree.BracedText.{BracedText}
 use Rattle.ygrammar.specs.declared.tree.Word.{Word as CodeWord}
 use Rattle.ygrammar.specs.declared.tree.Word.TheVariants as words
 use Rattle.ygrammar.specs.declared.tree.Entry.{Entry as CodeEntry}
 use Rattle.ygrammar.specs.declared.tree.Definition.{Definition as CodeDefinition}
 use Rattle.ygrammar.specs.declared.tree.Definition.TheVariants as definitions
-use Rattle.ygrammar.specs.declared.tree.Item.{Item as CodeItem}
-use Rattle.ygrammar.specs.declared.tree.Item.TheVariants as items
+use Rattle.ygrammar.specs.declared.tree.BodyPart.{BodyPart as CodeBodyPart}
+use Rattle.ygrammar.specs.declared.tree.BodyPart.TheVariants as items
 use Rattle.ygrammar.specs.declared.tree.Clause.{Clause as CodeClause}
 use Rattle.ygrammar.specs.declared.tree.Tree.{Tree as CodeTree}
 use Rattle.ygrammar.specs.Tree.{Identifier, named, quoted, Word, token, left, right, nonassoc}
-use Rattle.ygrammar.specs.Tree.{Entry, Definition, start, union, block, listing, types, Item}
+use Rattle.ygrammar.specs.Tree.{Entry, Definition, start, union, block, listing, types, BodyPart}
 use Rattle.ygrammar.specs.Tree.{symbol, action, Clause, Tree}
 
 abbrev pub identifier_view : CodeIdentifier → Identifier
 identifier_view (identifiers.Named n) = named n.now
 identifier_view (identifiers.Quoted v) = quoted v
 
-abbrev pub mention_view : Mention → Identifier
-mention_view m = identifier_view m.who
+abbrev pub occurrence_view : Occurrence → Identifier
+occurrence_view m = identifier_view m.who
 
 abbrev pub name_view : NameAt → List ℕ
 name_view n = n.name.now
@@ -32,11 +33,14 @@ name_view n = n.name.now
 abbrev pub digits_view : Digits → List ℕ
 digits_view d = d.digits.now
 
+abbrev pub braced_view : BracedText → List ℕ
+braced_view b = b.text.now
+
 abbrev pub option_view : {A B : Type 0} → (A → B) → Option A → Option B
 option_view f None = None
 option_view f (Some x) = Some (f x)
 
--- a tag or a kept text, where there is one
+-- a text, where there is one
 abbrev pub text_view : Option (Bor (List ℕ)) → Option (List ℕ)
 text_view t = option_view (λ s. s.now) t
 
@@ -47,26 +51,26 @@ word_view words.Right = right
 word_view words.Nonassoc = nonassoc
 
 abbrev pub entry_view : CodeEntry → Entry
-entry_view e = record { who = mention_view e.who; digits = option_view digits_view e.digits }
+entry_view e = record { who = occurrence_view e.who; digits = option_view digits_view e.digits }
 
 abbrev pub definition_view : CodeDefinition → Definition
-definition_view (definitions.Start m at) = start (mention_view m)
-definition_view (definitions.Union t) = union t.now
+definition_view (definitions.Start m at) = start (occurrence_view m)
+definition_view (definitions.Union b) = union (braced_view b)
 definition_view definitions.Block = block
 definition_view (definitions.Listing l) = listing (word_view l.word) (text_view l.tag)
     (map entry_view l.entries.items)
 definition_view (definitions.Types t) = types t.tag.now (map name_view t.names.items)
 
-abbrev pub item_view : CodeItem → Item
-item_view (items.Symbol m) = symbol (mention_view m)
-item_view (items.Action t) = action t.now
+abbrev pub body_part_view : CodeBodyPart → BodyPart
+body_part_view (items.Symbol m) = symbol (occurrence_view m)
+body_part_view (items.Action b) = action (braced_view b)
 
 abbrev pub clause_view : CodeClause → Clause
 clause_view c = record {
   left = option_view name_view c.left;
-  body = map item_view c.body.items;
-  prec = option_view mention_view c.prec;
-  last = text_view c.last;
+  body = map body_part_view c.body.items;
+  prec = option_view occurrence_view c.prec;
+  last = option_view braced_view c.last;
   semicolons = c.semicolons;
 }
 

@@ -12,9 +12,9 @@ use Rattle.ygrammar.specs.declared.part.Lexeme.TheVariants as lexemes
 use Rattle.ygrammar.specs.declared.part.LexicalFault.{LexicalFault}
 use Rattle.ygrammar.specs.declared.part.LexicalFault.TheVariants as faults
 use Rattle.ygrammar.specs.Bytes.{is_digit, is_blank, is_name_start, begins, IsComment, IsGap}
-use Rattle.ygrammar.specs.Lexemes.{Lexeme, name, head, literal, number, act, code, fixed}
-use Rattle.ygrammar.specs.Cuttings.{Part, blank, comment, lexeme, PartAt, Fault, unfinished}
-use Rattle.ygrammar.specs.Cuttings.{bad_literal, foreign, FaultAt}
+use Rattle.ygrammar.specs.Lexemes.{Lexeme, name, c_identifier, literal, number, braced, code, fixed}
+use Rattle.ygrammar.specs.Lexer.{Part, blank, comment, lexeme, PartAt, Fault, unfinished}
+use Rattle.ygrammar.specs.Lexer.{bad_literal, foreign, FaultAt}
 
 abbrev pub slice_of : Option (Bor (List ℕ)) → Option (List ℕ)
 slice_of None = None
@@ -28,10 +28,10 @@ pair_after a b (x ∷ xs) = cond (x == a && begins (λ y. y == b) xs) (Some (dro
 
 abbrev pub lexeme_view : CodeLexeme → Lexeme
 lexeme_view (lexemes.Name n) = name n.now
-lexeme_view (lexemes.Head n) = head n.now
+lexeme_view (lexemes.CIdentifier n) = c_identifier n.now
 lexeme_view (lexemes.Literal v) = literal v
 lexeme_view (lexemes.Number n) = number n.now
-lexeme_view (lexemes.Act t) = act t.now
+lexeme_view (lexemes.Braced t) = braced t.now
 lexeme_view lexemes.Code = code
 lexeme_view (lexemes.Fixed s) = fixed s
 

@@ -8,16 +8,17 @@ ghost use Rattle.ygrammar.specs.NameTexts.{texts};
 ghost use Rattle.ygrammar.specs.Names.{is_among, number_in, printed};
 ghost use Rattle.ygrammar.specs.Numbered.{is_between, is_long};
 ghost use Rattle.ygrammar.specs.Outline.{start_view};
-ghost use Rattle.ygrammar.specs.TreeViews.{identifier_view, mention_view, name_view, option_view};
+ghost use Rattle.ygrammar.specs.TreeViews.{identifier_view, occurrence_view, name_view};
+ghost use Rattle.ygrammar.specs.TreeViews.{option_view};
 
 use crate::grammar::Rule;
 use crate::limits::LONGEST_BODY;
-use crate::names::{Names, is_among, is_named, number_of};
+use crate::names::{SymbolTable, is_among, is_named, number_of};
 use crate::outline::Started;
-use crate::tree::{Identifier, Mention, NameAt};
+use crate::tree::{Identifier, NameAt, Occurrence};
 
 /// The first of some names that is a token.
-pub fn first_token(names: &[NameAt], tokens: &Names) -> Option<usize>
+pub fn first_token(names: &[NameAt], tokens: &SymbolTable) -> Option<usize>
     ensures found { is_some result
         ≡ list_any (is_among (texts tokens.now)) (map name_view names.now) }
     ensures place { result
@@ -33,7 +34,7 @@ pub fn first_token(names: &[NameAt], tokens: &Names) -> Option<usize>
 }
 
 /// The first of some names that is no symbol.
-pub fn first_unknown(names: &[NameAt], symbols: &Names) -> Option<usize>
+pub fn first_unknown(names: &[NameAt], symbols: &SymbolTable) -> Option<usize>
     ensures found { is_some result
         ≡ list_any (λ n. not (is_among (texts symbols.now) n)) (map name_view names.now) }
     ensures place { result
@@ -49,24 +50,25 @@ pub fn first_unknown(names: &[NameAt], symbols: &Names) -> Option<usize>
 }
 
 /// The first of some names and literals that is no symbol.
-pub fn first_undefined(mentions: &[Mention], symbols: &Names) -> Option<usize>
+pub fn first_undefined(occurrences: &[Occurrence], symbols: &SymbolTable) -> Option<usize>
     ensures found { is_some result
         ≡ list_any (λ i. not (is_among (texts symbols.now) (printed i)))
-        (map mention_view mentions.now) }
+        (map occurrence_view occurrences.now) }
     ensures place { result
         ≡ option_view (λ m. m.at)
-        (find (λ m. not (is_among (texts symbols.now) (printed (mention_view m)))) mentions.now) }
+        (find (λ m. not (is_among (texts symbols.now) (printed (occurrence_view m))))
+        occurrences.now) }
 {
-    for mention in mentions {
-        if !is_named(symbols, mention.who) {
-            return Some(mention.at);
+    for occurrence in occurrences {
+        if !is_named(symbols, occurrence.who) {
+            return Some(occurrence.at);
         }
     }
     None
 }
 
 /// Whether a name or literal is a symbol, but none of the first `tokens`.
-fn is_nonterminal(who: Identifier, symbols: &Names, tokens: usize) -> bool
+fn is_nonterminal(who: Identifier, symbols: &SymbolTable, tokens: usize) -> bool
     ensures { result
         ≡ is_between tokens (length (texts symbols.now))
         (number_in (texts symbols.now) (printed (identifier_view who.entry))) }
@@ -76,25 +78,29 @@ fn is_nonterminal(who: Identifier, symbols: &Names, tokens: usize) -> bool
 }
 
 /// The first of some names and literals that is a nonterminal.
-pub fn first_nonterminal(mentions: &[Mention], symbols: &Names, tokens: usize) -> Option<usize>
+pub fn first_nonterminal(
+    occurrences: &[Occurrence],
+    symbols: &SymbolTable,
+    tokens: usize,
+) -> Option<usize>
     ensures found { is_some result
         ≡ list_any (λ i. is_between tokens (length (texts symbols.now))
-        (number_in (texts symbols.now) (printed i))) (map mention_view mentions.now) }
+        (number_in (texts symbols.now) (printed i))) (map occurrence_view occurrences.now) }
     ensures place { result
         ≡ option_view (λ m. m.at)
         (find (λ m. is_between tokens (length (texts symbols.now))
-        (number_in (texts symbols.now) (printed (mention_view m)))) mentions.now) }
+        (number_in (texts symbols.now) (printed (occurrence_view m)))) occurrences.now) }
 {
-    for mention in mentions {
-        if is_nonterminal(mention.who, symbols, tokens) {
-            return Some(mention.at);
+    for occurrence in occurrences {
+        if is_nonterminal(occurrence.who, symbols, tokens) {
+            return Some(occurrence.at);
         }
     }
     None
 }
 
 /// The last `%start`, where one stands twice or names no nonterminal.
-pub fn bad_start(starts: &[Started], symbols: &Names, tokens: usize) -> Option<usize>
+pub fn bad_start(starts: &[Started], symbols: &SymbolTable, tokens: usize) -> Option<usize>
     ensures found { is_some result
         ≡ (nat_le 2 (length starts.now)
         || list_any (λ i. not (is_between tokens (length (texts symbols.now))

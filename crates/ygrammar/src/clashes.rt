@@ -9,8 +9,9 @@ ghost use Rattle.ygrammar.specs.Owned.{Owns};
 ghost use Rattle.ygrammar.specs.Tree.{Tree as TreeOf};
 
 use crate::given::{OwnTable, fill, fit_number, own_numbers, own_table};
+use crate::limits::NUMBERS;
 use crate::mistake::Refused;
-use crate::names::{Names, number_of};
+use crate::names::{SymbolTable, number_of};
 use crate::outline::{Listed, Outline};
 use std::alloc::{AllocError, Global};
 
@@ -25,8 +26,8 @@ struct Holders {
 impl Holders {
     fn new(alloc: Global) -> Result<Holders, AllocError> {
         Ok(Holders {
-            first: vec![in alloc; None; 32768]?,
-            shared: vec![in alloc; false; 32768]?,
+            first: vec![in alloc; None; NUMBERS]?,
+            shared: vec![in alloc; false; NUMBERS]?,
         })
     }
 
@@ -54,7 +55,7 @@ impl Holders {
 /// The first number that is given to each token, or 0 where that is out of range.
 fn first_numbers(
     alloc: Global,
-    tokens: &Names,
+    tokens: &SymbolTable,
     listed: &[Listed],
 ) -> Result<Vec<Option<u32>>, AllocError> {
     let mut given = vec![in alloc; None; tokens.len()]?;
@@ -68,7 +69,7 @@ fn first_numbers(
 }
 
 /// Adds the numbers that are given: a token given two holds both.
-fn hold_given(holders: &mut Holders, tokens: &Names, listed: &[Listed]) {
+fn hold_given(holders: &mut Holders, tokens: &SymbolTable, listed: &[Listed]) {
     for one in listed {
         if let Some(digits) = one.digits {
             if let Some(number) = fit_number(digits.digits) {
@@ -91,7 +92,7 @@ fn hold_own(holders: &mut Holders, own: &[Option<u32>]) {
 /// too; 0 where there is none.
 fn first_at_fault(
     alloc: Global,
-    tokens: &Names,
+    tokens: &SymbolTable,
     listed: &[Listed],
     holders: &Holders,
 ) -> Result<usize, AllocError> {
@@ -113,7 +114,11 @@ fn first_at_fault(
 }
 
 /// How many bytes stand before the first number at fault.
-fn bad_number_at(alloc: Global, tokens: &Names, outline: &Outline) -> Result<usize, AllocError> {
+fn bad_number_at(
+    alloc: Global,
+    tokens: &SymbolTable,
+    outline: &Outline,
+) -> Result<usize, AllocError> {
     let given = first_numbers(alloc, tokens, &outline.listed)?;
     let own = own_numbers(tokens, given, &outline.declared, &outline.used);
     let mut holders = Holders::new(alloc)?;
@@ -124,7 +129,11 @@ fn bad_number_at(alloc: Global, tokens: &Names, outline: &Outline) -> Result<usi
 
 /// The numbers that the tokens have by themselves; a mistake in them stands at the first number at
 /// fault.
-pub fn placed_table(alloc: Global, tokens: &Names, outline: &Outline) -> Result<OwnTable, Refused>
+pub fn placed_table(
+    alloc: Global,
+    tokens: &SymbolTable,
+    outline: &Outline,
+) -> Result<OwnTable, Refused>
     ensures { (t : TreeOf) → Outlines outline.now t → texts tokens.now ≡ tokens_of_tree t →
         Owns t result }
 {

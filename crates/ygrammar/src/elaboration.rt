@@ -2,15 +2,15 @@
 
 ghost use Rattle.std.specs.Prelude.{◌≡◌, ◌<◌, ◌≤◌, ◌^◌, ℕ, true, IfOk, List, map, not};
 ghost use Rattle.std.specs.Prelude.{slice_index_or, unwrap_or};
-ghost use Rattle.std.specs.List.{find};
-ghost use Rattle.ygrammar.specs.Cuttings.{SpellsSyntax};
+ghost use Rattle.std.specs.List.{find, AllByRecursion};
+ghost use Rattle.ygrammar.specs.Lexer.{SpellsSyntax};
 ghost use Rattle.ygrammar.specs.Elaborated.{Elaborates, Fruitful, GivesNamed, IsReady};
 ghost use Rattle.ygrammar.specs.Marking.{AreIn, numbered_grammar};
 ghost use Rattle.ygrammar.specs.Meaning.{IsMeaning};
 ghost use Rattle.ygrammar.specs.NameTexts.{texts};
 ghost use Rattle.ygrammar.specs.Names.{number_in};
 ghost use Rattle.ygrammar.specs.Numbered.{inner_after};
-ghost use Rattle.ygrammar.specs.Spans.{kept_texts, part_of};
+ghost use Rattle.ygrammar.specs.Texts.{ClauseStands};
 ghost use Rattle.ygrammar.specs.Tree.{IsTree, Tree as TreeOf, yield};
 ghost use Rattle.ygrammar.specs.Outline.{Outlines};
 ghost use Rattle.ygrammar.specs.TreeViews.{name_view, option_view, tree_view};
@@ -19,7 +19,7 @@ use crate::clashes::placed_table;
 use crate::given::{OwnTable, precedences};
 use crate::grammar::{Grammar, Rule};
 use crate::mistake::{Mistake, Refused};
-use crate::names::{Names, number_in};
+use crate::names::{SymbolTable, number_in};
 use crate::numbers::numbers;
 use crate::outline::Outline;
 use crate::precedence::Precedence;
@@ -28,8 +28,8 @@ use crate::reachable::reachable;
 use crate::refusals::{
     refuse_limit, refuse_prec, refuse_start, refuse_token_left, refuse_undefined,
 };
-use crate::rules::{note_nonterminals, number_rules};
-use crate::texts::{Span, Texts};
+use crate::rules::{intern_nonterminals, number_rules, rule_texts};
+use crate::texts::Texts;
 use crate::tokens::tokens;
 use crate::tree::{NameAt, Tree};
 use std::alloc::{AllocError, Global};
@@ -37,7 +37,7 @@ use std::alloc::{AllocError, Global};
 /// The symbols by number, the tokens first, and what is given to the tokens.
 #[derive(Drop)]
 pub struct Named {
-    pub names: Names,
+    pub names: SymbolTable,
     pub tokens: usize,
     pub given: Vec<Option<Precedence>>,
     pub own: OwnTable,
@@ -54,7 +54,7 @@ fn name_symbols(alloc: Global, tree: &Tree, outline: &Outline) -> Result<Named, 
     refuse_token_left(outline, &names)?;
     let given = precedences(alloc, &names, outline);
     let own = placed_table(alloc, &names, outline);
-    note_nonterminals(alloc, &mut names, &tree.clauses)?;
+    intern_nonterminals(alloc, &mut names, &tree.clauses)?;
     refuse_undefined(outline, &names)?;
     let given = given?;
     let own = own?;
@@ -67,7 +67,7 @@ fn name_symbols(alloc: Global, tree: &Tree, outline: &Outline) -> Result<Named, 
 }
 
 /// The place of the first left side that isn't marked.
-fn unmarked_left(lefts: &[NameAt], names: &Names, marks: &[bool]) -> usize
+fn unmarked_left(lefts: &[NameAt], names: &SymbolTable, marks: &[bool]) -> usize
     ensures { result
         ≡ unwrap_or (option_view (λ l. l.at)
         (find (λ l. not (slice_index_or marks.now (number_in (texts names.now) (name_view l))
@@ -86,7 +86,7 @@ fn unmarked_left(lefts: &[NameAt], names: &Names, marks: &[bool]) -> usize
 fn refuse_unproductive(
     alloc: Global,
     outline: &Outline,
-    names: &Names,
+    names: &SymbolTable,
     rules: &[Rule],
     tokens: usize,
     symbols: usize,
@@ -114,8 +114,9 @@ fn grammar_of(
     rules: Vec<Rule>,
     texts: Texts,
 ) -> Result<Grammar, AllocError>
-    requires { (t : TreeOf) × IsReady t named rules.items texts }
-    ensures { IfOk result (λ g. (t : TreeOf) → IsReady t named rules.items texts → IsMeaning t g) }
+    requires { (t : TreeOf) × IsReady t named rules.items texts.texts }
+    ensures { IfOk result (λ g. (t : TreeOf) → IsReady t named rules.items texts.texts →
+        IsMeaning t g) }
 {
     let Named {
         names,
@@ -128,17 +129,11 @@ fn grammar_of(
     Ok(Grammar::of(names, tokens, numbers, given, rules, texts, reachable))
 }
 
-/// What a tree means: the grammar, or the first mistake. The kept texts among its lexemes stand at
-/// these places of the source.
-pub fn elaborate(
-    alloc: Global,
-    source: &[u8],
-    kept: &[Span],
-    tree: &Tree,
-) -> Result<Grammar, Refused>
+/// What the tree of a source means: the grammar, or the first mistake.
+pub fn elaborate(alloc: Global, source: &[u8], tree: &Tree) -> Result<Grammar, Refused>
     requires spelled { (bytes : List ℕ) × SpellsSyntax bytes (yield (tree_view tree.now)) }
     requires shaped { IsTree (tree_view tree.now) }
-    requires kept { map (part_of source.now) kept.now ≡ kept_texts (yield (tree_view tree.now)) }
+    requires stands { AllByRecursion (ClauseStands source.now) tree.now.clauses.items }
     requires counted { inner_after 1 (tree_view tree.now).clauses < 2 ^ 64 }
     ensures { Elaborates (tree_view tree.now) result }
 {
@@ -150,6 +145,6 @@ pub fn elaborate(
     refuse_unproductive(alloc, &outline, &named.names, &rules, named.tokens, symbols)?;
     refuse_prec(&outline, &named.names, named.tokens)?;
     refuse_limit(&named.names, &rules)?;
-    let texts = Texts::of(alloc, source, kept, tree)?;
+    let texts = rule_texts(alloc, source, tree)?;
     Ok(grammar_of(alloc, named, rules, texts)?)
 }

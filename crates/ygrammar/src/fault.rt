@@ -2,38 +2,14 @@
 
 ghost use Rattle.std.specs.Prelude.{◌≡◌};
 ghost use Rattle.ygrammar.specs.Answers.{fault_at};
-ghost use Rattle.ygrammar.specs.Faults.{IsRefusal, line_of, of_syntax};
+ghost use Rattle.ygrammar.specs.Faults.{IsRefusal, line_of};
 ghost use Rattle.ygrammar.specs.GrammarOf.{mistake_at};
-ghost use Rattle.ygrammar.specs.declared.fault.SyntaxFault.TheVariants.{Memory};
+ghost use Rattle.ygrammar.specs.declared.fault.GrammarFault.TheVariants.{Memory};
 
 use crate::mistake::{Mistake, Refused};
 use crate::part::LexicalFault;
-use std::alloc::AllocFailed;
+use std::alloc::{AllocError, AllocFailed};
 use thiserror::Error;
-
-/// The fault of a grammar file's syntax. A line is one more than the newlines before the place at
-/// fault.
-#[derive(Clone, Copy, Debug, PartialEq, Eq, Drop, Error)]
-pub enum SyntaxFault {
-    /// G1: the file has more than 1,048,576 bytes.
-    #[error("G1")]
-    TooLong,
-    /// G2: a comment, literal, code block or kept text has no end.
-    #[error("G2 at line {line}")]
-    Unfinished { line: usize },
-    /// G3: no literal begins at a quote, and none would with more bytes.
-    #[error("G3 at line {line}")]
-    BadLiteral { line: usize },
-    /// G4: a byte or percent word that begins no lexeme.
-    #[error("G4 at line {line}")]
-    Foreign { line: usize },
-    /// G5: the lexemes up to here begin no grammar file, or the file ends too early.
-    #[error("G5 at line {line}")]
-    Syntax { line: usize },
-    /// G14: memory was refused.
-    #[error("no memory")]
-    Memory,
-}
 
 /// The fault of a grammar file. A line is one more than the newlines before the place at fault.
 #[derive(Clone, Copy, Debug, PartialEq, Eq, Drop, Error)]
@@ -83,21 +59,6 @@ pub enum GrammarFault {
     Memory,
 }
 
-impl From<SyntaxFault> for GrammarFault {
-    ghost from_gives = { λ f e. e ≡ of_syntax f };
-
-    fn from(fault: SyntaxFault) -> GrammarFault {
-        match fault {
-            SyntaxFault::TooLong => GrammarFault::TooLong,
-            SyntaxFault::Unfinished { line } => GrammarFault::Unfinished { line },
-            SyntaxFault::BadLiteral { line } => GrammarFault::BadLiteral { line },
-            SyntaxFault::Foreign { line } => GrammarFault::Foreign { line },
-            SyntaxFault::Syntax { line } => GrammarFault::Syntax { line },
-            SyntaxFault::Memory => GrammarFault::Memory,
-        }
-    }
-}
-
 impl Mistake {
     /// The fault of a file, on a line.
     fn at_line(self, line: usize) -> GrammarFault
@@ -142,21 +103,29 @@ fn line_at(source: &[u8], at: usize) -> usize
 
 impl LexicalFault {
     /// The fault of a file, on a line.
-    pub fn at_line(self, line: usize) -> SyntaxFault
+    pub fn at_line(self, line: usize) -> GrammarFault
         ensures { result ≡ fault_at self line }
     {
         match self {
-            LexicalFault::Unfinished => SyntaxFault::Unfinished { line },
-            LexicalFault::BadLiteral => SyntaxFault::BadLiteral { line },
-            LexicalFault::Foreign => SyntaxFault::Foreign { line },
+            LexicalFault::Unfinished => GrammarFault::Unfinished { line },
+            LexicalFault::BadLiteral => GrammarFault::BadLiteral { line },
+            LexicalFault::Foreign => GrammarFault::Foreign { line },
         }
     }
 }
 
-impl<T: Drop> From<AllocFailed<T>> for SyntaxFault {
+impl<T: Drop> From<AllocFailed<T>> for GrammarFault {
     ghost from_gives = { λ _ e. e ≡ Memory };
 
-    fn from(_refused: AllocFailed<T>) -> SyntaxFault {
-        SyntaxFault::Memory
+    fn from(_refused: AllocFailed<T>) -> GrammarFault {
+        GrammarFault::Memory
+    }
+}
+
+impl From<AllocError> for GrammarFault {
+    ghost from_gives = { λ _ e. e ≡ Memory };
+
+    fn from(_refused: AllocError) -> GrammarFault {
+        GrammarFault::Memory
     }
 }

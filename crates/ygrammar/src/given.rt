@@ -5,28 +5,29 @@ ghost use Rattle.std.specs.Prelude.{MatchOption};
 ghost use Rattle.std.specs.Char.{digit_value};
 ghost use Rattle.std.specs.Str.Parse.{digits_value};
 ghost use Rattle.ygrammar.specs.Elaboration.{literal_value, tokens as tokens_of_tree, usual_of};
+ghost use Rattle.ygrammar.specs.Grammar.{number_bound};
 ghost use Rattle.ygrammar.specs.Names.{Name};
 ghost use Rattle.ygrammar.specs.Owned.{AllSmall, IsFit, OwnSoFar, Owns, Precedes, TellsNumbers};
 ghost use Rattle.ygrammar.specs.Owned.{filled};
 ghost use Rattle.ygrammar.specs.Tree.{Identifier as IdentifierOf, Tree as TreeOf};
-ghost use Rattle.ygrammar.specs.TreeViews.{identifier_view, mention_view};
+ghost use Rattle.ygrammar.specs.TreeViews.{identifier_view, occurrence_view};
 ghost use Rattle.ygrammar.specs.NameTexts.{texts};
 ghost use Rattle.ygrammar.specs.Outline.{Outlines, listed_view};
 ghost use Rattle.ygrammar.specs.Told.{TellsPrecedences};
 
 use crate::limits::GREATEST_NUMBER;
 use crate::mistake::{Mistake, Refused};
-use crate::names::{Names, number_in, number_of};
+use crate::names::{SymbolTable, number_in, number_of};
 use crate::numbers::own_marks;
 use crate::outline::{Listed, Outline};
 use crate::precedence::Precedence;
-use crate::tree::{Identifier, Mention};
+use crate::tree::{Identifier, Occurrence};
 use std::alloc::Global;
 
 /// The precedences of the tokens by number.
 fn told_precedences(
     alloc: Global,
-    tokens: &Names,
+    tokens: &SymbolTable,
     listed: &[Listed],
 ) -> Result<Vec<Option<Precedence>>, Refused>
     ensures { TellsPrecedences (texts tokens.now) (map listed_view listed.now) result }
@@ -78,7 +79,7 @@ pub fn fit_number(digits: &[u8]) -> Option<u32>
 /// The numbers given to the tokens, by the number of the token.
 fn given_numbers(
     alloc: Global,
-    tokens: &Names,
+    tokens: &SymbolTable,
     listed: &[Listed],
 ) -> Result<Vec<Option<u32>>, Refused>
     ensures { TellsNumbers (texts tokens.now) (map listed_view listed.now) result }
@@ -111,7 +112,7 @@ fn given_numbers(
 
 /// Gives a number to a token that has none.
 pub fn fill(table: &mut Vec<Option<u32>>, token: usize, number: u32)
-    requires { number < 32768 }
+    requires { number < number_bound }
     ensures exact { table.new.items ≡ filled table.old.items token number }
     ensures small { AllSmall table.old.items → AllSmall table.new.items }
 {
@@ -121,7 +122,7 @@ pub fn fill(table: &mut Vec<Option<u32>>, token: usize, number: u32)
 }
 
 /// Gives a literal that has no number its value.
-fn fill_literal(table: &mut Vec<Option<u32>>, tokens: &Names, who: Identifier)
+fn fill_literal(table: &mut Vec<Option<u32>>, tokens: &SymbolTable, who: Identifier)
     ensures small { AllSmall table.old.items → AllSmall table.new.items }
     ensures told { (rest : List IdentifierOf) (own : Name → Option ℕ) →
         OwnSoFar (texts tokens.now) table.old.items (literal_value (identifier_view who.entry
@@ -134,29 +135,30 @@ fn fill_literal(table: &mut Vec<Option<u32>>, tokens: &Names, who: Identifier)
 }
 
 /// Gives literals that have no number their values.
-fn fill_literals(table: &mut Vec<Option<u32>>, tokens: &Names, mentions: &[Mention])
+fn fill_literals(table: &mut Vec<Option<u32>>, tokens: &SymbolTable, occurrences: &[Occurrence])
     ensures small { AllSmall table.old.items → AllSmall table.new.items }
     ensures told { (more : List IdentifierOf) (own : Name → Option ℕ) →
-        OwnSoFar (texts tokens.now) table.old.items (literal_value (map mention_view mentions.now
+        OwnSoFar (texts tokens.now) table.old.items
+        (literal_value (map occurrence_view occurrences.now
         ++ more)) own → OwnSoFar (texts tokens.now) table.new.items (literal_value more) own }
 {
-    for mention in mentions {
-        fill_literal(table, tokens, mention.who);
+    for occurrence in occurrences {
+        fill_literal(table, tokens, occurrence.who);
     }
 }
 
 /// The numbers that the tokens have by themselves: those given, that of the end, that of `error`,
 /// and the values of literals.
 pub fn own_numbers(
-    tokens: &Names,
+    tokens: &SymbolTable,
     given: Vec<Option<u32>>,
-    declared: &[Mention],
-    used: &[Mention],
+    declared: &[Occurrence],
+    used: &[Occurrence],
 ) -> Vec<Option<u32>>
     ensures small { AllSmall given.items → AllSmall result.items }
     ensures told { (own : Name → Option ℕ) →
-        OwnSoFar (texts tokens.now) given.items (usual_of (map mention_view declared.now
-        ++ map mention_view used.now)) own →
+        OwnSoFar (texts tokens.now) given.items (usual_of (map occurrence_view declared.now
+        ++ map occurrence_view used.now)) own →
         OwnSoFar (texts tokens.now) result.items (λ _. None) own }
 {
     let mut own = given;
@@ -177,7 +179,7 @@ pub struct OwnTable {
 /// The precedences of the tokens by number.
 pub fn precedences(
     alloc: Global,
-    tokens: &Names,
+    tokens: &SymbolTable,
     outline: &Outline,
 ) -> Result<Vec<Option<Precedence>>, Refused>
     ensures { (t : TreeOf) → Outlines outline.now t → texts tokens.now ≡ tokens_of_tree t →
@@ -187,7 +189,11 @@ pub fn precedences(
 }
 
 /// The numbers that the tokens have by themselves.
-pub fn own_table(alloc: Global, tokens: &Names, outline: &Outline) -> Result<OwnTable, Refused>
+pub fn own_table(
+    alloc: Global,
+    tokens: &SymbolTable,
+    outline: &Outline,
+) -> Result<OwnTable, Refused>
     ensures { (t : TreeOf) → Outlines outline.now t → texts tokens.now ≡ tokens_of_tree t →
         Owns t result }
 {

@@ -8,7 +8,7 @@ ghost use Rattle.ygrammar.specs.Names.{find_in, printed_literal};
 ghost use Rattle.ygrammar.specs.TreeViews.{text_view};
 ghost use Rattle.ygrammar.specs.WellFormed.{IsWhole, WellFormed};
 
-use crate::names::{Names, Printed, number_in};
+use crate::names::{Printed, SymbolTable, number_in};
 use crate::precedence::Precedence;
 use crate::texts::Texts;
 use std::marker::Model;
@@ -84,71 +84,49 @@ impl Rule {
 #[derive(Drop)]
 pub struct Grammar {
     /// The symbols by their printed names, the tokens first.
-    names: Names,
+    names: SymbolTable,
     tokens: usize,
     /// The numbers of the tokens.
     numbers: Vec<u32>,
     /// The precedences of the tokens.
     precedences: Vec<Option<Precedence>>,
     rules: Vec<Rule>,
-    /// The kept texts of the rules, where they have one.
-    kept: Texts,
+    /// The texts of the actions of the rules.
+    action_texts: Texts,
     /// Which symbols can be reached.
     reachable: Vec<bool>,
 }
 
 impl Model for Grammar {
-    ghost use Rattle.std.specs.Prelude.{length, map};
-    ghost use Rattle.ygrammar.specs.Grammar.{GrammarValue, precedence_of, production_of};
-    ghost use Rattle.ygrammar.specs.NameTexts.{texts};
+    ghost use Rattle.ygrammar.specs.Grammar.{GrammarValue};
+    ghost use Rattle.ygrammar.specs.NameTexts.{value_of};
     ghost use Rattle.ygrammar.specs.WellFormed.{IsWhole};
 
     ghost Value = { GrammarValue };
 
-    ghost view = { λ g. record {
-      bare = record {
-        tokens = g.tokens;
-        symbols = length (texts g.names);
-        rules = map production_of g.rules.items;
-      };
-      names = texts g.names;
-      numbers = g.numbers.items;
-      token_precedences = g.precedences.items;
-      rule_precedences = map precedence_of g.rules.items;
-      texts = g.kept;
-      reachable = g.reachable.items;
-    } };
+    ghost view = { λ g. value_of g.names g.tokens g.numbers.items g.precedences.items g.rules.items
+        g.action_texts.texts g.reachable.items };
 
-    ghost invariant = { λ g. IsWhole (record {
-      bare = record {
-        tokens = g.tokens;
-        symbols = length (texts g.names);
-        rules = map production_of g.rules.items;
-      };
-      names = texts g.names;
-      numbers = g.numbers.items;
-      token_precedences = g.precedences.items;
-      rule_precedences = map precedence_of g.rules.items;
-      texts = g.kept;
-      reachable = g.reachable.items;
-    }) };
+    ghost invariant = { λ g. IsWhole (value_of g.names g.tokens g.numbers.items g.precedences.items
+        g.rules.items g.action_texts.texts g.reachable.items) };
 }
 
 impl Grammar {
     /// A grammar of these parts.
     pub(crate) fn of(
-        names: Names,
+        names: SymbolTable,
         tokens: usize,
         numbers: Vec<u32>,
         precedences: Vec<Option<Precedence>>,
         rules: Vec<Rule>,
-        kept: Texts,
+        action_texts: Texts,
         reachable: Vec<bool>,
     ) -> Grammar
-        requires { IsWhole (value_of names tokens numbers.items precedences.items rules.items kept
+        requires { IsWhole (value_of names tokens numbers.items precedences.items rules.items
+            action_texts.texts
             reachable.items) }
         ensures { result
-            ≡ value_of names tokens numbers.items precedences.items rules.items kept
+            ≡ value_of names tokens numbers.items precedences.items rules.items action_texts.texts
             reachable.items }
     {
         Grammar {
@@ -157,7 +135,7 @@ impl Grammar {
             numbers,
             precedences,
             rules,
-            kept,
+            action_texts,
             reachable,
         }
     }
@@ -267,6 +245,6 @@ impl Grammar {
         requires { r < length self.now.bare.rules }
         ensures { text_view result ≡ slice_index_or self.now.texts r None }
     {
-        self.kept.get(r)
+        self.action_texts.get(r)
     }
 }

@@ -112,7 +112,7 @@ fn after_kept<'a>(bytes: &'a [u8]) -> Option<&'a [u8]>
 }
 
 /// The kept text at the front.
-pub fn act_at<'a>(bytes: &'a [u8]) -> Result<(Part<'a>, &'a [u8]), LexicalFault>
+pub fn braced_at<'a>(bytes: &'a [u8]) -> Result<(Part<'a>, &'a [u8]), LexicalFault>
     requires { begins_brace bytes.now ≡ true }
     ensures { Reads bytes.now result }
 {
@@ -120,7 +120,7 @@ pub fn act_at<'a>(bytes: &'a [u8]) -> Result<(Part<'a>, &'a [u8]), LexicalFault>
         None => Err(LexicalFault::Unfinished),
         Some(rest) => {
             let text = bytes.split_at(bytes.len() - rest.len()).0;
-            Ok((Part::Lexeme(Lexeme::Act(text)), rest))
+            Ok((Part::Lexeme(Lexeme::Braced(text)), rest))
         }
     }
 }

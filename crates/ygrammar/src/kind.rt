@@ -9,7 +9,7 @@ pub enum Kind {
     /// A name, or a name that no colon follows.
     Name,
     /// A name with its colon, which POSIX calls C_IDENTIFIER.
-    Head,
+    CIdentifier,
     Literal,
     Number,
     /// `%%`
@@ -26,7 +26,7 @@ pub enum Kind {
     /// `%{` to `%}`
     Code,
     /// A kept text in braces.
-    Act,
+    Braced,
     Less,
     Greater,
     Bar,

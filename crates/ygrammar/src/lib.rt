@@ -2,17 +2,16 @@
 //! layers above see them.
 #![tactic(auto)]
 
-mod building;
 mod bytes;
 mod checks;
 mod clashes;
-mod cutting;
 mod elaboration;
 mod fault;
 mod given;
 mod grammar;
 mod kept;
 mod kind;
+mod lexer;
 mod limits;
 mod literal;
 mod mistake;
@@ -30,10 +29,10 @@ mod reading;
 mod recogniser;
 mod refusals;
 mod rules;
-mod syntax_tree;
 mod texts;
 mod tokens;
 mod tree;
+mod tree_builder;
 mod worklist;
 
 pub use fault::GrammarFault;

@@ -12,5 +12,8 @@ pub const LONGEST_BODY: usize = 255;
 /// The number of a token.
 pub const GREATEST_NUMBER: u32 = 32_767;
 
+/// Numbers of tokens are below this.
+pub const NUMBERS: usize = 32_768;
+
 /// The bytes of a grammar file.
 pub const LONGEST_FILE: usize = 1_048_576;

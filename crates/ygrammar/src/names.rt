@@ -1,18 +1,18 @@
-//! Symbols by their printed names: each name once, its number the place where it was noted.
+//! Symbols by their printed names: each name once, its number the place where it was interned.
 
 ghost use Rattle.std.specs.Prelude.{◌≡◌, ◌≤◌, ℕ, List, length, map, take, OnOk, IfOk, [], ◌∷◌};
-ghost use Rattle.ygrammar.specs.Names.{is_among, noted, noted_all, number_in, printed};
+ghost use Rattle.ygrammar.specs.Names.{is_among, with_name, with_names, number_in, printed};
 ghost use Rattle.ygrammar.specs.Names.{printed_literal};
 ghost use Rattle.ygrammar.specs.NameTexts.{texts};
-ghost use Rattle.ygrammar.specs.TreeViews.{identifier_view, mention_view, name_view};
+ghost use Rattle.ygrammar.specs.TreeViews.{identifier_view, occurrence_view, name_view};
 
-use crate::tree::{Identifier, Mention, NameAt};
+use crate::tree::{Identifier, NameAt, Occurrence};
 use indexmap::IndexSet;
 use std::alloc::{AllocError, Global};
 use std::marker::Model;
 
 /// Printed names by number.
-pub type Names = IndexSet<Vec<u8>>;
+pub type SymbolTable = IndexSet<Vec<u8>>;
 
 /// A literal as it is printed.
 #[derive(Drop)]
@@ -62,22 +62,22 @@ impl Printed {
 }
 
 /// Whether the name is there.
-pub fn is_among(names: &Names, name: &[u8]) -> bool
+pub fn is_among(names: &SymbolTable, name: &[u8]) -> bool
     ensures { result ≡ is_among (texts names.now) name.now }
 {
     names.contains(name)
 }
 
 /// The number of the name, or how many names there are, where it isn't there.
-pub fn number_in(names: &Names, name: &[u8]) -> usize
+pub fn number_in(names: &SymbolTable, name: &[u8]) -> usize
     ensures { result ≡ number_in (texts names.now) name.now }
 {
     names.get_index_of(name).unwrap_or(names.len())
 }
 
-/// Notes a name, unless it is there.
-pub fn note(alloc: Global, names: &mut Names, name: &[u8]) -> Result<(), AllocError>
-    ensures { OnOk result (texts names.new ≡ noted (texts names.old) name.now) }
+/// Interns a name, unless it is there.
+pub fn intern(alloc: Global, names: &mut SymbolTable, name: &[u8]) -> Result<(), AllocError>
+    ensures { OnOk result (texts names.new ≡ with_name (texts names.old) name.now) }
 {
     if is_among(names, name) {
         return Ok(());
@@ -87,7 +87,7 @@ pub fn note(alloc: Global, names: &mut Names, name: &[u8]) -> Result<(), AllocEr
 }
 
 /// The number of a name or literal, or how many names there are, where it isn't there.
-pub fn number_of(names: &Names, who: Identifier) -> usize
+pub fn number_of(names: &SymbolTable, who: Identifier) -> usize
     ensures { result ≡ number_in (texts names.now) (printed (identifier_view who.entry)) }
 {
     match who {
@@ -97,7 +97,7 @@ pub fn number_of(names: &Names, who: Identifier) -> usize
 }
 
 /// Whether a name or literal is there.
-pub fn is_named(names: &Names, who: Identifier) -> bool
+pub fn is_named(names: &SymbolTable, who: Identifier) -> bool
     ensures { result ≡ is_among (texts names.now) (printed (identifier_view who.entry)) }
 {
     match who {
@@ -106,13 +106,17 @@ pub fn is_named(names: &Names, who: Identifier) -> bool
     }
 }
 
-/// Notes a name or literal, unless it is there.
-pub fn note_identifier(alloc: Global, names: &mut Names, who: Identifier) -> Result<(), AllocError>
+/// Interns a name or literal, unless it is there.
+pub fn intern_identifier(
+    alloc: Global,
+    names: &mut SymbolTable,
+    who: Identifier,
+) -> Result<(), AllocError>
     ensures { OnOk result (texts names.new
-        ≡ noted (texts names.old) (printed (identifier_view who.entry))) }
+        ≡ with_name (texts names.old) (printed (identifier_view who.entry))) }
 {
     match who {
-        Identifier::Named(name) => note(alloc, names, name),
-        Identifier::Quoted(value) => note(alloc, names, Printed::new(value).as_slice()),
+        Identifier::Named(name) => intern(alloc, names, name),
+        Identifier::Quoted(value) => intern(alloc, names, Printed::new(value).as_slice()),
     }
 }

@@ -1,14 +1,14 @@
 //! The numbers of the tokens: their own, and for the others the least unused from 257 on.
 
-ghost use Rattle.std.specs.Prelude.{◌≡◌, ◌<◌, ◌≤◌, ◌↔◌, ℕ, IfOk, MatchOption, length, false, max};
+ghost use Rattle.std.specs.Prelude.{◌≡◌, ◌<◌, ◌≤◌, ◌+◌, ◌↔◌, ℕ, IfOk, MatchOption, length, false};
+ghost use Rattle.std.specs.Prelude.{max};
 ghost use Rattle.std.specs.Prelude.{slice_index_or, true};
+ghost use Rattle.ygrammar.specs.Grammar.{most_symbols, number_bound};
 ghost use Rattle.ygrammar.specs.Numbers.{AreNumbers, AreSmall, Clashes, IsOwn, MarksBelow};
 ghost use Rattle.ygrammar.specs.Numbers.{MarksOwn};
 
+use crate::limits::NUMBERS;
 use std::alloc::{AllocError, Global};
-
-/// Numbers that may be given are below this.
-const NUMBERS: usize = 32768;
 
 /// Marks for the numbers that tokens have by themselves, all below `count`, or `None` where two
 /// have one.
@@ -48,8 +48,8 @@ pub fn own_marks(alloc: Global, own: &[Option<u32>]) -> Result<Option<Vec<bool>>
 
 /// The least number from `from` on that nobody has.
 fn next_free(marks: &[bool], from: u32) -> u32
-    requires low { from < 40000 }
-    requires few { length marks.now ≤ 32768 }
+    requires low { from ≤ number_bound + most_symbols }
+    requires few { length marks.now ≤ number_bound }
     ensures from { from ≤ result }
     ensures bound { result ≤ max from (length marks.now) }
     ensures free { slice_index_or marks.now result false ≡ false }
@@ -65,7 +65,7 @@ fn next_free(marks: &[bool], from: u32) -> u32
 /// The numbers of the tokens: their own, or the least that is free.
 pub fn numbers(alloc: Global, own: &[Option<u32>], marks: &[bool]) -> Result<Vec<u32>, AllocError>
     requires marked { MarksOwn own.now marks.now }
-    requires few { length own.now ≤ 4096 }
+    requires few { length own.now ≤ most_symbols }
     ensures { IfOk result (λ v. AreNumbers own.now v.items) }
 {
     let mut given = Vec::new(alloc);

@@ -3,30 +3,31 @@
 
 ghost use Rattle.std.specs.Prelude.{◌≡◌, ◌++◌, ℕ, map, IfOk, OnOk, length};
 ghost use Rattle.std.specs.List.{flat_map};
-ghost use Rattle.ygrammar.specs.Elaboration.{clause_left, declared, given_by, item_identifier};
+ghost use Rattle.ygrammar.specs.Elaboration.{clause_left, declared, given_by, body_part_identifier};
 ghost use Rattle.ygrammar.specs.Elaboration.{level_at, listing_of, listings_from, option_list};
 ghost use Rattle.ygrammar.specs.Elaboration.{prec_of, started, typed, used, who_of};
 ghost use Rattle.ygrammar.specs.Outline.{Outlines, listed_view, start_view};
-ghost use Rattle.ygrammar.specs.TreeViews.{clause_view, definition_view, entry_view, item_view};
-ghost use Rattle.ygrammar.specs.TreeViews.{mention_view, name_view, option_view, tree_view};
+ghost use Rattle.ygrammar.specs.TreeViews.{clause_view, definition_view, entry_view};
+ghost use Rattle.ygrammar.specs.TreeViews.{body_part_view};
+ghost use Rattle.ygrammar.specs.TreeViews.{occurrence_view, name_view, option_view, tree_view};
 ghost use Rattle.ygrammar.specs.TreeViews.{word_view};
 
 use crate::precedence::{Associativity, Precedence};
-use crate::tree::{Clause, Definition, Digits, Entry, Item, Mention, NameAt, Tree, Word};
+use crate::tree::{BodyPart, Clause, Definition, Digits, Entry, NameAt, Occurrence, Tree, Word};
 use std::alloc::{AllocError, Global};
 
 /// A token that a line lists: the precedence that the line gives, and the digits behind the token.
 #[derive(Clone, Copy, Debug, Drop)]
 pub struct Listed<'a> {
     pub gives: Option<Precedence>,
-    pub who: Mention<'a>,
+    pub who: Occurrence<'a>,
     pub digits: Option<Digits<'a>>,
 }
 
 /// The symbol that a `%start` names, and how many bytes stand before that `%start`.
 #[derive(Clone, Copy, Debug, Drop)]
 pub struct Started<'a> {
-    pub who: Mention<'a>,
+    pub who: Occurrence<'a>,
     pub at: usize,
 }
 
@@ -38,19 +39,22 @@ pub struct Outline<'a> {
     /// The names that `%type` lists.
     pub typed: Vec<NameAt<'a>>,
     /// The names and literals of the declarations.
-    pub declared: Vec<Mention<'a>>,
+    pub declared: Vec<Occurrence<'a>>,
     /// The left sides.
     pub lefts: Vec<NameAt<'a>>,
     /// The names and literals of the rules, those behind `%prec` among them.
-    pub used: Vec<Mention<'a>>,
+    pub used: Vec<Occurrence<'a>>,
     /// Those behind `%prec`.
-    pub precs: Vec<Mention<'a>>,
+    pub precs: Vec<Occurrence<'a>>,
 }
 
 /// Adds the tokens of a line.
-fn push_entries<'a>(found: &mut Vec<Mention<'a>>, entries: &[Entry<'a>]) -> Result<(), AllocError>
-    ensures { OnOk result (map mention_view found.new.items
-        ≡ map mention_view found.old.items ++ map who_of (map entry_view entries.now)) }
+fn push_entries<'a>(
+    found: &mut Vec<Occurrence<'a>>,
+    entries: &[Entry<'a>],
+) -> Result<(), AllocError>
+    ensures { OnOk result (map occurrence_view found.new.items
+        ≡ map occurrence_view found.old.items ++ map who_of (map entry_view entries.now)) }
 {
     for entry in entries {
         found.push(entry.who)?;
@@ -60,11 +64,11 @@ fn push_entries<'a>(found: &mut Vec<Mention<'a>>, entries: &[Entry<'a>]) -> Resu
 
 /// Adds the names and literals of a declaration.
 fn push_declared<'a>(
-    found: &mut Vec<Mention<'a>>,
+    found: &mut Vec<Occurrence<'a>>,
     definition: &Definition<'a>,
 ) -> Result<(), AllocError>
-    ensures { OnOk result (map mention_view found.new.items
-        ≡ map mention_view found.old.items ++ declared (definition_view definition.now)) }
+    ensures { OnOk result (map occurrence_view found.new.items
+        ≡ map occurrence_view found.old.items ++ declared (definition_view definition.now)) }
 {
     match definition {
         Definition::Start(who, _) => found.push(*who)?,
@@ -79,8 +83,8 @@ fn push_declared<'a>(
 fn all_declared<'a>(
     alloc: Global,
     definitions: &[Definition<'a>],
-) -> Result<Vec<Mention<'a>>, AllocError>
-    ensures { IfOk result (λ v. map mention_view v.items
+) -> Result<Vec<Occurrence<'a>>, AllocError>
+    ensures { IfOk result (λ v. map occurrence_view v.items
         ≡ flat_map declared (map definition_view definitions.now)) }
 {
     let mut found = Vec::new(alloc);
@@ -214,23 +218,28 @@ fn all_lefts<'a>(alloc: Global, clauses: &[Clause<'a>]) -> Result<Vec<NameAt<'a>
 }
 
 /// Adds the names and literals of a body.
-fn push_items<'a>(found: &mut Vec<Mention<'a>>, items: &[Item<'a>]) -> Result<(), AllocError>
-    ensures { OnOk result (map mention_view found.new.items
-        ≡ map mention_view found.old.items ++ flat_map item_identifier (map item_view items.now)) }
+fn push_items<'a>(found: &mut Vec<Occurrence<'a>>, items: &[BodyPart<'a>]) -> Result<(), AllocError>
+    ensures { OnOk result (map occurrence_view found.new.items
+        ≡ map occurrence_view found.old.items ++ flat_map body_part_identifier
+        (map body_part_view items.now)) }
 {
     for item in items {
         match item {
-            Item::Symbol(who) => found.push(*who)?,
-            Item::Action(_) => {}
+            BodyPart::Symbol(who) => found.push(*who)?,
+            BodyPart::Action(_) => {}
         }
     }
     Ok(())
 }
 
 /// Adds the name or literal behind a `%prec`, where there is one.
-fn push_prec<'a>(found: &mut Vec<Mention<'a>>, prec: Option<Mention<'a>>) -> Result<(), AllocError>
-    ensures { OnOk result (map mention_view found.new.items
-        ≡ map mention_view found.old.items ++ option_list (option_view mention_view prec.entry)) }
+fn push_prec<'a>(
+    found: &mut Vec<Occurrence<'a>>,
+    prec: Option<Occurrence<'a>>,
+) -> Result<(), AllocError>
+    ensures { OnOk result (map occurrence_view found.new.items
+        ≡ map occurrence_view found.old.items ++ option_list
+        (option_view occurrence_view prec.entry)) }
 {
     match prec {
         Some(who) => found.push(who)?,
@@ -239,8 +248,8 @@ fn push_prec<'a>(found: &mut Vec<Mention<'a>>, prec: Option<Mention<'a>>) -> Res
     Ok(())
 }
 
-fn all_used<'a>(alloc: Global, clauses: &[Clause<'a>]) -> Result<Vec<Mention<'a>>, AllocError>
-    ensures { IfOk result (λ v. map mention_view v.items
+fn all_used<'a>(alloc: Global, clauses: &[Clause<'a>]) -> Result<Vec<Occurrence<'a>>, AllocError>
+    ensures { IfOk result (λ v. map occurrence_view v.items
         ≡ flat_map used (map clause_view clauses.now)) }
 {
     let mut found = Vec::new(alloc);
@@ -251,8 +260,8 @@ fn all_used<'a>(alloc: Global, clauses: &[Clause<'a>]) -> Result<Vec<Mention<'a>
     Ok(found)
 }
 
-fn all_precs<'a>(alloc: Global, clauses: &[Clause<'a>]) -> Result<Vec<Mention<'a>>, AllocError>
-    ensures { IfOk result (λ v. map mention_view v.items
+fn all_precs<'a>(alloc: Global, clauses: &[Clause<'a>]) -> Result<Vec<Occurrence<'a>>, AllocError>
+    ensures { IfOk result (λ v. map occurrence_view v.items
         ≡ flat_map prec_of (map clause_view clauses.now)) }
 {
     let mut found = Vec::new(alloc);

@@ -11,13 +11,13 @@ use crate::kind::{Kind, Sign};
 pub enum Lexeme<'a> {
     Name(&'a [u8]),
     /// A name that a colon follows, over blanks and comments.
-    Head(&'a [u8]),
+    CIdentifier(&'a [u8]),
     /// A literal, by the value of its character, 1 to 255.
     Literal(u8),
     /// The digits of a number, any number of them.
     Number(&'a [u8]),
     /// A kept text, with its braces.
-    Act(&'a [u8]),
+    Braced(&'a [u8]),
     Code,
     Fixed(Sign),
 }
@@ -29,10 +29,10 @@ impl Lexeme<'_> {
     {
         match self {
             Lexeme::Name(_) => Kind::Name,
-            Lexeme::Head(_) => Kind::Head,
+            Lexeme::CIdentifier(_) => Kind::CIdentifier,
             Lexeme::Literal(_) => Kind::Literal,
             Lexeme::Number(_) => Kind::Number,
-            Lexeme::Act(_) => Kind::Act,
+            Lexeme::Braced(_) => Kind::Braced,
             Lexeme::Code => Kind::Code,
             Lexeme::Fixed(sign) => sign.kind(),
         }

@@ -4,7 +4,7 @@ ghost use Rattle.std.specs.Prelude.{◌≡◌, ◌≤◌, ◌<◌, ◌↔◌, �
 ghost use Rattle.std.specs.Prelude.{EachIndex, false, IfOk, OnOk, vec_len};
 ghost use Rattle.ygrammar.specs.Forms.{Productive};
 ghost use Rattle.ygrammar.specs.Marking.{AreDots, AreIn, DotFits, Grows, IsMarked, IsSettled};
-ghost use Rattle.ygrammar.specs.Marking.{IsUnmarked, IsWorklist, MarksProductive};
+ghost use Rattle.ygrammar.specs.Marking.{IsUnmarked, IsWorklist, OnlyProductive};
 ghost use Rattle.ygrammar.specs.Marking.{numbered_grammar, rule_at, unmarked};
 
 use crate::grammar::{Rule, Sym};
@@ -44,8 +44,8 @@ fn visit(
     ensures settled { OnOk result ((done : ℕ) →
         IsSettled (rule_at rules.now r) marks.new.items order.new.items done) }
     ensures sound { OnOk result ((tokens symbols : ℕ) →
-        MarksProductive (numbered_grammar tokens symbols rules.now) marks.old.items →
-        MarksProductive (numbered_grammar tokens symbols rules.now) marks.new.items) }
+        OnlyProductive (numbered_grammar tokens symbols rules.now) marks.old.items →
+        OnlyProductive (numbered_grammar tokens symbols rules.now) marks.new.items) }
 {
     let body = body_at(rules, r);
     let dot = advance(body, marks, dots[r]);
@@ -74,8 +74,8 @@ fn visit_listed(
         EachIndex listed.now (λ k. IsSettled (rule_at rules.now (slice_index listed.now k))
         marks.new.items order.new.items done)) }
     ensures sound { OnOk result ((tokens symbols : ℕ) →
-        MarksProductive (numbered_grammar tokens symbols rules.now) marks.old.items →
-        MarksProductive (numbered_grammar tokens symbols rules.now) marks.new.items) }
+        OnlyProductive (numbered_grammar tokens symbols rules.now) marks.old.items →
+        OnlyProductive (numbered_grammar tokens symbols rules.now) marks.new.items) }
 {
     for r in listed {
         visit(rules, *r, dots, marks, order)?;
@@ -98,8 +98,8 @@ fn visit_each(
     ensures settled { OnOk result ((r : ℕ) → r < length rules.now →
         IsSettled (rule_at rules.now r) marks.new.items order.new.items 0) }
     ensures sound { OnOk result ((tokens symbols : ℕ) →
-        MarksProductive (numbered_grammar tokens symbols rules.now) marks.old.items →
-        MarksProductive (numbered_grammar tokens symbols rules.now) marks.new.items) }
+        OnlyProductive (numbered_grammar tokens symbols rules.now) marks.old.items →
+        OnlyProductive (numbered_grammar tokens symbols rules.now) marks.new.items) }
 {
     for r in 0..rules.len() {
         visit(rules, r, dots, marks, order)?;
@@ -125,8 +125,8 @@ fn drain(
     ensures settled { OnOk result ((r : ℕ) → r < length rules.now →
         IsSettled (rule_at rules.now r) marks.new.items order.new.items (length order.new.items)) }
     ensures sound { OnOk result ((tokens symbols : ℕ) →
-        MarksProductive (numbered_grammar tokens symbols rules.now) marks.old.items →
-        MarksProductive (numbered_grammar tokens symbols rules.now) marks.new.items) }
+        OnlyProductive (numbered_grammar tokens symbols rules.now) marks.old.items →
+        OnlyProductive (numbered_grammar tokens symbols rules.now) marks.new.items) }
 {
     let places = occurrences(alloc, rules, marks.len())?;
     let mut done = 0;

@@ -4,7 +4,7 @@ ghost use Rattle.std.specs.Prelude.{◌≡◌, ◌≤◌, ◌<◌, ◌↔◌, �
 ghost use Rattle.std.specs.Prelude.{SomeIndex, IfOk, OnOk, vec_len};
 ghost use Rattle.ygrammar.specs.Forms.{IsReachable};
 ghost use Rattle.ygrammar.specs.Marking.{AreIn, Grows, IsMarked, IsSpread, IsWorklist};
-ghost use Rattle.ygrammar.specs.Marking.{MarksReachable, numbered_grammar, rule_at};
+ghost use Rattle.ygrammar.specs.Marking.{OnlyReachable, numbered_grammar, rule_at};
 
 use crate::grammar::{Rule, Sym};
 use crate::occurrences::{body_at, left_at, rules_by_left};
@@ -27,8 +27,8 @@ fn mark_body(
         (λ k. IsMarked marks.new.items (slice_index (rule_at rules.now r).body k))) }
     ensures sound { OnOk result ((tokens symbols : ℕ) →
         IsReachable (numbered_grammar tokens symbols rules.now) (rule_at rules.now r).left →
-        MarksReachable (numbered_grammar tokens symbols rules.now) marks.old.items →
-        MarksReachable (numbered_grammar tokens symbols rules.now) marks.new.items) }
+        OnlyReachable (numbered_grammar tokens symbols rules.now) marks.old.items →
+        OnlyReachable (numbered_grammar tokens symbols rules.now) marks.new.items) }
 {
     for s in body_at(rules, r) {
         mark(marks, order, *s)?;
@@ -53,8 +53,8 @@ fn mark_bodies(
     ensures sound { OnOk result ((tokens symbols : ℕ) →
         EachIndex listed.now (λ k. IsReachable (numbered_grammar tokens symbols rules.now)
         (rule_at rules.now (slice_index listed.now k)).left) →
-        MarksReachable (numbered_grammar tokens symbols rules.now) marks.old.items →
-        MarksReachable (numbered_grammar tokens symbols rules.now) marks.new.items) }
+        OnlyReachable (numbered_grammar tokens symbols rules.now) marks.old.items →
+        OnlyReachable (numbered_grammar tokens symbols rules.now) marks.new.items) }
 {
     for r in listed {
         mark_body(rules, *r, marks, order)?;
@@ -78,8 +78,8 @@ fn spread(
     ensures spread { OnOk result ((r : ℕ) → r < length rules.now →
         IsSpread (rule_at rules.now r) marks.new.items order.new.items (length order.new.items)) }
     ensures sound { OnOk result ((tokens symbols : ℕ) →
-        MarksReachable (numbered_grammar tokens symbols rules.now) marks.old.items →
-        MarksReachable (numbered_grammar tokens symbols rules.now) marks.new.items) }
+        OnlyReachable (numbered_grammar tokens symbols rules.now) marks.old.items →
+        OnlyReachable (numbered_grammar tokens symbols rules.now) marks.new.items) }
 {
     let by_left = rules_by_left(alloc, rules, marks.len())?;
     let mut done = 0;

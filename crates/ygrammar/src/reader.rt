@@ -2,7 +2,7 @@
 
 ghost use Rattle.std.specs.Prelude.{◌<◌, ◌↔◌, IfErr, IfOk, IsErrOf, length};
 ghost use Rattle.ygrammar.specs.Grammar.{GrammarValue, longest_file};
-ghost use Rattle.ygrammar.specs.Cuttings.{Refusal};
+ghost use Rattle.ygrammar.specs.Lexer.{Refusal};
 ghost use Rattle.ygrammar.specs.GrammarOf.{AnswersGrammar, AnswersMistake, AnswersRefusal};
 ghost use Rattle.ygrammar.specs.GrammarOf.{GivesGrammar, IsFaultOf, IsGrammarOf, IsMistaken};
 ghost use Rattle.ygrammar.specs.GrammarOf.{IsRefused};
@@ -11,7 +11,8 @@ ghost use Rattle.ygrammar.specs.declared.mistake.Mistake.{Mistake};
 use crate::elaboration::elaborate;
 use crate::fault::GrammarFault;
 use crate::grammar::Grammar;
-use crate::syntax_tree::read_tree;
+use crate::lexer::read_syntax;
+use crate::tree_builder::build_tree;
 use std::alloc::Global;
 
 /// The grammar of a grammar file, or the file's first fault (POSIX yacc, "Input Files" and
@@ -37,8 +38,9 @@ pub fn read_grammar(alloc: Global, source: &[u8]) -> Result<Grammar, GrammarFaul
     // There is no other answer.
     ensures exact { GivesGrammar source.now result }
 {
-    let syntax = read_tree(alloc, source)?;
-    match elaborate(alloc, source, &syntax.kept, &syntax.tree) {
+    let lexemes = read_syntax(alloc, source)?;
+    let tree = build_tree(alloc, &lexemes)?;
+    match elaborate(alloc, source, &tree) {
         Ok(grammar) => Ok(grammar),
         Err(refused) => Err(refused.in_file(source)),
     }

@@ -1,7 +1,7 @@
 //! The part of a grammar file that stands at a place.
 
 ghost use Rattle.std.specs.Prelude.{◌≡◌, ◌∷◌, ◌++◌, ◌<◌, List, true, length, MatchResult};
-ghost use Rattle.ygrammar.specs.Cuttings.{PartAt, FaultAt};
+ghost use Rattle.ygrammar.specs.Lexer.{PartAt, FaultAt};
 ghost use Rattle.ygrammar.specs.Bytes.{begins};
 ghost use Rattle.ygrammar.specs.Views.{Reads, begins_digit, begins_slash, begins_name, is_other};
 ghost use Rattle.ygrammar.specs.Views.{is_lone, sign_of};
@@ -9,7 +9,7 @@ ghost use Rattle.ygrammar.specs.Views.{is_lone, sign_of};
 use crate::bytes::{
     after_gap, after_pair, after_text, digit_run, is_blank, is_digit, is_name_start, name_run,
 };
-use crate::kept::act_at;
+use crate::kept::braced_at;
 use crate::kind::Sign;
 use crate::literal::read_literal;
 use crate::part::{Lexeme, LexicalFault, Part};
@@ -44,7 +44,7 @@ fn name_at<'a>(bytes: &'a [u8]) -> Result<(Part<'a>, &'a [u8]), LexicalFault>
     let end = after_gap(rest);
     match after_text(end, b":") {
         None => Ok((Part::Lexeme(Lexeme::Name(name)), rest)),
-        Some(tail) => Ok((Part::Lexeme(Lexeme::Head(name)), tail)),
+        Some(tail) => Ok((Part::Lexeme(Lexeme::CIdentifier(name)), tail)),
     }
 }
 
@@ -79,7 +79,7 @@ fn other_at<'a>(bytes: &'a [u8]) -> Result<(Part<'a>, &'a [u8]), LexicalFault>
     } else if first == b'%' {
         percent_at(bytes)
     } else if first == b'{' {
-        act_at(bytes)
+        braced_at(bytes)
     } else {
         sign_at(bytes)
     }

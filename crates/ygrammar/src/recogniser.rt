@@ -2,7 +2,8 @@
 
 ghost use Rattle.std.specs.Prelude.{◌≡◌};
 ghost use Rattle.ygrammar.specs.Recogniser.{after_definition, on_name, on_identifier, on_less};
-ghost use Rattle.ygrammar.specs.Recogniser.{on_greater, on_act, on_head, after_list_word};
+ghost use Rattle.ygrammar.specs.Recogniser.{on_greater, on_braced, on_c_identifier};
+ghost use Rattle.ygrammar.specs.Recogniser.{after_list_word};
 ghost use Rattle.ygrammar.specs.Recogniser.{after_number, after_listed, after_typed, after_rule};
 ghost use Rattle.ygrammar.specs.Recogniser.{after_body, after_prec, next_state, is_final, is_end};
 
@@ -43,7 +44,7 @@ impl State {
         match self {
             State::Declarations => after_definition(kind),
             State::StartWord => on_identifier(kind, State::Declarations),
-            State::UnionWord => on_act(kind, State::Declarations),
+            State::UnionWord => on_braced(kind, State::Declarations),
             State::ListWord => after_list_word(kind),
             State::ListTagOpen => on_name(kind, State::ListTagName),
             State::ListTagName => on_greater(kind, State::ListTagged),
@@ -55,7 +56,7 @@ impl State {
             State::TypeTagName => on_greater(kind, State::TypeTagged),
             State::TypeTagged => on_name(kind, State::Typed),
             State::Typed => after_typed(kind),
-            State::RulesMark => on_head(kind, State::Body),
+            State::RulesMark => on_c_identifier(kind, State::Body),
             State::Body => after_body(kind),
             State::PrecWord => on_identifier(kind, State::PrecNamed),
             State::PrecNamed => after_prec(kind),
@@ -132,20 +133,20 @@ fn on_greater(kind: Kind, then: State) -> Option<State>
     }
 }
 
-fn on_act(kind: Kind, then: State) -> Option<State>
-    ensures { result ≡ on_act then kind }
+fn on_braced(kind: Kind, then: State) -> Option<State>
+    ensures { result ≡ on_braced then kind }
 {
     match kind {
-        Kind::Act => Some(then),
+        Kind::Braced => Some(then),
         _ => None,
     }
 }
 
-fn on_head(kind: Kind, then: State) -> Option<State>
-    ensures { result ≡ on_head then kind }
+fn on_c_identifier(kind: Kind, then: State) -> Option<State>
+    ensures { result ≡ on_c_identifier then kind }
 {
     match kind {
-        Kind::Head => Some(then),
+        Kind::CIdentifier => Some(then),
         _ => None,
     }
 }
@@ -191,7 +192,7 @@ fn after_rule(kind: Kind) -> Option<State>
 {
     match kind {
         Kind::Semicolon => Some(State::Semicolons),
-        Kind::Head | Kind::Bar => Some(State::Body),
+        Kind::CIdentifier | Kind::Bar => Some(State::Body),
         Kind::Mark => Some(State::End),
         _ => None,
     }
@@ -201,7 +202,7 @@ fn after_body(kind: Kind) -> Option<State>
     ensures { result ≡ after_body kind }
 {
     match kind {
-        Kind::Name | Kind::Literal | Kind::Act => Some(State::Body),
+        Kind::Name | Kind::Literal | Kind::Braced => Some(State::Body),
         Kind::Prec => Some(State::PrecWord),
         _ => after_rule(kind),
     }
@@ -211,7 +212,7 @@ fn after_prec(kind: Kind) -> Option<State>
     ensures { result ≡ after_prec kind }
 {
     match kind {
-        Kind::Act => Some(State::Semicolons),
+        Kind::Braced => Some(State::Semicolons),
         _ => after_rule(kind),
     }
 }

@@ -17,11 +17,11 @@ use crate::checks::{
 use crate::grammar::Rule;
 use crate::limits::{MOST_RULES, MOST_SYMBOLS};
 use crate::mistake::{Mistake, Refused};
-use crate::names::Names;
+use crate::names::SymbolTable;
 use crate::outline::Outline;
 
 /// A token that is a left side, or is named by `%type`.
-pub fn refuse_token_left(outline: &Outline, tokens: &Names) -> Result<(), Refused>
+pub fn refuse_token_left(outline: &Outline, tokens: &SymbolTable) -> Result<(), Refused>
     ensures { (t : TreeOf) → Outlines outline.now t → texts tokens.now ≡ tokens_of_tree t →
         Clears t TokenLeft result }
 {
@@ -37,7 +37,7 @@ pub fn refuse_token_left(outline: &Outline, tokens: &Names) -> Result<(), Refuse
 }
 
 /// A name in a body, a `%prec` or a `%type` that is no symbol.
-pub fn refuse_undefined(outline: &Outline, symbols: &Names) -> Result<(), Refused>
+pub fn refuse_undefined(outline: &Outline, symbols: &SymbolTable) -> Result<(), Refused>
     ensures { (t : TreeOf) → Outlines outline.now t → texts symbols.now ≡ symbols_of_tree t →
         Clears t Undefined result }
 {
@@ -53,7 +53,7 @@ pub fn refuse_undefined(outline: &Outline, symbols: &Names) -> Result<(), Refuse
 }
 
 /// A `%start` that stands twice or names no nonterminal.
-pub fn refuse_start(outline: &Outline, symbols: &Names, tokens: usize) -> Result<(), Refused>
+pub fn refuse_start(outline: &Outline, symbols: &SymbolTable, tokens: usize) -> Result<(), Refused>
     ensures { (t : TreeOf) → Outlines outline.now t → texts symbols.now ≡ symbols_of_tree t →
         tokens ≡ length (tokens_of_tree t) → Clears t BadStart result }
 {
@@ -67,7 +67,7 @@ pub fn refuse_start(outline: &Outline, symbols: &Names, tokens: usize) -> Result
 }
 
 /// A `%prec` that names a nonterminal.
-pub fn refuse_prec(outline: &Outline, symbols: &Names, tokens: usize) -> Result<(), Refused>
+pub fn refuse_prec(outline: &Outline, symbols: &SymbolTable, tokens: usize) -> Result<(), Refused>
     ensures { (t : TreeOf) → Outlines outline.now t → texts symbols.now ≡ symbols_of_tree t →
         tokens ≡ length (tokens_of_tree t) → Clears t BadPrec result }
 {
@@ -81,7 +81,7 @@ pub fn refuse_prec(outline: &Outline, symbols: &Names, tokens: usize) -> Result<
 }
 
 /// More symbols, rules or symbols in a body than the limits.
-pub fn refuse_limit(symbols: &Names, rules: &[Rule]) -> Result<(), Refused>
+pub fn refuse_limit(symbols: &SymbolTable, rules: &[Rule]) -> Result<(), Refused>
     ensures { (t : TreeOf) → texts symbols.now ≡ symbols_of_tree t →
         rules.now
         ≡ map (rule_numbers (symbols_of_tree t) (token_precedences t)) (rules_of_tree t) →

@@ -1,23 +1,29 @@
 //! The rules of a file by number.
 
-ghost use Rattle.std.specs.Prelude.{◌≡◌, ◌<◌, ◌^◌, ◌++◌, ◌∷◌, [], List, Option, map, length};
-ghost use Rattle.std.specs.Prelude.{codes, IfOk, OnOk};
+ghost use Rattle.std.specs.Prelude.{◌≡◌, ◌<◌, ◌^◌, ◌++◌, ◌∷◌, [], ℕ, List, Option, map, length};
+ghost use Rattle.std.specs.Prelude.{codes, IfOk, IfSome, OnOk};
+ghost use Rattle.std.specs.List.{flat_map, AllByRecursion};
 ghost use Rattle.ygrammar.specs.Elaboration.{body_from, final_of, first_rule, inner_name};
 ghost use Rattle.ygrammar.specs.Elaboration.{inner_rule, or_else, precedence_at, rule_left};
-ghost use Rattle.ygrammar.specs.Elaboration.{rules_from, start_symbol};
+ghost use Rattle.ygrammar.specs.Elaboration.{rules, rules_from, start_symbol};
 ghost use Rattle.ygrammar.specs.NameTexts.{texts};
-ghost use Rattle.ygrammar.specs.Names.{noted_all, number_in};
+ghost use Rattle.ygrammar.specs.Names.{with_names, number_in};
 ghost use Rattle.ygrammar.specs.Outline.{start_view};
 ghost use Rattle.ygrammar.specs.Numbered.{chosen_token, inner_after, inner_numbers, last_token};
 ghost use Rattle.ygrammar.specs.Numbered.{rule_numbers};
-ghost use Rattle.ygrammar.specs.TreeViews.{clause_view, item_view, mention_view, name_view};
-ghost use Rattle.ygrammar.specs.TreeViews.{option_view, text_view};
+ghost use Rattle.ygrammar.specs.Texts.{ClauseStands, BodyPartStands, StandsAt, clause_texts};
+ghost use Rattle.ygrammar.specs.Texts.{body_part_texts};
+ghost use Rattle.ygrammar.specs.Texts.{rule_text};
+ghost use Rattle.ygrammar.specs.TreeViews.{braced_view, clause_view, body_part_view};
+ghost use Rattle.ygrammar.specs.TreeViews.{occurrence_view};
+ghost use Rattle.ygrammar.specs.TreeViews.{name_view, option_view, tree_view};
 
 use crate::grammar::{Rule, Sym};
-use crate::names::{Names, note, number_in, number_of};
+use crate::names::{SymbolTable, intern, number_in, number_of};
 use crate::outline::{Outline, Started};
 use crate::precedence::Precedence;
-use crate::tree::{Clause, Item, Mention, NameAt};
+use crate::texts::Texts;
+use crate::tree::{BodyPart, BracedText, Clause, NameAt, Occurrence, Tree};
 use itoa::Buffer;
 use std::alloc::{AllocError, Global};
 
@@ -33,44 +39,47 @@ fn inner_name(alloc: Global, k: usize) -> Result<Vec<u8>, AllocError>
 
 /// A body without its final action, and that action: the one behind the precedence, or else the
 /// last part of the body.
-pub fn final_parts<'t, 'a>(clause: &'t Clause<'a>) -> (&'t [Item<'a>], Option<&'a [u8]>)
-    ensures items { map item_view result.0.now
-        ≡ (final_of (text_view clause.now.last) (map item_view clause.now.body.items)).0 }
-    ensures text { text_view result.1
-        ≡ (final_of (text_view clause.now.last) (map item_view clause.now.body.items)).1 }
+fn final_parts<'t, 'a>(clause: &'t Clause<'a>) -> (&'t [BodyPart<'a>], Option<BracedText<'a>>)
+    ensures items { map body_part_view result.0.now
+        ≡ (final_of (clause_view clause.now).last (clause_view clause.now).body).0 }
+    ensures text { option_view braced_view result.1
+        ≡ (final_of (clause_view clause.now).last (clause_view clause.now).body).1 }
+    ensures stands { (source : List ℕ) → ClauseStands source clause.now →
+        AllByRecursion (BodyPartStands source) result.0.now
+        × IfSome result.1 (λ b. StandsAt source b) }
 {
     let body = clause.body.as_slice();
     match clause.last {
         Some(text) => (body, Some(text)),
         None => match body.split_last() {
-            Some((Item::Action(text), rest)) => (rest, Some(*text)),
-            Some((Item::Symbol(_), _)) => (body, None),
+            Some((BodyPart::Action(text), rest)) => (rest, Some(*text)),
+            Some((BodyPart::Symbol(_), _)) => (body, None),
             None => (body, None),
         },
     }
 }
 
-/// Notes the nonterminals of the inner actions, numbered from `k` on, and answers the next such
+/// Interns the nonterminals of the inner actions, numbered from `k` on, and answers the next such
 /// number.
-fn note_inner(
+fn intern_inner(
     alloc: Global,
-    names: &mut Names,
-    items: &[Item],
+    names: &mut SymbolTable,
+    items: &[BodyPart],
     k: usize,
 ) -> Result<usize, AllocError>
-    requires { (body_from k (map item_view items.now)).next < 2 ^ 64 }
+    requires { (body_from k (map body_part_view items.now)).next < 2 ^ 64 }
     ensures names { OnOk result (texts names.new
-        ≡ noted_all (texts names.old)
-        (map rule_left (body_from k (map item_view items.now)).inner)) }
-    ensures next { IfOk result (λ n. n ≡ (body_from k (map item_view items.now)).next) }
+        ≡ with_names (texts names.old)
+        (map rule_left (body_from k (map body_part_view items.now)).inner)) }
+    ensures next { IfOk result (λ n. n ≡ (body_from k (map body_part_view items.now)).next) }
 {
     let mut next = k;
     for item in items {
         match item {
-            Item::Symbol(_) => {}
-            Item::Action(_) => {
+            BodyPart::Symbol(_) => {}
+            BodyPart::Action(_) => {
                 let name = inner_name(alloc, next)?;
-                note(alloc, names, &name)?;
+                intern(alloc, names, &name)?;
                 next += 1;
             }
         }
@@ -88,42 +97,46 @@ fn left_name<'a>(clause: &Clause<'a>, before: &'a [u8]) -> &'a [u8]
     }
 }
 
-fn note_lefts(alloc: Global, names: &mut Names, clauses: &[Clause]) -> Result<(), AllocError>
+fn intern_lefts(
+    alloc: Global,
+    names: &mut SymbolTable,
+    clauses: &[Clause],
+) -> Result<(), AllocError>
     requires { inner_after 1 (map clause_view clauses.now) < 2 ^ 64 }
     ensures { OnOk result (texts names.new
-        ≡ noted_all (texts names.old)
+        ≡ with_names (texts names.old)
         (map rule_left (rules_from [] 1 (map clause_view clauses.now)))) }
 {
     let mut before: &[u8] = b"";
     let mut next: usize = 1;
     for clause in clauses {
         let (items, _) = final_parts(clause);
-        next = note_inner(alloc, names, items, next)?;
+        next = intern_inner(alloc, names, items, next)?;
         before = left_name(clause, before);
-        note(alloc, names, before)?;
+        intern(alloc, names, before)?;
     }
     Ok(())
 }
 
-/// Notes the nonterminals in the order of their first rules.
-pub fn note_nonterminals(
+/// Interns the nonterminals in the order of their first rules.
+pub fn intern_nonterminals(
     alloc: Global,
-    names: &mut Names,
+    names: &mut SymbolTable,
     clauses: &[Clause],
 ) -> Result<(), AllocError>
     requires { inner_after 1 (map clause_view clauses.now) < 2 ^ 64 }
     ensures { OnOk result (texts names.new
-        ≡ noted_all (texts names.old) (codes "$accept"
+        ≡ with_names (texts names.old) (codes "$accept"
         ∷ map rule_left (rules_from [] 1 (map clause_view clauses.now)))) }
 {
-    note(alloc, names, b"$accept")?;
-    note_lefts(alloc, names, clauses)
+    intern(alloc, names, b"$accept")?;
+    intern_lefts(alloc, names, clauses)
 }
 
 /// Adds the rule of an inner action, and answers its left side.
 fn push_inner(
     alloc: Global,
-    names: &Names,
+    names: &SymbolTable,
     k: usize,
     rules: &mut Vec<Rule>,
 ) -> Result<Sym, AllocError>
@@ -148,25 +161,26 @@ struct NumberedBody {
 /// `rules`.
 fn number_body(
     alloc: Global,
-    names: &Names,
-    items: &[Item],
+    names: &SymbolTable,
+    items: &[BodyPart],
     k: usize,
     rules: &mut Vec<Rule>,
 ) -> Result<NumberedBody, AllocError>
-    requires { (body_from k (map item_view items.now)).next < 2 ^ 64 }
+    requires { (body_from k (map body_part_view items.now)).next < 2 ^ 64 }
     ensures rules { OnOk result (rules.new.items
         ≡ rules.old.items
-        ++ map (inner_numbers (texts names.now)) (body_from k (map item_view items.now)).inner) }
+        ++ map (inner_numbers (texts names.now))
+        (body_from k (map body_part_view items.now)).inner) }
     ensures symbols { IfOk result (λ b. b.symbols.items
-        ≡ map (number_in (texts names.now)) (body_from k (map item_view items.now)).symbols) }
-    ensures next { IfOk result (λ b. b.next ≡ (body_from k (map item_view items.now)).next) }
+        ≡ map (number_in (texts names.now)) (body_from k (map body_part_view items.now)).symbols) }
+    ensures next { IfOk result (λ b. b.next ≡ (body_from k (map body_part_view items.now)).next) }
 {
     let mut symbols = Vec::new(alloc);
     let mut next = k;
     for item in items {
         match item {
-            Item::Symbol(mention) => symbols.push(number_of(names, mention.who))?,
-            Item::Action(_) => {
+            BodyPart::Symbol(occurrence) => symbols.push(number_of(names, occurrence.who))?,
+            BodyPart::Action(_) => {
                 symbols.push(push_inner(alloc, names, next, rules)?)?;
                 next += 1;
             }
@@ -191,17 +205,17 @@ fn last_token(tokens: usize, body: &[Sym]) -> Option<Sym>
 /// The precedence of a rule: that of the token behind its `%prec`, or else of the last token of
 /// its body.
 fn rule_precedence(
-    names: &Names,
+    names: &SymbolTable,
     given: &[Option<Precedence>],
-    prec: Option<Mention>,
+    prec: Option<Occurrence>,
     body: &[Sym],
 ) -> Option<Precedence>
     ensures { result
         ≡ precedence_at given.now (chosen_token (texts names.now) (length given.now)
-        (option_view mention_view prec.entry) body.now) }
+        (option_view occurrence_view prec.entry) body.now) }
 {
     let token = match prec {
-        Some(mention) => number_of(names, mention.who),
+        Some(occurrence) => number_of(names, occurrence.who),
         None => last_token(given.len(), body)?,
     };
     if token < given.len() {
@@ -214,7 +228,7 @@ fn rule_precedence(
 /// Adds the rules of the file, those of inner actions before the rule that they stand in.
 fn push_rules(
     alloc: Global,
-    names: &Names,
+    names: &SymbolTable,
     given: &[Option<Precedence>],
     clauses: &[Clause],
     rules: &mut Vec<Rule>,
@@ -238,8 +252,52 @@ fn push_rules(
     Ok(())
 }
 
+/// Adds the texts of the rules of inner actions.
+fn push_inner_texts(items: &[BodyPart], texts: &mut Texts) -> Result<(), AllocError>
+    requires { AllByRecursion (BodyPartStands texts.old.source) items.now }
+    ensures { OnOk result (texts.new
+        ≡ record texts.old {
+          texts = texts.old.texts ++ flat_map body_part_texts (map body_part_view items.now);
+        }) }
+{
+    for item in items {
+        match item {
+            BodyPart::Symbol(_) => {}
+            BodyPart::Action(text) => texts.push(Some(*text))?,
+        }
+    }
+    Ok(())
+}
+
+/// Adds the texts of the rules of the file.
+fn push_texts(clauses: &[Clause], texts: &mut Texts) -> Result<(), AllocError>
+    requires { AllByRecursion (ClauseStands texts.old.source) clauses.now }
+    ensures { OnOk result (texts.new
+        ≡ record texts.old {
+          texts = texts.old.texts ++ flat_map clause_texts (map clause_view clauses.now);
+        }) }
+{
+    for clause in clauses {
+        let (items, text) = final_parts(clause);
+        push_inner_texts(items, texts)?;
+        texts.push(text)?;
+    }
+    Ok(())
+}
+
+/// The texts of the rules of a file.
+pub fn rule_texts(alloc: Global, source: &[u8], tree: &Tree) -> Result<Texts, AllocError>
+    requires { AllByRecursion (ClauseStands source.now) tree.now.clauses.items }
+    ensures { IfOk result (λ t. t.texts ≡ map rule_text (rules (tree_view tree.now))) }
+{
+    let mut texts = Texts::new(alloc, source)?;
+    texts.push(None)?;
+    push_texts(&tree.clauses, &mut texts)?;
+    Ok(texts)
+}
+
 /// The number of the start symbol: the one that `%start` names, or the first left side.
-fn start_symbol(names: &Names, starts: &[Started], lefts: &[NameAt]) -> Sym
+fn start_symbol(names: &SymbolTable, starts: &[Started], lefts: &[NameAt]) -> Sym
     ensures { result
         ≡ number_in (texts names.now)
         (start_symbol (map start_view starts.now) (map name_view lefts.now)) }
@@ -256,7 +314,7 @@ fn start_symbol(names: &Names, starts: &[Started], lefts: &[NameAt]) -> Sym
 /// The rule `$accept : S $end`.
 fn first_rule(
     alloc: Global,
-    names: &Names,
+    names: &SymbolTable,
     given: &[Option<Precedence>],
     outline: &Outline,
 ) -> Result<Rule, AllocError>
@@ -276,7 +334,7 @@ fn first_rule(
 /// The rules of a file by number, with the precedences given to its tokens.
 pub fn number_rules(
     alloc: Global,
-    names: &Names,
+    names: &SymbolTable,
     given: &[Option<Precedence>],
     outline: &Outline,
     clauses: &[Clause],

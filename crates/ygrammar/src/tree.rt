@@ -10,7 +10,7 @@ pub enum Identifier<'a> {
 
 /// An identifier, and how many bytes stand before it.
 #[derive(Clone, Copy, Debug, Drop)]
-pub struct Mention<'a> {
+pub struct Occurrence<'a> {
     pub who: Identifier<'a>,
     pub at: usize,
 }
@@ -29,6 +29,13 @@ pub struct Digits<'a> {
     pub at: usize,
 }
 
+/// A text in braces, and how many bytes stand before it.
+#[derive(Clone, Copy, Debug, Drop)]
+pub struct BracedText<'a> {
+    pub text: &'a [u8],
+    pub at: usize,
+}
+
 /// The words of a line that lists tokens.
 #[derive(Clone, Copy, Debug, Drop, PartialEq, Eq)]
 pub enum Word {
@@ -41,7 +48,7 @@ pub enum Word {
 /// A token of a listing, with the number that may stand behind it.
 #[derive(Clone, Copy, Debug, Drop)]
 pub struct Entry<'a> {
-    pub who: Mention<'a>,
+    pub who: Occurrence<'a>,
     pub digits: Option<Digits<'a>>,
 }
 
@@ -64,9 +71,8 @@ pub struct Types<'a> {
 #[derive(Drop)]
 pub enum Definition<'a> {
     /// The start symbol, and how many bytes stand before its `%start`.
-    Start(Mention<'a>, usize),
-    /// A kept text.
-    Union(&'a [u8]),
+    Start(Occurrence<'a>, usize),
+    Union(BracedText<'a>),
     /// A code block.
     Block,
     Listing(Listing<'a>),
@@ -75,10 +81,9 @@ pub enum Definition<'a> {
 
 /// A part of a rule's body.
 #[derive(Clone, Copy, Debug, Drop)]
-pub enum Item<'a> {
-    Symbol(Mention<'a>),
-    /// A kept text.
-    Action(&'a [u8]),
+pub enum BodyPart<'a> {
+    Symbol(Occurrence<'a>),
+    Action(BracedText<'a>),
 }
 
 /// A rule, as it stands in the file.
@@ -86,10 +91,10 @@ pub enum Item<'a> {
 pub struct Clause<'a> {
     /// The name before the colon, unless the rule begins with a bar.
     pub left: Option<NameAt<'a>>,
-    pub body: Vec<Item<'a>>,
-    pub prec: Option<Mention<'a>>,
+    pub body: Vec<BodyPart<'a>>,
+    pub prec: Option<Occurrence<'a>>,
     /// The action behind the precedence.
-    pub last: Option<&'a [u8]>,
+    pub last: Option<BracedText<'a>>,
     pub semicolons: usize,
 }
 

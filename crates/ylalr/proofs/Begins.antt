@@ -34,7 +34,7 @@ begins_split [] y b = inr (none, b)
 begins_split (s ∷ x) y here = inl here
 begins_split {g = g} {t = t} (s ∷ x) y (over v b) =
     elim (begins_split x y b) as (λ q. Begins g t (s ∷ x) ⊎ (Vanishes g (s ∷ x) × Begins g t y))
-        [ inl p ↦ inl (over v p) | inr p ↦ inr (vanishes_append v x p.0, p.1) ]
+    [ inl p ↦ inl (over v p) | inr p ↦ inr (vanishes_append v x p.0, p.1) ]
 begins_split (s ∷ x) y (into r h e b) = inl (into r h e b)
 
 -- one replacement backwards
@@ -43,7 +43,7 @@ begins_front : {g : ContextFree} {t : ℕ} (before : List ℕ) (r : ℕ) (after 
     Begins g t (before ++ left_of g r ∷ after)
 begins_front {g = g} {t = t} [] r after h b =
     elim (begins_split (body_of g r) after b) as (λ q. Begins g t (left_of g r ∷ after))
-        [ inl p ↦ into r h refl p | inr p ↦ over (more r h refl p.0 none) p.1 ]
+    [ inl p ↦ into r h refl p | inr p ↦ over (more r h refl p.0 none) p.1 ]
 begins_front (s ∷ before) r after h here = here
 begins_front (s ∷ before) r after h (over v b) = over v (begins_front before r after h b)
 begins_front (s ∷ before) r after h (into q k e b) = into q k e b

@@ -7,7 +7,8 @@ use Rattle.ygrammar.specs.Grammar.{ContextFree, body_of, end_token}
 use Rattle.ygrammar.specs.WellFormed.{WellFormed}
 use Rattle.ylalr.specs.declared.items.Item.{Item}
 use Rattle.ylalr.specs.Items.{InCore, IsCore}
-use Rattle.ylalr.specs.Sets.{Closed, given, opened, Moved, moved, Begin, begin, ItemsOf, IsClosure}
+use Rattle.ylalr.specs.Sets.{Closure, given, opened, Kernel, moved, Begin, begin, ItemsOf}
+use Rattle.ylalr.specs.Sets.{IsClosure}
 use Rattle.ylalr.specs.Sets.{IsAdvanced}
 use Rattle.ylalr.specs.States.{StateLists, set_at, AreStates, IsState, GotoIs, start_item}
 use Rattle.ylalr.proofs.Ascending.{same_ascending}
@@ -15,12 +16,12 @@ use Rattle.ylalr.proofs.Live.{live_from_valid}
 use Rattle.ylalr.proofs.Fruitful.{valid_from_live, valid_rule}
 
 pub closed_map : {g : ContextFree} {K L : ℕ → ℕ → Type 0} {r d : ℕ} → ((r d : ℕ) → K r d → L r d) →
-    Closed g K r d → Closed g L r d
+    Closure g K r d → Closure g L r d
 closed_map f (given {r = r} {d = d} c) = given (f r d c)
 closed_map f (opened c e h) = opened (closed_map f c) e h
 
 pub moved_map : {g : ContextFree} {K L : ℕ → ℕ → Type 0} {x r d : ℕ} → ((r d : ℕ) → K r d → L r d) →
-    Moved g K x r d → Moved g L x r d
+    Kernel g K x r d → Kernel g L x r d
 moved_map f (moved {r = r} {d = d} c e n) = moved (f r d c) e n
 
 -- the core of the empty prefix
@@ -64,23 +65,30 @@ record Source (g : ContextFree) (K : ℕ → ℕ → Type 0) (x : ℕ) : Type 0 
   next : drop dot (body_of g rule) ≡ x ∷ rest
   inside : x ≢ end_token
 
-moved_source : {g : ContextFree} {K : ℕ → ℕ → Type 0} {x r d : ℕ} → Moved g K x r d → Source g K x
-moved_source (moved {r = r} {d = d} {y = y} c e n) = record { rule = r; dot = d; rest = y; item = c;
-    next = e; inside = n }
+moved_source : {g : ContextFree} {K : ℕ → ℕ → Type 0} {x r d : ℕ} → Kernel g K x r d → Source g K x
+moved_source (moved {r = r} {d = d} {y = y} c e n) = record {
+  rule = r;
+  dot = d;
+  rest = y;
+  item = c;
+  next = e;
+  inside = n;
+}
 
-source : {g : ContextFree} {K : ℕ → ℕ → Type 0} {x r d : ℕ} → Closed g (Moved g K x) r d →
+source : {g : ContextFree} {K : ℕ → ℕ → Type 0} {x r d : ℕ} → Closure g (Kernel g K x) r d →
     Source g K x
 source (given m) = moved_source m
 source (opened c e h) = source c
 
 -- no item after x, where none moves
 pub source_item : (g : ContextFree) → WellFormed g → (p : List ℕ) (v : List Item) (x : ℕ)
-    (i : Item) → IsCore g p v → InCore g (x ∷ p) i → ((r d : ℕ) → Moved g (ItemsOf v) x r d → ⊥) → ⊥
+    (i : Item) → IsCore g p v → InCore g (x ∷ p) i → ((r d : ℕ) → Kernel g (ItemsOf v) x r d → ⊥) →
+    ⊥
 source_item g f p v x i c w none_moves =
     let s = source (live_from_valid w.1) in
     let l = valid_from_live g f p s.rule s.dot s.item in
     none_moves s.rule (suc s.dot) (moved ((c (record { rule = s.rule; dot = s.dot })).1 l) s.next
-        s.inside)
+    s.inside)
 
 module _ (g : ContextFree) (f : WellFormed g) (t : StateLists) (to : ℕ → ℕ → Option ℕ)
     (are : AreStates g t) (gotos : (q x : ℕ) → q < length t.closures → x < g.symbols →
@@ -92,27 +100,34 @@ module _ (g : ContextFree) (f : WellFormed g) (t : StateLists) (to : ℕ → ℕ
       All-head P x y (subst (All P) e (All-drop P d (body_of g r) (f.body r (valid_rule f c.1))))
 
   goto_found : (p : List ℕ) (x q : ℕ) (r d : ℕ) → q < length t.closures →
-      IsCore g p (set_at t.closures q) → Moved g (ItemsOf (set_at t.closures q)) x r d →
+      IsCore g p (set_at t.closures q) → Kernel g (ItemsOf (set_at t.closures q)) x r d →
       (o : Option ℕ) → GotoIs g t q x o → (n : ℕ) × (n < length t.closures) × IsCore g (x ∷ p)
       (set_at t.closures n)
   goto_found p x q r d h c m None z = absurd (z r d m)
-  goto_found p x q r d h c m (Some n) z =
-      (n, z.0, core_goto g f p (set_at t.closures q) x (set_at t.kernels n) (set_at t.closures n) c
-      z.1 (are.each n z.0).closure)
+  goto_found p x q r d h c m (Some n) z = (
+    n,
+    z.0,
+    core_goto g f p (set_at t.closures q) x (set_at t.kernels n) (set_at t.closures n) c
+        z.1 (are.each n z.0).closure,
+  )
 
   pub every : (p : List ℕ) (i : Item) → InCore g p i → (q : ℕ) × (q < length t.closures) ×
       IsCore g p (set_at t.closures q)
-  every [] i c = (0, are.some, core_start g f (set_at t.closures 0)
-      (subst (λ k. IsClosure g k (set_at t.closures 0)) are.first (are.each 0 are.some).closure))
+  every [] i c = (
+    0,
+    are.some,
+    core_start g f (set_at t.closures 0)
+        (subst (λ k. IsClosure g k (set_at t.closures 0)) are.first (are.each 0 are.some).closure),
+  )
   every (x ∷ p) i c =
       let s = source (live_from_valid c.1) in
       let j : Item = record { rule = s.rule; dot = s.dot } in
       let v = valid_from_live g f p s.rule s.dot s.item in
       let q = every p j v in
       goto_found p x q.0 s.rule (suc s.dot) q.1 q.2 (moved ((q.2 j).1 v) s.next s.inside) (to q.0 x)
-          (gotos q.0 x q.1 (symbol p s.rule s.dot x s.rest v s.next))
+      (gotos q.0 x q.1 (symbol p s.rule s.dot x s.rest v s.next))
 
-closed_moved : {g : ContextFree} {K : ℕ → ℕ → Type 0} {r d : ℕ} → Closed g K r d → 0 < d → K r d
+closed_moved : {g : ContextFree} {K : ℕ → ℕ → Type 0} {r d : ℕ} → Closure g K r d → 0 < d → K r d
 closed_moved (given c) h = c
 closed_moved (opened c e l) h = absurd (omega arith)
 
@@ -123,7 +138,7 @@ module _ (g : ContextFree) (t : StateLists) (are : AreStates g t) (p : List ℕ)
       Contains (set_at t.kernels q) i → Contains (set_at t.kernels n) i
   kernel_of q n a b c e i h k =
       closed_moved (((are.each n b).closure i).0
-          ((e i).1 ((c i).0 (((are.each q a).closure i).1 (given k))))) h
+      ((e i).1 ((c i).0 (((are.each q a).closure i).1 (given k))))) h
 
   -- a state other than the first is none with the items of the first
   not_first : (n : ℕ) → 0 < n → n < length t.closures → IsCore g p (set_at t.closures 0) →
@@ -131,10 +146,10 @@ module _ (g : ContextFree) (t : StateLists) (are : AreStates g t) (p : List ℕ)
   not_first n l b c e =
       let i : Item = get_or (set_at t.kernels n) 0 start_item in
       let k : Contains (set_at t.kernels n) i = Contains-get_or (set_at t.kernels n) 0 start_item
-              (are.each n b).filled in
+      (are.each n b).filled in
       let h : 0 < i.dot = are.moved n l b i k in
       let z : Contains {X = Item} (start_item ∷ []) i = subst (λ u. Contains u i) are.first
-              (kernel_of n 0 b are.some e c i h k) in
+      (kernel_of n 0 b are.some e c i h k) in
       begin_dot i (only z.0 i.rule i.dot z.1 z.2) h
     where
       begin_zero : {r d : ℕ} → Begin r d → 0 < d → ⊥
@@ -158,9 +173,9 @@ module _ (g : ContextFree) (t : StateLists) (are : AreStates g t) (p : List ℕ)
           (not_first q x a (subst (λ m. IsCore g p (set_at t.closures m)) y e) c)
       go (inr x) (inr y) = are.distinct q n a b (same_ascending (set_at t.kernels q)
           (set_at t.kernels n) (are.each q a).kernel_order (are.each n b).kernel_order (λ i. (
-        (λ k. kernel_of q n a b c e i (are.moved q x a i k) k),
-        (λ k. kernel_of n q b a e c i (are.moved n y b i k) k),
-      )))
+            (λ k. kernel_of q n a b c e i (are.moved q x a i k) k),
+            (λ k. kernel_of n q b a e c i (are.moved n y b i k) k),
+          )))
 
 -- what moves from a state may become one
 pub may_join : (g : ContextFree) → WellFormed g → (k0 v : List Item) (x : ℕ) (k : List Item) →
@@ -172,5 +187,5 @@ pub moved_dot : (g : ContextFree) (v : List Item) (x : ℕ) (k : List Item) → 
     (i : Item) → Contains k i → 0 < i.dot
 moved_dot g v x k a i c = go ((a i).0 c)
   where
-    go : {r d : ℕ} → Moved g (ItemsOf v) x r d → 0 < d
+    go : {r d : ℕ} → Kernel g (ItemsOf v) x r d → 0 < d
     go (moved m e n) = omega arith

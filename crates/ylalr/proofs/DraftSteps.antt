@@ -12,10 +12,10 @@ use Rattle.ylalr.specs.declared.items.Item.{Item}
 use Rattle.ylalr.specs.declared.looks.Parts.{Parts}
 use Rattle.ylalr.specs.declared.looks.Here.{Here}
 use Rattle.ylalr.specs.Gotos.{goto_of}
-use Rattle.ylalr.specs.Marks.{marked}
+use Rattle.ylalr.specs.Marks.{Has}
 use Rattle.ylalr.specs.Rows.{BitRows, Holds, IsSized}
-use Rattle.ylalr.specs.Links.{Linked, Reaches, given, passed, IsSpread}
-use Rattle.ylalr.specs.Places.{At, Opened, Shares, rows_at}
+use Rattle.ylalr.specs.Links.{Link, Reaches, given, passed, IsSpread}
+use Rattle.ylalr.specs.Places.{At, Starts, Shares, rows_at}
 use Rattle.ylalr.specs.Sets.{step_of, Moves, IsAscending, Before}
 use Rattle.ylalr.specs.States.{GotoIs, set_at, start_item}
 use Rattle.ylalr.specs.Looks.{Spread, starts, closes, moves, SoundLooks, StartLooks, ClosedLooks}
@@ -80,8 +80,11 @@ pub further_same : (d : DraftValue) → Further d d
 further_same d = record { looks = λ r c h. h; links = λ p t h. h }
 
 pub further_then : (d e f : DraftValue) → Further d e → Further e f → Further d f
-further_then d e f a b = record { looks = λ r c h. b.looks r c (a.looks r c h); links =
-    λ p t h. b.links p t (a.links p t h) }
+further_then d e f a b = record {
+  looks = λ r c h. b.looks r c (a.looks r c h);
+  links =
+      λ p t h. b.links p t (a.links p t h);
+}
 
 pub opens_kept : (P : Parts) (d e : DraftValue) (q p : ℕ) (i : Item) → Further d e →
     OpensAt P d q i p → OpensAt P e q i p
@@ -90,8 +93,11 @@ opens_kept P d e q p i m o n t y z pt = let w = o n t y z pt in
 
 pub serves_kept : (P : Parts) (d e : DraftValue) (q p : ℕ) (i : Item) → Further d e →
     ServesAt P d q i p → ServesAt P e q i p
-serves_kept P d e q p i m s = record { opens = opens_kept P d e q p i m s.opens; shifts =
-    λ x n t y z ne to pt. m.links p t (s.shifts x n t y z ne to pt) }
+serves_kept P d e q p i m s = record {
+  opens = opens_kept P d e q p i m s.opens;
+  shifts =
+      λ x n t y z ne to pt. m.links p t (s.shifts x n t y z ne to pt);
+}
 
 module _ (P : Parts) (f : WellFormed P.grammar.bare) (fit : FitParts P) where
   g : ContextFree
@@ -105,9 +111,11 @@ module _ (P : Parts) (f : WellFormed P.grammar.bare) (fit : FitParts P) where
   pub same_row : (q n : ℕ) (i k : Item) (p : ℕ) → PlaceIn P q i p → PlaceIn P n k p →
       (q ≡ n) × Shares P.grammar.bare i k
   same_row q n i k p x y =
-      let e = fit.places.apart q n i k p x y in
-      (e, (fit.places.rows q x.state).apart i k p x.at
-          (subst (λ m. At (set_at P.states.closures m) (rows_at P.places m) k p) (sym e) y.at))
+      let e = fit.places.apart q n i k p x y in (
+        e,
+        (fit.places.rows q x.state).apart i k p x.at
+            (subst (λ m. At (set_at P.states.closures m) (rows_at P.places m) k p) (sym e) y.at),
+      )
 
   pub place_below : (q : ℕ) (i : Item) (p : ℕ) → PlaceIn P q i p → p < P.places.total
   place_below q i p x = fit.places.below q i p x
@@ -124,24 +132,24 @@ module _ (P : Parts) (f : WellFormed P.grammar.bare) (fit : FitParts P) where
   -- what the closure rule gives to one item, it gives to all that share its row
   opened_on : (q n t a : ℕ) (i k j : Item) (s : ℕ) (y : List ℕ) (b : ℕ) → SpreadIn P q i a →
       drop i.dot (body_of P.grammar.bare i.rule) ≡ s ∷ y → First P.grammar.bare (y ++ a ∷ []) b →
-      PlaceIn P q k t → Opened P.grammar.bare s k → PlaceIn P n j t → SpreadIn P n j b
+      PlaceIn P q k t → Starts P.grammar.bare s k → PlaceIn P n j t → SpreadIn P n j b
   opened_on q n t a i k j s y b sp e w pk o pj =
       let z = same_row q n k j t pk pj in
-      let oj : Opened P.grammar.bare s j = both z.1 in
+      let oj : Starts P.grammar.bare s j = both z.1 in
       let r : Spread P.grammar.bare (goto_of P.gotos) q j.rule 0 b =
-              closes sp (e ∙ ap (λ v. v ∷ y) (sym oj.1)) (rule_below n j t pj) w in
+      closes sp (e ∙ ap (λ v. v ∷ y) (sym oj.1)) (rule_below n j t pj) w in
       subst (λ m. Spread P.grammar.bare (goto_of P.gotos) m j.rule j.dot b) z.0
-          (subst (λ d. Spread P.grammar.bare (goto_of P.gotos) q j.rule d b) (sym oj.0) r)
+      (subst (λ d. Spread P.grammar.bare (goto_of P.gotos) q j.rule d b) (sym oj.0) r)
     where
-      both : Shares P.grammar.bare k j → Opened P.grammar.bare s j
-      both (inl h) = subst (Opened P.grammar.bare s) h o
+      both : Shares P.grammar.bare k j → Starts P.grammar.bare s j
+      both (inl h) = subst (Starts P.grammar.bare s) h o
       both (inr h) = (h.1.0, h.1.1 ∙ o.1)
 
   -- what begins the form after the dot goes to the row of the left side
   pub sound_begun : (d : DraftValue) (m : BitRows) (h : Here) (k : Item) (s to : ℕ) (y : List ℕ) →
       SoundLooks P.grammar.bare (goto_of P.gotos) P.states P.places d.looks → IsHere P h →
       drop h.item.dot (body_of P.grammar.bare h.item.rule) ≡ s ∷ y → PlaceIn P h.state k to →
-      Opened P.grammar.bare s k → ((r b : ℕ) → Holds m r b → Holds d.looks r b ⊎
+      Starts P.grammar.bare s k → ((r b : ℕ) → Holds m r b → Holds d.looks r b ⊎
       ((r ≡ to) × FormHas P.nullable P.first y b)) → SoundLooks P.grammar.bare (goto_of P.gotos)
       P.states P.places m
   sound_begun d m h k s to y sound ih e pk o a q i p b ip z = go (a p b z)
@@ -150,19 +158,19 @@ module _ (P : Parts) (f : WellFormed P.grammar.bare) (fit : FitParts P) where
       go (inl w) = sound q i p b ip w
       go (inr (ep, w)) =
           let c = some_spread P.grammar.bare f P.states (goto_of P.gotos) fit.states gotos h.state
-                  h.item ih.state (ih.at.index, ih.at.within, ih.at.here) in
+          h.item ih.state (ih.at.index, ih.at.within, ih.at.here) in
           let ta = spread_token P.grammar.bare f P.states (goto_of P.gotos) fit.states gotos h.state
-                  h.item.rule h.item.dot c.0 c.1 in
+          h.item.rule h.item.dot c.0 c.1 in
           let tb : IsToken P.grammar.bare b = subst (λ v. b < v) fit.first_sized.columns
-                  w.there.column in
+          w.there.column in
           opened_on h.state q to c.0 h.item k i s y b c.1 e
-              (found_first P.grammar.bare f P.nullable P.first fit.nullable_exact fit.first_exact y
-              c.0 b ta tb w.place w.within w.before w.there) pk o (subst (PlaceIn P q i) ep ip)
+          (found_first P.grammar.bare f P.nullable P.first fit.nullable_exact fit.first_exact y
+          c.0 b ta tb w.place w.within w.before w.there) pk o (subst (PlaceIn P q i) ep ip)
 
   -- a form that vanishes passes on all that the item has
   pub carries_open : (h : Here) (k : Item) (s to : ℕ) (y : List ℕ) → IsHere P h → drop h.item.dot
       (body_of P.grammar.bare h.item.rule) ≡ s ∷ y → PlaceIn P h.state k to →
-      Opened P.grammar.bare s k → All (marked P.nullable) y → Carries P h.row to
+      Starts P.grammar.bare s k → All (Has P.nullable) y → Carries P h.row to
   carries_open h k s to y ih e pk o all = record {
     state = h.state;
     item = h.item;
@@ -170,8 +178,8 @@ module _ (P : Parts) (f : WellFormed P.grammar.bare) (fit : FitParts P) where
     on = λ n j a pj sp. (let ta = spread_token P.grammar.bare f P.states (goto_of P.gotos)
         fit.states gotos h.state h.item.rule h.item.dot a sp in
         opened_on h.state n to a h.item k j s y a sp e
-            (last_first P.grammar.bare f P.nullable P.first fit.nullable_exact fit.first_exact y a a
-            ta ta all refl) pk o pj);
+        (last_first P.grammar.bare f P.nullable P.first fit.nullable_exact fit.first_exact y a a
+        ta ta all refl) pk o pj);
   }
 
   -- an item passes on all that it has to the item with its dot moved
@@ -188,19 +196,19 @@ module _ (P : Parts) (f : WellFormed P.grammar.bare) (fit : FitParts P) where
           let z = same_row m.target n (step_of h.item) k t m.place pk in
           let r : SpreadIn P m.target (step_of h.item) a = moves sp m.moves.1 m.moves.2 m.leads in
           subst (λ v. SpreadIn P v k a) z.0 (subst (λ (v : Item). SpreadIn P m.target v a)
-              (same k z.1) r)
+          (same k z.1) r)
 
   -- other items of the row that is opened
   pub opens_by : (d : DraftValue) (h : Here) (k : Item) (s to : ℕ) (y : List ℕ) → drop h.item.dot
       (body_of P.grammar.bare h.item.rule) ≡ s ∷ y → PlaceIn P h.state k to →
-      Opened P.grammar.bare s k → GivesForm P d y h.row to → OpensAt P d h.state h.item h.row
+      Starts P.grammar.bare s k → GivesForm P d y h.row to → OpensAt P d h.state h.item h.row
   opens_by d h k s to y e pk o gives n t z ez pt =
       let es : left_of P.grammar.bare n ≡ s = heads (left_of P.grammar.bare n) s z y
-              (drop h.item.dot (body_of P.grammar.bare h.item.rule)) ez e in
+      (drop h.item.dot (body_of P.grammar.bare h.item.rule)) ez e in
       let ey : z ≡ y = tails (left_of P.grammar.bare n) s z y
-              (drop h.item.dot (body_of P.grammar.bare h.item.rule)) ez e in
+      (drop h.item.dot (body_of P.grammar.bare h.item.rule)) ez e in
       let et : to ≡ t = (fit.places.rows h.state pk.state).shared k (record { rule = n; dot = 0 })
-              to t pk.at pt.at o.0 (refl, es ∙ sym o.1) in
+      to t pk.at pt.at o.0 (refl, es ∙ sym o.1) in
       subst (λ v. GivesForm P d v h.row t) (sym ey) (subst (λ v. GivesForm P d y h.row v) et gives)
 
   pub opens_nowhere : (d : DraftValue) (h : Here) → length (body_of P.grammar.bare h.item.rule) ≤
@@ -215,26 +223,32 @@ module _ (P : Parts) (f : WellFormed P.grammar.bare) (fit : FitParts P) where
       get_or lefts s None ≡ None → OpensAt P d h.state h.item h.row
   opens_none d h s y lefts are e none n t z ez pt =
       let es : left_of P.grammar.bare n ≡ s = heads (left_of P.grammar.bare n) s z y
-              (drop h.item.dot (body_of P.grammar.bare h.item.rule)) ez e in
+      (drop h.item.dot (body_of P.grammar.bare h.item.rule)) ez e in
       absurd (none_some t (get_or lefts s None) none (subst (λ v. get_or lefts v None ≡ Some t) es
-          (are.every (record { rule = n; dot = 0 }) t pt.at refl)))
+      (are.every (record { rule = n; dot = 0 }) t pt.at refl)))
 
-  pub shifts_by : (d : DraftValue) (h : Here) (t : ℕ) → IsMoved P h t → Linked d.links h.row t →
+  pub shifts_by : (d : DraftValue) (h : Here) (t : ℕ) → IsMoved P h t → Link d.links h.row t →
       ShiftsAt P d h.state h.item h.row
   shifts_by d h t m l x n u y e ne to pu =
       let ex : m.symbol ≡ x = heads m.symbol x m.moves.0 y
-              (drop h.item.dot (body_of P.grammar.bare h.item.rule)) m.moves.1 e in
+      (drop h.item.dot (body_of P.grammar.bare h.item.rule)) m.moves.1 e in
       let en : m.target ≡ n = some_same m.target n (goto_of P.gotos h.state m.symbol) m.leads
-              (ap (λ v. goto_of P.gotos h.state v) ex ∙ to) in
+      (ap (λ v. goto_of P.gotos h.state v) ex ∙ to) in
       let et : t ≡ u = place_once n (step_of h.item) t u
-              (subst (λ v. PlaceIn P v (step_of h.item) t) en m.place) pu in
-      subst (λ v. Linked d.links h.row v) et l
+      (subst (λ v. PlaceIn P v (step_of h.item) t) en m.place) pu in
+      subst (λ v. Link d.links h.row v) et l
 
   pub shifts_none : (d : DraftValue) (h : Here) → ((t : ℕ) → IsMoved P h t → ⊥) →
       ShiftsAt P d h.state h.item h.row
   shifts_none d h absent x n u y e ne to pu =
-      absurd (absent u (record { symbol = x; target = n; moves = (y, e, ne); leads = to; place =
-      pu }))
+      absurd (absent u (record {
+        symbol = x;
+        target = n;
+        moves = (y, e, ne);
+        leads = to;
+        place =
+            pu;
+      }))
 
   -- the rows with all that is passed on are sound
   pub spread_sound : (d : DraftValue) (m : BitRows) → SoundDraft P d → IsSpread d.links d.looks m →
@@ -254,8 +268,11 @@ module _ (P : Parts) (f : WellFormed P.grammar.bare) (fit : FitParts P) where
       ClosedLooks P.grammar.bare (goto_of P.gotos) P.states P.places m
   spread_closed d m s x st serves = record {
     start = λ p ip. (x p end_token).1 (given (st p ip));
-    states = λ q h i p ip. record { closes = closed q i p ip (serves q h i p ip); moves =
-        moved q i p (serves q h i p ip) };
+    states = λ q h i p ip. record {
+      closes = closed q i p ip (serves q h i p ip);
+      moves =
+          moved q i p (serves q h i p ip);
+    };
   }
     where
       columns : (p a : ℕ) → Reaches d.links d.looks p a → IsToken P.grammar.bare a
@@ -268,10 +285,10 @@ module _ (P : Parts) (f : WellFormed P.grammar.bare) (fit : FitParts P) where
           let r = (x p a).0 z in
           let o = v.opens n t y e pt in
           go o r (cases P.grammar.bare f P.nullable P.first fit.nullable_exact fit.first_exact y a b
-              (columns p a r) w.token w)
+          (columns p a r) w.token w)
         where
           go : GivesForm P d y p t → Reaches d.links d.looks p a → FormHas P.nullable P.first y b ⊎
-              (All (marked P.nullable) y × (b ≡ a)) → Holds m t b
+              (All (Has P.nullable) y × (b ≡ a)) → Holds m t b
           go o r (inl k) = (x t b).1 (given (o.begun b k))
           go o r (inr k) = (x t b).1 (subst (Reaches d.links d.looks t) (sym k.1)
               (passed r (o.linked k.0)))
@@ -300,16 +317,16 @@ module _ (P : Parts) (f : WellFormed P.grammar.bare) (fit : FitParts P) where
       on (inr e) h =
           let r : i.rule ≡ 0 = first_rule i.rule h e.1.1 in
           subst (λ v. Spread P.grammar.bare (goto_of P.gotos) 0 v i.dot end_token) (sym r)
-              (subst (λ v. Spread P.grammar.bare (goto_of P.gotos) 0 0 v end_token)
-              (sym e.1.0) starts)
+          (subst (λ v. Spread P.grammar.bare (goto_of P.gotos) 0 0 v end_token)
+          (sym e.1.0) starts)
 
       go : Holds m p b ⊎ ((p ≡ t) × (b ≡ end_token)) → SpreadIn P q i b
       go (inl w) = absurd (none p b w)
       go (inr w) =
           let s = same_row 0 q start_item i t it (subst (PlaceIn P q i) w.0 ip) in
           subst (λ v. SpreadIn P v i b) s.0
-              (subst (λ v. Spread P.grammar.bare (goto_of P.gotos) 0 i.rule i.dot v) (sym w.1)
-              (on s.1 (rule_below q i p ip)))
+          (subst (λ v. Spread P.grammar.bare (goto_of P.gotos) 0 i.rule i.dot v) (sym w.1)
+          (on s.1 (rule_below q i p ip)))
 
   pub start_marked : (m o : BitRows) (t : ℕ) → PlaceIn P 0 start_item t →
       ((r c : ℕ) → Holds o r c ↔ (Holds m r c ⊎ ((r ≡ t) × (c ≡ end_token)))) →
@@ -326,18 +343,18 @@ module _ (P : Parts) (f : WellFormed P.grammar.bare) (fit : FitParts P) where
       goto_of P.gotos h.state x ≡ Some n → PlaceIn P n (step_of h.item) t
   one_target h t x n m mv e =
       let ex : m.symbol ≡ x = heads m.symbol x m.moves.0 mv.0
-              (drop h.item.dot (body_of P.grammar.bare h.item.rule)) m.moves.1 mv.1 in
+      (drop h.item.dot (body_of P.grammar.bare h.item.rule)) m.moves.1 mv.1 in
       let en : m.target ≡ n = some_same m.target n (goto_of P.gotos h.state m.symbol) m.leads
-              (ap (λ v. goto_of P.gotos h.state v) ex ∙ e) in
+      (ap (λ v. goto_of P.gotos h.state v) ex ∙ e) in
       subst (λ v. PlaceIn P v (step_of h.item) t) en m.place
 
   pub moved_nowhere : (h : Here) (x : ℕ) → Moves P.grammar.bare h.item x →
       goto_of P.gotos h.state x ≡ None → (t : ℕ) → IsMoved P h t → ⊥
   moved_nowhere h x mv e t m =
       let ex : m.symbol ≡ x = heads m.symbol x m.moves.0 mv.0
-              (drop h.item.dot (body_of P.grammar.bare h.item.rule)) m.moves.1 mv.1 in
+      (drop h.item.dot (body_of P.grammar.bare h.item.rule)) m.moves.1 mv.1 in
       none_some m.target (goto_of P.gotos h.state x) e (ap (λ v. goto_of P.gotos h.state v)
-          (sym ex) ∙ m.leads)
+      (sym ex) ∙ m.leads)
 
   pub moved_match : (h : Here) (x n : ℕ) (o : Option ℕ) → Moves P.grammar.bare h.item x →
       goto_of P.gotos h.state x ≡ Some n →
@@ -347,8 +364,13 @@ module _ (P : Parts) (f : WellFormed P.grammar.bare) (fit : FitParts P) where
   moved_match h x n None mv e z =
       λ t m. z t (subst (λ (v : Item). PlaceIn P n v t) (sym (step_is h.item))
       (one_target h t x n m mv e))
-  moved_match h x n (Some p) mv e z = record { symbol = x; target = n; moves = mv; leads = e;
-      place = subst (λ (v : Item). PlaceIn P n v p) (step_is h.item) z }
+  moved_match h x n (Some p) mv e z = record {
+    symbol = x;
+    target = n;
+    moves = mv;
+    leads = e;
+    place = subst (λ (v : Item). PlaceIn P n v p) (step_is h.item) z;
+  }
 
 -- rows with more, and one more link along which lookaheads are carried
 pub sound_linked : (P : Parts) (d : DraftValue) (m : BitRows) (more : List (List ℕ)) (from to : ℕ) →
@@ -365,7 +387,7 @@ sound_linked P d m more from to s z w hf ht e c = record {
       (link_cases d.links more from to (subst (λ k. from < k) (sym s.links.sized) hf) e p t h);
 }
   where
-    go : (p t : ℕ) → Linked d.links p t ⊎ ((p ≡ from) × (t ≡ to)) → Carries P p t
+    go : (p t : ℕ) → Link d.links p t ⊎ ((p ≡ from) × (t ≡ to)) → Carries P p t
     go p t (inl h) = s.carried p t h
     go p t (inr h) = subst (λ k. Carries P k t) (sym h.0)
         (subst (λ k. Carries P from k) (sym h.1) c)
@@ -402,8 +424,8 @@ served_more P d e q k xs rows v ex er h m s last i p z l = go (below_or z.at.ind
     go (inl w) = serves_kept P d e q p i m (s i p z w)
     go (inr w) =
         let ei : get_or xs k v ≡ i = same_default xs k v i h ∙ ap (λ (u : List Item). get_or u k i)
-                ex ∙ ap (λ j. get_or (set_at P.states.closures q) j i) (sym w) ∙ z.at.here in
+        ex ∙ ap (λ j. get_or (set_at P.states.closures q) j i) (sym w) ∙ z.at.here in
         let ep : get_or rows k 0 ≡ p = ap (λ (u : List ℕ). get_or u k 0) er ∙ ap
-                (λ j. get_or (rows_at P.places q) j 0) (sym w) ∙ sym z.at.row in
+        (λ j. get_or (rows_at P.places q) j 0) (sym w) ∙ sym z.at.row in
         subst (λ u. ServesAt P e q i u) ep (subst (λ (u : Item). ServesAt P e q u (get_or rows k 0))
-            ei last)
+        ei last)

@@ -2,39 +2,54 @@
 use Rattle.std.proofs.Common.{ℕ, Bool, ◌≡◌, ◌<◌, ◌+◌, ◌⊎◌, List, length, take, get_or, refl, sym}
 use Rattle.std.proofs.Common.{◌∙◌, ap, subst, inl, inr, arith}
 use Rattle.std.specs.List.{All}
-use Rattle.ylalr.specs.Marks.{marked}
+use Rattle.ylalr.specs.Marks.{Has}
 use Rattle.ylalr.specs.Rows.{BitRows, Holds, AddsFrom}
 use Rattle.ylalr.specs.Looks.{FormHas}
-use Rattle.ylalr.proofs.FirstSteps.{unmarked_end}
+use Rattle.ylalr.proofs.FrontSteps.{unmarked_end}
 
 order : (j k : ℕ) → (j < k) ⊎ ((j ≡ k) ⊎ (k < j))
 order j k = grind arith
 
 -- the row `to` has what the first k symbols of the form begin with, all of which vanish
 pub record Adding (n : List Bool) (f : BitRows) (x : List ℕ) (m o : BitRows) (to k : ℕ) : Type 0
-    where
-  pub sound : (r b : ℕ) → Holds o r b → Holds m r b ⊎ ((r ≡ to) × FormHas n f x b)
-  pub every : (j b : ℕ) → j < k → Holds f (get_or x j 0) b → Holds o to b
-  pub kept : (r b : ℕ) → Holds m r b → Holds o r b
+  where
+    pub sound : (r b : ℕ) → Holds o r b → Holds m r b ⊎ ((r ≡ to) × FormHas n f x b)
+    pub every : (j b : ℕ) → j < k → Holds f (get_or x j 0) b → Holds o to b
+    pub kept : (r b : ℕ) → Holds m r b → Holds o r b
 
 pub adding_none : (n : List Bool) (f : BitRows) (x : List ℕ) (m : BitRows) (to : ℕ) →
     Adding n f x m m to 0
-adding_none n f x m to = record { sound = λ r b h. inl h; every = λ j b h z. absurd (omega arith);
-    kept = λ r b h. h }
+adding_none n f x m to = record {
+  sound = λ r b h. inl h;
+  every = λ j b h z. absurd (omega arith);
+  kept = λ r b h. h;
+}
 
 pub adding_more : (n : List Bool) (f : BitRows) (x : List ℕ) (m o v : BitRows) (to k s : ℕ) →
-    k < length x → s ≡ get_or x k 0 → All (marked n) (take k x) → AddsFrom o v to f s →
+    k < length x → s ≡ get_or x k 0 → All (Has n) (take k x) → AddsFrom o v to f s →
     Adding n f x m o to k → Adding n f x m v to (k + 1)
-adding_more n f x m o v to k s h e p a i = record { sound = sound; every = every; kept = λ r b z.
-    (a r b).1 (inl (i.kept r b z)) }
+adding_more n f x m o v to k s h e p a i = record {
+  sound = sound;
+  every = every;
+  kept = λ r b z.
+      (a r b).1 (inl (i.kept r b z));
+}
   where
     sound : (r b : ℕ) → Holds v r b → Holds m r b ⊎ ((r ≡ to) × FormHas n f x b)
     sound r b z = go ((a r b).0 z)
       where
         go : Holds o r b ⊎ ((r ≡ to) × Holds f s b) → Holds m r b ⊎ ((r ≡ to) × FormHas n f x b)
         go (inl w) = i.sound r b w
-        go (inr w) = inr (w.0, record { place = k; within = h; before = p; there =
-            subst (λ t. Holds f t b) e w.1 })
+        go (inr w) = inr (
+          w.0,
+          record {
+            place = k;
+            within = h;
+            before = p;
+            there =
+                subst (λ t. Holds f t b) e w.1;
+          },
+        )
 
     every : (j b : ℕ) → j < k + 1 → Holds f (get_or x j 0) b → Holds v to b
     every j b l z = go (order j k)
@@ -47,7 +62,7 @@ adding_more n f x m o v to k s h e p a i = record { sound = sound; every = every
 
 -- a symbol that can't vanish ends the form
 pub stop_every : (n : List Bool) (f : BitRows) (x : List ℕ) (m v : BitRows) (to k : ℕ) →
-    k < length x → (marked n (get_or x k 0) → ⊥) → Adding n f x m v to (k + 1) →
+    k < length x → (Has n (get_or x k 0) → ⊥) → Adding n f x m v to (k + 1) →
     (b : ℕ) → FormHas n f x b → Holds v to b
 stop_every n f x m v to k h u i b w = go (order w.place k)
   where

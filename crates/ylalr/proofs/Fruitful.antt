@@ -10,7 +10,7 @@ use Rattle.ygrammar.specs.Forms.{Derives, done, First}
 use Rattle.ylalr.specs.Items.{Valid, start, closure, move}
 use Rattle.ygrammar.specs.WellFormed.{WellFormed}
 use Rattle.ylalr.proofs.Vanish.{derives_then, derives_before, derives_after}
-use Rattle.ylalr.specs.Sets.{Closed, given, opened, Moved, moved, Begin, begin}
+use Rattle.ylalr.specs.Sets.{Closure, given, opened, Kernel, moved, Begin, begin}
 use Rattle.ylalr.proofs.Live.{Live}
 
 -- a form that derives a list of tokens
@@ -21,8 +21,12 @@ record Word (g : ContextFree) (x : List ℕ) : Type 0 where
 
 symbol_word : (g : ContextFree) → WellFormed g → (s : ℕ) → s < g.symbols → (s < g.tokens) ⊎
     (g.tokens ≤ s) → Word g (s ∷ [])
-symbol_word g w s h (inl t) = record { word = s ∷ []; tokens = All-cons (IsToken g) s [] t
-    (All-nil (IsToken g)); derives = done }
+symbol_word g w s h (inl t) = record {
+  word = s ∷ [];
+  tokens = All-cons (IsToken g) s [] t
+      (All-nil (IsToken g));
+  derives = done;
+}
 symbol_word g w s h (inr t) = let p = w.productive s t h in
     record { word = p.word; tokens = p.tokens; derives = p.derives }
 
@@ -34,9 +38,13 @@ words g w [] h = record { word = []; tokens = All-nil (IsToken g); derives = don
 words g w (s ∷ x) h =
     let a = symbol_word g w s (All-head (λ s. s < g.symbols) s x h) (below_or s g.tokens) in
     let b = words g w x (All-tail (λ s. s < g.symbols) s x h) in
-    record { word = a.word ++ b.word; tokens = All-append (IsToken g) a.word b.word a.tokens
-        b.tokens; derives = derives_then (derives_before a.derives x)
-        (derives_after a.word b.derives) }
+    record {
+      word = a.word ++ b.word;
+      tokens = All-append (IsToken g) a.word b.word a.tokens
+          b.tokens;
+      derives = derives_then (derives_before a.derives x)
+          (derives_after a.word b.derives);
+    }
 
 front : (g : ContextFree) (x : List ℕ) (a : ℕ) (w : List ℕ) → All (IsToken g) w → IsToken g a →
     Derives g x (w ++ a ∷ []) → (b : ℕ) × First g x b
@@ -74,17 +82,17 @@ opens : (g : ContextFree) → WellFormed g → (p : List ℕ) (r d s : ℕ) (y :
     (b : ℕ) × Valid g p s 0 b
 opens g w p r d s y v e h =
     let f = some_first g w y v.0 (after_dot g w r d (left_of g s) y (valid_rule w v.1) e)
-            (valid_token w v.1) in
+    (valid_token w v.1) in
     (f.0, closure v.1 e h f.1)
 
-begins_valid : {g : ContextFree} {r d : ℕ} → WellFormed g → Closed g Begin r d →
+begins_valid : {g : ContextFree} {r d : ℕ} → WellFormed g → Closure g Begin r d →
     (a : ℕ) × Valid g [] r d a
 begins_valid w (given begin) = (end_token, start)
 begins_valid {g = g} w (opened {r = r} {d = d} {s = s} {y = y} c e h) = opens g w [] r d s y
     (begins_valid w c) e h
 
 moves_valid : {g : ContextFree} {p : List ℕ} {x r d : ℕ} → WellFormed g →
-    ((r d : ℕ) → Live g p r d → (a : ℕ) × Valid g p r d a) → Closed g (Moved g (Live g p) x) r d →
+    ((r d : ℕ) → Live g p r d → (a : ℕ) × Valid g p r d a) → Closure g (Kernel g (Live g p) x) r d →
     (a : ℕ) × Valid g (x ∷ p) r d a
 moves_valid w f (given (moved {r = r} {d = d} l e h)) = let v = f r d l in (v.0, move v.1 e h)
 moves_valid {g = g} {p = p} {x = x} w f (opened {r = r} {d = d} {s = s} {y = y} c e h) =

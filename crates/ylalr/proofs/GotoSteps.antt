@@ -10,7 +10,7 @@ use Rattle.ygrammar.specs.Grammar.{ContextFree}
 use Rattle.ygrammar.specs.WellFormed.{WellFormed}
 use Rattle.ylalr.specs.declared.items.Item.{Item}
 use Rattle.ylalr.specs.declared.gotos.Goto.{Goto}
-use Rattle.ylalr.specs.Sets.{Moved, ItemsOf, IsAdvanced}
+use Rattle.ylalr.specs.Sets.{Kernel, ItemsOf, IsAdvanced}
 use Rattle.ylalr.specs.Gotos.{lookup, IsAscendingRow}
 use Rattle.ylalr.specs.States.{StateLists, set_at, AreStates, Extends, MayJoin, IsKernel, GotoIs}
 use Rattle.ylalr.specs.States.{RowIs, RowsAre}
@@ -20,7 +20,7 @@ use Rattle.ylalr.proofs.StateSteps.{push_old, push_new, last_or}
 pub goto_kept : (g : ContextFree) (s t : StateLists) (q x : ℕ) (to : Option ℕ) → Extends s t →
     q < length s.closures → GotoIs g s q x to → GotoIs g t q x to
 goto_kept g s t q x None e h z =
-    λ r d m. z r d (subst (λ v. Moved g (ItemsOf v) x r d) (e.closures q h) m)
+    λ r d m. z r d (subst (λ v. Kernel g (ItemsOf v) x r d) (e.closures q h) m)
 goto_kept g s t q x (Some n) e h z = (
   (let l = e.longer in let k = z.0 in omega arith),
   subst (λ v. IsAdvanced g v x (set_at t.kernels n)) (sym (e.closures q h))
@@ -46,9 +46,11 @@ goto_none g s q x k a e = λ r d m. (let c = (a (record { rule = r; dot = d })).
 pub goto_some : (g : ContextFree) (s t : StateLists) (q x n : ℕ) (k : List Item) →
     IsAdvanced g (set_at s.closures q) x k → Extends s t → q < length s.closures →
     n < length t.closures → set_at t.kernels n ≡ k → GotoIs g t q x (Some n)
-goto_some g s t q x n k a e h l z =
-    (l, subst (λ v. IsAdvanced g v x (set_at t.kernels n)) (sym (e.closures q h))
-    (subst (λ j. IsAdvanced g (set_at s.closures q) x j) (sym z) a))
+goto_some g s t q x n k a e h l z = (
+  l,
+  subst (λ v. IsAdvanced g v x (set_at t.kernels n)) (sym (e.closures q h))
+      (subst (λ j. IsAdvanced g (set_at s.closures q) x j) (sym z) a),
+)
 
 same_or : (a b : ℕ) → (a ≡ b) ⊎ (a ≢ b)
 same_or a b = grind arith
@@ -71,14 +73,14 @@ lookup_new [] t x f e = test_same t.symbol x (Some t.state) None e
 lookup_new (a ∷ row) t x f e =
     let l = All-head (λ (b : Goto). b.symbol < x) a row f in
     test_other a.symbol x (Some a.state) (lookup (row ++ t ∷ []) x) (omega arith) ∙ lookup_new row t
-        x (All-tail (λ (b : Goto). b.symbol < x) a row f) e
+    x (All-tail (λ (b : Goto). b.symbol < x) a row f) e
 
 lookup_none : (row : List Goto) (x : ℕ) → All (λ a. a.symbol < x) row → lookup row x ≡ None
 lookup_none [] x f = refl
 lookup_none (a ∷ row) x f =
     let l = All-head (λ (b : Goto). b.symbol < x) a row f in
     test_other a.symbol x (Some a.state) (lookup row x) (omega arith) ∙ lookup_none row x
-        (All-tail (λ (b : Goto). b.symbol < x) a row f)
+    (All-tail (λ (b : Goto). b.symbol < x) a row f)
 
 -- the gotos of state q over the symbols below n
 pub record Rowing (g : ContextFree) (s : StateLists) (q n : ℕ) (row : List Goto) : Type 0 where
@@ -87,13 +89,21 @@ pub record Rowing (g : ContextFree) (s : StateLists) (q n : ℕ) (row : List Got
   pub order : IsAscendingRow row
 
 pub rowing_none : (g : ContextFree) (s : StateLists) (q : ℕ) → Rowing g s q 0 []
-rowing_none g s q = record { gotos = λ x h. absurd (omega arith); below =
-    All-nil (λ (a : Goto). a.symbol < 0); order = λ i j d h l. absurd (omega arith) }
+rowing_none g s q = record {
+  gotos = λ x h. absurd (omega arith);
+  below =
+      All-nil (λ (a : Goto). a.symbol < 0);
+  order = λ i j d h l. absurd (omega arith);
+}
 
 pub rowing_kept : (g : ContextFree) (s t : StateLists) (q n : ℕ) (row : List Goto) → Extends s t →
     q < length s.closures → Rowing g s q n row → Rowing g t q n row
-rowing_kept g s t q n row e h r = record { gotos = λ x l. goto_kept g s t q x (lookup row x) e h
-    (r.gotos x l); below = r.below; order = r.order }
+rowing_kept g s t q n row e h r = record {
+  gotos = λ x l. goto_kept g s t q x (lookup row x) e h
+      (r.gotos x l);
+  below = r.below;
+  order = r.order;
+}
 
 below_or : (x n : ℕ) → (x < n) ⊎ (n ≤ x)
 below_or x n = grind arith
@@ -108,8 +118,12 @@ wider n row f k d h = let l = f k d h in omega arith
 
 pub rowing_skip : (g : ContextFree) (s : StateLists) (q n m : ℕ) (row : List Goto) → n ≤ m →
     ((x : ℕ) → n ≤ x → x < m → GotoIs g s q x None) → Rowing g s q n row → Rowing g s q m row
-rowing_skip g s q n m row le z r = record { gotos = λ x h. go x h (below_or x n); below =
-    lower n row le r.below; order = r.order }
+rowing_skip g s q n m row le z r = record {
+  gotos = λ x h. go x h (below_or x n);
+  below =
+      lower n row le r.below;
+  order = r.order;
+}
   where
     go : (x : ℕ) → x < m → (x < n) ⊎ (n ≤ x) → GotoIs g s q x (lookup row x)
     go x h (inl l) = r.gotos x l

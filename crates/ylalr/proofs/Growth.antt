@@ -1,6 +1,6 @@
 -- One step that may grow something after another.
 use Rattle.std.proofs.Common.{ℕ, Bool, true, false, ◌||◌, ◌≡◌, ◌<◌, ◌≤◌, ◌∙◌, arith}
-use Rattle.ylalr.specs.Rows.{BitRows, Grown, IsSized}
+use Rattle.ylalr.specs.Rows.{BitRows, GrowsIf, IsSized}
 
 pub less_then : (a b : Bool) (x y z : ℕ) → (a ≡ true → y < x) → y ≤ x → (b ≡ true → z < y) → z ≤ y →
     (a || b) ≡ true → z < x
@@ -14,5 +14,10 @@ same_then true b x y z f g e = absurd (cc)
 same_then false true x y z f g e = absurd (cc)
 same_then false false x y z f g e = g (λ i. false) ∙ f (λ i. false)
 
-pub sized_grown : (m n : BitRows) (h w : ℕ) (b : Bool) → IsSized h w m → Grown m n b → IsSized h w n
+pub sized_grown : (m n : BitRows) (h w : ℕ) (b : Bool) → IsSized h w m → GrowsIf m n b →
+    IsSized h w n
 sized_grown m n h w b s g = record { rows = g.rows ∙ s.rows; columns = g.columns ∙ s.columns }
+
+pub sized_then : {h w : ℕ} {m n : BitRows} → IsSized h w m → IsSized m.height m.width n →
+    IsSized h w n
+sized_then s t = record { rows = t.rows ∙ s.rows; columns = t.columns ∙ s.columns }

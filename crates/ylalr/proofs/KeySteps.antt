@@ -44,9 +44,11 @@ pub found_at : {K : Type 0} (of : K → List Item) (test : K → Bool) (ks : Lis
     (n < length (map of ks)) × (set_at (map of ks) n ≡ x)
 found_at of test [] x f n e = absurd (cc)
 found_at of test (a ∷ ks) x f n e =
-    let p = position-Some test (a ∷ ks) n a e in
-    (subst (λ t. n < t) (sym (map_length of (a ∷ ks))) p.0, map_at of (a ∷ ks) n a p.0 ∙ f
-        (get_or (a ∷ ks) n a) p.1)
+    let p = position-Some test (a ∷ ks) n a e in (
+      subst (λ t. n < t) (sym (map_length of (a ∷ ks))) p.0,
+      map_at of (a ∷ ks) n a p.0 ∙ f
+          (get_or (a ∷ ks) n a) p.1,
+    )
 
 or_left : (a b : Bool) → (a || b) ≡ false → a ≡ false
 or_left true b e = e
@@ -86,9 +88,10 @@ pub some_found : {K : Type 0} (of : K → List Item) (ks : List K) (test : K →
     (s : StateLists) → map of ks ≡ s.kernels → IfSome o (λ n. HasKernel s x n)
 some_found of ks test None e x f s q = tt
 some_found of ks test (Some n) e x f s q =
-    let z = found_at of test ks x f n (sym e) in
-    (subst (λ (l : List (List Item)). n < length l) q z.0,
-        subst (λ (l : List (List Item)). set_at l n ≡ x) q z.1)
+    let z = found_at of test ks x f n (sym e) in (
+      subst (λ (l : List (List Item)). n < length l) q z.0,
+      subst (λ (l : List (List Item)). set_at l n ≡ x) q z.1,
+    )
 
 pub none_fresh : {K : Type 0} (of : K → List Item) (ks : List K) (test : K → Bool) (o : Option ℕ) →
     is_some o ≡ list_any test ks → (x : List Item) → ((j : K) → of j ≡ x → test j ≡ true) →

@@ -5,7 +5,7 @@ use Rattle.std.proofs.Common.{get_or-set_other}
 use Rattle.std.proofs.Math.ListN.{set, length-set}
 use Rattle.ygrammar.specs.Grammar.{ContextFree, left_of}
 use Rattle.ylalr.specs.declared.items.Item.{Item}
-use Rattle.ylalr.specs.Places.{At, Opened, AreRows, AreLefts}
+use Rattle.ylalr.specs.Places.{At, Starts, AreRows, AreLefts}
 use Rattle.ylalr.proofs.ListSteps.{same_default}
 
 same_or : (a b : ℕ) → (a ≡ b) ⊎ (a ≢ b)
@@ -21,7 +21,7 @@ zero_or n = grind arith
 pub record Noting (g : ContextFree) (xs : List Item) (rows : List ℕ) (k : ℕ)
     (lefts : List (Option ℕ)) : Type 0 where
   pub sized : length lefts ≡ g.symbols
-  pub found : (s p : ℕ) → get_or lefts s None ≡ Some p → (i : Item) × At xs rows i p × Opened g s i
+  pub found : (s p : ℕ) → get_or lefts s None ≡ Some p → (i : Item) × At xs rows i p × Starts g s i
   pub every : (i : Item) (p : ℕ) (a : At xs rows i p) → a.index < k → i.dot ≡ 0 →
       get_or lefts (left_of g i.rule) None ≡ Some p
 
@@ -44,7 +44,7 @@ module _ (g : ContextFree) (xs : List Item) (rows : List ℕ) (k : ℕ) (x : Ite
   is_here i t a e =
       let q : a.index ≡ here.index = e ∙ sym ek in
       let ei : i ≡ x = sym a.here ∙ same_default xs a.index i x a.within ∙ ap (λ j. get_or xs j x) q
-              ∙ here.here in
+      ∙ here.here in
       (ei, a.row ∙ ap (λ j. get_or rows j 0) q ∙ sym here.row)
 
   some_is : (a b : ℕ) (o : Option ℕ) → o ≡ Some a → o ≡ Some b → a ≡ b
@@ -78,11 +78,11 @@ module _ (g : ContextFree) (xs : List Item) (rows : List ℕ) (k : ℕ) (x : Ite
 
       found : (s t : ℕ) → (s ≡ left_of g x.rule) ⊎ (s ≢ left_of g x.rule) →
           get_or (set old (left_of g x.rule) (Some p)) s None ≡ Some t →
-          (i : Item) × At xs rows i t × Opened g s i
+          (i : Item) × At xs rows i t × Starts g s i
       found s t (inl q) h =
           let z : p ≡ t = some_is p t (get_or (set old (left_of g x.rule) (Some p))
-                  (left_of g x.rule) None) now
-                  (subst (λ j. get_or (set old (left_of g x.rule) (Some p)) j None ≡ Some t) q h) in
+          (left_of g x.rule) None) now
+          (subst (λ j. get_or (set old (left_of g x.rule) (Some p)) j None ≡ Some t) q h) in
           (x, subst (At xs rows x) z here, (d, sym q))
       found s t (inr q) h = n.found s t
           (sym (get_or-set_other old (left_of g x.rule) s (Some p) None q) ∙ h)
@@ -93,7 +93,7 @@ module _ (g : ContextFree) (xs : List Item) (rows : List ℕ) (k : ℕ) (x : Ite
       every i t a z l (inl q) =
           let et : p ≡ t = are.shared x i p t here a d (z, q) in
           subst (λ j. get_or (set old (left_of g x.rule) (Some p)) j None ≡ Some t) (sym q)
-              (now ∙ ap (λ j. Some j) et)
+          (now ∙ ap (λ j. Some j) et)
       every i t a z (inl l) (inr q) = get_or-set_other old (left_of g x.rule) (left_of g i.rule)
           (Some p) None q ∙ n.every i t a l z
       every i t a z (inr l) (inr q) =
@@ -109,5 +109,9 @@ module _ (g : ContextFree) (xs : List Item) (rows : List ℕ) (k : ℕ) (x : Ite
 
 pub noting_all : (g : ContextFree) (xs : List Item) (rows : List ℕ) (k : ℕ)
     (lefts : List (Option ℕ)) → k ≡ length xs → Noting g xs rows k lefts → AreLefts g xs rows lefts
-noting_all g xs rows k lefts e n = record { sized = n.sized; found = n.found; every =
-    λ i p a d. n.every i p a (subst (λ j. a.index < j) (sym e) a.within) d }
+noting_all g xs rows k lefts e n = record {
+  sized = n.sized;
+  found = n.found;
+  every =
+      λ i p a d. n.every i p a (subst (λ j. a.index < j) (sym e) a.within) d;
+}

@@ -6,6 +6,8 @@ pub mod ClosureSteps
 pub mod Cores
 pub mod DraftSteps
 pub mod FirstSteps
+pub mod FormSteps
+pub mod FrontSteps
 pub mod Fruitful
 pub mod GotoSteps
 pub mod Growth
@@ -16,12 +18,10 @@ pub mod ListSteps
 pub mod Live
 pub mod LookSteps
 pub mod NullableSteps
-pub mod OpenSteps
 pub mod OrderSteps
 pub mod PlaceSteps
 pub mod RowLemmas
 pub mod SearchSteps
-pub mod FormSteps
 pub mod Spreading
 pub mod StateSteps
 pub mod Turn

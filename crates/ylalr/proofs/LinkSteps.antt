@@ -6,7 +6,7 @@ use Rattle.std.proofs.Math.ListN.{set, length-set}
 use Rattle.std.proofs.lemmas.List.Elements.{Contains-push, Contains-push_cases}
 use Rattle.std.proofs.lemmas.List.Elements.{Contains-append_left}
 use Rattle.std.specs.List.{Contains, All}
-use Rattle.ylalr.specs.Links.{AreLinks, Linked}
+use Rattle.ylalr.specs.Links.{AreLinks, Link}
 use Rattle.ylalr.proofs.ListSteps.{same_default}
 
 same_or : (x y : ℕ) → (x ≡ y) ⊎ (x ≢ y)
@@ -27,36 +27,39 @@ module _ (l more : List (List ℕ)) (from to : ℕ) (h : from < length l)
   links_length = ap (λ (v : List (List ℕ)). length v) e ∙ length-set l from
       (get_or l from [] ++ to ∷ [])
 
-  pub link_there : Linked more from to
+  pub link_there : Link more from to
   link_there = subst (λ xs. Contains xs to) (sym (at_from from refl))
       (Contains-push (get_or l from []) to)
 
-  pub link_kept : (p t : ℕ) → Linked l p t → Linked more p t
+  pub link_kept : (p t : ℕ) → Link l p t → Link more p t
   link_kept p t c = go (same_or p from)
     where
-      go : (p ≡ from) ⊎ (p ≢ from) → Linked more p t
+      go : (p ≡ from) ⊎ (p ≢ from) → Link more p t
       go (inl q) = subst (λ xs. Contains xs t) (sym (at_from p q))
           (Contains-append_left (get_or l p []) (to ∷ []) t c)
       go (inr q) = subst (λ xs. Contains xs t) (sym (elsewhere p q)) c
 
-  pub link_cases : (p t : ℕ) → Linked more p t → Linked l p t ⊎ ((p ≡ from) × (t ≡ to))
+  pub link_cases : (p t : ℕ) → Link more p t → Link l p t ⊎ ((p ≡ from) × (t ≡ to))
   link_cases p t c = go (same_or p from)
     where
-      two : (p ≡ from) → Contains (get_or l p []) t ⊎ (to ≡ t) → Linked l p t ⊎
+      two : (p ≡ from) → Contains (get_or l p []) t ⊎ (to ≡ t) → Link l p t ⊎
           ((p ≡ from) × (t ≡ to))
       two q (inl d) = inl d
       two q (inr d) = inr (q, sym d)
 
-      go : (p ≡ from) ⊎ (p ≢ from) → Linked l p t ⊎ ((p ≡ from) × (t ≡ to))
+      go : (p ≡ from) ⊎ (p ≢ from) → Link l p t ⊎ ((p ≡ from) × (t ≡ to))
       go (inl q) = two q (Contains-push_cases (get_or l p []) to t
           (subst (λ xs. Contains xs t) (at_from p q) c))
       go (inr q) = inl (subst (λ xs. Contains xs t) (elsewhere p q) c)
 
   pub links_push : (n : ℕ) → AreLinks n l → to < n → AreLinks n more
-  links_push n a k = record { sized = links_length ∙ a.sized; within =
-      λ p t c. within p t (link_cases p t c) }
+  links_push n a k = record {
+    sized = links_length ∙ a.sized;
+    within =
+        λ p t c. within p t (link_cases p t c);
+  }
     where
-      within : (p t : ℕ) → Linked l p t ⊎ ((p ≡ from) × (t ≡ to)) → t < n
+      within : (p t : ℕ) → Link l p t ⊎ ((p ≡ from) × (t ≡ to)) → t < n
       within p t (inl c) = a.within p t c
       within p t (inr c) = subst (λ i. i < n) (sym c.1) k
 
@@ -65,7 +68,7 @@ empty_at [] p a = refl
 empty_at (x ∷ l) zero a = a 0 [] (omega arith)
 empty_at (x ∷ l) (suc p) a = empty_at l p (λ k d h. a (suc k) d (omega arith))
 
-pub no_link : (l : List (List ℕ)) → All (λ r. r ≡ []) l → (p t : ℕ) → Linked l p t → ⊥
+pub no_link : (l : List (List ℕ)) → All (λ r. r ≡ []) l → (p t : ℕ) → Link l p t → ⊥
 no_link l none p t h = let c = subst (λ xs. Contains xs t) (empty_at l p none) h in let k = c.1 in
     omega arith
 

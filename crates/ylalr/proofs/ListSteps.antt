@@ -9,8 +9,8 @@ use Rattle.std.proofs.lemmas.List.Quantifiers.{all_pairs_push}
 use Rattle.ygrammar.specs.Grammar.{ContextFree, body_of}
 use Rattle.ylalr.specs.declared.items.Item.{Item}
 use Rattle.ylalr.specs.Rows.{BitRows, Holds, AddsFrom}
-use Rattle.ylalr.specs.Sets.{Before, IsAscending, InRange, ItemsOf, Closed, given, IsClosure}
-use Rattle.ylalr.specs.Sets.{OpenedBy, Opens, IsOpens}
+use Rattle.ylalr.specs.Sets.{Before, IsAscending, InRange, ItemsOf, Closure, given, IsClosure}
+use Rattle.ylalr.specs.Sets.{LeadsTo, FirstRule}
 use Rattle.ylalr.proofs.ClosureSteps.{closed_cases, closed_from_opened}
 
 pub before_then : (i j k : Item) → Before i j → Before j k → Before i k
@@ -104,11 +104,11 @@ pub opening_push : (w : BitRows) (from r : ℕ) (old new more : List Item) → f
     Opening w from r old new → more ≡ new ++ first_of r ∷ [] → Opening w from (r + 1) old more
 opening_push w from r old new more l h o e = subst (λ xs. Opening w from (r + 1) old xs) (sym e)
     (record {
-  ascending = push_ascending new (first_of r) o.ascending (λ k d x. inl (o.below k d x));
-  below = All-push (λ i. i.rule < r + 1) new (first_of r) (λ k d x.
-      (let z = o.below k d x in omega arith)) (omega arith);
-  exact = λ i. (down i, up i);
-})
+      ascending = push_ascending new (first_of r) o.ascending (λ k d x. inl (o.below k d x));
+      below = All-push (λ i. i.rule < r + 1) new (first_of r) (λ k d x.
+          (let z = o.below k d x in omega arith)) (omega arith);
+      exact = λ i. (down i, up i);
+    })
   where
     down : (i : Item) → Contains (new ++ first_of r ∷ []) i → Contains old i ⊎
         ((i.dot ≡ 0) × (from ≤ i.rule) × (i.rule < r + 1) × Holds w 0 i.rule)
@@ -124,8 +124,13 @@ opening_push w from r old new more l h o e = subst (λ xs. Opening w from (r + 1
         go (inl x) = old_one ((o.exact i).0 x)
         go (inr q) =
             let er : i.rule ≡ r = ap (λ (t : Item). t.rule) q in
-            inr (ap (λ (t : Item). t.dot) q, omega arith, omega arith, subst (λ t. Holds w 0 t)
-                (sym er) h)
+            inr (
+              ap (λ (t : Item). t.dot) q,
+              omega arith,
+              omega arith,
+              subst (λ t. Holds w 0 t)
+                  (sym er) h,
+            )
 
     up : (i : Item) → Contains old i ⊎ ((i.dot ≡ 0) × (from ≤ i.rule) × (i.rule < r + 1) ×
         Holds w 0 i.rule) → Contains (new ++ first_of r ∷ []) i
@@ -259,7 +264,7 @@ merge_step w kernel out more n at to p asc m h e u o = record {
         go (inr z) =
             let q : k ≡ n = omega arith in
             (contains_push more p (get_or kernel k d)).1
-                (inr (ap (λ t. get_or kernel t d) q ∙ sym (get_or_read kernel n p h e d)))
+            (inr (ap (λ t. get_or kernel t d) q ∙ sym (get_or_read kernel n p h e d)))
 
     opened : (r : ℕ) → r < p.rule + 1 → Holds w 0 r → Contains (more ++ p ∷ [])
         (record { rule = r; dot = 0 })
@@ -270,7 +275,7 @@ merge_step w kernel out more n at to p asc m h e u o = record {
         last (inl z) y =
             let er : p.rule ≡ r = (let b = u.first z in omega arith) in
             let q : ◌≡◌ {A = Item} (record { rule = r; dot = 0 }) p =
-                    (λ j. record { rule = sym er j; dot = sym z j }) in
+            (λ j. record { rule = sym er j; dot = sym z j }) in
             (contains_push more p (record { rule = r; dot = 0 })).1 (inr q)
         last (inr z) y = absurd (let b = u.later z in omega arith)
 
@@ -316,24 +321,25 @@ merged w kernel out more n at rules en ew m o i = (down, up)
 
 -- with the rules that the kernel leads to, it is the closure
 pub closure_whole : (g : ContextFree) (w : BitRows) (kernel out : List Item) →
-    ((r : ℕ) → Holds w 0 r ↔ OpenedBy g (ItemsOf kernel) r) →
+    ((r : ℕ) → Holds w 0 r ↔ LeadsTo g (ItemsOf kernel) r) →
     ((i : Item) → Contains out i ↔ (Contains kernel i ⊎ ((i.dot ≡ 0) × Holds w 0 i.rule))) →
     IsClosure g kernel out
 closure_whole g w kernel out a b i = (down, up)
   where
-    down : Contains out i → Closed g (ItemsOf kernel) i.rule i.dot
+    down : Contains out i → Closure g (ItemsOf kernel) i.rule i.dot
     down c = go ((b i).0 c)
       where
-        go : Contains kernel i ⊎ ((i.dot ≡ 0) × Holds w 0 i.rule) → Closed g (ItemsOf kernel) i.rule
+        go : Contains kernel i ⊎ ((i.dot ≡ 0) × Holds w 0 i.rule) →
+            Closure g (ItemsOf kernel) i.rule
             i.dot
         go (inl x) = given x
-        go (inr x) = subst (λ t. Closed g (ItemsOf kernel) i.rule t) (sym x.0)
+        go (inr x) = subst (λ t. Closure g (ItemsOf kernel) i.rule t) (sym x.0)
             (closed_from_opened i.rule ((a i.rule).0 x.1))
 
-    up : Closed g (ItemsOf kernel) i.rule i.dot → Contains out i
+    up : Closure g (ItemsOf kernel) i.rule i.dot → Contains out i
     up c = go (closed_cases c)
       where
-        go : ItemsOf kernel i.rule i.dot ⊎ ((i.dot ≡ 0) × OpenedBy g (ItemsOf kernel) i.rule) →
+        go : ItemsOf kernel i.rule i.dot ⊎ ((i.dot ≡ 0) × LeadsTo g (ItemsOf kernel) i.rule) →
             Contains out i
         go (inl x) = (b i).1 (inl x)
         go (inr x) = (b i).1 (inr (x.0, (a i.rule).1 x.1))
@@ -357,14 +363,17 @@ closure_range g w kernel out e f b = all_of (λ i. (i.rule < length g.rules) ×
 
 -- the rules that the items of the kernel below n lead to
 pub record Wanting (g : ContextFree) (kernel : List Item) (n : ℕ) (w : BitRows) : Type 0 where
-  pub sound : (r : ℕ) → Holds w 0 r → OpenedBy g (ItemsOf kernel) r
+  pub sound : (r : ℕ) → Holds w 0 r → LeadsTo g (ItemsOf kernel) r
   pub every : (k : ℕ) (d : Item) (s r : ℕ) (y : List ℕ) → k < n → drop (get_or kernel k d).dot
-      (body_of g (get_or kernel k d).rule) ≡ s ∷ y → Opens g s r → Holds w 0 r
+      (body_of g (get_or kernel k d).rule) ≡ s ∷ y → FirstRule g s r → Holds w 0 r
 
 pub wanting_none : (g : ContextFree) (kernel : List Item) (w : BitRows) →
     ((r c : ℕ) → Holds w r c → ⊥) → Wanting g kernel 0 w
-wanting_none g kernel w n = record { sound = λ r h. absurd (n 0 r h); every = λ k d s r y l e o.
-    absurd (omega arith) }
+wanting_none g kernel w n = record {
+  sound = λ r h. absurd (n 0 r h);
+  every = λ k d s r y l e o.
+      absurd (omega arith);
+}
 
 nil_cons : (s : ℕ) (x y : List ℕ) → x ≡ [] → x ≡ s ∷ y → ⊥
 nil_cons s x y e f = cc
@@ -381,7 +390,7 @@ pub wanting_end : (g : ContextFree) (kernel : List Item) (n : ℕ) (w : BitRows)
 wanting_end g kernel n w p h e z v = record { sound = v.sound; every = every }
   where
     every : (k : ℕ) (d : Item) (s r : ℕ) (y : List ℕ) → k < n + 1 → drop (get_or kernel k d).dot
-        (body_of g (get_or kernel k d).rule) ≡ s ∷ y → Opens g s r → Holds w 0 r
+        (body_of g (get_or kernel k d).rule) ≡ s ∷ y → FirstRule g s r → Holds w 0 r
     every k d s r y l q o = go (cases_lt k n)
       where
         go : (k < n) ⊎ (n ≤ k) → Holds w 0 r
@@ -389,30 +398,39 @@ wanting_end g kernel n w p h e z v = record { sound = v.sound; every = every }
         go (inr x) =
             let ek : k ≡ n = omega arith in
             let ep : get_or kernel k d ≡ p = ap (λ t. get_or kernel t d) ek ∙ sym
-                    (get_or_read kernel n p h e d) in
+            (get_or_read kernel n p h e d) in
             absurd (nil_cons s (drop p.dot (body_of g p.rule)) y
-                (drop_all p.dot (body_of g p.rule) z)
-                (subst (λ (t : Item). drop t.dot (body_of g t.rule) ≡ s ∷ y) ep q))
+            (drop_all p.dot (body_of g p.rule) z)
+            (subst (λ (t : Item). drop t.dot (body_of g t.rule) ≡ s ∷ y) ep q))
 
 heads : (s t : ℕ) (x y z : List ℕ) → z ≡ s ∷ x → z ≡ t ∷ y → s ≡ t
 heads s t x y z e f = cc
 
 pub wanting_more : (g : ContextFree) (kernel : List Item) (n : ℕ) (w o opens : BitRows) (p : Item)
-    (t : ℕ) (x : List ℕ) → IsOpens g opens → n < length kernel → p ≡ get_or kernel n p →
+    (t : ℕ) (x : List ℕ) → ((s r : ℕ) → Holds opens s r ↔ FirstRule g s r) → n < length kernel →
+    p ≡ get_or kernel n p →
     drop p.dot (body_of g p.rule) ≡ t ∷ x → AddsFrom w o 0 opens t → Wanting g kernel n w →
     Wanting g kernel (n + 1) o
 wanting_more g kernel n w o opens p t x io h e q a v = record { sound = sound; every = every }
   where
-    sound : (r : ℕ) → Holds o 0 r → OpenedBy g (ItemsOf kernel) r
+    sound : (r : ℕ) → Holds o 0 r → LeadsTo g (ItemsOf kernel) r
     sound r z = go ((a 0 r).0 z)
       where
-        go : Holds w 0 r ⊎ ((◌≡◌ {A = ℕ} 0 0) × Holds opens t r) → OpenedBy g (ItemsOf kernel) r
+        go : Holds w 0 r ⊎ ((◌≡◌ {A = ℕ} 0 0) × Holds opens t r) → LeadsTo g (ItemsOf kernel) r
         go (inl y) = v.sound r y
-        go (inr y) = record { rule = p.rule; dot = p.dot; symbol = t; rest = x; item =
-            (n, h, sym e); next = q; opens = (io t r).0 y.1 }
+        go (inr y) = record {
+          rule = p.rule;
+          dot = p.dot;
+          symbol = t;
+          rest = x;
+          item =
+              (n, h, sym e);
+          next = q;
+          first = (io t r).0 y.1;
+        }
 
     every : (k : ℕ) (d : Item) (s r : ℕ) (y : List ℕ) → k < n + 1 → drop (get_or kernel k d).dot
-        (body_of g (get_or kernel k d).rule) ≡ s ∷ y → Opens g s r → Holds o 0 r
+        (body_of g (get_or kernel k d).rule) ≡ s ∷ y → FirstRule g s r → Holds o 0 r
     every k d s r y l f b = go (cases_lt k n)
       where
         go : (k < n) ⊎ (n ≤ k) → Holds o 0 r
@@ -420,22 +438,22 @@ wanting_more g kernel n w o opens p t x io h e q a v = record { sound = sound; e
         go (inr z) =
             let ek : k ≡ n = omega arith in
             let ep : get_or kernel k d ≡ p = ap (λ u. get_or kernel u d) ek ∙ sym
-                    (get_or_read kernel n p h e d) in
+            (get_or_read kernel n p h e d) in
             let es : t ≡ s = heads t s x y (drop p.dot (body_of g p.rule)) q
-                    (subst (λ (u : Item). drop u.dot (body_of g u.rule) ≡ s ∷ y) ep f) in
-            (a 0 r).1 (inr (refl, (io t r).1 (subst (λ u. Opens g u r) (sym es) b)))
+            (subst (λ (u : Item). drop u.dot (body_of g u.rule) ≡ s ∷ y) ep f) in
+            (a 0 r).1 (inr (refl, (io t r).1 (subst (λ u. FirstRule g u r) (sym es) b)))
 
 pub wanted_all : (g : ContextFree) (kernel : List Item) (n : ℕ) (w : BitRows) → n ≡ length kernel →
-    Wanting g kernel n w → (r : ℕ) → Holds w 0 r ↔ OpenedBy g (ItemsOf kernel) r
+    Wanting g kernel n w → (r : ℕ) → Holds w 0 r ↔ LeadsTo g (ItemsOf kernel) r
 wanted_all g kernel n w e v r = (v.sound r, up)
   where
-    up : OpenedBy g (ItemsOf kernel) r → Holds w 0 r
+    up : LeadsTo g (ItemsOf kernel) r → Holds w 0 r
     up o =
         let i : Item = record { rule = o.rule; dot = o.dot } in
         let z : get_or kernel o.item.0 i ≡ i = o.item.2 in
         v.every o.item.0 i o.symbol r o.rest (subst (λ t. o.item.0 < t) (sym e) o.item.1)
-            (subst (λ (t : Item). drop t.dot (body_of g t.rule) ≡ o.symbol ∷ o.rest) (sym z) o.next)
-            o.opens
+        (subst (λ (t : Item). drop t.dot (body_of g t.rule) ≡ o.symbol ∷ o.rest) (sym z) o.next)
+        o.first
 
 -- an element doesn't depend on the default
 pub same_default : {X : Type 0} (xs : List X) (k : ℕ) (d e : X) → k < length xs →

@@ -2,12 +2,12 @@
 use Rattle.std.proofs.Common.{ℕ, List, [], ◌∷◌}
 use Rattle.ygrammar.specs.Grammar.{ContextFree}
 use Rattle.ylalr.specs.Items.{Valid, start, closure, move}
-use Rattle.ylalr.specs.Sets.{Closed, given, opened, Moved, moved, Begin, begin}
+use Rattle.ylalr.specs.Sets.{Closure, given, opened, Kernel, moved, Begin, begin}
 
 -- items of the prefix p, by recursion on p
 abbrev pub Live : ContextFree → List ℕ → ℕ → ℕ → Type 0
-Live g [] = Closed g Begin
-Live g (x ∷ p) = Closed g (Moved g (Live g p) x)
+Live g [] = Closure g Begin
+Live g (x ∷ p) = Closure g (Kernel g (Live g p) x)
 
 pub live_from_valid : {g : ContextFree} {p : List ℕ} {r d a : ℕ} → Valid g p r d a → Live g p r d
 live_from_valid start = given begin

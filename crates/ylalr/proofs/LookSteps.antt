@@ -35,9 +35,11 @@ module _ (g : ContextFree) (f : WellFormed g) (t : StateLists) (to : ℕ → ℕ
       IsCore g p (set_at t.closures q) → GotoIs g t q x o → (n < length t.closures) ×
       IsCore g (x ∷ p) (set_at t.closures n)
   state_goto p q x n o e c z =
-      let w : GotoIs g t q x (Some n) = subst (GotoIs g t q x) e z in
-      (w.0, core_goto g f p (set_at t.closures q) x (set_at t.kernels n) (set_at t.closures n) c w.1
-          (are.each n w.0).closure)
+      let w : GotoIs g t q x (Some n) = subst (GotoIs g t q x) e z in (
+        w.0,
+        core_goto g f p (set_at t.closures q) x (set_at t.kernels n) (set_at t.closures n) c w.1
+            (are.each n w.0).closure,
+      )
 
   first_core : IsCore g [] (set_at t.closures 0)
   first_core = core_start g f (set_at t.closures 0)
@@ -51,7 +53,7 @@ module _ (g : ContextFree) (f : WellFormed g) (t : StateLists) (to : ℕ → ℕ
   found (moves {q = q} {n = n} {x = x} {y = y} s e h u) =
       let i = found s in
       let z = state_goto i.prefix q x n (to q x) u i.core
-              (gotos q x i.within (next_in x y i.valid e)) in
+      (gotos q x i.within (next_in x y i.valid e)) in
       record { within = z.0; prefix = x ∷ i.prefix; core = z.1; valid = move i.valid e h }
 
   pub lookahead_from_spread : (q : ℕ) (i : Item) (a : ℕ) → Spread g to q i.rule i.dot a →
@@ -78,7 +80,7 @@ module _ (g : ContextFree) (f : WellFormed g) (t : StateLists) (to : ℕ → ℕ
       let n = goto_some_of p from.0 x r d a y from.2 v e h (to from.0 x) row in
       let z = state_goto p from.0 x n.0 (to from.0 x) n.1 from.2 row in
       subst (λ n. Spread g to n r (suc d) a) (once g t are (x ∷ p) n.0 q z.0 k z.1 c)
-          (moves (spreads v from.0 from.1 from.2) e h n.1)
+      (moves (spreads v from.0 from.1 from.2) e h n.1)
 
   pub spread_from_lookahead : (q : ℕ) (i : Item) (a : ℕ) → q < length t.closures →
       Lookahead g (set_at t.closures q) i a → Spread g to q i.rule i.dot a
@@ -89,10 +91,19 @@ module _ (g : ContextFree) (f : WellFormed g) (t : StateLists) (to : ℕ → ℕ
         (p : ℕ) × IsPlace t l q (record { rule = r; dot = d }) p
     place_from {q = q} {r = r} {d = d} {a = a} s =
         let z = found s in
-        let c = (z.core (record { rule = r; dot = d })).1 (a, z.valid) in
-        (get_or (rows_at l q) c.0 0,
-            record { state = z.within; at = record { index = c.0; within = c.1; here = c.2; row =
-            refl } })
+        let c = (z.core (record { rule = r; dot = d })).1 (a, z.valid) in (
+          get_or (rows_at l q) c.0 0,
+          record {
+            state = z.within;
+            at = record {
+              index = c.0;
+              within = c.1;
+              here = c.2;
+              row =
+                  refl;
+            };
+          },
+        )
 
     pub spread_holds : {q r d a : ℕ} → Spread g to q r d a →
         (p : ℕ) → IsPlace t l q (record { rule = r; dot = d }) p → Holds m p a
@@ -101,12 +112,12 @@ module _ (g : ContextFree) (f : WellFormed g) (t : StateLists) (to : ℕ → ℕ
         let from = place_from z in
         let o = from.1 in
         (shut.states q o.state (record { rule = r; dot = d }) from.0 o).closes s h y a b p
-            (spread_holds z from.0 o) e w i
+        (spread_holds z from.0 o) e w i
     spread_holds (moves {q = q} {n = n} {r = r} {d = d} {a = a} {x = x} {y = y} z e h w) p i =
         let from = place_from z in
         let o = from.1 in
         (shut.states q o.state (record { rule = r; dot = d }) from.0 o).moves x n y a p
-            (spread_holds z from.0 o) e h w i
+        (spread_holds z from.0 o) e h w i
 
     pub looks_exact : SoundLooks g to t l m → (q : ℕ) (i : Item) (p a : ℕ) → IsPlace t l q i p →
         Holds m p a ↔ Lookahead g (set_at t.closures q) i a

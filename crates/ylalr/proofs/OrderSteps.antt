@@ -10,7 +10,7 @@ use Rattle.std.proofs.lemmas.List.Elements.{Contains-push_cases, Contains-append
 use Rattle.std.proofs.lemmas.List.Elements.{Contains-append_right}
 use Rattle.ylalr.specs.declared.order.Turn.{Turn}
 use Rattle.ylalr.specs.declared.order.Turn.TheVariants.{Enter, Leave}
-use Rattle.ylalr.specs.Marks.{marked}
+use Rattle.ylalr.specs.Marks.{Has}
 use Rattle.ylalr.specs.Order.{AreTurns, row_of}
 use Rattle.ylalr.proofs.NullableSteps.{marked_cases, none_marked}
 
@@ -20,7 +20,7 @@ pub turns_none : (n : ℕ) (m : List Bool) (t : List Turn) (o : List ℕ) → m 
 turns_none n m t o em et eo = record {
   turns = subst (All (λ t. row_of t < length m)) (sym et) (All-nil (λ t. row_of t < length m));
   order = subst (All (λ p. p < length m)) (sym eo) (All-nil (λ p. p < length m));
-  left = λ p h. absurd (none_marked n p (subst (λ (x : List Bool). marked x p) em h));
+  left = λ p h. absurd (none_marked n p (subst (λ (x : List Bool). Has x p) em h));
 }
 
 last_turn : (P : Turn → Type 0) (t : List Turn) (x : Turn) → All P (t ++ x ∷ []) → P x
@@ -73,7 +73,7 @@ turns_enter m n t w p to o h l en ew a = record {
       (All-cons (λ y. row_of y < length m) (Leave p) (map Enter to) h
       (All-map (λ y. row_of y < length m) Enter to l))));
   order = subst (λ k. All (λ q. q < k) o) (sym sized) a.order;
-  left = λ q k. go q (marked_cases m p q (subst (λ (x : List Bool). marked x q) en k));
+  left = λ q k. go q (marked_cases m p q (subst (λ (x : List Bool). Has x q) en k));
 }
   where
     sized : length n ≡ length m
@@ -84,7 +84,7 @@ turns_enter m n t w p to o h l en ew a = record {
     two q (inr c) = inr (subst (λ xs. Contains xs (Leave q)) (sym ew)
         (Contains-append_left t (Leave p ∷ map Enter to) (Leave q) c))
 
-    go : (q : ℕ) → (q ≡ p) ⊎ marked m q → Contains o q ⊎ Contains w (Leave q)
+    go : (q : ℕ) → (q ≡ p) ⊎ Has m q → Contains o q ⊎ Contains w (Leave q)
     go q (inl e) = inr (subst (λ xs. Contains xs (Leave q)) (sym ew)
         (Contains-append_right t (Leave p ∷ map Enter to) (Leave q)
         (0, omega arith, ap Leave (sym e))))
@@ -114,7 +114,7 @@ turns_leave m v t p o u e eu a = record {
 
 -- no turn is left
 pub turns_over : (m : List Bool) (t : List Turn) (o : List ℕ) (p : ℕ) → t ≡ [] → AreTurns m t o →
-    marked m p → Contains o p
+    Has m p → Contains o p
 turns_over m t o p e a h = go (a.left p h)
   where
     go : Contains o p ⊎ Contains t (Leave p) → Contains o p
@@ -132,10 +132,10 @@ mark_size m n p e = ap (λ (x : List Bool). length x) e ∙ length-set m p true
 same_or : (a b : ℕ) → (a ≡ b) ⊎ (a ≢ b)
 same_or a b = grind arith
 
-pub kept_marked : (m n : List Bool) (p q : ℕ) → p < length m → n ≡ set m p true → marked m q →
-    marked n q
-kept_marked m n p q h e c = subst (λ (x : List Bool). marked x q) (sym e) (go (same_or q p))
+pub kept_marked : (m n : List Bool) (p q : ℕ) → p < length m → n ≡ set m p true → Has m q →
+    Has n q
+kept_marked m n p q h e c = subst (λ (x : List Bool). Has x q) (sym e) (go (same_or q p))
   where
-    go : (q ≡ p) ⊎ (q ≢ p) → marked (set m p true) q
-    go (inl z) = subst (marked (set m p true)) (sym z) (get_or-set_same m p true false h)
+    go : (q ≡ p) ⊎ (q ≢ p) → Has (set m p true) q
+    go (inl z) = subst (Has (set m p true)) (sym z) (get_or-set_same m p true false h)
     go (inr z) = get_or-set_other m p q true false z ∙ c

@@ -8,7 +8,7 @@ use Rattle.ygrammar.specs.WellFormed.{WellFormed}
 use Rattle.ylalr.specs.declared.items.Item.{Item}
 use Rattle.ylalr.specs.Sets.{Before, IsAscending, InRange}
 use Rattle.ylalr.specs.States.{StateLists, set_at, start_item}
-use Rattle.ylalr.specs.Places.{Places, At, Opened, Shares, AreRows, FillRows, AreLefts, TakesRow}
+use Rattle.ylalr.specs.Places.{Places, At, Starts, Shares, AreRows, FillRows, AreLefts, TakesRow}
 use Rattle.ylalr.specs.Places.{ArePlaces}
 use Rattle.ylalr.proofs.StateSteps.{push_old, push_new, push_length, last_or}
 
@@ -21,10 +21,18 @@ at_push xs rows x i p t e a =
     go (last_or a.index (length xs) (subst (λ k. a.index < k) (push_length xs x) a.within))
   where
     go : (a.index < length xs) ⊎ (a.index ≡ length xs) → At xs rows i t ⊎ ((i ≡ x) × (t ≡ p))
-    go (inl h) = inl (record { index = a.index; within = h; here = sym (push_old xs x i a.index h) ∙
-        a.here; row = a.row ∙ push_old rows p 0 a.index (subst (λ k. a.index < k) (sym e) h) })
-    go (inr h) = inr (sym a.here ∙ push_new xs x i a.index h, a.row ∙ push_new rows p 0 a.index
-        (h ∙ sym e))
+    go (inl h) = inl (record {
+      index = a.index;
+      within = h;
+      here = sym (push_old xs x i a.index h) ∙
+          a.here;
+      row = a.row ∙ push_old rows p 0 a.index (subst (λ k. a.index < k) (sym e) h);
+    })
+    go (inr h) = inr (
+      sym a.here ∙ push_new xs x i a.index h,
+      a.row ∙ push_new rows p 0 a.index
+          (h ∙ sym e),
+    )
 
 pub at_kept : (xs : List Item) (rows : List ℕ) (x i : Item) (p t : ℕ) → length rows ≡ length xs →
     At xs rows i t → At (xs ++ x ∷ []) (rows ++ p ∷ []) i t
@@ -85,11 +93,11 @@ module _ (g : ContextFree) (xs : List Item) (rows : List ℕ) (first end next p 
   ex = f.filled.are.sized
 
   -- the row is that of an item before, or a new one
-  again : (p ≡ end) ⊎ ((k : Item) × At xs rows k p × Opened g (left_of g x.rule) k × (x.dot ≡ 0))
+  again : (p ≡ end) ⊎ ((k : Item) × At xs rows k p × Starts g (left_of g x.rule) k × (x.dot ≡ 0))
   again = go takes
     where
       go : TakesRow g x end old new p → (p ≡ end) ⊎
-          ((k : Item) × At xs rows k p × Opened g (left_of g x.rule) k × (x.dot ≡ 0))
+          ((k : Item) × At xs rows k p × Starts g (left_of g x.rule) k × (x.dot ≡ 0))
       go (inl t) = let z = f.by_left.found (left_of g x.rule) p t.1 in inr (z.0, z.1, z.2, t.0)
       go (inr t) = inl t.0
 
@@ -97,21 +105,21 @@ module _ (g : ContextFree) (xs : List Item) (rows : List ℕ) (first end next p 
   far i a e = let z = (f.filled.bounds i p a).1 in omega arith
 
   -- an item before has the same row: both share it
-  meets : (i : Item) → At xs rows i p → (i.dot ≡ 0) × Opened g (left_of g i.rule) x ×
+  meets : (i : Item) → At xs rows i p → (i.dot ≡ 0) × Starts g (left_of g i.rule) x ×
       (left_of g i.rule ≡ left_of g x.rule)
   meets i a = go again
     where
-      two : (k : Item) → Opened g (left_of g x.rule) k → (x.dot ≡ 0) → Shares g i k →
-          (i.dot ≡ 0) × Opened g (left_of g i.rule) x × (left_of g i.rule ≡ left_of g x.rule)
+      two : (k : Item) → Starts g (left_of g x.rule) k → (x.dot ≡ 0) → Shares g i k →
+          (i.dot ≡ 0) × Starts g (left_of g i.rule) x × (left_of g i.rule ≡ left_of g x.rule)
       two k o d (inl e) =
           let el : left_of g i.rule ≡ left_of g x.rule = ap (λ (v : Item). left_of g v.rule) e ∙
-                  o.1 in
+          o.1 in
           (ap (λ (v : Item). v.dot) e ∙ o.0, (d, sym el), el)
       two k o d (inr e) = let el : left_of g i.rule ≡ left_of g x.rule = sym e.1.1 ∙ o.1 in
           (e.0, (d, sym el), el)
 
-      go : (p ≡ end) ⊎ ((k : Item) × At xs rows k p × Opened g (left_of g x.rule) k × (x.dot ≡ 0)) →
-          (i.dot ≡ 0) × Opened g (left_of g i.rule) x × (left_of g i.rule ≡ left_of g x.rule)
+      go : (p ≡ end) ⊎ ((k : Item) × At xs rows k p × Starts g (left_of g x.rule) k × (x.dot ≡ 0)) →
+          (i.dot ≡ 0) × Starts g (left_of g i.rule) x × (left_of g i.rule ≡ left_of g x.rule)
       go (inl e) = absurd (far i a e)
       go (inr z) = two z.0 z.2 z.3 (f.filled.are.apart i z.0 p a z.1)
 
@@ -138,15 +146,17 @@ module _ (g : ContextFree) (xs : List Item) (rows : List ℕ) (first end next p 
       ((k ≡ x) × (t ≡ p)) → Shares g i k
   apart i k t (inl a) (inl b) = f.filled.are.apart i k t a b
   apart i k t (inl a) (inr b) = let z = meets i (subst (At xs rows i) b.1 a) in
-      inr (z.0, subst (Opened g (left_of g i.rule)) (sym b.0) z.1)
+      inr (z.0, subst (Starts g (left_of g i.rule)) (sym b.0) z.1)
   apart i k t (inr a) (inl b) =
       let z = meets k (subst (At xs rows k) a.1 b) in
-      inr (ap (λ (v : Item). v.dot) a.0 ∙ z.1.0,
-          (z.0, z.2 ∙ ap (λ (v : Item). left_of g v.rule) (sym a.0)))
+      inr (
+        ap (λ (v : Item). v.dot) a.0 ∙ z.1.0,
+        (z.0, z.2 ∙ ap (λ (v : Item). left_of g v.rule) (sym a.0)),
+      )
   apart i k t (inr a) (inr b) = inl (a.0 ∙ sym b.0)
 
   shared : (i k : Item) (t u : ℕ) → At xs rows i t ⊎ ((i ≡ x) × (t ≡ p)) → At xs rows k u ⊎
-      ((k ≡ x) × (u ≡ p)) → i.dot ≡ 0 → Opened g (left_of g i.rule) k → t ≡ u
+      ((k ≡ x) × (u ≡ p)) → i.dot ≡ 0 → Starts g (left_of g i.rule) k → t ≡ u
   shared i k t u (inl a) (inl b) d o = f.filled.are.shared i k t u a b d o
   shared i k t u (inl a) (inr b) d o = joined i t a d
       (sym o.1 ∙ ap (λ (v : Item). left_of g v.rule) b.0) (ap (λ (v : Item). v.dot) (sym b.0) ∙ o.0)
@@ -175,7 +185,7 @@ module _ (g : ContextFree) (xs : List Item) (rows : List ℕ) (first end next p 
       (z.0, (let w = z.1 in omega arith))
   bounds i t (inr a) = go again
     where
-      go : (p ≡ end) ⊎ ((k : Item) × At xs rows k p × Opened g (left_of g x.rule) k × (x.dot ≡ 0)) →
+      go : (p ≡ end) ⊎ ((k : Item) × At xs rows k p × Starts g (left_of g x.rule) k × (x.dot ≡ 0)) →
           (first ≤ t) × (t < next)
       go (inl e) = let z = same e in let r = f.filled.rising in let h = a.1 in
           (omega arith, omega arith)
@@ -186,27 +196,27 @@ module _ (g : ContextFree) (xs : List Item) (rows : List ℕ) (first end next p 
   rows' = rows ++ p ∷ []
 
   found : (s t : ℕ) → get_or new s None ≡ Some t → (i : Item) × At (xs ++ x ∷ []) (rows ++ p ∷ []) i
-      t × Opened g s i
+      t × Starts g s i
   found s t e = go takes
     where
       kept : get_or old s None ≡ Some t → (i : Item) × At (xs ++ x ∷ []) (rows ++ p ∷ []) i t ×
-          Opened g s i
+          Starts g s i
       kept h = let z = f.by_left.found s t h in (z.0, at_kept xs rows x z.0 p t ex z.1, z.2)
 
       given : p ≡ end → (x.dot ≡ 0) → (s ≡ left_of g x.rule) ⊎ (s ≢ left_of g x.rule) →
           get_or (set old (left_of g x.rule) (Some end)) s None ≡ Some t →
-          (i : Item) × At (xs ++ x ∷ []) (rows ++ p ∷ []) i t × Opened g s i
+          (i : Item) × At (xs ++ x ∷ []) (rows ++ p ∷ []) i t × Starts g s i
       given ep d (inl q) h =
           let z : Some end ≡ Some t = sym (get_or-set_same old (left_of g x.rule) (Some end) None
-                  (subst (λ k. left_of g x.rule < k) (sym f.by_left.sized) hx)) ∙ subst
-                  (λ k. get_or (set old (left_of g x.rule) (Some end)) k None ≡ Some t) q h in
+          (subst (λ k. left_of g x.rule < k) (sym f.by_left.sized) hx)) ∙ subst
+          (λ k. get_or (set old (left_of g x.rule) (Some end)) k None ≡ Some t) q h in
           let et : p ≡ t = ep ∙ some_same (Some end) end t refl z in
           (x, subst (At (xs ++ x ∷ []) (rows ++ p ∷ []) x) et (at_new xs rows x p ex), (d, sym q))
       given ep d (inr q) h = kept (sym (get_or-set_other old (left_of g x.rule) s (Some end) None q)
           ∙ h)
 
       go : TakesRow g x end old new p → (i : Item) × At (xs ++ x ∷ []) (rows ++ p ∷ []) i t ×
-          Opened g s i
+          Starts g s i
       go (inl z) = kept (subst (λ (l : List (Option ℕ)). get_or l s None ≡ Some t) z.2 e)
       go (inr (ep, inl z)) = kept (subst (λ (l : List (Option ℕ)). get_or l s None ≡ Some t) z.1 e)
       go (inr (ep, inr z)) = given ep z.0 (same_or s (left_of g x.rule))
@@ -298,12 +308,12 @@ pub placing_push : (g : ContextFree) (s : StateLists) (q : ℕ) (rows more : Lis
     Placing g s (q + 1) more end
 placing_push g s q rows more list total end p em f hn = subst (λ xs. Placing g s (q + 1) xs end)
     (sym em) (record {
-  sized = push_length rows list ∙ ap (λ n. n + 1) p.sized;
-  each = λ n h. each n (last_or n q h);
-  below = λ n i t h a. below n i t (last_or n q h) a;
-  apart = λ n m i k t h l a b. apart n m i k t (last_or n q h) (last_or m q l) a b;
-  small = (let a = p.small in let b = f.short in omega (arith, a, b, hn));
-})
+      sized = push_length rows list ∙ ap (λ n. n + 1) p.sized;
+      each = λ n h. each n (last_or n q h);
+      below = λ n i t h a. below n i t (last_or n q h) a;
+      apart = λ n m i k t h l a b. apart n m i k t (last_or n q h) (last_or m q l) a b;
+      small = (let a = p.small in let b = f.short in omega (arith, a, b, hn));
+    })
   where
     old : (n : ℕ) → n < q → get_or (rows ++ list ∷ []) n [] ≡ get_or rows n []
     old n h = push_old rows list [] n (subst (λ k. n < k) (sym p.sized) h)

@@ -1,7 +1,7 @@
 -- What a word united with another does to the bits of rows, and to the room that is left.
 use Rattle.std.proofs.Common.{ℕ, ◌≡◌, ◌≢◌, ◌<◌, ◌≤◌, ◌+◌, ◌-◌, ◌*◌, ◌/◌, ◌%◌, ◌^◌, ◌⊎◌, ◌↔◌, length}
 use Rattle.std.proofs.Common.{get_or, sym, ◌∙◌, ap, subst, inl, inr, arith, max, bit_or}
-use Rattle.std.proofs.Common.{get_or-set_same, get_or-set_other}
+use Rattle.std.proofs.Common.{get_or-set_same, get_or-set_other, Bool, true, false, ◌||◌}
 use Rattle.std.specs.Int.{bit_at, trailing_zeros, w64}
 use Rattle.std.specs.Int.Count.{trailing_of_zero}
 use Rattle.std.proofs.Math.Nat.{div-div-eq-div-mul}
@@ -11,12 +11,13 @@ use Rattle.std.proofs.lemmas.Nat.{mul-add-lt, pow-add}
 use Rattle.std.proofs.lemmas.Nat.Bits.{bit_at_or, bit_at-lt, bit_at-pow_same, bit_at-pow_other}
 use Rattle.std.proofs.lemmas.Nat.Bits.{bit_at-zero, bit_at-trailing_zeros}
 use Rattle.std.proofs.lemmas.List.Sums.{sum_by-set}
-use Rattle.ylalr.specs.Rows.{BitRows, IsBitRows, Holds, word_of, room, united, AddsFrom}
+use Rattle.ylalr.specs.Rows.{BitRows, IsBitRows, Holds, word_of, room, unite, AddsFrom, GrowsIf}
+use Rattle.ylalr.proofs.Growth.{less_then, same_then}
 
 less : ℕ → ℕ
 less w = 2 ^ 64 - 1 - w
 
-pub room_le : (m : BitRows) (at more : ℕ) → at < length m.words → room (united m at more) ≤ room m
+pub room_le : (m : BitRows) (at more : ℕ) → at < length m.words → room (unite m at more) ≤ room m
 room_le m at more h =
     let e = sum_by-set (λ w. 2 ^ 64 - 1 - w) m.words at (bit_or (get_or m.words at 0) more) 0 h in
     let l = le_or_l (get_or m.words at 0) more in
@@ -24,7 +25,7 @@ room_le m at more h =
 
 pub room_lt : (m : BitRows) (at more : ℕ) → at < length m.words → bit_or (get_or m.words at 0) more
     < 2 ^ 64 → bit_or (get_or m.words at 0) more ≢ get_or m.words at 0 →
-    room (united m at more) < room m
+    room (unite m at more) < room m
 room_lt m at more h k n =
     let e = sum_by-set (λ w. 2 ^ 64 - 1 - w) m.words at (bit_or (get_or m.words at 0) more) 0 h in
     let l = le_or_l (get_or m.words at 0) more in
@@ -32,8 +33,13 @@ room_lt m at more h k n =
 
 -- the rows with another word
 abbrev pub worded : BitRows → ℕ → ℕ → BitRows
-worded m at w = record { height = m.height; width = m.width; span = m.span; words =
-    set m.words at w }
+worded m at w = record {
+  height = m.height;
+  width = m.width;
+  span = m.span;
+  words =
+      set m.words at w;
+}
 
 -- whether bit k of a word is set
 abbrev pub BitIs : ℕ → ℕ → Type 0
@@ -62,7 +68,7 @@ in_span m f c h =
 -- what is so of the bits of the word with column k of row i, after the word j of row r is united
 -- with more
 pub unite_holds : (m : BitRows) → IsBitRows m → (r j more : ℕ) → r < m.height → j < m.span →
-    (i k : ℕ) → Holds (united m (r * m.span + j) more) i k ↔ (Holds m i k ⊎
+    (i k : ℕ) → Holds (unite m (r * m.span + j) more) i k ↔ (Holds m i k ⊎
     ((i ≡ r) × (k < m.width) × (k / 64 ≡ j) × (bit_at more (k % 64) ≡ 1)))
 unite_holds m f r j more hr hj i k = (to, from)
   where
@@ -70,23 +76,23 @@ unite_holds m f r j more hr hj i k = (to, from)
     at = r * m.span + j
 
     n : BitRows
-    n = united m (r * m.span + j) more
+    n = unite m (r * m.span + j) more
 
     within : r * m.span + j < length m.words
     within = let e = f.sized in let z = mul-add-lt r m.span j m.height hr hj in grind arith
 
     -- the word of the row is the united one, or another
     word_same : (k < m.width) → (i < m.height) → (i * m.span + k / 64 ≡ r * m.span + j) →
-        word_of (united m (r * m.span + j) more) i k ≡ bit_or (word_of m i k) more
+        word_of (unite m (r * m.span + j) more) i k ≡ bit_or (word_of m i k) more
     word_same hk hi e = rw e (get_or-set_same m.words (r * m.span + j)
         (bit_or (get_or m.words (r * m.span + j) 0) more) 0 within)
 
-    word_other : (i * m.span + k / 64 ≢ r * m.span + j) → word_of (united m (r * m.span + j) more) i
+    word_other : (i * m.span + k / 64 ≢ r * m.span + j) → word_of (unite m (r * m.span + j) more) i
         k ≡ word_of m i k
     word_other e = get_or-set_other m.words (r * m.span + j) (i * m.span + k / 64)
         (bit_or (get_or m.words (r * m.span + j) 0) more) 0 e
 
-    to : Holds (united m (r * m.span + j) more) i k → Holds m i k ⊎
+    to : Holds (unite m (r * m.span + j) more) i k → Holds m i k ⊎
         ((i ≡ r) × (k < m.width) × (k / 64 ≡ j) × (bit_at more (k % 64) ≡ 1))
     to h = go (same_or (i * m.span + k / 64) (r * m.span + j))
       where
@@ -104,42 +110,57 @@ unite_holds m f r j more hr hj i k = (to, from)
             (bit_at-lt (word_of m i k) (k % 64)) (bit_at-lt more (k % 64))
             (sym (bit_at_or (word_of m i k) more (k % 64)) ∙ ap (λ w. bit_at w (k % 64))
             (sym (word_same h.column h.row e)) ∙ h.bit))
-        go (inr e) = inl (record { row = h.row; column = h.column; bit = ap (λ w. bit_at w (k % 64))
-            (sym (word_other e)) ∙ h.bit })
+        go (inr e) = inl (record {
+          row = h.row;
+          column = h.column;
+          bit = ap (λ w. bit_at w (k % 64))
+              (sym (word_other e)) ∙ h.bit;
+        })
 
     from : Holds m i k ⊎ ((i ≡ r) × (k < m.width) × (k / 64 ≡ j) × (bit_at more (k % 64) ≡ 1)) →
-        Holds (united m (r * m.span + j) more) i k
-    from (inl h) = record { row = h.row; column = h.column; bit =
-        go (same_or (i * m.span + k / 64) (r * m.span + j)) }
+        Holds (unite m (r * m.span + j) more) i k
+    from (inl h) = record {
+      row = h.row;
+      column = h.column;
+      bit =
+          go (same_or (i * m.span + k / 64) (r * m.span + j));
+    }
       where
         go : (i * m.span + k / 64 ≡ r * m.span + j) ⊎ (i * m.span + k / 64 ≢ r * m.span + j) →
-            bit_at (word_of (united m (r * m.span + j) more) i k) (k % 64) ≡ 1
+            bit_at (word_of (unite m (r * m.span + j) more) i k) (k % 64) ≡ 1
         go (inl e) = ap (λ w. bit_at w (k % 64)) (word_same h.column h.row e) ∙ bit_at_or
             (word_of m i k) more (k % 64) ∙ max_left (bit_at (word_of m i k) (k % 64))
             (bit_at more (k % 64)) (bit_at-lt more (k % 64)) h.bit
         go (inr e) = ap (λ w. bit_at w (k % 64)) (word_other e) ∙ h.bit
     from (inr h) =
         let e : i * m.span + k / 64 ≡ r * m.span + j = ap (λ (t : ℕ). t * m.span + k / 64) h.0 ∙ ap
-                (λ (t : ℕ). r * m.span + t) h.2 in
+        (λ (t : ℕ). r * m.span + t) h.2 in
         let hi : i < m.height = subst (λ t. t < m.height) (sym h.0) hr in
-        record { row = hi; column = h.1; bit = ap (λ w. bit_at w (k % 64)) (word_same h.1 hi e) ∙
-            bit_at_or (word_of m i k) more (k % 64) ∙ max_right (bit_at (word_of m i k) (k % 64))
-            (bit_at more (k % 64)) (bit_at-lt (word_of m i k) (k % 64)) h.3 }
+        record {
+          row = hi;
+          column = h.1;
+          bit = ap (λ w. bit_at w (k % 64)) (word_same h.1 hi e) ∙
+              bit_at_or (word_of m i k) more (k % 64) ∙ max_right (bit_at (word_of m i k) (k % 64))
+              (bit_at more (k % 64)) (bit_at-lt (word_of m i k) (k % 64)) h.3;
+        }
 
-pub united_fits : (m : BitRows) (at more : ℕ) → IsBitRows m → IsBitRows (united m at more)
-united_fits m at more f = record { sized = length-set m.words at (bit_or (get_or m.words at 0) more)
-    ∙ f.sized; wide = f.wide }
+pub united_fits : (m : BitRows) (at more : ℕ) → IsBitRows m → IsBitRows (unite m at more)
+united_fits m at more f = record {
+  sized = length-set m.words at (bit_or (get_or m.words at 0) more)
+      ∙ f.sized;
+  wide = f.wide;
+}
 
 -- one bit is set
 pub mark_holds : (m : BitRows) → IsBitRows m → (r c : ℕ) → r < m.height → c < m.width →
-    (i k : ℕ) → Holds (united m (r * m.span + c / 64) ((1 * 2 ^ (c % 64)) % 2 ^ 64)) i k ↔
+    (i k : ℕ) → Holds (unite m (r * m.span + c / 64) ((1 * 2 ^ (c % 64)) % 2 ^ 64)) i k ↔
     (Holds m i k ⊎ ((i ≡ r) × (k ≡ c)))
 mark_holds m f r c hr hc i k = (to, from)
   where
     one : (1 * 2 ^ (c % 64)) % 2 ^ 64 ≡ 2 ^ (c % 64)
     one = one_shl (c % 64) 64 (mod_below c 64 (omega arith))
 
-    u : Holds (united m (r * m.span + c / 64) ((1 * 2 ^ (c % 64)) % 2 ^ 64)) i k ↔ (Holds m i k ⊎
+    u : Holds (unite m (r * m.span + c / 64) ((1 * 2 ^ (c % 64)) % 2 ^ 64)) i k ↔ (Holds m i k ⊎
         ((i ≡ r) × (k < m.width) × (k / 64 ≡ c / 64) ×
         (bit_at ((1 * 2 ^ (c % 64)) % 2 ^ 64) (k % 64) ≡ 1)))
     u = unite_holds m f r (c / 64) ((1 * 2 ^ (c % 64)) % 2 ^ 64) hr (in_span m f c hc) i k
@@ -152,7 +173,7 @@ mark_holds m f r c hr hc i k = (to, from)
         go (inr e) = absurd (let z : bit_at ((1 * 2 ^ (c % 64)) % 2 ^ 64) (k % 64) ≡ 0 =
             ap (λ w. bit_at w (k % 64)) one ∙ bit_at-pow_other (c % 64) (k % 64) e in omega arith)
 
-    to : Holds (united m (r * m.span + c / 64) ((1 * 2 ^ (c % 64)) % 2 ^ 64)) i k → Holds m i k ⊎
+    to : Holds (unite m (r * m.span + c / 64) ((1 * 2 ^ (c % 64)) % 2 ^ 64)) i k → Holds m i k ⊎
         ((i ≡ r) × (k ≡ c))
     to h = go (u.0 h)
       where
@@ -167,11 +188,15 @@ mark_holds m f r c hr hc i k = (to, from)
             inr (x.0, omega arith)
 
     from : Holds m i k ⊎ ((i ≡ r) × (k ≡ c)) →
-        Holds (united m (r * m.span + c / 64) ((1 * 2 ^ (c % 64)) % 2 ^ 64)) i k
+        Holds (unite m (r * m.span + c / 64) ((1 * 2 ^ (c % 64)) % 2 ^ 64)) i k
     from (inl x) = u.1 (inl x)
-    from (inr x) = u.1 (inr (x.0, subst (λ t. t < m.width) (sym x.1) hc, ap (λ (t : ℕ). t / 64) x.1,
-        ap (λ (t : ℕ). bit_at ((1 * 2 ^ (c % 64)) % 2 ^ 64) (t % 64)) x.1 ∙ ap
-        (λ w. bit_at w (c % 64)) one ∙ bit_at-pow_same (c % 64)))
+    from (inr x) = u.1 (inr (
+      x.0,
+      subst (λ t. t < m.width) (sym x.1) hc,
+      ap (λ (t : ℕ). t / 64) x.1,
+      ap (λ (t : ℕ). bit_at ((1 * 2 ^ (c % 64)) % 2 ^ 64) (t % 64)) x.1 ∙ ap
+          (λ w. bit_at w (c % 64)) one ∙ bit_at-pow_same (c % 64),
+    ))
 
 -- n has in row `to` also the columns of P whose words are before k
 abbrev pub AddsWords : BitRows → BitRows → ℕ → (ℕ → Type 0) → ℕ → Type 0
@@ -191,14 +216,14 @@ below_or_is k i h = grind arith
 pub adds_word : (m n : BitRows) → IsBitRows n → (to k more : ℕ) (P : ℕ → Type 0) →
     n.width ≡ m.width → to < n.height → k < n.span → AddsWords m n to P k →
     ((c : ℕ) → c < m.width → c / 64 ≡ k → bit_at more (c % 64) ≡ 1 ↔ P c) →
-    AddsWords m (united n (to * n.span + k) more) to P (k + 1)
+    AddsWords m (unite n (to * n.span + k) more) to P (k + 1)
 adds_word m n f to k more P same ht hk a b r c = (down, up)
   where
-    u : Holds (united n (to * n.span + k) more) r c ↔ (Holds n r c ⊎
+    u : Holds (unite n (to * n.span + k) more) r c ↔ (Holds n r c ⊎
         ((r ≡ to) × (c < n.width) × (c / 64 ≡ k) × (bit_at more (c % 64) ≡ 1)))
     u = unite_holds n f to k more ht hk r c
 
-    down : Holds (united n (to * n.span + k) more) r c → Holds m r c ⊎
+    down : Holds (unite n (to * n.span + k) more) r c → Holds m r c ⊎
         ((r ≡ to) × (c < m.width) × (c / 64 < k + 1) × P c)
     down h = go (u.0 h)
       where
@@ -214,11 +239,11 @@ adds_word m n f to k more P same ht hk a b r c = (down, up)
             inr (x.0, l, (let e = x.2 in omega arith), (b c l x.2).0 x.3)
 
     up : Holds m r c ⊎ ((r ≡ to) × (c < m.width) × (c / 64 < k + 1) × P c) →
-        Holds (united n (to * n.span + k) more) r c
+        Holds (unite n (to * n.span + k) more) r c
     up (inl x) = u.1 (inl ((a r c).1 (inl x)))
     up (inr x) = go (below_or_is (c / 64) k x.2)
       where
-        go : (c / 64 < k) ⊎ (c / 64 ≡ k) → Holds (united n (to * n.span + k) more) r c
+        go : (c / 64 < k) ⊎ (c / 64 ≡ k) → Holds (unite n (to * n.span + k) more) r c
         go (inl l) = u.1 (inl ((a r c).1 (inr (x.0, x.1, l, x.3))))
         go (inr e) = u.1 (inr (x.0, subst (λ t. c < t) (sym same) x.1, e, (b c x.1 e).1 x.3))
 
@@ -226,8 +251,12 @@ adds_word m n f to k more P same ht hk a b r c = (down, up)
 pub word_bits : (m : BitRows) (from k c : ℕ) → from < m.height → c < m.width → c / 64 ≡ k →
     bit_at (get_or m.words (from * m.span + k) 0) (c % 64) ≡ 1 ↔ Holds m from c
 word_bits m from k c hf hc e = (
-  (λ b. record { row = hf; column = hc; bit =
-      ap (λ (t : ℕ). bit_at (get_or m.words (from * m.span + t) 0) (c % 64)) e ∙ b }),
+  (λ b. record {
+    row = hf;
+    column = hc;
+    bit =
+        ap (λ (t : ℕ). bit_at (get_or m.words (from * m.span + t) 0) (c % 64)) e ∙ b;
+  }),
   (λ h. ap (λ (t : ℕ). bit_at (get_or m.words (from * m.span + t) 0) (c % 64)) (sym e) ∙ h.bit),
 )
 
@@ -279,6 +308,47 @@ pub word_within : (m : BitRows) → IsBitRows m → (r j : ℕ) → r < m.height
 word_within m f r j hr hj = let e = f.sized in let z = mul-add-lt r m.span j m.height hr hj in
     grind arith
 
+-- the words below k of row `to` were united with those of a row that has P
+pub record Uniting (m n : BitRows) (to : ℕ) (P : ℕ → Type 0) (k : ℕ) (grew : Bool) : Type 0 where
+  pub fits : IsBitRows n
+  pub rows : n.height ≡ m.height
+  pub columns : n.width ≡ m.width
+  pub span : n.span ≡ m.span
+  pub adds : AddsWords m n to P k
+  pub fewer : room n ≤ room m
+  pub fewer_if : grew ≡ true → room n < room m
+  pub unchanged : grew ≡ false → n ≡ m
+
+-- one more word was united
+pub uniting_more : (m n o : BitRows) (to k x : ℕ) (P : ℕ → Type 0) (grew b : Bool) → to < m.height →
+    k < n.span → o ≡ unite n (to * n.span + k) x → room o ≤ room n →
+    (b ≡ true → room o < room n) → (b ≡ false → o ≡ n) →
+    ((c : ℕ) → c < m.width → c / 64 ≡ k → BitIs x (c % 64) ↔ P c) → Uniting m n to P k grew →
+    Uniting m o to P (k + 1) (grew || b)
+uniting_more m n o to k x P grew b ht hk e fewer fewer_if unchanged bits u = record {
+  fits = subst IsBitRows (sym e) (united_fits n (to * n.span + k) x u.fits);
+  rows = ap (λ (v : BitRows). v.height) e ∙ u.rows;
+  columns = ap (λ (v : BitRows). v.width) e ∙ u.columns;
+  span = ap (λ (v : BitRows). v.span) e ∙ u.span;
+  adds = subst (λ (v : BitRows). AddsWords m v to P (k + 1)) (sym e) (adds_word m n u.fits to k x P
+      u.columns (subst (λ t. to < t) (sym u.rows) ht) hk u.adds bits);
+  fewer = (let y = u.fewer in omega arith);
+  fewer_if = less_then grew b (room m) (room n) (room o) u.fewer_if u.fewer fewer_if fewer;
+  unchanged = same_then grew b m n o u.unchanged unchanged;
+}
+
+pub uniting_end : (m n : BitRows) (to k : ℕ) (P : ℕ → Type 0) (grew : Bool) →
+    Uniting m n to P k grew → GrowsIf m n grew
+uniting_end m n to k P grew u = record {
+  rows = u.rows;
+  columns = u.columns;
+  grows =
+      λ r c h. (u.adds r c).1 (inl h);
+  fewer = u.fewer;
+  fewer_if = u.fewer_if;
+  unchanged = u.unchanged;
+}
+
 shifted_bit : (n s i : ℕ) → bit_at (n / 2 ^ s) i ≡ bit_at n (s + i)
 shifted_bit n s i = ap (λ (t : ℕ). t % 2) (div-div-eq-div-mul n (2 ^ s) (2 ^ i) ∙ ap
     (λ (t : ℕ). n / t) (sym (pow-add 2 s i)))
@@ -306,11 +376,11 @@ after_none m r c k step hw hz hs le lt h =
     let same : k / 64 ≡ c / 64 = omega arith in
     let on : k % 64 ≡ c % 64 + (k - c) = omega arith in
     let w : bit_at (word_of m r c) (c % 64 + (k - c)) ≡ 0 =
-            sym (shifted_bit (word_of m r c) (c % 64) (k - c)) ∙ clear_bits
-            (word_of m r c / 2 ^ (c % 64)) (k - c) hw (omega arith) in
+    sym (shifted_bit (word_of m r c) (c % 64) (k - c)) ∙ clear_bits
+    (word_of m r c / 2 ^ (c % 64)) (k - c) hw (omega arith) in
     let z : bit_at (word_of m r c) (c % 64 + (k - c)) ≡ 1 = ap (λ (t : ℕ). bit_at (word_of m r c) t)
-            (sym on) ∙ ap (λ (t : ℕ). bit_at (get_or m.words (r * m.span + t) 0) (k % 64))
-            (sym same) ∙ h.bit in
+    (sym on) ∙ ap (λ (t : ℕ). bit_at (get_or m.words (r * m.span + t) 0) (k % 64))
+    (sym same) ∙ h.bit in
     omega (arith, w, z)
 
 -- where the row lacks the column, the next set bit stands behind it
@@ -329,8 +399,12 @@ after_further m r c hr hc hw absent = go (zero_or (word_of m r c / 2 ^ (c % 64))
     go (inr p) (inl z) =
         let b = (bit_at-trailing_zeros w64 (word_of m r c / 2 ^ (c % 64)) p hw).1 in
         let d : bit_at (word_of m r c) (c % 64 + 0) ≡ 1 =
-                sym (shifted_bit (word_of m r c) (c % 64) 0) ∙ ap
-                (λ (t : ℕ). bit_at (word_of m r c / 2 ^ (c % 64)) t) (sym z) ∙ b in
+        sym (shifted_bit (word_of m r c) (c % 64) 0) ∙ ap
+        (λ (t : ℕ). bit_at (word_of m r c / 2 ^ (c % 64)) t) (sym z) ∙ b in
         let e : c % 64 + 0 ≡ c % 64 = omega arith in
-        absurd (absent (record { row = hr; column = hc; bit =
-            subst (λ t. bit_at (word_of m r c) t ≡ 1) e d }))
+        absurd (absent (record {
+          row = hr;
+          column = hc;
+          bit =
+              subst (λ t. bit_at (word_of m r c) t ≡ 1) e d;
+        }))

@@ -6,20 +6,20 @@ use Rattle.std.specs.List.{Contains}
 use Rattle.std.proofs.lemmas.List.Elements.{Contains-push, Contains-push_cases}
 use Rattle.std.proofs.lemmas.List.Elements.{Contains-append_left}
 use Rattle.ylalr.specs.Rows.{BitRows, Holds, IsSized, room, AddsFrom}
-use Rattle.ylalr.specs.Waiting.{Line}
-use Rattle.ylalr.specs.Links.{AreLinks, Reaches, given, passed, PassedOn, IsSpread}
+use Rattle.ylalr.specs.Waiting.{Queue}
+use Rattle.ylalr.specs.Links.{AreLinks, Reaches, given, passed, PassesOn, IsSpread}
 use Rattle.ylalr.specs.Spread.{SameRow, Gives}
 use Rattle.ylalr.proofs.WaitingSteps.{head_or, line_nearer}
 
-pub record Spreading (l : List (List ℕ)) (m n : BitRows) (w : Line) : Type 0 where
+pub record Spreading (l : List (List ℕ)) (m n : BitRows) (w : Queue) : Type 0 where
   pub sized : IsSized m.height m.width n
   pub line : length w.marks ≡ m.height
   pub sound : (r c : ℕ) → Holds n r c → Reaches l m r c
   pub kept : (r c : ℕ) → Holds m r c → Holds n r c
-  pub waits : (p : ℕ) → p < m.height → PassedOn l n p ⊎ Contains w.queue p
+  pub waits : (p : ℕ) → p < m.height → PassesOn l n p ⊎ Contains w.queue p
 
 -- no row has given yet
-pub spreading_none : (l : List (List ℕ)) (m : BitRows) (w : Line) → length w.marks ≡ m.height →
+pub spreading_none : (l : List (List ℕ)) (m : BitRows) (w : Queue) → length w.marks ≡ m.height →
     ((p : ℕ) → p < m.height → Contains w.queue p) → Spreading l m m w
 spreading_none l m w e every = record {
   sized = record { rows = refl; columns = refl };
@@ -33,12 +33,14 @@ same_or : (a b : ℕ) → (a ≡ b) ⊎ (a ≢ b)
 same_or a b = grind arith
 
 -- the row in front has given
-pub spreading_give : (l : List (List ℕ)) (m n o : BitRows) (v w x : Line) (p : ℕ) →
+pub spreading_give : (l : List (List ℕ)) (m n o : BitRows) (v w x : Queue) (p : ℕ) →
     Spreading l m n v → v.queue ≡ p ∷ w.queue → length w.marks ≡ length v.marks →
     Gives (get_or l p []) p n w o x → Spreading l m o x
 spreading_give l m n o v w x p s e ew g = record {
-  sized = record { rows = g.sized.rows ∙ s.sized.rows; columns = g.sized.columns ∙ s.sized.columns
-      };
+  sized = record {
+    rows = g.sized.rows ∙ s.sized.rows;
+    columns = g.sized.columns ∙ s.sized.columns;
+  };
   line = g.line ∙ ew ∙ s.line;
   sound = sound;
   kept = λ r c h. (g.adds r c).1 (inl (s.kept r c h));
@@ -59,12 +61,12 @@ spreading_give l m n o v w x p s e ew g = record {
         go (inl k) = k
         go (inr k) = k.1
 
-    given_on : PassedOn l o p
+    given_on : PassesOn l o p
     given_on t c k h = (g.adds t c).1 (inr (k, old c h))
 
-    waits : (r : ℕ) → (r ≡ p) ⊎ (r ≢ p) → PassedOn l n r ⊎ Contains v.queue r → SameRow n o r ⊎
-        Contains x.queue r → PassedOn l o r ⊎ Contains x.queue r
-    waits r (inl q) a b = inl (subst (PassedOn l o) (sym q) given_on)
+    waits : (r : ℕ) → (r ≡ p) ⊎ (r ≢ p) → PassesOn l n r ⊎ Contains v.queue r → SameRow n o r ⊎
+        Contains x.queue r → PassesOn l o r ⊎ Contains x.queue r
+    waits r (inl q) a b = inl (subst (PassesOn l o) (sym q) given_on)
     waits r (inr q) a (inr b) = inr b
     waits r (inr q) (inl a) (inl b) = inl (λ t c k h. (g.adds t c).1 (inl (a t c k (b c h))))
     waits r (inr q) (inr a) (inl b) =
@@ -75,7 +77,7 @@ spreading_give l m n o v w x p s e ew g = record {
         rest (inr z) = z
 
 -- no row waits
-pub spreading_end : (l : List (List ℕ)) (m n : BitRows) (w : Line) → Spreading l m n w →
+pub spreading_end : (l : List (List ℕ)) (m n : BitRows) (w : Queue) → Spreading l m n w →
     w.queue ≡ [] → IsSpread l m n
 spreading_end l m n w s e r c = (s.sound r c, back)
   where
@@ -87,7 +89,7 @@ spreading_end l m n w s e r c = (s.sound r c, back)
     go (passed {p = p} {t = t} {c = c} z k) = let h = go z in
         on (s.waits p (subst (λ i. p < i) s.sized.rows h.row)) t c k h
       where
-        on : PassedOn l n p ⊎ Contains w.queue p → PassedOn l n p
+        on : PassesOn l n p ⊎ Contains w.queue p → PassesOn l n p
         on (inl a) = a
         on (inr a) = absurd (none p (subst (λ xs. Contains xs p) e a))
 
@@ -95,7 +97,7 @@ spreading_end l m n w s e r c = (s.sound r c, back)
     back z = go z
 
 -- no list yet
-pub gives_none : (p : ℕ) (m : BitRows) (v : Line) → length v.queue ≤ length v.marks →
+pub gives_none : (p : ℕ) (m : BitRows) (v : Queue) → length v.queue ≤ length v.marks →
     Gives [] p m v m v
 gives_none p m v few = record {
   sized = record { rows = refl; columns = refl };
@@ -133,8 +135,10 @@ adds_push to p t m n o a b r c = (down, up)
         go : Holds n r c ⊎ ((r ≡ t) × Holds n p c) → Holds m r c ⊎
             (Contains (to ++ t ∷ []) r × Holds m p c)
         go (inl k) = old ((a r c).0 k)
-        go (inr k) = inr (subst (λ i. Contains (to ++ t ∷ []) i) (sym k.0) (Contains-push to t),
-            own ((a p c).0 k.1))
+        go (inr k) = inr (
+          subst (λ i. Contains (to ++ t ∷ []) i) (sym k.0) (Contains-push to t),
+          own ((a p c).0 k.1),
+        )
 
     up : Holds m r c ⊎ (Contains (to ++ t ∷ []) r × Holds m p c) → Holds o r c
     up (inl h) = (b r c).1 (inl ((a r c).1 (inl h)))
@@ -144,22 +148,22 @@ adds_push to p t m n o a b r c = (down, up)
         go (inl k) = (b r c).1 (inl ((a r c).1 (inr (k, h.1))))
         go (inr k) = (b r c).1 (inr (sym k, (a p c).1 (inl h.1)))
 
-pub gives_same : (to : List ℕ) (p t : ℕ) (m n o : BitRows) (v w x : Line) → Gives to p m v n w →
+pub gives_same : (to : List ℕ) (p t : ℕ) (m n o : BitRows) (v w x : Queue) → Gives to p m v n w →
     AddsFrom n o t n p → o ≡ n → x ≡ w → Gives (to ++ t ∷ []) p m v o x
-gives_same to p t m n o v w x g a eo ex = subst (λ (y : Line). Gives (to ++ t ∷ []) p m v o y)
+gives_same to p t m n o v w x g a eo ex = subst (λ (y : Queue). Gives (to ++ t ∷ []) p m v o y)
     (sym ex) (record {
-  sized = subst (IsSized m.height m.width) (sym eo) g.sized;
-  line = g.line;
-  few = g.few;
-  adds = λ r c. adds_push to p t m n o g.adds a r c;
-  waits = λ r. subst (λ (y : BitRows). SameRow m y r ⊎ Contains w.queue r) (sym eo) (g.waits r);
-  kept = g.kept;
-  fewer = subst (λ (y : BitRows). room y ≤ room m) (sym eo) g.fewer;
-  calm = subst (λ (y : BitRows). (room y < room m) ⊎ (w ≡ v)) (sym eo) g.calm;
-})
+      sized = subst (IsSized m.height m.width) (sym eo) g.sized;
+      line = g.line;
+      few = g.few;
+      adds = λ r c. adds_push to p t m n o g.adds a r c;
+      waits = λ r. subst (λ (y : BitRows). SameRow m y r ⊎ Contains w.queue r) (sym eo) (g.waits r);
+      kept = g.kept;
+      fewer = subst (λ (y : BitRows). room y ≤ room m) (sym eo) g.fewer;
+      calm = subst (λ (y : BitRows). (room y < room m) ⊎ (w ≡ v)) (sym eo) g.calm;
+    })
 
 -- row t grew, and waits
-pub gives_grew : (to : List ℕ) (p t : ℕ) (m n o : BitRows) (v w x : Line) → Gives to p m v n w →
+pub gives_grew : (to : List ℕ) (p t : ℕ) (m n o : BitRows) (v w x : Queue) → Gives to p m v n w →
     AddsFrom n o t n p → IsSized n.height n.width o → room o < room n →
     length x.marks ≡ length w.marks → length x.queue ≤ length x.marks → Contains x.queue t →
     ((r : ℕ) → Contains w.queue r → Contains x.queue r) → Gives (to ++ t ∷ []) p m v o x
@@ -188,7 +192,7 @@ gives_grew to p t m n o v w x g a es less line few there kept = record {
     waits r (inr q) (inr b) = inr (kept r b)
 
 -- taking a row that waits, and having it give, brings the end nearer
-pub spread_nearer : (l : List (List ℕ)) (n o : BitRows) (v w x : Line) (p : ℕ) →
+pub spread_nearer : (l : List (List ℕ)) (n o : BitRows) (v w x : Queue) (p : ℕ) →
     v.queue ≡ p ∷ w.queue → length w.marks ≡ length v.marks → Gives (get_or l p []) p n w o x →
     room o * (length x.marks + 1) + length x.queue < room n * (length v.marks + 1) + length v.queue
 spread_nearer l n o v w x p e ew g = line_nearer (room n) (room o) v w x p e ew g.line g.few g.fewer

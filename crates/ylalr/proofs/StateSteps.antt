@@ -80,14 +80,14 @@ states_push g s k w are may fresh shut asc range = record {
     each q (inr e) = subst (λ x. IsState g x (set_at (s.closures ++ w ∷ []) q))
         (sym (kernel_new q e)) (subst (λ y. IsState g k y) (sym (push_new s.closures w [] q e))
         (record {
-      closure = shut;
-      kernel_order = may.order;
-      order = asc;
-      kernel_range = may.range;
-      range = range;
-      filled = may.filled;
-      core = (may.core.0, may.core.1 w shut);
-    }))
+          closure = shut;
+          kernel_order = may.order;
+          order = asc;
+          kernel_range = may.range;
+          range = range;
+          filled = may.filled;
+          core = (may.core.0, may.core.1 w shut);
+        }))
 
     moved : (q : ℕ) → 0 < q → (q < length s.closures) ⊎ (q ≡ length s.closures) →
         (i : Item) → Contains (set_at (s.kernels ++ k ∷ []) q) i → 0 < i.dot
@@ -145,9 +145,11 @@ start_ascending = one_ascending start_item
 pub overflows : (g : ContextFree) (s : StateLists) (k w : List Item) → AreStates g s → MayJoin g k →
     IsFresh s k → IsClosure g k w → IsAscending w → InRange g w → 16384 ≤ length s.closures →
     Overflows g
-overflows g s k w are may fresh shut asc range h =
-    (with_state s k w, states_push g s k w are may fresh shut asc range,
-    (let z = push_length s.closures w in omega arith))
+overflows g s k w are may fresh shut asc range h = (
+  with_state s k w,
+  states_push g s k w are may fresh shut asc range,
+  (let z = push_length s.closures w in omega arith),
+)
 
 nil_of : {X : Type 0} (xs : List X) → length xs ≡ 0 → xs ≡ []
 nil_of [] e = refl
@@ -158,9 +160,14 @@ pub states_first : (g : ContextFree) → WellFormed g → (s : StateLists) (w : 
     length s.kernels ≡ 0 → length s.closures ≡ 0 → IsClosure g (start_item ∷ []) w → IsAscending w →
     InRange g w → AreStates g (with_state s (start_item ∷ []) w)
 states_first g f s w a b shut asc range =
-    let e : with_state s (start_item ∷ []) w ≡ record { kernels = (start_item ∷ []) ∷ []; closures =
-            w ∷ [] } = (λ i. record { kernels = nil_of s.kernels a i ++ (start_item ∷ []) ∷ [];
-            closures = nil_of s.closures b i ++ w ∷ [] }) in
+    let e : with_state s (start_item ∷ []) w ≡ record {
+      kernels = (start_item ∷ []) ∷ [];
+      closures =
+          w ∷ [];
+    } = (λ i. record {
+      kernels = nil_of s.kernels a i ++ (start_item ∷ []) ∷ [];
+      closures = nil_of s.closures b i ++ w ∷ [];
+    }) in
     subst (AreStates g) (sym e) (states_one g f w shut asc range)
 
 pub fresh_none : (s : StateLists) (k : List Item) → length s.kernels ≡ 0 → IsFresh s k

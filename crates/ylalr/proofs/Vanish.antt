@@ -27,9 +27,9 @@ back_one g x y s v =
     let w : Vanishes g (s.before ++ (body_of g s.rule ++ s.after)) = rw (← s.target) v in
     let m = vanishes_right s.before (body_of g s.rule ++ s.after) w in
     rw s.source (vanishes_append (vanishes_left s.before (body_of g s.rule ++ s.after) w)
-        (left_of g s.rule ∷ s.after)
-        (more s.rule s.within refl (vanishes_left (body_of g s.rule) s.after m)
-        (vanishes_right (body_of g s.rule) s.after m)))
+    (left_of g s.rule ∷ s.after)
+    (more s.rule s.within refl (vanishes_left (body_of g s.rule) s.after m)
+    (vanishes_right (body_of g s.rule) s.after m)))
 
 vanishes_back : {g : ContextFree} {x y : List ℕ} → Derives g x y → Vanishes g y → Vanishes g x
 vanishes_back done v = v
@@ -80,11 +80,17 @@ derives_after {g = g} w (step {x = x} {y = y} s d) = step (replaces_after g w x 
 -- the rule r, applied at the front
 pub derives_rule : (g : ContextFree) (r : ℕ) (x : List ℕ) → r < length g.rules →
     Replaces g (left_of g r ∷ x) (body_of g r ++ x)
-derives_rule g r x h = record { before = []; after = x; rule = r; within = h; source = refl;
-    target = refl }
+derives_rule g r x h = record {
+  before = [];
+  after = x;
+  rule = r;
+  within = h;
+  source = refl;
+  target = refl;
+}
 
 pub nullable_from_vanishes : {g : ContextFree} {x : List ℕ} → Vanishes g x → Nullable g x
 nullable_from_vanishes none = done
 nullable_from_vanishes {g = g} (more {s = s} {x = x} r h e b v) =
     rw e (step (derives_rule g r x h) (derives_then (derives_before (nullable_from_vanishes b) x)
-        (nullable_from_vanishes v)))
+    (nullable_from_vanishes v)))

@@ -36,9 +36,11 @@ module _ (v : GrammarValue) (f : WellFormed v.bare) (t : StateLists) (rows : Lis
   goto_at : (q x : ℕ) (o : Option ℕ) → GotoIs v.bare t q x o →
       IsGoto (record { grammar = v; states = t.closures; gotos = rows }) q x o
   goto_at q x None z p c = λ i w. source_item v.bare f p (set_at t.closures q) x i c w z
-  goto_at q x (Some n) z p c =
-      (z.0, core_goto v.bare f p (set_at t.closures q) x (set_at t.kernels n) (set_at t.closures n)
-      c z.1 (are.each n z.0).closure)
+  goto_at q x (Some n) z p c = (
+    z.0,
+    core_goto v.bare f p (set_at t.closures q) x (set_at t.kernels n) (set_at t.closures n)
+        c z.1 (are.each n z.0).closure,
+  )
 
   pub goto_is : (q x : ℕ) → q < length t.closures → x < v.bare.symbols →
       IsGoto (record { grammar = v; states = t.closures; gotos = rows }) q x (goto_of rows q x)
@@ -83,8 +85,12 @@ looks_in m f (j ∷ xs) p i t = (item_test j i && row_test m (f p) t) || looks_i
 
 row_from : (m : BitRows) (p t : ℕ) → row_test m p t ≡ true → Holds m p t
 unfolding row_test
-row_from m p t e = record { row = grind (arith, nat_tests); column = grind (arith, nat_tests); bit =
-    grind (arith, nat_tests) }
+row_from m p t e = record {
+  row = grind (arith, nat_tests);
+  column = grind (arith, nat_tests);
+  bit =
+      grind (arith, nat_tests);
+}
 
 row_to : (m : BitRows) (p t : ℕ) → Holds m p t → row_test m p t ≡ true
 unfolding row_test
@@ -136,12 +142,19 @@ in_from m f (j ∷ xs) p i t e = go (or_cases (item_test j i && row_test m (f p)
         (looks_in m f xs (p + 1) i t ≡ true → (k : ℕ) × (k < length xs) × (get_or xs k i ≡ i) ×
         Holds m (f (p + 1 + k)) t) → (k : ℕ) × (k < length (j ∷ xs)) × (get_or (j ∷ xs) k i ≡ i) ×
         Holds m (f (p + k)) t
-    go (inl h) c = let z = and_cases (item_test j i) (row_test m (f p) t) h in
-        (0, omega arith, item_from j i z.0, (let e0 : p ≡ p + 0 = omega arith in
-        subst (λ r. Holds m (f r) t) e0 (row_from m (f p) t z.1)))
-    go (inr h) c = let z = c h in
-        (suc z.0, (let l = z.1 in omega (arith, l)), z.2,
-        (let e0 : p + 1 + z.0 ≡ p + suc z.0 = omega arith in subst (λ r. Holds m (f r) t) e0 z.3))
+    go (inl h) c = let z = and_cases (item_test j i) (row_test m (f p) t) h in (
+      0,
+      omega arith,
+      item_from j i z.0,
+      (let e0 : p ≡ p + 0 = omega arith in
+          subst (λ r. Holds m (f r) t) e0 (row_from m (f p) t z.1)),
+    )
+    go (inr h) c = let z = c h in (
+      suc z.0,
+      (let l = z.1 in omega (arith, l)),
+      z.2,
+      (let e0 : p + 1 + z.0 ≡ p + suc z.0 = omega arith in subst (λ r. Holds m (f r) t) e0 z.3),
+    )
 
 in_to : (m : BitRows) (f : ℕ → ℕ) (xs : List Item) (p : ℕ) (i : Item) (t k : ℕ) → k < length xs →
     get_or xs k i ≡ i → Holds m (f (p + k)) t → looks_in m f xs p i t ≡ true
@@ -160,8 +173,16 @@ looks_of s l m q i t = looks_in m (λ k. get_or (rows_at l q) k 0) (set_at s.clo
 -- where the item stands in its state, its row
 placed : (s : StateLists) (l : Places) (q : ℕ) (i : Item) → q < length s.closures →
     (c : Contains (set_at s.closures q) i) → IsPlace s l q i (get_or (rows_at l q) c.0 0)
-placed s l q i h c = record { state = h; at = record { index = c.0; within = c.1; here = c.2; row =
-    refl } }
+placed s l q i h c = record {
+  state = h;
+  at = record {
+    index = c.0;
+    within = c.1;
+    here = c.2;
+    row =
+        refl;
+  };
+}
 
 module _ (v : GrammarValue) (f : WellFormed v.bare) (t : StateLists) (rows : List (List Goto))
     (are : AreStates v.bare t) (gotos : (q x : ℕ) → q < length t.closures → x < v.bare.symbols →
@@ -176,20 +197,25 @@ module _ (v : GrammarValue) (f : WellFormed v.bare) (t : StateLists) (rows : Lis
         let c : Contains (set_at t.closures q) i = (z.0, z.1, z.2) in
         let e0 : 0 + z.0 ≡ z.0 = omega arith in
         (looks_exact v.bare f t (goto_of rows) are gotos l m shut sound q i
-            (get_or (rows_at l q) z.0 0) a (placed t l q i h c)).0
-            (subst (λ k. Holds m (get_or (rows_at l q) k 0) a) e0 z.3))),
+        (get_or (rows_at l q) z.0 0) a (placed t l q i h c)).0
+        (subst (λ k. Holds m (get_or (rows_at l q) k 0) a) e0 z.3))),
     (λ w. (let c = (w.core i).1 (a, w.valid) in
         let e0 : c.0 ≡ 0 + c.0 = omega arith in
         in_to m (λ k. get_or (rows_at l q) k 0) (set_at t.closures q) 0 i a c.0 c.1 c.2
-            (subst (λ k. Holds m (get_or (rows_at l q) k 0) a) e0
-            ((looks_exact v.bare f t (goto_of rows) are gotos l m shut sound q i
-            (get_or (rows_at l q) c.0 0) a (placed t l q i h c)).1 w)))),
+        (subst (λ k. Holds m (get_or (rows_at l q) k 0) a) e0
+        ((looks_exact v.bare f t (goto_of rows) are gotos l m shut sound q i
+        (get_or (rows_at l q) c.0 0) a (placed t l q i h c)).1 w)))),
   )
 
   pub guide_of : (u : Guide) × IsGuide (record { grammar = v; states = t.closures; gotos = rows }) u
-  guide_of = (record { to = goto_of rows; looks = looks_of t l m },
-      record { to = λ q x h k. goto_is v f t rows are gotos q x h k; looks =
-      λ q i a h k. looks_test q i a h })
+  guide_of = (
+    record { to = goto_of rows; looks = looks_of t l m },
+    record {
+      to = λ q x h k. goto_is v f t rows are gotos q x h k;
+      looks =
+          λ q i a h k. looks_test q i a h;
+    },
+  )
 
   pub looks_at : (q : ℕ) (i : Item) (p a : ℕ) → IsPlace t l q i p → Holds m p a ↔ Lookahead v.bare
       (set_at t.closures q) i a

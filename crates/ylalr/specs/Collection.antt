@@ -16,6 +16,10 @@ pub record Collection : Type 0 where
   pub states : List (List Item)
   pub gotos : List (List Goto)
 
+-- the most states that there may be
+abbrev pub most_states : ℕ
+most_states = 16384
+
 -- the bare grammar
 abbrev pub bare_of : Collection → ContextFree
 bare_of m = m.grammar.bare
@@ -33,7 +37,7 @@ goto_in m q x = goto_of m.gotos q x
 abbrev pub IsGoto : Collection → ℕ → ℕ → Option ℕ → Type 0
 IsGoto m q x to = (p : List ℕ) → IsCore (bare_of m) p (state_of m q) →
     MatchOption to ((i : Item) → InCore (bare_of m) (x ∷ p) i → ⊥) (λ n. (n < length m.states) ×
-        IsCore (bare_of m) (x ∷ p) (state_of m n))
+    IsCore (bare_of m) (x ∷ p) (state_of m n))
 
 -- The list has each state, a core that is not empty, once; at most 16,384; and the gotos are right.
 pub record HasStates (m : Collection) : Type 0 where
@@ -46,7 +50,7 @@ pub record HasStates (m : Collection) : Type 0 where
       IsCore (bare_of m) p (state_of m q) → IsCore (bare_of m) p (state_of m n) → q ≡ n
   pub ordered : (q : ℕ) → q < length m.states → IsAscending (state_of m q)
   pub range : (q : ℕ) → q < length m.states → InRange (bare_of m) (state_of m q)
-  pub few : length m.states ≤ 16384
+  pub few : length m.states ≤ most_states
   pub leads : (q x : ℕ) → q < length m.states → x < (bare_of m).symbols →
       IsGoto m q x (goto_in m q x)
 
@@ -65,7 +69,7 @@ pub record IsGuide (m : Collection) (u : Guide) : Type 0 where
 -- two of one prefix.
 pub record TooMany (g : ContextFree) : Type 0 where
   pub states : List (List Item)
-  pub many : 16384 < length states
+  pub many : most_states < length states
   pub core : (q : ℕ) → q < length states → (p : List ℕ) × IsCore g p (slice_index_or states q [])
   pub filled : (q : ℕ) → q < length states → 0 < length (slice_index_or states q [])
   pub once : (p : List ℕ) (q n : ℕ) → q < length states → n < length states →

@@ -5,14 +5,15 @@ use Rattle.ylalr.specs.declared.items.Item.{Item}
 use Rattle.ylalr.specs.declared.looks.Parts.{Parts}
 use Rattle.ylalr.specs.declared.looks.Here.{Here}
 use Rattle.ylalr.specs.Gotos.{goto_of}
-use Rattle.ylalr.specs.Marks.{marked}
+use Rattle.ylalr.specs.Marks.{Has}
 use Rattle.ylalr.specs.Rows.{BitRows, Holds, Grows, IsSized}
-use Rattle.ylalr.specs.Links.{AreLinks, Linked}
+use Rattle.ylalr.specs.Links.{AreLinks, Link}
 use Rattle.ylalr.specs.Places.{AreLefts, IsPlace, rows_at}
 use Rattle.ylalr.specs.Sets.{Moves, step_of}
 use Rattle.ylalr.specs.States.{set_at}
 use Rattle.ylalr.specs.Looks.{Spread, SoundLooks, StartLooks, FormHas}
 
+-- rows of lookaheads, and the links along which they are to give
 pub record DraftValue : Type 0 where
   pub looks : BitRows
   pub links : List (List ℕ)
@@ -45,29 +46,29 @@ pub record SoundDraft (P : Parts) (d : DraftValue) : Type 0 where
   pub sized : IsSized P.places.total P.grammar.bare.tokens d.looks
   pub links : AreLinks P.places.total d.links
   pub looks : SoundLooks P.grammar.bare (goto_of P.gotos) P.states P.places d.looks
-  pub carried : (p t : ℕ) → Linked d.links p t → Carries P p t
+  pub carried : (p t : ℕ) → Link d.links p t → Carries P p t
 
 -- rows and links were only added
 pub record Further (d e : DraftValue) : Type 0 where
   pub looks : Grows d.looks e.looks
-  pub links : (p t : ℕ) → Linked d.links p t → Linked e.links p t
+  pub links : (p t : ℕ) → Link d.links p t → Link e.links p t
 
 -- row t has what the form y begins with, and what row p has if y vanishes
 pub record GivesForm (P : Parts) (d : DraftValue) (y : List ℕ) (p t : ℕ) : Type 0 where
   pub begun : (b : ℕ) → FormHas P.nullable P.first y b → Holds d.looks t b
-  pub linked : All (marked P.nullable) y → Linked d.links p t
+  pub linked : All (Has P.nullable) y → Link d.links p t
 
 -- the closure rule is kept from the item i of state q, with the row p
 abbrev pub OpensAt : Parts → DraftValue → ℕ → Item → ℕ → Type 0
 OpensAt P d q i p =
     (n t : ℕ) (y : List ℕ) → drop i.dot (body_of P.grammar.bare i.rule) ≡ left_of P.grammar.bare n ∷
-        y → PlaceIn P q (record { rule = n; dot = 0 }) t → GivesForm P d y p t
+    y → PlaceIn P q (record { rule = n; dot = 0 }) t → GivesForm P d y p t
 
 -- the goto rule is kept from there
 abbrev pub ShiftsAt : Parts → DraftValue → ℕ → Item → ℕ → Type 0
 ShiftsAt P d q i p =
     (x n t : ℕ) (y : List ℕ) → drop i.dot (body_of P.grammar.bare i.rule) ≡ x ∷ y → x ≢ end_token →
-        goto_of P.gotos q x ≡ Some n → PlaceIn P n (step_of i) t → Linked d.links p t
+    goto_of P.gotos q x ≡ Some n → PlaceIn P n (step_of i) t → Link d.links p t
 
 -- both are
 pub record ServesAt (P : Parts) (d : DraftValue) (q : ℕ) (i : Item) (p : ℕ) : Type 0 where

@@ -2,6 +2,7 @@ pub mod Collection
 pub mod Draft
 pub mod Finder
 pub mod First
+pub mod Fronts
 pub mod Gotos
 pub mod Items
 pub mod Links

@@ -8,26 +8,26 @@ abbrev pub links_of : List (List ℕ) → ℕ → List ℕ
 links_of l p = slice_index_or l p []
 
 -- there is a link from p to t
-abbrev pub Linked : List (List ℕ) → ℕ → ℕ → Type 0
-Linked l p t = Contains (slice_index_or l p []) t
+abbrev pub Link : List (List ℕ) → ℕ → ℕ → Type 0
+Link l p t = Contains (slice_index_or l p []) t
 
 -- the links are between so many rows
 pub record AreLinks (n : ℕ) (l : List (List ℕ)) : Type 0 where
   pub sized : length l ≡ n
-  pub within : (p t : ℕ) → Linked l p t → t < n
+  pub within : (p t : ℕ) → Link l p t → t < n
 
 -- links were only added
 abbrev pub MoreLinks : List (List ℕ) → List (List ℕ) → Type 0
-MoreLinks l n = (p t : ℕ) → Linked l p t → Linked n p t
+MoreLinks l n = (p t : ℕ) → Link l p t → Link n p t
 
 -- row t gets c along the links from a row that has it
 pub data Reaches (l : List (List ℕ)) (m : BitRows) : ℕ → ℕ → Type 0 where
   given : {p c : ℕ} → Holds m p c → Reaches l m p c
-  passed : {p t c : ℕ} → Reaches l m p c → Linked l p t → Reaches l m t c
+  passed : {p t c : ℕ} → Reaches l m p c → Link l p t → Reaches l m t c
 
 -- what row p has is passed on
-abbrev pub PassedOn : List (List ℕ) → BitRows → ℕ → Type 0
-PassedOn l m p = (t c : ℕ) → Linked l p t → Holds m p c → Holds m t c
+abbrev pub PassesOn : List (List ℕ) → BitRows → ℕ → Type 0
+PassesOn l m p = (t c : ℕ) → Link l p t → Holds m p c → Holds m t c
 
 -- the rows n are the rows m with all that is passed on
 abbrev pub IsSpread : List (List ℕ) → BitRows → BitRows → Type 0

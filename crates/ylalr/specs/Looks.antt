@@ -4,9 +4,11 @@ use Rattle.std.specs.Prelude.{ℕ, suc, Bool, ◌≡◌, ◌≢◌, ◌<◌, ◌
 use Rattle.std.specs.Prelude.{slice_index, drop, take, All, Option, Some}
 use Rattle.ygrammar.specs.Grammar.{ContextFree, left_of, body_of, end_token}
 use Rattle.ygrammar.specs.Forms.{First}
+use Rattle.ygrammar.specs.WellFormed.{WellFormed}
 use Rattle.ylalr.specs.declared.items.Item.{Item}
 use Rattle.ylalr.specs.declared.gotos.Goto.{Goto}
-use Rattle.ylalr.specs.Marks.{marked}
+use Rattle.ylalr.specs.Collection.{most_states}
+use Rattle.ylalr.specs.Marks.{Has}
 use Rattle.ylalr.specs.Rows.{BitRows, Holds, IsSized}
 use Rattle.ylalr.specs.First.{IsNullable, IsFirst}
 use Rattle.ylalr.specs.Sets.{step_of}
@@ -34,7 +36,7 @@ StartLooks s l m = (p : ℕ) → IsPlace s l 0 start_item p → Holds m p end_to
 abbrev pub ClosesBy : ContextFree → StateLists → Places → BitRows → ℕ → Item → ℕ → ℕ → Type 0
 ClosesBy g s l m q i p n =
     (y : List ℕ) (a b t : ℕ) → Holds m p a → drop i.dot (body_of g i.rule) ≡ left_of g n ∷ y →
-        First g (y ++ a ∷ []) b → IsPlace s l q (record { rule = n; dot = 0 }) t → Holds m t b
+    First g (y ++ a ∷ []) b → IsPlace s l q (record { rule = n; dot = 0 }) t → Holds m t b
 
 -- nor by any rule
 abbrev pub ClosesAt : ContextFree → StateLists → Places → BitRows → ℕ → Item → ℕ → Type 0
@@ -45,8 +47,9 @@ abbrev pub MovesAt : ContextFree → (ℕ → ℕ → Option ℕ) → StateLists
     ℕ → Type 0
 MovesAt g to s l m q i p =
     (x n : ℕ) (y : List ℕ) (a t : ℕ) → Holds m p a → drop i.dot (body_of g i.rule) ≡ x ∷ y →
-        x ≢ end_token → to q x ≡ Some n → IsPlace s l n (step_of i) t → Holds m t a
+    x ≢ end_token → to q x ≡ Some n → IsPlace s l n (step_of i) t → Holds m t a
 
+-- neither rule adds anything from the item i of state q, at place p
 pub record PlaceClosed (g : ContextFree) (to : ℕ → ℕ → Option ℕ) (s : StateLists) (l : Places)
     (m : BitRows) (q : ℕ) (i : Item) (p : ℕ) : Type 0 where
   pub closes : ClosesAt g s l m q i p
@@ -57,6 +60,7 @@ abbrev pub StateClosed : ContextFree → (ℕ → ℕ → Option ℕ) → StateL
     Type 0
 StateClosed g to s l m q = (i : Item) (p : ℕ) → IsPlace s l q i p → PlaceClosed g to s l m q i p
 
+-- the rows are closed: they have the end token, and no rule adds anything
 pub record ClosedLooks (g : ContextFree) (to : ℕ → ℕ → Option ℕ) (s : StateLists) (l : Places)
     (m : BitRows) : Type 0 where
   pub start : StartLooks s l m
@@ -66,18 +70,19 @@ pub record ClosedLooks (g : ContextFree) (to : ℕ → ℕ → Option ℕ) (s : 
 pub record FormHas (n : List Bool) (m : BitRows) (x : List ℕ) (t : ℕ) : Type 0 where
   pub place : ℕ
   pub within : place < length x
-  pub before : All (marked n) (take place x)
+  pub before : All (Has n) (take place x)
   pub there : Holds m (slice_index x place) t
 
 -- what holds of all that the lookaheads are made from
 pub record Fit (g : ContextFree) (nullable : List Bool) (first : BitRows) (s : StateLists)
     (rows : List (List Goto)) (l : Places) : Type 0 where
+  pub well_formed : WellFormed g
   pub marks : length nullable ≡ g.symbols
   pub nullable_exact : IsNullable g nullable
   pub first_sized : IsSized g.symbols g.tokens first
   pub first_exact : IsFirst g first
   pub states : AreStates g s
-  pub few : length s.closures ≤ 16384
+  pub few : length s.closures ≤ most_states
   pub counted : length rows ≡ length s.closures
   pub gotos : RowsAre g s (length s.closures) rows
   pub places : ArePlaces g s l

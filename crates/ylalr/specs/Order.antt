@@ -3,7 +3,7 @@ use Rattle.std.specs.Prelude.{ℕ, ◌<◌, ◌⊎◌, Bool, List, length, All}
 use Rattle.std.specs.List.{Contains}
 use Rattle.ylalr.specs.declared.order.Turn.{Turn}
 use Rattle.ylalr.specs.declared.order.Turn.TheVariants.{Enter, Leave}
-use Rattle.ylalr.specs.Marks.{marked}
+use Rattle.ylalr.specs.Marks.{Has}
 
 -- the row whose turn it is
 abbrev pub row_of : Turn → ℕ
@@ -14,4 +14,4 @@ row_of (Leave p) = p
 pub record AreTurns (m : List Bool) (v : List Turn) (o : List ℕ) : Type 0 where
   pub turns : All (λ t. row_of t < length m) v
   pub order : All (λ p. p < length m) o
-  pub left : (p : ℕ) → marked m p → Contains o p ⊎ Contains v (Leave p)
+  pub left : (p : ℕ) → Has m p → Contains o p ⊎ Contains v (Leave p)

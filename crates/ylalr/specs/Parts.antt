@@ -9,6 +9,7 @@ use Rattle.ylalr.specs.Looks.{Fit, SoundLooks, ClosedLooks}
 abbrev pub collection_of : Parts → Collection
 collection_of p = record { grammar = p.grammar; states = p.states.closures; gotos = p.gotos }
 
+-- the parts are those of one grammar
 abbrev pub FitParts : Parts → Type 0
 FitParts p = Fit p.grammar.bare p.nullable p.first p.states p.gotos p.places
 

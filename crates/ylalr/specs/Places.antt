@@ -12,6 +12,7 @@ pub record Places : Type 0 where
   pub rows : List (List ℕ)
   pub total : ℕ
 
+-- the rows of the items of state q
 abbrev pub rows_at : Places → ℕ → List ℕ
 rows_at l q = slice_index_or l.rows q []
 
@@ -23,34 +24,34 @@ pub record At (items : List Item) (rows : List ℕ) (i : Item) (p : ℕ) : Type 
   pub row : p ≡ slice_index_or rows index 0
 
 -- the items of one left side with the dot at 0
-abbrev pub Opened : ContextFree → ℕ → Item → Type 0
-Opened g s i = (i.dot ≡ 0) × (left_of g i.rule ≡ s)
+abbrev pub Starts : ContextFree → ℕ → Item → Type 0
+Starts g s i = (i.dot ≡ 0) × (left_of g i.rule ≡ s)
 
 -- the items i and k are one, or both are of one left side with the dot at 0
 abbrev pub Shares : ContextFree → Item → Item → Type 0
-Shares g i k = (i ≡ k) ⊎ ((i.dot ≡ 0) × Opened g (left_of g i.rule) k)
+Shares g i k = (i ≡ k) ⊎ ((i.dot ≡ 0) × Starts g (left_of g i.rule) k)
 
 -- the rows of the items of one state: two items have one row where they share it, and only there
 pub record AreRows (g : ContextFree) (items : List Item) (rows : List ℕ) : Type 0 where
   pub sized : length rows ≡ length items
   pub apart : (i k : Item) (p : ℕ) → At items rows i p → At items rows k p → Shares g i k
   pub shared : (i k : Item) (p t : ℕ) → At items rows i p → At items rows k t → i.dot ≡ 0 →
-      Opened g (left_of g i.rule) k → p ≡ t
+      Starts g (left_of g i.rule) k → p ≡ t
 
 -- the rows from first on and below end are those of these items
 pub record FillRows (g : ContextFree) (items : List Item) (rows : List ℕ) (first end : ℕ) : Type 0
-    where
-  pub are : AreRows g items rows
-  pub bounds : (i : Item) (p : ℕ) → At items rows i p → (first ≤ p) × (p < end)
-  pub rising : first ≤ end
-  pub short : end ≤ first + length items
+  where
+    pub are : AreRows g items rows
+    pub bounds : (i : Item) (p : ℕ) → At items rows i p → (first ≤ p) × (p < end)
+    pub rising : first ≤ end
+    pub short : end ≤ first + length items
 
 -- by left side the row of its items with the dot at 0
 pub record AreLefts (g : ContextFree) (items : List Item) (rows : List ℕ)
     (lefts : List (Option ℕ)) : Type 0 where
   pub sized : length lefts ≡ g.symbols
   pub found : (s p : ℕ) → slice_index_or lefts s None ≡ Some p → (i : Item) × At items rows i p ×
-      Opened g s i
+      Starts g s i
   pub every : (i : Item) (p : ℕ) → At items rows i p → i.dot ≡ 0 → slice_index_or lefts
       (left_of g i.rule) None ≡ Some p
 
@@ -65,8 +66,8 @@ abbrev pub TakesRow : ContextFree → Item → ℕ → List (Option ℕ) → Lis
 TakesRow g i fresh old new p =
     ((i.dot ≡ 0) × (slice_index_or old (left_of g i.rule) None ≡ Some p) × (new ≡ old))
     ⊎ ((p ≡ fresh) × (((0 < i.dot) × (new ≡ old)) ⊎
-        ((i.dot ≡ 0) × (slice_index_or old (left_of g i.rule) None ≡ None) ×
-        (new ≡ slice_set old (left_of g i.rule) (Some fresh)))))
+    ((i.dot ≡ 0) × (slice_index_or old (left_of g i.rule) None ≡ None) ×
+    (new ≡ slice_set old (left_of g i.rule) (Some fresh)))))
 
 -- p is the row of the item i of state q
 pub record IsPlace (s : StateLists) (l : Places) (q : ℕ) (i : Item) (p : ℕ) : Type 0 where

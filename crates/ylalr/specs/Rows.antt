@@ -35,9 +35,14 @@ abbrev pub room : BitRows → ℕ
 room m = sum_by (λ w. 2 ^ 64 - 1 - w) m.words
 
 -- the rows with one word united with another
-abbrev pub united : BitRows → ℕ → ℕ → BitRows
-united m at more = record { height = m.height; width = m.width; span = m.span; words =
-    slice_set m.words at (bit_or (slice_index_or m.words at 0) more) }
+abbrev pub unite : BitRows → ℕ → ℕ → BitRows
+unite m at more = record {
+  height = m.height;
+  width = m.width;
+  span = m.span;
+  words =
+      slice_set m.words at (bit_or (slice_index_or m.words at 0) more);
+}
 
 -- n has in row `to` also what the row `from` of another has
 abbrev pub AddsFrom : BitRows → BitRows → ℕ → BitRows → ℕ → Type 0
@@ -49,7 +54,7 @@ abbrev pub Grows : BitRows → BitRows → Type 0
 Grows m n = (r c : ℕ) → Holds m r c → Holds n r c
 
 -- bits were only set, and some were where changed is true
-pub record Grown (m n : BitRows) (changed : Bool) : Type 0 where
+pub record GrowsIf (m n : BitRows) (changed : Bool) : Type 0 where
   pub rows : n.height ≡ m.height
   pub columns : n.width ≡ m.width
   pub grows : Grows m n

@@ -4,7 +4,7 @@ ghost use Rattle.std.specs.Prelude.{◌≡◌, ◌<◌, ◌≤◌, ◌↔◌, []
 ghost use Rattle.ygrammar.specs.Forms.{Nullable, First};
 ghost use Rattle.ylalr.specs.Items.{Lookahead};
 ghost use Rattle.ylalr.specs.Collection.{Collection, HasStates, IsGoto, goto_in, Guide, IsGuide};
-ghost use Rattle.ylalr.specs.Collection.{TooMany, bare_of, state_of};
+ghost use Rattle.ylalr.specs.Collection.{TooMany, bare_of, most_states, state_of};
 ghost use Rattle.ylalr.specs.Parts.{FitParts};
 ghost use Rattle.ylalr.specs.declared.fault.BuildFault.{BuildFault};
 
@@ -44,6 +44,7 @@ fn prepare(alloc: Global, grammar: Grammar) -> Result<Parts, BuildFault>
     ensures fit { IfOk result (λ p. FitParts p) }
     ensures too_many { IfErr result (λ e. e ≡ BuildFault.TooManySets → TooMany grammar.bare) }
 {
+    let _well_formed = grammar.symbols();
     let nullable = nullable_symbols(alloc, &grammar)?;
     let first = first_tokens(alloc, &grammar, &nullable)?;
     let (states, gotos) = all_states(alloc, &grammar)?;
@@ -65,10 +66,9 @@ fn prepare(alloc: Global, grammar: Grammar) -> Result<Parts, BuildFault>
 pub fn build(alloc: Global, grammar: Grammar) -> Result<Automaton, BuildFault>
     ensures grammar { IfOk result (λ a. a.grammar ≡ grammar) }
     ensures states { IfOk result (λ a. HasStates a) }
-    ensures few { IfOk result (λ a. length a.states ≤ 16384) }
+    ensures few { IfOk result (λ a. length a.states ≤ most_states) }
     ensures too_many { IfErr result (λ e. e ≡ BuildFault.TooManySets → TooMany grammar.bare) }
 {
-    let _symbols = grammar.symbols();
     let parts = prepare(alloc, grammar)?;
     let looks = all_looks(alloc, &parts)?;
     Ok(Automaton { parts, looks })
@@ -91,7 +91,6 @@ impl Automaton {
         ensures states { HasStates self.now }
         ensures guide { (u : Guide) × IsGuide self.now u }
     {
-        let _symbols = self.parts.grammar.symbols();
         self.parts.states.count()
     }
 
@@ -113,7 +112,6 @@ impl Automaton {
         ensures value { result ≡ goto_in self.now q x }
         ensures exact { IsGoto self.now q x result }
     {
-        let _symbols = self.parts.grammar.symbols();
         self.parts.gotos.get(q, x)
     }
 

@@ -1,18 +1,20 @@
 //! The closure of a kernel: its items and the first items of the rules that they lead to.
 
 ghost use Rattle.std.specs.Prelude.{◌≡◌, ◌<◌, ◌≤◌, ◌+◌, ◌^◌, All, OnOk, IfOk};
+ghost use Rattle.ygrammar.specs.Grammar.{most_rules};
 ghost use Rattle.ylalr.specs.Rows.{IsSized};
-ghost use Rattle.ylalr.specs.Sets.{AreOpens, HasRules, Wants, IsClosure, IsAscending, InRange};
-ghost use Rattle.ylalr.specs.Sets.{AddsOpened, IsMerged};
+ghost use Rattle.ylalr.specs.Sets.{AreFirstRules, HasRules, Wants, IsClosure, IsAscending, InRange};
+ghost use Rattle.ylalr.specs.Sets.{AddsFirst, IsMerged};
 
-use crate::items::{Item, ItemList, symbol_after};
+use crate::items::{Item, symbol_after};
+use crate::list::Sequence;
 use crate::rows::Rows;
 use std::alloc::{AllocError, Global};
 use ygrammar::Grammar;
 
 /// Sets the row of rules that the kernel's items lead to.
-fn want(grammar: &Grammar, opens: &Rows, kernel: &[Item], wanted: &mut Rows)
-    requires opens { AreOpens grammar.now.bare opens.now }
+fn want(grammar: &Grammar, first_rules: &Rows, kernel: &[Item], wanted: &mut Rows)
+    requires first_rules { AreFirstRules grammar.now.bare first_rules.now }
     requires range { InRange grammar.now.bare kernel.now }
     requires wanted { HasRules grammar.now.bare 1 wanted.old }
     ensures sized { HasRules grammar.now.bare 1 wanted.new }
@@ -21,14 +23,14 @@ fn want(grammar: &Grammar, opens: &Rows, kernel: &[Item], wanted: &mut Rows)
     wanted.clear();
     for item in kernel {
         if let Some(s) = symbol_after(grammar, *item) {
-            wanted.add_from(0, opens, s);
+            wanted.add_from(0, first_rules, s);
         }
     }
 }
 
 /// Adds the first items of the wanted rules from `from` up to `to`.
 fn push_opened(
-    items: &mut ItemList,
+    items: &mut Sequence<Item>,
     wanted: &Rows,
     from: usize,
     to: usize,
@@ -40,7 +42,7 @@ fn push_opened(
     requires below { All (λ i. i.rule < from) items.old }
     ensures ascending { OnOk result (IsAscending items.new) }
     ensures below { OnOk result (All (λ i. i.rule < to) items.new) }
-    ensures exact { OnOk result (AddsOpened wanted.now from to items.old items.new) }
+    ensures exact { OnOk result (AddsFirst wanted.now from to items.old items.new) }
 {
     let mut r = from;
     while r < to {
@@ -73,15 +75,15 @@ fn merge(
     rules: usize,
     wanted: &Rows,
     kernel: &[Item],
-) -> Result<ItemList, AllocError>
+) -> Result<Sequence<Item>, AllocError>
     requires sized { IsSized 1 rules wanted.now }
-    requires few { rules ≤ 8192 }
+    requires few { rules ≤ most_rules }
     requires ascending { IsAscending kernel.now }
     requires range { All (λ i. i.rule < rules) kernel.now }
     ensures ascending { IfOk result (λ w. IsAscending w) }
     ensures exact { IfOk result (λ w. IsMerged wanted.now kernel.now w) }
 {
-    let mut items = ItemList::new(alloc);
+    let mut items = Sequence::new(alloc);
     let mut at = 0;
     for item in kernel {
         push_opened(&mut items, wanted, at, until(*item))?;
@@ -96,11 +98,11 @@ fn merge(
 pub fn closure(
     alloc: Global,
     grammar: &Grammar,
-    opens: &Rows,
+    first_rules: &Rows,
     wanted: &mut Rows,
     kernel: &[Item],
-) -> Result<ItemList, AllocError>
-    requires opens { AreOpens grammar.now.bare opens.now }
+) -> Result<Sequence<Item>, AllocError>
+    requires first_rules { AreFirstRules grammar.now.bare first_rules.now }
     requires range { InRange grammar.now.bare kernel.now }
     requires ascending { IsAscending kernel.now }
     requires wanted { HasRules grammar.now.bare 1 wanted.old }
@@ -109,8 +111,8 @@ pub fn closure(
     ensures ascending { IfOk result (λ w. IsAscending w) }
     ensures range { IfOk result (λ w. InRange grammar.now.bare w) }
 {
-    let _symbols = grammar.symbols();
-    want(grammar, opens, kernel, wanted);
+    let _well_formed = grammar.symbols();
+    want(grammar, first_rules, kernel, wanted);
     let items = merge(alloc, grammar.rules(), wanted, kernel)?;
     Ok(items)
 }

@@ -5,17 +5,18 @@ ghost use Rattle.ylalr.specs.Gotos.{IsAscendingRow};
 ghost use Rattle.ylalr.specs.States.{AreStates, Extends, IsFresh, HasKernel, IsNumber, IsSorted};
 ghost use Rattle.ylalr.specs.States.{MayJoin, RowIs, AreCollected};
 ghost use Rattle.ylalr.specs.Collection.{IsFault};
-ghost use Rattle.ylalr.specs.Sets.{AreOpens, HasRules};
+ghost use Rattle.ylalr.specs.Sets.{AreFirstRules, HasRules};
 ghost use Rattle.ylalr.specs.Finder.{FitFinder};
 
 use crate::buckets::Kernels;
 use crate::closure::closure;
 use crate::fault::BuildFault;
-use crate::gotos::{Goto, GotoRow, Gotos};
+use crate::first_rules::first_rules;
+use crate::gotos::{Goto, Gotos};
 use crate::items::Item;
-use crate::opens::opened_rules;
+use crate::list::Sequence;
 use crate::rows::Rows;
-use crate::states::{Kernel, LIMIT, States};
+use crate::states::{Kernel, MOST_STATES, States};
 use std::alloc::{AllocError, Global};
 use ygrammar::Grammar;
 
@@ -23,7 +24,7 @@ use ygrammar::Grammar;
 /// rules to work in.
 #[derive(Drop)]
 pub struct Finder {
-    pub opens: Rows,
+    pub first_rules: Rows,
     pub wanted: Rows,
     pub states: States,
 }
@@ -46,12 +47,12 @@ fn join(
     let items = closure(
         alloc,
         grammar,
-        &finder.opens,
+        &finder.first_rules,
         &mut finder.wanted,
         kernel.as_slice(),
     )?;
     let n = finder.states.count();
-    if n >= LIMIT {
+    if n >= MOST_STATES {
         return Err(BuildFault::TooManySets);
     }
     finder.states.push(kernel, items)?;
@@ -93,7 +94,7 @@ fn gotos_of(
     kernels: &mut Kernels,
     finder: &mut Finder,
     q: usize,
-) -> Result<GotoRow, BuildFault>
+) -> Result<Sequence<Goto>, BuildFault>
     requires fit { FitFinder grammar.now.bare finder.old }
     requires sorted { IsSorted grammar.now.bare.symbols kernels.old }
     requires state { q < length finder.old.states.closures }
@@ -105,7 +106,7 @@ fn gotos_of(
     ensures fault { IfErr result (λ e. IsFault grammar.now.bare e) }
 {
     kernels.fill(grammar, finder.states.items(q))?;
-    let mut row = GotoRow::new(alloc);
+    let mut row = Sequence::new(alloc);
     let symbols = grammar.symbols();
     let mut x = 0;
     while x < symbols {
@@ -126,19 +127,19 @@ fn gotos_of(
 fn first_state(
     alloc: Global,
     grammar: &Grammar,
-    opens: &Rows,
+    first_rules: &Rows,
     wanted: &mut Rows,
 ) -> Result<States, AllocError>
-    requires opens { AreOpens grammar.now.bare opens.now }
+    requires first_rules { AreFirstRules grammar.now.bare first_rules.now }
     requires wanted { HasRules grammar.now.bare 1 wanted.old }
     ensures wanted { OnOk result (HasRules grammar.now.bare 1 wanted.new) }
     ensures states { IfOk result (λ s. AreStates grammar.now.bare s) }
     ensures one { IfOk result (λ s. length s.closures ≡ 1) }
 {
-    let _symbols = grammar.symbols();
+    let _well_formed = grammar.symbols();
     let start = [Item { rule: 0, dot: 0 }];
     let key = Kernel::from_slice(alloc, &start)?;
-    let items = closure(alloc, grammar, opens, wanted, key.as_slice())?;
+    let items = closure(alloc, grammar, first_rules, wanted, key.as_slice())?;
     let mut states = States::new(alloc)?;
     states.push(key, items)?;
     Ok(states)
@@ -148,12 +149,12 @@ fn first_state(
 fn start_finder(alloc: Global, grammar: &Grammar) -> Result<Finder, AllocError>
     ensures { IfOk result (λ f. FitFinder grammar.now.bare f) }
 {
-    let _symbols = grammar.symbols();
-    let opens = opened_rules(alloc, grammar)?;
+    let _well_formed = grammar.symbols();
+    let first_rules = first_rules(alloc, grammar)?;
     let mut wanted = Rows::new(alloc, 1, grammar.rules())?;
-    let states = first_state(alloc, grammar, &opens, &mut wanted)?;
+    let states = first_state(alloc, grammar, &first_rules, &mut wanted)?;
     Ok(Finder {
-        opens,
+        first_rules,
         wanted,
         states,
     })

@@ -3,6 +3,7 @@
 ghost use Rattle.std.specs.Prelude.{◌≡◌, ◌<◌, ◌++◌, [], ◌∷◌, length, slice_index_or, OnOk};
 ghost use Rattle.ylalr.specs.Gotos.{lookup, goto_of, IsAscendingRow};
 
+use crate::list::Sequence;
 use std::alloc::{AllocError, Global};
 use std::marker::Model;
 use ygrammar::Sym;
@@ -14,51 +15,10 @@ pub struct Goto {
     pub state: usize,
 }
 
-/// The gotos of one state.
-#[derive(Drop)]
-pub struct GotoRow {
-    list: Vec<Goto>,
-}
-
-impl Model for GotoRow {
-    ghost use Rattle.std.specs.Prelude.{List};
-    ghost use Rattle.ylalr.specs.declared.gotos.Goto.{Goto};
-
-    ghost Value = { List Goto };
-
-    ghost view = { λ l. l.list.items };
-}
-
-impl GotoRow {
-    /// No gotos.
-    pub fn new(alloc: Global) -> GotoRow
-        ensures { result ≡ [] }
-    {
-        GotoRow {
-            list: Vec::new(alloc),
-        }
-    }
-
-    /// Adds a goto at the end.
-    pub fn push(&mut self, goto: Goto) -> Result<(), AllocError>
-        ensures { OnOk result (self.new ≡ self.old ++ goto ∷ []) }
-    {
-        self.list.push(goto)?;
-        Ok(())
-    }
-
-    /// The gotos.
-    pub fn as_slice(&self) -> &[Goto]
-        ensures { result.now ≡ self.now }
-    {
-        self.list.as_slice()
-    }
-}
-
 /// The gotos of all states so far.
 #[derive(Drop)]
 pub struct Gotos {
-    rows: Vec<GotoRow>,
+    rows: Vec<Sequence<Goto>>,
 }
 
 impl Model for Gotos {
@@ -97,7 +57,7 @@ impl Gotos {
     }
 
     /// Adds the gotos of the next state.
-    pub fn push(&mut self, row: GotoRow) -> Result<(), AllocError>
+    pub fn push(&mut self, row: Sequence<Goto>) -> Result<(), AllocError>
         ensures { OnOk result (self.new ≡ self.old ++ row ∷ []) }
     {
         self.rows.push(row)?;
@@ -110,19 +70,8 @@ fn seek(row: &[Goto], x: Sym) -> Option<usize>
     requires { IsAscendingRow row.now }
     ensures { result ≡ lookup row.now x }
 {
-    let mut low = 0;
-    let mut high = row.len();
-    while low < high {
-        let mid = low + (high - low) / 2;
-        let found = row[mid];
-        if found.symbol == x {
-            return Some(found.state);
-        }
-        if found.symbol < x {
-            low = mid + 1;
-        } else {
-            high = mid;
-        }
+    match row.binary_search_by_key(&x, |goto| goto.symbol) {
+        Ok(at) => Some(row[at].state),
+        Err(_) => None,
     }
-    None
 }

@@ -1,9 +1,9 @@
 //! The rows that the left sides of one state have: each is that of all items of the left side
 //! with the dot at 0.
 
-ghost use Rattle.std.specs.Prelude.{ℕ, ◌≡◌, ◌<◌, ◌≤◌, Some, None, length, slice_index_or, slice_set};
-ghost use Rattle.std.specs.Prelude.{IfOk};
-ghost use Rattle.ygrammar.specs.Grammar.{left_of};
+ghost use Rattle.std.specs.Prelude.{ℕ, ◌≡◌, ◌<◌, ◌≤◌, Some, None, length, slice_index_or};
+ghost use Rattle.std.specs.Prelude.{slice_set, IfOk};
+ghost use Rattle.ygrammar.specs.Grammar.{left_of, most_symbols};
 ghost use Rattle.ylalr.specs.Places.{AreLefts, AreRows, TakesRow};
 ghost use Rattle.ylalr.specs.Sets.{InRange};
 
@@ -35,7 +35,7 @@ impl Model for Lefts {
 impl Lefts {
     /// No rows, for so many symbols.
     pub fn new(alloc: Global, symbols: usize) -> Result<Lefts, AllocError>
-        requires { symbols ≤ 8192 }
+        requires { symbols ≤ most_symbols }
         ensures { IfOk result (λ l. length l ≡ symbols) }
     {
         let rows = vec![in alloc; None; symbols]?;
@@ -94,7 +94,7 @@ impl Lefts {
         requires rule { item.rule < length grammar.now.bare.rules }
         ensures { TakesRow grammar.now.bare item fresh self.old self.new result }
     {
-        let _symbols = grammar.symbols();
+        let _well_formed = grammar.symbols();
         if item.dot > 0 {
             return fresh;
         }
@@ -114,7 +114,7 @@ impl Lefts {
             self.new ≡ slice_set self.old (left_of grammar.now.bare item.rule) (Some row) }
         ensures moved { 0 < item.dot → self.new ≡ self.old }
     {
-        let _symbols = grammar.symbols();
+        let _well_formed = grammar.symbols();
         if item.dot == 0 {
             self.set(grammar.rule(item.rule).left(), row);
         }
@@ -127,7 +127,7 @@ impl Lefts {
         requires rows { AreRows grammar.now.bare items.now rows.now }
         ensures { AreLefts grammar.now.bare items.now rows.now self.new }
     {
-        let _symbols = grammar.symbols();
+        let _well_formed = grammar.symbols();
         self.clear();
         for k in 0..items.len() {
             self.note(grammar, items[k], rows[k]);

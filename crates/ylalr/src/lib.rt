@@ -2,7 +2,7 @@
 //! Ullman, section 4.7).
 //!
 //! `build` goes one way. From the rules: which symbols vanish (`nullable`), what each begins with
-//! (`first`), and which rules a symbol after a dot opens (`opens`). From these the states
+//! (`first`), and which rules it leads to after a dot (`first_rules`). From these the states
 //! (`collection`): a state is its kernel, by which an `indexmap` numbers it, and the closure of
 //! that, a list of items by rule and dot. The items of a state sorted by the symbol after the dot
 //! (`buckets`) are the kernels of its gotos, and each state has a list of those by symbol
@@ -11,8 +11,8 @@
 //! What is passed on from one to another stands in rows of bits (`rows`), with links between the
 //! rows (`links`): rows give along their links until none grows (`spread`). A row that grew waits
 //! in a queue, at most once, until it is taken from the front (`waiting`); at first all wait, most
-//! in front of those to which they lead (`order`). So left sides get the first tokens of what
-//! their bodies can begin with, and the rules that the first symbols of their bodies open.
+//! in front of those to which they lead (`order`). So left sides get the first tokens and the
+//! first rules of what their bodies can begin with (`fronts`).
 //!
 //! Lookaheads go the same way, one bit for each token. In each state every item of the kernel has
 //! a row of its own, and the items of one left side with the dot at 0, whose lookaheads are the
@@ -20,6 +20,8 @@
 //! left side after a dot what the form behind it begins with, and links an item's row to that of
 //! the item with its dot moved, in the goto's state, and to that of the left side after its dot,
 //! where the form behind vanishes.
+//!
+//! A call whose result is `_well_formed` is made for its clause alone, that the grammar is so.
 //!
 //! Of the definitions in specs/, public clauses rest on `Collection`, `Gotos`, `Items` and
 //! `Sets`; the others are between modules.
@@ -31,14 +33,16 @@ mod closure;
 mod collection;
 mod fault;
 mod first;
+mod first_rules;
+mod fronts;
 mod gotos;
 mod items;
 mod lefts;
 mod links;
+mod list;
 mod looks;
 mod marks;
 mod nullable;
-mod opens;
 mod order;
 mod places;
 mod rows;
@@ -50,4 +54,4 @@ mod waiting;
 pub use automaton::{Automaton, build};
 pub use fault::BuildFault;
 pub use items::Item;
-pub use tokens::token_count;
+pub use tokens::{END, token_count};

@@ -3,27 +3,14 @@
 ghost use Rattle.std.specs.Prelude.{ℕ, ◌≡◌, ◌<◌, ◌++◌, [], ◌∷◌, length, slice_set, All, IfOk, OnOk};
 ghost use Rattle.ylalr.specs.Links.{links_of};
 
+use crate::list::Sequence;
 use std::alloc::{AllocError, Global};
 use std::marker::Model;
-
-/// The rows to which one row gives.
-#[derive(Drop)]
-struct LinkList {
-    rows: Vec<usize>,
-}
-
-impl Model for LinkList {
-    ghost use Rattle.std.specs.Prelude.{ℕ, List};
-
-    ghost Value = { List ℕ };
-
-    ghost view = { λ l. l.rows.items };
-}
 
 /// For each row those to which it gives.
 #[derive(Drop)]
 pub struct Links {
-    lists: Vec<LinkList>,
+    lists: Vec<Sequence<usize>>,
 }
 
 impl Model for Links {
@@ -42,9 +29,7 @@ impl Links {
     {
         let mut lists = Vec::new(alloc);
         for _ in 0..count {
-            lists.push(LinkList {
-                rows: Vec::new(alloc),
-            })?;
+            lists.push(Sequence::new(alloc))?;
         }
         Ok(Links { lists })
     }
@@ -56,7 +41,7 @@ impl Links {
             (self.new ≡ slice_set self.old from (links_of self.old from ++ to ∷ [])) }
     {
         let list = &mut self.lists[from];
-        list.rows.push(to)?;
+        list.push(to)?;
         Ok(())
     }
 
@@ -65,6 +50,6 @@ impl Links {
         requires { p < length self.now }
         ensures { result.now ≡ links_of self.now p }
     {
-        self.lists[p].rows.as_slice()
+        self.lists[p].as_slice()
     }
 }

@@ -6,7 +6,7 @@ ghost use Rattle.ylalr.specs.Draft.{IsHere, LeftsIn, SoundDraft, Further, IsMove
 ghost use Rattle.ylalr.specs.Draft.{ShiftsAt, ServesAt, ServesState, ServesAll, StartsDraft};
 ghost use Rattle.ylalr.specs.Draft.{FirstSized, AddsAtMost, HasForm};
 ghost use Rattle.ylalr.specs.Items.{Lookahead};
-ghost use Rattle.ylalr.specs.Marks.{marked};
+ghost use Rattle.ylalr.specs.Marks.{Has};
 ghost use Rattle.ylalr.specs.Parts.{FitParts, Whole};
 ghost use Rattle.ylalr.specs.Rows.{Grows, IsSized};
 ghost use Rattle.ylalr.specs.States.{set_at};
@@ -20,13 +20,10 @@ use crate::places::{Places, place_of};
 use crate::rows::Rows;
 use crate::spread::spread;
 use crate::states::States;
-use crate::tokens::token_count;
+use crate::tokens::{END, token_count};
 use std::alloc::{AllocError, Global};
 use std::marker::Model;
 use ygrammar::{Grammar, Sym};
-
-/// The number of `$end`, the lookahead of the first item.
-const END: Sym = 0;
 
 /// What the lookaheads are made from.
 #[derive(Drop)]
@@ -73,7 +70,7 @@ fn add_form(parts: &Parts, form: &[Sym], looks: &mut Rows, to: usize) -> bool
     ensures grows { Grows looks.old looks.new }
     ensures sound { AddsAtMost parts.now form.now to looks.old looks.new }
     ensures every { HasForm parts.now form.now to looks.new }
-    ensures vanishes { IsTrue result ↔ All (marked parts.now.nullable) form.now }
+    ensures vanishes { IsTrue result ↔ All (Has parts.now.nullable) form.now }
 {
     for s in form {
         looks.add_from(to, &parts.first, *s);
@@ -95,7 +92,6 @@ fn open(parts: &Parts, lefts: &Lefts, here: Here, draft: &mut Draft) -> Result<(
     ensures further { OnOk result (Further draft.old draft.new) }
     ensures opens { OnOk result (OpensAt parts.now draft.new here.state here.item here.row) }
 {
-    let _symbols = parts.grammar.symbols();
     let Some(next) = symbol_after(&parts.grammar, here.item) else {
         return Ok(());
     };
@@ -115,7 +111,6 @@ fn moved(parts: &Parts, here: Here) -> Option<usize>
     requires here { IsHere parts.now here }
     ensures { MatchOption result ((t : ℕ) → IsMoved parts.now here t → ⊥) (IsMoved parts.now here) }
 {
-    let _symbols = parts.grammar.symbols();
     let x = moves_over(&parts.grammar, here.item)?;
     let n = parts.gotos.get(here.state, x)?;
     let item = Item {
@@ -134,7 +129,6 @@ fn shift(parts: &Parts, here: Here, draft: &mut Draft) -> Result<(), AllocError>
     ensures further { OnOk result (Further draft.old draft.new) }
     ensures shifts { OnOk result (ShiftsAt parts.now draft.new here.state here.item here.row) }
 {
-    let _symbols = parts.grammar.symbols();
     if let Some(to) = moved(parts, here) {
         draft.links.push(here.row, to)?;
     }
@@ -192,7 +186,6 @@ fn start(alloc: Global, parts: &Parts) -> Result<Draft, AllocError>
     ensures sound { IfOk result (λ d. SoundDraft parts.now d) }
     ensures start { IfOk result (λ d. StartsDraft parts.now d) }
 {
-    let _symbols = parts.grammar.symbols();
     let mut looks = Rows::new(alloc, parts.places.total(), token_count(&parts.grammar))?;
     if let Some(p) = place_of(&parts.states, &parts.places, 0, Item { rule: 0, dot: 0 }) {
         looks.mark(p, END);
@@ -221,7 +214,6 @@ pub fn all_looks(alloc: Global, parts: &Parts) -> Result<Rows, AllocError>
     requires { FitParts parts.now }
     ensures { IfOk result (λ m. Whole parts.now m) }
 {
-    let _symbols = parts.grammar.symbols();
     let Draft { mut looks, links } = draft_of(alloc, parts)?;
     spread(alloc, &links, &mut looks)?;
     Ok(looks)
@@ -235,7 +227,6 @@ pub fn has_look(parts: &Parts, looks: &Rows, q: usize, item: Item, t: Sym) -> bo
     ensures { IsTrue result ↔
         Lookahead parts.now.grammar.bare (set_at parts.now.states.closures q) item t }
 {
-    let _symbols = parts.grammar.symbols();
     if !parts.grammar.is_token(t) {
         return false;
     }

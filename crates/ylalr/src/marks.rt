@@ -2,7 +2,7 @@
 
 ghost use Rattle.std.specs.Prelude.{◌≡◌, ◌+◌, ◌<◌, true, false, length, replicate, slice_set};
 ghost use Rattle.std.specs.Prelude.{slice_index_or, IfOk, if◌then◌else◌};
-ghost use Rattle.ylalr.specs.Marks.{unmarked};
+ghost use Rattle.ylalr.specs.Marks.{gaps};
 
 use std::alloc::{AllocError, Global};
 use std::marker::Model;
@@ -30,6 +30,14 @@ impl Marks {
         Ok(Marks { places })
     }
 
+    /// `n` places, all marked.
+    pub fn all(alloc: Global, n: usize) -> Result<Marks, AllocError>
+        ensures { IfOk result (λ m. m ≡ replicate n true) }
+    {
+        let places = vec![in alloc; true; n]?;
+        Ok(Marks { places })
+    }
+
     /// Whether place `i` is marked.
     pub fn has(&self, i: usize) -> bool
         requires { i < length self.now }
@@ -42,7 +50,7 @@ impl Marks {
     pub fn mark(&mut self, i: usize) -> bool
         requires { i < length self.old }
         ensures set { self.new ≡ slice_set self.old i true }
-        ensures fewer { unmarked self.new + (if result then 1 else 0) ≡ unmarked self.old }
+        ensures fewer { gaps self.new + (if result then 1 else 0) ≡ gaps self.old }
         ensures unchanged { result ≡ false → self.new ≡ self.old }
     {
         let before = self.places[i];

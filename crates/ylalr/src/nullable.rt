@@ -1,10 +1,12 @@
-//! The symbols that derive the empty form, by a list of waiting rules.
+//! The symbols that derive the empty form, by a list of waiting rules. Rules wait here, where rows
+//! wait for tokens and rules (`spread`): a left side needs all symbols of a body, and not just one.
 
 ghost use Rattle.std.specs.Prelude.{◌≡◌, ◌<◌, ◌≤◌, ◌↔◌, length, All, IsTrue, IfOk, OnOk};
-ghost use Rattle.ylalr.specs.Marks.{marked};
-ghost use Rattle.ylalr.specs.Nullable.{SoundNullable, AreUsers, HasUses, UsesMore, Visits};
+ghost use Rattle.ylalr.specs.Marks.{Has};
+ghost use Rattle.ylalr.specs.Nullable.{SoundNullable, AreUsers, Visits};
 ghost use Rattle.ylalr.specs.First.{IsNullable};
 
+use crate::fronts::link_front;
 use crate::links::Links;
 use crate::marks::Marks;
 use crate::waiting::Waiting;
@@ -14,7 +16,7 @@ use ygrammar::{Grammar, Sym};
 /// Whether each symbol of the form is marked.
 fn all_marked(form: &[Sym], marks: &Marks) -> bool
     requires { All (λ s. s < length marks.now) form.now }
-    ensures { IsTrue result ↔ All (marked marks.now) form.now }
+    ensures { IsTrue result ↔ All (Has marks.now) form.now }
 {
     for s in form {
         if !marks.has(*s) {
@@ -24,28 +26,14 @@ fn all_marked(form: &[Sym], marks: &Marks) -> bool
     true
 }
 
-/// Lists a rule at each symbol of its body.
-fn list_rule(grammar: &Grammar, rule: usize, users: &mut Links) -> Result<(), AllocError>
-    requires within { rule < length grammar.now.bare.rules }
-    requires sized { length users.old ≡ grammar.now.bare.symbols }
-    ensures more { OnOk result (UsesMore grammar.now.bare rule users.old users.new) }
-    ensures uses { OnOk result (HasUses grammar.now.bare users.new rule) }
-{
-    let _symbols = grammar.symbols();
-    let body = grammar.rule(rule).body();
-    for s in body {
-        users.push(*s, rule)?;
-    }
-    Ok(())
-}
-
 /// For each symbol the rules in whose bodies it stands.
 fn users_of(alloc: Global, grammar: &Grammar) -> Result<Links, AllocError>
-    ensures { IfOk result (λ l. AreUsers grammar.now.bare l) }
+    ensures { IfOk result (λ l. AreUsers grammar.now.bare (length grammar.now.bare.rules) l) }
 {
     let mut users = Links::new(alloc, grammar.symbols())?;
+    let all = Marks::all(alloc, grammar.symbols())?;
     for r in 0..grammar.rules() {
-        list_rule(grammar, r, &mut users)?;
+        link_front(&mut users, grammar.rule(r).body(), &all, r)?;
     }
     Ok(users)
 }
@@ -60,7 +48,7 @@ fn visit(
     waiting: &mut Waiting,
 ) -> Result<(), AllocError>
     requires within { rule < length grammar.now.bare.rules }
-    requires users { AreUsers grammar.now.bare users.now }
+    requires users { AreUsers grammar.now.bare (length grammar.now.bare.rules) users.now }
     requires sized { length marks.old ≡ grammar.now.bare.symbols }
     requires sound { SoundNullable grammar.now.bare marks.old }
     requires line { length waiting.old.marks ≡ length grammar.now.bare.rules }
@@ -69,7 +57,7 @@ fn visit(
     ensures visits { OnOk result
         (Visits grammar.now.bare rule marks.old waiting.old marks.new waiting.new) }
 {
-    let _symbols = grammar.symbols();
+    let _well_formed = grammar.symbols();
     let r = grammar.rule(rule);
     if all_marked(r.body(), marks) && marks.mark(r.left()) {
         waiting.put_each(users.of(r.left()))?;

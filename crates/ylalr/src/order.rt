@@ -3,7 +3,7 @@
 ghost use Rattle.std.specs.Prelude.{ℕ, ◌≡◌, ◌<◌, ◌++◌, [], ◌∷◌, length, map, All, IfOk, OnOk};
 ghost use Rattle.std.specs.List.{Contains};
 ghost use Rattle.ylalr.specs.Links.{AreLinks, links_of};
-ghost use Rattle.ylalr.specs.Marks.{marked};
+ghost use Rattle.ylalr.specs.Marks.{Has};
 ghost use Rattle.ylalr.specs.Order.{AreTurns};
 ghost use Rattle.ylalr.specs.declared.order.Turn.TheVariants.{Enter, Leave};
 
@@ -44,7 +44,7 @@ fn walk(
     ensures sized { OnOk result (length seen.new ≡ length seen.old) }
     ensures turns { OnOk result (AreTurns seen.new turns.new.items order.new.items) }
     ensures none { OnOk result (turns.new.items ≡ []) }
-    ensures kept { OnOk result ((p : ℕ) → marked seen.old p → marked seen.new p) }
+    ensures kept { OnOk result ((p : ℕ) → Has seen.old p → Has seen.new p) }
 {
     while let Some(turn) = turns.pop() {
         match turn {

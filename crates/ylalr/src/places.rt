@@ -1,55 +1,24 @@
 //! The rows of the items of all states: in each state the items of one left side with the dot at
 //! 0 share one.
 
-ghost use Rattle.std.specs.Prelude.{ℕ, ◌≡◌, ◌<◌, ◌≤◌, ◌+◌, ◌^◌, [], ◌∷◌, ◌++◌, length, IfOk, OnOk};
+ghost use Rattle.std.specs.Prelude.{◌≡◌, ◌<◌, ◌≤◌, ◌+◌, ◌^◌, length, IfOk, OnOk};
+ghost use Rattle.ylalr.specs.Collection.{most_states};
 ghost use Rattle.ylalr.specs.Places.{ArePlaces, FillRows, rows_at, IsPlaceOf};
 ghost use Rattle.ylalr.specs.Sets.{InRange, IsAscending};
 ghost use Rattle.ylalr.specs.States.{AreStates, set_at};
 
 use crate::items::{Item, find};
 use crate::lefts::Lefts;
+use crate::list::Sequence;
 use crate::states::States;
 use std::alloc::{AllocError, Global};
 use std::marker::Model;
 use ygrammar::Grammar;
 
-/// The rows of the items of one state.
-#[derive(Drop)]
-struct RowList {
-    rows: Vec<usize>,
-}
-
-impl Model for RowList {
-    ghost use Rattle.std.specs.Prelude.{ℕ, List};
-
-    ghost Value = { List ℕ };
-
-    ghost view = { λ l. l.rows.items };
-}
-
-impl RowList {
-    /// No rows.
-    fn new(alloc: Global) -> RowList
-        ensures { result ≡ [] }
-    {
-        RowList {
-            rows: Vec::new(alloc),
-        }
-    }
-
-    /// Adds a row at the end.
-    fn push(&mut self, row: usize) -> Result<(), AllocError>
-        ensures { OnOk result (self.new ≡ self.old ++ row ∷ []) }
-    {
-        self.rows.push(row)?;
-        Ok(())
-    }
-}
-
 /// The rows of the items of each state, and how many rows there are.
 #[derive(Drop)]
 pub struct Places {
-    rows: Vec<RowList>,
+    rows: Vec<Sequence<usize>>,
     total: usize,
 }
 
@@ -68,16 +37,16 @@ fn rows_of(
     items: &[Item],
     lefts: &mut Lefts,
     first: usize,
-) -> Result<(RowList, usize), AllocError>
+) -> Result<(Sequence<usize>, usize), AllocError>
     requires sized { length lefts.old ≡ grammar.now.bare.symbols }
     requires range { InRange grammar.now.bare items.now }
     requires room { first + length items.now < 2 ^ 63 }
     ensures sized { OnOk result (length lefts.new ≡ grammar.now.bare.symbols) }
     ensures rows { IfOk result (λ r. FillRows grammar.now.bare items.now r.0 first r.1) }
 {
-    let _symbols = grammar.symbols();
+    let _well_formed = grammar.symbols();
     lefts.clear();
-    let mut rows = RowList::new(alloc);
+    let mut rows = Sequence::new(alloc);
     let mut end = first;
     for item in items {
         let row = lefts.row_of(grammar, *item, end);
@@ -93,7 +62,7 @@ impl Places {
     /// The rows of the items of the states, each state's after those of the state before.
     pub fn of(alloc: Global, grammar: &Grammar, states: &States) -> Result<Places, AllocError>
         requires states { AreStates grammar.now.bare states.now }
-        requires few { length states.now.closures ≤ 16384 }
+        requires few { length states.now.closures ≤ most_states }
         ensures { IfOk result (λ l. ArePlaces grammar.now.bare states.now l) }
     {
         let mut lefts = Lefts::new(alloc, grammar.symbols())?;
@@ -119,7 +88,7 @@ impl Places {
         requires { q < length self.now.rows }
         ensures { result.now ≡ rows_at self.now q }
     {
-        self.rows[q].rows.as_slice()
+        self.rows[q].as_slice()
     }
 }
 

@@ -2,7 +2,8 @@
 
 ghost use Rattle.std.specs.Prelude.{ℕ, ◌≡◌, ◌+◌, ◌*◌, ◌<◌, ◌≤◌, ◌↔◌, ◌⊎◌, true, false, length};
 ghost use Rattle.std.specs.Prelude.{IfOk, IsTrue};
-ghost use Rattle.ylalr.specs.Rows.{BitRows, Holds, IsSized, AddsFrom, Grown, room, united};
+ghost use Rattle.ygrammar.specs.Grammar.{most_rules};
+ghost use Rattle.ylalr.specs.Rows.{BitRows, Holds, IsSized, AddsFrom, GrowsIf, room, unite};
 
 use std::alloc::{AllocError, Global};
 use std::marker::Model;
@@ -35,7 +36,7 @@ impl Rows {
     /// Rows with no bit set.
     pub fn new(alloc: Global, height: usize, width: usize) -> Result<Rows, AllocError>
         requires tall { height ≤ 34359738368 }
-        requires wide { width ≤ 8192 }
+        requires wide { width ≤ most_rules }
         ensures sized { IfOk result (λ m. IsSized height width m) }
         ensures empty { IfOk result (λ m. (r c : ℕ) → Holds m r c → ⊥) }
     {
@@ -93,7 +94,7 @@ impl Rows {
     /// Unites one word with `more`, and says whether it grew.
     fn unite(&mut self, at: usize, more: u64) -> bool
         requires { at < length self.old.words }
-        ensures words { self.new ≡ united self.old at more }
+        ensures words { self.new ≡ unite self.old at more }
         ensures fewer { room self.new ≤ room self.old }
         ensures fewer_if { result ≡ true → room self.new < room self.old }
         ensures unchanged { result ≡ false → self.new ≡ self.old }
@@ -110,7 +111,7 @@ impl Rows {
         requires column { c < self.old.width }
         ensures exact { (i k : ℕ) →
             Holds self.new i k ↔ (Holds self.old i k ⊎ ((i ≡ r) × (k ≡ c))) }
-        ensures grown { Grown self.old self.new result }
+        ensures grown { GrowsIf self.old self.new result }
     {
         let at = r * self.span + c / BITS;
         self.unite(at, 1 << (c % BITS))
@@ -121,7 +122,7 @@ impl Rows {
         requires to_in { to < self.old.height }
         requires from_in { from < self.old.height }
         ensures adds { AddsFrom self.old self.new to self.old from }
-        ensures grown { Grown self.old self.new result }
+        ensures grown { GrowsIf self.old self.new result }
     {
         let mut grew = false;
         for k in 0..self.span {
@@ -138,7 +139,7 @@ impl Rows {
         requires from_in { from < other.now.height }
         requires same { other.now.width ≡ self.old.width }
         ensures adds { AddsFrom self.old self.new to other.now from }
-        ensures grown { Grown self.old self.new result }
+        ensures grown { GrowsIf self.old self.new result }
     {
         let mut grew = false;
         for k in 0..self.span {

@@ -3,14 +3,15 @@
 ghost use Rattle.std.specs.Prelude.{◌≡◌, ◌<◌, length, IfOk, OnOk, IfSome, IfNone};
 ghost use Rattle.ylalr.specs.States.{IsFresh, HasKernel, set_at, with_state};
 
-use crate::items::{Item, ItemList};
+use crate::items::Item;
+use crate::list::Sequence;
 use indexmap::IndexSet;
 use smallvec::SmallVec;
 use std::alloc::{AllocError, Global};
 use std::marker::Model;
 
 /// How many states there may be.
-pub const LIMIT: usize = 16_384;
+pub const MOST_STATES: usize = 16_384;
 
 /// A kernel as a key: most have few items.
 pub type Kernel = SmallVec<Item, 4>;
@@ -19,7 +20,7 @@ pub type Kernel = SmallVec<Item, 4>;
 #[derive(Drop)]
 pub struct States {
     kernels: IndexSet<Kernel>,
-    closures: Vec<ItemList>,
+    closures: Vec<Sequence<Item>>,
 }
 
 impl Model for States {
@@ -68,7 +69,7 @@ impl States {
     }
 
     /// Adds a state.
-    pub fn push(&mut self, kernel: Kernel, items: ItemList) -> Result<(), AllocError>
+    pub fn push(&mut self, kernel: Kernel, items: Sequence<Item>) -> Result<(), AllocError>
         requires { IsFresh self.old kernel.items }
         ensures { OnOk result (self.new ≡ with_state self.old kernel.items items) }
     {

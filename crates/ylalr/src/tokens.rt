@@ -1,8 +1,11 @@
-//! How many tokens a grammar has.
+//! The tokens of a grammar: how many there are, and which is the end.
 
 ghost use Rattle.std.specs.Prelude.{◌≡◌};
 
-use ygrammar::Grammar;
+use ygrammar::{Grammar, Sym};
+
+/// The number of `$end`.
+pub const END: Sym = 0;
 
 /// How many of the symbols are tokens. They are the numbers below this.
 pub fn token_count(grammar: &Grammar) -> usize

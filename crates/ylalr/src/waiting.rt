@@ -17,13 +17,13 @@ pub struct Waiting {
 }
 
 impl Model for Waiting {
-    ghost use Rattle.ylalr.specs.Waiting.{Line, IsLine};
+    ghost use Rattle.ylalr.specs.Waiting.{Queue, IsQueue};
 
-    ghost Value = { Line };
+    ghost Value = { Queue };
 
     ghost view = { λ w. record { queue = w.queue.items; marks = w.marks } };
 
-    ghost invariant = { λ w. IsLine (record { queue = w.queue.items; marks = w.marks }) };
+    ghost invariant = { λ w. IsQueue (record { queue = w.queue.items; marks = w.marks }) };
 }
 
 impl Waiting {

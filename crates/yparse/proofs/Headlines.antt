@@ -16,7 +16,7 @@ use Rattle.ytables.specs.declared.class.Class.{Class}
 use Rattle.ytables.specs.declared.cell.Action.{Action}
 use Rattle.ytables.specs.declared.cell.Action.TheVariants as actions
 use Rattle.ytables.specs.declared.cell.Cell.{Cell}
-use Rattle.ytables.specs.Cell.{cell_of, lone, reduced, common, is_filled, is_ban, is_beat, is_lose}
+use Rattle.ytables.specs.Cell.{cell_of, lone, reduce, common, is_filled, is_ban, is_beat, is_lose}
 use Rattle.ytables.specs.Cell.{is_rest, by_default}
 use Rattle.ytables.specs.Tables.{TablesValue as Tables, AreTables, after_dot, begins_with}
 use Rattle.ytables.specs.Tables.{is_before, has_before, ready_in, shift_to, shift_of, rules_by}
@@ -89,7 +89,7 @@ module _ (v : GrammarValue) (looks : Item → ℕ → Bool) (k : List Item) wher
 abbrev cell_by_tests : (ℕ → Class) → List ℕ → List ℕ → Bool → Bool → Action → Cell
 cell_by_tests class kept rules b c z =
     if b then lone actions.Error true
-    else (if c then reduced true kept else record {
+    else (if c then reduce true kept else record {
       action = z;
       shift_reduce =
           count_by (λ r. is_rest (class r)) rules;

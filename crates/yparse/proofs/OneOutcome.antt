@@ -8,6 +8,7 @@ use Rattle.ygrammar.specs.Lexemes.{LiteralAt}
 use Rattle.ygrammar.specs.Names.{printed_literal}
 use Rattle.ygrammar.proofs.Literals.{literal_shorter, one_literal, quote_first}
 use Rattle.ygrammar.specs.Grammar.{GrammarValue}
+use Rattle.yparse.specs.TokensFile.{most_tokens}
 use Rattle.yparse.specs.declared.tokens.Tokens.{Tokens}
 use Rattle.yparse.specs.declared.tokens.TokenFault.{TokenFault}
 use Rattle.yparse.specs.declared.tokens.TokenFault.TheVariants as faults
@@ -133,23 +134,23 @@ module _ (find : List ℕ → Option ℕ) (tokens : ℕ) where
   one_outcome n bytes r s (k, a) (j, b) = one_reading k j n bytes r s a b
 
   -- at the limit
-  pub says_many : (n : ℕ) (name rest : List ℕ) → n ≡ 1000000
+  pub says_many : (n : ℕ) (name rest : List ℕ) → n ≡ most_tokens
       → says find tokens n (word name rest) ≡ answer (Err faults.TooMany)
   says_many n name rest e = ap (λ (k : ℕ). says find tokens k (word name rest)) e
 
-  pub says_many_broken : (n : ℕ) → n ≡ 1000000
+  pub says_many_broken : (n : ℕ) → n ≡ most_tokens
       → says find tokens n broken ≡ answer (Err faults.TooMany)
   says_many_broken n e = ap (λ (k : ℕ). says find tokens k broken) e
 
   -- below it
-  pub says_broken : (n : ℕ) → n < 1000000
+  pub says_broken : (n : ℕ) → n < most_tokens
       → says find tokens n broken ≡ answer (Err (faults.BadLiteral (n + 1)))
-  says_broken n h = let t : nat_lt n 1000000 ≡ true = lt-ltb n 1000000 h in let e : n + 1 ≡ suc n =
+  says_broken n h = let t : nat_lt n most_tokens ≡ true = lt-ltb n most_tokens h in let e : n + 1 ≡ suc n =
       omega arith in rw t (rw e refl)
 
-  pub says_named : (n : ℕ) (name rest : List ℕ) → n < 1000000
+  pub says_named : (n : ℕ) (name rest : List ℕ) → n < most_tokens
       → says find tokens n (word name rest) ≡ by_name tokens (n + 1) (find name) rest
-  says_named n name rest h = let t : nat_lt n 1000000 ≡ true = lt-ltb n 1000000 h in
+  says_named n name rest h = let t : nat_lt n most_tokens ≡ true = lt-ltb n most_tokens h in
       let e : n + 1 ≡ suc n = omega arith in rw t (rw e refl)
 
 -- tokens that were read, before those of an answer
@@ -192,7 +193,7 @@ gives_fault t bytes (faults.BadLiteral place) a = a
 
 -- what is known of a token that comes next
 pub record Token (tokens n x : ℕ) (bytes rest : List ℕ) : Type 0 where
-  pub below : n < 1000000
+  pub below : n < most_tokens
   pub input : is_input tokens x ≡ true
   pub shorter : length rest < length bytes
 
@@ -217,14 +218,14 @@ module _ (find : List ℕ → Option ℕ) (tokens : ℕ) where
   broken_token n x bytes rest false e = cc
 
   word_token : (n x : ℕ) (bytes rest name after : List ℕ) → FrontIs bytes (word name after)
-      → (b : Bool) → nat_lt n 1000000 ≡ b
+      → (b : Bool) → nat_lt n most_tokens ≡ b
       → (if b then by_name tokens (suc n) (find name) after else answer (Err faults.TooMany))
       ≡ token x rest → Token tokens n x bytes rest
   word_token n x bytes rest name after a true h e =
       let (input, same) = named_token tokens (suc n) x (find name) after rest e in
       let shorter = word_some a.here name after a.stands in
       record {
-        below = ltb-true n 1000000 h;
+        below = ltb-true n most_tokens h;
         input = input;
         shorter =
             omega (arith, shorter, ap length a.whole, length-append a.gap a.here, ap length same);
@@ -234,9 +235,9 @@ module _ (find : List ℕ → Option ℕ) (tokens : ℕ) where
   pub token_facts : (n x : ℕ) (bytes rest : List ℕ) → Comes find tokens n bytes (token x rest)
       → Token tokens n x bytes rest
   token_facts n x bytes rest (nothing, a, e) = cc
-  token_facts n x bytes rest (broken, a, e) = broken_token n x bytes rest (nat_lt n 1000000) e
+  token_facts n x bytes rest (broken, a, e) = broken_token n x bytes rest (nat_lt n most_tokens) e
   token_facts n x bytes rest (word name after, a, e) =
-      word_token n x bytes rest name after a (nat_lt n 1000000) refl e
+      word_token n x bytes rest name after a (nat_lt n most_tokens) refl e
 
 pub all_push : (P : ℕ → Type 0) (xs : List ℕ) (x : ℕ) → All P xs → P x → All P (xs ++ x ∷ [])
 all_push P [] x a p zero d h = p

@@ -17,7 +17,7 @@ use Rattle.yparse.specs.declared.machine.Deed.TheVariants as deeds
 use Rattle.yparse.specs.declared.machine.Edit.{Edit}
 use Rattle.yparse.specs.Machine.{Configuration, next, edited, deed_by}
 use Rattle.yparse.specs.MachineOver.{machine_over}
-use Rattle.yparse.specs.Past.{Past, LeadsTo, Comes, Changes}
+use Rattle.yparse.specs.Past.{Past, LeadsTo, Comes, Changes, most_steps}
 use Rattle.yparse.specs.History.{IsHistory, first_configuration}
 use Rattle.yparse.specs.Reversible.{StepsOn, StepsBack}
 use Rattle.yparse.specs.Session.{setting_at}
@@ -176,7 +176,7 @@ module _ (what : Place → Option (StepKind × Place)) (found : Option (StepKind
       ap (map step_view) steps.1.1.1 in
       subst (λ (x : Past StepKind Place). Changes (next (machine_over h.now.tables)) shown
       (past_view h) (Ok kind) (past_view x)) (sym a) (
-        subst (λ (n : ℕ). n < 1000000) (sym (length-map step_view h.earlier)) steps.1.0,
+        subst (λ (n : ℕ). n < most_steps) (sym (length-map step_view h.earlier)) steps.1.0,
         (
           f ∙ g.shown ∙ ap (λ (k : StepKind). let step : Option (StepKind × Configuration) =
               Some (k, configuration_of new.now) in step) same,
@@ -204,14 +204,14 @@ module _ (what : Place → Option (StepKind × Place)) (found : Option (StepKind
   refusal_shown shown f Limit steps = (
     (
       subst IsSome (sym f) (some_on h.now found (subst IsSome d.is steps.0.0)),
-      subst (λ (n : ℕ). 1000000 ≤ n) (sym (length-map step_view h.earlier)) steps.0.1,
+      subst (λ (n : ℕ). most_steps ≤ n) (sym (length-map step_view h.earlier)) steps.0.1,
     ),
     ap past_view steps.1,
   )
   refusal_shown shown f Memory steps = (
     (
       subst IsSome (sym f) (some_on h.now found (subst IsSome d.is steps.0.0)),
-      subst (λ (n : ℕ). n < 1000000) (sym (length-map step_view h.earlier)) steps.0.1,
+      subst (λ (n : ℕ). n < most_steps) (sym (length-map step_view h.earlier)) steps.0.1,
     ),
     ap past_view steps.1,
   )
@@ -257,7 +257,7 @@ module _ (what : Place → Option (StepKind × Place)) (found : Option (StepKind
       let g = led h.now new.now what found steps.0 d steps.1.1.0 in (
         (
           subst IsSome (sym f) (ap is_some g.shown),
-          subst (λ (n : ℕ). n < 1000000) (sym (length-map step_view h.earlier)) steps.1.0,
+          subst (λ (n : ℕ). n < most_steps) (sym (length-map step_view h.earlier)) steps.1.0,
         ),
         ap past_view (undone_deed after steps back),
       )

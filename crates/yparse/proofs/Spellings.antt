@@ -2,6 +2,7 @@
 use Rattle.std.proofs.Common.{ℕ, zero, suc, ◌≡◌, nat_lt, Bool, true, false, if◌then◌else◌}
 use Rattle.std.proofs.Common.{List, [], ◌∷◌, Option, Some, None, Result, Ok, Err}
 use Rattle.std.proofs.Common.{refl, sym, ◌∙◌, subst}
+use Rattle.yparse.specs.TokensFile.{most_tokens}
 use Rattle.yparse.specs.declared.tokens.TokenFault.{TokenFault}
 use Rattle.yparse.specs.declared.tokens.TokenFault.TheVariants as faults
 use Rattle.yparse.specs.TokensFile.{Front, nothing, word, broken, Says, token, answer}
@@ -39,13 +40,13 @@ module _ (find : List ℕ → Option ℕ) (tokens : ℕ) where
   -- no front says so
   one_said : (x n : ℕ) (f : Front) → says find tokens n f ≡ answer (Ok (x ∷ [])) → ⊥
   one_said x n nothing e = cc
-  one_said x n (word name rest) e = by (nat_lt n 1000000) e
+  one_said x n (word name rest) e = by (nat_lt n most_tokens) e
     where
       by : (b : Bool) → (if b then by_name tokens (suc n) (find name) rest
           else answer (Err faults.TooMany)) ≡ answer (Ok (x ∷ [])) → ⊥
       by true h = one_named x tokens (suc n) (find name) rest h
       by false h = cc
-  one_said x n broken e = by (nat_lt n 1000000) e
+  one_said x n broken e = by (nat_lt n most_tokens) e
     where
       by : (b : Bool) → (if b then answer (Err (faults.BadLiteral (suc n)))
           else answer (Err faults.TooMany)) ≡ answer (Ok (x ∷ [])) → ⊥

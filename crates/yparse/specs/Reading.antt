@@ -5,8 +5,8 @@ use Rattle.ygrammar.specs.Grammar.{GrammarValue}
 use Rattle.yparse.specs.declared.tokens.Tokens.{Tokens}
 use Rattle.yparse.specs.declared.tokens.TokenFault.{TokenFault}
 use Rattle.yparse.specs.declared.tokens.TokenFault.TheVariants as faults
-use Rattle.yparse.specs.declared.words.Front.{Front as CodeFront}
-use Rattle.yparse.specs.declared.words.Front.TheVariants as fronts
+use Rattle.yparse.specs.declared.token_words.Front.{Front as CodeFront}
+use Rattle.yparse.specs.declared.token_words.Front.TheVariants as fronts
 use Rattle.yparse.specs.declared.tokens.Next.{Next}
 use Rattle.yparse.specs.declared.tokens.Next.TheVariants as nexts
 use Rattle.yparse.specs.Tables.{symbol_named, token_count}

@@ -57,14 +57,18 @@ by_name tokens place None rest = answer (Err (faults.Unknown place))
 by_name tokens place (Some symbol) rest =
     if is_input tokens symbol then token symbol rest else answer (Err (faults.NotInput place))
 
--- behind n tokens: at 1,000,000 a further word is K3, and a quote that begins no literal is K5
+-- the most tokens of an input
+abbrev pub most_tokens : ℕ
+most_tokens = 1000000
+
+-- behind n tokens: at the most a further word is K3, and a quote that begins no literal is K5
 abbrev pub says : (List ℕ → Option ℕ) → ℕ → ℕ → Front → Says
 says find tokens n nothing = answer (Ok [])
 says find tokens n (word name rest) =
-    if nat_lt n 1000000 then by_name tokens (suc n) (find name) rest else answer
+    if nat_lt n most_tokens then by_name tokens (suc n) (find name) rest else answer
     (Err faults.TooMany)
 says find tokens n broken =
-    if nat_lt n 1000000 then answer (Err (faults.BadLiteral (suc n)))
+    if nat_lt n most_tokens then answer (Err (faults.BadLiteral (suc n)))
     else answer (Err faults.TooMany)
 
 -- behind n tokens, this comes next

@@ -12,12 +12,12 @@ mod reversible;
 pub mod session;
 mod snapshot;
 mod tables;
+mod token_words;
 mod tokens;
 mod tree_view;
 mod unwind;
 mod view;
 mod walk;
-mod words;
 
 pub use journal::Journal;
 pub use parts::PlaceChange;

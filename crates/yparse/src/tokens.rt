@@ -5,13 +5,13 @@ ghost use Rattle.std.specs.Prelude.{length, slice_index};
 ghost use Rattle.yparse.specs.declared.tokens.TokenFault.{TokenFault as Fault};
 ghost use Rattle.yparse.specs.Tables.{symbol_named, token_count, is_input};
 ghost use Rattle.yparse.specs.Tokens.{Fits, symbols_of};
-ghost use Rattle.yparse.specs.TokensFile.{by_name, Comes};
+ghost use Rattle.yparse.specs.TokensFile.{by_name, Comes, most_tokens};
 ghost use Rattle.yparse.specs.Spelling.{has_blank_end};
 ghost use Rattle.std.specs.Prelude.{[], ◌∷◌, Ok, IfSome, is_some, false};
 ghost use Rattle.yparse.specs.Reading.{Gives, Agrees, TokensOf, next_view};
 
 use crate::tables::grammar_of;
-use crate::words::{Front, front_of, is_blank};
+use crate::token_words::{Front, front_of, is_blank};
 use std::alloc::{AllocFailed, Global};
 use thiserror::Error;
 use ygrammar::{Grammar, Sym};
@@ -120,7 +120,7 @@ fn named<'a>(grammar: &Grammar, found: Option<Sym>, place: usize, after: &'a [u8
 
 /// What comes next behind so many tokens.
 fn next_in<'a>(grammar: &Grammar, read: usize, bytes: &'a [u8]) -> Next<'a>
-    requires { read ≤ 1000000 }
+    requires { read ≤ most_tokens }
     ensures { Comes (symbol_named grammar.now) (token_count grammar.now) read bytes.entry.now
         (next_view result) }
 {

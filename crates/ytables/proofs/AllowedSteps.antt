@@ -14,7 +14,7 @@ use Rattle.ylalr.specs.Collection.{Collection, HasStates, Guide, bare_of, state_
 use Rattle.ytables.specs.declared.class.Class.{Class}
 use Rattle.ytables.specs.declared.cell.Action.{Action}
 use Rattle.ytables.specs.declared.cell.Action.TheVariants.{Shift, Reduce, Accept, Error}
-use Rattle.ytables.specs.Cell.{cell_of, reduced, lone, is_ban, is_beat, is_lose, is_rest, is_filled}
+use Rattle.ytables.specs.Cell.{cell_of, reduce, lone, is_ban, is_beat, is_lose, is_rest, is_filled}
 use Rattle.ytables.specs.Cell.{is_reduce, common, by_default}
 use Rattle.ytables.specs.Tables.{after_dot, begins_with, is_empty, is_before, is_ready, has_before}
 use Rattle.ytables.specs.Tables.{ready_in, shift_to, shift_of, shift_by, rules_by, class_in}
@@ -94,7 +94,7 @@ From shift rules Accept = shift ≡ Some Accept
 From shift rules Error = Unit {0}
 
 reduced_from : (shift : Option Action) (rules xs : List ℕ) (choice : Bool) →
-    ((r : ℕ) → Among r xs → Among r rules) → From shift rules (reduced choice xs).action
+    ((r : ℕ) → Among r xs → Among r rules) → From shift rules (reduce choice xs).action
 reduced_from shift rules [] choice sub = tt
 reduced_from shift rules (x ∷ xs) choice sub = inr (sub (fold min x xs) (least_among x xs))
 
@@ -114,9 +114,12 @@ cell_from class (Some s) rules = go (list_any (λ r. is_ban (class r)) rules)
     kept = filter (λ r. not (is_lose (class r))) rules
 
     go : (b c : Bool) → From (Some s) rules
-        (if b then lone Error true else (if c then reduced true kept else record { action = s;
-        shift_reduce = count_by (λ r. is_rest (class r)) rules; reduce_reduce = 0; choice =
-        nat_lt 0 (length rules) })).action
+        (if b then lone Error true else (if c then reduce true kept else record {
+          action = s;
+          shift_reduce = count_by (λ r. is_rest (class r)) rules;
+          reduce_reduce = 0;
+          choice = nat_lt 0 (length rules);
+        })).action
     go true c = tt
     go false true = reduced_from (Some s) rules kept true (λ r h.
         (among_filter (λ r. not (is_lose (class r))) r rules h).1)
@@ -170,7 +173,7 @@ module _ (g : ContextFree) (w : WellFormed g) (k : List Item) (range : InRange g
   within i h =
       let c = among_contains i k h in
       subst (λ (j : Item). (j.rule < length g.rules) × (j.dot ≤ length (body_of g j.rule))) c.2
-          (range c.0 i c.1)
+      (range c.0 i c.1)
 
   -- the dot before the end stands in rule 0 alone
   end_item : (i : Item) (y : List ℕ) → i.rule < length g.rules → after_dot g i ≡ end_token ∷ y →
@@ -194,7 +197,7 @@ module _ (g : ContextFree) (w : WellFormed g) (k : List Item) (range : InRange g
           ap (λ r. record { rule = r; dot = i.dot }) z ∙ ap (λ d. record { rule = 0; dot = d }) dot
       go (inr h) =
           absurd (All-head (λ s. s ≢ end_token) end_token y (subst (All (λ s. s ≢ end_token)) e
-              (All-drop (λ s. s ≢ end_token) i.dot (body_of g i.rule) (w.ended i.rule h l))) refl)
+          (All-drop (λ s. s ≢ end_token) i.dot (body_of g i.rule) (w.ended i.rule h l))) refl)
 
   -- a rule whose complete item looks at a token
   rule_has : (test : Item → Bool) (r : ℕ) → Among r (rules_by test (ready_in g k)) → (r ≢ 0) ×
@@ -209,9 +212,11 @@ module _ (g : ContextFree) (w : WellFormed g) (k : List Item) (range : InRange g
       let inside = here.1 in
       let dot : i.dot ≡ length (body_of g i.rule) = omega (arith, full, inside) in
       let whole : i ≡ complete_of g r = ap (λ d. record { rule = i.rule; dot = d }) dot ∙ ap
-              (complete_of g) m.1 in
-      (not_zero i r m.1 ready.0, subst (λ s. s < length g.rules) m.1 here.0,
-          subst (Contains k) whole (among_contains i k ready.1))
+      (complete_of g) m.1 in (
+        not_zero i r m.1 ready.0,
+        subst (λ s. s < length g.rules) m.1 here.0,
+        subst (Contains k) whole (among_contains i k ready.1),
+      )
     where
       not_zero : (i : Item) (r : ℕ) → i.rule ≡ r → is_ready g i ≡ true → r ≢ 0
       not_zero i r e h z = go (eqb_tells i.rule 0)
@@ -260,7 +265,7 @@ default_from v to looks k r e = go (list_any (has_before v.bare k) (tokens_of v)
     go true e = cc
     go false e =
         let f = among_filter is_filled (Reduce r) (row_by v to looks k)
-                (common_among (filter is_filled (row_by v to looks k)) r e) in
+        (common_among (filter is_filled (row_by v to looks k)) r e) in
         let m = among_map (λ t. (cell_by v to looks k t).action) (Reduce r) (tokens_of v) f.1 in
         (m.0, m.1)
 

@@ -24,9 +24,11 @@ source g x p start e = cc
 source g x p (closure v e h f) same = source g x p v same
 source g x p (move {p = s} {r = r} {d = d} {a = a} {x = z} {y = y} v e n) same =
     let rest : s ≡ p = ap (drop 1) same in
-    let head : z ≡ x = ap (λ l. get_or l 0 0) same in
-    (record { rule = r; dot = d }, (a, subst (λ l. Valid g l r d a) rest v),
-        (y, e ∙ ap (λ z. z ∷ y) head))
+    let head : z ≡ x = ap (λ l. get_or l 0 0) same in (
+      record { rule = r; dot = d },
+      (a, subst (λ l. Valid g l r d a) rest v),
+      (y, e ∙ ap (λ z. z ∷ y) head),
+    )
 
 before_head : (x : ℕ) (l y : List ℕ) → l ≡ x ∷ y → begins_with x l ≡ true
 before_head x l y e = ap (begins_with x) e ∙ same x
@@ -48,15 +50,15 @@ no_goto m q x s h l b = go (goto_in m q x) (s.leads q x h l)
         let i = get_or (state_of m n) 0 zero_item in
         let filled = s.filled n to.0 in
         let inside : Contains (state_of m n) i = Contains-get_or (state_of m n) 0 zero_item
-                filled in
+        filled in
         let valid = (to.1 i).0 inside in
         let from = source (bare_of m) x core.0 valid.1 refl in
         let here = (core.1 from.0).1 from.1 in
         let yes : is_before (bare_of m) x (get_or (state_of m q) here.0 from.0) ≡ true =
-                ap (is_before (bare_of m) x) here.2 ∙ before_head x (after_dot (bare_of m) from.0)
-                from.2.0 from.2.1 in
+        ap (is_before (bare_of m) x) here.2 ∙ before_head x (after_dot (bare_of m) from.0)
+        from.2.0 from.2.1 in
         let any : has_before (bare_of m) (state_of m q) x ≡ true =
-                list_any_at (is_before (bare_of m) x) (state_of m q) here.0 from.0 here.1 yes in
+        list_any_at (is_before (bare_of m) x) (state_of m q) here.0 from.0 here.1 yes in
         absurd (let f : true ≡ false = sym any ∙ b in cc)
 
 -- the symbol after the dot of an item of a state
@@ -69,10 +71,10 @@ next_below m v xs q k x d y same items w s h l e =
     let i = get_or xs k d in
     let range = subst (InRange (bare_of m)) (sym items) (s.range q h) in
     let rule : i.rule < length v.bare.rules =
-            subst (λ (u : GrammarValue). i.rule < length u.bare.rules) (sym same) (range k d l).0 in
+    subst (λ (u : GrammarValue). i.rule < length u.bare.rules) (sym same) (range k d l).0 in
     subst (λ (u : GrammarValue). x < u.bare.symbols) same
-        (All-head P x y (subst (All P) e (All-drop P i.dot (body_of v.bare i.rule)
-        (w.body i.rule rule))))
+    (All-head P x y (subst (All P) e (All-drop P i.dot (body_of v.bare i.rule)
+    (w.body i.rule rule))))
 
 no_begin : (s x : ℕ) (l y : List ℕ) → l ≡ x ∷ y → x ≢ s → begins_with s l ≡ false
 no_begin s x l y e n = ap (begins_with s) e ∙ go (eqb_tells x s)
@@ -105,7 +107,7 @@ module _ (m : Collection) (q t : ℕ) (xs : List Item) where
     skip_at : (row : List (Option ℕ)) → Marked k row → (s : ℕ) → s < length row →
         is_before (bare_of m) (t + s) (get_or xs k d) ≡ false
         → get_or row s None ≡ (if has_before (bare_of m) (take (k + 1) xs) (t + s) then goto_in m q
-            (t + s) else None)
+        (t + s) else None)
     skip_at row h s b e = h s b ∙ ap (λ c. if c then goto_in m q (t + s) else None)
         (sym (at s false e ∙ or_none (has_before (bare_of m) (take k xs) (t + s))))
 
@@ -128,22 +130,22 @@ module _ (m : Collection) (q t : ℕ) (xs : List Item) where
       where
         go : ((nat_eq s (x - t) ≡ true) × (s ≡ x - t)) ⊎ ((nat_eq s (x - t) ≡ false) × (s ≢ x - t))
             → get_or (set row (x - t) (goto_in m q x)) s None ≡
-                (if has_before (bare_of m) (take (k + 1) xs) (t + s) then goto_in m q
-                (t + s) else None)
+            (if has_before (bare_of m) (take (k + 1) xs) (t + s) then goto_in m q
+            (t + s) else None)
         go (inl p) =
             let same : x ≡ t + s = (let z = p.1 in omega (arith, z, high)) in
             let yes : is_before (bare_of m) (t + s) (get_or xs k d) ≡ true =
-                    ap (λ n. is_before (bare_of m) n (get_or xs k d)) (sym same) ∙ before_head x
-                    (after_dot (bare_of m) (get_or xs k d)) y e in
+            ap (λ n. is_before (bare_of m) n (get_or xs k d)) (sym same) ∙ before_head x
+            (after_dot (bare_of m) (get_or xs k d)) y e in
             ap (λ n. get_or (set row (x - t) (goto_in m q x)) n None) p.1 ∙ get_or-set_same row
-                (x - t) (goto_in m q x) None inside ∙ ap (goto_in m q) same
+            (x - t) (goto_in m q x) None inside ∙ ap (goto_in m q) same
             ∙ ap (λ c. if c then goto_in m q (t + s) else None)
-                (sym (at s true yes ∙ or_true (has_before (bare_of m) (take k xs) (t + s))))
+            (sym (at s true yes ∙ or_true (has_before (bare_of m) (take k xs) (t + s))))
         go (inr p) =
             let len : s < length row = b_of b in
             get_or-set_other row (x - t) s (goto_in m q x) None p.1 ∙ skip_at row h s len
-                (no_begin (t + s) x (after_dot (bare_of m) (get_or xs k d)) y e
-                (λ z. p.1 (omega (arith, z, high))))
+            (no_begin (t + s) x (after_dot (bare_of m) (get_or xs k d)) y e
+            (λ z. p.1 (omega (arith, z, high))))
           where
             b_of : s < length (set row (x - t) (goto_in m q x)) → s < length row
             b_of h = let e = length-set row (x - t) (goto_in m q x) in omega (arith, e, h)
@@ -170,7 +172,7 @@ pub gotos_step : (m : Collection) (n : ℕ) (old new : PackedRows ℕ) (row : Li
     length old.rows ≡ n → old.width + m.grammar.bare.tokens ≡ m.grammar.bare.symbols →
     length row ≡ old.width → IsPushed old new row
     → ((x : ℕ) → x < length row → get_or row x None ≡ goto_in m n (m.grammar.bare.tokens + x)) →
-        AreGotosTo m n old.rows → AreGotosTo m (n + 1) new.rows
+    AreGotosTo m n old.rows → AreGotosTo m (n + 1) new.rows
 gotos_step m n old new row count wide len p here h q x l low high = go (side q l)
   where
     t : ℕ
@@ -184,20 +186,20 @@ gotos_step m n old new row count wide len p here h q x l low high = go (side q l
     go (inr e) =
         let inside : x - t < old.width = omega (arith, wide, low, high) in
         let entry : entry_of new.rows n (x - t) ≡ get_or row (x - t) None =
-                ap (λ k. entry_of new.rows k (x - t)) (sym count) ∙ p.here (x - t) inside in
+        ap (λ k. entry_of new.rows k (x - t)) (sym count) ∙ p.here (x - t) inside in
         let back : t + (x - t) ≡ x = omega (arith, low) in
         subst (λ k. entry_of new.rows k (x - t) ≡ goto_in m k x) (sym e)
-            (entry ∙ here (x - t) (omega (arith, inside, len)) ∙ ap (goto_in m n) back)
+        (entry ∙ here (x - t) (omega (arith, inside, len)) ∙ ap (goto_in m n) back)
 
 -- what the packed rows answer is the goto of the automaton k, which is m
 pub packed_goto : (m k : Collection) (p : PackedRows ℕ) (columns q x n : ℕ) (o : Option ℕ) → m ≡ k →
     AreGotos m p → columns ≡ m.grammar.bare.tokens → n ≡ columns → o ≡ entry_of p.rows q (x - n)
     → q < length k.states → k.grammar.bare.tokens ≤ x → x < k.grammar.bare.symbols →
-        o ≡ goto_in k q x
+    o ≡ goto_in k q x
 packed_goto m k p columns q x n o same are wide width got h low high =
     let found = subst (λ j. q < length j.states → j.grammar.bare.tokens ≤ x →
-            x < j.grammar.bare.symbols → entry_of p.rows q (x - j.grammar.bare.tokens) ≡ goto_in j q
-            x) same (are.gotos q x) in
+    x < j.grammar.bare.symbols → entry_of p.rows q (x - j.grammar.bare.tokens) ≡ goto_in j q
+    x) same (are.gotos q x) in
     let tokens : n ≡ k.grammar.bare.tokens = width ∙ wide ∙ ap (λ (j : Collection).
-            j.grammar.bare.tokens) same in
+    j.grammar.bare.tokens) same in
     got ∙ ap (λ t. entry_of p.rows q (x - t)) tokens ∙ found h low high

@@ -1,6 +1,7 @@
 -- Texts that are sent line by line, and part by part.
-use Rattle.std.proofs.Common.{ℕ, zero, suc, ◌≡◌, ◌+◌, ◌<◌, ◌++◌, ◌∷◌, Bool, true, false, List, []}
-use Rattle.std.proofs.Common.{Option, None, is_some, flat_map, length, get_or, take, refl, sym, ap}
+use Rattle.std.proofs.Common.{ℕ, zero, suc, ◌≡◌, ◌+◌, ◌-◌, ◌<◌, ◌≤◌, ◌++◌, ◌∷◌, Bool, true, false}
+use Rattle.std.proofs.Common.{List, [], Option, None, is_some, flat_map, length, get_or, take, refl}
+use Rattle.std.proofs.Common.{sym, ap}
 use Rattle.std.proofs.Common.{◌∙◌, subst, arith, append-nil}
 use Rattle.std.specs.List.{range_with_len}
 use Rattle.std.proofs.lemmas.List.FromFn.{length-range_with_len, get_or-range_with_len}
@@ -22,7 +23,7 @@ module _ {W : Type 0} (contents : W → Option (List ℕ)) (f : ℕ → List ℕ
       (flat_map f (range_with_len base n))
   range_cut a b c o n k j e h g s t =
       let l : k < length (range_with_len base n) = (let z = length-range_with_len base n in
-              omega (arith, z, h)) in
+      omega (arith, z, h)) in
       let x : get_or (range_with_len base n) k 0 ≡ j = get_or-range_with_len base n k 0 h ∙ g in
       Sends-part contents f a b c (is_some o) (range_with_len base n) k 0 (ap is_some e) l
       (subst (λ ks. Sends contents a b true (flat_map f ks)) (sym (take_range base n k h)) s)
@@ -35,9 +36,25 @@ module _ {W : Type 0} (contents : W → Option (List ℕ)) (f : ℕ → List ℕ
   range_sent a b c k j g s t =
       let e : flat_map f (range_with_len base (k + 1)) ≡ flat_map f (range_with_len base k) ++ f j =
       ap (flat_map f) (range_more base k j g) ∙ flat_map-append f (range_with_len base k)
-          (j ∷ []) ∙ ap (λ l. flat_map f (range_with_len base k) ++ l) (append-nil (f j)) in
+      (j ∷ []) ∙ ap (λ l. flat_map f (range_with_len base k) ++ l) (append-nil (f j)) in
       subst (λ ys. Sends contents a c true ys) (sym e)
-          (Sends-then contents a b c true (flat_map f (range_with_len base k)) (f j) s t)
+      (Sends-then contents a b c true (flat_map f (range_with_len base k)) (f j) s t)
+
+  -- the same for the numbers from base on, which the code calls first
+  pub span_sent : (a b c : Link W) (first k : ℕ) → first ≡ base → first ≤ k →
+      Sends contents a b true
+      (flat_map f (range_with_len base (k - base))) → Sends contents b c true (f k) →
+      Sends contents a c true (flat_map f (range_with_len base ((k + 1) - base)))
+  span_sent a b c first k e h s t = subst (λ n. Sends contents a c true
+      (flat_map f (range_with_len base n))) {x = (k - base) + 1} (omega arith)
+      (range_sent a b c (k - base) k (omega arith) s t)
+
+  pub span_cut : {X : Type 0} (a b c : Link W) (o : Option X) (first k last end : ℕ) → o ≡ None →
+      first ≡ base → first ≤ k → k < last → last ≡ end → Sends contents a b true
+      (flat_map f (range_with_len base (k - base))) → Sends contents b c false (f k) →
+      Sends contents a c (is_some o) (flat_map f (range_with_len base (end - base)))
+  span_cut a b c o first k last end e h l i g s t = range_cut a b c o (end - base) (k - base) k e
+      (omega arith) (omega arith) s t
 
 module _ {W : Type 0} (contents : W → Option (List ℕ)) where
   pub first_cut : {X : Type 0} (a b : Link W) (o : Option X) (s t : List ℕ) → o ≡ None →

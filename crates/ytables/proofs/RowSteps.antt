@@ -37,8 +37,8 @@ module _ (class : ℕ → Class) (test : Item → Bool) (xs : List Item) (n : �
   tally_skip e =
       let same : filter test (take (n + 1) xs) ≡ filter test (take n xs) =
       filter_more test xs n d h ∙ ap
-          (λ b. filter test (take n xs) ++ (if b then get_or xs n d ∷ [] else [])) e ∙ append-nil
-          (filter test (take n xs)) in
+      (λ b. filter test (take n xs) ++ (if b then get_or xs n d ∷ [] else [])) e ∙ append-nil
+      (filter test (take n xs)) in
       subst (λ (l : List Item). IsTally class (map (λ (i : Item). i.rule) l) y) (sym same) t
 
   -- an item that does
@@ -47,14 +47,14 @@ module _ (class : ℕ → Class) (test : Item → Bool) (xs : List Item) (n : �
   tally_take e =
       let more : filter test (take (n + 1) xs) ≡ filter test (take n xs) ++ get_or xs n d ∷ [] =
       filter_more test xs n d h ∙ ap
-          (λ b. filter test (take n xs) ++ (if b then get_or xs n d ∷ [] else [])) e in
+      (λ b. filter test (take n xs) ++ (if b then get_or xs n d ∷ [] else [])) e in
       let rules : rules_by test (take (n + 1) xs) ≡ rules_by test (take n xs) ++
-              (get_or xs n d).rule ∷ [] =
+      (get_or xs n d).rule ∷ [] =
       ap (map (λ (i : Item). i.rule)) more ∙ map-append (λ (i : Item). i.rule)
-          (filter test (take n xs)) (get_or xs n d ∷ []) in
+      (filter test (take n xs)) (get_or xs n d ∷ []) in
       subst (λ rs. IsTally class rs (tally_more y (get_or xs n d).rule
-          (class (get_or xs n d).rule))) (sym rules) (tally_push class (rules_by test (take n xs)) y
-          (get_or xs n d).rule t)
+      (class (get_or xs n d).rule))) (sym rules) (tally_push class (rules_by test (take n xs)) y
+      (get_or xs n d).rule t)
 
 -- no class changes what is kept by more than its count, and none is above the number of rules
 pub tally_room : (y : Tally) (r n : ℕ) (k : Class) → y.rests ≤ y.all → y.kept ≤ y.all → y.all ≤ n →
@@ -117,12 +117,6 @@ pub ready_again : (g : ContextFree) (k : List Item) → ready_in g (ready_in g k
 ready_again g k = filter_again (is_ready g) k
 
 -- a test that fails in one of its parts
-pub no_left : (a b : Bool) → a ≡ false → (a && b) ≡ false
-no_left a b e = ap (λ x. x && b) e
-
-pub yes_left : (a b c : Bool) → a ≡ true → b ≡ c → (a && b) ≡ c
-yes_left a b c e f = ap (λ x. x && b) e ∙ f
-
 pub ready_in_grammar : (g : ContextFree) (k : List Item) → InGrammar g k →
     InGrammar g (ready_in g k)
 ready_in_grammar g k h = All-filter (is_ready g) (λ (i : Item). i.rule < length g.rules) k h
@@ -138,10 +132,12 @@ rising (x ∷ xs) low n a p =
     let z : Item = record { rule = 0; dot = 0 } in
     let l : low ≤ x.rule = (a 0 z (omega arith)).0 in
     let h : x.rule < n = (a 0 z (omega arith)).1 in
-    let r : length xs ≤ n - suc x.rule = rising xs (suc x.rule) n (λ k d b.
-            (let s : x.rule < (get_or xs k d).rule = p 0 (suc k) d (omega arith)
-            (omega (arith, b)) in omega (arith, s), (a (suc k) d (omega (arith, b))).1))
-            (λ i j d b e. p (suc i) (suc j) d (omega (arith, b)) (omega (arith, e))) in
+    let r : length xs ≤ n - suc x.rule = rising xs (suc x.rule) n (λ k d b. (
+      let s : x.rule < (get_or xs k d).rule = p 0 (suc k) d (omega arith)
+          (omega (arith, b)) in omega (arith, s),
+      (a (suc k) d (omega (arith, b))).1,
+    ))
+    (λ i j d b e. p (suc i) (suc j) d (omega (arith, b)) (omega (arith, e))) in
     omega (arith, l, h, r)
 
 pub complete_dot : (g : ContextFree) (i : Item) → is_ready g i ≡ true →
@@ -160,12 +156,12 @@ pub few_ready : (g : ContextFree) (k : List Item) → InRange g k → IsAscendin
 few_ready g k h a =
     let found = ready_in g k in
     let range = All-filter (is_ready g) (λ (i : Item). (i.rule < length g.rules) ×
-            (i.dot ≤ length (body_of g i.rule))) k h in
+    (i.dot ≤ length (body_of g i.rule))) k h in
     let order = AllPairs-filter Before (is_ready g) k a in
     let passes = filter_passes (is_ready g) k in
     let apart : AllPairs (λ (i j : Item). i.rule < j.rule) found =
-            λ i j d b e. go (get_or found i d) (get_or found j d) (passes i d (omega (arith, b, e)))
-            (range j d e).1 (order i j d b e) in
+    λ i j d b e. go (get_or found i d) (get_or found j d) (passes i d (omega (arith, b, e)))
+    (range j d e).1 (order i j d b e) in
     let z = rising found 0 (length g.rules) (λ n d l. (omega arith, (range n d l).0)) apart in
     omega (arith, z)
   where
@@ -175,7 +171,7 @@ few_ready g k h a =
     go i j p r (inr l) =
         let full = complete_dot g i p in
         let same : length (body_of g i.rule) ≡ length (body_of g j.rule) =
-                ap (λ n. length (body_of g n)) l.0 in
+        ap (λ n. length (body_of g n)) l.0 in
         let dots = l.1 in
         absurd (omega (arith, full, same, dots, r))
 
@@ -192,7 +188,7 @@ filter_split {X} p (x ∷ xs) (suc i) d l h = ap (λ l. if p x then x ∷ l else
         (filter p (take i xs) ++ (get_or xs i d ∷ filter p (drop (suc i) xs))) else filter p
         (take i xs) ++ (get_or xs i d ∷ filter p (drop (suc i) xs)))
         ≡ (if b then x ∷ filter p (take i xs) else filter p (take i xs)) ++
-            (get_or xs i d ∷ filter p (drop (suc i) xs))
+        (get_or xs i d ∷ filter p (drop (suc i) xs))
     go true = refl
     go false = refl
 
@@ -222,7 +218,7 @@ common_breaks None front back a e h = subst (λ (l : List Action). common (l ++ 
     go Error h = refl
 common_breaks (Some r) front back a e h =
     subst (λ (l : List Action). common (l ++ (a ∷ back)) ≡ None) (sym e.first)
-        (ap (λ b. if b then Some r else None) (all_stops r e.rest back a h))
+    (ap (λ b. if b then Some r else None) (all_stops r e.rest back a h))
 
 filled : (a : Action) → (a ≡ Error → ⊥) → is_filled a ≡ true
 filled (Shift n) h = refl
@@ -237,8 +233,8 @@ pub no_common : (found : Option ℕ) (xs : List Action) (i : ℕ) (d : Action) �
     Breaks found (get_or xs i d) → None ≡ common (filter is_filled xs)
 no_common found xs i d l e h b =
     sym (ap common (filter_split is_filled xs i d l (filled (get_or xs i d) h)) ∙ common_breaks
-        found (filter is_filled (take i xs)) (filter is_filled (drop (suc i) xs)) (get_or xs i d) e
-        b)
+    found (filter is_filled (take i xs)) (filter is_filled (drop (suc i) xs)) (get_or xs i d) e
+    b)
 
 -- no reduction breaks with everything
 pub breaks_all : (found : Option ℕ) (a : Action) → ((r : ℕ) → a ≡ Reduce r → ⊥) → Breaks found a
@@ -267,21 +263,21 @@ any_mapped f (x ∷ xs) = ap (λ b. f x || b) (any_mapped f xs)
 pub whole_row : (m : Collection) (u : Guide) (q : ℕ) (before : List Bool) (row : List Action)
     (rule : Option ℕ) (shifts reduces : ℕ) (chosen : Bool) → length before ≡ m.grammar.bare.tokens
     → ((t : ℕ) → t < m.grammar.bare.tokens → get_or before t false ≡ has_before m.grammar.bare
-        (state_of m q) t) → IsRowTo m u q (length before) row shifts reduces chosen
+    (state_of m q) t) → IsRowTo m u q (length before) row shifts reduces chosen
     → rule ≡ (if list_any (λ b. b) before then None else common (filter is_filled row)) →
-        IsRow m u q row rule shifts reduces chosen
+    IsRow m u q row rule shifts reduces chosen
 whole_row m u q before row rule shifts reduces chosen len marks cells e =
     let f = has_before m.grammar.bare (state_of m q) in
     let whole : IsRowTo m u q m.grammar.bare.tokens row shifts reduces chosen =
-            subst (λ n. IsRowTo m u q n row shifts reduces chosen) len cells in
+    subst (λ n. IsRowTo m u q n row shifts reduces chosen) len cells in
     let all : list_any (λ b. b) before ≡ list_any f (tokens_of m.grammar) =
     ap (list_any (λ b. b)) (fill_by_all f before m.grammar.bare.tokens false len marks) ∙ any_mapped
-        f (tokens_of m.grammar) in
+    f (tokens_of m.grammar) in
     record {
       cells = whole;
       default = e ∙ ap (λ b. if b then None else common (filter is_filled row)) all
           ∙ ap (λ (l : List Action). if list_any f (tokens_of m.grammar) then None else common
-              (filter is_filled l)) whole.actions;
+          (filter is_filled l)) whole.actions;
     }
 
 -- what stands behind a dot in the body, and at its end
@@ -315,4 +311,4 @@ no_conflicts v u q e = flat_none (λ t. conflict_line v.built.grammar t (cell_in
         let class = class_in v.built.grammar t in
         let shift = shift_by v.built.grammar.bare (goto_in v.built q) (state_of v.built q) t in
         ap (λ (k : List Item). conflict_line v.built.grammar t
-            (cell_of class shift (rules_by (λ i. u.looks q i t) k))) e ∙ bare t class shift
+        (cell_of class shift (rules_by (λ i. u.looks q i t) k))) e ∙ bare t class shift

@@ -36,10 +36,14 @@ module _ {W : Type 0} (contents : W → Option (List ℕ)) where
   -- a whole text, and then another
   pub Sends-then : (a b c : Link W) (whole : Bool) (s t : List ℕ) → Sends contents a b true s →
       Sends contents b c whole t → Sends contents a c whole (s ++ t)
-  Sends-then a b c true s t p q = record { bytes = Appends-trans _ _ _ s t p.bytes q.bytes; failed =
-      q.failed ∙ p.failed }
-  Sends-then a b c false s t p q = record { bytes = Begins-then _ _ _ s t p.bytes q.bytes; failed =
-      q.failed }
+  Sends-then a b c true s t p q = record {
+    bytes = Appends-trans _ _ _ s t p.bytes q.bytes;
+    failed = q.failed ∙ p.failed;
+  }
+  Sends-then a b c false s t p q = record {
+    bytes = Begins-then _ _ _ s t p.bytes q.bytes;
+    failed = q.failed;
+  }
 
   -- a text that was cut is a beginning of a longer one
   pub Sends-stop : (a b : Link W) (s t : List ℕ) → Sends contents a b false s →
@@ -50,11 +54,15 @@ module _ {W : Type 0} (contents : W → Option (List ℕ)) where
   pub Sends-cut : (a b c : Link W) (whole : Bool) (n : ℕ) (text : List ℕ) → whole ≡ false →
       Appends (contents (device_of a)) (contents (device_of b)) (take n text)
       → Keeps (contents (device_of b)) (contents (device_of c)) → has_failed c ≡ true →
-          Sends contents a c whole text
+      Sends contents a c whole text
   Sends-cut a b c true n text e p k f = cc
   Sends-cut a b c false n text e p k f = record {
-    bytes = record { front = take n text; back = drop n text; parts = sym (take-append-drop n text);
-        written = Appends-kept _ _ _ (take n text) p k };
+    bytes = record {
+      front = take n text;
+      back = drop n text;
+      parts = sym (take-append-drop n text);
+      written = Appends-kept _ _ _ (take n text) p k;
+    };
     failed = f;
   }
 
@@ -99,15 +107,15 @@ module _ {W X : Type 0} (contents : W → Option (List ℕ)) (f : X → List ℕ
   Sends-part a b c true xs i d e h p q = cc
   Sends-part a b c false xs i d e h p q =
       let joined : Sends contents a c false (flat_map f (take i xs) ++ f (get_or xs i d)) =
-              Sends-then contents a b c false _ _ p q in
+      Sends-then contents a b c false _ _ p q in
       subst (λ (t : List ℕ). Sends contents a c false t) (sym (flat_map-at f xs i d h))
-          (Sends-stop contents a c _ _ joined)
+      (Sends-stop contents a c _ _ joined)
 
   -- the pieces before one were sent, and that one too
   pub Sends-next : (a b c : Link W) (xs : List X) (i : ℕ) (d : X) → i < length xs →
       Sends contents a b true (flat_map f (take i xs))
       → Sends contents b c true (f (get_or xs i d)) → Sends contents a c true
-          (flat_map f (take (suc i) xs))
+      (flat_map f (take (suc i) xs))
   Sends-next a b c xs i d h p q =
       subst (λ (t : List ℕ). Sends contents a c true t) (sym (flat_map-take f xs i d h))
-          (Sends-then contents a b c true _ _ p q)
+      (Sends-then contents a b c true _ _ p q)

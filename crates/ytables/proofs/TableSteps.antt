@@ -31,9 +31,9 @@ module _ (m : Collection) (u : Guide) (n : ℕ) (row : List Action) (rule : Opti
       (ds ds' : List (Option ℕ)) → length old.rows ≡ n → old.width ≡ m.grammar.bare.tokens →
       length ds ≡ n → IsPushed old new entries → ds' ≡ ds ++ rule ∷ []
       → ((t : ℕ) → t < m.grammar.bare.tokens → by_default rule
-          (unwrap_or (get_or entries t None) Error) ≡ by_default rule (get_or row t Error)) →
-          AreRowsTo m u n (act_at old.rows ds) (rule_at ds) → AreRowsTo m u (n + 1)
-          (act_at new.rows ds') (rule_at ds')
+      (unwrap_or (get_or entries t None) Error) ≡ by_default rule (get_or row t Error)) →
+      AreRowsTo m u n (act_at old.rows ds) (rule_at ds) → AreRowsTo m u (n + 1)
+      (act_at new.rows ds') (rule_at ds')
   rows_step old new entries ds ds' count wide len p e same h = record {
     action = λ q t l k. action q t k (side q l);
     default = λ q l. default q (side q l);
@@ -57,19 +57,19 @@ module _ (m : Collection) (u : Guide) (n : ℕ) (row : List Action) (rule : Opti
       at_end : (t : ℕ) → t < m.grammar.bare.tokens → act_at new.rows ds' n t ≡ action_in m u n t
       at_end t k =
           let here : entry_of new.rows n t ≡ get_or entries t None = ap (λ q. entry_of new.rows q t)
-                  (sym count) ∙ p.here t (subst (λ w. t < w) (sym wide) k) in
+          (sym count) ∙ p.here t (subst (λ w. t < w) (sym wide) k) in
           let cell : get_or row t Error ≡ (cell_in m u n t).action =
           ap (λ (l : List Action). get_or l t Error) r.cells.actions ∙ get_or-map-range_with_len
-              (λ t. (cell_in m u n t).action) 0 m.grammar.bare.tokens t t Error k (omega arith) in
+          (λ t. (cell_in m u n t).action) 0 m.grammar.bare.tokens t t Error k (omega arith) in
           ap (λ o. by_default o (unwrap_or (entry_of new.rows n t) Error)) added ∙ ap
-              (λ (x : Option Action). by_default rule (unwrap_or x Error)) here ∙ same t k
+          (λ (x : Option Action). by_default rule (unwrap_or x Error)) here ∙ same t k
           ∙ ap (by_default rule) cell ∙ ap (λ o. by_default o (cell_in m u n t).action) r.default
 
       action : (q t : ℕ) → t < m.grammar.bare.tokens → (q < n) ⊎
           (q ≡ n) → act_at new.rows ds' q t ≡ action_in m u q t
       action q t k (inl l) =
           ap (λ o. by_default o (unwrap_or (entry_of new.rows q t) Error)) (kept q l) ∙ ap
-              (λ (x : Option Action). by_default (rule_at ds q) (unwrap_or x Error))
-              (p.before q t (omega arith)) ∙ h.action q t l k
+          (λ (x : Option Action). by_default (rule_at ds q) (unwrap_or x Error))
+          (p.before q t (omega arith)) ∙ h.action q t l k
       action q t k (inr l) = ap (λ q. act_at new.rows ds' q t) l ∙ at_end t k ∙ ap
           (λ q. action_in m u q t) (sym l)

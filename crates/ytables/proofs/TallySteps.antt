@@ -12,9 +12,9 @@ use Rattle.ytables.specs.declared.cell.Action.{Action}
 use Rattle.ytables.specs.declared.cell.Action.TheVariants.{Reduce, Error}
 use Rattle.ytables.specs.declared.cell.Cell.{Cell}
 use Rattle.ytables.specs.declared.cell.Tally.{Tally}
-use Rattle.ytables.specs.Cell.{lone, reduced, cell_of, is_beat, is_lose, is_ban, is_rest}
+use Rattle.ytables.specs.Cell.{lone, reduce, cell_of, is_beat, is_lose, is_ban, is_rest}
 use Rattle.ytables.specs.Tally.{IsTally, no_tally, tally_more, lesser, least_of, kept_of}
-use Rattle.ytables.specs.Tally.{reduced_by, settled}
+use Rattle.ytables.specs.Tally.{reduce_of, settle}
 
 or_true : (b : Bool) → (b || true) ≡ true
 or_true true = refl
@@ -65,8 +65,14 @@ length_push xs r = length-append xs (r ∷ [])
 module _ (class : ℕ → Class) where
   -- no rule, nothing found
   pub tally_none : IsTally class [] no_tally
-  tally_none = record { banned = refl; beaten = refl; rests = refl; kept = refl; first = refl; all =
-      refl }
+  tally_none = record {
+    banned = refl;
+    beaten = refl;
+    rests = refl;
+    kept = refl;
+    first = refl;
+    all = refl;
+  }
 
   -- the least rule, where one more is kept
   first_more : (rs : List ℕ) (y : Tally) (r : ℕ) → IsTally class rs y →
@@ -74,18 +80,18 @@ module _ (class : ℕ → Class) where
   first_more rs y r t h =
       let kept = kept_of class rs in
       let by_kept : lesser y r ≡ (if nat_eq (length kept) 0 then r else min y.first r) =
-              ap (λ n. if nat_eq n 0 then r else min y.first r) t.kept in
+      ap (λ n. if nat_eq n 0 then r else min y.first r) t.kept in
       let by_first : (if nat_eq (length kept) 0 then r else min y.first r) ≡
-              (if nat_eq (length kept) 0 then r else min (least_of kept) r) =
-              ap (λ f. if nat_eq (length kept) 0 then r else min f r) t.first in
+      (if nat_eq (length kept) 0 then r else min (least_of kept) r) =
+      ap (λ f. if nat_eq (length kept) 0 then r else min f r) t.first in
       by_kept ∙ by_first ∙ sym (least_push kept r) ∙ ap least_of
-          (sym (filter_yes (λ s. not (is_lose (class s))) rs r h))
+      (sym (filter_yes (λ s. not (is_lose (class s))) rs r h))
 
   kept_more : (rs : List ℕ) (y : Tally) (r : ℕ) → IsTally class rs y →
       not (is_lose (class r)) ≡ true → y.kept + 1 ≡ length (kept_of class (rs ++ r ∷ []))
   kept_more rs y r t h =
       ap (λ n. n + 1) t.kept ∙ sym (length_push (kept_of class rs) r) ∙ ap length
-          (sym (filter_yes (λ s. not (is_lose (class s))) rs r h))
+      (sym (filter_yes (λ s. not (is_lose (class s))) rs r h))
 
   all_more : (rs : List ℕ) (y : Tally) (r : ℕ) → IsTally class rs y → y.all + 1 ≡ length
       (rs ++ r ∷ [])
@@ -135,17 +141,29 @@ module _ (class : ℕ → Class) where
 
 -- the reduction by the least of these rules
 reduced_is : (xs : List ℕ) (y : Tally) (choice : Bool) → y.kept ≡ length xs →
-    y.first ≡ least_of xs → reduced_by y choice ≡ reduced choice xs
-reduced_is [] y choice k f = ap (λ n. if nat_eq n 0 then lone Error choice else record { action =
-    Reduce y.first; shift_reduce = 0; reduce_reduce = n - 1; choice = choice }) k
+    y.first ≡ least_of xs → reduce_of y choice ≡ reduce choice xs
+reduced_is [] y choice k f = ap (λ n. if nat_eq n 0 then lone Error choice else record {
+  action = Reduce y.first;
+  shift_reduce = 0;
+  reduce_reduce = n - 1;
+  choice = choice;
+}) k
 reduced_is (x ∷ xs) y choice k f =
-    let at : ℕ → ℕ → Bool → Cell = λ n s b. if b then lone Error choice else record { action =
-            Reduce s; shift_reduce = 0; reduce_reduce = n - 1; choice = choice } in
+    let at : ℕ → ℕ → Bool → Cell = λ n s b. if b then lone Error choice else record {
+      action = Reduce s;
+      shift_reduce = 0;
+      reduce_reduce = n - 1;
+      choice = choice;
+    } in
     let less : suc (length xs) - 1 ≡ length xs = omega arith in
     ap (λ n. at n y.first (nat_eq n 0)) k ∙ ap (at (suc (length xs)) y.first)
-        (eqb-suc-zero (length xs)) ∙ ap (λ s. at (suc (length xs)) s false) f
-    ∙ ap (λ n. record { action = Reduce (fold min x xs); shift_reduce = 0; reduce_reduce = n;
-        choice = choice }) less
+    (eqb-suc-zero (length xs)) ∙ ap (λ s. at (suc (length xs)) s false) f
+    ∙ ap (λ n. record {
+      action = Reduce (fold min x xs);
+      shift_reduce = 0;
+      reduce_reduce = n;
+      choice = choice;
+    }) less
 
 filter_all : (xs : List ℕ) → filter (λ r. true) xs ≡ xs
 filter_all [] = refl
@@ -153,24 +171,28 @@ filter_all (x ∷ xs) = ap (λ l. x ∷ l) (filter_all xs)
 
 -- the cell where there is no shift: no class is asked
 pub settled_none : (class : ℕ → Class) (rules : List ℕ) (y : Tally) → IsTally (λ r. Rest) rules y →
-    settled y None ≡ cell_of class None rules
+    settle y None ≡ cell_of class None rules
 settled_none class rules y t =
-    ap (λ n. reduced_by y (nat_lt 1 n)) t.all ∙ reduced_is rules y (nat_lt 1 (length rules))
-        (t.kept ∙ ap length (filter_all rules)) (t.first ∙ ap least_of (filter_all rules))
+    ap (λ n. reduce_of y (nat_lt 1 n)) t.all ∙ reduced_is rules y (nat_lt 1 (length rules))
+    (t.kept ∙ ap length (filter_all rules)) (t.first ∙ ap least_of (filter_all rules))
 
 -- the cell where there is one
 pub settled_some : (class : ℕ → Class) (rules : List ℕ) (y : Tally) (shift : Action) →
-    IsTally class rules y → settled y (Some shift) ≡ cell_of class (Some shift) rules
+    IsTally class rules y → settle y (Some shift) ≡ cell_of class (Some shift) rules
 settled_some class rules y shift t =
     let at : Bool → Bool → Cell → ℕ → ℕ → Cell = λ b c x n m. if b then lone Error true else
-            (if c then x else record { action = shift; shift_reduce = n; reduce_reduce = 0; choice =
-            nat_lt 0 m }) in
-    ap (λ b. at b y.beaten (reduced_by y true) y.rests y.all) t.banned ∙ ap
-        (λ c. at (list_any (λ r. is_ban (class r)) rules) c (reduced_by y true) y.rests y.all)
-        t.beaten
+    (if c then x else record {
+      action = shift;
+      shift_reduce = n;
+      reduce_reduce = 0;
+      choice = nat_lt 0 m;
+    }) in
+    ap (λ b. at b y.beaten (reduce_of y true) y.rests y.all) t.banned ∙ ap
+    (λ c. at (list_any (λ r. is_ban (class r)) rules) c (reduce_of y true) y.rests y.all)
+    t.beaten
     ∙ ap (λ x. at (list_any (λ r. is_ban (class r)) rules) (list_any (λ r. is_beat (class r)) rules)
-        x y.rests y.all) (reduced_is (kept_of class rules) y true t.kept t.first)
+    x y.rests y.all) (reduced_is (kept_of class rules) y true t.kept t.first)
     ∙ ap (λ n. at (list_any (λ r. is_ban (class r)) rules) (list_any (λ r. is_beat (class r)) rules)
-        (reduced true (kept_of class rules)) n y.all) t.rests
+    (reduce true (kept_of class rules)) n y.all) t.rests
     ∙ ap (λ m. at (list_any (λ r. is_ban (class r)) rules) (list_any (λ r. is_beat (class r)) rules)
-        (reduced true (kept_of class rules)) (count_by (λ r. is_rest (class r)) rules) m) t.all
+    (reduce true (kept_of class rules)) (count_by (λ r. is_rest (class r)) rules) m) t.all

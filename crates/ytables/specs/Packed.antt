@@ -2,6 +2,7 @@
 use Rattle.std.specs.Prelude.{ℕ, ◌≡◌, ◌+◌, ◌<◌, ◌≤◌, ◌^◌, true, List, [], length, map, Option, None}
 use Rattle.std.specs.Prelude.{is_some, if◌then◌else◌, nat_eq, nat_lt, slice_index, slice_index_or}
 use Rattle.std.specs.List.{range_with_len}
+use Rattle.ygrammar.specs.Grammar.{most_symbols}
 
 -- rows of so many columns, each with an entry or none at a column
 pub record PackedRows (T : Type 0) : Type 0 where
@@ -23,10 +24,10 @@ unpacked_row cells owners width q d = map (λ t. held_at cells owners q (d + t))
     (range_with_len 0 width)
 
 -- the rows that the packed ones stand for
-abbrev pub unpacked : {T : Type 0} → List (Option T) → List ℕ → List ℕ → ℕ → List (List (Option T))
-unpacked cells owners displacements width =
+abbrev pub unpack : {T : Type 0} → List (Option T) → List ℕ → List ℕ → ℕ → List (List (Option T))
+unpack cells owners displacements width =
     map (λ q. unpacked_row cells owners width q (slice_index displacements q))
-        (range_with_len 0 (length displacements))
+    (range_with_len 0 (length displacements))
 
 -- the owners are rows below n
 abbrev pub AreOwners : List ℕ → ℕ → Type 0
@@ -37,6 +38,7 @@ abbrev pub FitsFrom : {T : Type 0} → ℕ → List ℕ → List (Option T) → 
 FitsFrom t owners row d = (s : ℕ) → t ≤ s → s < length row → is_some (slice_index_or row s None) ≡
     true → slice_index owners (d + s) ≡ 0
 
+-- each filled place of the row is free
 abbrev pub FitsAt : {T : Type 0} → List ℕ → List (Option T) → ℕ → Type 0
 FitsAt owners row d = FitsFrom 0 owners row d
 
@@ -66,7 +68,7 @@ pub record IsPushed {T : Type 0} (old new : PackedRows T) (row : List (Option T)
 -- what holds of packed rows
 pub record IsPacked {T : Type 0} (cells : List (Option T)) (owners displacements : List ℕ)
     (width : ℕ) : Type 0 where
-  pub narrow : width ≤ 4096
+  pub narrow : width ≤ most_symbols
   pub room : length owners ≤ length cells
   pub owners_in : AreOwners owners (length displacements)
   pub near : (q : ℕ) → q < length displacements → slice_index displacements q < 2 ^ 63

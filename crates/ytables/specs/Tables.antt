@@ -18,10 +18,12 @@ use Rattle.ytables.specs.Cell.{class_of, cell_of, is_filled, common, by_default}
 abbrev pub after_dot : ContextFree → Item → List ℕ
 after_dot g i = drop i.dot (body_of g i.rule)
 
+-- the form begins with t
 abbrev pub begins_with : ℕ → List ℕ → Bool
 begins_with t [] = false
 begins_with t (x ∷ y) = nat_eq x t
 
+-- the form is empty
 abbrev pub is_empty : List ℕ → Bool
 is_empty [] = true
 is_empty (x ∷ y) = false
@@ -63,6 +65,7 @@ rules_by test items = map (λ (i : Item). i.rule) (filter test items)
 abbrev pub class_at : GrammarValue → Option Precedence → ℕ → Class
 class_at v level r = class_of level (slice_index_or v.rule_precedences r None)
 
+-- rule r against the shift of token t
 abbrev pub class_in : GrammarValue → ℕ → ℕ → Class
 class_in v t = class_at v (slice_index_or v.token_precedences t None)
 
@@ -72,9 +75,11 @@ abbrev pub cell_by : GrammarValue → (ℕ → Option ℕ) → (Item → ℕ →
 cell_by v to looks k t = cell_of (class_in v t) (shift_by v.bare to k t)
     (rules_by (λ i. looks i t) (ready_in v.bare k))
 
+-- all tokens, by number
 abbrev pub tokens_of : GrammarValue → List ℕ
 tokens_of v = range_with_len 0 v.bare.tokens
 
+-- the actions of the state with these items
 abbrev pub row_by : GrammarValue → (ℕ → Option ℕ) → (Item → ℕ → Bool) → List Item → List Action
 row_by v to looks k = map (λ t. (cell_by v to looks k t).action) (tokens_of v)
 
@@ -83,12 +88,13 @@ row_by v to looks k = map (λ t. (cell_by v to looks k t).action) (tokens_of v)
 abbrev pub default_by : GrammarValue → (ℕ → Option ℕ) → (Item → ℕ → Bool) → List Item → Option ℕ
 default_by v to looks k =
     if list_any (has_before v.bare k) (tokens_of v) then None else common
-        (filter is_filled (row_by v to looks k))
+    (filter is_filled (row_by v to looks k))
 
 -- the same by number
 abbrev pub cell_in : Collection → Guide → ℕ → ℕ → Cell
 cell_in m u q t = cell_by m.grammar (goto_in m q) (u.looks q) (state_of m q) t
 
+-- the default rule of state q
 abbrev pub default_in : Collection → Guide → ℕ → Option ℕ
 default_in m u q = default_by m.grammar (goto_in m q) (u.looks q) (state_of m q)
 
@@ -100,12 +106,15 @@ action_in m u q t = by_default (default_in m u q) (cell_in m u q t).action
 abbrev pub row_shift_reduce : Collection → Guide → ℕ → ℕ
 row_shift_reduce m u q = sum_by (λ t. (cell_in m u q t).shift_reduce) (tokens_of m.grammar)
 
+-- those of reductions with one another
 abbrev pub row_reduce_reduce : Collection → Guide → ℕ → ℕ
 row_reduce_reduce m u q = sum_by (λ t. (cell_in m u q t).reduce_reduce) (tokens_of m.grammar)
 
+-- a cell of the state has a choice
 abbrev pub row_choice : Collection → Guide → ℕ → Bool
 row_choice m u q = list_any (λ t. (cell_in m u q t).choice) (tokens_of m.grammar)
 
+-- all states, by number
 abbrev pub states_of : Collection → List ℕ
 states_of m = range_with_len 0 (length m.states)
 
@@ -122,13 +131,16 @@ pub record TablesValue : Type 0 where
 abbrev pub rule_at : List (Option ℕ) → ℕ → Option ℕ
 rule_at defaults q = slice_index_or defaults q None
 
+-- the action by these rows and default rules
 abbrev pub act_at : List (List (Option Action)) → List (Option ℕ) → ℕ → ℕ → Action
 act_at actions defaults q t = by_default (rule_at defaults q)
     (unwrap_or (entry_of actions q t) Error)
 
+-- the default rule of state q by the tables
 abbrev pub default_at : TablesValue → ℕ → Option ℕ
 default_at v q = rule_at v.defaults q
 
+-- the action of state q at token t by the tables
 abbrev pub action_at : TablesValue → ℕ → ℕ → Action
 action_at v q t = act_at v.actions v.defaults q t
 
@@ -140,10 +152,10 @@ pub record AreRowsTo (m : Collection) (u : Guide) (n : ℕ) (act : ℕ → ℕ �
 
 -- The sums over all cells of the states below n.
 pub record AreSumsTo (m : Collection) (u : Guide) (n shifts reduces : ℕ) (chosen : Bool) : Type 0
-    where
-  pub shift_reduce : shifts ≡ sum_by (row_shift_reduce m u) (range_with_len 0 n)
-  pub reduce_reduce : reduces ≡ sum_by (row_reduce_reduce m u) (range_with_len 0 n)
-  pub choice : chosen ≡ list_any (row_choice m u) (range_with_len 0 n)
+  where
+    pub shift_reduce : shifts ≡ sum_by (row_shift_reduce m u) (range_with_len 0 n)
+    pub reduce_reduce : reduces ≡ sum_by (row_reduce_reduce m u) (range_with_len 0 n)
+    pub choice : chosen ≡ list_any (row_choice m u) (range_with_len 0 n)
 
 -- The tables go by these gotos and lookaheads: all cells, and the sums over all states and all
 -- tokens.
@@ -151,6 +163,7 @@ pub record FollowsGuide (v : TablesValue) (u : Guide) : Type 0 where
   pub rows : AreRowsTo v.built u (length v.built.states) (action_at v) (default_at v)
   pub sums : AreSumsTo v.built u (length v.built.states) v.shift_reduce v.reduce_reduce v.choice
 
+-- The tables are right, whichever guide agrees with the automaton.
 abbrev pub AreTables : TablesValue → Type 0
 AreTables v = (u : Guide) → IsGuide v.built u → FollowsGuide v u
 
@@ -159,7 +172,7 @@ AreTables v = (u : Guide) → IsGuide v.built u → FollowsGuide v u
 abbrev pub AreGotosTo : Collection → ℕ → List (List (Option ℕ)) → Type 0
 AreGotosTo m n rows =
     (q x : ℕ) → q < n → m.grammar.bare.tokens ≤ x → x < m.grammar.bare.symbols → entry_of rows q
-        (x - m.grammar.bare.tokens) ≡ goto_in m q x
+    (x - m.grammar.bare.tokens) ≡ goto_in m q x
 
 -- the gotos of all states
 pub record AreGotos (m : Collection) (packed : PackedRows ℕ) : Type 0 where

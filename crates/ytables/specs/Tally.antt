@@ -10,6 +10,7 @@ use Rattle.ytables.specs.declared.cell.Cell.{Cell}
 use Rattle.ytables.specs.declared.cell.Tally.{Tally}
 use Rattle.ytables.specs.Cell.{lone, is_beat, is_lose, is_ban, is_rest}
 
+-- what a pass has found before the first rule
 abbrev pub no_tally : Tally
 no_tally = record { banned = false; beaten = false; rests = 0; kept = 0; first = 0; all = 0 }
 
@@ -23,35 +24,71 @@ pub record IsSmall (y : Tally) : Type 0 where
 abbrev pub lesser : Tally → ℕ → ℕ
 lesser y r = if nat_eq y.kept 0 then r else min y.first r
 
+-- one more rule of this class
 abbrev pub tally_more : Tally → ℕ → Class → Tally
-tally_more y r Beat = record { banned = y.banned; beaten = true; rests = y.rests; kept = y.kept + 1;
-    first = lesser y r; all = y.all + 1 }
-tally_more y r Lose = record { banned = y.banned; beaten = y.beaten; rests = y.rests; kept = y.kept;
-    first = y.first; all = y.all + 1 }
-tally_more y r Ban = record { banned = true; beaten = y.beaten; rests = y.rests; kept = y.kept + 1;
-    first = lesser y r; all = y.all + 1 }
-tally_more y r Rest = record { banned = y.banned; beaten = y.beaten; rests = y.rests + 1; kept =
-    y.kept + 1; first = lesser y r; all = y.all + 1 }
+tally_more y r Beat = record {
+  banned = y.banned;
+  beaten = true;
+  rests = y.rests;
+  kept = y.kept + 1;
+  first = lesser y r;
+  all = y.all + 1;
+}
+tally_more y r Lose = record {
+  banned = y.banned;
+  beaten = y.beaten;
+  rests = y.rests;
+  kept = y.kept;
+  first = y.first;
+  all = y.all + 1;
+}
+tally_more y r Ban = record {
+  banned = true;
+  beaten = y.beaten;
+  rests = y.rests;
+  kept = y.kept + 1;
+  first = lesser y r;
+  all = y.all + 1;
+}
+tally_more y r Rest = record {
+  banned = y.banned;
+  beaten = y.beaten;
+  rests = y.rests + 1;
+  kept = y.kept + 1;
+  first = lesser y r;
+  all = y.all + 1;
+}
 
-abbrev pub reduced_by : Tally → Bool → Cell
-reduced_by y choice =
+-- reduce by the least kept rule, where there is one
+abbrev pub reduce_of : Tally → Bool → Cell
+reduce_of y choice =
     if nat_eq y.kept 0 then lone Error choice
-    else record { action = Reduce y.first; shift_reduce = 0; reduce_reduce = y.kept - 1; choice =
-        choice }
+    else record {
+      action = Reduce y.first;
+      shift_reduce = 0;
+      reduce_reduce = y.kept - 1;
+      choice = choice;
+    }
 
-abbrev pub settled : Tally → Option Action → Cell
-settled y None = reduced_by y (nat_lt 1 y.all)
-settled y (Some shift) =
+-- the cell that a tally gives
+abbrev pub settle : Tally → Option Action → Cell
+settle y None = reduce_of y (nat_lt 1 y.all)
+settle y (Some shift) =
     if y.banned then lone Error true
-    else if y.beaten then reduced_by y true
-    else record { action = shift; shift_reduce = y.rests; reduce_reduce = 0; choice =
-        nat_lt 0 y.all }
+    else if y.beaten then reduce_of y true
+    else record {
+      action = shift;
+      shift_reduce = y.rests;
+      reduce_reduce = 0;
+      choice = nat_lt 0 y.all;
+    }
 
 -- the least of the rules, or 0
 abbrev pub least_of : List ℕ → ℕ
 least_of [] = 0
 least_of (r ∷ rules) = fold min r rules
 
+-- the rules that do not lose
 abbrev pub kept_of : (ℕ → Class) → List ℕ → List ℕ
 kept_of class rules = filter (λ r. not (is_lose (class r))) rules
 

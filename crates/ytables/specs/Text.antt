@@ -15,8 +15,10 @@ count_line words n = words ++ (decimal n ++ codes "\n")
 abbrev pub pair_line : List ℕ → ℕ → ℕ → List ℕ
 pair_line words a b = words ++ (decimal a ++ (codes " " ++ (decimal b ++ codes "\n")))
 
+-- all rules, by number
 abbrev pub rules_of : GrammarValue → List ℕ
 rules_of v = range_with_len 0 (length v.bare.rules)
 
+-- all nonterminals, by number
 abbrev pub nonterminals_of : GrammarValue → List ℕ
 nonterminals_of v = range_with_len v.bare.tokens (v.bare.symbols - v.bare.tokens)

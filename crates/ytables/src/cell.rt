@@ -2,7 +2,7 @@
 
 ghost use Rattle.std.specs.Prelude.{◌≡◌};
 ghost use Rattle.ytables.specs.Cell.{lone};
-ghost use Rattle.ytables.specs.Tally.{no_tally, IsSmall, tally_more, reduced_by, settled};
+ghost use Rattle.ytables.specs.Tally.{no_tally, IsSmall, tally_more, reduce_of, settle};
 
 use crate::class::Class;
 
@@ -96,7 +96,7 @@ impl Tally {
 
     /// The cell that reduces by the least rule, each further one counted as a conflict.
     fn reduced(&self, choice: bool) -> Cell
-        ensures { result ≡ reduced_by self.now choice }
+        ensures { result ≡ reduce_of self.now choice }
     {
         if self.kept == 0 {
             return lone(Action::Error, choice);
@@ -111,7 +111,7 @@ impl Tally {
 
     /// The cell, where there is a shift or none.
     pub fn settle(&self, shift: Option<Action>) -> Cell
-        ensures { result ≡ settled self.now shift }
+        ensures { result ≡ settle self.now shift }
     {
         let Some(action) = shift else {
             return self.reduced(self.all > 1);

@@ -24,7 +24,7 @@ fn gotos_of(
     ensures gotos { IfOk result (λ v. (x : ℕ) → x < length v.items
         → slice_index_or v.items x None ≡ goto_in automaton.now q (tokens + x)) }
 {
-    let _states = automaton.states();
+    let _guide = automaton.states();
     let grammar = automaton.grammar();
     let items = automaton.items(q);
     let mut row = vec![in alloc; None; grammar.symbols() - tokens]?;

@@ -1,4 +1,7 @@
 //! The tables of an automaton: cells, their conflicts, and the report and the table as texts.
+//!
+//! A call whose result is `_well_formed` or `_guide` is made for its clause alone: that the grammar
+//! is well formed, or that the states are right and a pair of functions agrees with the automaton.
 #![tactic(auto)]
 
 mod cell;

@@ -2,6 +2,7 @@
 
 ghost use Rattle.std.specs.Prelude.{ℕ, ◌≡◌, ◌+◌, ◌<◌, ◌≤◌, ◌↔◌, ◌^◌, [], length, slice_index};
 ghost use Rattle.std.specs.Prelude.{slice_index_or, vec_len, true, false, All, IfOk, OnOk};
+ghost use Rattle.ygrammar.specs.Grammar.{most_symbols};
 ghost use Rattle.ytables.specs.Packed.{AreOwners, FitsAt, IsPushed, entry_of, held_at};
 ghost use Rattle.ytables.specs.Packed.{SameCells, IsWritten};
 
@@ -24,13 +25,13 @@ pub struct Packed<T: Copy> {
 }
 
 impl<T: Copy> Model for Packed<T> {
-    ghost use Rattle.ytables.specs.Packed.{PackedRows, IsPacked, unpacked};
+    ghost use Rattle.ytables.specs.Packed.{PackedRows, IsPacked, unpack};
 
     ghost Value = { PackedRows T };
 
     ghost view = { λ p. record {
       width = p.width;
-      rows = unpacked p.cells.items p.owners.items p.displacements.items p.width;
+      rows = unpack p.cells.items p.owners.items p.displacements.items p.width;
     } };
 
     ghost invariant = { λ p. IsPacked p.cells.items p.owners.items p.displacements.items p.width };
@@ -138,7 +139,7 @@ fn held<T: Copy>(cells: &[Option<T>], owners: &[usize], q: usize, k: usize) -> O
 impl<T: Copy> Packed<T> {
     /// No rows, of so many columns.
     pub fn new(alloc: Global, width: usize) -> Packed<T>
-        requires { width ≤ 4096 }
+        requires { width ≤ most_symbols }
         ensures { result ≡ record { width = width; rows = [] } }
     {
         Packed {

@@ -9,9 +9,9 @@ ghost use Rattle.ytables.specs.Link.{device_of, has_failed};
 ghost use Rattle.ytables.specs.Sends.{Sends, Grows};
 ghost use Rattle.ytables.specs.Tables.{default_at, tokens_of};
 ghost use Rattle.ytables.specs.Text.{name_of, pair_line, rules_of};
-ghost use Rattle.ytables.specs.Report.{spaced, headed, rule_text, unreachable_line, token_line};
-ghost use Rattle.ytables.specs.Report.{look_text, looks_text, on_text, item_left, item_front};
-ghost use Rattle.ytables.specs.Report.{item_back, item_line, action_line, goto_line};
+ghost use Rattle.ytables.specs.Report.{name_list, rule_head, rule_text, unreachable_line};
+ghost use Rattle.ytables.specs.Report.{token_line, look_text, looks_text, on_text, item_left};
+ghost use Rattle.ytables.specs.Report.{item_front, item_back, item_line, action_line, goto_line};
 ghost use Rattle.ytables.specs.Report.{conflict_line, actions_text, rule_or_actions};
 ghost use Rattle.ytables.specs.Report.{gotos_text, conflicts_text, items_text, cells_text};
 ghost use Rattle.ytables.specs.Report.{state_text, states_text, counts_text, tokens_part};
@@ -40,7 +40,7 @@ fn put_name<W: Write>(link: &mut Link<W>, grammar: &Grammar, s: Sym) -> Option<(
 fn put_names<W: Write>(link: &mut Link<W>, grammar: &Grammar, symbols: &[Sym]) -> Option<()>
     requires { All (λ s. s < grammar.now.bare.symbols) symbols.now }
     ensures { Sends W.contents link.old link.new (is_some result)
-        (spaced grammar.now symbols.now) }
+        (name_list grammar.now symbols.now) }
 {
     for s in symbols {
         put_name(link, grammar, *s)?;
@@ -52,9 +52,9 @@ fn put_names<W: Write>(link: &mut Link<W>, grammar: &Grammar, symbols: &[Sym]) -
 fn put_headed<W: Write>(link: &mut Link<W>, grammar: &Grammar, r: usize, words: &[u8]) -> Option<()>
     requires { r < length grammar.now.bare.rules }
     ensures { Sends W.contents link.old link.new (is_some result)
-        (headed grammar.now r words.now) }
+        (rule_head grammar.now r words.now) }
 {
-    let _symbols = grammar.symbols();
+    let _well_formed = grammar.symbols();
     let mut number = itoa::Buffer::new();
     let number = number.format(r).as_bytes();
     put_all(
@@ -68,7 +68,7 @@ fn put_rule<W: Write>(link: &mut Link<W>, grammar: &Grammar, r: usize) -> Option
     requires { r < length grammar.now.bare.rules }
     ensures { Sends W.contents link.old link.new (is_some result) (rule_text grammar.now r) }
 {
-    let _symbols = grammar.symbols();
+    let _well_formed = grammar.symbols();
     put_headed(link, grammar, r, b":")?;
     put_names(link, grammar, grammar.rule(r).body())?;
     put(link, b"\n")
@@ -90,7 +90,7 @@ fn put_unreachable<W: Write>(link: &mut Link<W>, grammar: &Grammar, r: usize) ->
     ensures { Sends W.contents link.old link.new (is_some result)
         (unreachable_line grammar.now r) }
 {
-    let _symbols = grammar.symbols();
+    let _well_formed = grammar.symbols();
     if grammar.reachable(grammar.rule(r).left()) {
         Some(())
     } else {
@@ -122,7 +122,7 @@ fn put_tokens<W: Write>(link: &mut Link<W>, grammar: &Grammar) -> Option<()>
     ensures { Sends W.contents link.old link.new (is_some result) (flat_map
         (token_line grammar.now) (tokens_of grammar.now)) }
 {
-    let _symbols = grammar.symbols();
+    let _well_formed = grammar.symbols();
     for t in 0..token_count(grammar) {
         put_token(link, grammar, t)?;
     }
@@ -144,7 +144,7 @@ fn put_look<W: Write>(
 {
     let automaton = tables.automaton();
     let grammar = automaton.grammar();
-    let _symbols = grammar.symbols();
+    let _well_formed = grammar.symbols();
     if automaton.looks(q, item, t) {
         put_name(link, grammar, t)
     } else {
@@ -182,7 +182,7 @@ fn put_left<W: Write>(link: &mut Link<W>, grammar: &Grammar, r: usize) -> Option
     requires { r < length grammar.now.bare.rules }
     ensures { Sends W.contents link.old link.new (is_some result) (item_left grammar.now r) }
 {
-    let _symbols = grammar.symbols();
+    let _well_formed = grammar.symbols();
     put_all(link, &[b"  ", grammar.name(grammar.rule(r).left()), b":"])
 }
 
@@ -192,7 +192,7 @@ fn put_front<W: Write>(link: &mut Link<W>, grammar: &Grammar, item: Item) -> Opt
     requires dot { item.dot ≤ length (body_of grammar.now.bare item.rule) }
     ensures { Sends W.contents link.old link.new (is_some result) (item_front grammar.now item) }
 {
-    let _symbols = grammar.symbols();
+    let _well_formed = grammar.symbols();
     put_left(link, grammar, item.rule)?;
     put_names(link, grammar, &grammar.rule(item.rule).body()[..item.dot])?;
     put(link, b" .")
@@ -207,7 +207,7 @@ fn put_back<W: Write>(link: &mut Link<W>, tables: &Tables, q: usize, item: Item)
         → Sends W.contents link.old link.new (is_some result) (item_back tables.now u q item) }
 {
     let grammar = tables.automaton().grammar();
-    let _symbols = grammar.symbols();
+    let _well_formed = grammar.symbols();
     put_names(link, grammar, &grammar.rule(item.rule).body()[item.dot..])?;
     put_on(link, tables, q, item)?;
     put(link, b"\n")
@@ -231,7 +231,7 @@ fn put_items<W: Write>(link: &mut Link<W>, tables: &Tables, q: usize) -> Option<
         → Sends W.contents link.old link.new (is_some result) (items_text tables.now u q) }
 {
     let automaton = tables.automaton();
-    let _states = automaton.states();
+    let _guide = automaton.states();
     for item in automaton.items(q) {
         put_item(link, tables, q, *item)?;
     }
@@ -265,7 +265,7 @@ fn put_actions<W: Write>(link: &mut Link<W>, tables: &Tables, q: usize) -> Optio
     ensures { Sends W.contents link.old link.new (is_some result) (actions_text tables.now q) }
 {
     let grammar = tables.automaton().grammar();
-    let _symbols = grammar.symbols();
+    let _well_formed = grammar.symbols();
     for t in 0..token_count(grammar) {
         put_action(link, grammar, t, tables.action(q, t))?;
     }
@@ -341,7 +341,7 @@ fn put_all_conflicts<W: Write>(link: &mut Link<W>, tables: &Tables, q: usize) ->
 {
     let automaton = tables.automaton();
     let grammar = automaton.grammar();
-    let _symbols = grammar.symbols();
+    let _well_formed = grammar.symbols();
     for t in 0..token_count(grammar) {
         put_conflict(link, grammar, t, cell_of(automaton, q, t))?;
     }
@@ -355,7 +355,7 @@ fn put_conflicts<W: Write>(link: &mut Link<W>, tables: &Tables, q: usize) -> Opt
         → Sends W.contents link.old link.new (is_some result) (conflicts_text tables.now u q) }
 {
     let automaton = tables.automaton();
-    let _states = automaton.states();
+    let _guide = automaton.states();
     if has_ready(automaton.grammar(), automaton.items(q)) {
         put_all_conflicts(link, tables, q)
     } else {
@@ -466,7 +466,7 @@ impl Tables {
         ensures failed { has_failed link.new ≡ is_err result }
         ensures fault { IfErr result (λ e. e ≡ TableFault.Write) }
     {
-        let _states = self.automaton().states();
+        let _guide = self.automaton().states();
         link.clear();
         match put_report(link, self) {
             Some(()) => Ok(()),

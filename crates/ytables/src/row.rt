@@ -16,10 +16,7 @@ use crate::cell::{Action, Cell, Tally};
 use crate::class::class_between;
 use std::alloc::{AllocError, Global};
 use ygrammar::{Grammar, Precedence, Sym};
-use ylalr::{Automaton, Item, token_count};
-
-/// The number of `$end`.
-const END: Sym = 0;
+use ylalr::{Automaton, END, Item, token_count};
 
 /// The symbol after the dot.
 pub fn next_symbol(grammar: &Grammar, item: Item) -> Option<Sym>
@@ -81,14 +78,16 @@ fn tokens_before(
     Ok(marks)
 }
 
-/// Whether the token is a lookahead of the item in the state.
-fn looks(automaton: &Automaton, q: usize, item: Item, t: Sym) -> bool
+/// Whether the item is complete, of another rule than rule 0, and looks at the token.
+fn reduces_at(automaton: &Automaton, q: usize, item: Item, t: Sym) -> bool
     requires state { q < length automaton.now.states }
     requires token { t < automaton.now.grammar.bare.tokens }
-    ensures { (u : Guide) → IsGuide automaton.now u → result ≡ u.looks q item t }
+    requires rule { item.rule < length automaton.now.grammar.bare.rules }
+    ensures { (u : Guide) → IsGuide automaton.now u
+        → result ≡ (is_ready automaton.now.grammar.bare item && u.looks q item t) }
 {
-    let _symbols = automaton.grammar().symbols();
-    automaton.looks(q, item, t)
+    let _well_formed = automaton.grammar().symbols();
+    is_ready(automaton.grammar(), item) && automaton.looks(q, item, t)
 }
 
 /// The rules whose complete items look at the token, tallied.
@@ -110,13 +109,10 @@ fn tally_at(
     ensures all { result.all ≤ length items.now }
 {
     let grammar = automaton.grammar();
-    let _symbols = grammar.symbols();
+    let _well_formed = grammar.symbols();
     let mut tally = Tally::new();
     for item in items {
-        if !is_ready(grammar, *item) {
-            continue;
-        }
-        if !looks(automaton, q, *item, t) {
+        if !reduces_at(automaton, q, *item, t) {
             continue;
         }
         let rule = grammar.rule(item.rule).precedence();
@@ -131,7 +127,7 @@ fn shift_at(automaton: &Automaton, q: usize, t: Sym) -> Action
     requires token { t < automaton.now.grammar.bare.tokens }
     ensures { result ≡ shift_of (goto_in automaton.now q) t }
 {
-    let _symbols = automaton.grammar().symbols();
+    let _well_formed = automaton.grammar().symbols();
     if t == END {
         return Action::Accept;
     }
@@ -154,7 +150,7 @@ fn cell_at(automaton: &Automaton, q: usize, t: Sym, shifts: bool, items: &[Item]
     ensures reduce_reduce { result.reduce_reduce ≤ length items.now }
 {
     let grammar = automaton.grammar();
-    let _symbols = grammar.symbols();
+    let _well_formed = grammar.symbols();
     if shifts {
         let tally = tally_at(automaton, q, t, grammar.precedence(t), items);
         return tally.settle(Some(shift_at(automaton, q, t)));
@@ -194,7 +190,7 @@ pub fn cell_of(automaton: &Automaton, q: usize, t: Sym) -> Cell
     requires token { t < automaton.now.grammar.bare.tokens }
     ensures { (u : Guide) → IsGuide automaton.now u → result ≡ cell_in automaton.now u q t }
 {
-    let _states = automaton.states();
+    let _guide = automaton.states();
     let items = automaton.items(q);
     let shifts = stands_before(automaton.grammar(), items, t);
     cell_at(automaton, q, t, shifts, items)
@@ -246,8 +242,8 @@ fn cells_of(
     ensures shift_reduce { IfOk result (λ c. c.shift_reduce ≤ 33554432) }
     ensures reduce_reduce { IfOk result (λ c. c.reduce_reduce ≤ 33554432) }
 {
-    let _states = automaton.states();
-    let _symbols = automaton.grammar().symbols();
+    let _guide = automaton.states();
+    let _well_formed = automaton.grammar().symbols();
     let mut actions = Vec::with_capacity(alloc, before.len())?;
     let mut shift_reduce = 0;
     let mut reduce_reduce = 0;
@@ -305,7 +301,7 @@ pub fn row_of(
     ensures shift_reduce { IfOk result (λ r. r.shift_reduce ≤ 33554432) }
     ensures reduce_reduce { IfOk result (λ r. r.reduce_reduce ≤ 33554432) }
 {
-    let _states = automaton.states();
+    let _guide = automaton.states();
     let grammar = automaton.grammar();
     let items = automaton.items(q);
     let ready = ready_items(alloc, grammar, items)?;

@@ -108,7 +108,7 @@ fn all_rows(alloc: Global, automaton: &Automaton) -> Result<Found, AllocError>
         (length automaton.now.states) f.counts.shift_reduce f.counts.reduce_reduce f.chosen) }
 {
     let grammar = automaton.grammar();
-    let _symbols = grammar.symbols();
+    let _well_formed = grammar.symbols();
     let tokens = token_count(grammar);
     let states = automaton.states();
     let mut actions = Packed::new(alloc, tokens);
@@ -173,8 +173,8 @@ impl Tables {
         ensures tables { AreTables self.now }
         ensures allowed { CellsAllow self.now }
     {
-        let _states = self.automaton.states();
-        let _symbols = self.automaton.grammar().symbols();
+        let _guide = self.automaton.states();
+        let _well_formed = self.automaton.grammar().symbols();
         &self.automaton
     }
 
@@ -201,7 +201,7 @@ impl Tables {
         ensures value { result ≡ goto_in self.now.built q x }
         ensures exact { IsGoto self.now.built q x result }
     {
-        let _states = self.automaton.states();
+        let _guide = self.automaton.states();
         self.gotos.get(q, x - self.actions.width())
     }
 

@@ -4,14 +4,14 @@ use Rattle.std.proofs.lemmas.Result.{IfOk-weaker}
 use Rattle.clap.specs.Built.{FitsChain, TakesValue, IsAuto}
 use Rattle.clap.specs.Matches.{first_value, found_of}
 use Rattle.clap.specs.Words.{App, Rule, app_of, new_app, rule_of, with_rule}
-use Rattle.ycli.specs.Arguments.{yacc_app, flagged, lettered, wanted}
+use Rattle.ycli.specs.Arguments.{yacc_app, short_flag, short_option, required_argument}
 use Rattle.clap.specs.declared.builder.arg.Arg.{Arg}
 use Rattle.ycli.proofs.Required.{Differ, last_given}
 use Rattle.ycli.proofs.arguments.yacc_command.Goals as goal
 
 three_rules : (a : App) (x y z : Rule) → a ≡ new_app (codes "yacc") → x
-    ≡ flagged (codes "verbose") 118 → y ≡ lettered (codes "prefix") 98 → z
-    ≡ wanted (codes "grammar")
+    ≡ short_flag (codes "verbose") 118 → y ≡ short_option (codes "prefix") 98 → z
+    ≡ required_argument (codes "grammar")
     → with_rule (with_rule (with_rule a x) y) z ≡ yacc_app
 unfolding yacc_app
 three_rules a x y z e f g h = rw (e, f, g, h) refl
@@ -27,9 +27,9 @@ not_empty a w e f h = f (ap (λ (t : List ℕ). slice_index t 3) (sym e ∙ h))
 pub returns-clause-app : goal.returns-clause-app
 returns-clause-app c =
     let start : app_of c.about.result ≡ new_app (codes "yacc") = search rules in
-    let x : rule_of c.help-verbose.result ≡ flagged (codes "verbose") 118 = search rules in
-    let y : rule_of c.help-prefix.result ≡ lettered (codes "prefix") 98 = search rules in
-    let z : rule_of c.help-grammar.result ≡ wanted (codes "grammar") = search rules in
+    let x : rule_of c.help-verbose.result ≡ short_flag (codes "verbose") 118 = search rules in
+    let y : rule_of c.help-prefix.result ≡ short_option (codes "prefix") 98 = search rules in
+    let z : rule_of c.help-grammar.result ≡ required_argument (codes "grammar") = search rules in
     IfOk-weaker c.arg-3.result _ _ (λ command added.
     added.shape (search rules) ∙ ap (λ (a : App). with_rule a (rule_of c.help-grammar.result))
     (c.in_ok-arg-2.ensures.shape (search rules)

@@ -1,19 +1,14 @@
-use Rattle.std.proofs.Common.{ℕ, List, ◌≡◌, ◌++◌, ◌-◌, true, false}
-use Rattle.ytables.specs.Sends.{Sends}
+use Rattle.std.proofs.Common.{◌≡◌, ◌-◌}
 use Rattle.yparse.specs.Session.{machine_of, history_of}
-use Rattle.yparse.specs.Past.{back_by}
-use Rattle.ycli.specs.Reply.{undo_text}
+use Rattle.ycli.specs.Command as commands
+use Rattle.ycli.proofs.Replying.{Replied, Undos}
 use Rattle.ycli.proofs.reply.back.Given as goal
 
--- what was sent and what is left are the whole reply
+-- whatever the undos left reply completes the whole reply
 abbrev pub invariant-loop-i : goal.invariant-loop-i
 invariant-loop-i g l = record {
   machine : machine_of l.session ≡ machine_of l.initial.session;
-  text : List ℕ;
-  sent : Sends g.W.Write.contents l.initial.writer l.writer true text;
-  replied : undo_text (machine_of l.initial.session) l.count false
-      (history_of l.initial.session).earlier ≡ text ++ undo_text (machine_of l.initial.session)
-      (l.count - l._i) l.made (history_of l.session).earlier;
-  left : back_by l.count (history_of l.initial.session) ≡ back_by (l.count - l._i)
-      (history_of l.session);
+  replied : Replied g.W.Write.contents l.initial.writer l.writer (machine_of l.initial.session)
+      (history_of l.initial.session) (commands.Back l.count)
+      (Undos (machine_of l.initial.session) (l.count - l._i) l.made (history_of l.session));
 }

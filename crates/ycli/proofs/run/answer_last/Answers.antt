@@ -2,8 +2,7 @@ use Rattle.std.proofs.Common.{◌≡◌, ◌==◌, ℕ, List, [], Bool, true, fa
 use Rattle.std.proofs.Common.{◌∙◌}
 use Rattle.yparse.specs.Session.{machine_of, history_of}
 use Rattle.ycli.specs.Command.{command_view}
-use Rattle.ycli.specs.Line.{line_of, line_view}
-use Rattle.ycli.proofs.Transcripts.{ends_line, ends_quit}
+use Rattle.ycli.proofs.Transcripts.{ends_line, ends_quit, line_read}
 use Rattle.ycli.proofs.run.answer_last.Goals as goal
 
 -- a list that isn't empty by the test
@@ -18,7 +17,7 @@ returns-in-Quit-clause-tells g c = λ line e.
     (history_of c.args.session.now) line c.args.held.now e
     (some c.args.held.now c.as_slice-last.result.now c.is_empty.result c.as_slice-last.ensures
     c.is_empty.ensures c.if-is_empty.false)
-    (sym (c.line_in.ensures ∙ ap line_of c.as_slice-last.ensures) ∙ ap line_view c.in-Quit.is)
+    (line_read _ _ _ _ c.line_in.ensures c.as_slice-last.ensures c.in-Quit.is)
 
 pub returns-in-Command-clause-tells : goal.returns-in-Command-clause-tells
 returns-in-Command-clause-tells g c = λ line e.
@@ -27,5 +26,5 @@ returns-in-Command-clause-tells g c = λ line e.
     (history_of c.answer.new.session) line c.args.held.now (command_view c.in-Command.command) e
     (some c.args.held.now c.as_slice-last.result.now c.is_empty.result c.as_slice-last.ensures
     c.is_empty.ensures c.if-is_empty.false)
-    (sym (c.line_in.ensures ∙ ap line_of c.as_slice-last.ensures) ∙ ap line_view c.in-Command.is)
+    (line_read _ _ _ _ c.line_in.ensures c.as_slice-last.ensures c.in-Command.is)
     c.answer.ensures.answers

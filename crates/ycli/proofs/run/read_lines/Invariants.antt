@@ -4,6 +4,7 @@ use Rattle.ytables.specs.Link.{device_of, has_failed}
 use Rattle.ytables.specs.Sends.{Sends}
 use Rattle.yparse.specs.Session.{machine_of, history_of}
 use Rattle.ycli.specs.declared.run.Flow.TheVariants.{GoesOn}
+use Rattle.ycli.specs.Line.{line_room}
 use Rattle.ycli.specs.Serving.{whole_lines, rest_line, Replies}
 use Rattle.ycli.proofs.run.read_lines.Given as goal
 
@@ -21,5 +22,5 @@ invariant-loop-i g l = record {
   replied : Replies (machine_of l.initial.session) (history_of l.initial.session)
       (whole_lines taken) GoesOn text (history_of l.session);
   sent : Sends g.W.Write.contents l.initial.writer l.writer true text;
-  held : l.held ≡ take 4097 (rest_line taken);
+  held : l.held ≡ take line_room (rest_line taken);
 }

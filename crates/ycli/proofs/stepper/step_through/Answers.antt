@@ -1,67 +1,56 @@
-use Rattle.std.proofs.Common.{ℕ, ◌≡◌, ◌<◌, ◌^◌, List, Option, Result, Ok, Err, length, IfSome, ap}
-use Rattle.std.proofs.Common.{sym, subst}
+use Rattle.std.proofs.Common.{ℕ, ◌≡◌, ◌<◌, ◌^◌, List, Option, Result, Ok, Err, length, IfSome}
+use Rattle.std.proofs.Common.{subst}
 use Rattle.ytables.specs.Link.{device_of}
 use Rattle.yparse.specs.Machine.{Machine}
 use Rattle.yparse.specs.History.{History}
 use Rattle.yparse.specs.Session.{machine_of, history_of}
 use Rattle.ycli.specs.declared.fault.SessionFault.{SessionFault}
+use Rattle.ytables.specs.declared.link.Link.{Link}
+use Rattle.ytables.specs.Tables.{TablesValue as Tables}
+use Rattle.ycli.specs.Halves.{AreTablesOf, Parses}
+use Rattle.ycli.specs.Headline.{Served}
+use Rattle.ycli.specs.Plain.{HasOneText}
 use Rattle.ycli.specs.Transcript.{Tells}
 use Rattle.ycli.proofs.stepper.step_through.Goals as goal
 
--- what was told is told of equal known bytes
-told : (m : Machine) (h : History) (ending : Result (Unit {0}) SessionFault)
-    (before cleared left old clear new : Option (List ℕ)) → before ≡ cleared → old ≡ clear
-    → IfSome cleared (λ input. length input < 2 ^ 63 → Tells m h input left clear new ending)
-    → IfSome before (λ input. length input < 2 ^ 63 → Tells m h input left old new ending)
-told m h ending before cleared left old clear new e f t =
-    subst
-    (λ (o : Option (List ℕ)).
-    IfSome o (λ input. length input < 2 ^ 63 → Tells m h input left old new ending)) (sym e)
-    (subst
-    (λ (o : Option (List ℕ)).
-    IfSome cleared (λ input. length input < 2 ^ 63 → Tells m h input left o new ending))
-    (sym f) t)
+module _ {R W : Type 0} (remaining : R → Option (List ℕ)) (contents : W → Option (List ℕ)) where
+  -- a session was served from such a beginning, between links that were cleared
+  served : (source tokens : List ℕ) (t : Tables) (m : Machine) (h : History) (r cleared : R)
+      (reader : Link R) (w clear : W) (writer : Link W) (ending : Result (Unit {0}) SessionFault)
+      → AreTablesOf source t → Parses t.built.grammar tokens m h
+      → ((lines : List (List ℕ)) → HasOneText m h lines) → cleared ≡ r → clear ≡ w
+      → IfSome (remaining cleared) (λ input. length input < 2 ^ 63
+      → Tells m h input (remaining (device_of reader)) (contents clear)
+      (contents (device_of writer)) ending)
+      → Served remaining contents source tokens r reader w writer ending
+  served source tokens t m h r cleared reader w clear writer ending are parses plain e f told =
+      record {
+        machine = m;
+        history = h;
+        begins = record { grammar = t.built.grammar; means = are.grammar; parses = parses };
+        plain = plain;
+        tells = subst (λ (x : R). IfSome (remaining x) (λ input. length input < 2 ^ 63
+            → Tells m h input (remaining (device_of reader)) (contents w)
+            (contents (device_of writer)) ending)) e
+            (subst (λ (x : W). IfSome (remaining cleared) (λ input. length input < 2 ^ 63
+            → Tells m h input (remaining (device_of reader)) (contents x)
+            (contents (device_of writer)) ending)) f told);
+      }
 
 pub returns-in-Ok-run_session-clause-ends : goal.returns-in-Ok-run_session-clause-ends
 returns-in-Ok-run_session-clause-ends g c =
-    let r = g.R.Read.remaining in
-    let w = g.W.Write.contents in
-    let m = machine_of c.in-Ok-session_over.session in
-    let h = history_of c.in-Ok-session_over.session in
-    record {
-      machine = m;
-      history = h;
-      begins = record {
-        grammar = c.in-Ok.tables.built.grammar;
-        means = c.in-Ok.ensures.tables.grammar;
-        parses = c.in-Ok-session_over.ensures.parses;
-      };
-      plain = c.in-Ok-run_session.ensures.plain;
-      tells = told m h (Ok tt) (r (device_of c.args.reader.now)) (r (device_of c.clear.new.self))
-          (r (device_of c.run_session.new.reader)) (w (device_of c.args.writer.now))
-          (w (device_of c.clear-2.new.self)) (w (device_of c.run_session.new.writer))
-          (ap r (sym c.clear.ensures.device)) (ap w (sym c.clear-2.ensures.device))
-          c.in-Ok-run_session.ensures.tells;
-    }
+    let session = c.in-Ok-session_over.session in
+    served g.R.Read.remaining g.W.Write.contents c.args.source.now c.args.tokens.now
+    c.in-Ok.tables (machine_of session) (history_of session) _ _ c.run_session.new.reader _ _
+    c.run_session.new.writer (Ok tt) c.in-Ok.ensures.tables c.in-Ok-session_over.ensures.parses
+    c.in-Ok-run_session.ensures.plain c.clear.ensures.device c.clear-2.ensures.device
+    c.in-Ok-run_session.ensures.tells
 
 pub returns-in-Err-run_session-clause-ends : goal.returns-in-Err-run_session-clause-ends
 returns-in-Err-run_session-clause-ends g c =
-    let r = g.R.Read.remaining in
-    let w = g.W.Write.contents in
-    let m = machine_of c.in-Ok-session_over.session in
-    let h = history_of c.in-Ok-session_over.session in
-    record {
-      machine = m;
-      history = h;
-      begins = record {
-        grammar = c.in-Ok.tables.built.grammar;
-        means = c.in-Ok.ensures.tables.grammar;
-        parses = c.in-Ok-session_over.ensures.parses;
-      };
-      plain = c.in-Err-run_session.ensures.plain;
-      tells = told m h (Err c.in-Err-run_session.fault) (r (device_of c.args.reader.now))
-          (r (device_of c.clear.new.self)) (r (device_of c.run_session.new.reader))
-          (w (device_of c.args.writer.now)) (w (device_of c.clear-2.new.self))
-          (w (device_of c.run_session.new.writer)) (ap r (sym c.clear.ensures.device))
-          (ap w (sym c.clear-2.ensures.device)) c.in-Err-run_session.ensures.tells;
-    }
+    let session = c.in-Ok-session_over.session in
+    served g.R.Read.remaining g.W.Write.contents c.args.source.now c.args.tokens.now
+    c.in-Ok.tables (machine_of session) (history_of session) _ _ c.run_session.new.reader _ _
+    c.run_session.new.writer (Err c.in-Err-run_session.fault) c.in-Ok.ensures.tables
+    c.in-Ok-session_over.ensures.parses c.in-Err-run_session.ensures.plain
+    c.clear.ensures.device c.clear-2.ensures.device c.in-Err-run_session.ensures.tells

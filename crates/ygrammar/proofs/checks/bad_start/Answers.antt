@@ -14,11 +14,11 @@ last_there (x ∷ []) o k d e = let z : k ≡ 0 = omega arith in
 last_there (x ∷ y ∷ xs) o k d e =
     let z : k ≡ suc (length xs) = omega arith in
     last_there (y ∷ xs) (Some x) (length xs) d refl ∙ sym
-        (ap (λ (i : ℕ). Some (get_or (x ∷ y ∷ xs) i d)) z)
+    (ap (λ (i : ℕ). Some (get_or (x ∷ y ∷ xs) i d)) z)
 
 pub returns-in-len1-up-clause-place : goal.returns-in-len1-up-clause-place
 returns-in-len1-up-clause-place c =
     let h = c.in-len1-up.len_at_least in
     let e : length c.args.starts.now ≡ suc (length c.args.starts.now - 1) = omega arith in
     ap (λ (o : Option Started). option_view (λ s. s.at) o) (last_there c.args.starts.now None
-        (length c.args.starts.now - 1) _ e)
+    (length c.args.starts.now - 1) _ e)

@@ -3,18 +3,19 @@ use Rattle.std.specs.List.{find, list_any}
 use Rattle.ygrammar.specs.NameTexts.{texts}
 use Rattle.ygrammar.specs.Names.{number_in, printed}
 use Rattle.ygrammar.specs.Numbered.{is_between}
-use Rattle.ygrammar.specs.TreeViews.{mention_view}
+use Rattle.ygrammar.specs.TreeViews.{occurrence_view}
 use Rattle.ygrammar.proofs.checks.first_nonterminal.Given as goal
 
-abbrev pub invariant-loop-mention : goal.invariant-loop-mention
-invariant-loop-mention l = record {
+abbrev pub invariant-loop-occurrence : goal.invariant-loop-occurrence
+invariant-loop-occurrence l = record {
   found : list_any (λ i. is_between l.tokens (length (texts l.symbols))
       (number_in (texts l.symbols) (printed i)))
-      (map mention_view (drop l.mention-index l.mentions)) ≡ list_any
+      (map occurrence_view (drop l.occurrence-index l.occurrences)) ≡ list_any
       (λ i. is_between l.tokens (length (texts l.symbols))
-      (number_in (texts l.symbols) (printed i))) (map mention_view l.mentions);
+      (number_in (texts l.symbols) (printed i))) (map occurrence_view l.occurrences);
   place : find (λ m. is_between l.tokens (length (texts l.symbols))
-      (number_in (texts l.symbols) (printed (mention_view m)))) (drop l.mention-index l.mentions) ≡
+      (number_in (texts l.symbols) (printed (occurrence_view m))))
+      (drop l.occurrence-index l.occurrences) ≡
       find (λ m. is_between l.tokens (length (texts l.symbols))
-      (number_in (texts l.symbols) (printed (mention_view m)))) l.mentions;
+      (number_in (texts l.symbols) (printed (occurrence_view m)))) l.occurrences;
 }

@@ -11,9 +11,9 @@ use Rattle.ygrammar.proofs.given.fill_literal.Goals as goal
 pub returns-in-Quoted-clause-told : goal.returns-in-Quoted-clause-told
 returns-in-Quoted-clause-told c = λ rest own s.
     fills_literal (texts c.args.tokens.now) c.args.table.now.items c.fill.new.table.items
-        c.number_of.result c.in-Quoted.value rest own
+    c.number_of.result c.in-Quoted.value rest own
     (c.number_of.ensures ∙ ap (λ (w : CodeIdentifier). number_in (texts c.args.tokens.now)
-        (printed (identifier_view w))) c.in-Quoted.is)
+    (printed (identifier_view w))) c.in-Quoted.is)
     (c.fill.ensures.exact ∙ ap (filled c.args.table.now.items c.number_of.result) c.from.ensures)
     (subst (λ (w : CodeIdentifier). OwnSoFar (texts c.args.tokens.now) c.args.table.now.items
-        (literal_value (identifier_view w ∷ rest)) own) c.in-Quoted.is s)
+    (literal_value (identifier_view w ∷ rest)) own) c.in-Quoted.is s)

@@ -36,11 +36,11 @@ returns-then-is_some c =
     let h : i < length xs = omega arith in
     let l : k < length table = search rules in
     inr (twice_at digits_number _ (texts c.args.tokens.now) table xs i (map listed_view xs)
-        c.in-Some-fit_number.number k h
-        (digits_are (get_or xs i _) c.in-Some.digits c.in-Some-fit_number.number c.in-Some.is
-        c.in-Some-fit_number.ensures.0) c.number_of-token.ensures l
-        (ap is_some (sym (get_or_read table k c.index.result.now l c.index.ensures None)) ∙ sym
-        c.is_some.ensures ∙ c.if-is_some.true) c.loop-one.invariant.told)
+    c.in-Some-fit_number.number k h
+    (digits_are (get_or xs i _) c.in-Some.digits c.in-Some-fit_number.number c.in-Some.is
+    c.in-Some-fit_number.ensures.0) c.number_of-token.ensures l
+    (ap is_some (sym (get_or_read table k c.index.result.now l c.index.ensures None)) ∙ sym
+    c.is_some.ensures ∙ c.if-is_some.true) c.loop-one.invariant.told)
 
 pub loop-one-preserved-then-token-len : goal.loop-one-preserved-then-token-len
 loop-one-preserved-then-token-len c =
@@ -60,6 +60,10 @@ returns-in_default-fit_number c =
     let i = c.loop-one.one-index in
     let h : i < length xs = omega arith in
     let n = digits_value 10 c.in-Some.digits.digits.now in
-    inl (_, n, said_there digits_number _ xs i n h
-        (digits_are (get_or xs i _) c.in-Some.digits n c.in-Some.is refl),
-        unfit n c.in_default-fit_number.ensures)
+    inl (
+      _,
+      n,
+      said_there digits_number _ xs i n h
+          (digits_are (get_or xs i _) c.in-Some.digits n c.in-Some.is refl),
+      unfit n c.in_default-fit_number.ensures,
+    )

@@ -15,8 +15,8 @@ loop-one-preserved c =
     let h : i < length xs = omega arith in
     let l : k < length table = search rules in
     says_at gives_of _ (texts c.args.tokens.now) table xs i (map listed_view xs)
-        c.in-Some.precedence k h c.in-Some.is c.number_of-token.ensures l
-        (is_none (get_or table k None) (search rules)) c.loop-one.invariant
+    c.in-Some.precedence k h c.in-Some.is c.number_of-token.ensures l
+    (is_none (get_or table k None) (search rules)) c.loop-one.invariant
 
 pub returns-then-is_some : goal.returns-then-is_some
 returns-then-is_some c =
@@ -27,9 +27,9 @@ returns-then-is_some c =
     let h : i < length xs = omega arith in
     let l : k < length table = search rules in
     twice_at gives_of _ (texts c.args.tokens.now) table xs i (map listed_view xs)
-        c.in-Some.precedence k h c.in-Some.is c.number_of-token.ensures l
-        (ap is_some (sym (get_or_read table k c.index.result.now l c.index.ensures None)) ∙ sym
-        c.is_some.ensures ∙ c.if-is_some.true) c.loop-one.invariant
+    c.in-Some.precedence k h c.in-Some.is c.number_of-token.ensures l
+    (ap is_some (sym (get_or_read table k c.index.result.now l c.index.ensures None)) ∙ sym
+    c.is_some.ensures ∙ c.if-is_some.true) c.loop-one.invariant
 
 pub loop-one-preserved-then-token-len : goal.loop-one-preserved-then-token-len
 loop-one-preserved-then-token-len c =
@@ -37,4 +37,4 @@ loop-one-preserved-then-token-len c =
     let i = c.loop-one.one-index in
     let h : i < length xs = omega arith in
     passes_at gives_of _ (texts c.args.tokens.now) c.loop-one.given.items xs i (map listed_view xs)
-        c.number_of-token.result h c.number_of-token.ensures (search rules) c.loop-one.invariant
+    c.number_of-token.result h c.number_of-token.ensures (search rules) c.loop-one.invariant

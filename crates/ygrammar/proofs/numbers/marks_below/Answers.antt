@@ -16,10 +16,10 @@ index-requires c =
     let i = c.loop-one.one-index in
     let h : i < length own = omega arith in
     let l : c.in-Some.number < c.args.count = c.requires c.in-Some.number
-            (i, at_place own i (Some c.in-Some.number) h c.in-Some.is) in
+    (i, at_place own i (Some c.in-Some.number) h c.in-Some.is) in
     let e : length c.loop-one.marks.items ≡ c.args.count = c.loop-one.invariant.each in
     let m : c.in-Some.number < length c.loop-one.marks.items = subst (λ n. c.in-Some.number < n)
-            (sym e) l in
+    (sym e) l in
     search rules
 
 pub returns-then-index : goal.returns-then-index
@@ -28,13 +28,13 @@ returns-then-index c =
     let i = c.loop-one.one-index in
     let h : i < length own = omega arith in
     let l : c.in-Some.number < c.args.count = c.requires c.in-Some.number
-            (i, at_place own i (Some c.in-Some.number) h c.in-Some.is) in
+    (i, at_place own i (Some c.in-Some.number) h c.in-Some.is) in
     let e : length c.loop-one.marks.items ≡ c.args.count = c.loop-one.invariant.each in
     clash_found c.args.count own c.loop-one.marks.items i c.in-Some.number
-        (at_place own i (Some c.in-Some.number) h c.in-Some.is)
-        (sym (get_or_read c.loop-one.marks.items c.in-Some.number c.index.result.now
-        (subst (λ n. c.in-Some.number < n) (sym e) l) c.index.ensures false) ∙ c.if-index.true)
-        c.loop-one.invariant
+    (at_place own i (Some c.in-Some.number) h c.in-Some.is)
+    (sym (get_or_read c.loop-one.marks.items c.in-Some.number c.index.result.now
+    (subst (λ n. c.in-Some.number < n) (sym e) l) c.index.ensures false) ∙ c.if-index.true)
+    c.loop-one.invariant
 
 pub index_mut-requires : goal.index_mut-requires
 index_mut-requires c =
@@ -42,10 +42,10 @@ index_mut-requires c =
     let i = c.loop-one.one-index in
     let h : i < length own = omega arith in
     let l : c.in-Some.number < c.args.count = c.requires c.in-Some.number
-            (i, at_place own i (Some c.in-Some.number) h c.in-Some.is) in
+    (i, at_place own i (Some c.in-Some.number) h c.in-Some.is) in
     let e : length c.loop-one.marks.items ≡ c.args.count = c.loop-one.invariant.each in
     let m : c.in-Some.number < length c.loop-one.marks.items = subst (λ n. c.in-Some.number < n)
-            (sym e) l in
+    (sym e) l in
     search rules
 
 pub loop-one-preserved : goal.loop-one-preserved
@@ -55,8 +55,8 @@ loop-one-preserved c = elim c.match-one.branch [
       let i = c.loop-one.one-index in
       let h : i < length own = omega arith in
       subst (λ (v : Vec Bool Global). Marking c.args.count own v.items (i + 1)) (sym w.marks-is)
-          (marks_skip c.args.count own c.loop-one.marks.items i (at_place own i None h w.in-None.is)
-          c.loop-one.invariant)
+      (marks_skip c.args.count own c.loop-one.marks.items i (at_place own i None h w.in-None.is)
+      c.loop-one.invariant)
   | in-Some+else-index w ↦
       let own = c.args.own.now in
       let i = c.loop-one.one-index in
@@ -67,9 +67,9 @@ loop-one-preserved c = elim c.match-one.branch [
       let e : length c.loop-one.marks.items ≡ c.args.count = c.loop-one.invariant.each in
       let m : n < length c.loop-one.marks.items = subst (λ k. n < k) (sym e) l in
       subst (λ (v : Vec Bool Global). Marking c.args.count own v.items (i + 1)) (sym w.marks-is)
-          (marks_more c.args.count own c.loop-one.marks.items i n p m
-          (sym (get_or_read c.loop-one.marks.items n w.index.result.now m w.index.ensures false) ∙
-          w.if-index.false) c.loop-one.invariant)
+      (marks_more c.args.count own c.loop-one.marks.items i n p m
+      (sym (get_or_read c.loop-one.marks.items n w.index.result.now m w.index.ensures false) ∙
+      w.if-index.false) c.loop-one.invariant)
 ]
 
 pub returns : goal.returns

@@ -12,9 +12,9 @@ returns-clause-filed c =
     let s = c.args.s in
     let h : s < length ls = omega (arith, length-map c.args.lists.now.items items_of, c.requires) in
     let e : items_of c.push.new.self ≡ get_or ls s [] ++ c.args.r ∷ [] =
-            c.in_ok-push.ensures.items ∙ ap (λ (l : List ℕ). l ++ c.args.r ∷ [])
-            (ap items_of c.index_mut.ensures.value ∙ sym
-            (get_or-map items_of c.args.lists.now.items s c.index_mut.result.now [] c.requires)) in
+    c.in_ok-push.ensures.items ∙ ap (λ (l : List ℕ). l ++ c.args.r ∷ [])
+    (ap items_of c.index_mut.ensures.value ∙ sym
+    (get_or-map items_of c.args.lists.now.items s c.index_mut.result.now [] c.requires)) in
     subst (λ (x : List (List ℕ)). IsFiled s c.args.r ls x)
-        (sym (map-set items_of c.args.lists.now.items s c.push.new.self ∙ ap
-        (λ (l : List ℕ). set ls s l) e)) (filed ls s c.args.r h)
+    (sym (map-set items_of c.args.lists.now.items s c.push.new.self ∙ ap
+    (λ (l : List ℕ). set ls s l) e)) (filed ls s c.args.r h)

@@ -24,4 +24,4 @@ pub returns : goal.returns
 returns c =
     let e : c.loop-r.r ≡ length c.args.rules.now = omega arith in
     subst (λ (b : ℕ). AreOccurrences c.args.rules.now b c.args.symbols (lists_of c.loop-r.lists)) e
-        c.loop-r.invariant.filed
+    c.loop-r.invariant.filed

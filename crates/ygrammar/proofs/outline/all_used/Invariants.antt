@@ -1,9 +1,9 @@
 use Rattle.std.proofs.Common.{◌≡◌, ◌++◌, map, drop}
 use Rattle.std.specs.List.{flat_map}
 use Rattle.ygrammar.specs.Elaboration.{used}
-use Rattle.ygrammar.specs.TreeViews.{clause_view, mention_view}
+use Rattle.ygrammar.specs.TreeViews.{clause_view, occurrence_view}
 use Rattle.ygrammar.proofs.outline.all_used.Given as goal
 
 abbrev pub invariant-loop-clause : goal.invariant-loop-clause
-invariant-loop-clause l = map mention_view l.found.items ++ flat_map used
+invariant-loop-clause l = map occurrence_view l.found.items ++ flat_map used
     (map clause_view (drop l.clause-index l.clauses)) ≡ flat_map used (map clause_view l.clauses)

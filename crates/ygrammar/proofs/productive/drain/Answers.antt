@@ -16,8 +16,8 @@ index-requires c =
     let e : s ≡ get_or o t 0 = get_or_read o t s d c.index-s.ensures 0 in
     let z : c.len.result ≡ length m0 = omega arith in
     let i : s < length vs.items = taken_in m0 c.loop-done.marks.items c.args.order.now.items o s t
-            c.len.result vs.items e d c.loop-done.invariant.list c.loop-done.invariant.grows z
-            c.in_ok-places.ensures.sized in
+    c.len.result vs.items e d c.loop-done.invariant.list c.loop-done.invariant.grows z
+    c.in_ok-places.ensures.sized in
     omega (arith, i, vs.ok.0)
 
 pub visit_listed-requires-clause-listed : goal.visit_listed-requires-clause-listed
@@ -31,11 +31,11 @@ visit_listed-requires-clause-listed c =
     let e : s ≡ get_or o t 0 = get_or_read o t s d c.index-s.ensures 0 in
     let z : c.len.result ≡ length m0 = omega arith in
     let i : s < length vs.items = taken_in m0 c.loop-done.marks.items c.args.order.now.items o s t
-            c.len.result vs.items e d c.loop-done.invariant.list c.loop-done.invariant.grows z
-            c.in_ok-places.ensures.sized in
+    c.len.result vs.items e d c.loop-done.invariant.list c.loop-done.invariant.grows z
+    c.in_ok-places.ensures.sized in
     listed_within c.args.rules.now (length c.args.rules.now) c.len.result s
-        (lists_of vs) c.deref.result.now (list_read vs.items s c.index.result.now c.deref.result.now
-        i c.index.ensures c.deref.ensures.value) c.in_ok-places.ensures
+    (lists_of vs) c.deref.result.now (list_read vs.items s c.index.result.now c.deref.result.now
+    i c.index.ensures c.deref.ensures.value) c.in_ok-places.ensures
 
 pub loop-done-preserved : goal.loop-done-preserved
 loop-done-preserved c =
@@ -49,8 +49,8 @@ loop-done-preserved c =
     let m0 = c.args.marks.now.items in
     let z : c.len.result ≡ length m0 = omega arith in
     let i : s < length vs.items = taken_in m0 c.loop-done.marks.items c.args.order.now.items o s t
-            c.len.result vs.items e d c.loop-done.invariant.list c.loop-done.invariant.grows z
-            c.in_ok-places.ensures.sized in
+    c.len.result vs.items e d c.loop-done.invariant.list c.loop-done.invariant.grows z
+    c.in_ok-places.ensures.sized in
     let g = c.in_ok-visit_listed.ensures.grows in
     record {
       taken = omega (arith, g.longer, d);
@@ -69,6 +69,6 @@ loop-done-preserved c =
 pub returns-clause-settled : goal.returns-clause-settled
 returns-clause-settled c =
     let e : c.loop-done.done ≡ length c.loop-done.order.items =
-            omega (arith, c.loop-done.invariant.taken) in
+    omega (arith, c.loop-done.invariant.taken) in
     subst (λ (n : ℕ). (r : ℕ) → r < length c.args.rules.now → IsSettled (rule_at c.args.rules.now r)
-        c.loop-done.marks.items c.loop-done.order.items n) e c.loop-done.invariant.settled
+    c.loop-done.marks.items c.loop-done.order.items n) e c.loop-done.invariant.settled

@@ -1,5 +1,5 @@
 use Rattle.std.proofs.Common.{ℕ, ◌≤◌, ◌<◌, ◌-◌, length}
-use Rattle.ygrammar.specs.Marking.{AreDots, Grows, IsSettled, IsWorklist, MarksProductive}
+use Rattle.ygrammar.specs.Marking.{AreDots, Grows, IsSettled, IsWorklist, OnlyProductive}
 use Rattle.ygrammar.specs.Marking.{numbered_grammar, rule_at}
 use Rattle.ygrammar.proofs.productive.drain.Given as goal
 
@@ -11,8 +11,8 @@ invariant-loop-done l = record {
   list : IsWorklist l.marks.items l.order.items;
   settled : (k : ℕ) → k < length l.rules → IsSettled (rule_at l.rules k) l.marks.items l.order.items
       l.done;
-  sound : (tokens symbols : ℕ) → MarksProductive (numbered_grammar tokens symbols l.rules)
-      l.fn.marks.items → MarksProductive (numbered_grammar tokens symbols l.rules) l.marks.items;
+  sound : (tokens symbols : ℕ) → OnlyProductive (numbered_grammar tokens symbols l.rules)
+      l.fn.marks.items → OnlyProductive (numbered_grammar tokens symbols l.rules) l.marks.items;
 }
 
 abbrev pub decreases-loop-done : goal.decreases-loop-done

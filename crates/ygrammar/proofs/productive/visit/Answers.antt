@@ -11,11 +11,11 @@ returns-in_ok-mark-clause-sound c = λ tokens symbols f.
     let dot = c.advance-dot.result in
     let body = c.body_at-body.result.now in
     let fits = subst (λ (x : List Bool). DotFits body x dot) c.deref.ensures.value
-            c.advance-dot.ensures.fits in
+    c.advance-dot.ensures.fits in
     left_marked tokens symbols rs m c.mark.new.marks.items c.args.r c.left_at.result
-        c.requires.within c.left_at.ensures
-        (whole_marked (rule_at rs c.args.r) m dot body c.body_at-body.ensures fits
-        c.if-dot-body.true) c.in_ok-mark.ensures.only f
+    c.requires.within c.left_at.ensures
+    (whole_marked (rule_at rs c.args.r) m dot body c.body_at-body.ensures fits
+    c.if-dot-body.true) c.in_ok-mark.ensures.only f
 
 pub returns-else-dot-body-clause-settled : goal.returns-else-dot-body-clause-settled
 returns-else-dot-body-clause-settled c = λ taken.
@@ -23,9 +23,9 @@ returns-else-dot-body-clause-settled c = λ taken.
     let dot = c.advance-dot.result in
     let body = c.body_at-body.result.now in
     let fits = subst (λ (x : List Bool). DotFits body x dot) c.deref.ensures.value
-            c.advance-dot.ensures.fits in
+    c.advance-dot.ensures.fits in
     let unmarked = subst (λ (x : List Bool). dot < length body →
-            IsUnmarked x (slice_index body dot)) c.deref.ensures.value c.advance-dot.ensures.stuck
-            in
+    IsUnmarked x (slice_index body dot)) c.deref.ensures.value c.advance-dot.ensures.stuck
+    in
     stuck_at (rule_at c.args.rules.now c.args.r) m c.args.order.now.items taken dot body
-        c.body_at-body.ensures fits c.if-dot-body.false unmarked
+    c.body_at-body.ensures fits c.if-dot-body.false unmarked

@@ -1,6 +1,6 @@
 use Rattle.std.proofs.Common.{ℕ, ◌<◌, EachIndex, slice_index}
 use Rattle.ygrammar.specs.Forms.{IsReachable}
-use Rattle.ygrammar.specs.Marking.{Grows, IsMarked, MarksReachable, numbered_grammar, rule_at}
+use Rattle.ygrammar.specs.Marking.{Grows, IsMarked, OnlyReachable, numbered_grammar, rule_at}
 use Rattle.ygrammar.proofs.reachable.mark_bodies.Given as goal
 
 abbrev pub invariant-loop-r : goal.invariant-loop-r
@@ -10,7 +10,7 @@ invariant-loop-r l = record {
       (λ j. IsMarked l.marks.items (slice_index (rule_at l.rules (slice_index l.listed k)).body j));
   sound : (tokens symbols : ℕ) → EachIndex l.listed
       (λ k. IsReachable (numbered_grammar tokens symbols l.rules)
-      (rule_at l.rules (slice_index l.listed k)).left) → MarksReachable
-      (numbered_grammar tokens symbols l.rules) l.fn.marks.items → MarksReachable
+      (rule_at l.rules (slice_index l.listed k)).left) → OnlyReachable
+      (numbered_grammar tokens symbols l.rules) l.fn.marks.items → OnlyReachable
       (numbered_grammar tokens symbols l.rules) l.marks.items;
 }

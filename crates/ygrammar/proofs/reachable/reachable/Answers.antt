@@ -1,5 +1,5 @@
 use Rattle.std.proofs.Common.{ℕ, false, get_or, length, subst, arith}
-use Rattle.ygrammar.specs.Marking.{IsMarked, IsUnmarked, MarksReachable, numbered_grammar, rule_at}
+use Rattle.ygrammar.specs.Marking.{IsMarked, IsUnmarked, OnlyReachable, numbered_grammar, rule_at}
 use Rattle.ygrammar.proofs.MarkingSteps.{not_both}
 use Rattle.ygrammar.proofs.DrainSteps.{worklist_none}
 use Rattle.ygrammar.proofs.ReachableSteps.{all_marked, first_marked, none_marked}
@@ -17,9 +17,9 @@ returns-clause-exact c = λ t s l.
     let one = c.in_ok-mark.ensures in
     let two = c.in_ok-spread.ensures in
     let none : (u : ℕ) → IsUnmarked m0 u =
-            λ u. none_marked m0 n u (c.in_ok-marks.ensures.items_if_clones_equal (λ y h. h)) in
-    let start : MarksReachable (numbered_grammar t n rs) m0 =
-            λ u k. absurd (not_both (get_or m0 u false) k (none u)) in (
+    λ u. none_marked m0 n u (c.in_ok-marks.ensures.items_if_clones_equal (λ y h. h)) in
+    let start : OnlyReachable (numbered_grammar t n rs) m0 =
+    λ u k. absurd (not_both (get_or m0 u false) k (none u)) in (
       two.sound t n (first_marked t n rs m0 c.mark.new.marks.items c.left_at.result
           c.left_at.ensures one.only start) s,
       all_marked t n rs c.spread.new.marks.items c.spread.new.order.items

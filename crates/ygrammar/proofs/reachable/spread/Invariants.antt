@@ -1,5 +1,5 @@
 use Rattle.std.proofs.Common.{ℕ, ◌≤◌, ◌<◌, ◌-◌, length}
-use Rattle.ygrammar.specs.Marking.{Grows, IsSpread, IsWorklist, MarksReachable, numbered_grammar}
+use Rattle.ygrammar.specs.Marking.{Grows, IsSpread, IsWorklist, OnlyReachable, numbered_grammar}
 use Rattle.ygrammar.specs.Marking.{rule_at}
 use Rattle.ygrammar.proofs.reachable.spread.Given as goal
 
@@ -10,8 +10,8 @@ invariant-loop-done l = record {
   list : IsWorklist l.marks.items l.order.items;
   spread : (k : ℕ) → k < length l.rules → IsSpread (rule_at l.rules k) l.marks.items l.order.items
       l.done;
-  sound : (tokens symbols : ℕ) → MarksReachable (numbered_grammar tokens symbols l.rules)
-      l.fn.marks.items → MarksReachable (numbered_grammar tokens symbols l.rules) l.marks.items;
+  sound : (tokens symbols : ℕ) → OnlyReachable (numbered_grammar tokens symbols l.rules)
+      l.fn.marks.items → OnlyReachable (numbered_grammar tokens symbols l.rules) l.marks.items;
 }
 
 abbrev pub decreases-loop-done : goal.decreases-loop-done

@@ -10,4 +10,4 @@ returns-in_ok-push-clause-grows c =
     let o = c.args.order.now.items in
     let u : IsUnmarked m c.args.s = search rules in
     subst (λ (x : List ℕ). Grows m o (set m c.args.s true) x) (sym c.in_ok-push.ensures.items)
-        (grows_new m o c.args.s c.requires u)
+    (grows_new m o c.args.s c.requires u)

@@ -1,7 +1,5 @@
 use Rattle.std.proofs.Common.{◌≡◌, ◌∙◌, ap, subst, sym, arith, false, true, IfErr}
 use Rattle.std.proofs.lemmas.Result.{err_from_is_err_and}
-use Rattle.ygrammar.specs.Grammar.{GrammarValue}
-use Rattle.ygrammar.specs.WellFormed.{WellFormed}
 use Rattle.ylalr.specs.declared.fault.BuildFault.{BuildFault}
 use Rattle.ylalr.specs.declared.fault.BuildFault.TheVariants.{Memory, TooManySets}
 use Rattle.ylalr.specs.Collection.{TooMany}
@@ -12,9 +10,8 @@ pub returns-clause-states : goal.returns-clause-states
 returns-clause-states c =
     let P = c.in_ok-parts.parts in
     let fit = c.in_ok-parts.ensures.fit in
-    let f = subst (λ (v : GrammarValue). WellFormed v.bare) (sym c.in_ok-parts.ensures.grammar)
-            c.symbols-symbols.ensures.well_formed in
-    has_states P.grammar f P.states P.gotos fit.states (λ q x h l. fit.gotos.gotos q h x l) fit.few
+    has_states P.grammar fit.well_formed P.states P.gotos fit.states
+    (λ q x h l. fit.gotos.gotos q h x l) fit.few
 
 false_true : false ≡ true → ⊥
 false_true h = grind (arith)
@@ -27,6 +24,6 @@ other b e f = false_true (ap (λ (x : BuildFault). elim x [ Memory ↦ false | T
 pub returns-in_err-looks-clause-too_many : goal.returns-in_err-looks-clause-too_many
 returns-in_err-looks-clause-too_many c =
     let is = err_from_is_err_and c.from_residual-in_err-looks.result
-            c.from_residual-in_err-looks.ensures.1 in
+    c.from_residual-in_err-looks.ensures.1 in
     subst (λ (r : _). IfErr r (λ e. e ≡ TooManySets → TooMany c.args.grammar.bare)) (sym is.1)
-        (λ q. absurd (other is.0 is.2 q))
+    (λ q. absurd (other is.0 is.2 q))

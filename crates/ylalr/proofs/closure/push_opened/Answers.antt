@@ -35,4 +35,4 @@ returns-clause-exact c =
     let u = c.loop-r.invariant.until in
     let e : c.loop-r.r ≡ c.args.to = omega arith in
     (subst (λ t. Opening c.args.wanted.now c.args.from t c.args.items.now c.loop-r.items) e
-        c.loop-r.invariant.opening).exact
+    c.loop-r.invariant.opening).exact

@@ -21,8 +21,9 @@ loop-item-preserved c =
             (sized_grown c.loop-item.wanted w.add_from.new.self 1 (length g.rules) w.add_from.result
             i.sized w.add_from.ensures.grown);
         wanting = subst (Wanting g xs (n + 1)) (sym w.wanted-is)
-            (wanting_more g xs n c.loop-item.wanted w.add_from.new.self c.args.opens.now p
-            w.in-Some.s _ c.requires.opens.exact h e w.in-Some.ensures.1 w.add_from.ensures.adds
+            (wanting_more g xs n c.loop-item.wanted w.add_from.new.self c.args.first_rules.now p
+            w.in-Some.s _ c.requires.first_rules.exact h e w.in-Some.ensures.1
+            w.add_from.ensures.adds
             i.wanting);
       }
       | in_default w ↦ record {

@@ -19,7 +19,7 @@ loop-alloc-preserved c =
     let longer = ap (λ (ys : List (List Goto)). length ys) c.in_ok-push.ensures ∙ z in
     let less : length xs < length s.closures = omega arith in
     let r : RowIs g t (length xs) row = subst (λ q. RowIs g t q row) c.count-in-loop-alloc-2.ensures
-            e.row in
+    e.row in
     let p = rows_push g s t (length xs) xs row e.extends i.within refl i.rows r e.order in
     record {
       fit = e.fit;

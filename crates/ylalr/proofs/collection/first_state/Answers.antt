@@ -11,9 +11,9 @@ returns-clause-states c =
     let w = c.in_ok-items.items in
     let k = c.in_ok-key.ensures.ok in
     let shut = subst (λ k. IsClosure g k w) (c.as_slice.ensures ∙ k) c.in_ok-items.ensures.closure
-            in
+    in
     subst (λ (t : StateLists). AreStates g t) (sym c.in_ok-push.ensures)
-        (subst (λ k. AreStates g (with_state s k w)) (sym k)
-        (states_first g c.symbols-symbols.ensures.well_formed s w c.in_ok-states.ensures.no_kernel
-        c.in_ok-states.ensures.none shut c.in_ok-items.ensures.ascending
-        c.in_ok-items.ensures.range))
+    (subst (λ k. AreStates g (with_state s k w)) (sym k)
+    (states_first g c.symbols-well_formed.ensures.well_formed s w c.in_ok-states.ensures.no_kernel
+    c.in_ok-states.ensures.none shut c.in_ok-items.ensures.ascending
+    c.in_ok-items.ensures.range))

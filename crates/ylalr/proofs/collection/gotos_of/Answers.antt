@@ -25,16 +25,16 @@ number-requires-clause-kernel c = λ n.
     let i = c.loop-x.invariant in
     let k = c.as_slice.result.now in
     let hx : x < g.symbols = subst (λ t. x < t) c.symbols-symbols.ensures.value
-            c.loop-x-test.true in
+    c.loop-x-test.true in
     let z : IsKernel g (set_at s0.closures c.args.q) x k =
-            subst (IsKernel g (set_at s0.closures c.args.q) x)
-            (sym (c.as_slice.ensures ∙ c.list.ensures))
-            (subst (λ v. IsKernel g v x (set_at c.fill.new.self.lists x)) c.items.ensures
-            (c.in_ok-fill.ensures.kernels x hx)) in
+    subst (IsKernel g (set_at s0.closures c.args.q) x)
+    (sym (c.as_slice.ensures ∙ c.list.ensures))
+    (subst (λ v. IsKernel g v x (set_at c.fill.new.self.lists x)) c.items.ensures
+    (c.in_ok-fill.ensures.kernels x hx)) in
     let z' : IsKernel g (set_at s.closures c.args.q) x k = subst (λ v. IsKernel g v x k)
-            (sym (i.extends.closures c.args.q c.requires.state)) z in
+    (sym (i.extends.closures c.args.q c.requires.state)) z in
     let h : c.args.q < length s.closures = (let l = i.extends.longer in let r = c.requires.state in
-            omega arith) in
+    omega arith) in
     joins g c.symbols-symbols.ensures.well_formed s c.args.q x k i.fit.states.are h z' n
 
 pub loop-x-preserved-in-Some : goal.loop-x-preserved-in-Some
@@ -49,20 +49,20 @@ loop-x-preserved-in-Some c =
     let e = c.in_ok-n.ensures in
     let k = c.as_slice.result.now in
     let hx : x < g.symbols = subst (λ t. x < t) c.symbols-symbols.ensures.value
-            c.loop-x-test.true in
+    c.loop-x-test.true in
     let z : IsKernel g (set_at s0.closures q) x k = subst (IsKernel g (set_at s0.closures q) x)
-            (sym (c.as_slice.ensures ∙ c.list.ensures))
-            (subst (λ v. IsKernel g v x (set_at c.fill.new.self.lists x)) c.items.ensures
-            (c.in_ok-fill.ensures.kernels x hx)) in
+    (sym (c.as_slice.ensures ∙ c.list.ensures))
+    (subst (λ v. IsKernel g v x (set_at c.fill.new.self.lists x)) c.items.ensures
+    (c.in_ok-fill.ensures.kernels x hx)) in
     let z' : IsKernel g (set_at s.closures q) x k = subst (λ v. IsKernel g v x k)
-            (sym (i.extends.closures q c.requires.state)) z in
+    (sym (i.extends.closures q c.requires.state)) z in
     let h : q < length s.closures = (let l = i.extends.longer in let r = c.requires.state in
-            omega arith) in
+    omega arith) in
     let kept = rowing_kept g s t q x c.loop-x.row e.extends h i.rowing in
     let hk = subst (λ (o : Option ℕ). MatchOption o (length k ≡ 0) (λ n. HasKernel t k n))
-            c.in-Some.is e.found in
+    c.in-Some.is e.found in
     let nl : c.in-Some.n < length t.closures = subst (λ l. c.in-Some.n < l) e.fit.states.are.same
-            hk.0 in
+    hk.0 in
     record {
       fit = e.fit;
       extends = extends_then s0 s t i.extends e.extends;
@@ -84,7 +84,7 @@ loop-x-preserved c =
     let i = c.loop-x.invariant in
     let e = c.in_ok-n.ensures in
     let h : q < length s.closures = (let l = i.extends.longer in let r = c.requires.state in
-            omega arith) in
+    omega arith) in
     let sized = c.in_ok-fill.ensures.sorted.sized in
     let within = c.after-x.ensures.within in
     let further = c.after-x.ensures.further in
@@ -92,13 +92,13 @@ loop-x-preserved c =
     let none : (k : ℕ) → x ≤ k → k < n → GotoIs g t q k None = (λ k a b.
     let hk : k < g.symbols = omega arith in
     let z : IsKernel g (set_at s0.closures q) k (set_at c.fill.new.self.lists k) =
-            subst (λ v. IsKernel g v k (set_at c.fill.new.self.lists k)) c.items.ensures
-            (c.in_ok-fill.ensures.kernels k hk) in
+    subst (λ v. IsKernel g v k (set_at c.fill.new.self.lists k)) c.items.ensures
+    (c.in_ok-fill.ensures.kernels k hk) in
     let z' : IsKernel g (set_at s.closures q) k (set_at c.fill.new.self.lists k) =
-            subst (λ v. IsKernel g v k (set_at c.fill.new.self.lists k))
-            (sym (i.extends.closures q c.requires.state)) z in
+    subst (λ v. IsKernel g v k (set_at c.fill.new.self.lists k))
+    (sym (i.extends.closures q c.requires.state)) z in
     goto_kept g s t q k None e.extends h (goto_none g s q k (set_at c.fill.new.self.lists k)
-        z'.advanced (ap (λ (v : List Item). length v) (c.after-x.ensures.none k a b)))) in
+    z'.advanced (ap (λ (v : List Item). length v) (c.after-x.ensures.none k a b)))) in
     record {
       fit = e.fit;
       extends = extends_then s0 s t i.extends e.extends;

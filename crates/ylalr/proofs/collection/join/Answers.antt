@@ -6,15 +6,15 @@ use Rattle.ylalr.proofs.StateSteps.{states_push, push_length, overflows}
 use Rattle.ylalr.proofs.WholeSteps.{too_many}
 use Rattle.ylalr.proofs.collection.join.Goals as goal
 
-pub returns-then-n-ge-LIMIT-clause-fault : goal.returns-then-n-ge-LIMIT-clause-fault
-returns-then-n-ge-LIMIT-clause-fault c = λ e.
+pub returns-then-n-ge-MOST_STATES-clause-fault : goal.returns-then-n-ge-MOST_STATES-clause-fault
+returns-then-n-ge-MOST_STATES-clause-fault c = λ e.
     let g = c.args.grammar.now.bare in
     let s = c.args.finder.now.states in
     let w = c.in_ok-items.items in
     let shut = subst (λ k. IsClosure g k w) c.as_slice.ensures c.in_ok-items.ensures.closure in
     let l : 16384 ≤ length s.closures = grind (arith, common_steps) in
     too_many g (overflows g s c.args.kernel.items w c.requires.fit.states.are c.requires.kernel
-        c.requires.fresh shut c.in_ok-items.ensures.ascending c.in_ok-items.ensures.range l)
+    c.requires.fresh shut c.in_ok-items.ensures.ascending c.in_ok-items.ensures.range l)
 
 pub returns-clause-fit : goal.returns-clause-fit
 returns-clause-fit c =
@@ -23,13 +23,13 @@ returns-clause-fit c =
     let w = c.in_ok-items.items in
     let shut = subst (λ k. IsClosure g k w) c.as_slice.ensures c.in_ok-items.ensures.closure in
     let are = subst (λ (t : StateLists). AreStates g t) (sym c.in_ok-push.ensures)
-            (states_push g s c.args.kernel.items w c.requires.fit.states.are c.requires.kernel
-            c.requires.fresh shut c.in_ok-items.ensures.ascending c.in_ok-items.ensures.range) in
+    (states_push g s c.args.kernel.items w c.requires.fit.states.are c.requires.kernel
+    c.requires.fresh shut c.in_ok-items.ensures.ascending c.in_ok-items.ensures.range) in
     let longer = push_length s.closures w in
     let few = subst (λ (t : StateLists). length t.closures ≤ 16384) (sym c.in_ok-push.ensures)
-            (grind (arith, common_steps)) in
+    (grind (arith, common_steps)) in
     record {
-      opens = c.requires.fit.opens;
+      first_rules = c.requires.fit.first_rules;
       wanted = c.in_ok-items.ensures.wanted;
       states = record { are = are; few = few };
     }

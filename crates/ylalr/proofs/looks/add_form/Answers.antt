@@ -1,6 +1,6 @@
 use Rattle.std.proofs.Common.{◌<◌, ◌∙◌, refl, sym, length, get_or, arith}
 use Rattle.std.proofs.lemmas.List.Elements.{All-more}
-use Rattle.ylalr.specs.Marks.{marked}
+use Rattle.ylalr.specs.Marks.{Has}
 use Rattle.ylalr.proofs.FormSteps.{adding_more}
 use Rattle.ylalr.proofs.looks.add_form.Goals as goal
 
@@ -12,9 +12,9 @@ loop-s-preserved c =
     let i = c.loop-s.invariant in
     let g = c.add_from.ensures.grown in
     let h : k < length x = omega arith in
-    let m : marked n (get_or x k 0) = sym c.has.ensures ∙ c.if-not-has.false in
+    let m : Has n (get_or x k 0) = sym c.has.ensures ∙ c.if-not-has.false in
     record {
-      passed = All-more (marked n) x k 0 h i.passed m;
+      passed = All-more (Has n) x k 0 h i.passed m;
       sized = record { rows = g.rows ∙ i.sized.rows; columns = g.columns ∙ i.sized.columns };
       adding = adding_more n c.args.parts.now.first x c.args.looks.now c.loop-s.looks
           c.add_from.new.self c.args.to k (get_or x k 0) h refl i.passed c.add_from.ensures.adds

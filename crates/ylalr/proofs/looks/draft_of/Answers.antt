@@ -15,10 +15,10 @@ loop-q-preserved c =
       start = λ p ip. e.further.looks p 0 (i.start p ip);
       serves = λ n h. elim (below_or_is n c.loop-q.q h) as
           (λ _. ServesState P c.visit_state.new.draft n) [
-        | inl l ↦ (λ k p z. serves_kept P c.loop-q.draft c.visit_state.new.draft n p k e.further
-            (i.serves n l k p z))
-        | inr w ↦ subst (ServesState P c.visit_state.new.draft) (sym w) e.serves
-      ];
+            | inl l ↦ (λ k p z. serves_kept P c.loop-q.draft c.visit_state.new.draft n p k e.further
+                (i.serves n l k p z))
+            | inr w ↦ subst (ServesState P c.visit_state.new.draft) (sym w) e.serves
+          ];
     }
 
 pub returns-clause-serves : goal.returns-clause-serves

@@ -10,25 +10,29 @@ pub returns-in-Some : goal.returns-in-Some
 returns-in-Some c =
     let P = c.args.parts.now in
     let w = c.requires.whole in
-    let z = looks_at P.grammar c.symbols-symbols.ensures.well_formed P.states P.gotos w.fit.states
-            (λ q x h l. w.fit.gotos.gotos q h x l) P.places c.args.looks.now w.sound w.closed
-            c.args.q c.args.item c.in-Some.p c.args.t c.in-Some.ensures in
+    let z = looks_at P.grammar c.requires.whole.fit.well_formed P.states P.gotos w.fit.states
+    (λ q x h l. w.fit.gotos.gotos q h x l) P.places c.args.looks.now w.sound w.closed
+    c.args.q c.args.item c.in-Some.p c.args.t c.in-Some.ensures in
     ((λ e. z.0 (c.has.ensures.0 e)), (λ l. c.has.ensures.1 (z.1 l)))
 
 pub returns-in-None : goal.returns-in-None
 returns-in-None c =
     let P = c.args.parts.now in
-    let w = c.requires.whole in
-    ((λ e. absurd (cc)), (λ l. absurd (looks_absent P.grammar c.symbols-symbols.ensures.well_formed
-        P.states P.gotos w.fit.states (λ q x h k. w.fit.gotos.gotos q h x k) P.places
-        c.args.looks.now w.sound w.closed c.args.q c.args.item c.args.t c.requires.state
-        c.in-None.ensures l)))
+    let w = c.requires.whole in (
+      (λ e. absurd (cc)),
+      (λ l. absurd (looks_absent P.grammar c.requires.whole.fit.well_formed
+          P.states P.gotos w.fit.states (λ q x h k. w.fit.gotos.gotos q h x k) P.places
+          c.args.looks.now w.sound w.closed c.args.q c.args.item c.args.t c.requires.state
+          c.in-None.ensures l)),
+    )
 
 pub returns-then-not-is_token : goal.returns-then-not-is_token
-returns-then-not-is_token c =
-    ((λ e. absurd (cc)), (λ l.
-    absurd (let e = c.if-not-is_token.ensures.1 (valid_token c.symbols-symbols.ensures.well_formed
-    l.valid) in cc)))
+returns-then-not-is_token c = (
+  (λ e. absurd (cc)),
+  (λ l.
+      absurd (let e = c.if-not-is_token.ensures.1 (valid_token c.requires.whole.fit.well_formed
+      l.valid) in cc)),
+)
 
 pub place_of-requires-clause-places : goal.place_of-requires-clause-places
 place_of-requires-clause-places c = c.requires.whole.fit.places.sized

@@ -9,16 +9,22 @@ use Rattle.ylalr.proofs.looks.start.Goals as goal
 pub returns-clause-sound : goal.returns-clause-sound
 returns-clause-sound c =
     let P = c.args.parts.now in
-    let f = c.symbols-symbols.ensures.well_formed in
+    let f = c.requires.well_formed in
     let z : IsSized P.places.total P.grammar.bare.tokens c.in_ok-looks.looks =
-            record { rows = c.in_ok-looks.ensures.sized.rows ∙ c.total.ensures; columns =
-            c.in_ok-looks.ensures.sized.columns ∙ c.token_count.ensures } in
+    record {
+      rows = c.in_ok-looks.ensures.sized.rows ∙ c.total.ensures;
+      columns =
+          c.in_ok-looks.ensures.sized.columns ∙ c.token_count.ensures;
+    } in
     no_links P c.match-place_of.looks c.in_ok-links.links
-        (c.in_ok-links.ensures.sized ∙ c.total-2.ensures) c.in_ok-links.ensures.empty
+    (c.in_ok-links.ensures.sized ∙ c.total-2.ensures) c.in_ok-links.ensures.empty
     (elim c.match-place_of.branch [
       | in-Some w ↦ subst (IsSized P.places.total P.grammar.bare.tokens) (sym w.looks-is)
-          (record { rows = w.mark.ensures.grown.rows ∙ z.rows; columns =
-          w.mark.ensures.grown.columns ∙ z.columns })
+          (record {
+            rows = w.mark.ensures.grown.rows ∙ z.rows;
+            columns =
+                w.mark.ensures.grown.columns ∙ z.columns;
+          })
       | in_default w ↦ subst (IsSized P.places.total P.grammar.bare.tokens) (sym w.looks-is) z
     ])
     (elim c.match-place_of.branch [
@@ -32,7 +38,7 @@ returns-clause-sound c =
 pub returns-clause-start : goal.returns-clause-start
 returns-clause-start c =
     let P = c.args.parts.now in
-    let f = c.symbols-symbols.ensures.well_formed in
+    let f = c.requires.well_formed in
     elim c.match-place_of.branch [
       | in-Some w ↦ subst (StartLooks P.states P.places) (sym w.looks-is)
           (start_marked P f c.requires c.in_ok-looks.looks w.mark.new.self w.in-Some.p

@@ -27,5 +27,5 @@ pub returns-clause-serves : goal.returns-clause-serves
 returns-clause-serves c = λ i p z.
     (let e : c.loop-k.k ≡ length c.items-items.result.now = omega arith in
     c.loop-k.invariant.serves i p z
-        (subst (λ j. z.at.index < j)
-        (sym (e ∙ ap (λ (w : List Item). length w) c.items-items.ensures)) z.at.within))
+    (subst (λ j. z.at.index < j)
+    (sym (e ∙ ap (λ (w : List Item). length w) c.items-items.ensures)) z.at.within))

@@ -1,5 +1,5 @@
 use Rattle.std.proofs.Common.{◌+◌, ◌*◌, length}
-use Rattle.ylalr.specs.Marks.{unmarked}
+use Rattle.ylalr.specs.Marks.{gaps}
 use Rattle.ylalr.proofs.NullableSteps.{Marking}
 use Rattle.ylalr.proofs.nullable.nullable_symbols.Given as goal
 
@@ -7,4 +7,4 @@ abbrev pub invariant-loop-r : goal.invariant-loop-r
 invariant-loop-r l = Marking l.grammar.bare l.marks l.waiting
 
 abbrev pub decreases-loop-r : goal.decreases-loop-r
-decreases-loop-r l = unmarked l.marks * (length l.waiting.marks + 1) + length l.waiting.queue
+decreases-loop-r l = gaps l.marks * (length l.waiting.marks + 1) + length l.waiting.queue

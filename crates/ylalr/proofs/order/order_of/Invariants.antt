@@ -1,5 +1,5 @@
 use Rattle.std.proofs.Common.{ℕ, ◌≡◌, ◌<◌, [], length}
-use Rattle.ylalr.specs.Marks.{marked}
+use Rattle.ylalr.specs.Marks.{Has}
 use Rattle.ylalr.specs.Order.{AreTurns}
 use Rattle.ylalr.proofs.order.order_of.Given as goal
 
@@ -8,5 +8,5 @@ invariant-loop-p l = record {
   sized : length l.seen ≡ l.count;
   turns : AreTurns l.seen l.turns.items l.order.items;
   none : l.turns.items ≡ [];
-  seen : (k : ℕ) → k < l.p → marked l.seen k;
+  seen : (k : ℕ) → k < l.p → Has l.seen k;
 }

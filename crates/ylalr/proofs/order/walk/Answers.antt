@@ -3,7 +3,7 @@ use Rattle.std.proofs.Common.{get_or}
 use Rattle.std.specs.List.{All}
 use Rattle.ylalr.specs.declared.order.Turn.{Turn}
 use Rattle.ylalr.specs.declared.order.Turn.TheVariants.{Enter, Leave}
-use Rattle.ylalr.specs.Marks.{marked}
+use Rattle.ylalr.specs.Marks.{Has}
 use Rattle.ylalr.specs.Order.{AreTurns}
 use Rattle.ylalr.proofs.LinkSteps.{links_below}
 use Rattle.ylalr.proofs.OrderSteps.{turn_below, turns_skip, turns_enter, turns_leave, kept_marked}
@@ -20,9 +20,9 @@ loop-turn-preserved-in-Continue-1 c =
     let o = c.loop-turn.order.items in
     let p = c.in-Enter.p in
     let e : v ≡ t ++ Enter p ∷ [] = c.in-Some.ensures.items ∙ ap (λ (x : Turn). t ++ x ∷ [])
-            c.in-Enter.is in
+    c.in-Enter.is in
     let l = subst (λ k. All (λ j. j < k) (get_or c.args.links.now p [])) (sym i.sized)
-            (links_below (length c.args.seen.now) c.args.links.now p c.requires.links) in
+    (links_below (length c.args.seen.now) c.args.links.now p c.requires.links) in
     record {
       sized = mark_size m n p c.mark.ensures.set ∙ i.sized;
       turns = turns_enter m n t c.enter.new.turns.items p (get_or c.args.links.now p []) o
@@ -42,12 +42,12 @@ loop-turn-preserved-else-mark c =
     let o = c.loop-turn.order.items in
     let p = c.in-Enter.p in
     let e : v ≡ t ++ Enter p ∷ [] = c.in-Some.ensures.items ∙ ap (λ (x : Turn). t ++ x ∷ [])
-            c.in-Enter.is in
+    c.in-Enter.is in
     let same : n ≡ m = c.mark.ensures.unchanged c.if-mark.false in
     record {
       sized = mark_size m n p c.mark.ensures.set ∙ i.sized;
       turns = subst (λ (x : List Bool). AreTurns x t o) (sym same) (turns_skip m v t p o e i.turns);
-      kept = λ q h. subst (λ (x : List Bool). marked x q) (sym same) (i.kept q h);
+      kept = λ q h. subst (λ (x : List Bool). Has x q) (sym same) (i.kept q h);
     }
 
 pub loop-turn-preserved : goal.loop-turn-preserved
@@ -56,7 +56,7 @@ loop-turn-preserved c =
     let t = c.pop.new.self.items in
     let p = c.in-Leave.p in
     let e : c.loop-turn.turns.items ≡ t ++ Leave p ∷ [] = c.in-Some.ensures.items ∙ ap
-            (λ (x : Turn). t ++ x ∷ []) c.in-Leave.is in
+    (λ (x : Turn). t ++ x ∷ []) c.in-Leave.is in
     record {
       sized = i.sized;
       turns = turns_leave c.loop-turn.seen c.loop-turn.turns.items t p c.loop-turn.order.items

@@ -1,5 +1,5 @@
 use Rattle.std.proofs.Common.{ℕ, ◌≡◌, ◌+◌, ◌*◌, length}
-use Rattle.ylalr.specs.Marks.{marked, unmarked}
+use Rattle.ylalr.specs.Marks.{Has, gaps}
 use Rattle.ylalr.specs.Order.{AreTurns}
 use Rattle.ylalr.proofs.OrderSteps.{size_of}
 use Rattle.ylalr.proofs.order.walk.Given as goal
@@ -8,8 +8,8 @@ abbrev pub invariant-loop-turn : goal.invariant-loop-turn
 invariant-loop-turn l = record {
   sized : length l.seen ≡ length l.initial.seen;
   turns : AreTurns l.seen l.turns.items l.order.items;
-  kept : (p : ℕ) → marked l.initial.seen p → marked l.seen p;
+  kept : (p : ℕ) → Has l.initial.seen p → Has l.seen p;
 }
 
 abbrev pub decreases-loop-turn : goal.decreases-loop-turn
-decreases-loop-turn l = unmarked l.seen * (size_of l.links + 2) + length l.turns.items
+decreases-loop-turn l = gaps l.seen * (size_of l.links + 2) + length l.turns.items

@@ -15,19 +15,24 @@ loop-item-preserved c =
     let rows = c.loop-item.rows in
     let p = c.row_of-row.result in
     let ek : take (k + 1) xs ≡ take k xs ++ x ∷ [] = (let e : k + 1 ≡ suc k = omega arith in
-            ap (λ j. take j xs) e ∙ take-suc xs k (record { rule = 0; dot = 0 })
-            c.loop-item-test.true) in
+    ap (λ j. take j xs) e ∙ take-suc xs k (record { rule = 0; dot = 0 })
+    c.loop-item-test.true) in
     let same : p ≡ c.loop-item.end → c.if-row-end.end ≡ c.loop-item.end + 1 =
-            λ e. elim c.if-row-end.branch [ then-row-end w ↦ w.end-is | else-row-end w ↦ absurd
-            (w.if-row-end.false e) ] in
+    λ e. elim c.if-row-end.branch [
+      | then-row-end w ↦ w.end-is
+      | else-row-end w ↦ absurd
+          (w.if-row-end.false e)
+    ] in
     let other : p ≢ c.loop-item.end → c.if-row-end.end ≡ c.loop-item.end =
-            λ e. elim c.if-row-end.branch [ then-row-end w ↦ absurd (e w.if-row-end.true) |
-            else-row-end w ↦ w.end-is ] in
+    λ e. elim c.if-row-end.branch [
+      | then-row-end w ↦ absurd (e w.if-row-end.true)
+      | else-row-end w ↦ w.end-is
+    ] in
     subst (λ ys. Filling g ys c.push.new.self c.args.first c.if-row-end.end c.row_of-row.new.self)
-        (sym ek) (subst (λ zs. Filling g (take k xs ++ x ∷ []) zs c.args.first c.if-row-end.end
-        c.row_of-row.new.self) (sym c.in_ok-push.ensures)
-        (filling_push g (take k xs) rows c.args.first c.loop-item.end c.if-row-end.end p x
-        c.loop-item.lefts c.row_of-row.new.self c.loop-item.invariant
-        (c.symbols-symbols.ensures.well_formed.left x.rule
-        (c.requires.range k (record { rule = 0; dot = 0 }) c.loop-item-test.true).0)
-        c.row_of-row.ensures same other))
+    (sym ek) (subst (λ zs. Filling g (take k xs ++ x ∷ []) zs c.args.first c.if-row-end.end
+    c.row_of-row.new.self) (sym c.in_ok-push.ensures)
+    (filling_push g (take k xs) rows c.args.first c.loop-item.end c.if-row-end.end p x
+    c.loop-item.lefts c.row_of-row.new.self c.loop-item.invariant
+    (c.symbols-well_formed.ensures.well_formed.left x.rule
+    (c.requires.range k (record { rule = 0; dot = 0 }) c.loop-item-test.true).0)
+    c.row_of-row.ensures same other))

@@ -35,13 +35,13 @@ returns-in-Err-push g c =
 
 pub returns-in-Err : goal.returns-in-Err
 returns-in-Err g c =
-    let full = nat_le 1000000 c.len-full.result in
+    let full = nat_le most_steps c.len-full.result in
     let len : c.len-full.result ≡ length c.args.changes.now.items =
     grind (arith, common_steps, c.len-full.ensures) in
     let many : full ≡ true → most_steps ≤ length c.args.changes.now.items =
-    λ e. subst (λ n. most_steps ≤ n) len (leb-true 1000000 c.len-full.result e) in
+    λ e. subst (λ n. most_steps ≤ n) len (leb-true most_steps c.len-full.result e) in
     let few : full ≡ false → length c.args.changes.now.items < most_steps =
-    λ e. subst (λ n. n < most_steps) len (leb-false 1000000 c.len-full.result e) in
+    λ e. subst (λ n. n < most_steps) len (leb-false most_steps c.len-full.result e) in
     λ old what j a. refused g.M.Reversible.next what g.M.Reversible.before g.M.Reversible.kind
     g.M.Reversible.fits old c.args.machine.now c.args.changes.now.items c.args.made j a
     c.in-Err.fault c.refusal.result full c.in-Err.is c.refusal.ensures many few

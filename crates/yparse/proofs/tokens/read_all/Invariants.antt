@@ -1,5 +1,6 @@
 use Rattle.std.proofs.Common.{ℕ, List, ◌≤◌, length, Result}
 use Rattle.std.specs.List.{All}
+use Rattle.yparse.specs.TokensFile.{most_tokens}
 use Rattle.yparse.specs.declared.tokens.TokenFault.{TokenFault}
 use Rattle.yparse.specs.TokensFile.{Outcome}
 use Rattle.yparse.specs.Tables.{symbol_named, token_count}
@@ -10,7 +11,7 @@ use Rattle.yparse.proofs.tokens.read_all.Given as goal
 -- whatever is read of the rest completes the whole
 abbrev pub invariant-loop-symbols : goal.invariant-loop-symbols
 invariant-loop-symbols l = record {
-  few : length l.symbols.items ≤ 1000000;
+  few : length l.symbols.items ≤ most_tokens;
   inputs : All (IsInput (token_count l.grammar)) l.symbols.items;
   told : (r : Result (List ℕ) TokenFault)
       → Outcome (symbol_named l.grammar) (token_count l.grammar) (length l.symbols.items) l.rest r

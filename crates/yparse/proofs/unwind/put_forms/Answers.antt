@@ -1,5 +1,5 @@
-use Rattle.std.proofs.Common.{ℕ, suc, ◌≡◌, ◌++◌, ◌∷◌, [], List, true, false, length, flat_map, refl}
-use Rattle.std.proofs.Common.{ap, sym, subst, ◌∙◌, append_assoc, append-nil, arith, Option}
+use Rattle.std.proofs.Common.{ℕ, suc, ◌≡◌, ◌+◌, ◌++◌, ◌∷◌, [], List, true, false, length, flat_map}
+use Rattle.std.proofs.Common.{refl, ap, sym, subst, ◌∙◌, append_assoc, append-nil, arith, Option}
 use Rattle.std.specs.Io.KnownBytes.{Appends}
 use Rattle.std.proofs.KnownBytes.{Appends-nil}
 use Rattle.ytables.specs.Link.{device_of}
@@ -8,12 +8,50 @@ use Rattle.ytables.proofs.Sent.{Sends-then}
 use Rattle.yparse.specs.Machine.{Machine}
 use Rattle.yparse.specs.Past.{position, back_by}
 use Rattle.yparse.specs.History.{History}
-use Rattle.yparse.specs.Session.{Setting, machine_of, history_of, later_of}
+use Rattle.yparse.specs.Session.{Setting, setting_of, machine_of, history_of, later_of}
 use Rattle.yparse.specs.Unwinding.{form_of, shifts_from, forms_from, forms_of, forms_before}
 use Rattle.yparse.specs.Unwinding.{form_line, is_reduction}
 use Rattle.yparse.proofs.Unwound.{undone-next, forms-reduction, forms-other, stops, goes_back-none}
 use Rattle.yparse.proofs.Unwound.{lines-push}
+use Rattle.yparse.proofs.unwind.put_forms.Given.{Over}
+use Rattle.yparse.proofs.unwind.put_forms.Goals.{In-Ok}
 use Rattle.yparse.proofs.unwind.put_forms.Goals as goal
+
+-- ---- what an undo leaves
+
+stays : (g : Over) (c : In-Ok g)
+    → setting_of c.step_back.new.self ≡ setting_of c.args.session.now
+stays g c = c.in-Ok.ensures.setting ∙ c.loop-kind.invariant.setting
+
+further : (g : Over) (c : In-Ok g)
+    → history_of c.step_back.new.self
+    ≡ back_by (suc c.loop-kind.invariant.steps) (history_of c.args.session.now)
+further g c =
+    let h : History = history_of c.args.session.now in
+    undone-next c.loop-kind.invariant.steps h.now h.earlier (history_of c.loop-kind.session)
+    (history_of c.step_back.new.self) c.in-Ok.kind c.loop-kind.invariant.left
+    c.in-Ok.ensures.undoes
+
+fewer : (g : Over) (c : In-Ok g)
+    → suc c.loop-kind.invariant.steps + position (history_of c.step_back.new.self)
+    ≡ position (history_of c.args.session.now)
+fewer g c =
+    let one : length (history_of c.loop-kind.session).earlier
+    ≡ suc (length (history_of c.step_back.new.self).earlier) = ap length c.in-Ok.ensures.undoes in
+    omega (arith, c.loop-kind.invariant.count, one)
+
+-- a reduction that is undone restores a form
+restored : (g : Over) (c : In-Ok g) → is_reduction c.in-Ok.kind ≡ true
+    → forms_of (history_of c.args.session.now)
+    ≡ c.loop-kind.invariant.before
+    ++ forms_from (later_of c.step_back.new.self) (history_of c.step_back.new.self)
+restored g c one =
+    let new : History = history_of c.step_back.new.self in
+    let inv = c.loop-kind.invariant in
+    inv.forms ∙ ap (λ (l : List (List ℕ)). inv.before ++ l)
+    (forms-reduction c.in-Ok.kind (later_of c.loop-kind.session) (history_of c.loop-kind.session)
+    new c.in-Ok.ensures.undoes one
+    ∙ ap (λ (l : List ℕ). forms_from l new) (sym c.in-Ok.ensures.later))
 
 pub returns-in_err-put_form-clause-forms : goal.returns-in_err-put_form-clause-forms
 returns-in_err-put_form-clause-forms g c =
@@ -51,32 +89,21 @@ pub loop-kind-preserved-in-Continue-branch-2 : goal.loop-kind-preserved-in-Conti
 loop-kind-preserved-in-Continue-branch-2 g c =
     let w = g.W.Write.contents in
     let m : Machine = machine_of c.args.session.now in
-    let h : History = history_of c.args.session.now in
-    let mid : History = history_of c.loop-kind.session in
     let new : History = history_of c.step_back.new.self in
     let inv = c.loop-kind.invariant in
-    let kind = c.in-Ok.kind in
-    let was : List ℕ = later_of c.loop-kind.session in
     let later : List ℕ = later_of c.step_back.new.self in
-    let grown : later ≡ shifts_from kind was = c.in-Ok.ensures.later in
-    let undoes : mid.earlier ≡ (kind, new.now) ∷ new.earlier = c.in-Ok.ensures.undoes in
-    let one : is_reduction kind ≡ true = sym c.is_reduction.ensures ∙ c.if-is_reduction.true in
-    let fewer : length mid.earlier ≡ suc (length new.earlier) = ap length undoes in
-    let line : Sends w c.loop-kind.link c.put_form-then-is_reduction.new.link true
-    (form_line m (form_of new.now later)) =
-    subst (λ (x : Machine). Sends w c.loop-kind.link c.put_form-then-is_reduction.new.link true
-    (form_line x (form_of new.now later))) (ap (λ (s : Setting). s.machine)
-    (c.in-Ok.ensures.setting ∙ inv.setting)) c.in_ok-put_form-in-Ok.ensures in
+    let here = (goal.at.loop-kind-preserved-in-Continue-branch-2 g c).In-Ok in
+    let one = sym c.is_reduction.ensures ∙ c.if-is_reduction.true in
+    let line = subst (λ (s : Setting). Sends w c.loop-kind.link
+    c.put_form-then-is_reduction.new.link true (form_line s.machine (form_of new.now later)))
+    (stays g here) c.in_ok-put_form-in-Ok.ensures in
     record {
-      setting = c.in-Ok.ensures.setting ∙ inv.setting;
+      setting = stays g here;
       steps = suc inv.steps;
-      left = undone-next inv.steps h.now h.earlier mid new kind inv.left undoes;
-      count = omega (arith, inv.count, fewer);
+      left = further g here;
+      count = fewer g here;
       before = inv.before ++ form_of new.now later ∷ [];
-      forms = inv.forms ∙ ap (λ (l : List (List ℕ)). inv.before ++ l)
-          (forms-reduction kind was mid new undoes one
-          ∙ ap (λ (l : List ℕ). forms_from l new) (sym grown))
-          ∙ sym (append_assoc inv.before (form_of new.now later ∷ [])
+      forms = restored g here one ∙ sym (append_assoc inv.before (form_of new.now later ∷ [])
           (forms_before later new.earlier));
       sent =
           subst (λ (t : List ℕ). Sends w c.args.link.now c.put_form-then-is_reduction.new.link true
@@ -90,55 +117,38 @@ returns-in_err-put_form-in-Ok-clause-forms g c =
     let w = g.W.Write.contents in
     let m : Machine = machine_of c.args.session.now in
     let h : History = history_of c.args.session.now in
-    let mid : History = history_of c.loop-kind.session in
     let new : History = history_of c.step_back.new.self in
     let inv = c.loop-kind.invariant in
-    let kind = c.in-Ok.kind in
-    let was : List ℕ = later_of c.loop-kind.session in
     let later : List ℕ = later_of c.step_back.new.self in
-    let grown : later ≡ shifts_from kind was = c.in-Ok.ensures.later in
-    let undoes : mid.earlier ≡ (kind, new.now) ∷ new.earlier = c.in-Ok.ensures.undoes in
-    let one : is_reduction kind ≡ true = sym c.is_reduction.ensures ∙ c.if-is_reduction.true in
+    let here = (goal.at.returns-in_err-put_form-in-Ok-clause-forms g c).In-Ok in
+    let one = sym c.is_reduction.ensures ∙ c.if-is_reduction.true in
     let a : Option (List ℕ) = w (device_of c.args.link.now) in
-    let b : Option (List ℕ) = w (device_of c.loop-kind.link) in
     let known : Option (List ℕ) = w (device_of c.put_form-then-is_reduction.new.link) in
-    let cut : Sends w c.loop-kind.link c.put_form-then-is_reduction.new.link false
-    (form_line m (form_of new.now later)) =
-    subst (λ (x : Machine). Sends w c.loop-kind.link c.put_form-then-is_reduction.new.link false
-    (form_line x (form_of new.now later))) (ap (λ (s : Setting). s.machine)
-    (c.in-Ok.ensures.setting ∙ inv.setting)) c.in_err-put_form-in-Ok.ensures in
-    let forms : forms_of h ≡ inv.before ++ forms_from later new =
-    inv.forms ∙ ap (λ (l : List (List ℕ)). inv.before ++ l)
-    (forms-reduction kind was mid new undoes one
-    ∙ ap (λ (l : List ℕ). forms_from l new) (sym grown)) in
+    let cut = subst (λ (s : Setting). Sends w c.loop-kind.link
+    c.put_form-then-is_reduction.new.link false (form_line s.machine (form_of new.now later)))
+    (stays g here) c.in_err-put_form-in-Ok.ensures in
     goes_back-none a known m h new c.from_residual-in_err-put_form-in-Ok.result
     c.from_residual-in_err-put_form-in-Ok.ensures
-    (stops a b known m h new (suc inv.steps) inv.before later
-    (undone-next inv.steps h.now h.earlier mid new kind inv.left undoes) forms inv.sent.bytes
-    cut.bytes)
+    (stops a (w (device_of c.loop-kind.link)) known m h new (suc inv.steps) inv.before later
+    (further g here) (restored g here one) inv.sent.bytes cut.bytes)
 
 pub loop-kind-preserved : goal.loop-kind-preserved
 loop-kind-preserved g c =
-    let h : History = history_of c.args.session.now in
-    let mid : History = history_of c.loop-kind.session in
     let new : History = history_of c.step_back.new.self in
     let inv = c.loop-kind.invariant in
-    let kind = c.in-Ok.kind in
-    let was : List ℕ = later_of c.loop-kind.session in
     let later : List ℕ = later_of c.step_back.new.self in
-    let grown : later ≡ shifts_from kind was = c.in-Ok.ensures.later in
-    let undoes : mid.earlier ≡ (kind, new.now) ∷ new.earlier = c.in-Ok.ensures.undoes in
-    let none : is_reduction kind ≡ false = sym c.is_reduction.ensures ∙ c.if-is_reduction.false in
-    let fewer : length mid.earlier ≡ suc (length new.earlier) = ap length undoes in
+    let here = (goal.at.loop-kind-preserved g c).In-Ok in
+    let none = sym c.is_reduction.ensures ∙ c.if-is_reduction.false in
     record {
-      setting = c.in-Ok.ensures.setting ∙ inv.setting;
+      setting = stays g here;
       steps = suc inv.steps;
-      left = undone-next inv.steps h.now h.earlier mid new kind inv.left undoes;
-      count = omega (arith, inv.count, fewer);
+      left = further g here;
+      count = fewer g here;
       before = inv.before;
       forms = inv.forms ∙ ap (λ (l : List (List ℕ)). inv.before ++ l)
-          (forms-other kind was mid new undoes none
-          ∙ ap (λ (l : List ℕ). forms_before l new.earlier) (sym grown));
+          (forms-other c.in-Ok.kind (later_of c.loop-kind.session) (history_of c.loop-kind.session)
+          new c.in-Ok.ensures.undoes none
+          ∙ ap (λ (l : List ℕ). forms_before l new.earlier) (sym c.in-Ok.ensures.later));
       sent = inv.sent;
     }
 

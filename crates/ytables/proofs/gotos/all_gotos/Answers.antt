@@ -13,15 +13,15 @@ loop-q-preserved c =
     let inv = c.loop-q.invariant in
     let row = c.in_ok-row.row.items in
     let tokens : c.token_count-tokens.result ≡ m.grammar.bare.tokens = c.token_count-tokens.ensures
-            ∙ ap (λ (v : GrammarValue). v.bare.tokens) c.grammar-grammar.ensures in
+    ∙ ap (λ (v : GrammarValue). v.bare.tokens) c.grammar-grammar.ensures in
     let pushed : IsPushed c.loop-q.gotos c.push.new.self row =
-            subst (λ (l : List (Option ℕ)). IsPushed c.loop-q.gotos c.push.new.self l)
-            c.deref.ensures.value c.in_ok-push.ensures in
+    subst (λ (l : List (Option ℕ)). IsPushed c.loop-q.gotos c.push.new.self l)
+    c.deref.ensures.value c.in_ok-push.ensures in
     let wide = inv.width in
     let len = c.in_ok-row.ensures.len in
     let here : (x : ℕ) → x < length row → get_or row x None ≡ goto_in m q
-            (m.grammar.bare.tokens + x) = λ x l. c.in_ok-row.ensures.gotos x l ∙ ap
-            (λ t. goto_in m q (t + x)) tokens in
+    (m.grammar.bare.tokens + x) = λ x l. c.in_ok-row.ensures.gotos x l ∙ ap
+    (λ t. goto_in m q (t + x)) tokens in
     record {
       count = pushed.count ∙ ap (λ n. n + 1) inv.count;
       width = ap (λ w. w + c.token_count-tokens.result) pushed.width ∙ inv.width;

@@ -19,8 +19,8 @@ goto-requires-clause-symbol c =
     let d : Item = record { rule = 0; dot = 0 } in
     let i = get_or xs k d in
     next_below m v xs c.args.q k c.in-Some.x d (drop (i.dot + 1) (body_of v.bare i.rule))
-        c.grammar-grammar.ensures c.items-items.ensures c.symbols.ensures.well_formed
-        c.states-states.ensures.states c.requires.state c.loop-item-test.true c.in-Some.ensures
+    c.grammar-grammar.ensures c.items-items.ensures c.symbols.ensures.well_formed
+    c.states-guide.ensures.states c.requires.state c.loop-item-test.true c.in-Some.ensures
 
 pub index_mut-requires : goal.index_mut-requires
 index_mut-requires c =
@@ -31,9 +31,9 @@ index_mut-requires c =
     let d : Item = record { rule = 0; dot = 0 } in
     let i = get_or xs k d in
     let below = next_below m v xs c.args.q k c.in-Some.x d
-            (drop (i.dot + 1) (body_of v.bare i.rule)) c.grammar-grammar.ensures
-            c.items-items.ensures c.symbols.ensures.well_formed c.states-states.ensures.states
-            c.requires.state c.loop-item-test.true c.in-Some.ensures in
+    (drop (i.dot + 1) (body_of v.bare i.rule)) c.grammar-grammar.ensures
+    c.items-items.ensures c.symbols.ensures.well_formed c.states-guide.ensures.states
+    c.requires.state c.loop-item-test.true c.in-Some.ensures in
     let len = c.loop-item.invariant.len in
     let high = c.if-tokens-x.true in
     omega (arith, below, len, c.loop-item.row.ok.0, high)
@@ -56,13 +56,13 @@ loop-item-preserved c =
       | in-Some+then-tokens-x w ↦
           (let x = w.in-Some.x in
           let after : after_dot m.grammar.bare i ≡ x ∷ y =
-                  subst (λ (u : GrammarValue). after_dot u.bare i ≡ x ∷ y) c.grammar-grammar.ensures
-                  w.in-Some.ensures in
+          subst (λ (u : GrammarValue). after_dot u.bare i ≡ x ∷ y) c.grammar-grammar.ensures
+          w.in-Some.ensures in
           let items : c.match-next_symbol.row.items ≡ set row (x - t) (goto_in m q x) =
-                  ap (λ v. v.items) w.row-is ∙ ap (set row (x - t)) w.goto.ensures.value in
+          ap (λ v. v.items) w.row-is ∙ ap (set row (x - t)) w.goto.ensures.value in
           let below = next_below m v xs q k x d y c.grammar-grammar.ensures c.items-items.ensures
-                  c.symbols.ensures.well_formed c.states-states.ensures.states c.requires.state l
-                  w.in-Some.ensures in
+          c.symbols.ensures.well_formed c.states-guide.ensures.states c.requires.state l
+          w.in-Some.ensures in
           let len = inv.len in
           let high = w.if-tokens-x.true in
           let room : x - t < length row = omega (arith, below, len, high) in
@@ -75,8 +75,8 @@ loop-item-preserved c =
       | in-Some+else-tokens-x w ↦
           (let x = w.in-Some.x in
           let after : after_dot m.grammar.bare i ≡ x ∷ y =
-                  subst (λ (u : GrammarValue). after_dot u.bare i ≡ x ∷ y) c.grammar-grammar.ensures
-                  w.in-Some.ensures in
+          subst (λ (u : GrammarValue). after_dot u.bare i ≡ x ∷ y) c.grammar-grammar.ensures
+          w.in-Some.ensures in
           let items : c.match-next_symbol.row.items ≡ row = ap (λ v. v.items) w.row-is in
           record {
             len = ap (λ l. length l + t) items ∙ inv.len;
@@ -85,8 +85,8 @@ loop-item-preserved c =
           })
       | in_default w ↦
           (let after : after_dot m.grammar.bare i ≡ [] =
-              subst (λ (u : GrammarValue). after_dot u.bare i ≡ []) c.grammar-grammar.ensures
-              w.in_default.ensures in
+          subst (λ (u : GrammarValue). after_dot u.bare i ≡ []) c.grammar-grammar.ensures
+          w.in_default.ensures in
           let items : c.match-next_symbol.row.items ≡ row = ap (λ v. v.items) w.row-is in
           record {
             len = ap (λ l. length l + t) items ∙ inv.len;
@@ -103,8 +103,11 @@ returns-clause-gotos c =
     let row = c.loop-item.row.items in
     let inv = c.loop-item.invariant in
     let len = inv.len in
-    let end : c.loop-item.item-index ≡ length xs = omega (arith, c.loop-item-test.false,
-            c.loop-item.auto.item-index-end) in
-    marked_whole m c.args.q t xs row c.states-states.ensures.states c.requires.state
-        c.items-items.ensures (omega (arith, len))
-        (subst (λ n. Marked m c.args.q t xs n row) end inv.gotos)
+    let end : c.loop-item.item-index ≡ length xs = omega (
+      arith,
+      c.loop-item-test.false,
+      c.loop-item.auto.item-index-end,
+    ) in
+    marked_whole m c.args.q t xs row c.states-guide.ensures.states c.requires.state
+    c.items-items.ensures (omega (arith, len))
+    (subst (λ n. Marked m c.args.q t xs n row) end inv.gotos)

@@ -8,6 +8,6 @@ invariant-loop-item l = record {
   len : length l.row.items + l.tokens ≡ l.automaton.grammar.bare.symbols;
   gotos : (x : ℕ) → x < length l.row.items
       → slice_index_or l.row.items x None ≡ (if has_before l.automaton.grammar.bare
-          (take l.item-index l.items) (l.tokens + x) then goto_in l.automaton l.q (l.tokens + x)
-          else None);
+      (take l.item-index l.items) (l.tokens + x) then goto_in l.automaton l.q (l.tokens + x)
+      else None);
 }

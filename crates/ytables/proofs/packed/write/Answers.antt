@@ -15,15 +15,15 @@ loop-t-preserved g c =
     let n = c.args.n in
     let inv = c.loop-t.invariant in
     let at : c.index-row-t.result ≡ get_or row t None = get_or_read row t c.index-row-t.result
-            c.loop-t-test.true c.index-row-t.is None in
+    c.loop-t-test.true c.index-row-t.is None in
     let some : c.is_some.result ≡ is_some (get_or row t None) = c.is_some.ensures ∙ ap is_some at in
     elim c.if-is_some.branch [
       | then-is_some w ↦
           (let here : w.index-row-t-then-is_some.result ≡ get_or row t None =
-              get_or_read row t w.index-row-t-then-is_some.result c.loop-t-test.true
-              w.index-row-t-then-is_some.is None in
+          get_or_read row t w.index-row-t-then-is_some.result c.loop-t-test.true
+          w.index-row-t-then-is_some.is None in
           let cells : c.if-is_some.cells ≡ set c.loop-t.cells (d + t) (get_or row t None) =
-                  w.cells-is ∙ ap (set c.loop-t.cells (d + t)) here in
+          w.cells-is ∙ ap (set c.loop-t.cells (d + t)) here in
           let filled : is_some (get_or row t None) ≡ true = sym some ∙ w.if-is_some.true in
           let inside : d + t < length c.loop-t.owners = omega arith in
           let room : length c.loop-t.owners ≤ length c.loop-t.cells = omega arith in
@@ -32,10 +32,10 @@ loop-t-preserved g c =
             written = subst (λ (x : List (Option T)). IsWritten (t + 1) c.args.cells.now x
                 c.args.owners.now c.if-is_some.owners n d row) (sym cells)
                 (subst (λ o. IsWritten (t + 1) c.args.cells.now
-                    (set c.loop-t.cells (d + t) (get_or row t None)) c.args.owners.now o n d row)
-                    (sym w.owners-is)
+                (set c.loop-t.cells (d + t) (get_or row t None)) c.args.owners.now o n d row)
+                (sym w.owners-is)
                 (written_more t c.args.cells.now c.loop-t.cells c.args.owners.now c.loop-t.owners n
-                    d row inv.written inside room free));
+                d row inv.written inside room free));
             fits = subst (λ o. FitsFrom (t + 1) o row d) (sym w.owners-is)
                 (fits_more t c.loop-t.owners row d (n + 1) inv.fits);
           })
@@ -45,9 +45,9 @@ loop-t-preserved g c =
             written = subst (λ (x : List (Option T)). IsWritten (t + 1) c.args.cells.now x
                 c.args.owners.now c.if-is_some.owners n d row) (sym w.cells-is)
                 (subst (λ o. IsWritten (t + 1) c.args.cells.now c.loop-t.cells c.args.owners.now o n
-                    d row) (sym w.owners-is)
+                d row) (sym w.owners-is)
                 (written_skip t c.args.cells.now c.loop-t.cells c.args.owners.now c.loop-t.owners n
-                    d row inv.written free));
+                d row inv.written free));
             fits = subst (λ o. FitsFrom (t + 1) o row d) (sym w.owners-is)
                 (fits_skip t c.loop-t.owners row d inv.fits);
           })

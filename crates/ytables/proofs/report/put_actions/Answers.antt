@@ -14,17 +14,17 @@ returns-in_err-put_action g c =
     let q = c.args.q in
     let t = c.loop-t.t in
     let grammar : c.grammar-grammar.result.now ≡ v.built.grammar = c.grammar-grammar.ensures ∙ ap
-            (λ (m : Collection). m.grammar) c.automaton.ensures.value in
+    (λ (m : Collection). m.grammar) c.automaton.ensures.value in
     let n : c.token_count-t-end.result ≡ v.built.grammar.bare.tokens = c.token_count-t-end.ensures ∙
-            ap (λ (v : GrammarValue). v.bare.tokens) grammar in
+    ap (λ (v : GrammarValue). v.bare.tokens) grammar in
     range_cut g.W.Write.contents (λ t. action_line v.built.grammar t (action_at v q t))
-        (0) c.args.link.now c.loop-t.link c.put_action.new.link c.from_residual.result
-        (v.built.grammar.bare.tokens) (t) (t) c.from_residual.ensures (omega arith)
-        (omega arith) c.loop-t.invariant
-        (subst (λ (x : Action). Sends g.W.Write.contents c.loop-t.link c.put_action.new.link false
-        (action_line v.built.grammar t x)) c.action.ensures.value
-        (subst (λ (x : GrammarValue). Sends g.W.Write.contents c.loop-t.link c.put_action.new.link
-        false (action_line x t c.action.result)) grammar c.in_err-put_action.ensures))
+    (0) c.args.link.now c.loop-t.link c.put_action.new.link c.from_residual.result
+    (v.built.grammar.bare.tokens) (t) (t) c.from_residual.ensures (omega arith)
+    (omega arith) c.loop-t.invariant
+    (subst (λ (x : Action). Sends g.W.Write.contents c.loop-t.link c.put_action.new.link false
+    (action_line v.built.grammar t x)) c.action.ensures.value
+    (subst (λ (x : GrammarValue). Sends g.W.Write.contents c.loop-t.link c.put_action.new.link
+    false (action_line x t c.action.result)) grammar c.in_err-put_action.ensures))
 
 pub loop-t-preserved : goal.loop-t-preserved
 loop-t-preserved g c =
@@ -32,13 +32,13 @@ loop-t-preserved g c =
     let q = c.args.q in
     let t = c.loop-t.t in
     let grammar : c.grammar-grammar.result.now ≡ v.built.grammar = c.grammar-grammar.ensures ∙ ap
-            (λ (m : Collection). m.grammar) c.automaton.ensures.value in
+    (λ (m : Collection). m.grammar) c.automaton.ensures.value in
     let n : c.token_count-t-end.result ≡ v.built.grammar.bare.tokens = c.token_count-t-end.ensures ∙
-            ap (λ (v : GrammarValue). v.bare.tokens) grammar in
+    ap (λ (v : GrammarValue). v.bare.tokens) grammar in
     range_sent g.W.Write.contents (λ t. action_line v.built.grammar t (action_at v q t))
-        (0) c.args.link.now c.loop-t.link c.put_action.new.link (t) (t)
-        (omega arith) c.loop-t.invariant
-        (subst (λ (x : Action). Sends g.W.Write.contents c.loop-t.link c.put_action.new.link true
-        (action_line v.built.grammar t x)) c.action.ensures.value
-        (subst (λ (x : GrammarValue). Sends g.W.Write.contents c.loop-t.link c.put_action.new.link
-        true (action_line x t c.action.result)) grammar c.in_ok-put_action.ensures))
+    (0) c.args.link.now c.loop-t.link c.put_action.new.link (t) (t)
+    (omega arith) c.loop-t.invariant
+    (subst (λ (x : Action). Sends g.W.Write.contents c.loop-t.link c.put_action.new.link true
+    (action_line v.built.grammar t x)) c.action.ensures.value
+    (subst (λ (x : GrammarValue). Sends g.W.Write.contents c.loop-t.link c.put_action.new.link
+    true (action_line x t c.action.result)) grammar c.in_ok-put_action.ensures))

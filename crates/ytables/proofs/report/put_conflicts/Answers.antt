@@ -13,12 +13,12 @@ returns-else-has_ready g c = λ u h.
     let v = c.args.tables.now in
     let q = c.args.q in
     let grammar : c.grammar.result.now ≡ v.built.grammar = c.grammar.ensures ∙ ap
-            (λ (m : Collection). m.grammar) c.automaton-automaton.ensures.value in
+    (λ (m : Collection). m.grammar) c.automaton-automaton.ensures.value in
     let items : c.items.result.now ≡ state_of v.built q = c.items.ensures ∙ ap (λ (m : Collection).
-            state_of m q) c.automaton-automaton.ensures.value in
+    state_of m q) c.automaton-automaton.ensures.value in
     let none : ready_in v.built.grammar.bare (state_of v.built q) ≡ [] =
     ap (λ (k : List Item). ready_in v.built.grammar.bare k) (sym items) ∙ ap (λ (x : GrammarValue).
-        ready_in x.bare c.items.result.now) (sym grammar) ∙ c.has_ready.ensures
-        c.if-has_ready.false in
+    ready_in x.bare c.items.result.now) (sym grammar) ∙ c.has_ready.ensures
+    c.if-has_ready.false in
     subst (λ (l : List ℕ). Sends g.W.Write.contents c.args.link.now c.args.link.now true l)
-        (sym (no_conflicts v u q none)) (Sends-nothing g.W.Write.contents c.args.link.now)
+    (sym (no_conflicts v u q none)) (Sends-nothing g.W.Write.contents c.args.link.now)

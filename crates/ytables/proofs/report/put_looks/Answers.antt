@@ -12,11 +12,11 @@ returns-in_err-put_look g c = λ u h.
     let t = c.loop-t.t in
     let n : c.token_count-t-end.result ≡ v.built.grammar.bare.tokens =
     c.token_count-t-end.ensures ∙ ap (λ (v : GrammarValue). v.bare.tokens)
-        (c.grammar.ensures ∙ ap (λ (m : Collection). m.grammar) c.automaton.ensures.value) in
+    (c.grammar.ensures ∙ ap (λ (m : Collection). m.grammar) c.automaton.ensures.value) in
     range_cut g.W.Write.contents (look_text v u q c.args.item) (0) c.args.link.now c.loop-t.link
-        c.put_look.new.link c.from_residual.result (v.built.grammar.bare.tokens) (t)
-        (t) c.from_residual.ensures (omega arith) (omega arith) (c.loop-t.invariant u h)
-        (c.in_err-put_look.ensures u h)
+    c.put_look.new.link c.from_residual.result (v.built.grammar.bare.tokens) (t)
+    (t) c.from_residual.ensures (omega arith) (omega arith) (c.loop-t.invariant u h)
+    (c.in_err-put_look.ensures u h)
 
 pub loop-t-preserved : goal.loop-t-preserved
 loop-t-preserved g c = λ u h.
@@ -25,7 +25,7 @@ loop-t-preserved g c = λ u h.
     let t = c.loop-t.t in
     let n : c.token_count-t-end.result ≡ v.built.grammar.bare.tokens =
     c.token_count-t-end.ensures ∙ ap (λ (v : GrammarValue). v.bare.tokens)
-        (c.grammar.ensures ∙ ap (λ (m : Collection). m.grammar) c.automaton.ensures.value) in
+    (c.grammar.ensures ∙ ap (λ (m : Collection). m.grammar) c.automaton.ensures.value) in
     range_sent g.W.Write.contents (look_text v u q c.args.item) (0) c.args.link.now c.loop-t.link
-        c.put_look.new.link (t) (t) (omega arith) (c.loop-t.invariant u h)
-        (c.in_ok-put_look.ensures u h)
+    c.put_look.new.link (t) (t) (omega arith) (c.loop-t.invariant u h)
+    (c.in_ok-put_look.ensures u h)

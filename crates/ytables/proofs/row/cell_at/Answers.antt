@@ -16,22 +16,22 @@ returns-then-shifts-clause-cell c = λ u h.
     let class = class_in v c.args.t in
     let test = λ (i : Item). u.looks c.args.q i c.args.t in
     let level : c.precedence.result ≡ get_or v.token_precedences c.args.t None =
-            c.precedence.ensures ∙ ap (λ (g : GrammarValue). get_or g.token_precedences c.args.t
-            None) c.grammar-grammar.ensures in
+    c.precedence.ensures ∙ ap (λ (g : GrammarValue). get_or g.token_precedences c.args.t
+    None) c.grammar-grammar.ensures in
     let tally : IsTally class (rules_by test (ready_in v.bare (state_of m c.args.q)))
-            c.tally_at-tally.result =
+    c.tally_at-tally.result =
     subst (λ o. IsTally (class_at v o) (rules_by test (ready_in v.bare (state_of m c.args.q)))
-        c.tally_at-tally.result) level
+    c.tally_at-tally.result) level
     (subst (λ rs. IsTally (class_at v c.precedence.result) rs c.tally_at-tally.result)
-        (rules_ready v.bare test c.args.items.now (state_of m c.args.q) c.requires.ready)
-        (c.tally_at-tally.ensures.tally u h)) in
+    (rules_ready v.bare test c.args.items.now (state_of m c.args.q) c.requires.ready)
+    (c.tally_at-tally.ensures.tally u h)) in
     let rules = rules_by test (ready_in v.bare (state_of m c.args.q)) in
     let shift : Some c.shift_at.result ≡ (if has_before v.bare (state_of m c.args.q) c.args.t then
-            Some (shift_of (goto_in m c.args.q) c.args.t) else None) =
+    Some (shift_of (goto_in m c.args.q) c.args.t) else None) =
     ap Some (c.shift_at.ensures) ∙ ap (λ b. if b then Some (shift_of (goto_in m c.args.q) c.args.t)
-        else None) (sym c.if-shifts.true ∙ c.requires.shifts) in
+    else None) (sym c.if-shifts.true ∙ c.requires.shifts) in
     c.settle.ensures ∙ settled_some class rules c.tally_at-tally.result c.shift_at.result tally ∙ ap
-        (λ o. cell_of class o rules) shift
+    (λ o. cell_of class o rules) shift
 
 pub returns-clause-cell : goal.returns-clause-cell
 returns-clause-cell c = λ u h.
@@ -41,11 +41,11 @@ returns-clause-cell c = λ u h.
     let test = λ (i : Item). u.looks c.args.q i c.args.t in
     let rules = rules_by test (ready_in v.bare (state_of m c.args.q)) in
     let tally = subst (λ rs. IsTally (class_at v None) rs c.tally_at.result)
-            (rules_ready v.bare test c.args.items.now (state_of m c.args.q) c.requires.ready)
-            (c.tally_at.ensures.tally u h) in
+    (rules_ready v.bare test c.args.items.now (state_of m c.args.q) c.requires.ready)
+    (c.tally_at.ensures.tally u h) in
     let shift : None ≡ (if has_before v.bare (state_of m c.args.q) c.args.t then Some
-            (shift_of (goto_in m c.args.q) c.args.t) else None) =
+    (shift_of (goto_in m c.args.q) c.args.t) else None) =
     ap (λ b. if b then Some (shift_of (goto_in m c.args.q) c.args.t) else None)
-        (sym c.if-shifts.false ∙ c.requires.shifts) in
+    (sym c.if-shifts.false ∙ c.requires.shifts) in
     c.settle-2.ensures ∙ settled_none class rules c.tally_at.result tally ∙ ap
-        (λ o. cell_of class o rules) shift
+    (λ o. cell_of class o rules) shift

@@ -16,8 +16,8 @@ cell_at-cell-requires-clause-within c =
     let g = m.grammar.bare in
     let k = state_of m c.args.q in
     subst (λ (l : List Item). InGrammar g l) (sym c.requires.ready)
-        (ready_in_grammar g k (range_in_grammar g k
-        (c.states-states.ensures.states.range c.args.q c.requires.state)))
+    (ready_in_grammar g k (range_in_grammar g k
+    (c.states-guide.ensures.states.range c.args.q c.requires.state)))
 
 pub cell_at-cell-requires-clause-ready : goal.cell_at-cell-requires-clause-ready
 cell_at-cell-requires-clause-ready c =
@@ -30,25 +30,33 @@ loop-t-preserved c =
     let k = state_of m c.args.q in
     let few : length c.args.ready.now ≤ 8192 =
     (let rules : length m.grammar.bare.rules ≤ 8192 =
-        subst (λ (v : GrammarValue). length v.bare.rules ≤ 8192) c.grammar.ensures
-        c.symbols-symbols.ensures.well_formed.few in
-    let states = c.states-states.ensures.states in
+    subst (λ (v : GrammarValue). length v.bare.rules ≤ 8192) c.grammar.ensures
+    c.symbols-well_formed.ensures.well_formed.few in
+    let states = c.states-guide.ensures.states in
     let ready = few_ready m.grammar.bare k (states.range c.args.q c.requires.state)
-            (states.ordered c.args.q c.requires.state) in
+    (states.ordered c.args.q c.requires.state) in
     let same = ap length c.requires.ready in
     omega (arith, rules, ready, same)) in
     record {
       len = (let n = c.loop-t.invariant.len in ap length c.in_ok-push.ensures.items ∙ length-append
           c.loop-t.actions.items (c.cell_at-cell.result.action ∷ []) ∙ ap (λ n. n + 1) n);
-      shift_reduce = omega (arith, few, c.cell_at-cell.ensures.shift_reduce,
-          c.loop-t.invariant.shift_reduce);
-      reduce_reduce = omega (arith, few, c.cell_at-cell.ensures.reduce_reduce,
-          c.loop-t.invariant.reduce_reduce);
+      shift_reduce = omega (
+        arith,
+        few,
+        c.cell_at-cell.ensures.shift_reduce,
+        c.loop-t.invariant.shift_reduce,
+      );
+      reduce_reduce = omega (
+        arith,
+        few,
+        c.cell_at-cell.ensures.reduce_reduce,
+        c.loop-t.invariant.reduce_reduce,
+      );
       row = λ u h. subst (λ (l : List Action). IsRowTo m u c.args.q (c.loop-t.t + 1) l
           (c.loop-t.shift_reduce + c.cell_at-cell.result.shift_reduce)
           (c.loop-t.reduce_reduce + c.cell_at-cell.result.reduce_reduce)
           (c.loop-t.choice || c.cell_at-cell.result.choice)) (sym c.in_ok-push.ensures.items)
           (row_more m u c.args.q c.loop-t.t c.loop-t.actions.items c.loop-t.shift_reduce
-              c.loop-t.reduce_reduce c.loop-t.choice c.cell_at-cell.result
-              (c.loop-t.invariant.row u h) (c.cell_at-cell.ensures.cell u h));
+          c.loop-t.reduce_reduce c.loop-t.choice c.cell_at-cell.result
+          (c.loop-t.invariant.row u h) (c.cell_at-cell.ensures.cell u h));
     }

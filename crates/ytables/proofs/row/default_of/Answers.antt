@@ -17,5 +17,5 @@ any_true (x ∷ xs) = ap (λ b. b || list_any (λ b. b) xs) (beq_true x) ∙ ap 
 pub returns-then-contains : goal.returns-then-contains
 returns-then-contains c =
     let found : list_any (λ b. b) c.args.before.now ≡ true = any_true c.args.before.now ∙ sym
-            c.contains.ensures.value ∙ c.if-contains.true in
+    c.contains.ensures.value ∙ c.if-contains.true in
     sym (ap (λ b. if b then None else common (filter is_filled c.args.actions.now)) found)

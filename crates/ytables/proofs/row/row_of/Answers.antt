@@ -17,18 +17,18 @@ returns-clause-row c = λ u h.
     let before = c.in_ok-before.before.items in
     let d = c.in_ok-cells.cells in
     let marks : (t : ℕ) → t < m.grammar.bare.tokens → get_or before t false ≡ has_before
-            m.grammar.bare (state_of m c.args.q) t = λ t l.
+    m.grammar.bare (state_of m c.args.q) t = λ t l.
     c.in_ok-before.ensures.marks t (subst (λ n. t < n) (sym c.requires.tokens) l) ∙ ap
-        (λ (v : GrammarValue). has_before v.bare c.items-items.result.now t)
-        c.grammar-grammar.ensures
+    (λ (v : GrammarValue). has_before v.bare c.items-items.result.now t)
+    c.grammar-grammar.ensures
     ∙ ap (λ (k : List Item). has_before m.grammar.bare k t) c.items-items.ensures in
     let cells : IsRowTo m u c.args.q (length before) d.actions.items d.shift_reduce d.reduce_reduce
-            d.choice =
+    d.choice =
     subst (λ (l : List Bool). IsRowTo m u c.args.q (length l) d.actions.items d.shift_reduce
-        d.reduce_reduce d.choice) c.deref.ensures.value (c.in_ok-cells.ensures.cells u h) in
+    d.reduce_reduce d.choice) c.deref.ensures.value (c.in_ok-cells.ensures.cells u h) in
     whole_row m u c.args.q before d.actions.items c.default_of-default.result d.shift_reduce
-        d.reduce_reduce d.choice (c.in_ok-before.ensures.len ∙ c.requires.tokens) marks cells
+    d.reduce_reduce d.choice (c.in_ok-before.ensures.len ∙ c.requires.tokens) marks cells
     (c.default_of-default.ensures ∙ ap (λ (l : List Bool). if list_any (λ b. b) l then None else
-        common (filter is_filled c.deref-4.result.now)) c.deref-3.ensures.value
+    common (filter is_filled c.deref-4.result.now)) c.deref-3.ensures.value
     ∙ ap (λ (l : List Action). if list_any (λ b. b) before then None else common
-        (filter is_filled l)) c.deref-4.ensures.value)
+    (filter is_filled l)) c.deref-4.ensures.value)

@@ -19,10 +19,10 @@ pub returns-in-Some : goal.returns-in-Some
 returns-in-Some c =
     let m = c.args.automaton.now in
     ap shift_to (sym c.in-Some.is) ∙ shift_other (goto_in m c.args.q) c.args.t c.goto.result
-        c.if-t-eq-END.false c.goto.ensures.value
+    c.if-t-eq-END.false c.goto.ensures.value
 
 pub returns-in-None : goal.returns-in-None
 returns-in-None c =
     let m = c.args.automaton.now in
     ap shift_to (sym c.in-None.is) ∙ shift_other (goto_in m c.args.q) c.args.t c.goto.result
-        c.if-t-eq-END.false c.goto.ensures.value
+    c.if-t-eq-END.false c.goto.ensures.value

@@ -15,13 +15,13 @@ returns-in_err-put_action g c =
     let t = c.loop-t.t in
     let n : c.token_count-t-end.result ≡ v.built.grammar.bare.tokens =
     c.token_count-t-end.ensures ∙ ap (λ (v : GrammarValue). v.bare.tokens)
-        (c.grammar.ensures ∙ ap (λ (m : Collection). m.grammar) c.automaton.ensures.value) in
+    (c.grammar.ensures ∙ ap (λ (m : Collection). m.grammar) c.automaton.ensures.value) in
     let same : c.action.result ≡ action_at v q t = c.action.ensures.value in
     range_cut g.W.Write.contents (λ t. action_line q t (action_at v q t)) (0) c.args.link.now
-        c.loop-t.link c.put_action.new.link c.from_residual.result (v.built.grammar.bare.tokens) (t)
-        (t) c.from_residual.ensures (omega arith) (omega arith) c.loop-t.invariant
-        (subst (λ (x : Action). Sends g.W.Write.contents c.loop-t.link c.put_action.new.link false
-        (action_line q t x)) same c.in_err-put_action.ensures)
+    c.loop-t.link c.put_action.new.link c.from_residual.result (v.built.grammar.bare.tokens) (t)
+    (t) c.from_residual.ensures (omega arith) (omega arith) c.loop-t.invariant
+    (subst (λ (x : Action). Sends g.W.Write.contents c.loop-t.link c.put_action.new.link false
+    (action_line q t x)) same c.in_err-put_action.ensures)
 
 pub loop-t-preserved : goal.loop-t-preserved
 loop-t-preserved g c =
@@ -30,9 +30,9 @@ loop-t-preserved g c =
     let t = c.loop-t.t in
     let n : c.token_count-t-end.result ≡ v.built.grammar.bare.tokens =
     c.token_count-t-end.ensures ∙ ap (λ (v : GrammarValue). v.bare.tokens)
-        (c.grammar.ensures ∙ ap (λ (m : Collection). m.grammar) c.automaton.ensures.value) in
+    (c.grammar.ensures ∙ ap (λ (m : Collection). m.grammar) c.automaton.ensures.value) in
     let same : c.action.result ≡ action_at v q t = c.action.ensures.value in
     range_sent g.W.Write.contents (λ t. action_line q t (action_at v q t)) (0) c.args.link.now
-        c.loop-t.link c.put_action.new.link (t) (t) (omega arith) c.loop-t.invariant
-        (subst (λ (x : Action). Sends g.W.Write.contents c.loop-t.link c.put_action.new.link true
-        (action_line q t x)) same c.in_ok-put_action.ensures)
+    c.loop-t.link c.put_action.new.link (t) (t) (omega arith) c.loop-t.invariant
+    (subst (λ (x : Action). Sends g.W.Write.contents c.loop-t.link c.put_action.new.link true
+    (action_line q t x)) same c.in_ok-put_action.ensures)

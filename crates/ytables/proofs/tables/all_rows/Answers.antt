@@ -16,16 +16,16 @@ loop-q-preserved c =
     let row = c.in_ok-row.row in
     let entries = c.in_ok-entries.entries.items in
     let tokens : c.token_count-tokens.result ≡ m.grammar.bare.tokens = c.token_count-tokens.ensures
-            ∙ ap (λ (v : GrammarValue). v.bare.tokens) c.grammar-grammar.ensures in
+    ∙ ap (λ (v : GrammarValue). v.bare.tokens) c.grammar-grammar.ensures in
     let pushed : IsPushed c.loop-q.actions c.push.new.self entries =
     subst (λ (l : List (Option Action)). IsPushed c.loop-q.actions c.push.new.self l)
-        c.deref-in-loop-q.ensures.value c.in_ok-push.ensures in
+    c.deref-in-loop-q.ensures.value c.in_ok-push.ensures in
     let longer = c.in_ok-push-2.ensures.items in
     let same : (t : ℕ) → t < m.grammar.bare.tokens → by_default row.default
-            (unwrap_or (get_or entries t None) Error) ≡ by_default row.default
-            (get_or row.actions.items t Error) = λ t l.
+    (unwrap_or (get_or entries t None) Error) ≡ by_default row.default
+    (get_or row.actions.items t Error) = λ t l.
     c.in_ok-entries.ensures.entries t (let a = ap length c.deref.ensures.value in
-        let b = c.in_ok-row.ensures.len in omega (arith, a, b, l, tokens))
+    let b = c.in_ok-row.ensures.len in omega (arith, a, b, l, tokens))
     ∙ ap (λ (x : List Action). by_default row.default (get_or x t Error)) c.deref.ensures.value in
     record {
       count = pushed.count ∙ ap (λ n. n + 1) inv.count;

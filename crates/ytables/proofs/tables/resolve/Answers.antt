@@ -8,3 +8,7 @@ invariant_of-result c = record {
   gotos = c.in-Ok-all_gotos.ensures;
   tables = λ u h. record { rows = c.in-Ok.ensures.rows u h; sums = c.in-Ok.ensures.sums u h };
 }
+
+pub returns-clause-tables : goal.returns-clause-tables
+returns-clause-tables c =
+    λ u h. record { rows = c.in-Ok.ensures.rows u h; sums = c.in-Ok.ensures.sums u h }

@@ -9,12 +9,12 @@ returns-clause-exact c =
     let P = c.self.inside.parts in
     let fit = c.self.invariant.fit in
     let h : c.args.q < length P.states.closures =
-            subst (λ (m : Collection). c.args.q < length m.states) (sym c.self.view_is)
-            c.requires.state in
+    subst (λ (m : Collection). c.args.q < length m.states) (sym c.self.view_is)
+    c.requires.state in
     let l : c.args.x < P.grammar.bare.symbols =
-            subst (λ (m : Collection). c.args.x < (bare_of m).symbols) (sym c.self.view_is)
-            c.requires.symbol in
+    subst (λ (m : Collection). c.args.x < (bare_of m).symbols) (sym c.self.view_is)
+    c.requires.symbol in
     subst (λ (m : Collection). IsGoto m c.args.q c.args.x c.get.result) c.self.view_is
     (subst (λ o. IsGoto (collection_of P) c.args.q c.args.x o) (sym c.get.ensures)
-        (goto_is P.grammar c.symbols-symbols.ensures.well_formed P.states P.gotos fit.states
-        (λ q x h l. fit.gotos.gotos q h x l) c.args.q c.args.x h l))
+    (goto_is P.grammar fit.well_formed P.states P.gotos fit.states
+    (λ q x h l. fit.gotos.gotos q h x l) c.args.q c.args.x h l))

@@ -7,14 +7,14 @@ pub returns-clause-states : goal.returns-clause-states
 returns-clause-states c =
     let P = c.self.inside.parts in
     let fit = c.self.invariant.fit in
-    subst HasStates c.self.view_is (has_states P.grammar c.symbols-symbols.ensures.well_formed
-        P.states P.gotos fit.states (λ q x h l. fit.gotos.gotos q h x l) fit.few)
+    subst HasStates c.self.view_is (has_states P.grammar fit.well_formed
+    P.states P.gotos fit.states (λ q x h l. fit.gotos.gotos q h x l) fit.few)
 
 pub returns-clause-guide : goal.returns-clause-guide
 returns-clause-guide c =
     let P = c.self.inside.parts in
     let fit = c.self.invariant.fit in
     subst (λ (m : Collection). (u : Guide) × IsGuide m u) c.self.view_is
-        (guide_of P.grammar c.symbols-symbols.ensures.well_formed P.states P.gotos fit.states
-        (λ q x h l. fit.gotos.gotos q h x l) P.places c.self.inside.looks c.self.invariant.sound
-        c.self.invariant.closed)
+    (guide_of P.grammar fit.well_formed P.states P.gotos fit.states
+    (λ q x h l. fit.gotos.gotos q h x l) P.places c.self.inside.looks c.self.invariant.sound
+    c.self.invariant.closed)

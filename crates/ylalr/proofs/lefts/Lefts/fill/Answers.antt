@@ -12,15 +12,20 @@ loop-k-preserved c =
     let k = c.loop-k.k in
     let x : Item = get_or xs k (record { rule = 0; dot = 0 }) in
     let here : At xs c.args.rows.now x (get_or c.args.rows.now k 0) =
-            record { index = k; within = c.loop-k-test.true; here = same_default xs k x
-            (record { rule = 0; dot = 0 }) c.loop-k-test.true; row = refl } in
+    record {
+      index = k;
+      within = c.loop-k-test.true;
+      here = same_default xs k x
+          (record { rule = 0; dot = 0 }) c.loop-k-test.true;
+      row = refl;
+    } in
     noting_push g xs c.args.rows.now k x (get_or c.args.rows.now k 0) c.loop-k.self c.note.new.self
-        c.loop-k.invariant c.requires.rows (c.symbols-symbols.ensures.well_formed.left x.rule
-        (c.requires.range k (record { rule = 0; dot = 0 }) c.loop-k-test.true).0) here refl
-        c.note.ensures.first c.note.ensures.moved
+    c.loop-k.invariant c.requires.rows (c.symbols-well_formed.ensures.well_formed.left x.rule
+    (c.requires.range k (record { rule = 0; dot = 0 }) c.loop-k-test.true).0) here refl
+    c.note.ensures.first c.note.ensures.moved
 
 pub returns : goal.returns
 returns c =
     let e : c.loop-k.k ≡ length c.args.items.now = omega arith in
     noting_all c.args.grammar.now.bare c.args.items.now c.args.rows.now c.loop-k.k c.loop-k.self e
-        c.loop-k.invariant
+    c.loop-k.invariant

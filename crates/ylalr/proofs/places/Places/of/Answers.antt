@@ -10,14 +10,14 @@ pub rows_of-requires-clause-range : goal.rows_of-requires-clause-range
 rows_of-requires-clause-range c =
     let h : c.loop-q.q < length c.args.states.now.closures = omega arith in
     subst (InRange c.args.grammar.now.bare) (sym c.items.ensures)
-        (c.requires.states.each c.loop-q.q h).range
+    (c.requires.states.each c.loop-q.q h).range
 
 pub rows_of-requires-clause-room : goal.rows_of-requires-clause-room
 rows_of-requires-clause-room c =
     let h : c.loop-q.q < length c.args.states.now.closures = omega arith in
     let s = c.requires.states.each c.loop-q.q h in
     let n = few_items c.args.grammar.now.bare c.symbols.ensures.well_formed
-            (set_at c.args.states.now.closures c.loop-q.q) s.order s.range in
+    (set_at c.args.states.now.closures c.loop-q.q) s.order s.range in
     let e = ap (λ (w : List Item). length w) c.items.ensures in
     let p = c.loop-q.invariant.placing.small in
     let few = c.requires.few in
@@ -29,7 +29,7 @@ loop-q-preserved c =
     let s = c.requires.states.each c.loop-q.q h in
     let g = c.args.grammar.now.bare in
     let n = few_items g c.symbols.ensures.well_formed (set_at c.args.states.now.closures c.loop-q.q)
-            s.order s.range in
+    s.order s.range in
     record {
       sized = c.in_ok-list.ensures.sized;
       placing = placing_push g c.args.states.now c.loop-q.q c.loop-q.rows.items
@@ -43,5 +43,5 @@ pub returns : goal.returns
 returns c =
     let e : c.loop-q.q ≡ length c.args.states.now.closures = omega arith in
     placing_all c.args.grammar.now.bare c.args.states.now c.loop-q.q
-        (record { rows = c.loop-q.rows.items; total = c.loop-q.total }) e c.requires.few
-        c.loop-q.invariant.placing
+    (record { rows = c.loop-q.rows.items; total = c.loop-q.total }) e c.requires.few
+    c.loop-q.invariant.placing

@@ -9,25 +9,30 @@ use Rattle.ylalr.proofs.rows.Rows.after.Goals as goal
 
 pub returns-clause-further : goal.returns-clause-further
 returns-clause-further c =
-    let V : BitRows = record { height = c.self.inside.height; width = c.self.inside.width; span =
-            c.self.inside.span; words = c.self.inside.words.items } in
+    let V : BitRows = record {
+      height = c.self.inside.height;
+      width = c.self.inside.width;
+      span =
+          c.self.inside.span;
+      words = c.self.inside.words.items;
+    } in
     let hr : c.args.r < V.height = subst (λ (m : BitRows). c.args.r < m.height) (sym c.self.view_is)
-            c.requires.row in
+    c.requires.row in
     let hc : c.args.c < V.width = subst (λ (m : BitRows). c.args.c < m.width) (sym c.self.view_is)
-            c.requires.column in
+    c.requires.column in
     let w = c.index.result.now in
     let at : w ≡ word_of V c.args.r c.args.c = get_or_read V.words
-            (c.args.r * V.span + c.args.c / 64) w (word_within V c.self.invariant c.args.r
-            (c.args.c / 64) hr (in_span V c.self.invariant c.args.c hc)) c.index.ensures 0 in
+    (c.args.r * V.span + c.args.c / 64) w (word_within V c.self.invariant c.args.r
+    (c.args.c / 64) hr (in_span V c.self.invariant c.args.c hc)) c.index.ensures 0 in
     let hw : w < 2 ^ 64 = search rules in
     let le = div-le_self w (2 ^ (c.args.c % 64)) in
     let small : w / 2 ^ (c.args.c % 64) < 2 ^ 64 = omega (arith, hw, le) in
     let tz : 0 < trailing_zeros w64 (w / 2 ^ (c.args.c % 64)) =
-            subst (λ n. 0 < trailing_zeros w64 (n / 2 ^ (c.args.c % 64))) (sym at)
-            (after_further V c.args.r c.args.c hr hc
-            (subst (λ n. n / 2 ^ (c.args.c % 64) < 2 ^ 64) at small)
-            (λ h. c.requires.absent (subst (λ (m : BitRows). Holds m c.args.r c.args.c)
-            c.self.view_is h))) in
+    subst (λ n. 0 < trailing_zeros w64 (n / 2 ^ (c.args.c % 64))) (sym at)
+    (after_further V c.args.r c.args.c hr hc
+    (subst (λ n. n / 2 ^ (c.args.c % 64) < 2 ^ 64) at small)
+    (λ h. c.requires.absent (subst (λ (m : BitRows). Holds m c.args.r c.args.c)
+    c.self.view_is h))) in
     let x = mod_below c.args.c 64 (omega arith) in
     let b = c.min-step.ensures in
     let d = c.min.ensures in
@@ -35,16 +40,21 @@ returns-clause-further c =
 
 pub returns-clause-none : goal.returns-clause-none
 returns-clause-none c = λ k le lt h.
-    (let V : BitRows = record { height = c.self.inside.height; width = c.self.inside.width; span =
-        c.self.inside.span; words = c.self.inside.words.items } in
+    (let V : BitRows = record {
+      height = c.self.inside.height;
+      width = c.self.inside.width;
+      span =
+          c.self.inside.span;
+      words = c.self.inside.words.items;
+    } in
     let hr : c.args.r < V.height = subst (λ (m : BitRows). c.args.r < m.height) (sym c.self.view_is)
-            c.requires.row in
+    c.requires.row in
     let hc : c.args.c < V.width = subst (λ (m : BitRows). c.args.c < m.width) (sym c.self.view_is)
-            c.requires.column in
+    c.requires.column in
     let w = c.index.result.now in
     let at : w ≡ word_of V c.args.r c.args.c = get_or_read V.words
-            (c.args.r * V.span + c.args.c / 64) w (word_within V c.self.invariant c.args.r
-            (c.args.c / 64) hr (in_span V c.self.invariant c.args.c hc)) c.index.ensures 0 in
+    (c.args.r * V.span + c.args.c / 64) w (word_within V c.self.invariant c.args.r
+    (c.args.c / 64) hr (in_span V c.self.invariant c.args.c hc)) c.index.ensures 0 in
     let hw : w < 2 ^ 64 = search rules in
     let dl = div-le_self w (2 ^ (c.args.c % 64)) in
     let small : w / 2 ^ (c.args.c % 64) < 2 ^ 64 = omega (arith, hw, dl) in
@@ -53,5 +63,5 @@ returns-clause-none c = λ k le lt h.
     let z : c.min.result ≤ trailing_zeros w64 (w / 2 ^ (c.args.c % 64)) = omega (arith, b, d) in
     let s : c.min.result ≤ 64 - c.args.c % 64 = omega (arith, b, d) in
     after_none V c.args.r c.args.c k c.min.result (subst (λ n. n / 2 ^ (c.args.c % 64) < 2 ^ 64) at
-        small) (subst (λ n. c.min.result ≤ trailing_zeros w64 (n / 2 ^ (c.args.c % 64))) at z) s le
-        lt (subst (λ (m : BitRows). Holds m c.args.r k) (sym c.self.view_is) h))
+    small) (subst (λ n. c.min.result ≤ trailing_zeros w64 (n / 2 ^ (c.args.c % 64))) at z) s le
+    lt (subst (λ (m : BitRows). Holds m c.args.r k) (sym c.self.view_is) h))

@@ -11,11 +11,11 @@ loop-i-preserved c =
       sized = c.in_ok-put.ensures.sized ∙ c.loop-i.invariant.sized;
       every = λ k h. elim (below_or_is k c.loop-i.i h) as (λ _. Contains c.put.new.self.queue
           (get_or xs (length xs - 1 - k) 0)) [
-        | inl l ↦ c.in_ok-put.ensures.kept (get_or xs (length xs - 1 - k) 0)
-            (c.loop-i.invariant.every k l)
-        | inr e ↦ subst (λ j. Contains c.put.new.self.queue (get_or xs (length xs - 1 - j) 0))
-            (sym e) c.in_ok-put.ensures.there
-      ];
+            | inl l ↦ c.in_ok-put.ensures.kept (get_or xs (length xs - 1 - k) 0)
+                (c.loop-i.invariant.every k l)
+            | inr e ↦ subst (λ j. Contains c.put.new.self.queue (get_or xs (length xs - 1 - j) 0))
+                (sym e) c.in_ok-put.ensures.there
+          ];
     }
 
 pub returns-clause-every : goal.returns-clause-every
@@ -24,5 +24,5 @@ returns-clause-every c = λ p h.
     let q = c.loop-i.waiting.queue in
     let e : c.loop-i.i ≡ length xs = omega arith in
     All-contains (λ k. Contains q k) xs p (All-from_get_or (λ k. Contains q k) xs 0
-        (from_turned (λ k. Contains q (get_or xs k 0)) (length xs) c.loop-i.i e
-        c.loop-i.invariant.every)) h)
+    (from_turned (λ k. Contains q (get_or xs k 0)) (length xs) c.loop-i.i e
+    c.loop-i.invariant.every)) h)

@@ -19,11 +19,11 @@ returns-clause-allowed c =
       reduce_reduce = I.counts.reduce_reduce;
       choice = I.chosen;
     } in
-    let guide = c.states-states.ensures.guide in
+    let guide = c.states-guide.ensures.guide in
     let well : WellFormed m.grammar.bare = subst (λ (x : GrammarValue). WellFormed x.bare)
-            c.grammar.ensures c.symbols-symbols.ensures.well_formed in
+    c.grammar.ensures c.symbols-well_formed.ensures.well_formed in
     let follows = c.self.invariant.tables guide.0 guide.1 in
     let all : CellsAllow v = λ q t h l. subst (Allows (bare_of m) (state_of m q) t)
-            (sym (follows.rows.action q t h l))
-            (action_allowed m guide.0 q t well c.states-states.ensures.states h) in
+    (sym (follows.rows.action q t h l))
+    (action_allowed m guide.0 q t well c.states-guide.ensures.states h) in
     subst CellsAllow c.self.view_is all

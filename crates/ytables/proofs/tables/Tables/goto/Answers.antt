@@ -11,8 +11,8 @@ returns-clause-value c =
     let same : I.automaton ≡ k = ap (λ (v : TablesValue). v.built) c.self.view_is in
     let holds = c.self.invariant in
     packed_goto I.automaton k I.gotos I.actions.width c.args.q c.args.x c.width.result c.get.result
-        same holds.gotos holds.width c.width.ensures c.get.ensures c.requires.state
-        c.requires.nonterminal c.requires.symbol
+    same holds.gotos holds.width c.width.ensures c.get.ensures c.requires.state
+    c.requires.nonterminal c.requires.symbol
 
 pub returns-clause-exact : goal.returns-clause-exact
 returns-clause-exact c =
@@ -22,8 +22,8 @@ returns-clause-exact c =
     let holds = c.self.invariant in
     let value : c.get.result ≡ goto_in k c.args.q c.args.x =
     packed_goto I.automaton k I.gotos I.actions.width c.args.q c.args.x c.width.result c.get.result
-        same holds.gotos holds.width c.width.ensures c.get.ensures c.requires.state
-        c.requires.nonterminal c.requires.symbol in
-    let states : HasStates k = subst HasStates same c.states-states.ensures.states in
+    same holds.gotos holds.width c.width.ensures c.get.ensures c.requires.state
+    c.requires.nonterminal c.requires.symbol in
+    let states : HasStates k = subst HasStates same c.states-guide.ensures.states in
     subst (IsGoto k c.args.q c.args.x) (sym value) (states.leads c.args.q c.args.x c.requires.state
-        c.requires.symbol)
+    c.requires.symbol)

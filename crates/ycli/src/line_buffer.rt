@@ -1,0 +1,57 @@
+//! The line that is being read, in a fixed array.
+
+ghost use Rattle.std.specs.Prelude.{◌≡◌, ◌≤◌, ◌++◌, ◌∷◌, [], ℕ, List, take};
+ghost use Rattle.ycli.specs.Line.{line_room};
+
+use crate::command::LONGEST_LINE;
+use std::marker::Model;
+
+/// Room for a command line and one byte more, which tells a longer line from the longest command.
+const ROOM: usize = LONGEST_LINE + 1;
+
+/// The first 4,097 bytes of a line; what goes past them is passed over.
+#[derive(Drop)]
+pub(crate) struct LineBuffer {
+    bytes: [u8; ROOM],
+    len: usize,
+}
+
+impl Model for LineBuffer {
+    ghost Value = { List ℕ };
+
+    ghost view = { λ h. take h.len h.bytes };
+
+    ghost invariant = { λ h. h.len ≤ line_room };
+}
+
+impl LineBuffer {
+    pub(crate) fn new() -> Self
+        ensures { result ≡ [] }
+    {
+        LineBuffer {
+            bytes: [0; ROOM],
+            len: 0,
+        }
+    }
+
+    pub(crate) fn as_slice(&self) -> &[u8]
+        ensures { result.now ≡ self.now }
+    {
+        &self.bytes[..self.len]
+    }
+
+    pub(crate) fn push(&mut self, byte: u8)
+        ensures { self.new ≡ take line_room (self.old ++ byte ∷ []) }
+    {
+        if self.len < ROOM {
+            self.bytes[self.len] = byte;
+            self.len += 1;
+        }
+    }
+
+    pub(crate) fn clear(&mut self)
+        ensures { self.new ≡ [] }
+    {
+        self.len = 0;
+    }
+}

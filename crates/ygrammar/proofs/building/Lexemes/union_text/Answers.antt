@@ -1,6 +1,0 @@
-use Rattle.ygrammar.specs.Answers.{views}
-use Rattle.ygrammar.proofs.TreeSteps.{union_there}
-use Rattle.ygrammar.proofs.building.Lexemes.union_text.Goals as goal
-
-pub unreachable-requires : goal.unreachable-requires
-unreachable-requires c = union_there (views c.args.self.now) c.requires c.in_default.ensures.0

@@ -1,0 +1,25 @@
+use Rattle.std.proofs.Common.{◌≡◌, ◌++◌, map, length, ℕ, List}
+use Rattle.std.specs.List.{flat_map, AllByRecursion}
+use Rattle.ygrammar.specs.declared.kind.Sign.TheVariants.{Semicolon}
+use Rattle.ygrammar.specs.declared.recogniser.State.TheVariants.{Semicolons}
+use Rattle.ygrammar.specs.Answers.{StandIn, views}
+use Rattle.ygrammar.specs.TreeBuilder.{GoesOn, NoSign}
+use Rattle.ygrammar.specs.Tree.{IsClause, clause_yield}
+use Rattle.ygrammar.specs.Texts.{ClauseStands}
+use Rattle.ygrammar.specs.TreeViews.{clause_view}
+use Rattle.ygrammar.proofs.TreeSteps.{FirstNamed}
+use Rattle.ygrammar.proofs.tree_builder.TreeBuilder.clauses.Given as goal
+
+abbrev pub invariant-rules : goal.invariant-rules
+invariant-rules l = record {
+  whole : views l.fn.self ≡ flat_map clause_yield (map clause_view l.clauses.items) ++ views l.self;
+  shaped : AllByRecursion IsClause (map clause_view l.clauses.items);
+  first : FirstNamed l.clauses.items (views l.self);
+  ended : NoSign Semicolon (views l.self);
+  goes_on : GoesOn Semicolons l.self;
+  stands : (source : List ℕ) → StandIn source l.fn.self →
+      AllByRecursion (ClauseStands source) l.clauses.items × StandIn source l.self;
+}
+
+abbrev pub decreases-rules : goal.decreases-rules
+decreases-rules l = length l.self

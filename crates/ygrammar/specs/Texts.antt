@@ -1,0 +1,46 @@
+-- The braced texts of a file, by their places in the source.
+use Rattle.std.specs.Prelude.{ℕ, ◌≡◌, List, [], ◌∷◌, ◌++◌, take, drop, length, Option, Some, IfSome}
+use Rattle.std.specs.List.{flat_map, AllByRecursion}
+use Rattle.ygrammar.specs.declared.texts.Span.{Span}
+use Rattle.ygrammar.specs.declared.tree.BracedText.{BracedText}
+use Rattle.ygrammar.specs.declared.tree.Clause.{Clause as CodeClause}
+use Rattle.ygrammar.specs.declared.tree.BodyPart.{BodyPart as CodeBodyPart}
+use Rattle.ygrammar.specs.declared.tree.BodyPart.TheVariants as items
+use Rattle.ygrammar.specs.Elaboration.{Rule, final_of}
+use Rattle.ygrammar.specs.Tree.{Clause, BodyPart, symbol, action}
+
+-- the part of the source there
+abbrev pub part_of : List ℕ → Span → List ℕ
+part_of source s = take s.len (drop s.start source)
+
+-- A source, and the texts of rules that are parts of it.
+pub record TextsValue : Type 0 where
+  pub source : List ℕ
+  pub texts : List (Option (List ℕ))
+
+-- the text stands at its place
+abbrev pub StandsAt : List ℕ → BracedText → Type 0
+StandsAt source b = take (length b.text.now) (drop b.at source) ≡ b.text.now
+
+-- so does the action that a part of a body is
+abbrev pub BodyPartStands : List ℕ → CodeBodyPart → Type 0
+BodyPartStands source (items.Symbol m) = Unit {0}
+BodyPartStands source (items.Action b) = StandsAt source b
+
+-- so do the actions of a rule
+pub record ClauseStands (source : List ℕ) (c : CodeClause) : Type 0 where
+  pub body : AllByRecursion (BodyPartStands source) c.body.items
+  pub last : IfSome c.last (λ b. StandsAt source b)
+
+-- the text of a rule, where it has one
+abbrev pub rule_text : Rule → Option (List ℕ)
+rule_text r = r.text
+
+-- the text of the rule of an inner action
+abbrev pub body_part_texts : BodyPart → List (Option (List ℕ))
+body_part_texts (symbol i) = []
+body_part_texts (action t) = Some t ∷ []
+
+-- the texts of the rules that a rule of the file makes, inner ones first
+abbrev pub clause_texts : Clause → List (Option (List ℕ))
+clause_texts c = let f = final_of c.last c.body in flat_map body_part_texts f.0 ++ f.1 ∷ []

@@ -1,0 +1,58 @@
+-- What the builder of syntax trees asks of lexemes, and what it takes of them.
+use Rattle.std.specs.Prelude.{ℕ, ◌≡◌, Bool, true, false, List, [], ◌∷◌, Option, Some, None}
+use Rattle.ygrammar.specs.declared.lexer.Placed.{Placed}
+use Rattle.ygrammar.specs.declared.kind.Sign.{Sign}
+use Rattle.ygrammar.specs.declared.kind.Sign.TheVariants.{Greater}
+use Rattle.ygrammar.specs.declared.recogniser.State.{State}
+use Rattle.ygrammar.specs.declared.tree.Definition.{Definition as CodeDefinition}
+use Rattle.ygrammar.specs.declared.tree.Definition.TheVariants as definitions
+use Rattle.ygrammar.specs.Recogniser.{run}
+use Rattle.ygrammar.specs.Lexemes.{Lexeme, name, fixed}
+use Rattle.ygrammar.specs.Lexer.{kinds}
+use Rattle.ygrammar.specs.Answers.{views}
+use Rattle.ygrammar.specs.Tree.{body_part_yield}
+
+-- behind what led to a state, the lexemes make a grammar file
+abbrev pub GoesOn : State → List Placed → Type 0
+GoesOn q ls = run q (kinds (views ls)) ≡ true
+
+-- no lexeme of these stands in front
+abbrev pub NoneOf : {A : Type 0} → (A → Lexeme) → List Lexeme → Type 0
+NoneOf {A = A} f ls = (x : A) (rest : List Lexeme) → ls ≡ f x ∷ rest → ⊥
+
+-- no part of a body stands in front
+abbrev pub NoBodyPart : List Lexeme → Type 0
+NoBodyPart ls = NoneOf body_part_yield ls
+
+-- the lexeme that has one spelling does not stand in front
+abbrev pub NoSign : Sign → List Lexeme → Type 0
+NoSign s ls = (rest : List Lexeme) → ls ≡ fixed s ∷ rest → ⊥
+
+-- the lexeme in front was taken, or none of these stands there
+abbrev pub Takes : {A : Type 0} → (A → Lexeme) → Option A → List Lexeme → List Lexeme → Type 0
+Takes f None before after = NoneOf f before × (before ≡ after)
+Takes f (Some x) before after = before ≡ f x ∷ after
+
+-- the lexeme in front was taken, or it does not stand there
+abbrev pub TakesSign : Sign → Bool → List Lexeme → List Lexeme → Type 0
+TakesSign s false before after = NoSign s before × (before ≡ after)
+TakesSign s true before after = before ≡ fixed s ∷ after
+
+-- a name and the end of its tag stand in front
+pub record EndsTag (ls : List Lexeme) : Type 0 where
+  pub tag : List ℕ
+  pub rest : List Lexeme
+  pub whole : ls ≡ name tag ∷ fixed Greater ∷ rest
+
+-- where the lexeme in front stands
+abbrev pub place_of : List Placed → ℕ
+place_of [] = 0
+place_of (p ∷ ps) = p.at
+
+-- the word of a start symbol stands at the place
+abbrev pub DefinitionAt : ℕ → CodeDefinition → Type 0
+DefinitionAt at (definitions.Start m place) = place ≡ at
+DefinitionAt at (definitions.Union t) = Unit {0}
+DefinitionAt at definitions.Block = Unit {0}
+DefinitionAt at (definitions.Listing l) = Unit {0}
+DefinitionAt at (definitions.Types t) = Unit {0}
