@@ -154,7 +154,7 @@ mod tests {
     use crate::tokens::read_tokens;
     use crate::view::View;
     use std::test::Fail;
-    use ygrammar::read_grammar;
+    use ygrammar::{Sym, read_grammar};
     use ylalr::build;
     use ytables::resolve;
 
