@@ -5,6 +5,7 @@ use Rattle.std.proofs.Common.{Ok, Err, refl, sym, ap, ◌∙◌, subst, arith, a
 use Rattle.std.proofs.lemmas.Bool.{eqb-true, and_parts, or_cases, not-true, both_ways}
 use Rattle.std.proofs.lemmas.List.{map_push}
 use Rattle.std.proofs.Math.Seq.{drop-append_seam}
+use Rattle.std.proofs.Common.{Result}
 use Rattle.ygrammar.specs.declared.lexer.Placed.{Placed}
 use Rattle.ygrammar.specs.declared.kind.Kind.{Kind}
 use Rattle.ygrammar.specs.declared.kind.Kind.TheVariants as kind
@@ -24,7 +25,7 @@ use Rattle.ygrammar.specs.Recogniser.{next_state, reached, is_final, is_final_at
 use Rattle.ygrammar.specs.Lexemes.{Lexeme, fixed, kind_of}
 use Rattle.ygrammar.specs.Lexer.{Part, lexeme, PartAt, Cuts, lexemes, kinds, is_mark, marks}
 use Rattle.ygrammar.specs.Lexer.{syntax, FaultAt, refusal, IsLine, ended, marked, lexical, stray}
-use Rattle.ygrammar.specs.Lexer.{early, Outcome}
+use Rattle.ygrammar.specs.Lexer.{early, Outcome, Refusal, Stops}
 use Rattle.ygrammar.specs.Views.{lexeme_view, fault_view}
 use Rattle.ygrammar.specs.Answers.{views, fault_at, Fails, Comes, StandIn, StandsIn}
 use Rattle.ygrammar.proofs.Accepted.{reached_append, recognised}
@@ -271,53 +272,35 @@ line_here : (bytes rest : List ℕ) (ls : List Placed) (q : State) → Comes byt
 line_here bytes rest ls q c = let (b, e) = place bytes rest ls q c in
     (_, record { before = b; whole = e; counted = refl })
 
-pub stops_lexical : (bytes rest : List ℕ) (ls : List Placed) (q : State) (f : LexicalFault)
-    (line : ℕ) → Comes bytes ls rest q → FaultAt rest (fault_view f) → IsLine bytes rest line →
-    Fails (fault_at f line) bytes
-stops_lexical bytes rest ls q code_faults.Unfinished line c h l = record {
-  before = views ls;
-  rest =
-      rest;
-  line = line;
-  comes = c.cut;
-  begun = begun bytes rest ls q c;
-  here = l;
-  stops = lexical h;
-}
-stops_lexical bytes rest ls q code_faults.BadLiteral line c h l = record {
-  before = views ls;
-  rest =
-      rest;
-  line = line;
-  comes = c.cut;
-  begun = begun bytes rest ls q c;
-  here = l;
-  stops = lexical h;
-}
-stops_lexical bytes rest ls q code_faults.Foreign line c h l = record {
-  before = views ls;
-  rest =
-      rest;
-  line = line;
-  comes = c.cut;
-  begun = begun bytes rest ls q c;
-  here = l;
-  stops = lexical h;
-}
-
-pub stops_stray : (bytes rest m : List ℕ) (ls : List Placed) (q : State) (l : Lexeme) (line : ℕ) →
-    Comes bytes ls rest q → PartAt rest (lexeme l) m → next_state q (kind_of l) ≡ None →
-    IsLine bytes rest line → Outcome bytes (Err (refusal syntax line))
-stops_stray bytes rest m ls q l line c h e i = record {
+outcome : (bytes rest : List ℕ) (ls : List Placed) (q : State) (line : ℕ)
+    (r : Result (List Lexeme) Refusal) → Comes bytes ls rest q → IsLine bytes rest line →
+    Stops (views ls) rest line r → Outcome bytes r
+outcome bytes rest ls q line r c l s = record {
   before = views ls;
   rest = rest;
   line = line;
   comes = c.cut;
   begun = begun bytes rest ls q c;
-  here = i;
-  stops = stray h (not_viable (kinds (views ls ++ l ∷ []))
-      (reached_push (views ls) l q None c.state_is e));
+  here = l;
+  stops = s;
 }
+
+pub stops_lexical : (bytes rest : List ℕ) (ls : List Placed) (q : State) (f : LexicalFault)
+    (line : ℕ) → Comes bytes ls rest q → FaultAt rest (fault_view f) → IsLine bytes rest line →
+    Fails (fault_at f line) bytes
+stops_lexical bytes rest ls q code_faults.Unfinished line c h l =
+    outcome bytes rest ls q line _ c l (lexical h)
+stops_lexical bytes rest ls q code_faults.BadLiteral line c h l =
+    outcome bytes rest ls q line _ c l (lexical h)
+stops_lexical bytes rest ls q code_faults.Foreign line c h l =
+    outcome bytes rest ls q line _ c l (lexical h)
+
+pub stops_stray : (bytes rest m : List ℕ) (ls : List Placed) (q : State) (l : Lexeme) (line : ℕ) →
+    Comes bytes ls rest q → PartAt rest (lexeme l) m → next_state q (kind_of l) ≡ None →
+    IsLine bytes rest line → Outcome bytes (Err (refusal syntax line))
+stops_stray bytes rest m ls q l line c h e i = outcome bytes rest ls q line _ c i
+    (stray h (not_viable (kinds (views ls ++ l ∷ []))
+    (reached_push (views ls) l q None c.state_is e)))
 
 pub stops_marked : (bytes rest m : List ℕ) (ls new : List Placed) (q r : State) (p : Placed) →
     Comes bytes ls rest q → PartAt rest (lexeme (lexeme_view p.lexeme)) m
@@ -338,17 +321,9 @@ stops_marked bytes rest m ls new q r p c h e n f =
     reached_push (views ls) (fixed sign.Mark) q (Some r) c.state_is
     (ap (λ z. next_state q (kind_of z)) (sym mark) ∙ e) in
     let (line, i) = line_here bytes rest ls q c in
-    subst (λ z. Outcome bytes (Ok z)) (sym v) (record {
-      before = views ls;
-      rest = rest;
-      line = line;
-      comes = c.cut;
-      begun = begun bytes rest ls q c;
-      here = i;
-      stops = marked (subst (λ z. PartAt rest (lexeme z) m) mark h)
-          (omega (arith, sum, one, w, so_far))
-          (derived (kinds (views ls ++ fixed sign.Mark ∷ [])) (ap is_final_at s ∙ end_final r n));
-    })
+    subst (λ z. Outcome bytes (Ok z)) (sym v) (outcome bytes rest ls q line _ c i
+    (marked (subst (λ z. PartAt rest (lexeme z) m) mark h) (omega (arith, sum, one, w, so_far))
+    (derived (kinds (views ls ++ fixed sign.Mark ∷ [])) (ap is_final_at s ∙ end_final r n))))
   where
     end_final : (q : State) → is_end q ≡ true → is_final q ≡ true
     end_final Declarations h = cc
@@ -359,29 +334,15 @@ pub stops_ended : (bytes rest : List ℕ) (ls : List Placed) (q : State) → Com
     rest ≡ [] → is_final q ≡ true → Outcome bytes (Ok (views ls))
 stops_ended bytes rest ls q c e h =
     let (line, i) = line_here bytes rest ls q c in
-    record {
-      before = views ls;
-      rest = rest;
-      line = line;
-      comes = c.cut;
-      begun = begun bytes rest ls q c;
-      here = i;
-      stops = ended e (derived (kinds (views ls)) (ap is_final_at c.state_is ∙ h));
-    }
+    outcome bytes rest ls q line _ c i
+    (ended e (derived (kinds (views ls)) (ap is_final_at c.state_is ∙ h)))
 
 pub stops_early : (bytes rest : List ℕ) (ls : List Placed) (q : State) (line : ℕ) →
     Comes bytes ls rest q → rest ≡ [] → is_final q ≡ false → IsLine bytes rest line →
     Outcome bytes (Err (refusal syntax line))
-stops_early bytes rest ls q line c e h i = record {
-  before = views ls;
-  rest = rest;
-  line = line;
-  comes = c.cut;
-  begun = begun bytes rest ls q c;
-  here = i;
-  stops = early e (λ s. both_ways (is_final q) h (sym (ap is_final_at c.state_is) ∙ recognised
-      (kinds (views ls)) s));
-}
+stops_early bytes rest ls q line c e h i = outcome bytes rest ls q line _ c i
+    (early e (λ s. both_ways (is_final q) h (sym (ap is_final_at c.state_is) ∙ recognised
+    (kinds (views ls)) s)))
 
 pub empty_is : (rest : List ℕ) (r : Bool) → r ≡ eqb (length rest) 0 → r ≡ true → rest ≡ []
 empty_is [] r e f = refl

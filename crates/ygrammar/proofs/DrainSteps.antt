@@ -3,7 +3,7 @@ use Rattle.std.proofs.Common.{ℕ, zero, suc, Bool, true, false, ◌≡◌, ◌<
 use Rattle.std.proofs.Common.{◌∷◌, length, map, get_or, slice_index, Vec, Global, sym, ◌∙◌, ap}
 use Rattle.std.proofs.Common.{subst, inl, inr, arith, rules}
 use Rattle.std.specs.List.{Contains}
-use Rattle.std.proofs.lemmas.List.{get_or-map, length-map}
+use Rattle.std.proofs.lemmas.List.{get_or-map, get_or_read, length-map}
 use Rattle.std.proofs.lemmas.List.Elements.{All-contains, All-from_get_or, Contains-get_or}
 use Rattle.ygrammar.specs.Grammar.{RuleValue}
 use Rattle.ygrammar.specs.Marking.{IsMarked, IsSettled, IsSpread, IsWorklist, Grows, AreOccurrences}
@@ -102,10 +102,11 @@ worklist_none m o e = subst (λ (x : List ℕ). IsWorklist m x) (sym e)
     (record { marked = λ k h. absurd (omega arith); few = let i = unmarked_few m in omega arith })
 
 -- the symbol that is taken has a list
-pub taken_in : (m0 m : List Bool) (o0 o : List ℕ) (s t n : ℕ) (vs : List (Vec ℕ Global)) →
-    s ≡ get_or o t 0 → t < length o → IsWorklist m o → Grows m0 o0 m o → n ≡ length m0 →
+pub taken_in : {m0 m : List Bool} {o0 o : List ℕ} (s t n : ℕ) (vs : List (Vec ℕ Global)) →
+    s ≡ get_or o t s → t < length o → IsWorklist m o → Grows m0 o0 m o → n ≡ length m0 →
     length (map items_of vs) ≡ n → s < length vs
-taken_in m0 m o0 o s t n vs e d w g z a =
-    let b : s < length m = marked_below m s (subst (IsMarked m) (sym e) (w.marked t d)) in
+taken_in {m = m} {o = o} s t n vs e d w g z a =
+    let b : s < length m =
+    marked_below m s (subst (IsMarked m) (sym (get_or_read o t s d e 0)) (w.marked t d)) in
     let y = g.sized in
     omega (arith, length-map vs items_of)

@@ -1,167 +1,39 @@
 -- Which mistake is the first.
-use Rattle.std.proofs.Common.{ℕ, ◌≡◌, ◌≢◌, inl, inr, refl, sym, ap, subst, arith}
+use Rattle.std.proofs.Common.{ℕ, suc, ◌≡◌, ◌++◌, ◌∷◌, [], inl, inr, refl, sym, subst, List, take}
+use Rattle.std.proofs.Common.{drop, Result, Err, Ok, IsErrAnd}
 use Rattle.ygrammar.specs.declared.mistake.Mistake.{Mistake}
-use Rattle.ygrammar.specs.declared.mistake.Mistake.TheVariants.{TokenLeft, Undefined}
-use Rattle.ygrammar.specs.declared.mistake.Mistake.TheVariants.{TwicePrecedence, BadNumber}
-use Rattle.ygrammar.specs.declared.mistake.Mistake.TheVariants.{BadStart, Unproductive, BadPrec}
-use Rattle.ygrammar.specs.declared.mistake.Mistake.TheVariants.{Limit}
 use Rattle.ygrammar.specs.declared.mistake.Refused.{Refused}
 use Rattle.ygrammar.specs.declared.mistake.Refused.TheVariants as refused
 use Rattle.ygrammar.specs.Elaborated.{IsFirstRefused}
-use Rattle.ygrammar.specs.Mistakes.{Holds, IsFirst, order}
+use Rattle.ygrammar.specs.Mistakes.{HasNone, Holds, IsFirst, order}
 use Rattle.ygrammar.specs.Owned.{Refuses}
 use Rattle.ygrammar.specs.Tree.{Tree}
 
-rank : Mistake → ℕ
-rank TokenLeft = 0
-rank Undefined = 1
-rank TwicePrecedence = 2
-rank BadNumber = 3
-rank BadStart = 4
-rank Unproductive = 5
-rank BadPrec = 6
-rank Limit = 7
+-- one more mistake that does not hold
+pub more : (t : Tree) (fs : List Mistake) (m : Mistake) → HasNone t fs → (Holds t m → ⊥) →
+    HasNone t (fs ++ m ∷ [])
+more t [] m n a = (a, tt)
+more t (f ∷ fs) m n a = (n.0, more t fs m n.1 a)
 
-apart : (m n : Mistake) → (rank m ≡ rank n → ⊥) → m ≢ n
-apart m n h e = h (ap rank e)
+first_after : (t : Tree) (fs later : List Mistake) (m : Mistake) → HasNone t fs → Holds t m →
+    IsFirst t (fs ++ m ∷ later) m
+first_after t [] later m n h = inl (refl, h)
+first_after t (f ∷ fs) later m n h =
+    inr (λ e. n.0 (subst (λ k. Holds t k) (sym e) h), n.0, first_after t fs later m n.1 h)
 
-of_refused : (t : Tree) (m : Mistake) (e : Refused) → Refuses t m e →
-    (Holds t m → IsFirst t order m) → IsFirstRefused t e
-of_refused t m (refused.Mistake what at) (q, h) f = subst (λ w. IsFirst t order w) (sym q) (f h)
-of_refused t m refused.Memory p f = tt
+first : (t : Tree) (k : ℕ) (m : Mistake) (e : Refused) → take k order ++ m ∷ drop (suc k) order ≡
+    order →
+    HasNone t (take k order) → Refuses t m e → IsFirstRefused t e
+first t k m (refused.Mistake what at) o n (q, h) = subst (λ w. IsFirst t order w) (sym q)
+    (subst (λ l. IsFirst t l m) o (first_after t (take k order) (drop (suc k) order) m n h))
+first t k m refused.Memory o n r = tt
 
-differ : (a b : ℕ) → (a ≡ b → ⊥) → a ≡ b → ⊥
-differ a b h = h
-
-pub first_0 : (t : Tree) (e : Refused) → Refuses t TokenLeft e → IsFirstRefused t e
-first_0 t e r = of_refused t TokenLeft e r (λ h. inl (refl, h))
-
-pub first_1 : (t : Tree) (e : Refused) → (Holds t TokenLeft → ⊥) → Refuses t Undefined e →
-    IsFirstRefused t e
-unfolding rank
-first_1 t e a r = of_refused t Undefined e r
-    (λ h. inr (apart TokenLeft Undefined (λ q. absurd (omega arith)), a, inl (refl, h)))
-
-pub first_2 : (t : Tree) (e : Refused) → (Holds t TokenLeft → ⊥) → (Holds t Undefined → ⊥) →
-    Refuses t TwicePrecedence e → IsFirstRefused t e
-unfolding rank
-first_2 t e a b r = of_refused t TwicePrecedence e r
-    (λ h. inr (
-      apart TokenLeft TwicePrecedence (λ q. absurd (omega arith)),
-      a,
-      inr (apart Undefined TwicePrecedence (λ q. absurd (omega arith)), b, inl (refl, h)),
-    ))
-
-pub first_3 : (t : Tree) (e : Refused) → (Holds t TokenLeft → ⊥) → (Holds t Undefined → ⊥) →
-    (Holds t TwicePrecedence → ⊥) → Refuses t BadNumber e → IsFirstRefused t e
-unfolding rank
-first_3 t e a b c r = of_refused t BadNumber e r
-    (λ h. inr (
-      apart TokenLeft BadNumber (λ q. absurd (omega arith)),
-      a,
-      inr (
-        apart Undefined BadNumber (λ q. absurd (omega arith)),
-        b,
-        inr (apart TwicePrecedence BadNumber (λ q. absurd (omega arith)), c, inl (refl, h)),
-      ),
-    ))
-
-pub first_4 : (t : Tree) (e : Refused) → (Holds t TokenLeft → ⊥) → (Holds t Undefined → ⊥) →
-    (Holds t TwicePrecedence → ⊥) → (Holds t BadNumber → ⊥) → Refuses t BadStart e →
-    IsFirstRefused t e
-unfolding rank
-first_4 t e a b c d r = of_refused t BadStart e r
-    (λ h. inr (
-      apart TokenLeft BadStart (λ q. absurd (omega arith)),
-      a,
-      inr (
-        apart Undefined BadStart (λ q. absurd (omega arith)),
-        b,
-        inr (
-          apart TwicePrecedence BadStart (λ q. absurd (omega arith)),
-          c,
-          inr (apart BadNumber BadStart (λ q. absurd (omega arith)), d, inl (refl, h)),
-        ),
-      ),
-    ))
-
-pub first_5 : (t : Tree) (e : Refused) → (Holds t TokenLeft → ⊥) → (Holds t Undefined → ⊥) →
-    (Holds t TwicePrecedence → ⊥) → (Holds t BadNumber → ⊥) → (Holds t BadStart → ⊥) →
-    Refuses t Unproductive e → IsFirstRefused t e
-unfolding rank
-first_5 t e a b c d f r = of_refused t Unproductive e r
-    (λ h. inr (
-      apart TokenLeft Unproductive (λ q. absurd (omega arith)),
-      a,
-      inr (
-        apart Undefined Unproductive (λ q. absurd (omega arith)),
-        b,
-        inr (
-          apart TwicePrecedence Unproductive (λ q. absurd (omega arith)),
-          c,
-          inr (
-            apart BadNumber Unproductive (λ q. absurd (omega arith)),
-            d,
-            inr (apart BadStart Unproductive (λ q. absurd (omega arith)), f, inl (refl, h)),
-          ),
-        ),
-      ),
-    ))
-
-pub first_6 : (t : Tree) (e : Refused) → (Holds t TokenLeft → ⊥) → (Holds t Undefined → ⊥) →
-    (Holds t TwicePrecedence → ⊥) → (Holds t BadNumber → ⊥) → (Holds t BadStart → ⊥) →
-    (Holds t Unproductive → ⊥) → Refuses t BadPrec e → IsFirstRefused t e
-unfolding rank
-first_6 t e a b c d f g r = of_refused t BadPrec e r
-    (λ h. inr (
-      apart TokenLeft BadPrec (λ q. absurd (omega arith)),
-      a,
-      inr (
-        apart Undefined BadPrec (λ q. absurd (omega arith)),
-        b,
-        inr (
-          apart TwicePrecedence BadPrec (λ q. absurd (omega arith)),
-          c,
-          inr (
-            apart BadNumber BadPrec (λ q. absurd (omega arith)),
-            d,
-            inr (
-              apart BadStart BadPrec (λ q. absurd (omega arith)),
-              f,
-              inr (apart Unproductive BadPrec (λ q. absurd (omega arith)), g, inl (refl, h)),
-            ),
-          ),
-        ),
-      ),
-    ))
-
-pub first_7 : (t : Tree) (e : Refused) → (Holds t TokenLeft → ⊥) → (Holds t Undefined → ⊥) →
-    (Holds t TwicePrecedence → ⊥) → (Holds t BadNumber → ⊥) → (Holds t BadStart → ⊥) →
-    (Holds t Unproductive → ⊥) → (Holds t BadPrec → ⊥) → Refuses t Limit e → IsFirstRefused t e
-unfolding rank
-first_7 t e a b c d f g k r = of_refused t Limit e r
-    (λ h. inr (
-      apart TokenLeft Limit (λ q. absurd (omega arith)),
-      a,
-      inr (
-        apart Undefined Limit (λ q. absurd (omega arith)),
-        b,
-        inr (
-          apart TwicePrecedence Limit (λ q. absurd (omega arith)),
-          c,
-          inr (
-            apart BadNumber Limit (λ q. absurd (omega arith)),
-            d,
-            inr (
-              apart BadStart Limit (λ q. absurd (omega arith)),
-              f,
-              inr (
-                apart Unproductive Limit (λ q. absurd (omega arith)),
-                g,
-                inr (apart BadPrec Limit (λ q. absurd (omega arith)), k, inl (refl, h)),
-              ),
-            ),
-          ),
-        ),
-      ),
-    ))
+-- a result that passes on a refusal, where no mistake holds that comes before
+pub refuses : {A : Type 0} (P : Result A Refused → Type 0) (t : Tree) (k : ℕ) (m : Mistake)
+    (e : Refused) (r : Result A Refused) → ((y : Refused) → IsFirstRefused t y → P (Err y)) →
+    take k order ++ m ∷ drop (suc k) order ≡ order → IsErrAnd r (λ y. y ≡ e) →
+    HasNone t (take k order) →
+    Refuses t m e → P r
+refuses P t k m e (Ok v) p o h n f = absurd h
+refuses P t k m e (Err y) p o h n f =
+    p y (subst (λ (x : Refused). IsFirstRefused t x) (sym h) (first t k m e o n f))

@@ -1,9 +1,14 @@
 -- The numbers of inner actions: there are no more than lexemes.
 use Rattle.std.proofs.Common.{ℕ, suc, ◌≡◌, ◌<◌, ◌≤◌, ◌+◌, List, [], ◌∷◌, ◌++◌, length, Option, sym}
-use Rattle.std.proofs.Common.{Some, None, ◌∙◌, ap, map, subst, arith, length-append}
+use Rattle.std.proofs.Common.{Some, None, ◌∙◌, ap, map, arith, drop, get_or, refl, length-append}
 use Rattle.std.specs.List.{flat_map}
-use Rattle.std.proofs.lemmas.List.{length-map}
+use Rattle.std.proofs.lemmas.List.{drop_more, length-map}
 use Rattle.ygrammar.specs.declared.kind.Sign.TheVariants.{Mark}
+use Rattle.ygrammar.specs.declared.tree.BodyPart.{BodyPart as CodeBodyPart}
+use Rattle.ygrammar.specs.declared.tree.BodyPart.TheVariants as items
+use Rattle.ygrammar.specs.declared.tree.BracedText.{BracedText}
+use Rattle.ygrammar.specs.declared.tree.Clause.{Clause as CodeClause}
+use Rattle.ygrammar.specs.TreeViews.{body_part_view, clause_view}
 use Rattle.ygrammar.specs.Elaboration.{body_from, final_of, split_last}
 use Rattle.ygrammar.specs.Lexemes.{Lexeme, fixed}
 use Rattle.ygrammar.specs.Numbered.{inner_after}
@@ -27,25 +32,47 @@ rules_later k (c ∷ cs) =
     omega arith
 
 -- behind an action there is one more
-pub action_room : (k n : ℕ) (t : List ℕ) (xs : List BodyPart) →
-    (body_from k (action t ∷ xs)).next < n →
-    k + 1 < n
-action_room k n t xs h = let l : suc k ≤ (body_from (suc k) xs).next = body_later (suc k) xs in
-    omega arith
+pub action_room : (xs : List CodeBodyPart) (i k m n : ℕ) (t : BracedText) (d : CodeBodyPart) →
+    get_or xs i d ≡ items.Action t → i < length xs →
+    (body_from k (map body_part_view (drop i xs))).next ≡ m → m < n → k + 1 < n
+action_room xs i k m n t d e h w l =
+    let rest : List BodyPart = map body_part_view (drop (i + 1) xs) in
+    let a : drop i xs ≡ items.Action t ∷ drop (i + 1) xs =
+    drop_more xs i d h ∙ ap (λ (y : CodeBodyPart). y ∷ drop (i + 1) xs) e in
+    let b : (body_from (suc k) rest).next ≡ m =
+    sym (ap (λ (ys : List CodeBodyPart). (body_from k (map body_part_view ys)).next) a) ∙ w in
+    let f : suc k ≤ (body_from (suc k) rest).next = body_later (suc k) rest in
+    omega (arith, b)
 
--- so of the rules of the file
-pub clause_room : (k n : ℕ) (c : Clause) (cs : List Clause) (xs : List BodyPart) →
-    xs ≡ (final_of c.last c.body).0 → inner_after k (c ∷ cs) < n → (body_from k xs).next < n
-clause_room k n c cs xs e h =
-    subst (λ (ys : List BodyPart). (body_from k ys).next < n) (sym e)
-    (let l = rules_later (body_from k (final_of c.last c.body).0).next cs in omega arith)
+-- a rule of the file, as the code reads it
+pub clause_read : (cs : List CodeClause) (i : ℕ) (x : CodeClause) → x ≡ get_or cs i x →
+    i < length cs → drop i cs ≡ x ∷ drop (i + 1) cs
+clause_read cs i x e h =
+    drop_more cs i x h ∙ ap (λ (y : CodeClause). y ∷ drop (i + 1) cs) (sym e)
 
 -- one rule of the file on, the last number is the same
-pub clause_counts : (k next m : ℕ) (c : Clause) (cs : List Clause) (xs : List BodyPart) →
-    xs ≡ (final_of c.last c.body).0 → next ≡ (body_from k xs).next → inner_after k (c ∷ cs) ≡ m →
-    inner_after next cs ≡ m
-clause_counts k next m c cs xs e f h = ap (λ n. inner_after n cs)
-    (f ∙ ap (λ (ys : List BodyPart). (body_from k ys).next) e) ∙ h
+pub clause_counts : (cs : List CodeClause) (i k next m : ℕ) (x : CodeClause) (xs : List BodyPart) →
+    x ≡ get_or cs i x → i < length cs →
+    xs ≡ (final_of (clause_view x).last (clause_view x).body).0 → next ≡ (body_from k xs).next →
+    inner_after k (map clause_view (drop i cs)) ≡ m →
+    inner_after next (map clause_view (drop (i + 1) cs)) ≡ m
+clause_counts cs i k next m x xs r h e f w =
+    ap (λ n. inner_after n (map clause_view (drop (i + 1) cs)))
+    (f ∙ ap (λ (ys : List BodyPart). (body_from k ys).next) e)
+    ∙ sym (ap (λ (ys : List CodeClause). inner_after k (map clause_view ys))
+    (clause_read cs i x r h)) ∙ w
+
+-- behind its body there is room
+pub clause_room : (cs : List CodeClause) (i k m n : ℕ) (x : CodeClause) (xs : List BodyPart) →
+    x ≡ get_or cs i x → i < length cs →
+    xs ≡ (final_of (clause_view x).last (clause_view x).body).0 →
+    inner_after k (map clause_view (drop i cs)) ≡ m → m < n → (body_from k xs).next < n
+clause_room cs i k m n x xs r h e w l =
+    let next = (body_from k xs).next in
+    let rest : List Clause = map clause_view (drop (i + 1) cs) in
+    let a : inner_after next rest ≡ m = clause_counts cs i k next m x xs r h e refl w in
+    let b : next ≤ inner_after next rest = rules_later next rest in
+    omega (arith, a)
 
 -- ---- how many there are
 

@@ -3,7 +3,7 @@ use Rattle.std.proofs.Common.{ℕ, zero, suc, Bool, true, false, cond, ◌≡◌
 use Rattle.std.proofs.Common.{◌++◌, length, Option, Some, None, refl, sym, ◌∙◌, ap, subst, arith}
 use Rattle.std.proofs.Common.{get_or, get_or-set_other, get_or-set_same, length-set, replicate}
 use Rattle.std.proofs.Common.{is_some, map, drop, ◌+◌}
-use Rattle.std.proofs.lemmas.List.{drop_more}
+use Rattle.std.proofs.lemmas.List.{drop_more, get_or_read}
 use Rattle.ygrammar.specs.declared.outline.Listed.{Listed}
 use Rattle.ygrammar.specs.Outline.{listed_view}
 use Rattle.std.proofs.Math.ListN.{set}
@@ -174,18 +174,20 @@ module _ {A : Type 0} (f : Listing → Option A) where
       (drop_more xs i d h) s)
 
   pub twice_at : (d : Listed) (ns : List Name) (table : List (Option A)) (xs : List Listed) (i : ℕ)
-      (whole : List Listing) (v : A) (k : ℕ) → i < length xs → f (listed_view (get_or xs i d)) ≡
-      Some v → k ≡ number_in ns (listed_name (listed_view (get_or xs i d))) → k < length table →
-      is_some (get_or table k None) ≡ true → SoFar f ns table (map listed_view (drop i xs)) whole →
-      SaidTwice f whole
-  twice_at d ns table xs i whole v k h e hk hl held s = go (get_or table k None) refl held
+      (whole : List Listing) (v : A) (k : ℕ) (x : Option A) (b : Bool) → i < length xs →
+      f (listed_view (get_or xs i d)) ≡ Some v →
+      k ≡ number_in ns (listed_name (listed_view (get_or xs i d))) → k < length table →
+      x ≡ get_or table k x → b ≡ is_some x → b ≡ true →
+      SoFar f ns table (map listed_view (drop i xs)) whole → SaidTwice f whole
+  twice_at d ns table xs i whole v k x b h e hk hl r q t s = go x q
+      (sym (get_or_read table k x hl r None))
     where
-      go : (o : Option A) → get_or table k None ≡ o → is_some o ≡ true → SaidTwice f whole
-      go (Some u) q t = twice ns table (listed_view (get_or xs i d))
-          (map listed_view (drop (i + 1) xs)) whole u v k e hk hl q
+      go : (o : Option A) → b ≡ is_some o → get_or table k None ≡ o → SaidTwice f whole
+      go (Some u) q a = twice ns table (listed_view (get_or xs i d))
+          (map listed_view (drop (i + 1) xs)) whole u v k e hk hl a
           (subst (λ (ys : List Listed). SoFar f ns table (map listed_view ys) whole)
           (drop_more xs i d h) s)
-      go None q t = absurd (false_true t)
+      go None q a = absurd (false_true (sym q ∙ t))
 
 pub is_none : {A : Type 0} (o : Option A) → is_some o ≡ false → o ≡ None
 is_none None h = refl

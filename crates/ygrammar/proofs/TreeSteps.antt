@@ -45,6 +45,10 @@ use Rattle.ygrammar.specs.Tree.{BeginsWithName}
 abbrev pub Goes : State → List Lexeme → Type 0
 Goes q ls = run q (kinds ls) ≡ true
 
+-- the same, from a state or nowhere
+abbrev Leads : Option State → List Lexeme → Type 0
+Leads o ls = is_final_at (reached o (kinds ls)) ≡ true
+
 -- from nowhere nothing goes on
 astray : {P : Type 0} (ks : List Kind) → is_final_at (reached None ks) ≡ true → P
 astray [] h = cc
@@ -53,15 +57,14 @@ astray (k ∷ ks) h = cc
 -- ---- lexemes that a state asks for
 
 needs_name : (r : State) (l : Lexeme) (ls : List Lexeme) →
-    is_final_at (reached (on_name r (kind_of l)) (kinds ls)) ≡ true → (n : List ℕ) × (l ≡ name n)
+    Leads (on_name r (kind_of l)) ls → (n : List ℕ) × (l ≡ name n)
 needs_name r (name n) ls h = (n, refl)
 needs_name r (fixed sign.Mark) ls h = astray (kinds ls) h
 needs_name r (fixed _) ls h = astray (kinds ls) h
 needs_name r _ ls h = astray (kinds ls) h
 
 needs_identifier : (r : State) (l : Lexeme) (ls : List Lexeme) →
-    is_final_at (reached (on_identifier r (kind_of l)) (kinds ls)) ≡ true → (i : Identifier) ×
-    (l ≡ identifier_yield i)
+    Leads (on_identifier r (kind_of l)) ls → (i : Identifier) × (l ≡ identifier_yield i)
 needs_identifier r (name n) ls h = (named n, refl)
 needs_identifier r (literal v) ls h = (quoted v, refl)
 needs_identifier r (fixed sign.Mark) ls h = astray (kinds ls) h
@@ -69,30 +72,28 @@ needs_identifier r (fixed _) ls h = astray (kinds ls) h
 needs_identifier r _ ls h = astray (kinds ls) h
 
 needs_greater : (r : State) (l : Lexeme) (ls : List Lexeme) →
-    is_final_at (reached (on_greater r (kind_of l)) (kinds ls)) ≡ true → l ≡ fixed sign.Greater
+    Leads (on_greater r (kind_of l)) ls → l ≡ fixed sign.Greater
 needs_greater r (fixed sign.Greater) ls h = refl
 needs_greater r (fixed sign.Mark) ls h = astray (kinds ls) h
 needs_greater r (fixed _) ls h = astray (kinds ls) h
 needs_greater r _ ls h = astray (kinds ls) h
 
 needs_less : (r : State) (l : Lexeme) (ls : List Lexeme) →
-    is_final_at (reached (on_less r (kind_of l)) (kinds ls)) ≡ true → l ≡ fixed sign.Less
+    Leads (on_less r (kind_of l)) ls → l ≡ fixed sign.Less
 needs_less r (fixed sign.Less) ls h = refl
 needs_less r (fixed sign.Mark) ls h = astray (kinds ls) h
 needs_less r (fixed _) ls h = astray (kinds ls) h
 needs_less r _ ls h = astray (kinds ls) h
 
 needs_braced : (r : State) (l : Lexeme) (ls : List Lexeme) →
-    is_final_at (reached (on_braced r (kind_of l)) (kinds ls)) ≡ true → (t : List ℕ) ×
-    (l ≡ braced t)
+    Leads (on_braced r (kind_of l)) ls → (t : List ℕ) × (l ≡ braced t)
 needs_braced r (braced t) ls h = (t, refl)
 needs_braced r (fixed sign.Mark) ls h = astray (kinds ls) h
 needs_braced r (fixed _) ls h = astray (kinds ls) h
 needs_braced r _ ls h = astray (kinds ls) h
 
 needs_c_identifier : (r : State) (l : Lexeme) (ls : List Lexeme) →
-    is_final_at (reached (on_c_identifier r (kind_of l)) (kinds ls)) ≡ true → (n : List ℕ) ×
-    (l ≡ c_identifier n)
+    Leads (on_c_identifier r (kind_of l)) ls → (n : List ℕ) × (l ≡ c_identifier n)
 needs_c_identifier r (c_identifier n) ls h = (n, refl)
 needs_c_identifier r (fixed sign.Mark) ls h = astray (kinds ls) h
 needs_c_identifier r (fixed _) ls h = astray (kinds ls) h
@@ -149,43 +150,35 @@ pub after_identifier : (q r : State) → next_state q kind.Name ≡ Some r →
     next_state q kind.Literal ≡ Some r → (i : Identifier) (before after : List Lexeme) →
     Goes q before → before ≡ identifier_yield i ∷ after → Goes r after
 after_identifier q r e f (named n) before after h w =
-    subst (λ o. is_final_at (reached o (kinds after)) ≡ true) e (subst (Goes q) w h)
+    subst (λ o. Leads o after) e (subst (Goes q) w h)
 after_identifier q r e f (quoted v) before after h w =
-    subst (λ o. is_final_at (reached o (kinds after)) ≡ true) f (subst (Goes q) w h)
+    subst (λ o. Leads o after) f (subst (Goes q) w h)
 
 -- ---- tags
 
-list_tag_closes : (n : List ℕ) (ls : List Lexeme) → Goes ListTagName ls → EndsTag (name n ∷ ls)
-list_tag_closes n [] h = cc
-list_tag_closes n (l ∷ ls) h = record {
-  tag = n;
-  rest = ls;
-  whole = ap (λ z. name n ∷ z ∷ ls)
-      (needs_greater ListTagged l ls h);
-}
+tag_ends : (q r s : State) → ((k : Kind) → next_state q k ≡ on_name r k) →
+    ((k : Kind) → next_state r k ≡ on_greater s k) → run q [] ≡ false → run r [] ≡ false →
+    (ls : List Lexeme) → Goes q ls → EndsTag ls
+tag_ends q r s a b f g [] h = cc
+tag_ends q r s a b f g (l ∷ ls) h =
+    let (n, e) = needs_name r l ls (subst (λ o. Leads o ls) (a (kind_of l)) h) in
+    let w : l ∷ ls ≡ name n ∷ ls = ap (λ z. z ∷ ls) e in
+    subst EndsTag (sym w) (closes n ls (subst (λ o. Leads o ls) (a kind.Name) (subst (Goes q) w h)))
+  where
+    closes : (n : List ℕ) (ls : List Lexeme) → Goes r ls → EndsTag (name n ∷ ls)
+    closes n [] h = cc
+    closes n (l ∷ ls) h = record {
+      tag = n;
+      rest = ls;
+      whole = ap (λ z. name n ∷ z ∷ ls) (needs_greater s l ls
+          (subst (λ o. Leads o ls) (b (kind_of l)) h));
+    }
 
 pub list_tag_ends : (ls : List Lexeme) → Goes ListTagOpen ls → EndsTag ls
-list_tag_ends [] h = cc
-list_tag_ends (l ∷ ls) h =
-    let (n, e) = needs_name ListTagName l ls h in
-    let w : l ∷ ls ≡ name n ∷ ls = ap (λ z. z ∷ ls) e in
-    subst EndsTag (sym w) (list_tag_closes n ls (subst (Goes ListTagOpen) w h))
-
-type_tag_closes : (n : List ℕ) (ls : List Lexeme) → Goes TypeTagName ls → EndsTag (name n ∷ ls)
-type_tag_closes n [] h = cc
-type_tag_closes n (l ∷ ls) h = record {
-  tag = n;
-  rest = ls;
-  whole = ap (λ z. name n ∷ z ∷ ls)
-      (needs_greater TypeTagged l ls h);
-}
+list_tag_ends = tag_ends ListTagOpen ListTagName ListTagged (λ k. refl) (λ k. refl) refl refl
 
 pub type_tag_ends : (ls : List Lexeme) → Goes TypeTagOpen ls → EndsTag ls
-type_tag_ends [] h = cc
-type_tag_ends (l ∷ ls) h =
-    let (n, e) = needs_name TypeTagName l ls h in
-    let w : l ∷ ls ≡ name n ∷ ls = ap (λ z. z ∷ ls) e in
-    subst EndsTag (sym w) (type_tag_closes n ls (subst (Goes TypeTagOpen) w h))
+type_tag_ends = tag_ends TypeTagOpen TypeTagName TypeTagged (λ k. refl) (λ k. refl) refl refl
 
 pub untagged : (ls : List Lexeme) → Goes ListWord ls → NoSign sign.Less ls → Goes ListTagged ls
 untagged [] h n = h

@@ -1,11 +1,10 @@
-use Rattle.std.proofs.Common.{◌≡◌, ◌++◌, ◌∷◌, [], ◌∙◌, sym, subst, ap, map, length, refl, List, ℕ}
+use Rattle.std.proofs.Common.{◌≡◌, ◌++◌, ◌∷◌, [], ◌∙◌, sym, ap, map, length, refl, List, ℕ}
 use Rattle.std.proofs.Common.{codes}
-use Rattle.std.proofs.lemmas.Result.{err_from_is_err_and}
-use Rattle.ygrammar.specs.declared.mistake.Refused.{Refused}
+use Rattle.ygrammar.specs.declared.mistake.Mistake.TheVariants as mistakes
 use Rattle.ygrammar.specs.declared.tree.Clause.{Clause}
 use Rattle.ygrammar.specs.declared.tree.Tree.{Tree as CodeTree}
 use Rattle.ygrammar.specs.declared.outline.Outline.{Outline}
-use Rattle.ygrammar.specs.Elaborated.{GivesNamed, IsFirstRefused}
+use Rattle.ygrammar.specs.Elaborated.{GivesNamed}
 use Rattle.ygrammar.specs.Elaboration.{Listing, listings, rule_left, rules_from, symbols, tokens}
 use Rattle.ygrammar.specs.Elaboration.{tokens_of}
 use Rattle.ygrammar.specs.NameTexts.{texts}
@@ -13,9 +12,10 @@ use Rattle.ygrammar.specs.Names.{with_names}
 use Rattle.ygrammar.specs.Outline.{Outlines, listed_view}
 use Rattle.ygrammar.specs.Tree.{Clause as ClauseOf, Identifier, Tree}
 use Rattle.ygrammar.specs.TreeViews.{clause_view, occurrence_view, tree_view}
-use Rattle.ygrammar.proofs.ElaborationSteps.{first_0, first_1, first_2, first_3}
+use Rattle.ygrammar.proofs.ElaborationSteps.{refuses}
 use Rattle.ygrammar.proofs.NameSteps.{length_texts}
 use Rattle.ygrammar.proofs.OwnTables.{appear}
+use Rattle.ygrammar.proofs.elaboration.name_symbols.Goals.{In_ok-names, In_ok-intern_nonterminals}
 use Rattle.ygrammar.proofs.elaboration.name_symbols.Goals as goal
 
 names_are : (outline : Outline) (t : Tree) → Outlines outline t → (ns : List (List ℕ)) →
@@ -41,73 +41,78 @@ symbols_are t ns ms cs tree k h e f =
     (codes "$accept" ∷ map rule_left (rules_from [] 1 xs)))
     (ap (λ (xs : List Clause). map clause_view xs) e ∙ f)
 
+named : (c : In_ok-names) → texts c.in_ok-names.names ≡ tokens (tree_view c.args.tree.now)
+named c = names_are c.args.outline.now (tree_view c.args.tree.now) c.requires.outline _
+    c.in_ok-names.ensures
+
+all_named : (c : In_ok-intern_nonterminals)
+    → texts c.intern_nonterminals.new.names ≡ symbols (tree_view c.args.tree.now)
+all_named c = symbols_are (tree_view c.args.tree.now) (texts c.in_ok-names.names) _
+    c.deref.result.now c.args.tree.now
+    (names_are c.args.outline.now (tree_view c.args.tree.now) c.requires.outline _
+    c.in_ok-names.ensures) c.in_ok-intern_nonterminals.ensures c.deref.ensures.value refl
+
 pub returns-in_err-refuse_token_left : goal.returns-in_err-refuse_token_left
 returns-in_err-refuse_token_left c =
     let t = tree_view c.args.tree.now in
     let o = c.requires.outline in
-    let k : texts c.in_ok-names.names ≡ tokens t = names_are c.args.outline.now t o
-    (texts c.in_ok-names.names) c.in_ok-names.ensures in
-    let is = err_from_is_err_and c.from_residual-in_err-refuse_token_left.result
-    c.from_residual-in_err-refuse_token_left.ensures.1 in
-    subst (λ (r : _). GivesNamed t r) (sym is.1) (subst (λ (e : Refused). IsFirstRefused t e)
-    (sym is.2) (first_0 t c.in_err-refuse_token_left.field-0.0
-    (c.in_err-refuse_token_left.ensures t o k)))
+    let here = goal.at.returns-in_err-refuse_token_left c in
+    refuses (λ r. GivesNamed t r) t 0 mistakes.TokenLeft c.in_err-refuse_token_left.field-0.0 _
+    (λ y f. f) refl
+    c.from_residual-in_err-refuse_token_left.ensures.1 tt
+    (c.in_err-refuse_token_left.ensures t o (named here.In_ok-names))
 
 pub returns-in_err-refuse_undefined : goal.returns-in_err-refuse_undefined
 returns-in_err-refuse_undefined c =
     let t = tree_view c.args.tree.now in
     let o = c.requires.outline in
-    let k : texts c.in_ok-names.names ≡ tokens t = names_are c.args.outline.now t o
-    (texts c.in_ok-names.names) c.in_ok-names.ensures in
-    let is = err_from_is_err_and c.from_residual-in_err-refuse_undefined.result
-    c.from_residual-in_err-refuse_undefined.ensures.1 in
-    subst (λ (r : _). GivesNamed t r) (sym is.1) (subst (λ (e : Refused). IsFirstRefused t e)
-    (sym is.2) (first_1 t c.in_err-refuse_undefined.field-0.0
-    (c.in_ok-refuse_token_left.ensures t o k) (c.in_err-refuse_undefined.ensures t o
-    (symbols_are t (texts c.in_ok-names.names) (texts c.intern_nonterminals.new.names)
-    c.deref.result.now c.args.tree.now k c.in_ok-intern_nonterminals.ensures c.deref.ensures.value
-    refl))))
+    let here = goal.at.returns-in_err-refuse_undefined c in
+    refuses (λ r. GivesNamed t r) t 1 mistakes.Undefined c.in_err-refuse_undefined.field-0.0 _
+    (λ y f. f) refl
+    c.from_residual-in_err-refuse_undefined.ensures.1 (
+      c.in_ok-refuse_token_left.ensures t o
+          (named here.In_ok-names),
+      tt,
+    )
+    (c.in_err-refuse_undefined.ensures t o (all_named here.In_ok-intern_nonterminals))
 
 pub returns-in_err-given : goal.returns-in_err-given
 returns-in_err-given c =
     let t = tree_view c.args.tree.now in
     let o = c.requires.outline in
-    let k : texts c.in_ok-names.names ≡ tokens t = names_are c.args.outline.now t o
-    (texts c.in_ok-names.names) c.in_ok-names.ensures in
-    let is = err_from_is_err_and c.from_residual-in_err-given.result
-    c.from_residual-in_err-given.ensures.1 in
-    subst (λ (r : _). GivesNamed t r) (sym is.1) (subst (λ (e : Refused). IsFirstRefused t e)
-    (sym is.2) (first_2 t c.in_err-given.field-0.0 (c.in_ok-refuse_token_left.ensures t o k)
-    (c.in_ok-refuse_undefined.ensures t o (symbols_are t (texts c.in_ok-names.names)
-    (texts c.intern_nonterminals.new.names) c.deref.result.now c.args.tree.now k
-    c.in_ok-intern_nonterminals.ensures c.deref.ensures.value refl))
-    (c.in_err-given.ensures t o k)))
+    let here = goal.at.returns-in_err-given c in
+    refuses (λ r. GivesNamed t r) t 2 mistakes.TwicePrecedence c.in_err-given.field-0.0 _
+    (λ y f. f) refl
+    c.from_residual-in_err-given.ensures.1 (
+      c.in_ok-refuse_token_left.ensures t o
+          (named here.In_ok-names),
+      (c.in_ok-refuse_undefined.ensures t o (all_named here.In_ok-intern_nonterminals), tt),
+    )
+    (c.in_err-given.ensures t o (named here.In_ok-names))
 
 pub returns-in_err-own : goal.returns-in_err-own
 returns-in_err-own c =
     let t = tree_view c.args.tree.now in
     let o = c.requires.outline in
-    let k : texts c.in_ok-names.names ≡ tokens t = names_are c.args.outline.now t o
-    (texts c.in_ok-names.names) c.in_ok-names.ensures in
-    let is = err_from_is_err_and c.from_residual-in_err-own.result
-    c.from_residual-in_err-own.ensures.1 in
-    subst (λ (r : _). GivesNamed t r) (sym is.1) (subst (λ (e : Refused). IsFirstRefused t e)
-    (sym is.2) (first_3 t c.in_err-own.field-0.0 (c.in_ok-refuse_token_left.ensures t o k)
-    (c.in_ok-refuse_undefined.ensures t o (symbols_are t (texts c.in_ok-names.names)
-    (texts c.intern_nonterminals.new.names) c.deref.result.now c.args.tree.now k
-    c.in_ok-intern_nonterminals.ensures c.deref.ensures.value refl))
-    (c.in_ok-given.ensures t o k).sound (c.in_err-own.ensures t o k)))
+    let here = goal.at.returns-in_err-own c in
+    refuses (λ r. GivesNamed t r) t 3 mistakes.BadNumber c.in_err-own.field-0.0 _ (λ y f. f) refl
+    c.from_residual-in_err-own.ensures.1 (
+      c.in_ok-refuse_token_left.ensures t o
+          (named here.In_ok-names),
+      (
+        c.in_ok-refuse_undefined.ensures t o (all_named here.In_ok-intern_nonterminals),
+        ((c.in_ok-given.ensures t o (named here.In_ok-names)).sound, tt),
+      ),
+    )
+    (c.in_err-own.ensures t o (named here.In_ok-names))
 
 pub returns : goal.returns
 returns c =
     let t = tree_view c.args.tree.now in
     let o = c.requires.outline in
-    let k : texts c.in_ok-names.names ≡ tokens t = names_are c.args.outline.now t o
-    (texts c.in_ok-names.names) c.in_ok-names.ensures in
-    let s : texts c.intern_nonterminals.new.names ≡ symbols t =
-    symbols_are t (texts c.in_ok-names.names) (texts c.intern_nonterminals.new.names)
-    c.deref.result.now c.args.tree.now k c.in_ok-intern_nonterminals.ensures
-    c.deref.ensures.value refl in
+    let here = goal.at.returns c in
+    let k = named here.In_ok-names in
+    let s = all_named here.In_ok-intern_nonterminals in
     let given = c.in_ok-given.ensures t o k in
     record {
       names = s;

@@ -1,74 +1,53 @@
-use Rattle.std.proofs.Common.{◌≡◌, ◌<◌, ◌+◌, length, get_or, sym, subst, arith}
+use Rattle.std.proofs.Common.{◌≡◌, ◌<◌, length, sym, subst, arith}
 use Rattle.std.proofs.lemmas.List.{get_or_read}
 use Rattle.ygrammar.specs.Forms.{IsReachable}
-use Rattle.ygrammar.specs.Marking.{IsMarked, numbered_grammar, lists_of}
+use Rattle.ygrammar.specs.Marking.{IsMarked, numbered_grammar, list_at, lists_of}
 use Rattle.ygrammar.proofs.MarkingSteps.{grows_then}
 use Rattle.ygrammar.proofs.DrainSteps.{left_listed, list_read, spread_more, taken_in}
+use Rattle.ygrammar.proofs.reachable.spread.Goals.{After-index-s, After-deref}
 use Rattle.ygrammar.proofs.reachable.spread.Goals as goal
+
+-- the symbol that is taken has a list
+inside : (c : After-index-s) → c.index-s.result.now < length c.in_ok-by_left.by_left.items
+inside c = taken_in _ c.loop-done.done _ _ c.index-s.ensures (omega arith)
+    c.loop-done.invariant.list c.loop-done.invariant.grows (omega arith)
+    c.in_ok-by_left.ensures.sized
+
+-- and its rules are those whose bodies are marked
+taken : (c : After-deref) → c.index-s.result.now < length c.in_ok-by_left.by_left.items
+    → c.deref.result.now ≡ list_at (lists_of c.in_ok-by_left.by_left) c.index-s.result.now
+taken c i = list_read _ _ _ _ i c.index.ensures c.deref.ensures.value
 
 pub index-requires : goal.index-requires
 index-requires c =
-    let o = c.loop-done.order.items in
-    let t = c.loop-done.done in
-    let s = c.index-s.result.now in
-    let vs = c.in_ok-by_left.by_left in
-    let m0 = c.args.marks.now.items in
-    let d : t < length o = omega arith in
-    let e : s ≡ get_or o t 0 = get_or_read o t s d c.index-s.ensures 0 in
-    let z : c.len.result ≡ length m0 = omega arith in
-    let i : s < length vs.items = taken_in m0 c.loop-done.marks.items c.args.order.now.items o s t
-    c.len.result vs.items e d c.loop-done.invariant.list c.loop-done.invariant.grows z
-    c.in_ok-by_left.ensures.sized in
-    omega (arith, i, vs.ok.0)
+    let i = inside (goal.at.index-requires c).After-index-s in
+    omega (arith, i, c.in_ok-by_left.by_left.ok.0)
 
 pub mark_bodies-requires-clause-listed : goal.mark_bodies-requires-clause-listed
 mark_bodies-requires-clause-listed c =
-    let o = c.loop-done.order.items in
-    let t = c.loop-done.done in
-    let s = c.index-s.result.now in
-    let vs = c.in_ok-by_left.by_left in
-    let m0 = c.args.marks.now.items in
-    let d : t < length o = omega arith in
-    let e : s ≡ get_or o t 0 = get_or_read o t s d c.index-s.ensures 0 in
-    let z : c.len.result ≡ length m0 = omega arith in
-    let i : s < length vs.items = taken_in m0 c.loop-done.marks.items c.args.order.now.items o s t
-    c.len.result vs.items e d c.loop-done.invariant.list c.loop-done.invariant.grows z
-    c.in_ok-by_left.ensures.sized in
-    λ k h. (left_listed c.args.rules.now (length c.args.rules.now) c.len.result s
-    (lists_of vs) c.deref.result.now (list_read vs.items s c.index.result.now c.deref.result.now
-    i c.index.ensures c.deref.ensures.value) c.in_ok-by_left.ensures k h).0
+    let here = goal.at.mark_bodies-requires-clause-listed c in
+    λ k h. (left_listed _ _ _ _ _ _
+    (taken here.After-deref (inside here.After-index-s))
+    c.in_ok-by_left.ensures k h).0
 
 pub loop-done-preserved : goal.loop-done-preserved
 loop-done-preserved c =
-    let rs = c.args.rules.now in
-    let vs = c.in_ok-by_left.by_left in
-    let o = c.loop-done.order.items in
-    let s = c.index-s.result.now in
-    let t = c.loop-done.done in
-    let d : t < length o = omega arith in
-    let e : s ≡ get_or o t 0 = get_or_read o t s d c.index-s.ensures 0 in
-    let m0 = c.args.marks.now.items in
-    let z : c.len.result ≡ length m0 = omega arith in
-    let i : s < length vs.items = taken_in m0 c.loop-done.marks.items c.args.order.now.items o s t
-    c.len.result vs.items e d c.loop-done.invariant.list c.loop-done.invariant.grows z
-    c.in_ok-by_left.ensures.sized in
     let g = c.in_ok-mark_bodies.ensures.grows in
+    let e = get_or_read c.loop-done.order.items c.loop-done.done _ (omega arith) c.index-s.ensures
+    0 in
+    let here = goal.at.loop-done-preserved c in
+    let l = taken here.After-deref (inside here.After-index-s) in
     record {
-      taken = omega (arith, g.longer, d);
+      taken = omega (arith, g.longer);
       grows = grows_then c.loop-done.invariant.grows g;
       list = g.list c.loop-done.invariant.list;
-      spread = spread_more rs (length rs) c.len.result s t (lists_of vs) c.deref.result.now
-          (list_read vs.items s c.index.result.now c.deref.result.now i c.index.ensures
-          c.deref.ensures.value) e c.in_ok-by_left.ensures g (omega (arith, d))
-          (c.in_ok-mark_bodies.ensures.spread (t + 1)) c.loop-done.invariant.spread;
+      spread = spread_more _ _ _ _ _ _ _ l e c.in_ok-by_left.ensures g (omega arith)
+          (c.in_ok-mark_bodies.ensures.spread _) c.loop-done.invariant.spread;
       sound = λ tokens symbols f.
-          let f2 = c.loop-done.invariant.sound tokens symbols f in
-          let p : IsReachable (numbered_grammar tokens symbols rs) s =
-          f2 s (subst (IsMarked c.loop-done.marks.items) (sym e)
-          (c.loop-done.invariant.list.marked t d)) in
+          let before = c.loop-done.invariant.sound tokens symbols f in
           c.in_ok-mark_bodies.ensures.sound tokens symbols
-          (λ k h. subst (IsReachable (numbered_grammar tokens symbols rs))
-          (sym (left_listed rs (length rs) c.len.result s (lists_of vs) c.deref.result.now
-          (list_read vs.items s c.index.result.now c.deref.result.now i c.index.ensures
-          c.deref.ensures.value) c.in_ok-by_left.ensures k h).1) p) f2;
+          (λ k h. subst (IsReachable (numbered_grammar tokens symbols c.args.rules.now))
+          (sym (left_listed _ _ _ _ _ _ l c.in_ok-by_left.ensures k h).1)
+          (before _ (subst (IsMarked c.loop-done.marks.items) (sym e)
+          (c.loop-done.invariant.list.marked _ (omega arith))))) before;
     }
