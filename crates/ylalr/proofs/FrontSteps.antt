@@ -170,9 +170,6 @@ leads_more g n r to x l v w et ex el a b = record {
       subst (λ y. InFront n y s) (ap (body_of g) q ∙ sym ex) h.front,
     ))
 
-pub each_none : (row : ℕ → ℕ) (m : BitRows) → ((s c : ℕ) → Holds m s c → ⊥) → HasEach row 0 m
-each_none row m e s c = (λ h. absurd (e s c h), λ h. absurd (let z = h.0 in omega arith))
-
 -- the number k too stands in its row now
 pub each_more : (row : ℕ → ℕ) (k to : ℕ) (m o : BitRows) → to ≡ row k →
     ((s c : ℕ) → Holds o s c ↔ (Holds m s c ⊎ ((s ≡ to) × (c ≡ k)))) → HasEach row k m →
