@@ -35,10 +35,11 @@ use Rattle.ygrammar.specs.Lexemes.{kind_of}
 use Rattle.ygrammar.specs.Lexer.{kinds}
 use Rattle.ygrammar.specs.Answers.{views}
 use Rattle.ygrammar.specs.Views.{lexeme_view}
-use Rattle.ygrammar.specs.TreeBuilder.{NoneOf, NoBodyPart, NoSign, Takes, EndsTag}
+use Rattle.ygrammar.specs.TreeBuilder.{NoneOf, NoBodyPart, NoSign, Takes, TakesTag}
 use Rattle.ygrammar.specs.Tree.{Identifier, named, quoted, BodyPart, symbol, action}
 use Rattle.ygrammar.specs.Tree.{identifier_yield}
-use Rattle.ygrammar.specs.Tree.{entry_yield, body_part_yield, left_yield, mark_yield}
+use Rattle.ygrammar.specs.Tree.{entry_yield, body_part_yield, left_yield, mark_yield, tag_yield}
+use Rattle.ygrammar.specs.Tree.{end_yield, option_yield}
 use Rattle.ygrammar.specs.Tree.{BeginsWithName}
 
 -- lexemes that go on with a grammar file
@@ -104,7 +105,7 @@ start_there [] h n = cc
 start_there (l ∷ ls) h n = let (i, e) = needs_identifier Declarations l ls h in
     n i ls (ap (λ z. z ∷ ls) e)
 
-pub prec_there : (ls : List Lexeme) → Goes PrecWord ls → NoneOf identifier_yield ls → ⊥
+prec_there : (ls : List Lexeme) → Goes PrecWord ls → NoneOf identifier_yield ls → ⊥
 prec_there [] h n = cc
 prec_there (l ∷ ls) h n = let (i, e) = needs_identifier PrecNamed l ls h in
     n i ls (ap (λ z. z ∷ ls) e)
@@ -135,7 +136,7 @@ pub names_some : (xs : List NameAt) (before after : List Lexeme) → before ≡ 
 names_some [] before after e h n = absurd (type_there before h (subst (NoneOf name) (sym e) n))
 names_some (x ∷ xs) before after e h n = omega arith
 
-pub tag_there : (ls : List Lexeme) → Goes TypeWord ls → NoSign sign.Less ls → ⊥
+tag_there : (ls : List Lexeme) → Goes TypeWord ls → NoSign sign.Less ls → ⊥
 tag_there [] h n = cc
 tag_there (l ∷ ls) h n = n ls (ap (λ z. z ∷ ls) (needs_less TypeTagOpen l ls h))
 
@@ -156,6 +157,14 @@ after_identifier q r e f (quoted v) before after h w =
 
 -- ---- tags
 
+-- a name and the end of its tag stand in front
+abbrev EndsTag : List Lexeme → Type 0
+EndsTag ls = (n : List ℕ) × (rest : List Lexeme) × (ls ≡ name n ∷ fixed sign.Greater ∷ rest)
+
+-- no tag stands in front
+abbrev NoTag : List Lexeme → Type 0
+NoTag ls = (n : List ℕ) (rest : List Lexeme) → ls ≡ tag_yield n ++ rest → ⊥
+
 tag_ends : (q r s : State) → ((k : Kind) → next_state q k ≡ on_name r k) →
     ((k : Kind) → next_state r k ≡ on_greater s k) → run q [] ≡ false → run r [] ≡ false →
     (ls : List Lexeme) → Goes q ls → EndsTag ls
@@ -167,24 +176,41 @@ tag_ends q r s a b f g (l ∷ ls) h =
   where
     closes : (n : List ℕ) (ls : List Lexeme) → Goes r ls → EndsTag (name n ∷ ls)
     closes n [] h = cc
-    closes n (l ∷ ls) h = record {
-      tag = n;
-      rest = ls;
-      whole = ap (λ z. name n ∷ z ∷ ls) (needs_greater s l ls
-          (subst (λ o. Leads o ls) (b (kind_of l)) h));
-    }
+    closes n (l ∷ ls) h = (
+      n,
+      ls,
+      ap (λ z. name n ∷ z ∷ ls) (needs_greater s l ls
+          (subst (λ o. Leads o ls) (b (kind_of l)) h)),
+    )
 
-pub list_tag_ends : (ls : List Lexeme) → Goes ListTagOpen ls → EndsTag ls
+-- where each sign that opens a tag is followed by its end, no tag means no sign
+no_opening : (q : State) (ls : List Lexeme) → ((rest : List Lexeme) →
+    Goes q (fixed sign.Less ∷ rest) → EndsTag rest) → Goes q ls → NoTag ls → NoSign sign.Less ls
+no_opening q ls ends h none rest e =
+    let (n, more, w) = ends rest (subst (Goes q) e h) in
+    none n more (e ∙ ap (λ z. fixed sign.Less ∷ z) w)
+
+list_tag_ends : (ls : List Lexeme) → Goes ListTagOpen ls → EndsTag ls
 list_tag_ends = tag_ends ListTagOpen ListTagName ListTagged (λ k. refl) (λ k. refl) refl refl
 
-pub type_tag_ends : (ls : List Lexeme) → Goes TypeTagOpen ls → EndsTag ls
+type_tag_ends : (ls : List Lexeme) → Goes TypeTagOpen ls → EndsTag ls
 type_tag_ends = tag_ends TypeTagOpen TypeTagName TypeTagged (λ k. refl) (λ k. refl) refl refl
 
-pub untagged : (ls : List Lexeme) → Goes ListWord ls → NoSign sign.Less ls → Goes ListTagged ls
+untagged : (ls : List Lexeme) → Goes ListWord ls → NoSign sign.Less ls → Goes ListTagged ls
 untagged [] h n = h
 untagged (fixed sign.Less ∷ ls) h n = absurd (n ls refl)
 untagged (fixed _ ∷ ls) h n = h
 untagged (_ ∷ ls) h n = h
+
+pub list_goes : (t : Option (List ℕ)) (before after : List Lexeme) → TakesTag t before after →
+    Goes ListWord before → Goes ListTagged after
+list_goes None before after (none, e) h =
+    subst (Goes ListTagged) e (untagged before h (no_opening ListWord before
+    list_tag_ends h none))
+list_goes (Some n) before after e h = subst (Goes ListWord) e h
+
+pub types_tagged : (ls : List Lexeme) → Goes TypeWord ls → NoTag ls → ⊥
+types_tagged ls h none = tag_there ls h (no_opening TypeWord ls type_tag_ends h none)
 
 -- ---- entries and names
 
@@ -249,7 +275,7 @@ no_precedence (fixed sign.Prec ∷ ls) h n m = absurd (m ls refl)
 no_precedence (fixed _ ∷ ls) h n m = h
 no_precedence (_ ∷ ls) h n m = h
 
-pub last_goes : (t : Option (List ℕ)) (before after : List Lexeme) → Takes braced t before after →
+last_goes : (t : Option (List ℕ)) (before after : List Lexeme) → Takes braced t before after →
     Goes PrecNamed before → Goes Semicolons after
 last_goes None before after (none, e) h = subst (Goes Semicolons) e (go before none h)
   where
@@ -260,6 +286,24 @@ last_goes None before after (none, e) h = subst (Goes Semicolons) e (go before n
     go (fixed _ ∷ ls) n h = h
     go (_ ∷ ls) n h = h
 last_goes (Some t) before after e h = subst (Goes PrecNamed) e h
+
+-- behind its word stands a precedence, and an action perhaps
+pub precedence_taken : (i : Option Identifier) (t : Option (List ℕ))
+    (before between after : List Lexeme) → Goes PrecWord before →
+    Takes identifier_yield i before between → Takes braced t between after →
+    (fixed sign.Prec ∷ before ≡ end_yield i t 0 ++ after) × IsSome i × Goes Semicolons after
+precedence_taken None t before between after h (none, _) u = absurd (prec_there before h none)
+precedence_taken (Some i) t before between after h e u = (
+  ap (λ z. fixed sign.Prec ∷ z) (e ∙ ap (λ z. identifier_yield i ∷ z) (action t u)),
+  refl,
+  last_goes t between after u
+      (after_identifier PrecWord PrecNamed refl refl i before between h e),
+)
+  where
+    action : (t : Option (List ℕ)) → Takes braced t between after →
+        between ≡ (option_yield (λ x. braced x ∷ []) t ++ []) ++ after
+    action None (_, f) = f
+    action (Some x) f = f
 
 pub rules_begin : (ls : List Lexeme) → Goes RulesMark ls → Goes Semicolons ls ×
     NoSign sign.Semicolon ls
@@ -371,23 +415,24 @@ shorter rest next l y e =
 
 -- ---- words, semicolons and first rules
 
-pub other_word : (s : Sign) (ls : List Lexeme) → Goes Declarations (fixed s ∷ ls) →
-    (s ≡ sign.Mark → ⊥) → (s ≡ sign.Start → ⊥) → (s ≡ sign.Union → ⊥) → (s ≡ sign.Types → ⊥)
-    → (s ≡ sign.Token → ⊥) → (s ≡ sign.Left → ⊥) → (s ≡ sign.Right → ⊥) → (s ≡ sign.Nonassoc → ⊥) →
-    ⊥
-other_word sign.Mark ls h a b c d e f g i = a refl
-other_word sign.Start ls h a b c d e f g i = b refl
-other_word sign.Union ls h a b c d e f g i = c refl
-other_word sign.Types ls h a b c d e f g i = d refl
-other_word sign.Token ls h a b c d e f g i = e refl
-other_word sign.Left ls h a b c d e f g i = f refl
-other_word sign.Right ls h a b c d e f g i = g refl
-other_word sign.Nonassoc ls h a b c d e f g i = i refl
-other_word sign.Prec ls h a b c d e f g i = astray (kinds ls) h
-other_word sign.Less ls h a b c d e f g i = astray (kinds ls) h
-other_word sign.Greater ls h a b c d e f g i = astray (kinds ls) h
-other_word sign.Bar ls h a b c d e f g i = astray (kinds ls) h
-other_word sign.Semicolon ls h a b c d e f g i = astray (kinds ls) h
+-- a word that begins no declaration is the mark
+pub mark_word : (s : Sign) (ls : List Lexeme) → Goes Declarations (fixed s ∷ ls) →
+    (s ≡ sign.Start → ⊥) → (s ≡ sign.Union → ⊥) → (s ≡ sign.Types → ⊥) → (s ≡ sign.Token → ⊥) →
+    (s ≡ sign.Left → ⊥) → (s ≡ sign.Right → ⊥) → (s ≡ sign.Nonassoc → ⊥) →
+    (fixed s ∷ ls ≡ fixed sign.Mark ∷ ls) × Goes RulesMark ls
+mark_word sign.Mark ls h b c d e f g i = (refl, h)
+mark_word sign.Start ls h b c d e f g i = absurd (b refl)
+mark_word sign.Union ls h b c d e f g i = absurd (c refl)
+mark_word sign.Types ls h b c d e f g i = absurd (d refl)
+mark_word sign.Token ls h b c d e f g i = absurd (e refl)
+mark_word sign.Left ls h b c d e f g i = absurd (f refl)
+mark_word sign.Right ls h b c d e f g i = absurd (g refl)
+mark_word sign.Nonassoc ls h b c d e f g i = absurd (i refl)
+mark_word sign.Prec ls h b c d e f g i = astray (kinds ls) h
+mark_word sign.Less ls h b c d e f g i = astray (kinds ls) h
+mark_word sign.Greater ls h b c d e f g i = astray (kinds ls) h
+mark_word sign.Bar ls h b c d e f g i = astray (kinds ls) h
+mark_word sign.Semicolon ls h b c d e f g i = astray (kinds ls) h
 
 abbrev semis : ℕ → List Lexeme
 semis n = replicate n (fixed sign.Semicolon)

@@ -1,16 +1,18 @@
 -- What the builder of syntax trees asks of lexemes, and what it takes of them.
-use Rattle.std.specs.Prelude.{ℕ, ◌≡◌, Bool, true, false, List, [], ◌∷◌, Option, Some, None}
+use Rattle.std.specs.Prelude.{ℕ, ◌≡◌, Bool, true, false, List, [], ◌∷◌, ◌++◌, Option, Some, None}
 use Rattle.ygrammar.specs.declared.lexer.Placed.{Placed}
 use Rattle.ygrammar.specs.declared.kind.Sign.{Sign}
-use Rattle.ygrammar.specs.declared.kind.Sign.TheVariants.{Greater}
+use Rattle.ygrammar.specs.declared.kind.Sign.TheVariants.{Mark}
 use Rattle.ygrammar.specs.declared.recogniser.State.{State}
+use Rattle.ygrammar.specs.declared.recogniser.State.TheVariants.{Declarations, RulesMark}
 use Rattle.ygrammar.specs.declared.tree.Definition.{Definition as CodeDefinition}
 use Rattle.ygrammar.specs.declared.tree.Definition.TheVariants as definitions
 use Rattle.ygrammar.specs.Recogniser.{run}
-use Rattle.ygrammar.specs.Lexemes.{Lexeme, name, fixed}
+use Rattle.ygrammar.specs.Lexemes.{Lexeme, fixed}
 use Rattle.ygrammar.specs.Lexer.{kinds}
 use Rattle.ygrammar.specs.Answers.{views}
-use Rattle.ygrammar.specs.Tree.{body_part_yield}
+use Rattle.ygrammar.specs.Tree.{IsDefinition, body_part_yield, definition_yield, tag_yield}
+use Rattle.ygrammar.specs.TreeViews.{definition_view}
 
 -- behind what led to a state, the lexemes make a grammar file
 abbrev pub GoesOn : State → List Placed → Type 0
@@ -38,11 +40,31 @@ abbrev pub TakesSign : Sign → Bool → List Lexeme → List Lexeme → Type 0
 TakesSign s false before after = NoSign s before × (before ≡ after)
 TakesSign s true before after = before ≡ fixed s ∷ after
 
--- a name and the end of its tag stand in front
-pub record EndsTag (ls : List Lexeme) : Type 0 where
-  pub tag : List ℕ
-  pub rest : List Lexeme
-  pub whole : ls ≡ name tag ∷ fixed Greater ∷ rest
+-- the tag in front was taken, or none stands there
+abbrev pub TakesTag : Option (List ℕ) → List Lexeme → List Lexeme → Type 0
+TakesTag None before after = ((n : List ℕ) (rest : List Lexeme) → before ≡ tag_yield n ++ rest → ⊥)
+    × (before ≡ after)
+TakesTag (Some n) before after = before ≡ tag_yield n ++ after
+
+-- A declaration, with the lexemes before and behind it.
+pub record IsDeclared (before : List Lexeme) (d : CodeDefinition) (after : List Placed) : Type 0 where
+  pub whole : before ≡ definition_yield (definition_view d) ++ views after
+  pub shaped : IsDefinition (definition_view d)
+  pub goes_on : GoesOn Declarations after
+
+-- a declaration was read, behind its word
+abbrev pub IsRead : Sign → CodeDefinition → List Placed → List Placed → Type 0
+IsRead word d before after = IsDeclared (fixed word ∷ views before) d after
+
+-- the same, where it may not be missing
+abbrev pub Reads : Sign → Option CodeDefinition → List Placed → List Placed → Type 0
+Reads word None before after = ⊥
+Reads word (Some d) before after = IsRead word d before after
+
+-- a declaration was read, or the mark behind the last
+abbrev pub ReadsMark : Option CodeDefinition → List Lexeme → List Placed → Type 0
+ReadsMark None before after = (before ≡ fixed Mark ∷ views after) × GoesOn RulesMark after
+ReadsMark (Some d) before after = IsDeclared before d after
 
 -- where the lexeme in front stands
 abbrev pub place_of : List Placed → ℕ

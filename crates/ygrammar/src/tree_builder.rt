@@ -15,8 +15,8 @@ ghost use Rattle.ygrammar.specs.declared.recogniser.State.TheVariants.{Numbered,
 ghost use Rattle.ygrammar.specs.declared.recogniser.State.TheVariants.{TypeTagged, RulesMark, Body};
 ghost use Rattle.ygrammar.specs.declared.recogniser.State.TheVariants.{Semicolons};
 ghost use Rattle.ygrammar.specs.Answers.{StandIn, views};
-ghost use Rattle.ygrammar.specs.TreeBuilder.{GoesOn, NoBodyPart, NoSign, Takes, TakesSign, EndsTag};
-ghost use Rattle.ygrammar.specs.TreeBuilder.{place_of, DefinitionAt};
+ghost use Rattle.ygrammar.specs.TreeBuilder.{GoesOn, NoBodyPart, NoSign, Takes, TakesSign, TakesTag};
+ghost use Rattle.ygrammar.specs.TreeBuilder.{place_of, DefinitionAt, IsRead, Reads, ReadsMark};
 ghost use Rattle.ygrammar.specs.Lexer.{kinds};
 ghost use Rattle.ygrammar.specs.Lexemes.{name, number, braced, fixed, sign_kind};
 ghost use Rattle.ygrammar.specs.Recogniser.{run};
@@ -181,33 +181,21 @@ impl<'a> TreeBuilder<'_, 'a> {
     }
 }
 
-// Declarations.
+// Declarations. Behind a word, what it asks for is always there.
 impl<'a> TreeBuilder<'_, 'a> {
-    /// The name of a tag, behind what opens it.
-    fn tag_name(&mut self) -> &'a [u8]
-        requires { EndsTag (views self.old) }
-        ensures { views self.old ≡ name result.now ∷ fixed Greater ∷ views self.new }
-    {
-        let Some(name) = self.name() else {
-            unreachable!()
-        };
-        if !self.sign(Sign::Greater) {
-            unreachable!()
-        }
-        name.name
-    }
-
-    /// The tag of a listing, where it has one.
+    /// The name of a tag.
     fn tag(&mut self) -> Option<&'a [u8]>
-        requires { GoesOn ListWord self.old }
-        ensures whole { views self.old ≡ option_yield tag_yield (text_view result)
-            ++ views self.new }
-        ensures goes_on { GoesOn ListTagged self.new }
+        ensures { TakesTag (text_view result) (views self.old) (views self.new) }
     {
-        if self.sign(Sign::Less) {
-            Some(self.tag_name())
-        } else {
-            None
+        let [less, name, greater, rest @ ..] = self.rest else {
+            return None;
+        };
+        match (less.lexeme, name.lexeme, greater.lexeme) {
+            (Lexeme::Fixed(Sign::Less), Lexeme::Name(name), Lexeme::Fixed(Sign::Greater)) => {
+                self.rest = rest;
+                Some(name)
+            }
+            _ => None,
         }
     }
 
@@ -258,10 +246,7 @@ impl<'a> TreeBuilder<'_, 'a> {
     /// A listing, behind its word.
     fn listing(&mut self, alloc: Global, word: Word) -> Result<Definition<'a>, AllocError>
         requires { GoesOn ListWord self.old }
-        ensures whole { IfOk result (λ d. fixed (word_sign (word_view word)) ∷ views self.old
-            ≡ definition_yield (definition_view d) ++ views self.new) }
-        ensures shaped { IfOk result (λ d. IsDefinition (definition_view d)) }
-        ensures goes_on { IfOk result (λ d. GoesOn Declarations self.new) }
+        ensures { IfOk result (λ d. IsRead (word_sign (word_view word)) d self.old self.new) }
     {
         let tag = self.tag();
         let entries = self.entries(alloc)?;
@@ -269,94 +254,73 @@ impl<'a> TreeBuilder<'_, 'a> {
     }
 
     /// A tag and its names, behind `%type`.
-    fn types(&mut self, alloc: Global) -> Result<Definition<'a>, AllocError>
+    fn types(&mut self, alloc: Global) -> Result<Option<Definition<'a>>, AllocError>
         requires { GoesOn TypeWord self.old }
-        ensures whole { IfOk result (λ d. fixed sign.Types ∷ views self.old
-            ≡ definition_yield (definition_view d) ++ views self.new) }
-        ensures shaped { IfOk result (λ d. IsDefinition (definition_view d)) }
-        ensures goes_on { IfOk result (λ d. GoesOn Declarations self.new) }
+        ensures { IfOk result (λ o. Reads sign.Types o self.old self.new) }
     {
-        if !self.sign(Sign::Less) {
-            unreachable!()
-        }
-        let tag = self.tag_name();
+        let Some(tag) = self.tag() else {
+            return Ok(None);
+        };
         let names = self.names(alloc)?;
-        Ok(Definition::Types(Types { tag, names }))
+        Ok(Some(Definition::Types(Types { tag, names })))
     }
 
     /// The start symbol, behind its `%start`, which stands at the place.
-    fn start(&mut self, at: usize) -> Definition<'a>
+    fn start(&mut self, at: usize) -> Option<Definition<'a>>
         requires { GoesOn StartWord self.old }
-        ensures place { DefinitionAt at result }
-        ensures whole { fixed sign.Start ∷ views self.old
-            ≡ definition_yield (definition_view result) ++ views self.new }
-        ensures shaped { IsDefinition (definition_view result) }
-        ensures goes_on { GoesOn Declarations self.new }
+        ensures place { IfSome result (λ d. DefinitionAt at d) }
+        ensures read { Reads sign.Start result self.old self.new }
     {
-        let Some(symbol) = self.occurrence() else {
-            unreachable!()
-        };
-        Definition::Start(symbol, at)
+        let symbol = self.occurrence()?;
+        Some(Definition::Start(symbol, at))
     }
 
     /// A kept text, behind `%union`.
-    fn union_text(&mut self) -> Definition<'a>
+    fn union_text(&mut self) -> Option<Definition<'a>>
         requires { GoesOn UnionWord self.old }
-        ensures whole { fixed sign.Union ∷ views self.old
-            ≡ definition_yield (definition_view result) ++ views self.new }
-        ensures shaped { IsDefinition (definition_view result) }
-        ensures goes_on { GoesOn Declarations self.new }
+        ensures { Reads sign.Union result self.old self.new }
     {
-        let Some(text) = self.text() else {
-            unreachable!()
-        };
-        Definition::Union(text)
+        let text = self.text()?;
+        Some(Definition::Union(text))
     }
 
-    /// A declaration, behind its word, which stands at the place.
+    /// A declaration, behind its word, which stands at the place; nothing behind the mark.
     fn declared(
         &mut self,
         alloc: Global,
         word: Sign,
         at: usize,
-    ) -> Result<Definition<'a>, AllocError>
-        requires other { word ≢ Mark }
-        requires goes_on { run Declarations (sign_kind word ∷ kinds (views self.old)) ≡ true }
-        ensures place { IfOk result (λ d. DefinitionAt at d) }
-        ensures whole { IfOk result (λ d. fixed word ∷ views self.old
-            ≡ definition_yield (definition_view d) ++ views self.new) }
-        ensures shaped { IfOk result (λ d. IsDefinition (definition_view d)) }
-        ensures goes_on { IfOk result (λ d. GoesOn Declarations self.new) }
+    ) -> Result<Option<Definition<'a>>, AllocError>
+        requires { run Declarations (sign_kind word ∷ kinds (views self.old)) ≡ true }
+        ensures place { IfOk result (λ o. IfSome o (λ d. DefinitionAt at d)) }
+        ensures read { IfOk result (λ o. ReadsMark o (fixed word ∷ views self.old) self.new) }
     {
         match word {
             Sign::Start => Ok(self.start(at)),
             Sign::Union => Ok(self.union_text()),
             Sign::Types => self.types(alloc),
-            Sign::Token => self.listing(alloc, Word::Token),
-            Sign::Left => self.listing(alloc, Word::Left),
-            Sign::Right => self.listing(alloc, Word::Right),
-            Sign::Nonassoc => self.listing(alloc, Word::Nonassoc),
-            _ => unreachable!(),
+            Sign::Token => Ok(Some(self.listing(alloc, Word::Token)?)),
+            Sign::Left => Ok(Some(self.listing(alloc, Word::Left)?)),
+            Sign::Right => Ok(Some(self.listing(alloc, Word::Right)?)),
+            Sign::Nonassoc => Ok(Some(self.listing(alloc, Word::Nonassoc)?)),
+            _ => Ok(None),
         }
     }
 
-    fn definition(&mut self, alloc: Global) -> Result<Definition<'a>, AllocError>
-        requires other { NoSign Mark (views self.old) }
-        requires goes_on { GoesOn Declarations self.old }
-        ensures place { IfOk result (λ d. DefinitionAt (place_of self.old) d) }
-        ensures whole { IfOk result (λ d. views self.old
-            ≡ definition_yield (definition_view d) ++ views self.new) }
-        ensures shaped { IfOk result (λ d. IsDefinition (definition_view d)) }
-        ensures goes_on { IfOk result (λ d. GoesOn Declarations self.new) }
+    /// A declaration, or nothing behind the mark.
+    fn definition(&mut self, alloc: Global) -> Result<Option<Definition<'a>>, AllocError>
+        requires { GoesOn Declarations self.old }
+        ensures place { IfOk result (λ o. IfSome o (λ d. DefinitionAt (place_of self.old) d)) }
+        ensures read { IfOk result (λ o. ReadsMark o (views self.old) self.new) }
     {
         let [first, rest @ ..] = self.rest else {
-            unreachable!()
+            return Ok(None);
         };
         self.rest = rest;
         match first.lexeme {
-            Lexeme::Code => Ok(Definition::Block),
+            Lexeme::Code => Ok(Some(Definition::Block)),
             Lexeme::Fixed(word) => self.declared(alloc, word, first.at),
-            _ => unreachable!(),
+            _ => Ok(None),
         }
     }
 
@@ -371,8 +335,7 @@ impl<'a> TreeBuilder<'_, 'a> {
         ensures goes_on { IfOk result (λ v. GoesOn RulesMark self.new) }
     {
         let mut definitions = Vec::new(alloc);
-        'lines: while !self.sign(Sign::Mark) {
-            let definition = self.definition(alloc)?;
+        'lines: while let Some(definition) = self.definition(alloc)? {
             definitions.push(definition)?;
         }
         Ok(definitions)
@@ -414,11 +377,9 @@ impl<'a> TreeBuilder<'_, 'a> {
         if !self.sign(Sign::Prec) {
             return (None, None);
         }
-        let Some(symbol) = self.occurrence() else {
-            unreachable!()
-        };
+        let symbol = self.occurrence();
         let last = self.text();
-        (Some(symbol), last)
+        (symbol, last)
     }
 
     /// How many semicolons stand in front.

@@ -1,10 +1,23 @@
+use Rattle.std.proofs.Common.{◌≡◌, ◌++◌, ◌∷◌, ◌∙◌, IsSome, subst}
+use Rattle.ygrammar.specs.declared.kind.Sign.TheVariants.{Prec}
+use Rattle.ygrammar.specs.declared.recogniser.State.TheVariants.{Body, Semicolons}
 use Rattle.ygrammar.specs.Answers.{views}
-use Rattle.std.proofs.Common.{refl, subst}
-use Rattle.ygrammar.specs.declared.recogniser.State.TheVariants.{Body, PrecWord, PrecNamed}
-use Rattle.ygrammar.specs.declared.recogniser.State.TheVariants.{Semicolons}
+use Rattle.ygrammar.specs.Lexemes.{fixed}
+use Rattle.ygrammar.specs.Tree.{end_yield}
 use Rattle.ygrammar.specs.TreeViews.{braced_view, occurrence_view, option_view}
-use Rattle.ygrammar.proofs.TreeSteps.{Goes, no_precedence, prec_there, after_identifier, last_goes}
+use Rattle.ygrammar.proofs.TreeSteps.{Goes, no_precedence, precedence_taken}
+use Rattle.ygrammar.proofs.tree_builder.TreeBuilder.precedence.Goals.{After-text-last}
 use Rattle.ygrammar.proofs.tree_builder.TreeBuilder.precedence.Goals as goal
+
+-- the precedence that stands there, and what goes on behind it
+taken : (c : After-text-last) →
+    let i = option_view occurrence_view c.occurrence-symbol.result in
+    let t = option_view braced_view c.text-last.result in
+    (fixed Prec ∷ views c.sign.new.self ≡ end_yield i t 0 ++ views c.text-last.new.self)
+    × IsSome i × Goes Semicolons (views c.text-last.new.self)
+taken c = precedence_taken _ _ (views c.sign.new.self) (views c.occurrence-symbol.new.self) _
+    (subst (Goes Body) c.if-not-sign.ensures.taken c.requires.goes_on)
+    c.occurrence-symbol.ensures.taken c.text-last.ensures.taken
 
 pub returns-then-not-sign-clause-goes_on : goal.returns-then-not-sign-clause-goes_on
 returns-then-not-sign-clause-goes_on c = subst (Goes Semicolons) c.if-not-sign.ensures.taken.1
@@ -14,20 +27,17 @@ returns-then-not-sign-clause-goes_on c = subst (Goes Semicolons) c.if-not-sign.e
 pub returns-then-not-sign-clause-stands : goal.returns-then-not-sign-clause-stands
 returns-then-not-sign-clause-stands c = λ source h. (tt, c.if-not-sign.ensures.stands source h)
 
+pub returns-clause-whole : goal.returns-clause-whole
+returns-clause-whole c =
+    c.if-not-sign.ensures.taken ∙ (taken (goal.at.returns-clause-whole c).After-text-last).0
+
+pub returns-clause-shaped : goal.returns-clause-shaped
+returns-clause-shaped c = λ _. (taken (goal.at.returns-clause-shaped c).After-text-last).1
+
+pub returns-clause-goes_on : goal.returns-clause-goes_on
+returns-clause-goes_on c = (taken (goal.at.returns-clause-goes_on c).After-text-last).2
+
 pub returns-clause-stands : goal.returns-clause-stands
 returns-clause-stands c = λ source h.
     c.text-last.ensures.stands source
-    (c.in-Some.ensures.stands source (c.if-not-sign.ensures.stands source h))
-
-pub unreachable-requires : goal.unreachable-requires
-unreachable-requires c = prec_there (views c.sign.new.self)
-    (subst (Goes Body) c.if-not-sign.ensures.taken c.requires.goes_on) c.in_default.ensures.taken.0
-
-pub returns-clause-goes_on : goal.returns-clause-goes_on
-returns-clause-goes_on c =
-    last_goes (option_view braced_view c.text-last.result) (views c.occurrence.new.self)
-    (views c.text-last.new.self)
-    c.text-last.ensures.taken
-    (after_identifier PrecWord PrecNamed refl refl (occurrence_view c.in-Some.symbol)
-    (views c.sign.new.self) (views c.occurrence.new.self)
-    (subst (Goes Body) c.if-not-sign.ensures.taken c.requires.goes_on) c.in-Some.ensures.taken)
+    (c.occurrence-symbol.ensures.stands source (c.if-not-sign.ensures.stands source h))
