@@ -1,6 +1,12 @@
--- Derivations: joined end to end, within a larger form, and read as sets of lists.
+-- Derivations: joined end to end, within a larger form, side by side, and read as sets of lists;
+-- those by the rules of a grammar.
 use Rattle.std.proofs.Common.{◌≡◌, List, [], ◌∷◌, ◌++◌, refl, sym, ap, ◌∙◌, subst, append_assoc}
+use Rattle.std.proofs.Common.{append-nil, ℕ, ◌<◌, length}
+use Rattle.std.specs.List.{All}
+use Rattle.std.proofs.lemmas.List.Elements.{All-nil, All-cons, All-head, All-tail, All-append}
 use Rattle.ygrammar.specs.Derivation.{Replaces, Derives, done, step}
+use Rattle.ygrammar.specs.Forms.{IsRule, Productive}
+use Rattle.ygrammar.specs.Grammar.{ContextFree, left_of, body_of, IsToken}
 
 pub trans : {S : Type 0} {P : S → List S → Type 0} {x y z : List S} → Derives P x y →
     Derives P y z → Derives P x z
@@ -24,6 +30,13 @@ pub within : {S : Type 0} {P : S → List S → Type 0} {x y : List S} (a b : Li
 within a b done = done
 within a b (step r d) = step (replaces_within a b r) (within a b d)
 
+pub beside : {S : Type 0} {P : S → List S → Type 0} {x u y v : List S} → Derives P x u →
+    Derives P y v → Derives P (x ++ y) (u ++ v)
+beside {P = P} {u = u} {y = y} {v = v} d e =
+    let f = within u [] e in
+    let h = subst (λ t. Derives P (u ++ t) (u ++ (v ++ []))) (append-nil y) f in
+    trans (within [] y d) (subst (λ t. Derives P (u ++ y) (u ++ t)) (append-nil v) h)
+
 -- one production, somewhere in a form
 pub replaced : {S : Type 0} {P : S → List S → Type 0} (n : S) (body a b : List S) → P n body →
     Derives P (a ++ n ∷ b) (a ++ (body ++ b))
@@ -34,7 +47,7 @@ replaced n body a b p = step (record {
   after = b;
   rule = p;
   from = refl;
-  to = sym (append_assoc a body b);
+  to = refl;
 }) done
 
 -- a list is cut into one piece for each symbol of a form, each with the meaning of its symbol
@@ -79,20 +92,49 @@ sound M P closed x y z done h = h
 sound M P closed x y z (step r d) h =
     back (subst (λ t. Stands M t z) r.to (sound M P closed _ y z d h))
   where
-    back : Stands M (r.before ++ r.body ++ r.after) z → Stands M x z
+    back : Stands M (r.before ++ (r.body ++ r.after)) z → Stands M x z
     back i =
-        let outer = cut M (r.before ++ r.body) r.after z i in
-        let inner = cut M r.before r.body outer.left outer.first in
-        let all = joined M r.before (r.symbol ∷ r.after) inner.left (inner.right ++ outer.right)
-        inner.first (
+        let outer = cut M r.before (r.body ++ r.after) z i in
+        let inner = cut M r.body r.after outer.right outer.second in
+        let all = joined M r.before (r.symbol ∷ r.after) outer.left (inner.left ++ inner.right)
+        outer.first (
+          inner.left,
           inner.right,
-          outer.right,
           refl,
-          closed r.symbol r.body inner.right
-              r.rule inner.second,
-          outer.second,
+          closed r.symbol r.body inner.left r.rule inner.first,
+          inner.second,
         ) in
         subst (λ t. Stands M t z) (sym r.from)
-        (subst (λ t. Stands M (r.before ++ r.symbol ∷ r.after) t)
-        (sym (outer.whole ∙ ap (λ t. t ++ outer.right) inner.whole ∙ append_assoc inner.left
-        inner.right outer.right)) all)
+        (subst (Stands M (r.before ++ r.symbol ∷ r.after))
+        (sym (outer.whole ∙ ap (λ t. outer.left ++ t) inner.whole)) all)
+
+-- ---- the rules of a grammar
+
+pub rule_is : (g : ContextFree) (r : ℕ) → r < length g.rules → IsRule g (left_of g r) (body_of g r)
+rule_is g r h = record { number = r; within = h; left = refl; body = refl }
+
+-- a form that derives a list of tokens
+pub record Word (g : ContextFree) (x : List ℕ) : Type 0 where
+  pub word : List ℕ
+  pub tokens : All (IsToken g) word
+  pub derives : Derives (IsRule g) x word
+
+pub words : (g : ContextFree) (x : List ℕ) → All (Productive g) x → Word g x
+words g [] h = record { word = []; tokens = All-nil (IsToken g); derives = done }
+words g (s ∷ x) h =
+    let a = All-head (Productive g) s x h in
+    let b = words g x (All-tail (Productive g) s x h) in
+    record {
+      word = a.word ++ b.word;
+      tokens = All-append (IsToken g) a.word b.word a.tokens
+          b.tokens;
+      derives = beside a.derives b.derives;
+    }
+
+pub token_productive : (g : ContextFree) (t : ℕ) → IsToken g t → Productive g t
+token_productive g t h = record {
+  word = t ∷ [];
+  tokens = All-cons (IsToken g) t [] h
+      (All-nil (IsToken g));
+  derives = done;
+}

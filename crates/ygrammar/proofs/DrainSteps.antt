@@ -5,10 +5,10 @@ use Rattle.std.proofs.Common.{subst, inl, inr, arith, rules}
 use Rattle.std.specs.List.{Contains}
 use Rattle.std.proofs.lemmas.List.{get_or-map, get_or_read, length-map}
 use Rattle.std.proofs.lemmas.List.Elements.{All-contains, All-from_get_or, Contains-get_or}
-use Rattle.ygrammar.specs.Grammar.{RuleValue}
-use Rattle.ygrammar.specs.Marking.{IsMarked, IsSettled, IsSpread, IsWorklist, Grows, AreOccurrences}
-use Rattle.ygrammar.specs.Marking.{AreByLeft, unmarked, items_of, list_at, rule_at}
-use Rattle.ygrammar.proofs.MarkingSteps.{settled_grows, settled_next, spread_grows, spread_next}
+use Rattle.ygrammar.specs.Grammar.{Production, RuleValue}
+use Rattle.ygrammar.specs.Marking.{IsMarked, IsClosed, IsWorklist, Grows, AreListed, unmarked}
+use Rattle.ygrammar.specs.Marking.{items_of, list_at, rule_at}
+use Rattle.ygrammar.proofs.MarkingSteps.{closed_grows, closed_next}
 
 pub marked_below : (m : List Bool) (s : ℕ) → IsMarked m s → s < length m
 marked_below [] s h = absurd (search rules)
@@ -24,72 +24,44 @@ pub list_read : (vs : List (Vec ℕ Global)) (s : ℕ) (v : Vec ℕ Global) (lis
     s < length vs → v ≡ get_or vs s v → listed ≡ v.items → listed ≡ list_at (map items_of vs) s
 list_read vs s v listed h e f = f ∙ ap items_of e ∙ sym (get_or-map items_of vs s v [] h)
 
-pub listed_within : (rules : List RuleValue) (n symbols s : ℕ) (lists : List (List ℕ))
-    (listed : List ℕ) → listed ≡ list_at lists s → AreOccurrences rules n symbols lists →
-    (k : ℕ) → k < length listed → slice_index listed k < n
-listed_within rules n symbols s lists listed e a k h = a.within s (slice_index listed k)
-    (subst (λ (x : List ℕ). Contains x (slice_index listed k)) e (Contains-get_or listed k 0 h))
+module _ {from : Production → List ℕ} (rules : List RuleValue) (n symbols s : ℕ)
+    (lists : List (List ℕ)) (listed : List ℕ) (e : listed ≡ list_at lists s)
+    (a : AreListed from rules n symbols lists) where
+  pub listed_within : (k : ℕ) → k < length listed →
+      (slice_index listed k < n) × Contains (from (rule_at rules (slice_index listed k))) s
+  listed_within k h = a.within s (slice_index listed k)
+      (subst (λ (x : List ℕ). Contains x (slice_index listed k)) e (Contains-get_or listed k 0 h))
 
-pub taken_settled : {m m2 : List Bool} {o o2 : List ℕ} (rules : List RuleValue)
-    (n symbols s taken q : ℕ) (lists : List (List ℕ)) (listed : List ℕ) → listed ≡ list_at lists s →
-    s ≡ slice_index o taken → AreOccurrences rules n symbols lists → q < n → Grows m o m2 o2 →
-    taken + 1 ≤ length o
-    → ((k : ℕ) → k < length listed → IsSettled (rule_at rules (slice_index listed k)) m2 o2
-    (taken + 1))
-    → IsSettled (rule_at rules q) m o (taken + 1) ⊎ ((j : ℕ) × (j < length (rule_at rules q).body) ×
-    (slice_index o taken ≡ slice_index (rule_at rules q).body j))
-    → IsSettled (rule_at rules q) m2 o2 (taken + 1)
-taken_settled rules n symbols s taken q lists listed e t a h g d f (inl c) =
-    settled_grows (rule_at rules q) (taken + 1) g d c
-taken_settled {m2 = m2} {o2 = o2} rules n symbols s taken q lists listed e t a h g d f
-    (inr (j, l, i)) =
-    of_listed listed q (λ (u : ℕ). IsSettled (rule_at rules u) m2 o2 (taken + 1)) f
-    (subst (λ (x : List ℕ). Contains x q) (sym e)
-    (subst (λ (u : ℕ). Contains (list_at lists u) q) (sym (t ∙ i)) (a.each q j h l)))
+  taken_closed : {m m2 : List Bool} {o o2 : List ℕ} (to : Production → List ℕ) (taken q : ℕ) →
+      s ≡ slice_index o taken → q < n → Grows m o m2 o2 → taken + 1 ≤ length o
+      → ((k : ℕ) → k < length listed → IsClosed (from (rule_at rules (slice_index listed k)))
+      (to (rule_at rules (slice_index listed k))) m2 o2 (taken + 1))
+      → IsClosed (from (rule_at rules q)) (to (rule_at rules q)) m o (taken + 1)
+      ⊎ ((j : ℕ) × (j < length (from (rule_at rules q)))
+      × (slice_index o taken ≡ slice_index (from (rule_at rules q)) j))
+      → IsClosed (from (rule_at rules q)) (to (rule_at rules q)) m2 o2 (taken + 1)
+  taken_closed to taken q t h g d f (inl c) =
+      closed_grows (from (rule_at rules q)) (to (rule_at rules q)) (taken + 1) g d c
+  taken_closed {m2 = m2} {o2 = o2} to taken q t h g d f (inr (j, l, i)) =
+      of_listed listed q
+      (λ (u : ℕ). IsClosed (from (rule_at rules u)) (to (rule_at rules u)) m2 o2 (taken + 1)) f
+      (subst (λ (x : List ℕ). Contains x q) (sym e)
+      (subst (λ (u : ℕ). Contains (list_at lists u) q) (sym (t ∙ i)) (a.each q j h l)))
 
--- one symbol was taken, and the rules in whose bodies it stands were visited
-pub drain_next : {m m2 : List Bool} {o o2 : List ℕ} (rules : List RuleValue) (n symbols s taken : ℕ)
-    (lists : List (List ℕ)) (listed : List ℕ) → listed ≡ list_at lists s → s ≡ slice_index o taken →
-    AreOccurrences rules n symbols lists → Grows m o m2 o2 → taken + 1 ≤ length o
-    → ((k : ℕ) → k < length listed → IsSettled (rule_at rules (slice_index listed k)) m2 o2
-    (taken + 1))
-    → ((q : ℕ) → q < n → IsSettled (rule_at rules q) m o taken)
-    → (q : ℕ) → q < n → IsSettled (rule_at rules q) m2 o2 (taken + 1)
-drain_next rules n symbols s taken lists listed e t a g d f old q h = taken_settled rules n symbols
-    s taken q lists listed e t a h g d f (settled_next (rule_at rules q) taken (old q h))
+  -- one symbol was taken, and the rules listed for it were closed
+  pub drain_next : {m m2 : List Bool} {o o2 : List ℕ} (to : Production → List ℕ) (taken : ℕ) →
+      s ≡ slice_index o taken → Grows m o m2 o2 → taken + 1 ≤ length o
+      → ((k : ℕ) → k < length listed → IsClosed (from (rule_at rules (slice_index listed k)))
+      (to (rule_at rules (slice_index listed k))) m2 o2 (taken + 1))
+      → ((q : ℕ) → q < n → IsClosed (from (rule_at rules q)) (to (rule_at rules q)) m o taken)
+      → (q : ℕ) → q < n → IsClosed (from (rule_at rules q)) (to (rule_at rules q)) m2 o2 (taken + 1)
+  drain_next to taken t g d f old q h = taken_closed to taken q t h g d f
+      (closed_next (from (rule_at rules q)) (to (rule_at rules q)) taken (old q h))
 
-pub left_listed : (rules : List RuleValue) (n symbols s : ℕ) (lists : List (List ℕ))
-    (listed : List ℕ) → listed ≡ list_at lists s → AreByLeft rules n symbols lists →
-    (k : ℕ) → k < length listed → (slice_index listed k < n) ×
-    ((rule_at rules (slice_index listed k)).left ≡ s)
-left_listed rules n symbols s lists listed e a k h = a.within s (slice_index listed k)
-    (subst (λ (x : List ℕ). Contains x (slice_index listed k)) e (Contains-get_or listed k 0 h))
-
-taken_spread : {m m2 : List Bool} {o o2 : List ℕ} (rules : List RuleValue) (n symbols s taken q : ℕ)
-    (lists : List (List ℕ)) (listed : List ℕ) → listed ≡ list_at lists s → s ≡ slice_index o taken →
-    AreByLeft rules n symbols lists → q < n → Grows m o m2 o2 → taken + 1 ≤ length o
-    → ((k : ℕ) → k < length listed → IsSpread (rule_at rules (slice_index listed k)) m2 o2
-    (taken + 1))
-    → IsSpread (rule_at rules q) m o (taken + 1) ⊎ (slice_index o taken ≡ (rule_at rules q).left)
-    → IsSpread (rule_at rules q) m2 o2 (taken + 1)
-taken_spread rules n symbols s taken q lists listed e t a h g d f (inl c) =
-    spread_grows (rule_at rules q) (taken + 1) g d c
-taken_spread {m2 = m2} {o2 = o2} rules n symbols s taken q lists listed e t a h g d f (inr i) =
-    of_listed listed q (λ (u : ℕ). IsSpread (rule_at rules u) m2 o2 (taken + 1)) f
-    (subst (λ (x : List ℕ). Contains x q) (sym e)
-    (subst (λ (u : ℕ). Contains (list_at lists u) q) (sym (t ∙ i)) (a.each q h)))
-
--- one symbol was taken, and the bodies of its rules were marked
-pub spread_more : {m m2 : List Bool} {o o2 : List ℕ} (rules : List RuleValue)
-    (n symbols s taken : ℕ) (lists : List (List ℕ)) (listed : List ℕ) → listed ≡ list_at lists s →
-    s ≡ slice_index o taken → AreByLeft rules n symbols lists → Grows m o m2 o2 →
-    taken + 1 ≤ length o
-    → ((k : ℕ) → k < length listed → IsSpread (rule_at rules (slice_index listed k)) m2 o2
-    (taken + 1))
-    → ((q : ℕ) → q < n → IsSpread (rule_at rules q) m o taken)
-    → (q : ℕ) → q < n → IsSpread (rule_at rules q) m2 o2 (taken + 1)
-spread_more rules n symbols s taken lists listed e t a g d f old q h = taken_spread rules n symbols
-    s taken q lists listed e t a h g d f (spread_next (rule_at rules q) taken (old q h))
+-- the list of one element has no other
+pub contains_alone : {x y : ℕ} → Contains (x ∷ []) y → x ≡ y
+contains_alone (zero, h, e) = e
+contains_alone (suc k, h, e) = absurd (omega arith)
 
 unmarked_few : (m : List Bool) → unmarked m ≤ length m
 unmarked_few [] = omega arith

@@ -4,11 +4,11 @@ use Rattle.std.proofs.Common.{get_or, slice_index, refl, sym, ◌∙◌, ap, sub
 use Rattle.std.proofs.Common.{rules, get_or-set_other, get_or-set_same}
 use Rattle.std.proofs.Math.ListN.{set, length-set}
 use Rattle.std.specs.List.{Contains}
-use Rattle.std.proofs.lemmas.List.Elements.{Contains-append_left, Contains-push}
+use Rattle.std.proofs.lemmas.List.Elements.{Contains-append_left, Contains-push, Contains-get_or}
 use Rattle.std.proofs.lemmas.List.Elements.{Contains-push_cases}
-use Rattle.ygrammar.specs.Grammar.{RuleValue}
-use Rattle.ygrammar.specs.Marking.{IsFiled, IsFiledEach, AreOccurrences, AreByLeft, list_at}
-use Rattle.ygrammar.specs.Marking.{rule_at}
+use Rattle.ygrammar.specs.Grammar.{Production, RuleValue}
+use Rattle.ygrammar.specs.Marking.{IsFiled, IsFiledEach, AreListed, list_at, rule_at}
+use Rattle.ygrammar.proofs.MarkingSteps.{alone}
 
 same_or : (a b : ℕ) → (a ≡ b) ⊎ (a ≢ b)
 same_or a b = grind arith
@@ -59,11 +59,13 @@ last_or k n h = grind arith
 none_in : (q : ℕ) → Contains [] q → ⊥
 none_in q (k, h, e) = omega arith
 
-each_only : (ls : List (List ℕ)) (ls0 : List (List ℕ)) (r t q s : ℕ) →
-    (Contains (list_at ls t) q → Contains (list_at ls0 t) q ⊎ (q ≡ r)) → Contains (list_at ls t) q ⊎
-    ((t ≡ s) × (q ≡ r)) → Contains (list_at ls0 t) q ⊎ (q ≡ r)
-each_only ls ls0 r t q s f (inl c) = f c
-each_only ls ls0 r t q s f (inr e) = inr e.1
+each_only : (ls : List (List ℕ)) (ls0 : List (List ℕ)) (body : List ℕ) (r t q s : ℕ) →
+    Contains body s →
+    (Contains (list_at ls t) q → Contains (list_at ls0 t) q ⊎ (Contains body t × (q ≡ r))) →
+    Contains (list_at ls t) q ⊎ ((t ≡ s) × (q ≡ r)) →
+    Contains (list_at ls0 t) q ⊎ (Contains body t × (q ≡ r))
+each_only ls ls0 body r t q s m f (inl c) = f c
+each_only ls ls0 body r t q s m f (inr e) = inr (subst (Contains body) (sym e.0) m, e.1)
 
 here_by : (body : List ℕ) (r i s k : ℕ) (ls2 : List (List ℕ)) → s ≡ get_or body i 0 →
     Contains (list_at ls2 s) r → (k ≡ i) → Contains (list_at ls2 (get_or body k 0)) r
@@ -75,7 +77,8 @@ pub record FiledSoFar (body : List ℕ) (i r : ℕ) (lists lists2 : List (List �
   pub sized : length lists2 ≡ length lists
   pub here : (k : ℕ) → k < i → Contains (list_at lists2 (slice_index body k)) r
   pub kept : (t q : ℕ) → Contains (list_at lists t) q → Contains (list_at lists2 t) q
-  pub only : (t q : ℕ) → Contains (list_at lists2 t) q → Contains (list_at lists t) q ⊎ (q ≡ r)
+  pub only : (t q : ℕ) → Contains (list_at lists2 t) q →
+      Contains (list_at lists t) q ⊎ (Contains body t × (q ≡ r))
 
 filed_here : (body : List ℕ) (i r s : ℕ) (ls0 ls ls2 : List (List ℕ)) → s ≡ slice_index body i →
     FiledSoFar body i r ls0 ls → IsFiled s r ls ls2 → (k : ℕ) → (k < i) ⊎
@@ -83,85 +86,73 @@ filed_here : (body : List ℕ) (i r s : ℕ) (ls0 ls ls2 : List (List ℕ)) → 
 filed_here body i r s ls0 ls ls2 e f g k (inl h) = g.kept (slice_index body k) r (f.here k h)
 filed_here body i r s ls0 ls ls2 e f g k (inr h) = here_by body r i s k ls2 e g.here h
 
-pub filed_more : (body : List ℕ) (i r s : ℕ) (ls0 ls ls2 : List (List ℕ)) → s ≡ slice_index body i →
-    FiledSoFar body i r ls0 ls → IsFiled s r ls ls2 → FiledSoFar body (i + 1) r ls0 ls2
-filed_more body i r s ls0 ls ls2 e f g = record {
+pub filed_more : (body : List ℕ) (i r s : ℕ) (ls0 ls ls2 : List (List ℕ)) → i < length body →
+    s ≡ slice_index body i → FiledSoFar body i r ls0 ls → IsFiled s r ls ls2 →
+    FiledSoFar body (i + 1) r ls0 ls2
+filed_more body i r s ls0 ls ls2 l e f g = record {
   sized = g.sized ∙ f.sized;
   here = λ k h. filed_here body i r s ls0 ls ls2 e f g k (last_or k i h);
   kept = λ t q k. g.kept t q (f.kept t q k);
-  only = λ t q k. each_only ls ls0 r t q s (f.only t q) (g.only t q k);
+  only = λ t q k. each_only ls ls0 body r t q s
+      (subst (Contains body) (sym e) (Contains-get_or body i 0 l)) (f.only t q) (g.only t q k);
 }
 
-pub occurrences_none : (rules : List RuleValue) (n : ℕ) (ls : List (List ℕ)) → length ls ≡ n →
-    ((s : ℕ) → list_at ls s ≡ []) → AreOccurrences rules 0 n ls
-occurrences_none rules n ls e f = record {
+alone_only : (ls : List (List ℕ)) (r t q s : ℕ) → Contains (list_at ls t) q ⊎
+    ((t ≡ s) × (q ≡ r)) → Contains (list_at ls t) q ⊎ (Contains (s ∷ []) t × (q ≡ r))
+alone_only ls r t q s (inl c) = inl c
+alone_only ls r t q s (inr e) =
+    inr (subst (Contains (s ∷ [])) (sym e.0) (Contains-get_or (s ∷ []) 0 0 (omega arith)), e.1)
+
+-- one symbol as a part
+pub filed_alone : {s r : ℕ} {ls ls2 : List (List ℕ)} → IsFiled s r ls ls2 →
+    IsFiledEach (s ∷ []) r ls ls2
+filed_alone {s = s} {r = r} {ls = ls} {ls2 = ls2} f = record {
+  sized = f.sized;
+  here = alone (λ t. Contains (list_at ls2 t) r) s f.here;
+  kept = f.kept;
+  only = λ t q k. alone_only ls r t q s (f.only t q k);
+}
+
+pub listed_none : {part : Production → List ℕ} (rules : List RuleValue) (n : ℕ)
+    (ls : List (List ℕ)) → length ls ≡ n → ((s : ℕ) → list_at ls s ≡ []) →
+    AreListed part rules 0 n ls
+listed_none rules n ls e f = record {
   sized = e;
   within = λ s q c. absurd (none_in q (subst (λ (x : List ℕ). Contains x q) (f s) c));
   each = λ r k h l. absurd (omega arith);
 }
 
-occurs_below : (q r : ℕ) → (q < r) ⊎ (q ≡ r) → q < r + 1
-occurs_below q r (inl h) = omega arith
-occurs_below q r (inr h) = omega arith
+below_next : (q r : ℕ) → (q < r) ⊎ (q ≡ r) → q < r + 1
+below_next q r (inl h) = omega arith
+below_next q r (inr h) = omega arith
 
-below_by : (ls : List (List ℕ)) (r s q : ℕ) → ((s q : ℕ) → Contains (list_at ls s) q → q < r) →
-    Contains (list_at ls s) q ⊎ (q ≡ r) → q < r + 1
-below_by ls r s q f (inl c) = occurs_below q r (inl (f s q c))
-below_by ls r s q f (inr e) = occurs_below q r (inr e)
+module _ {part : Production → List ℕ} (rules : List RuleValue) (r n : ℕ) (body : List ℕ)
+    (ls ls2 : List (List ℕ)) (e : body ≡ part (rule_at rules r))
+    (o : AreListed part rules r n ls) (f : IsFiledEach body r ls ls2) where
+  within_next : (s q : ℕ) → Contains (list_at ls s) q ⊎ (Contains body s × (q ≡ r)) →
+      (q < r + 1) × Contains (part (rule_at rules q)) s
+  within_next s q (inl c) = let p = o.within s q c in (below_next q r (inl p.0), p.1)
+  within_next s q (inr p) = (
+    below_next q r (inr p.1),
+    subst (λ (u : ℕ). Contains (part (rule_at rules u)) s) (sym p.1)
+        (subst (λ (x : List ℕ). Contains x s) e p.0),
+  )
 
-occurs_each : (rules : List RuleValue) (r n : ℕ) (body : List ℕ) (ls ls2 : List (List ℕ)) →
-    body ≡ (rule_at rules r).body → AreOccurrences rules r n ls → IsFiledEach body r ls ls2 →
-    (q k : ℕ) → (q < r) ⊎ (q ≡ r) → k < length (rule_at rules q).body →
-    Contains (list_at ls2 (slice_index (rule_at rules q).body k)) q
-occurs_each rules r n body ls ls2 e o f q k (inl h) l =
-    f.kept (slice_index (rule_at rules q).body k) q (o.each q k h l)
-occurs_each rules r n body ls ls2 e o f q k (inr h) l =
-    subst (λ (u : ℕ). k < length (rule_at rules u).body →
-    Contains (list_at ls2 (slice_index (rule_at rules u).body k)) u) (sym h)
-    (λ j. subst (λ (x : List ℕ). k < length x → Contains (list_at ls2 (slice_index x k)) r) e
-    (f.here k) j) l
+  each_next : (q k : ℕ) → (q < r) ⊎ (q ≡ r) → k < length (part (rule_at rules q)) →
+      Contains (list_at ls2 (slice_index (part (rule_at rules q)) k)) q
+  each_next q k (inl h) l = f.kept (slice_index (part (rule_at rules q)) k) q (o.each q k h l)
+  each_next q k (inr h) l =
+      subst (λ (u : ℕ). k < length (part (rule_at rules u)) →
+      Contains (list_at ls2 (slice_index (part (rule_at rules u)) k)) u) (sym h)
+      (λ j. subst (λ (x : List ℕ). k < length x → Contains (list_at ls2 (slice_index x k)) r) e
+      (f.here k) j) l
 
-pub occurrences_more : (rules : List RuleValue) (r n : ℕ) (body : List ℕ) (ls ls2 : List (List ℕ)) →
-    body ≡ (rule_at rules r).body → AreOccurrences rules r n ls → IsFiledEach body r ls ls2 →
-    AreOccurrences rules (r + 1) n ls2
-occurrences_more rules r n body ls ls2 e o f = record {
-  sized = f.sized ∙ o.sized;
-  within = λ s q c. below_by ls r s q o.within (f.only s q c);
-  each = λ q k h l. occurs_each rules r n body ls ls2 e o f q k (last_or q r h) l;
-}
-
-pub by_left_none : (rules : List RuleValue) (n : ℕ) (ls : List (List ℕ)) → length ls ≡ n →
-    ((s : ℕ) → list_at ls s ≡ []) → AreByLeft rules 0 n ls
-by_left_none rules n ls e f = record {
-  sized = e;
-  within = λ s q c. absurd (none_in q (subst (λ (x : List ℕ). Contains x q) (f s) c));
-  each = λ r h. absurd (omega arith);
-}
-
-left_within : (rules : List RuleValue) (r v s q : ℕ) (ls : List (List ℕ)) →
-    v ≡ (rule_at rules r).left → ((s q : ℕ) → Contains (list_at ls s) q → (q < r) ×
-    ((rule_at rules q).left ≡ s)) → Contains (list_at ls s) q ⊎ ((s ≡ v) × (q ≡ r)) → (q < r + 1) ×
-    ((rule_at rules q).left ≡ s)
-left_within rules r v s q ls e f (inl c) = let p = f s q c in (occurs_below q r (inl p.0), p.1)
-left_within rules r v s q ls e f (inr p) =
-    (occurs_below q r (inr p.1), ap (λ (u : ℕ). (rule_at rules u).left) p.1 ∙ sym e ∙ sym p.0)
-
-left_each : (rules : List RuleValue) (r n v : ℕ) (ls ls2 : List (List ℕ)) →
-    v ≡ (rule_at rules r).left → AreByLeft rules r n ls → IsFiled v r ls ls2 → (q : ℕ) → (q < r) ⊎
-    (q ≡ r) → Contains (list_at ls2 (rule_at rules q).left) q
-left_each rules r n v ls ls2 e o f q (inl h) = f.kept (rule_at rules q).left q (o.each q h)
-left_each rules r n v ls ls2 e o f q (inr h) =
-    subst (λ (u : ℕ). Contains (list_at ls2 (rule_at rules u).left) u) (sym h)
-    (subst (λ (u : ℕ). Contains (list_at ls2 u) r) e f.here)
-
-pub by_left_more : (rules : List RuleValue) (r n v : ℕ) (ls ls2 : List (List ℕ)) →
-    v ≡ (rule_at rules r).left → AreByLeft rules r n ls → IsFiled v r ls ls2 → AreByLeft rules
-    (r + 1) n ls2
-by_left_more rules r n v ls ls2 e o f = record {
-  sized = f.sized ∙ o.sized;
-  within = λ s q c. left_within rules r v s q ls e o.within (f.only s q c);
-  each = λ q h. left_each rules r n v ls ls2 e o f q (last_or q r h);
-}
+  pub listed_more : AreListed part rules (r + 1) n ls2
+  listed_more = record {
+    sized = f.sized ∙ o.sized;
+    within = λ s q c. within_next s q (f.only s q c);
+    each = λ q k h l. each_next q k (last_or q r h) l;
+  }
 
 pub pushed_empty : (ls : List (List ℕ)) (s : ℕ) → ((t : ℕ) → get_or ls t [] ≡ []) →
     get_or (ls ++ [] ∷ []) s [] ≡ []

@@ -6,9 +6,8 @@ use Rattle.std.proofs.Common.{length-append}
 use Rattle.std.proofs.Math.ListN.{set}
 use Rattle.std.proofs.Math.ListN.{get_or-append, length-set}
 use Rattle.std.proofs.Math.Seq.{get_or-append_seam}
-use Rattle.ygrammar.specs.Grammar.{Production}
 use Rattle.ygrammar.specs.Marking.{IsMarked, IsUnmarked, unmarked, IsWaiting, IsWorklist, Grows}
-use Rattle.ygrammar.specs.Marking.{IsSettled, left, stuck, ahead, IsSpread, unseen, spread}
+use Rattle.ygrammar.specs.Marking.{IsClosed, stuck, ahead, marked}
 
 same_or : (a b : ℕ) → (a ≡ b) ⊎ (a ≢ b)
 same_or a b = grind arith
@@ -118,27 +117,26 @@ grows_then g h = record {
   list = λ w. h.list (g.list w);
 }
 
-settled_some : (m : List Bool) {m2 : List Bool} {o2 : List ℕ} (p : Production) (done k : ℕ) →
-    k < length p.body → IsUnmarked m (slice_index p.body k) → IsMarked m (slice_index p.body k) ⊎
-    IsWaiting o2 done (slice_index p.body k) → IsSettled p m2 o2 done
-settled_some m p done k l n (inl i) = absurd (not_both (get_or m (slice_index p.body k) false) i n)
-settled_some m p done k l n (inr w) = ahead k l w
+closed_some : (m : List Bool) {m2 : List Bool} {o2 : List ℕ} (xs ys : List ℕ) (done k : ℕ) →
+    k < length xs → IsUnmarked m (slice_index xs k) → IsMarked m (slice_index xs k) ⊎
+    IsWaiting o2 done (slice_index xs k) → IsClosed xs ys m2 o2 done
+closed_some m xs ys done k l n (inl i) = absurd (not_both (get_or m (slice_index xs k) false) i n)
+closed_some m xs ys done k l n (inr w) = ahead k l w
 
-settled_stuck : {m m2 : List Bool} {o o2 : List ℕ} (p : Production) (done k : ℕ) → Grows m o m2 o2 →
-    done ≤ length o → k < length p.body → IsUnmarked m (slice_index p.body k) →
-    IsMarked m2 (slice_index p.body k) ⊎ IsUnmarked m2 (slice_index p.body k) →
-    IsSettled p m2 o2 done
-settled_stuck {m = m} p done k g d l n (inl i) = settled_some m p done k l n
-    (g.waits done (slice_index p.body k) d i)
-settled_stuck p done k g d l n (inr u) = stuck k l u
+closed_stuck : {m m2 : List Bool} {o o2 : List ℕ} (xs ys : List ℕ) (done k : ℕ) →
+    Grows m o m2 o2 → done ≤ length o → k < length xs → IsUnmarked m (slice_index xs k) →
+    IsMarked m2 (slice_index xs k) ⊎ IsUnmarked m2 (slice_index xs k) → IsClosed xs ys m2 o2 done
+closed_stuck {m = m} xs ys done k g d l n (inl i) = closed_some m xs ys done k l n
+    (g.waits done (slice_index xs k) d i)
+closed_stuck xs ys done k g d l n (inr u) = stuck k l u
 
--- a settled rule stays so
-pub settled_grows : {m m2 : List Bool} {o o2 : List ℕ} (p : Production) (done : ℕ) →
-    Grows m o m2 o2 → done ≤ length o → IsSettled p m o done → IsSettled p m2 o2 done
-settled_grows p done g d (left h) = left (g.kept p.left h)
-settled_grows {m2 = m2} p done g d (stuck k l n) = settled_stuck p done k g d l n
-    (marked_or m2 (slice_index p.body k))
-settled_grows p done g d (ahead k l w) = ahead k l (g.ahead done (slice_index p.body k) w)
+-- what is closed stays so
+pub closed_grows : {m m2 : List Bool} {o o2 : List ℕ} (xs ys : List ℕ) (done : ℕ) →
+    Grows m o m2 o2 → done ≤ length o → IsClosed xs ys m o done → IsClosed xs ys m2 o2 done
+closed_grows {m2 = m2} xs ys done g d (stuck k l n) = closed_stuck xs ys done k g d l n
+    (marked_or m2 (slice_index xs k))
+closed_grows xs ys done g d (ahead k l w) = ahead k l (g.ahead done (slice_index xs k) w)
+closed_grows xs ys done g d (marked f) = marked (λ k l. g.kept (slice_index ys k) (f k l))
 
 next_or : (a b : ℕ) → a ≤ b → (b ≡ a) ⊎ (a + 1 ≤ b)
 next_or a b h = grind arith
@@ -154,50 +152,35 @@ pub taken : (o : List ℕ) (done s : ℕ) → IsWaiting o done s → (slice_inde
     IsWaiting o (done + 1) s
 taken o done s w = waiting_next o done s w (next_or done w.at w.later)
 
-settled_ahead : {m : List Bool} {o : List ℕ} (p : Production) (done k : ℕ) → k < length p.body →
-    (slice_index o done ≡ slice_index p.body k) ⊎ IsWaiting o (done + 1) (slice_index p.body k) →
-    IsSettled p m o (done + 1) ⊎
-    ((j : ℕ) × (j < length p.body) × (slice_index o done ≡ slice_index p.body j))
-settled_ahead p done k l (inl e) = inr (k, l, e)
-settled_ahead p done k l (inr w) = inl (ahead k l w)
+closed_ahead : {m : List Bool} {o : List ℕ} (xs ys : List ℕ) (done k : ℕ) → k < length xs →
+    (slice_index o done ≡ slice_index xs k) ⊎ IsWaiting o (done + 1) (slice_index xs k) →
+    IsClosed xs ys m o (done + 1) ⊎
+    ((j : ℕ) × (j < length xs) × (slice_index o done ≡ slice_index xs j))
+closed_ahead xs ys done k l (inl e) = inr (k, l, e)
+closed_ahead xs ys done k l (inr w) = inl (ahead k l w)
 
-pub settled_next : {m : List Bool} {o : List ℕ} (p : Production) (done : ℕ) → IsSettled p m o done →
-    IsSettled p m o (done + 1) ⊎
-    ((j : ℕ) × (j < length p.body) × (slice_index o done ≡ slice_index p.body j))
-settled_next p done (left h) = inl (left h)
-settled_next p done (stuck k l n) = inl (stuck k l n)
-settled_next {o = o} p done (ahead k l w) = settled_ahead p done k l
-    (taken o done (slice_index p.body k) w)
+pub closed_next : {m : List Bool} {o : List ℕ} (xs ys : List ℕ) (done : ℕ) →
+    IsClosed xs ys m o done → IsClosed xs ys m o (done + 1) ⊎
+    ((j : ℕ) × (j < length xs) × (slice_index o done ≡ slice_index xs j))
+closed_next xs ys done (stuck k l n) = inl (stuck k l n)
+closed_next {o = o} xs ys done (ahead k l w) = closed_ahead xs ys done k l
+    (taken o done (slice_index xs k) w)
+closed_next xs ys done (marked f) = inl (marked f)
 
 pub none_waits : (o : List ℕ) (done s : ℕ) → length o ≤ done → IsWaiting o done s → ⊥
 none_waits o done s h w = let a = w.later in let b = w.within in omega arith
 
-spread_seen : (m : List Bool) {m2 : List Bool} {o2 : List ℕ} (p : Production) (done : ℕ) →
-    IsUnmarked m p.left → IsMarked m p.left ⊎ IsWaiting o2 done p.left → IsSpread p m2 o2 done
-spread_seen m p done n (inl i) = absurd (not_both (get_or m p.left false) i n)
-spread_seen m p done n (inr w) = ahead w
+-- once all are taken, marked premises have marked conclusions
+pub closed_end : (xs ys : List ℕ) (m : List Bool) (o : List ℕ) (n : ℕ) → length o ≤ n →
+    IsClosed xs ys m o n → ((k : ℕ) → k < length xs → IsMarked m (slice_index xs k)) →
+    (k : ℕ) → k < length ys → IsMarked m (slice_index ys k)
+closed_end xs ys m o n z (stuck k l u) e = absurd (not_both (get_or m (slice_index xs k) false)
+    (e k l) u)
+closed_end xs ys m o n z (ahead k l w) e = absurd (none_waits o n (slice_index xs k) z w)
+closed_end xs ys m o n z (marked f) e = f
 
-spread_unseen : {m m2 : List Bool} {o o2 : List ℕ} (p : Production) (done : ℕ) → Grows m o m2 o2 →
-    done ≤ length o → IsUnmarked m p.left → IsMarked m2 p.left ⊎ IsUnmarked m2 p.left →
-    IsSpread p m2 o2 done
-spread_unseen {m = m} p done g d n (inl i) = spread_seen m p done n (g.waits done p.left d i)
-spread_unseen p done g d n (inr u) = unseen u
-
--- a spread rule stays so
-pub spread_grows : {m m2 : List Bool} {o o2 : List ℕ} (p : Production) (done : ℕ) →
-    Grows m o m2 o2 → done ≤ length o → IsSpread p m o done → IsSpread p m2 o2 done
-spread_grows {m2 = m2} p done g d (unseen n) = spread_unseen p done g d n (marked_or m2 p.left)
-spread_grows p done g d (ahead w) = ahead (g.ahead done p.left w)
-spread_grows p done g d (spread f) = spread (λ k l. g.kept (slice_index p.body k) (f k l))
-
-spread_taken : {m : List Bool} {o : List ℕ} (p : Production) (done : ℕ) →
-    (slice_index o done ≡ p.left) ⊎ IsWaiting o (done + 1) p.left → IsSpread p m o (done + 1) ⊎
-    (slice_index o done ≡ p.left)
-spread_taken p done (inl e) = inr e
-spread_taken p done (inr w) = inl (ahead w)
-
-pub spread_next : {m : List Bool} {o : List ℕ} (p : Production) (done : ℕ) → IsSpread p m o done →
-    IsSpread p m o (done + 1) ⊎ (slice_index o done ≡ p.left)
-spread_next p done (unseen n) = inl (unseen n)
-spread_next {o = o} p done (ahead w) = spread_taken p done (taken o done p.left w)
-spread_next p done (spread f) = inl (spread f)
+-- what holds of an element holds of each of the list of it alone
+pub alone : (P : ℕ → Type 0) (x : ℕ) → P x → (k : ℕ) → k < length (x ∷ []) →
+    P (slice_index (x ∷ []) k)
+alone P x p zero h = p
+alone P x p (suc k) h = absurd (omega arith)

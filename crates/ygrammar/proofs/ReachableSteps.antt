@@ -1,17 +1,18 @@
 -- Marks that a worklist leaves, and the symbols that can be reached.
 use Rattle.std.proofs.Common.{ℕ, zero, suc, Bool, false, refl, ◌≡◌, ◌<◌, ◌≤◌, ◌⊎◌, List, length}
-use Rattle.std.proofs.Common.{get_or, slice_index, sym, ◌∙◌, ap, subst, inl, inr, EachIndex}
+use Rattle.std.proofs.Common.{[], ◌∷◌}
+use Rattle.std.proofs.Common.{get_or, slice_index, sym, ◌∙◌, ap, subst, inl, inr}
 use Rattle.std.specs.List.{Contains}
 use Rattle.std.proofs.Math.ListN.{replicate}
 use Rattle.std.proofs.lemmas.List.{length-map}
 use Rattle.std.proofs.lemmas.List.Elements.{All-contains, All-from_get_or, Contains-get_or}
-use Rattle.ygrammar.specs.Grammar.{ContextFree, Production}
+use Rattle.ygrammar.specs.Grammar.{ContextFree}
 use Rattle.ygrammar.specs.Forms.{IsReachable, first, further}
 use Rattle.ygrammar.specs.Grammar.{RuleValue}
-use Rattle.ygrammar.specs.Marking.{IsMarked, IsUnmarked, IsSpread, unseen, ahead, spread}
+use Rattle.ygrammar.specs.Marking.{IsMarked, IsUnmarked, IsSpread}
 use Rattle.ygrammar.specs.Marking.{OnlyReachable, numbered_grammar, rule_at}
 use Rattle.ygrammar.specs.Grammar.{production_of}
-use Rattle.ygrammar.proofs.MarkingSteps.{not_both, none_waits}
+use Rattle.ygrammar.proofs.MarkingSteps.{alone, closed_end}
 
 either : (g : ContextFree) (m : List Bool) (s x : ℕ) → OnlyReachable g m → IsReachable g x →
     IsMarked m s ⊎ (s ≡ x) → IsReachable g s
@@ -41,12 +42,6 @@ first_marked tokens symbols rules m m2 x e only f s k =
     let g = numbered_grammar tokens symbols rules in
     either g m s x f (subst (IsReachable g) (sym e) first) (only s k)
 
-closed_by : (p : Production) (m : List Bool) (o : List ℕ) (n : ℕ) → length o ≤ n →
-    IsSpread p m o n → IsMarked m p.left → EachIndex p.body (λ k. IsMarked m (slice_index p.body k))
-closed_by p m o n z (unseen u) k = absurd (not_both (get_or m p.left false) k u)
-closed_by p m o n z (ahead w) k = absurd (none_waits o n p.left z w)
-closed_by p m o n z (spread f) k = f
-
 pub all_marked : (tokens symbols : ℕ) (rules : List RuleValue) (m : List Bool) (o : List ℕ)
     (n : ℕ) → length o ≤ n → ((r : ℕ) → r < length rules → IsSpread (rule_at rules r) m o n) →
     IsMarked m (rule_at rules 0).left →
@@ -54,9 +49,10 @@ pub all_marked : (tokens symbols : ℕ) (rules : List RuleValue) (m : List Bool)
 all_marked tokens symbols rules m o n z c b s first = b
 all_marked tokens symbols rules m o n z c b s (further {r = r} h p k) =
     let body = (rule_at rules r).body in
-    let f = closed_by (rule_at rules r) m o n z
+    let f = closed_end ((rule_at rules r).left ∷ []) body m o n z
     (c r (subst (λ (j : ℕ). r < j) (length-map rules production_of) h))
-    (all_marked tokens symbols rules m o n z c b (rule_at rules r).left p) in
+    (alone (IsMarked m) (rule_at rules r).left
+    (all_marked tokens symbols rules m o n z c b (rule_at rules r).left p)) in
     All-contains (IsMarked m) body s (All-from_get_or (IsMarked m) body 0 f) k
 
 blank_at : (n s : ℕ) → get_or (replicate n false) s false ≡ false

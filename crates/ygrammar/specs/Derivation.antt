@@ -10,7 +10,7 @@ module _ {S : Type 0} (Produces : S → List S → Type 0) where
     pub after : List S
     pub rule : Produces symbol body
     pub from : x ≡ before ++ symbol ∷ after
-    pub to : y ≡ before ++ body ++ after
+    pub to : y ≡ before ++ (body ++ after)
 
   -- a derivation begins with x and ends with y
   pub data Derives : List S → List S → Type 0 where

@@ -1,38 +1,32 @@
 -- Derivations by the rules of a grammar (Aho, Sethi, Ullman, section 4.2). A form is a list of
 -- symbols.
-use Rattle.std.specs.Prelude.{ℕ, ◌≡◌, ◌<◌, List, [], ◌∷◌, ◌++◌, length, Contains, refl}
+use Rattle.std.specs.Prelude.{ℕ, ◌≡◌, ◌<◌, List, [], ◌∷◌, length, Contains, refl}
 use Rattle.std.specs.List.{All}
+use Rattle.ygrammar.specs.Derivation.{Replaces, Derives, done, step}
 use Rattle.ygrammar.specs.Grammar.{ContextFree, left_of, body_of, IsToken}
 
--- One nonterminal of x is replaced by the body of one of its rules, which gives y.
-pub record Replaces (g : ContextFree) (x y : List ℕ) : Type 0 where
-  pub before : List ℕ
-  pub after : List ℕ
-  pub rule : ℕ
-  pub within : rule < length g.rules
-  pub source : x ≡ before ++ left_of g rule ∷ after
-  pub target : y ≡ before ++ (body_of g rule ++ after)
-
--- x derives y, in no step or more.
-pub data Derives (g : ContextFree) : List ℕ → List ℕ → Type 0 where
-  done : {x : List ℕ} → Derives g x x
-  step : {x y z : List ℕ} → Replaces g x y → Derives g y z → Derives g x z
+-- The rule s : b is one of the rules.
+pub record IsRule (g : ContextFree) (s : ℕ) (b : List ℕ) : Type 0 where
+  pub number : ℕ
+  pub within : number < length g.rules
+  pub left : s ≡ left_of g number
+  pub body : b ≡ body_of g number
 
 -- The form x derives the empty form.
 abbrev pub Nullable : ContextFree → List ℕ → Type 0
-Nullable g x = Derives g x []
+Nullable g x = Derives (IsRule g) x []
 
 -- The form x derives a form that begins with the token t.
 pub record First (g : ContextFree) (x : List ℕ) (t : ℕ) : Type 0 where
   pub token : IsToken g t
   pub rest : List ℕ
-  pub derives : Derives g x (t ∷ rest)
+  pub derives : Derives (IsRule g) x (t ∷ rest)
 
 -- The symbol s derives a list of tokens.
 pub record Productive (g : ContextFree) (s : ℕ) : Type 0 where
   pub word : List ℕ
   pub tokens : All (IsToken g) word
-  pub derives : Derives g (s ∷ []) word
+  pub derives : Derives (IsRule g) (s ∷ []) word
 
 -- The symbols that can be reached: the first left side, and the symbols of the bodies of those
 -- that can.
@@ -49,21 +43,21 @@ last_of x (y ∷ more) = last_of y more
 -- x and then the forms listed, each made from the one before by one replacement
 abbrev pub IsRun : ContextFree → List ℕ → List (List ℕ) → Type 0
 IsRun g x [] = Unit {0}
-IsRun g x (y ∷ more) = Replaces g x y × IsRun g y more
+IsRun g x (y ∷ more) = Replaces (IsRule g) x y × IsRun g y more
 
 -- such a list, in which only tokens stand behind each replaced nonterminal
 abbrev pub IsRightmostRun : ContextFree → List ℕ → List (List ℕ) → Type 0
 IsRightmostRun g x [] = Unit {0}
-IsRightmostRun g x (y ∷ more) = ((s : Replaces g x y) × All (IsToken g) s.after)
+IsRightmostRun g x (y ∷ more) = ((s : Replaces (IsRule g) x y) × All (IsToken g) s.after)
     × IsRightmostRun g y more
 
 -- A list of forms and `Derives` say the same.
 pub derives_from_run : (g : ContextFree) (x : List ℕ) (more : List (List ℕ)) → IsRun g x more →
-    Derives g x (last_of x more)
+    Derives (IsRule g) x (last_of x more)
 derives_from_run g x [] h = done
 derives_from_run g x (y ∷ more) h = step h.0 (derives_from_run g y more h.1)
 
-pub run_from_derives : {g : ContextFree} {x y : List ℕ} → Derives g x y →
+pub run_from_derives : {g : ContextFree} {x y : List ℕ} → Derives (IsRule g) x y →
     (more : List (List ℕ)) × IsRun g x more × (last_of x more ≡ y)
 run_from_derives done = ([], tt, refl)
 run_from_derives (step {y = y} s d) =

@@ -70,19 +70,31 @@ pub record AreDots (rules : List RuleValue) (dots : List ℕ) (m : List Bool) : 
   pub sized : length dots ≡ length rules
   pub fits : (r : ℕ) → r < length rules → DotFits (rule_at rules r).body m (slice_index dots r)
 
--- the left side of a rule is marked, or a symbol of its body is not, or one is still to be taken
-pub data IsSettled (p : Production) (m : List Bool) (order : List ℕ) (done : ℕ) : Type 0 where
-  left : IsMarked m p.left → IsSettled p m order done
-  stuck : (k : ℕ) → k < length p.body → IsUnmarked m (slice_index p.body k) →
-      IsSettled p m order done
-  ahead : (k : ℕ) → k < length p.body → IsWaiting order done (slice_index p.body k) →
-      IsSettled p m order done
+-- the symbols of a rule's left side: it alone
+abbrev pub left_symbols : Production → List ℕ
+left_symbols p = p.left ∷ []
 
--- the left side of a rule is not marked, or is still to be taken, or all of its body is marked
-pub data IsSpread (p : Production) (m : List Bool) (order : List ℕ) (done : ℕ) : Type 0 where
-  unseen : IsUnmarked m p.left → IsSpread p m order done
-  ahead : IsWaiting order done p.left → IsSpread p m order done
-  spread : EachIndex p.body (λ k. IsMarked m (slice_index p.body k)) → IsSpread p m order done
+-- those of its body
+abbrev pub body_symbols : Production → List ℕ
+body_symbols p = p.body
+
+-- a premise is not marked, or is still to be taken, or all conclusions are marked
+pub data IsClosed (premises conclusions : List ℕ) (m : List Bool) (order : List ℕ) (done : ℕ) :
+    Type 0 where
+  stuck : (k : ℕ) → k < length premises → IsUnmarked m (slice_index premises k) →
+      IsClosed premises conclusions m order done
+  ahead : (k : ℕ) → k < length premises → IsWaiting order done (slice_index premises k) →
+      IsClosed premises conclusions m order done
+  marked : EachIndex conclusions (λ k. IsMarked m (slice_index conclusions k)) →
+      IsClosed premises conclusions m order done
+
+-- marks of a rule's body lead to one of its left side
+abbrev pub IsSettled : Production → List Bool → List ℕ → ℕ → Type 0
+IsSettled p = IsClosed (body_symbols p) (left_symbols p)
+
+-- that of its left side leads to those of its body
+abbrev pub IsSpread : Production → List Bool → List ℕ → ℕ → Type 0
+IsSpread p = IsClosed (left_symbols p) (body_symbols p)
 
 -- only symbols that derive a list of tokens are marked
 abbrev pub OnlyProductive : ContextFree → List Bool → Type 0
@@ -110,25 +122,27 @@ pub record IsFiled (s r : ℕ) (lists lists2 : List (List ℕ)) : Type 0 where
   pub only : (t q : ℕ) → Contains (list_at lists2 t) q →
       Contains (list_at lists t) q ⊎ ((t ≡ s) × (q ≡ r))
 
--- r was added to the list of each symbol of the body
-pub record IsFiledEach (body : List ℕ) (r : ℕ) (lists lists2 : List (List ℕ)) : Type 0 where
+-- r was added to the list of each symbol of the part
+pub record IsFiledEach (part : List ℕ) (r : ℕ) (lists lists2 : List (List ℕ)) : Type 0 where
   pub sized : length lists2 ≡ length lists
-  pub here : EachIndex body (λ k. Contains (list_at lists2 (slice_index body k)) r)
+  pub here : EachIndex part (λ k. Contains (list_at lists2 (slice_index part k)) r)
   pub kept : (t q : ℕ) → Contains (list_at lists t) q → Contains (list_at lists2 t) q
-  pub only : (t q : ℕ) → Contains (list_at lists2 t) q → Contains (list_at lists t) q ⊎ (q ≡ r)
+  pub only : (t q : ℕ) → Contains (list_at lists2 t) q →
+      Contains (list_at lists t) q ⊎ (Contains part t × (q ≡ r))
 
--- the rules, in front of the bound, in whose bodies each symbol stands
-pub record AreOccurrences (rules : List RuleValue) (bound symbols : ℕ) (lists : List (List ℕ)) :
-    Type 0 where
-  pub sized : length lists ≡ symbols
-  pub within : (s q : ℕ) → Contains (list_at lists s) q → q < bound
-  pub each : (r k : ℕ) → r < bound → k < length (rule_at rules r).body →
-      Contains (list_at lists (slice_index (rule_at rules r).body k)) r
-
--- the rules, in front of the bound, of which each symbol is the left side
-pub record AreByLeft (rules : List RuleValue) (bound symbols : ℕ)
+-- for each symbol the rules, in front of the bound, in whose part it stands
+pub record AreListed (part : Production → List ℕ) (rules : List RuleValue) (bound symbols : ℕ)
     (lists : List (List ℕ)) : Type 0 where
   pub sized : length lists ≡ symbols
   pub within : (s q : ℕ) → Contains (list_at lists s) q →
-      (q < bound) × ((rule_at rules q).left ≡ s)
-  pub each : (r : ℕ) → r < bound → Contains (list_at lists (rule_at rules r).left) r
+      (q < bound) × Contains (part (rule_at rules q)) s
+  pub each : (r k : ℕ) → r < bound → k < length (part (rule_at rules r)) →
+      Contains (list_at lists (slice_index (part (rule_at rules r)) k)) r
+
+-- those in whose body
+abbrev pub AreOccurrences : List RuleValue → ℕ → ℕ → List (List ℕ) → Type 0
+AreOccurrences = AreListed body_symbols
+
+-- those of which it is the left side
+abbrev pub AreByLeft : List RuleValue → ℕ → ℕ → List (List ℕ) → Type 0
+AreByLeft = AreListed left_symbols

@@ -145,14 +145,22 @@ module _ (P : Parts) (f : WellFormed P.grammar.bare) (fit : FitParts P) where
       both (inl h) = subst (Starts P.grammar.bare s) h o
       both (inr h) = (h.1.0, h.1.1 ∙ o.1)
 
+  -- the dot stands in front of a symbol and the form y, and `to` is the row of an item that opens
+  -- that symbol
+  pub record Opening (h : Here) (to : ℕ) (y : List ℕ) : Type 0 where
+    pub symbol : ℕ
+    pub dotted : drop h.item.dot (body_of P.grammar.bare h.item.rule) ≡ symbol ∷ y
+    pub opened : Item
+    pub place : PlaceIn P h.state opened to
+    pub starts : Starts P.grammar.bare symbol opened
+
   -- what begins the form after the dot goes to the row of the left side
-  pub sound_begun : (d : DraftValue) (m : BitRows) (h : Here) (k : Item) (s to : ℕ) (y : List ℕ) →
+  pub sound_begun : (d : DraftValue) (m : BitRows) (h : Here) (to : ℕ) (y : List ℕ) →
       SoundLooks P.grammar.bare (goto_of P.gotos) P.states P.places d.looks → IsHere P h →
-      drop h.item.dot (body_of P.grammar.bare h.item.rule) ≡ s ∷ y → PlaceIn P h.state k to →
-      Starts P.grammar.bare s k → ((r b : ℕ) → Holds m r b → Holds d.looks r b ⊎
+      Opening h to y → ((r b : ℕ) → Holds m r b → Holds d.looks r b ⊎
       ((r ≡ to) × FormHas P.nullable P.first y b)) → SoundLooks P.grammar.bare (goto_of P.gotos)
       P.states P.places m
-  sound_begun d m h k s to y sound ih e pk o a q i p b ip z = go (a p b z)
+  sound_begun d m h to y sound ih u a q i p b ip z = go (a p b z)
     where
       go : Holds d.looks p b ⊎ ((p ≡ to) × FormHas P.nullable P.first y b) → SpreadIn P q i b
       go (inl w) = sound q i p b ip w
@@ -163,23 +171,23 @@ module _ (P : Parts) (f : WellFormed P.grammar.bare) (fit : FitParts P) where
           h.item.rule h.item.dot c.0 c.1 in
           let tb : IsToken P.grammar.bare b = subst (λ v. b < v) fit.first_sized.columns
           w.there.column in
-          opened_on h.state q to c.0 h.item k i s y b c.1 e
+          opened_on h.state q to c.0 h.item u.opened i u.symbol y b c.1 u.dotted
           (found_first P.grammar.bare f P.nullable P.first fit.nullable_exact fit.first_exact y
-          c.0 b ta tb w.place w.within w.before w.there) pk o (subst (PlaceIn P q i) ep ip)
+          c.0 b ta tb w.place w.within w.before w.there) u.place u.starts
+          (subst (PlaceIn P q i) ep ip)
 
   -- a form that vanishes passes on all that the item has
-  pub carries_open : (h : Here) (k : Item) (s to : ℕ) (y : List ℕ) → IsHere P h → drop h.item.dot
-      (body_of P.grammar.bare h.item.rule) ≡ s ∷ y → PlaceIn P h.state k to →
-      Starts P.grammar.bare s k → All (Has P.nullable) y → Carries P h.row to
-  carries_open h k s to y ih e pk o all = record {
+  pub carries_open : (h : Here) (to : ℕ) (y : List ℕ) → IsHere P h → Opening h to y →
+      All (Has P.nullable) y → Carries P h.row to
+  carries_open h to y ih u all = record {
     state = h.state;
     item = h.item;
     place = ih;
     on = λ n j a pj sp. (let ta = spread_token P.grammar.bare f P.states (goto_of P.gotos)
         fit.states gotos h.state h.item.rule h.item.dot a sp in
-        opened_on h.state n to a h.item k j s y a sp e
+        opened_on h.state n to a h.item u.opened j u.symbol y a sp u.dotted
         (last_first P.grammar.bare f P.nullable P.first fit.nullable_exact fit.first_exact y a a
-        ta ta all refl) pk o pj);
+        ta ta all refl) u.place u.starts pj);
   }
 
   -- an item passes on all that it has to the item with its dot moved
@@ -199,16 +207,15 @@ module _ (P : Parts) (f : WellFormed P.grammar.bare) (fit : FitParts P) where
           (same k z.1) r)
 
   -- other items of the row that is opened
-  pub opens_by : (d : DraftValue) (h : Here) (k : Item) (s to : ℕ) (y : List ℕ) → drop h.item.dot
-      (body_of P.grammar.bare h.item.rule) ≡ s ∷ y → PlaceIn P h.state k to →
-      Starts P.grammar.bare s k → GivesForm P d y h.row to → OpensAt P d h.state h.item h.row
-  opens_by d h k s to y e pk o gives n t z ez pt =
-      let es : left_of P.grammar.bare n ≡ s = heads (left_of P.grammar.bare n) s z y
-      (drop h.item.dot (body_of P.grammar.bare h.item.rule)) ez e in
-      let ey : z ≡ y = tails (left_of P.grammar.bare n) s z y
-      (drop h.item.dot (body_of P.grammar.bare h.item.rule)) ez e in
-      let et : to ≡ t = (fit.places.rows h.state pk.state).shared k (record { rule = n; dot = 0 })
-      to t pk.at pt.at o.0 (refl, es ∙ sym o.1) in
+  pub opens_by : (d : DraftValue) (h : Here) (to : ℕ) (y : List ℕ) → Opening h to y →
+      GivesForm P d y h.row to → OpensAt P d h.state h.item h.row
+  opens_by d h to y u gives n t z ez pt =
+      let es : left_of P.grammar.bare n ≡ u.symbol = heads (left_of P.grammar.bare n) u.symbol z y
+      (drop h.item.dot (body_of P.grammar.bare h.item.rule)) ez u.dotted in
+      let ey : z ≡ y = tails (left_of P.grammar.bare n) u.symbol z y
+      (drop h.item.dot (body_of P.grammar.bare h.item.rule)) ez u.dotted in
+      let et : to ≡ t = (fit.places.rows h.state u.place.state).shared u.opened
+      (record { rule = n; dot = 0 }) to t u.place.at pt.at u.starts.0 (refl, es ∙ sym u.starts.1) in
       subst (λ v. GivesForm P d v h.row t) (sym ey) (subst (λ v. GivesForm P d y h.row v) et gives)
 
   pub opens_nowhere : (d : DraftValue) (h : Here) → length (body_of P.grammar.bare h.item.rule) ≤
@@ -397,6 +404,12 @@ pub sound_rows : (P : Parts) (d : DraftValue) (m : BitRows) → SoundDraft P d �
     IsSized P.places.total P.grammar.bare.tokens m → SoundLooks P.grammar.bare (goto_of P.gotos)
     P.states P.places m → SoundDraft P (record { looks = m; links = d.links })
 sound_rows P d m s z w = record { sized = z; links = s.links; looks = w; carried = s.carried }
+
+-- the row of an item has a list of links
+pub row_linked : (P : Parts) → WellFormed P.grammar.bare → FitParts P → (d : DraftValue) →
+    SoundDraft P d → (h : Here) → IsHere P h → h.row < length d.links
+row_linked P f fit d s h ih = subst (λ k. h.row < k) (sym s.links.sized)
+    (place_below P f fit h.state h.item h.row ih)
 
 -- no links yet
 pub no_links : (P : Parts) (m : BitRows) (l : List (List ℕ)) → length l ≡ P.places.total →

@@ -5,7 +5,8 @@ use Rattle.std.proofs.Common.{arith}
 use Rattle.std.specs.List.{All}
 use Rattle.std.proofs.lemmas.List.Elements.{All-nil, All-cons}
 use Rattle.ygrammar.specs.Grammar.{ContextFree, left_of, body_of, IsToken}
-use Rattle.ygrammar.specs.Forms.{First, done}
+use Rattle.ygrammar.specs.Derivation.{done}
+use Rattle.ygrammar.specs.Forms.{First}
 use Rattle.ylalr.specs.Looks.{FormHas}
 use Rattle.ylalr.specs.Marks.{Has}
 use Rattle.ylalr.specs.Rows.{BitRows, Holds}

@@ -3,51 +3,26 @@
 use Rattle.std.proofs.Common.{ℕ, ◌≡◌, ◌<◌, ◌≤◌, List, [], ◌∷◌, ◌++◌, length, drop, subst, inl, inr}
 use Rattle.std.proofs.Common.{◌⊎◌, arith}
 use Rattle.std.specs.List.{All}
-use Rattle.std.proofs.lemmas.List.Elements.{All-nil, All-cons, All-head, All-tail, All-append}
-use Rattle.std.proofs.lemmas.List.Elements.{All-drop}
+use Rattle.std.proofs.lemmas.List.Elements.{All-head, All-tail, All-drop, All-weaker}
+use Rattle.ygrammar.specs.Derivation.{Derives}
 use Rattle.ygrammar.specs.Grammar.{ContextFree, left_of, body_of, IsToken, end_token}
-use Rattle.ygrammar.specs.Forms.{Derives, done, First}
+use Rattle.ygrammar.specs.Forms.{IsRule, First, Productive}
 use Rattle.ylalr.specs.Items.{Valid, start, closure, move}
 use Rattle.ygrammar.specs.WellFormed.{WellFormed}
-use Rattle.ylalr.proofs.Vanish.{derives_then, derives_before, derives_after}
+use Rattle.ygrammar.proofs.Derivations.{within, token_productive, words}
 use Rattle.ylalr.specs.Sets.{Closure, given, opened, Kernel, moved, Begin, begin}
 use Rattle.ylalr.proofs.Live.{Live}
 
--- a form that derives a list of tokens
-record Word (g : ContextFree) (x : List ℕ) : Type 0 where
-  word : List ℕ
-  tokens : All (IsToken g) word
-  derives : Derives g x word
-
-symbol_word : (g : ContextFree) → WellFormed g → (s : ℕ) → s < g.symbols → (s < g.tokens) ⊎
-    (g.tokens ≤ s) → Word g (s ∷ [])
-symbol_word g w s h (inl t) = record {
-  word = s ∷ [];
-  tokens = All-cons (IsToken g) s [] t
-      (All-nil (IsToken g));
-  derives = done;
-}
-symbol_word g w s h (inr t) = let p = w.productive s t h in
-    record { word = p.word; tokens = p.tokens; derives = p.derives }
+symbol_productive : (g : ContextFree) → WellFormed g → (s : ℕ) → s < g.symbols →
+    (s < g.tokens) ⊎ (g.tokens ≤ s) → Productive g s
+symbol_productive g w s h (inl t) = token_productive g s t
+symbol_productive g w s h (inr t) = w.productive s t h
 
 below_or : (a b : ℕ) → (a < b) ⊎ (b ≤ a)
 below_or a b = grind arith
 
-words : (g : ContextFree) → WellFormed g → (x : List ℕ) → All (λ s. s < g.symbols) x → Word g x
-words g w [] h = record { word = []; tokens = All-nil (IsToken g); derives = done }
-words g w (s ∷ x) h =
-    let a = symbol_word g w s (All-head (λ s. s < g.symbols) s x h) (below_or s g.tokens) in
-    let b = words g w x (All-tail (λ s. s < g.symbols) s x h) in
-    record {
-      word = a.word ++ b.word;
-      tokens = All-append (IsToken g) a.word b.word a.tokens
-          b.tokens;
-      derives = derives_then (derives_before a.derives x)
-          (derives_after a.word b.derives);
-    }
-
 front : (g : ContextFree) (x : List ℕ) (a : ℕ) (w : List ℕ) → All (IsToken g) w → IsToken g a →
-    Derives g x (w ++ a ∷ []) → (b : ℕ) × First g x b
+    Derives (IsRule g) x (w ++ a ∷ []) → (b : ℕ) × First g x b
 front g x a [] h k d = (a, record { token = k; rest = []; derives = d })
 front g x a (b ∷ w) h k d =
     (b, record { token = All-head (IsToken g) b w h; rest = w ++ a ∷ []; derives = d })
@@ -56,8 +31,9 @@ front g x a (b ∷ w) h k d =
 pub some_first : (g : ContextFree) → WellFormed g → (y : List ℕ) (a : ℕ) →
     All (λ s. s < g.symbols) y → IsToken g a → (b : ℕ) × First g (y ++ a ∷ []) b
 some_first g w y a h k =
-    let v = words g w y h in
-    front g (y ++ a ∷ []) a v.word v.tokens k (derives_before v.derives (a ∷ []))
+    let v = words g y (All-weaker (λ s. s < g.symbols) (Productive g)
+    (λ s k. symbol_productive g w s k (below_or s g.tokens)) y h) in
+    front g (y ++ a ∷ []) a v.word v.tokens k (within [] (a ∷ []) v.derives)
 
 pub valid_token : {g : ContextFree} {p : List ℕ} {r d a : ℕ} → WellFormed g → Valid g p r d a →
     IsToken g a

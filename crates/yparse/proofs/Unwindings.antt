@@ -5,9 +5,10 @@ use Rattle.std.proofs.Common.{append-nil, arith}
 use Rattle.std.specs.List.{All}
 use Rattle.std.proofs.lemmas.List.Elements.{All-head, All-tail, All-cons, All-nil}
 use Rattle.std.proofs.lemmas.List.{reverse-reverse}
+use Rattle.ygrammar.specs.Derivation.{Replaces}
 use Rattle.ygrammar.specs.Grammar.{ContextFree, left_of, body_of, IsToken, end_token, error_token}
 use Rattle.ygrammar.specs.Grammar.{start_of}
-use Rattle.ygrammar.specs.Forms.{Replaces, IsRightmostRun, last_of}
+use Rattle.ygrammar.specs.Forms.{IsRule, IsRightmostRun, last_of}
 use Rattle.ygrammar.specs.WellFormed.{WellFormed}
 use Rattle.ylalr.specs.Items.{start}
 use Rattle.yparse.specs.declared.machine.Mode.{Mode}
@@ -24,6 +25,7 @@ use Rattle.yparse.specs.Rightmost.{AreInput, UnwindsRight}
 use Rattle.std.specs.Prelude.{nat_lt}
 use Rattle.std.proofs.lemmas.Bool.{ltb-true}
 use Rattle.yparse.specs.Tables.{is_input}
+use Rattle.ygrammar.proofs.Derivations.{rule_is}
 use Rattle.yparse.proofs.Ends.{first, second}
 use Rattle.yparse.proofs.Prefixes.{reverse_push, Viable, viable, viable_expected, expects_last}
 use Rattle.yparse.proofs.Prefixes.{handle, at_accept}
@@ -163,18 +165,19 @@ module _ (g : ContextFree) (m : Machine) (w : WellFormed g) (s : IsSound g m) wh
   -- an undone reduction replaces its left side, with tokens alone behind it
   pub form_replaced : {c n : Configuration} {k : StepKind} (later : List ℕ) → Stepped m c k n
       → is_reduction k ≡ true → All (IsToken g) later
-      → (s : Replaces g (form_of n later) (form_of c (shifts_from k later)))
+      → (s : Replaces (IsRule g) (form_of n later) (form_of c (shifts_from k later)))
       × All (IsToken g) s.after
   form_replaced {c = c} {n = n} later (reduces r d h k st re mo) y a =
       let f = found c (lookahead c.rest) r h in (
         record {
           before = reverse f.below;
+          symbol = left_of g r;
+          body = body_of g r;
           after = later;
-          rule = r;
-          within = f.within;
-          source = ap (λ z. z ++ later) (st ∙ f.left)
+          rule = rule_is g r f.within;
+          from = ap (λ z. z ++ later) (st ∙ f.left)
               ∙ append_assoc (reverse f.below) (left_of g r ∷ []) later;
-          target = ap (λ z. form_of c (shifts_from z later)) k
+          to = ap (λ z. form_of c (shifts_from z later)) k
               ∙ (ap (λ z. z ++ later) f.parts ∙ append_assoc (reverse f.below) (body_of g r) later);
         },
         a,

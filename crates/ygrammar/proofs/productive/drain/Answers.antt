@@ -1,6 +1,6 @@
 use Rattle.std.proofs.Common.{◌≡◌, ◌<◌, length, subst, arith}
 use Rattle.std.proofs.lemmas.List.{get_or_read}
-use Rattle.ygrammar.specs.Marking.{IsSettled, list_at, lists_of, rule_at}
+use Rattle.ygrammar.specs.Marking.{IsSettled, left_symbols, list_at, lists_of, rule_at}
 use Rattle.ygrammar.proofs.MarkingSteps.{grows_then}
 use Rattle.ygrammar.proofs.DrainSteps.{drain_next, list_read, listed_within, taken_in}
 use Rattle.ygrammar.proofs.productive.drain.Goals.{After-index-s, After-deref}
@@ -25,8 +25,8 @@ index-requires c =
 pub visit_listed-requires-clause-listed : goal.visit_listed-requires-clause-listed
 visit_listed-requires-clause-listed c =
     let here = goal.at.visit_listed-requires-clause-listed c in
-    listed_within _ _ _ _ _ _
-    (taken here.After-deref (inside here.After-index-s)) c.in_ok-places.ensures
+    λ k h. (listed_within _ _ _ _ _ _
+    (taken here.After-deref (inside here.After-index-s)) c.in_ok-places.ensures k h).0
 
 pub loop-done-preserved : goal.loop-done-preserved
 loop-done-preserved c =
@@ -39,8 +39,8 @@ loop-done-preserved c =
       grows = grows_then c.loop-done.invariant.grows g;
       dots = c.in_ok-visit_listed.ensures.dots;
       list = g.list c.loop-done.invariant.list;
-      settled = drain_next _ _ _ _ _ _ _ (taken here.After-deref (inside here.After-index-s)) e
-          c.in_ok-places.ensures g (omega arith)
+      settled = drain_next _ _ _ _ _ _ (taken here.After-deref (inside here.After-index-s))
+          c.in_ok-places.ensures left_symbols _ e g (omega arith)
           (c.in_ok-visit_listed.ensures.settled _ (omega arith)) c.loop-done.invariant.settled;
       sound = λ tokens symbols f. c.in_ok-visit_listed.ensures.sound tokens symbols
           (c.loop-done.invariant.sound tokens symbols f);

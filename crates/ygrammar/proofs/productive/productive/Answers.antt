@@ -1,7 +1,8 @@
 use Rattle.std.proofs.Common.{length, arith}
 use Rattle.ygrammar.specs.Marking.{numbered_grammar}
 use Rattle.ygrammar.proofs.DrainSteps.{worklist_none}
-use Rattle.ygrammar.proofs.ProductiveSteps.{all_marked, token_productive}
+use Rattle.ygrammar.proofs.Derivations.{token_productive}
+use Rattle.ygrammar.proofs.ProductiveSteps.{all_marked}
 use Rattle.ygrammar.proofs.productive.productive.Goals as goal
 
 pub drain-requires-clause-list : goal.drain-requires-clause-list

@@ -1,5 +1,6 @@
 use Rattle.std.proofs.Common.{List, Bool, ◌<◌, length, subst, slice_index}
-use Rattle.ygrammar.specs.Marking.{DotFits, IsUnmarked, rule_at}
+use Rattle.ygrammar.specs.Marking.{DotFits, IsMarked, IsUnmarked, marked, rule_at}
+use Rattle.ygrammar.proofs.MarkingSteps.{alone}
 use Rattle.ygrammar.proofs.DotSteps.{stuck_at, whole_marked}
 use Rattle.ygrammar.proofs.ProductiveSteps.{left_marked}
 use Rattle.ygrammar.proofs.productive.visit.Goals as goal
@@ -16,6 +17,13 @@ returns-in_ok-mark-clause-sound c = λ tokens symbols f.
     c.requires.within c.left_at.ensures
     (whole_marked (rule_at rs c.args.r) m dot body c.body_at-body.ensures fits
     c.if-dot-body.true) c.in_ok-mark.ensures.only f
+
+pub returns-in_ok-mark-clause-settled : goal.returns-in_ok-mark-clause-settled
+returns-in_ok-mark-clause-settled c = λ taken.
+    let p = rule_at c.args.rules.now c.args.r in
+    let m = c.mark.new.marks.items in
+    marked (alone (IsMarked m) p.left (subst (IsMarked m) c.left_at.ensures
+    c.in_ok-mark.ensures.marked))
 
 pub returns-else-dot-body-clause-settled : goal.returns-else-dot-body-clause-settled
 returns-else-dot-body-clause-settled c = λ taken.

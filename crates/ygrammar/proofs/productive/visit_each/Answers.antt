@@ -1,6 +1,6 @@
-use Rattle.std.proofs.Common.{ℕ, arith, below_more}
+use Rattle.std.proofs.Common.{ℕ, ◌∷◌, [], arith, below_more}
 use Rattle.ygrammar.specs.Marking.{IsSettled, rule_at}
-use Rattle.ygrammar.proofs.MarkingSteps.{grows_then, settled_grows}
+use Rattle.ygrammar.proofs.MarkingSteps.{grows_then, closed_grows}
 use Rattle.ygrammar.proofs.productive.visit_each.Goals as goal
 
 pub loop-r-preserved : goal.loop-r-preserved
@@ -11,7 +11,8 @@ loop-r-preserved c =
       grows = grows_then c.loop-r.invariant.grows g;
       dots = c.in_ok-visit.ensures.dots;
       settled = below_more (λ (k : ℕ). IsSettled (rule_at rs k) c.visit.new.marks.items
-          c.visit.new.order.items 0) c.loop-r.r (λ k h. settled_grows (rule_at rs k) 0 g
+          c.visit.new.order.items 0) c.loop-r.r (λ k h. closed_grows (rule_at rs k).body
+          ((rule_at rs k).left ∷ []) 0 g
           (omega arith) (c.loop-r.invariant.settled k h)) (c.in_ok-visit.ensures.settled 0);
       sound = λ tokens symbols f. c.in_ok-visit.ensures.sound tokens symbols
           (c.loop-r.invariant.sound tokens symbols f);

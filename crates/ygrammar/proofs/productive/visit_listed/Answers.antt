@@ -1,6 +1,6 @@
-use Rattle.std.proofs.Common.{ℕ, slice_index, arith, below_more}
+use Rattle.std.proofs.Common.{ℕ, ◌∷◌, [], slice_index, arith, below_more}
 use Rattle.ygrammar.specs.Marking.{IsSettled, rule_at}
-use Rattle.ygrammar.proofs.MarkingSteps.{grows_then, settled_grows}
+use Rattle.ygrammar.proofs.MarkingSteps.{grows_then, closed_grows}
 use Rattle.ygrammar.proofs.productive.visit_listed.Goals as goal
 
 pub loop-r-preserved : goal.loop-r-preserved
@@ -14,7 +14,8 @@ loop-r-preserved c =
       dots = c.in_ok-visit.ensures.dots;
       settled = λ taken t. below_more (λ (k : ℕ). IsSettled (rule_at rs (slice_index xs k))
           c.visit.new.marks.items c.visit.new.order.items taken) c.loop-r.r-index
-          (λ k h. settled_grows (rule_at rs (slice_index xs k)) taken g (omega (arith, longer, t))
+          (λ k h. closed_grows (rule_at rs (slice_index xs k)).body
+          ((rule_at rs (slice_index xs k)).left ∷ []) taken g (omega (arith, longer, t))
           (c.loop-r.invariant.settled taken t k h)) (c.in_ok-visit.ensures.settled taken);
       sound = λ tokens symbols f. c.in_ok-visit.ensures.sound tokens symbols
           (c.loop-r.invariant.sound tokens symbols f);

@@ -1,9 +1,11 @@
 use Rattle.std.proofs.Common.{◌≡◌, ◌<◌, length, sym, subst, arith}
 use Rattle.std.proofs.lemmas.List.{get_or_read}
 use Rattle.ygrammar.specs.Forms.{IsReachable}
-use Rattle.ygrammar.specs.Marking.{IsMarked, numbered_grammar, list_at, lists_of}
+use Rattle.ygrammar.specs.Marking.{IsMarked, IsSpread, body_symbols, numbered_grammar, list_at}
+use Rattle.ygrammar.specs.Marking.{lists_of, rule_at}
 use Rattle.ygrammar.proofs.MarkingSteps.{grows_then}
-use Rattle.ygrammar.proofs.DrainSteps.{left_listed, list_read, spread_more, taken_in}
+use Rattle.ygrammar.proofs.DrainSteps.{contains_alone, drain_next, list_read, listed_within}
+use Rattle.ygrammar.proofs.DrainSteps.{taken_in}
 use Rattle.ygrammar.proofs.reachable.spread.Goals.{After-index-s, After-deref}
 use Rattle.ygrammar.proofs.reachable.spread.Goals as goal
 
@@ -26,9 +28,15 @@ index-requires c =
 pub mark_bodies-requires-clause-listed : goal.mark_bodies-requires-clause-listed
 mark_bodies-requires-clause-listed c =
     let here = goal.at.mark_bodies-requires-clause-listed c in
-    λ k h. (left_listed _ _ _ _ _ _
+    λ k h. (listed_within _ _ _ _ _ _
     (taken here.After-deref (inside here.After-index-s))
     c.in_ok-by_left.ensures k h).0
+
+pub returns-clause-spread : goal.returns-clause-spread
+returns-clause-spread c =
+    subst (λ n. (r : _) → r < length c.args.rules.now → IsSpread (rule_at c.args.rules.now r)
+    c.loop-done.marks.items c.loop-done.order.items n) (omega (arith, c.loop-done.invariant.taken))
+    c.loop-done.invariant.spread
 
 pub loop-done-preserved : goal.loop-done-preserved
 loop-done-preserved c =
@@ -41,13 +49,13 @@ loop-done-preserved c =
       taken = omega (arith, g.longer);
       grows = grows_then c.loop-done.invariant.grows g;
       list = g.list c.loop-done.invariant.list;
-      spread = spread_more _ _ _ _ _ _ _ l e c.in_ok-by_left.ensures g (omega arith)
+      spread = drain_next _ _ _ _ _ _ l c.in_ok-by_left.ensures body_symbols _ e g (omega arith)
           (c.in_ok-mark_bodies.ensures.spread _) c.loop-done.invariant.spread;
       sound = λ tokens symbols f.
           let before = c.loop-done.invariant.sound tokens symbols f in
           c.in_ok-mark_bodies.ensures.sound tokens symbols
           (λ k h. subst (IsReachable (numbered_grammar tokens symbols c.args.rules.now))
-          (sym (left_listed _ _ _ _ _ _ l c.in_ok-by_left.ensures k h).1)
+          (sym (contains_alone (listed_within _ _ _ _ _ _ l c.in_ok-by_left.ensures k h).1))
           (before _ (subst (IsMarked c.loop-done.marks.items) (sym e)
           (c.loop-done.invariant.list.marked _ (omega arith))))) before;
     }

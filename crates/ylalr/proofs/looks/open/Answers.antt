@@ -1,11 +1,13 @@
-use Rattle.std.proofs.Common.{ℕ, ◌≡◌, ◌<◌, ◌∷◌, ◌∙◌, List, drop, suc, refl, sym, ap, subst}
+use Rattle.std.proofs.Common.{ℕ, ◌<◌, ◌∷◌, ◌∙◌, List, drop, suc, refl, sym, ap, subst}
 use Rattle.ygrammar.specs.Grammar.{body_of}
-use Rattle.ylalr.specs.Draft.{DraftValue, SoundDraft, Further, PlaceIn}
+use Rattle.ylalr.specs.Draft.{DraftValue, SoundDraft, Further}
 use Rattle.ylalr.specs.Rows.{IsSized}
 use Rattle.ylalr.proofs.DraftSteps.{rule_below, place_below, opens_none, opens_nowhere, opens_by}
-use Rattle.ylalr.proofs.DraftSteps.{sound_begun, carries_open, sound_linked, sound_rows}
+use Rattle.ylalr.proofs.DraftSteps.{Opening, row_linked, sound_begun, carries_open, sound_linked}
+use Rattle.ylalr.proofs.DraftSteps.{sound_rows}
 use Rattle.ylalr.proofs.Growth.{sized_then}
 use Rattle.ylalr.proofs.LinkSteps.{link_there, link_kept}
+use Rattle.ylalr.proofs.looks.open.Goals.{After-add_form}
 use Rattle.ylalr.proofs.looks.open.Goals as goal
 
 pub symbol_after-requires : goal.symbol_after-requires
@@ -42,43 +44,58 @@ add_form-requires-clause-to_in c =
 pub push-requires : goal.push-requires
 push-requires c =
     let P = c.args.parts.now in
-    let h = c.args.here in
-    let s : SoundDraft P (record { looks = c.draft.inside.looks; links = c.draft.inside.links }) =
-    subst (SoundDraft P) (sym c.draft.view_is) c.requires.sound in
-    subst (λ k. h.row < k) (sym s.links.sized) (place_below P c.requires.fit.well_formed
-    c.requires.fit h.state h.item h.row c.requires.here)
+    row_linked P c.requires.fit.well_formed c.requires.fit _
+    (subst (SoundDraft P) (sym c.draft.view_is) c.requires.sound) c.args.here c.requires.here
+
+-- what is opened
+opening : (c : After-add_form) → Opening c.args.parts.now c.requires.fit.well_formed c.requires.fit
+    c.args.here c.in-Some-get.to c.form_after-form.result.now
+opening c =
+    let z = c.requires.lefts.found c.in-Some.next c.in-Some-get.to
+    (sym c.get.ensures ∙ c.in-Some-get.is) in
+    record {
+      symbol = c.in-Some.next;
+      dotted = c.in-Some.ensures.1 ∙ ap (λ (v : List ℕ). c.in-Some.next ∷ v)
+          (sym c.form_after-form.ensures.value);
+      opened = z.0;
+      place = record { state = c.requires.here.state; at = z.1 };
+      starts = z.2;
+    }
+
+-- the draft before
+abbrev drafted : After-add_form → DraftValue
+drafted c = record { looks = c.draft.inside.looks; links = c.draft.inside.links }
+
+sound_before : (c : After-add_form) → SoundDraft c.args.parts.now (drafted c)
+sound_before c = subst (SoundDraft c.args.parts.now) (sym c.draft.view_is) c.requires.sound
 
 pub returns-in_ok-push : goal.returns-in_ok-push
 returns-in_ok-push c =
+    let at = (goal.at.returns-in_ok-push c).After-add_form in
     let P = c.args.parts.now in
     let f = c.requires.fit.well_formed in
     let fit = c.requires.fit in
     let h = c.args.here in
     let here = c.requires.here in
-    let d : DraftValue = record { looks = c.draft.inside.looks; links = c.draft.inside.links } in
-    let sd : SoundDraft P d = subst (SoundDraft P) (sym c.draft.view_is) c.requires.sound in
+    let d = drafted at in
+    let sd = sound_before at in
     let n : DraftValue = record { looks = c.add_form.new.looks; links = c.push.new.self } in
-    let next = c.in-Some.next in
     let to = c.in-Some-get.to in
     let y = c.form_after-form.result.now in
-    let e : drop h.item.dot (body_of P.grammar.bare h.item.rule) ≡ next ∷ y = c.in-Some.ensures.1 ∙
-    ap (λ (v : List ℕ). next ∷ v) (sym c.form_after-form.ensures.value) in
-    let z = c.requires.lefts.found next to (sym c.get.ensures ∙ c.in-Some-get.is) in
-    let pk : PlaceIn P h.state z.0 to = record { state = here.state; at = z.1 } in
+    let u = opening at in
     let a = c.add_form.ensures in
-    let hf = place_below P f fit h.state h.item h.row here in
-    let hl = subst (λ k. h.row < k) (sym sd.links.sized) hf in
+    let hl = row_linked P f fit d sd h here in
     record {
       sound = sound_linked P d n.looks n.links h.row to sd (sized_then sd.sized a.sized)
-          (sound_begun P f fit d n.looks h z.0 next to y sd.looks here e pk z.2 a.sound) hf
-          (place_below P f fit h.state z.0 to pk) c.in_ok-push.ensures
-          (carries_open P f fit h z.0 next to y here e pk z.2
-          (c.if-add_form.ensures.vanishes.0 refl));
+          (sound_begun P f fit d n.looks h to y sd.looks here u a.sound)
+          (place_below P f fit h.state h.item h.row here)
+          (place_below P f fit h.state u.opened to u.place) c.in_ok-push.ensures
+          (carries_open P f fit h to y here u (c.if-add_form.ensures.vanishes.0 refl));
       further = subst (λ (v : DraftValue). Further v n) c.draft.view_is (record {
         looks = a.grows;
         links = link_kept d.links n.links h.row to hl c.in_ok-push.ensures;
       });
-      opens = opens_by P f fit n h z.0 next to y e pk z.2 (record {
+      opens = opens_by P f fit n h to y u (record {
         begun = a.every;
         linked =
             λ _. link_there d.links n.links h.row to hl c.in_ok-push.ensures;
@@ -87,30 +104,25 @@ returns-in_ok-push c =
 
 pub returns-else-add_form : goal.returns-else-add_form
 returns-else-add_form c =
+    let at = (goal.at.returns-else-add_form c).After-add_form in
     let P = c.args.parts.now in
     let f = c.requires.fit.well_formed in
     let fit = c.requires.fit in
     let h = c.args.here in
-    let here = c.requires.here in
-    let d : DraftValue = record { looks = c.draft.inside.looks; links = c.draft.inside.links } in
-    let sd : SoundDraft P d = subst (SoundDraft P) (sym c.draft.view_is) c.requires.sound in
+    let d = drafted at in
+    let sd = sound_before at in
     let n : DraftValue = record { looks = c.add_form.new.looks; links = d.links } in
-    let next = c.in-Some.next in
     let to = c.in-Some-get.to in
     let y = c.form_after-form.result.now in
-    let e : drop h.item.dot (body_of P.grammar.bare h.item.rule) ≡ next ∷ y = c.in-Some.ensures.1 ∙
-    ap (λ (v : List ℕ). next ∷ v) (sym c.form_after-form.ensures.value) in
-    let z = c.requires.lefts.found next to (sym c.get.ensures ∙ c.in-Some-get.is) in
-    let pk : PlaceIn P h.state z.0 to = record { state = here.state; at = z.1 } in
     let a = c.add_form.ensures in
     record {
       sound = sound_rows P d n.looks sd (sized_then sd.sized a.sized)
-          (sound_begun P f fit d n.looks h z.0 next to y sd.looks here e pk z.2 a.sound);
+          (sound_begun P f fit d n.looks h to y sd.looks c.requires.here (opening at) a.sound);
       further = subst (λ (v : DraftValue). Further v n) c.draft.view_is (record {
         looks = a.grows;
         links = λ p t l. l;
       });
-      opens = opens_by P f fit n h z.0 next to y e pk z.2 (record {
+      opens = opens_by P f fit n h to y (opening at) (record {
         begun = a.every;
         linked =
             λ all. absurd (let x = c.if-add_form.ensures.vanishes.1 all in cc);

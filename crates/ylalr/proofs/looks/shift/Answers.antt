@@ -1,19 +1,16 @@
-use Rattle.std.proofs.Common.{◌<◌, sym, subst}
+use Rattle.std.proofs.Common.{sym, subst}
 use Rattle.ylalr.specs.Sets.{step_of}
 use Rattle.ylalr.specs.Draft.{DraftValue, SoundDraft, Further}
 use Rattle.ylalr.proofs.DraftSteps.{place_below, carries_shift, shifts_by, shifts_none}
-use Rattle.ylalr.proofs.DraftSteps.{sound_linked}
+use Rattle.ylalr.proofs.DraftSteps.{row_linked, sound_linked}
 use Rattle.ylalr.proofs.LinkSteps.{link_there, link_kept}
 use Rattle.ylalr.proofs.looks.shift.Goals as goal
 
 pub push-requires : goal.push-requires
 push-requires c =
     let P = c.args.parts.now in
-    let h = c.args.here in
-    let sd : SoundDraft P (record { looks = c.draft.inside.looks; links = c.draft.inside.links }) =
-    subst (SoundDraft P) (sym c.draft.view_is) c.requires.sound in
-    subst (λ k. h.row < k) (sym sd.links.sized) (place_below P c.requires.fit.well_formed
-    c.requires.fit h.state h.item h.row c.requires.here)
+    row_linked P c.requires.fit.well_formed c.requires.fit _
+    (subst (SoundDraft P) (sym c.draft.view_is) c.requires.sound) c.args.here c.requires.here
 
 pub returns-in_ok-push : goal.returns-in_ok-push
 returns-in_ok-push c =
@@ -26,10 +23,10 @@ returns-in_ok-push c =
     let n : DraftValue = record { looks = d.looks; links = c.push.new.self } in
     let to = c.in-Some.to in
     let moved = c.in-Some.ensures in
-    let hf = place_below P f fit h.state h.item h.row c.requires.here in
-    let hl = subst (λ k. h.row < k) (sym sd.links.sized) hf in
+    let hl = row_linked P f fit d sd h c.requires.here in
     record {
-      sound = sound_linked P d d.looks n.links h.row to sd sd.sized sd.looks hf
+      sound = sound_linked P d d.looks n.links h.row to sd sd.sized sd.looks
+          (place_below P f fit h.state h.item h.row c.requires.here)
           (place_below P f fit moved.target (step_of h.item) to moved.place) c.in_ok-push.ensures
           (carries_shift P f fit h to c.requires.here moved);
       further = subst (λ (v : DraftValue). Further v n) c.draft.view_is (record {
