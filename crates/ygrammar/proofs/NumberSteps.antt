@@ -1,21 +1,23 @@
--- Marks for the numbers that are taken, and the least numbers that are free.
-use Rattle.std.proofs.Common.{ℕ, zero, suc, Bool, true, false, ◌≡◌, ◌≢◌, ◌<◌, ◌≤◌, ◌+◌, ◌⊎◌, ◌↔◌}
+-- The holders of the numbers, and the least numbers that are free.
+use Rattle.std.proofs.Common.{ℕ, zero, suc, Bool, true, false, ◌≡◌, ◌≢◌, ◌<◌, ◌≤◌, ◌+◌, ◌⊎◌}
 use Rattle.std.proofs.Common.{inl, inr, max, List, [], ◌∷◌, ◌++◌, length, Option, Some, None, refl}
 use Rattle.std.proofs.Common.{sym, ◌∙◌, ap, subst, arith, get_or, get_or-set_same, get_or-set_other}
-use Rattle.std.proofs.Common.{length-set, length-append, replicate}
+use Rattle.std.proofs.Common.{length-set, length-append, replicate, cond, ◌==◌}
 use Rattle.std.proofs.Math.ListN.{set}
 use Rattle.std.specs.List.{slice_get}
+use Rattle.std.proofs.lemmas.Bool.Decides.{nat_tests}
 use Rattle.std.proofs.lemmas.Option.{slice_get_within, slice_get-get_or}
-use Rattle.ygrammar.specs.Numbers.{AreNumbers, Clashes, IsLeast, IsOwn, MarksBelow, MarksOwn}
+use Rattle.ygrammar.specs.declared.holders.Holders.{Holders}
+use Rattle.ygrammar.specs.declared.holders.Holders.TheVariants.{Nobody, One, Several}
+use Rattle.ygrammar.specs.Numbers.{AreHolders, AreNumbers, Clashes, IsHolders, IsLeast, IsOwn}
+use Rattle.ygrammar.specs.Numbers.{is_held, with_holder}
 use Rattle.ygrammar.proofs.TellingSteps.{false_true}
 
--- the marks tell the first i numbers
-pub record Marking (count : ℕ) (own : List (Option ℕ)) (marks : List Bool) (i : ℕ) : Type 0 where
-  pub each : length marks ≡ count
-  pub exact : (m : ℕ) → (get_or marks m false ≡ true) ↔ ((j : ℕ) × (j < i) ×
-      (slice_get own j ≡ Some (Some m)))
-  pub apart : (a b m : ℕ) → a < b → b < i → slice_get own a ≡ Some (Some m) → slice_get own b ≡ Some
-      (Some m) → ⊥
+-- Of each number the holders among the first i tokens.
+pub record Holding (count : ℕ) (own : List (Option ℕ)) (table : List Holders) (i : ℕ) : Type 0 where
+  pub each : length table ≡ count
+  pub exact : (m : ℕ) → IsHolders (get_or table m Nobody)
+      (λ k. (k < i) × (slice_get own k ≡ Some (Some m)))
 
 pub some_one : {a b : ℕ} → (x y : Option ℕ) → x ≡ Some a → y ≡ Some b → x ≡ y → a ≡ b
 some_one {a = a} {b = b} x y e f h = ap (λ (o : Option ℕ). elim o [ None ↦ a | Some n ↦ n ])
@@ -39,109 +41,166 @@ last_or j i h = grind (arith)
 same_or : (a b : ℕ) → (a ≡ b) ⊎ (a ≢ b)
 same_or a b = grind arith
 
-nothing_marked : (n m : ℕ) → get_or (replicate n false) m false ≡ false
-nothing_marked zero m = refl
-nothing_marked (suc n) zero = refl
-nothing_marked (suc n) (suc m) = nothing_marked n m
+-- ---- holders
 
-length_replicate : (n : ℕ) → length (replicate n false) ≡ n
+-- the same tokens hold it
+pub same_holders : (h : Holders) (P Q : ℕ → Type 0) → ((k : ℕ) → P k → Q k) →
+    ((k : ℕ) → Q k → P k) → IsHolders h P → IsHolders h Q
+same_holders Nobody P Q f g s = λ k q. s k (g k q)
+same_holders (One a) P Q f g s = (f a s.0, λ k q. s.1 k (g k q))
+same_holders Several P Q f g (j, k, d, p, q) = (j, k, d, f j p, f k q)
+
+-- one more token holds it
+pub one_more : (h : Holders) (i : ℕ) (P Q : ℕ → Type 0) → ((k : ℕ) → P k → Q k) → Q i →
+    ((k : ℕ) → Q k → P k ⊎ (k ≡ i)) → IsHolders h P → IsHolders (with_holder h i) Q
+one_more Nobody i P Q f here g s = (here, λ j q. only j (g j q))
+  where
+    only : (j : ℕ) → P j ⊎ (j ≡ i) → j ≡ i
+    only j (inl p) = absurd (s j p)
+    only j (inr e) = e
+one_more (One a) i P Q f here g s = go (a == i) refl
+  where
+    same : (x y : ℕ) → (x == y) ≡ true → x ≡ y
+    same x y h = grind (arith, nat_tests)
+
+    other : (x y : ℕ) → (x == y) ≡ false → x ≢ y
+    other x y h = grind (arith, nat_tests)
+
+    only : a ≡ i → (j : ℕ) → P j ⊎ (j ≡ i) → j ≡ a
+    only e j (inl p) = s.1 j p
+    only e j (inr d) = d ∙ sym e
+
+    go : (b : Bool) → (a == i) ≡ b → IsHolders (cond (a == i) (One a) Several) Q
+    go true e = subst (λ b. IsHolders (cond b (One a) Several) Q) (sym e)
+        (f a s.0, λ j q. only (same a i e) j (g j q))
+    go false e = subst (λ b. IsHolders (cond b (One a) Several) Q) (sym e)
+        (a, i, other a i e, f a s.0, here)
+one_more Several i P Q f here g (j, k, d, p, q) = (j, k, d, f j p, f k q)
+
+-- a number that is held has a holder
+pub holder_of : (h : Holders) (P : ℕ → Type 0) → is_held h ≡ true → IsHolders h P → (k : ℕ) × P k
+holder_of Nobody P e s = absurd (false_true e)
+holder_of (One k) P e s = (k, s.0)
+holder_of Several P e (j, k, d, p, q) = (j, p)
+
+-- a number that has a holder is held
+pub held_by : (h : Holders) (P : ℕ → Type 0) (k : ℕ) → P k → IsHolders h P → is_held h ≡ true
+held_by Nobody P k p s = absurd (s k p)
+held_by (One j) P k p s = refl
+held_by Several P k p s = refl
+
+-- where two hold it, several do
+pub several_hold : (h : Holders) (P : ℕ → Type 0) (j k : ℕ) → j ≢ k → P j → P k → IsHolders h P →
+    h ≡ Several
+several_hold Nobody P j k d p q s = absurd (s j p)
+several_hold (One a) P j k d p q s = absurd (d (s.1 j p ∙ sym (s.1 k q)))
+several_hold Several P j k d p q s = refl
+
+nobody_holds : (n m : ℕ) → get_or (replicate n Nobody) m Nobody ≡ Nobody
+nobody_holds zero m = refl
+nobody_holds (suc n) zero = refl
+nobody_holds (suc n) (suc m) = nobody_holds n m
+
+length_replicate : (n : ℕ) → length (replicate n Nobody) ≡ n
 length_replicate zero = refl
 length_replicate (suc n) = ap (λ k. suc k) (length_replicate n)
 
-pub marks_none : (count : ℕ) (own : List (Option ℕ)) (marks : List Bool) →
-    marks ≡ replicate count false → Marking count own marks 0
-marks_none count own marks e = record {
+pub holders_none : (count : ℕ) (own : List (Option ℕ)) (table : List Holders) →
+    table ≡ replicate count Nobody → Holding count own table 0
+holders_none count own table e = record {
   each = ap length e ∙ length_replicate count;
-  exact = λ m. (
-    λ h. absurd
-        (false_true (sym (ap (λ (t : List Bool). get_or t m false) e ∙ nothing_marked count m) ∙
-        h)),
-    λ p. let (j, l, q) = p in absurd (omega arith),
-  );
-  apart = λ a b m h l. absurd (omega arith);
+  exact = λ m. subst (λ h. IsHolders h (λ k. (k < 0) × (slice_get own k ≡ Some (Some m))))
+      (sym (ap (λ (t : List Holders). get_or t m Nobody) e ∙ nobody_holds count m))
+      (λ k p. let l = p.0 in absurd (omega arith));
 }
 
-pub marks_skip : (count : ℕ) (own : List (Option ℕ)) (marks : List Bool) (i : ℕ) →
-    slice_get own i ≡ Some None → Marking count own marks i → Marking count own marks (i + 1)
-marks_skip count own marks i e s = record {
+pub holders_skip : (count : ℕ) (own : List (Option ℕ)) (table : List Holders) (i : ℕ) →
+    slice_get own i ≡ Some None → Holding count own table i → Holding count own table (i + 1)
+holders_skip count own table i e s = record {
   each = s.each;
-  exact = λ m. (λ h. let (j, l, q) = (s.exact m).0 h in (j, omega arith, q), λ p. back m p);
-  apart = λ a b m l h p q. apart_last a b m l (last_or b i h) p q;
+  exact = λ m. same_holders (get_or table m Nobody) _ _
+      (λ k p. let l = p.0 in (omega arith, p.1)) (λ k p. back m k (last_or k i p.0) p.1) (s.exact m);
 }
   where
-    back : (m : ℕ) → ((j : ℕ) × (j < i + 1) × (slice_get own j ≡ Some (Some m))) →
-        get_or marks m false ≡ true
-    back m p = go (last_or p.0 i p.1)
-      where
-        go : (p.0 < i) ⊎ (p.0 ≡ i) → get_or marks m false ≡ true
-        go (inl l) = (s.exact m).1 (p.0, l, p.2)
-        go (inr q) = absurd (not_both own i m e
-            (subst (λ j. slice_get own j ≡ Some (Some m)) q p.2))
+    back : (m k : ℕ) → (k < i) ⊎ (k ≡ i) → slice_get own k ≡ Some (Some m) →
+        (k < i) × (slice_get own k ≡ Some (Some m))
+    back m k (inl l) q = (l, q)
+    back m k (inr d) q = absurd (not_both own i m e
+        (subst (λ j. slice_get own j ≡ Some (Some m)) d q))
 
-    apart_last : (a b m : ℕ) → a < b → (b < i) ⊎ (b ≡ i) → slice_get own a ≡ Some (Some m) →
-        slice_get own b ≡ Some (Some m) → ⊥
-    apart_last a b m l (inl h) p q = s.apart a b m l h p q
-    apart_last a b m l (inr h) p q = not_both own i m e
-        (subst (λ j. slice_get own j ≡ Some (Some m)) h q)
-
-pub marks_more : (count : ℕ) (own : List (Option ℕ)) (marks : List Bool) (i n : ℕ) →
-    slice_get own i ≡ Some (Some n) → n < length marks → get_or marks n false ≡ false →
-    Marking count own marks i → Marking count own (set marks n true) (i + 1)
-marks_more count own marks i n e within free s = record {
-  each = length-set marks n true ∙ s.each;
-  exact = λ m. (λ h. there m (same_or m n) h, λ p. back m (same_or m n) (last_or p.0 i p.1) p);
-  apart = λ a b m l h p q. apart_last a b m l (last_or b i h) p q;
+pub holders_more : (count : ℕ) (own : List (Option ℕ)) (table : List Holders) (i n : ℕ) →
+    slice_get own i ≡ Some (Some n) → n < length table → Holding count own table i →
+    Holding count own (set table n (with_holder (get_or table n Nobody) i)) (i + 1)
+holders_more count own table i n e within s = record {
+  each = length-set table n (with_holder (get_or table n Nobody) i) ∙ s.each;
+  exact = λ m. at m (same_or m n);
 }
   where
-    there : (m : ℕ) → (m ≡ n) ⊎ (m ≢ n) → get_or (set marks n true) m false ≡ true → (j : ℕ) ×
-        (j < i + 1) × (slice_get own j ≡ Some (Some m))
-    there m (inl q) h = (i, omega arith, subst (λ k. slice_get own i ≡ Some (Some k)) (sym q) e)
-    there m (inr q) h = let (j, l, p) =
-        (s.exact m).0 (sym (get_or-set_other marks n m true false q) ∙ h) in (j, omega arith, p)
+    more : (m k : ℕ) → (k < i) × (slice_get own k ≡ Some (Some m)) →
+        (k < i + 1) × (slice_get own k ≡ Some (Some m))
+    more m k p = let l = p.0 in (omega arith, p.1)
 
-    back : (m : ℕ) → (m ≡ n) ⊎ (m ≢ n) → {j : ℕ} → (j < i) ⊎ (j ≡ i) →
-        ((k : ℕ) × (k < i + 1) × (slice_get own k ≡ Some (Some m))) →
-        get_or (set marks n true) m false ≡ true
-    back m (inl q) d p = ap (λ k. get_or (set marks n true) k false) q ∙ get_or-set_same marks n
-        true false within
-    back m (inr q) d p = get_or-set_other marks n m true false q ∙ go (last_or p.0 i p.1)
-      where
-        go : (p.0 < i) ⊎ (p.0 ≡ i) → get_or marks m false ≡ true
-        go (inl l) = (s.exact m).1 (p.0, l, p.2)
-        go (inr x) = absurd (q (one_number own i m n
-            (subst (λ j. slice_get own j ≡ Some (Some m)) x p.2) e))
+    split : (k : ℕ) → (k < i) ⊎ (k ≡ i) → slice_get own k ≡ Some (Some n) →
+        ((k < i) × (slice_get own k ≡ Some (Some n))) ⊎ (k ≡ i)
+    split k (inl l) q = inl (l, q)
+    split k (inr d) q = inr d
 
-    apart_last : (a b m : ℕ) → a < b → (b < i) ⊎ (b ≡ i) → slice_get own a ≡ Some (Some m) →
-        slice_get own b ≡ Some (Some m) → ⊥
-    apart_last a b m l (inl h) p q = s.apart a b m l h p q
-    apart_last a b m l (inr h) p q =
-        let k : m ≡ n = one_number own i m n (subst (λ j. slice_get own j ≡ Some (Some m)) h q) e in
-        let t : get_or marks n false ≡ true = subst (λ x. get_or marks x false ≡ true) k
-        ((s.exact m).1 (a, subst (λ j. a < j) h l, p)) in
-        false_true (sym free ∙ t)
+    before : (m k : ℕ) → m ≢ n → (k < i) ⊎ (k ≡ i) → slice_get own k ≡ Some (Some m) →
+        (k < i) × (slice_get own k ≡ Some (Some m))
+    before m k d (inl l) q = (l, q)
+    before m k d (inr j) q =
+        absurd (d (one_number own i m n (subst (λ a. slice_get own a ≡ Some (Some m)) j q) e))
 
-pub clash_found : (count : ℕ) (own : List (Option ℕ)) (marks : List Bool) (i n : ℕ) →
-    slice_get own i ≡ Some (Some n) → get_or marks n false ≡ true → Marking count own marks i →
-    Clashes own
-clash_found count own marks i n e h s = let (j, l, q) = (s.exact n).0 h in (j, i, n, l, q, e)
+    at : (m : ℕ) → (m ≡ n) ⊎ (m ≢ n) →
+        IsHolders (get_or (set table n (with_holder (get_or table n Nobody) i)) m Nobody)
+        (λ k. (k < i + 1) × (slice_get own k ≡ Some (Some m)))
+    at m (inl d) =
+        subst (λ a. IsHolders (get_or (set table n (with_holder (get_or table n Nobody) i)) a Nobody)
+        (λ k. (k < i + 1) × (slice_get own k ≡ Some (Some a)))) (sym d)
+        (subst (λ h. IsHolders h (λ k. (k < i + 1) × (slice_get own k ≡ Some (Some n))))
+        (sym (get_or-set_same table n (with_holder (get_or table n Nobody) i) Nobody within))
+        (one_more (get_or table n Nobody) i _ _ (more n) (omega arith, e)
+        (λ k p. split k (last_or k i p.0) p.1) (s.exact n)))
+    at m (inr d) =
+        subst (λ h. IsHolders h (λ k. (k < i + 1) × (slice_get own k ≡ Some (Some m))))
+        (sym (get_or-set_other table n m (with_holder (get_or table n Nobody) i) Nobody d))
+        (same_holders (get_or table m Nobody) _ _ (more m)
+        (λ k p. before m k d (last_or k i p.0) p.1) (s.exact m))
 
-pub marks_all : (count : ℕ) (own : List (Option ℕ)) (marks : List Bool) (i : ℕ) → i ≡ length own →
-    Marking count own marks i → MarksBelow count own marks
-marks_all count own marks i e s = record {
+pub holders_all : (count : ℕ) (own : List (Option ℕ)) (table : List Holders) (i : ℕ) →
+    length own ≤ i → Holding count own table i → AreHolders count own table
+holders_all count own table i h s = record {
   each = s.each;
-  exact = λ m. (
-    λ h. let (j, l, q) = (s.exact m).0 h in
-        (j, q),
-    λ p. (s.exact m).1 (
-      p.0,
-      subst (λ n. p.0 < n) (sym e)
-          (slice_get_within own p.0 (Some m) p.1),
-      p.1,
-    ),
-  );
-  apart = λ c. let (a, b, m, l, p, q) = c in
-      s.apart a b m l (subst (λ n. b < n) (sym e) (slice_get_within own b (Some m) q)) p q;
+  exact = λ m. same_holders (get_or table m Nobody) _ _ (λ k p. p.1)
+      (λ k p. (let l = slice_get_within own k (Some m) p in omega arith, p)) (s.exact m);
 }
+
+-- a number that several tokens have by themselves
+pub clash_held : (h : Holders) (own : List (Option ℕ)) (m : ℕ) → h ≡ Several →
+    IsHolders h (λ k. slice_get own k ≡ Some (Some m)) → Clashes own
+clash_held Nobody own m e s = absurd (false_true (ap is_held e))
+clash_held (One a) own m e s = absurd (false_true (ap is_one (sym e)))
+  where
+    is_one : Holders → Bool
+    is_one Nobody = false
+    is_one (One k) = true
+    is_one Several = false
+clash_held Several own m e (j, k, d, p, q) = go (order_of j k) d
+  where
+    order_of : (a b : ℕ) → ((a < b) ⊎ (b < a)) ⊎ (a ≡ b)
+    order_of a b = grind (arith)
+
+    go : ((j < k) ⊎ (k < j)) ⊎ (j ≡ k) → j ≢ k → Clashes own
+    go (inl (inl l)) d = (j, k, m, l, p, q)
+    go (inl (inr l)) d = (k, j, m, l, q, p)
+    go (inr e) d = absurd (d e)
+
+-- no two tokens have one number, where several hold none
+pub none_clash : (count : ℕ) (own : List (Option ℕ)) (table : List Holders) →
+    AreHolders count own table → ((m : ℕ) → get_or table m Nobody ≡ Several → ⊥) → Clashes own → ⊥
+none_clash count own table s none (i, j, m, l, p, q) =
+    none m (several_hold (get_or table m Nobody) (λ k. slice_get own k ≡ Some (Some m)) i j
+    (λ e. absurd (omega arith)) p q (s.exact m))
 
 -- ---- numbers that are given out
 
@@ -248,15 +307,16 @@ numbers_own own ns new i cursor m e q s = subst (λ (xs : List ℕ). SoFar own x
     taken_more u (inl a) = inl a
     taken_more u (inr p) = inr (p.0, (let h = p.1 in omega arith), p.2, before p.0 p.1 ∙ p.3)
 
-pub numbers_free : (own : List (Option ℕ)) (marks : List Bool) (ns new : List ℕ) (i cursor m : ℕ) →
-    MarksOwn own marks → slice_get own i ≡ Some None → cursor ≤ m → m ≤ max cursor (length marks) →
-    get_or marks m false ≡ false → ((u : ℕ) → cursor ≤ u → u < m → get_or marks u false ≡ true) →
+pub numbers_free : (own : List (Option ℕ)) (table : List Holders) (ns new : List ℕ)
+    (i cursor m : ℕ) → AreHolders 32768 own table → slice_get own i ≡ Some None → cursor ≤ m →
+    m ≤ max cursor (length table) → is_held (get_or table m Nobody) ≡ false →
+    ((u : ℕ) → cursor ≤ u → u < m → is_held (get_or table u Nobody) ≡ true) →
     new ≡ ns ++ m ∷ [] → SoFar own ns i cursor → SoFar own new (i + 1) (m + 1)
-numbers_free own marks ns new i cursor m k e from bound free all q s =
+numbers_free own table ns new i cursor m k e from bound free all q s =
     subst (λ (xs : List ℕ). SoFar own xs (i + 1) (m + 1)) (sym q) (record {
       each = length_push ns m ∙ ap (λ n. n + 1) s.each;
       low = let h = s.low in omega arith;
-      high = high_of (length marks) k.each bound s.high;
+      high = high_of (length table) k.each bound s.high;
       kept = λ j n h f. kept_last j n (last_or j i h) f;
       given = λ j n h f g. given_last j n (last_or j i h) f g;
       below = λ j p h f g. below_last j p (last_or j i h) f g;
@@ -284,12 +344,12 @@ numbers_free own marks ns new i cursor m k e from bound free all q s =
     taken_below : (u : ℕ) → 257 ≤ u → u < m → (u < cursor) ⊎ (cursor ≤ u) → IsOwn own u ⊎
         ((j : ℕ) × (j < i) × (slice_get own j ≡ Some None) × (slice_get (ns ++ m ∷ []) j ≡ Some u))
     taken_below u a b (inl h) = own_or_given u (s.taken u a h)
-    taken_below u a b (inr h) = inl ((k.exact u).0 (all u h b))
+    taken_below u a b (inr h) = inl (holder_of (get_or table u Nobody) _ (all u h b) (k.exact u))
 
     here : IsLeast own (ns ++ m ∷ []) i m
     here = record {
       low = let h = s.low in omega arith;
-      free = λ o. false_true (sym free ∙ (k.exact m).1 o);
+      free = λ o. false_true (sym free ∙ held_by (get_or table m Nobody) _ o.0 o.1 (k.exact m));
       above = λ j p a b c. let l : p < cursor = s.below j p a b (sym (before j a) ∙ c) in
           omega arith;
       least = λ u a b. taken_below u a b (below_or u);

@@ -1,4 +1,6 @@
 -- Numbers: digits, what is given, and what the tokens have by themselves.
+use Rattle.std.proofs.Common.{◌||◌}
+use Rattle.std.specs.Option.{MatchOption, unwrap_or}
 use Rattle.std.proofs.Common.{ℕ, zero, suc, Bool, true, false, not, ◌&&◌, cond, nat_lt, ◌≡◌, ◌≢◌}
 use Rattle.std.proofs.Common.{◌<◌, ◌≤◌, ◌+◌, ◌*◌, ◌⊎◌, inl, inr, List, [], ◌∷◌, map, take, drop}
 use Rattle.std.proofs.Common.{length, Option, Some, None, is_some, refl, sym, ◌∙◌, ap, subst, arith}
@@ -12,7 +14,7 @@ use Rattle.std.specs.Cmp.Lexicographic.{same_text, other_text}
 use Rattle.std.proofs.lemmas.Bool.Decides.{nat_tests}
 use Rattle.std.proofs.lemmas.Int.Digits.{digits_value_push}
 use Rattle.std.proofs.lemmas.Str.Parse.{digits_value-take-le}
-use Rattle.std.proofs.lemmas.List.{take_more}
+use Rattle.std.proofs.lemmas.List.{drop_more, take_more}
 use Rattle.std.proofs.lemmas.List.Elements.{Contains-append_left, Contains-append_right}
 use Rattle.ygrammar.specs.declared.outline.Listed.{Listed}
 use Rattle.ygrammar.specs.declared.tree.Digits.{Digits}
@@ -21,10 +23,12 @@ use Rattle.ygrammar.specs.Elaboration.{Listing, digits_number, listed_name, lite
 use Rattle.ygrammar.specs.Elaboration.{option_list, said_of, usual_of}
 use Rattle.ygrammar.specs.Names.{Name, number_in, printed_literal}
 use Rattle.ygrammar.specs.Outline.{listed_view}
-use Rattle.ygrammar.specs.Owned.{AllFit, IsFit, OwnSoFar, filled, keep}
+use Rattle.ygrammar.specs.Owned.{AllFit, GivesUnfit, IsFit, OwnSoFar, TellsNumbers, keep}
+use Rattle.ygrammar.specs.Owned.{with_number}
 use Rattle.ygrammar.specs.Tree.{Identifier, quoted}
 use Rattle.ygrammar.proofs.NameSteps.{eq_self}
-use Rattle.ygrammar.proofs.TellingSteps.{is_none, same_number}
+use Rattle.ygrammar.proofs.TellingSteps.{false_true, is_none, passes, same_number, says, skips_at}
+use Rattle.ygrammar.proofs.TellingSteps.{twice}
 
 -- one more digit
 pub value_more : (ds : List ℕ) (i value digit d : ℕ) → i < length ds → value ≡ digits_value 10
@@ -92,11 +96,122 @@ fit_more table k v h f all j m e = go (same_or j k)
     go (inl q) = subst IsFit (some_one v m (sym (get_or-set_same table k (Some v) None h) ∙ ap
         (λ i. get_or (set table k (Some v)) i None) (sym q) ∙ e)) f
 
+-- a listing gives a number
+pub adds : (ns : List Name) (table : List (Option ℕ)) (l : Listing) (rest whole : List Listing)
+    (i k : ℕ) (number fault new : Option ℕ) → k ≡ number_in ns (listed_name l) →
+    MatchOption number (GivesUnfit whole) (λ v. IsFit v × (digits_number l ≡ Some v)) →
+    new ≡ cond (is_some fault || (is_some number && not (is_some (get_or table k None)))) fault
+    (Some i) → TellsNumbers ns (l ∷ rest) whole table fault →
+    TellsNumbers ns rest whole (with_number table k (unwrap_or number 0)) new
+adds ns table l rest whole i k number (Some j) new hk gives e s =
+    subst (λ (o : Option ℕ). TellsNumbers ns rest whole (with_number table k (unwrap_or number 0)) o)
+    (sym e) s
+adds ns table l rest whole i k None None new hk gives e s =
+    subst (λ (o : Option ℕ). TellsNumbers ns rest whole (with_number table k 0) o) (sym e) (inl gives)
+adds ns table l rest whole i k (Some v) None new hk gives e s = go (get_or table k None) refl
+  where
+    within_or : (a b : ℕ) → ((a < b) × (nat_lt a b ≡ true)) ⊎ ((b ≤ a) × (nat_lt a b ≡ false))
+    within_or a b = grind (arith, nat_tests)
+
+    within : (xs : List (Option ℕ)) (a u : ℕ) → get_or xs a None ≡ Some u → a < length xs
+    within [] a u h = absurd (false_true (ap is_some h))
+    within (x ∷ xs) zero u h = omega arith
+    within (x ∷ xs) (suc a) u h = let r = within xs a u h in omega arith
+
+    more : get_or table k None ≡ None →
+        ((k < length table) × (nat_lt k (length table) ≡ true)) ⊎
+        ((length table ≤ k) × (nat_lt k (length table) ≡ false)) →
+        TellsNumbers ns rest whole (with_number table k v) None
+    more f (inl (h, b)) = subst (λ (t : List (Option ℕ)). TellsNumbers ns rest whole t None)
+        (sym (ap (λ c. cond (c && not (is_some (get_or table k None))) (set table k (Some v)) table) b
+        ∙ ap (λ (o : Option ℕ). cond (not (is_some o)) (set table k (Some v)) table) f)) (
+          says digits_number ns table l rest whole v k gives.1 hk h f s.0,
+          fit_more table k v h gives.0 s.1,
+        )
+    more f (inr (h, b)) = subst (λ (t : List (Option ℕ)). TellsNumbers ns rest whole t None)
+        (sym (ap (λ c. cond (c && not (is_some (get_or table k None))) (set table k (Some v)) table)
+        b)) (
+          passes digits_number ns table l rest whole
+              (subst (λ a. length ns ≤ a) hk (subst (λ a. a ≤ k) s.0.each h)) s.0,
+          s.1,
+        )
+
+    go : (o : Option ℕ) → get_or table k None ≡ o →
+        TellsNumbers ns rest whole (with_number table k v) new
+    go None f = subst (λ (x : Option ℕ). TellsNumbers ns rest whole (with_number table k v) x)
+        (sym (e ∙ ap (λ (x : Option ℕ). cond (not (is_some x)) None (Some i)) f)) (more f
+        (within_or k (length table)))
+    go (Some u) f = subst (λ (x : Option ℕ). TellsNumbers ns rest whole (with_number table k v) x)
+        (sym (e ∙ ap (λ (x : Option ℕ). cond (not (is_some x)) None (Some i)) f))
+        (inr (twice digits_number ns table l rest whole u v k gives.1 hk (within table k u f) f s.0))
+
+-- the number of a listing's digits
+digits_are : (x : Listed) (d : Digits) (v : ℕ) → x.digits ≡ Some d →
+    v ≡ digits_value 10 d.digits.now → digits_number (listed_view x) ≡ Some v
+digits_are x d v e f = ap (λ (o : Option Digits).
+    digits_number (record {
+      gives = x.gives;
+      who = occurrence_view x.who;
+      digits =
+          option_view digits_view o;
+    })) e ∙ ap (λ n. some_of n) (sym f)
+  where
+    some_of : ℕ → Option ℕ
+    some_of n = Some n
+
+-- a listing gives a number in range, or else one that is not
+number_given : (d : Listed) (xs : List Listed) (i : ℕ) (ds : Digits) (o : Option ℕ) → i < length xs →
+    (get_or xs i d).digits ≡ Some ds → MatchOption o (IsFit (digits_value 10 ds.digits.now) → ⊥)
+    (λ v. (v ≡ digits_value 10 ds.digits.now) × IsFit v) →
+    MatchOption o (GivesUnfit (map listed_view xs))
+    (λ v. IsFit v × (digits_number (listed_view (get_or xs i d)) ≡ Some v))
+number_given d xs i ds (Some v) h e f = (f.1, digits_are (get_or xs i d) ds v e f.0)
+number_given d xs i ds None h e f = (
+  _,
+  _,
+  said_there digits_number d xs i (digits_value 10 ds.digits.now) h
+      (digits_are (get_or xs i d) ds _ e refl),
+  unfit _ f,
+)
+
+-- the same, for a place in a list of the code
+pub adds_at : (d : Listed) (ns : List Name) (table : List (Option ℕ)) (xs : List Listed) (i k : ℕ)
+    (ds : Digits) (number fault new : Option ℕ) → i < length xs → (get_or xs i d).digits ≡ Some ds →
+    k ≡ number_in ns (listed_name (listed_view (get_or xs i d))) →
+    MatchOption number (IsFit (digits_value 10 ds.digits.now) → ⊥)
+    (λ v. (v ≡ digits_value 10 ds.digits.now) × IsFit v) →
+    new ≡ cond (is_some fault || (is_some number && not (is_some (get_or table k None)))) fault
+    (Some i) → TellsNumbers ns (map listed_view (drop i xs)) (map listed_view xs) table fault →
+    TellsNumbers ns (map listed_view (drop (i + 1) xs)) (map listed_view xs)
+    (with_number table k (unwrap_or number 0)) new
+adds_at d ns table xs i k ds number fault new h e hk f g s =
+    adds ns table (listed_view (get_or xs i d)) (map listed_view (drop (i + 1) xs))
+    (map listed_view xs) i k number fault new hk (number_given d xs i ds number h e f) g
+    (subst (λ (ys : List Listed). TellsNumbers ns (map listed_view ys) (map listed_view xs) table
+    fault) (drop_more xs i d h) s)
+
+-- a listing gives no number
+pub adds_none : (d : Listed) (ns : List Name) (table : List (Option ℕ)) (xs : List Listed) (i : ℕ)
+    (fault : Option ℕ) → i < length xs → digits_number (listed_view (get_or xs i d)) ≡ None →
+    TellsNumbers ns (map listed_view (drop i xs)) (map listed_view xs) table fault →
+    TellsNumbers ns (map listed_view (drop (i + 1) xs)) (map listed_view xs) table fault
+adds_none d ns table xs i (Some j) h e s = s
+adds_none d ns table xs i None h e s =
+    (skips_at digits_number d ns table xs i (map listed_view xs) h e s.0, s.1)
+
+pub no_digits : (x : Listed) → x.digits ≡ None → digits_number (listed_view x) ≡ None
+no_digits x e = ap (λ (o : Option Digits).
+    digits_number (record {
+      gives = x.gives;
+      who = occurrence_view x.who;
+      digits = option_view digits_view o;
+    })) e
+
 -- a token that has no number is given one
 pub fills : (ns : List Name) (table : List (Option ℕ)) (k v : ℕ) (m : Name) (left right own : Name →
     Option ℕ) → k ≡ number_in ns m → left m ≡ Some v →
     ((n : Name) → bytes_eq n m ≡ false → left n ≡ right n) → OwnSoFar ns table left own →
-    OwnSoFar ns (filled table k v) right own
+    OwnSoFar ns (with_number table k v) right own
 fills ns table k v m left right own hk hv other s =
     go (nat_lt k (length table) && not (is_some (get_or table k None))) refl
   where
@@ -155,7 +270,7 @@ fills ns table k v m left right own hk hv other s =
         s.said n i
 
     go : (b : Bool) → (nat_lt k (length table) && not (is_some (get_or table k None))) ≡ b →
-        OwnSoFar ns (filled table k v) right own
+        OwnSoFar ns (with_number table k v) right own
     go true e =
         let p = free_of (nat_lt k (length table)) (is_some (get_or table k None)) e in
         subst (λ c. OwnSoFar ns (cond c (set table k (Some v)) table) right own) (sym e) (record {
@@ -172,7 +287,7 @@ fills ns table k v m left right own hk hv other s =
 -- the value of a literal is given
 pub fills_literal : (ns : List Name) (table new : List (Option ℕ)) (k v : ℕ)
     (rest : List Identifier) (own : Name → Option ℕ) → k ≡ number_in ns (printed_literal v) →
-    new ≡ filled table k v → OwnSoFar ns table (literal_value (quoted v ∷ rest)) own →
+    new ≡ with_number table k v → OwnSoFar ns table (literal_value (quoted v ∷ rest)) own →
     OwnSoFar ns new (literal_value rest) own
 fills_literal ns table new k v rest own hk e s =
     subst (λ (t : List (Option ℕ)). OwnSoFar ns t (literal_value rest) own) (sym e)
@@ -186,7 +301,7 @@ error_or is n = cond (bytes_eq n (codes "error")) (Some 256) (literal_value is n
 -- the numbers of the end and of `error` are given
 pub fills_first : (ns : List Name) (table one two : List (Option ℕ)) (a b : ℕ)
     (is : List Identifier) (own : Name → Option ℕ) → a ≡ number_in ns (codes "$end") →
-    b ≡ number_in ns (codes "error") → one ≡ filled table a 0 → two ≡ filled one b 256 →
+    b ≡ number_in ns (codes "error") → one ≡ with_number table a 0 → two ≡ with_number one b 256 →
     OwnSoFar ns table (usual_of is) own → OwnSoFar ns two (literal_value is) own
 fills_first ns table one two a b is own ha hb e f s =
     subst (λ (t : List (Option ℕ)). OwnSoFar ns t (literal_value is) own) (sym f)
@@ -203,17 +318,3 @@ take_none [] zero h = refl
 take_none [] (suc i) h = refl
 take_none (x ∷ xs) zero h = absurd (omega arith)
 take_none (x ∷ xs) (suc i) h = take_none xs i (omega arith)
-
--- the number of a listing's digits
-pub digits_are : (x : Listed) (d : Digits) (v : ℕ) → x.digits ≡ Some d →
-    v ≡ digits_value 10 d.digits.now → digits_number (listed_view x) ≡ Some v
-digits_are x d v e f = ap (λ (o : Option Digits).
-    digits_number (record {
-      gives = x.gives;
-      who = occurrence_view x.who;
-      digits =
-          option_view digits_view o;
-    })) e ∙ ap (λ n. some_of n) (sym f)
-  where
-    some_of : ℕ → Option ℕ
-    some_of n = Some n

@@ -1,7 +1,7 @@
 -- The tables of precedences and numbers are those of the file.
 use Rattle.std.proofs.Common.{ℕ, ◌≡◌, ◌<◌, ◌≤◌, ◌⊎◌, inl, inr, List, [], ◌∷◌, ◌++◌, map, length}
 use Rattle.std.proofs.Common.{filter, Option, Some, None, Result, Ok, Err, Vec, refl, sym, ◌∙◌, ap}
-use Rattle.std.proofs.Common.{subst, arith, get_or, codes}
+use Rattle.std.proofs.Common.{subst, arith, get_or, codes, false, is_some, true}
 use Rattle.std.specs.List.{Contains, flat_map}
 use Rattle.std.specs.Global.{Global}
 use Rattle.std.proofs.lemmas.Option.{get_or_from_slice_get}
@@ -18,10 +18,10 @@ use Rattle.ygrammar.specs.Elaboration.{usual_of}
 use Rattle.ygrammar.specs.Mistakes.{Holds}
 use Rattle.ygrammar.specs.Names.{Name, is_among, number_in, printed}
 use Rattle.ygrammar.specs.Numbers.{AreSmall, Clashes}
-use Rattle.ygrammar.specs.Owned.{AllFit, AllSmall, IsFit, IsBadNumber, OwnSoFar, Precedes, Refuses}
-use Rattle.ygrammar.specs.Owned.{TellsNumbers, keep}
+use Rattle.ygrammar.specs.Owned.{AllFit, AllSmall, IsFit, OwnSoFar, Precedes, TellsNumbers, keep}
 use Rattle.ygrammar.specs.Told.{IsTold, SaidTwice, IsTwicePrecedence, TellsPrecedences}
 use Rattle.ygrammar.specs.Tree.{Identifier, Tree}
+use Rattle.ygrammar.proofs.TellingSteps.{false_true}
 use Rattle.ygrammar.proofs.TokenSteps.{Distinct, among_number, by_numbers, distinct_all}
 use Rattle.ygrammar.proofs.TokenSteps.{distinct_none, listed_token, said_listed}
 
@@ -116,23 +116,6 @@ fit_small table h k m e = let p = h k m e in let q = p.1 in omega arith
 pub are_small : (table : List (Option ℕ)) → AllSmall table → AreSmall table
 are_small table h m p = h p.0 m (get_or_from_slice_get table p.0 (Some m) None p.1)
 
-bad : (t : Tree) (what : Mistake) → IsBadNumber what (listings t) → (what ≡ mistakes.BadNumber) ×
-    Holds t mistakes.BadNumber
-bad t mistakes.BadNumber (inl p) = (refl, inl p)
-bad t mistakes.BadNumber (inr p) = (refl, inr (inl p))
-bad t mistakes.TwicePrecedence p = absurd p
-bad t mistakes.TokenLeft p = absurd p
-bad t mistakes.Undefined p = absurd p
-bad t mistakes.BadStart p = absurd p
-bad t mistakes.Unproductive p = absurd p
-bad t mistakes.BadPrec p = absurd p
-bad t mistakes.Limit p = absurd p
-
-pub bad_number : (t : Tree) (e : Refused) → TellsNumbers (tokens t) (listings t) (Err e) →
-    Refuses t mistakes.BadNumber e
-bad_number t (refused.Mistake what at) p = bad t what p
-bad_number t refused.Memory p = tt
-
 -- no number given is out of range, no token is given two, and no two tokens have one
 pub numbers_sound : (t : Tree) (table : List (Option ℕ)) → IsTold digits_number (tokens t)
     (listings t) table → AllFit table → (Clashes (own_numbers t) → ⊥) → Holds t mistakes.BadNumber →
@@ -176,17 +159,27 @@ own_whole t ns d u given own e f s h =
     (subst (λ (x : List Name). OwnSoFar x given (usual_of (appearances t)) (own_number t)) (sym e)
     (own_start t given s)))))
 
-pub told_here : (t : Tree) (ns : List Name) (ls : List Listing) (table : List (Option ℕ)) →
-    ns ≡ tokens t → ls ≡ listings t → IsTold digits_number ns ls table → IsTold digits_number
-    (tokens t) (listings t) table
-told_here t ns ls table e f s = subst (λ (x : List Name). IsTold digits_number x (listings t) table)
-    e (subst (λ (x : List Listing). IsTold digits_number ns x table) f s)
+-- the numbers given are told of the tree, or one of them is a mistake
+pub told_here : (t : Tree) (ns : List Name) (ls : List Listing) (table : List (Option ℕ))
+    (fault : Option ℕ) → ns ≡ tokens t → ls ≡ listings t → TellsNumbers ns [] ls table fault →
+    TellsNumbers (tokens t) [] (listings t) table fault
+told_here t ns ls table fault e f s =
+    subst (λ (x : List Name). TellsNumbers x [] (listings t) table fault) e
+    (subst (λ (x : List Listing). TellsNumbers ns [] x table fault) f s)
 
-pub bad_here : (t : Tree) (ns : List Name) (ls : List Listing) (e : Refused) → ns ≡ tokens t →
-    ls ≡ listings t → TellsNumbers ns ls (Err e) → Refuses t mistakes.BadNumber e
-bad_here t ns ls r e f s = bad_number t r
-    (subst (λ (x : List Name). TellsNumbers x (listings t) (Err r)) e
-    (subst (λ (x : List Listing). TellsNumbers ns x (Err r)) f s))
+-- every number that is given is in range, and each token is given one or none
+pub all_given : (t : Tree) (table : List (Option ℕ)) (fault : Option ℕ) → is_some fault ≡ false →
+    TellsNumbers (tokens t) [] (listings t) table fault →
+    IsTold digits_number (tokens t) (listings t) table × AllFit table
+all_given t table (Some i) h s = absurd (false_true (sym h))
+all_given t table None h s = s
+
+-- a number that is given is a mistake
+pub bad_given : (t : Tree) (table : List (Option ℕ)) (fault : Option ℕ) → is_some fault ≡ true →
+    TellsNumbers (tokens t) [] (listings t) table fault → Holds t mistakes.BadNumber
+bad_given t table (Some i) h (inl p) = inl p
+bad_given t table (Some i) h (inr p) = inr (inl p)
+bad_given t table None h s = absurd (false_true h)
 
 pub appear : (d u : List Identifier) (t : Tree) → d ≡ flat_map declared t.definitions → u ≡ uses t →
     d ++ u ≡ appearances t

@@ -1,6 +1,8 @@
 -- Numbers for those tokens that have none of their own: in order, the least unused from 257 on.
-use Rattle.std.specs.Prelude.{ℕ, ◌≡◌, ◌<◌, ◌≤◌, ◌⊎◌, ◌↔◌, Bool, true, false, List, length, Option}
-use Rattle.std.specs.Prelude.{Some, None, slice_get, slice_index_or}
+use Rattle.std.specs.Prelude.{ℕ, ◌≡◌, ◌≢◌, ◌<◌, ◌≤◌, ◌⊎◌, Bool, true, false, List, length, Option}
+use Rattle.std.specs.Prelude.{Some, None, slice_get, slice_index_or, if◌then◌else◌, ◌==◌}
+use Rattle.ygrammar.specs.declared.holders.Holders.{Holders}
+use Rattle.ygrammar.specs.declared.holders.Holders.TheVariants.{Nobody, One, Several}
 use Rattle.ygrammar.specs.Grammar.{number_bound}
 
 -- a number that some token has by itself
@@ -31,11 +33,26 @@ abbrev pub Clashes : List (Option ℕ) → Type 0
 Clashes own = (i : ℕ) × (j : ℕ) × (m : ℕ) × (i < j) × (slice_get own i ≡ Some (Some m))
     × (slice_get own j ≡ Some (Some m))
 
--- No two tokens have one number, and these marks tell the numbers below count that some token has.
-pub record MarksBelow (count : ℕ) (own : List (Option ℕ)) (marks : List Bool) : Type 0 where
-  pub each : length marks ≡ count
-  pub exact : (m : ℕ) → (slice_index_or marks m false ≡ true) ↔ IsOwn own m
-  pub apart : Clashes own → ⊥
+-- some token holds the number
+abbrev pub is_held : Holders → Bool
+is_held Nobody = false
+is_held (One k) = true
+is_held Several = true
 
-abbrev pub MarksOwn : List (Option ℕ) → List Bool → Type 0
-MarksOwn own marks = MarksBelow number_bound own marks
+-- the holders of a number, and one more
+abbrev pub with_holder : Holders → ℕ → Holders
+with_holder Nobody k = One k
+with_holder (One j) k = if j == k then One j else Several
+with_holder Several k = Several
+
+-- the tokens that hold a number: none, only this one, or two others
+abbrev pub IsHolders : Holders → (ℕ → Type 0) → Type 0
+IsHolders Nobody holds = (k : ℕ) → holds k → ⊥
+IsHolders (One k) holds = holds k × ((j : ℕ) → holds j → j ≡ k)
+IsHolders Several holds = (j : ℕ) × (k : ℕ) × (j ≢ k) × holds j × holds k
+
+-- Of each number below count the tokens that have it by themselves.
+pub record AreHolders (count : ℕ) (own : List (Option ℕ)) (table : List Holders) : Type 0 where
+  pub each : length table ≡ count
+  pub exact : (m : ℕ) →
+      IsHolders (slice_index_or table m Nobody) (λ k. slice_get own k ≡ Some (Some m))

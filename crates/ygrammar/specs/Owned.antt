@@ -7,16 +7,16 @@ use Rattle.ygrammar.specs.declared.mistake.Mistake.{Mistake}
 use Rattle.ygrammar.specs.declared.mistake.Mistake.TheVariants as mistakes
 use Rattle.ygrammar.specs.declared.mistake.Refused.{Refused}
 use Rattle.ygrammar.specs.declared.mistake.Refused.TheVariants as refused
-use Rattle.ygrammar.specs.declared.given.OwnTable.{OwnTable}
+use Rattle.ygrammar.specs.declared.holders.OwnTable.{OwnTable}
 use Rattle.ygrammar.specs.declared.precedence.Precedence.{Precedence}
 use Rattle.ygrammar.specs.Elaboration.{Listing, said_of, digits_number, own_numbers}
 use Rattle.ygrammar.specs.Elaboration.{token_precedences}
 use Rattle.ygrammar.specs.Mistakes.{Holds}
-use Rattle.ygrammar.specs.Numbers.{MarksOwn}
+use Rattle.ygrammar.specs.Numbers.{AreHolders}
 use Rattle.ygrammar.specs.Tree.{Tree}
 use Rattle.ygrammar.specs.Grammar.{greatest_number, number_bound}
 use Rattle.ygrammar.specs.Names.{Name, number_in}
-use Rattle.ygrammar.specs.Told.{IsTold, SaidTwice}
+use Rattle.ygrammar.specs.Told.{SaidTwice, SoFar}
 
 -- numbers that may be given
 abbrev pub IsFit : ℕ → Type 0
@@ -27,19 +27,16 @@ abbrev pub GivesUnfit : List Listing → Type 0
 GivesUnfit ls = (n : Name) × (m : ℕ) × Contains (said_of digits_number ls n) m
     × ((m ≡ 0) ⊎ (greatest_number < m))
 
-abbrev pub IsBadNumber : Mistake → List Listing → Type 0
-IsBadNumber mistakes.BadNumber ls = GivesUnfit ls ⊎ SaidTwice digits_number ls
-IsBadNumber _ ls = ⊥
-
 -- every number of the table is in range
 abbrev pub AllFit : List (Option ℕ) → Type 0
 AllFit table = (k m : ℕ) → slice_index_or table k None ≡ Some m → IsFit m
 
--- the numbers given to the tokens, or one out of range, or a second one for a token
-abbrev pub TellsNumbers : List Name → List Listing → Result (Vec (Option ℕ)) Refused → Type 0
-TellsNumbers ns ls (Ok v) = IsTold digits_number ns ls v.items × AllFit v.items
-TellsNumbers ns ls (Err (refused.Mistake what at)) = IsBadNumber what ls
-TellsNumbers ns ls (Err refused.Memory) = Unit {0}
+-- the table has the numbers that the listings before these give to the tokens; or a listing is at
+-- fault: a number is out of range, or a second one for its token
+abbrev pub TellsNumbers : List Name → List Listing → List Listing → List (Option ℕ) → Option ℕ →
+    Type 0
+TellsNumbers ns rest whole table None = SoFar digits_number ns table rest whole × AllFit table
+TellsNumbers ns rest whole table (Some i) = GivesUnfit whole ⊎ SaidTwice digits_number whole
 
 abbrev pub keep : Option ℕ → Option ℕ → Option ℕ
 keep (Some x) y = Some x
@@ -52,9 +49,9 @@ pub record OwnSoFar (ns : List Name) (table : List (Option ℕ))
   pub said : (n : Name) → number_in ns n < length ns →
       keep (slice_index_or table (number_in ns n) None) (left n) ≡ own n
 
--- the table with a number for a token that has none
-abbrev pub filled : List (Option ℕ) → ℕ → ℕ → List (Option ℕ)
-filled table k v = cond (nat_lt k (length table) && not (is_some (slice_index_or table k None)))
+-- the table, with a number for a token that has none
+abbrev pub with_number : List (Option ℕ) → ℕ → ℕ → List (Option ℕ)
+with_number table k v = cond (nat_lt k (length table) && not (is_some (slice_index_or table k None)))
     (slice_set table k (Some v)) table
 
 -- the mistake is this one, and it holds; or memory was refused
@@ -67,10 +64,10 @@ abbrev pub Clears : {A : Type 0} → Tree → Mistake → Result A Refused → T
 Clears t m (Ok v) = Holds t m → ⊥
 Clears t m (Err e) = Refuses t m e
 
--- The numbers that the tokens have by themselves, with marks for those that are taken.
+-- The numbers that the tokens have by themselves, with the token that holds each number.
 pub record IsOwnTable (t : Tree) (o : OwnTable) : Type 0 where
   pub numbers : o.numbers.items ≡ own_numbers t
-  pub marks : MarksOwn (own_numbers t) o.marks.items
+  pub holders : AreHolders number_bound (own_numbers t) o.holders.items
   pub sound : Holds t mistakes.BadNumber → ⊥
 
 -- these numbers, or a mistake in them

@@ -15,9 +15,9 @@ ghost use Rattle.ygrammar.specs.Tree.{IsTree, Tree as TreeOf, yield};
 ghost use Rattle.ygrammar.specs.Outline.{Outlines};
 ghost use Rattle.ygrammar.specs.TreeViews.{name_view, option_view, tree_view};
 
-use crate::clashes::placed_table;
-use crate::given::{OwnTable, precedences};
+use crate::given::precedences;
 use crate::grammar::{Grammar, Rule};
+use crate::holders::{OwnTable, own_table};
 use crate::mistake::{Mistake, Refused};
 use crate::names::{SymbolTable, number_in};
 use crate::numbers::numbers;
@@ -53,7 +53,7 @@ fn name_symbols(alloc: Global, tree: &Tree, outline: &Outline) -> Result<Named, 
     let count = names.len();
     refuse_token_left(outline, &names)?;
     let given = precedences(alloc, &names, outline);
-    let own = placed_table(alloc, &names, outline);
+    let own = own_table(alloc, &names, outline);
     intern_nonterminals(alloc, &mut names, &tree.clauses)?;
     refuse_undefined(outline, &names)?;
     let given = given?;
@@ -124,7 +124,7 @@ fn grammar_of(
         given,
         own,
     } = named;
-    let numbers = numbers(alloc, &own.numbers, &own.marks)?;
+    let numbers = numbers(alloc, &own.numbers, &own.holders)?;
     let reachable = reachable(alloc, &rules, names.len())?;
     Ok(Grammar::of(names, tokens, numbers, given, rules, texts, reachable))
 }

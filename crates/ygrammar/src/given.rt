@@ -1,14 +1,15 @@
 //! What the listings give to the tokens: precedences and numbers, by the number of the token.
 
 ghost use Rattle.std.specs.Prelude.{◌≡◌, ◌<◌, ◌≤◌, ◌++◌, ◌∷◌, ℕ, List, Option, None, map};
-ghost use Rattle.std.specs.Prelude.{MatchOption};
+ghost use Rattle.std.specs.Prelude.{[], ◌&&◌, ◌||◌, IfOk, IfSome, MatchOption, Some, is_some, not};
+ghost use Rattle.std.specs.Prelude.{if◌then◌else◌, slice_index_or, unwrap_or};
 ghost use Rattle.std.specs.Char.{digit_value};
 ghost use Rattle.std.specs.Str.Parse.{digits_value};
 ghost use Rattle.ygrammar.specs.Elaboration.{literal_value, tokens as tokens_of_tree, usual_of};
 ghost use Rattle.ygrammar.specs.Grammar.{number_bound};
 ghost use Rattle.ygrammar.specs.Names.{Name};
-ghost use Rattle.ygrammar.specs.Owned.{AllSmall, IsFit, OwnSoFar, Owns, Precedes, TellsNumbers};
-ghost use Rattle.ygrammar.specs.Owned.{filled};
+ghost use Rattle.ygrammar.specs.Owned.{AllSmall, IsFit, OwnSoFar, Precedes, TellsNumbers};
+ghost use Rattle.ygrammar.specs.Owned.{with_number};
 ghost use Rattle.ygrammar.specs.Tree.{Identifier as IdentifierOf, Tree as TreeOf};
 ghost use Rattle.ygrammar.specs.TreeViews.{identifier_view, occurrence_view};
 ghost use Rattle.ygrammar.specs.NameTexts.{texts};
@@ -18,11 +19,10 @@ ghost use Rattle.ygrammar.specs.Told.{TellsPrecedences};
 use crate::limits::GREATEST_NUMBER;
 use crate::mistake::{Mistake, Refused};
 use crate::names::{SymbolTable, number_in, number_of};
-use crate::numbers::own_marks;
 use crate::outline::{Listed, Outline};
 use crate::precedence::Precedence;
 use crate::tree::{Identifier, Occurrence};
-use std::alloc::Global;
+use std::alloc::{AllocError, Global};
 
 /// The precedences of the tokens by number.
 fn told_precedences(
@@ -76,49 +76,68 @@ pub fn fit_number(digits: &[u8]) -> Option<u32>
     if value == 0 { None } else { Some(value) }
 }
 
-/// The numbers given to the tokens, by the number of the token.
-fn given_numbers(
-    alloc: Global,
-    tokens: &SymbolTable,
-    listed: &[Listed],
-) -> Result<Vec<Option<u32>>, Refused>
-    ensures { TellsNumbers (texts tokens.now) (map listed_view listed.now) result }
-{
-    let mut given = vec![in alloc; None; tokens.len()]?;
-    for one in listed {
-        let Some(digits) = one.digits else {
-            continue;
-        };
-        let Some(number) = fit_number(digits.digits) else {
-            return Err(Refused::Mistake {
-                what: Mistake::BadNumber,
-                at: digits.at,
-            });
-        };
-        let token = number_of(tokens, one.who.who);
-        if token >= given.len() {
-            continue;
-        }
-        if given[token].is_some() {
-            return Err(Refused::Mistake {
-                what: Mistake::BadNumber,
-                at: digits.at,
-            });
-        }
-        given[token] = Some(number);
-    }
-    Ok(given)
-}
-
 /// Gives a number to a token that has none.
-pub fn fill(table: &mut Vec<Option<u32>>, token: usize, number: u32)
+fn fill(table: &mut Vec<Option<u32>>, token: usize, number: u32)
     requires { number < number_bound }
-    ensures exact { table.new.items ≡ filled table.old.items token number }
+    ensures exact { table.new.items ≡ with_number table.old.items token number }
     ensures small { AllSmall table.old.items → AllSmall table.new.items }
 {
     if token < table.len() && table[token].is_none() {
         table[token] = Some(number);
     }
+}
+
+/// What the listings give: to each token its first number, or 0 where that is out of range; and how
+/// many listings stand before the first that gives a number out of range or a second one.
+#[derive(Drop)]
+pub struct GivenNumbers {
+    pub first: Vec<Option<u32>>,
+    pub fault: Option<usize>,
+}
+
+impl GivenNumbers {
+    /// Adds what a listing gives to a token; `None` is a number out of range.
+    fn add(&mut self, listing: usize, token: usize, number: Option<u32>)
+        requires { IfSome number (λ n. n < number_bound) }
+        ensures small { AllSmall self.old.first.items → AllSmall self.new.first.items }
+        ensures first { self.new.first.items
+            ≡ with_number self.old.first.items token (unwrap_or number 0) }
+        ensures fault { self.new.fault ≡ (if is_some self.old.fault
+            || (is_some number && not (is_some (slice_index_or self.old.first.items token None)))
+            then self.old.fault else Some listing) }
+    {
+        let has = token < self.first.len() && self.first[token].is_some();
+        if self.fault.is_none() && (number.is_none() || has) {
+            self.fault = Some(listing);
+        }
+        fill(&mut self.first, token, number.unwrap_or(0));
+    }
+}
+
+/// The numbers given to the tokens.
+pub fn given_numbers(
+    alloc: Global,
+    tokens: &SymbolTable,
+    listed: &[Listed],
+) -> Result<GivenNumbers, AllocError>
+    ensures small { IfOk result (λ g. AllSmall g.first.items) }
+    ensures told { IfOk result (λ g. TellsNumbers (texts tokens.now) []
+        (map listed_view listed.now) g.first.items g.fault) }
+{
+    let mut given = GivenNumbers {
+        first: vec![in alloc; None; tokens.len()]?,
+        fault: None,
+    };
+    for i in 0..listed.len() {
+        match listed[i].digits {
+            None => {}
+            Some(digits) => {
+                let token = number_of(tokens, listed[i].who.who);
+                given.add(i, token, fit_number(digits.digits));
+            }
+        }
+    }
+    Ok(given)
 }
 
 /// Gives a literal that has no number its value.
@@ -169,13 +188,6 @@ pub fn own_numbers(
     own
 }
 
-/// The numbers that tokens have by themselves, and marks for the numbers that are taken.
-#[derive(Drop)]
-pub struct OwnTable {
-    pub numbers: Vec<Option<u32>>,
-    pub marks: Vec<bool>,
-}
-
 /// The precedences of the tokens by number.
 pub fn precedences(
     alloc: Global,
@@ -186,24 +198,4 @@ pub fn precedences(
         Precedes t result }
 {
     told_precedences(alloc, tokens, &outline.listed)
-}
-
-/// The numbers that the tokens have by themselves.
-pub fn own_table(
-    alloc: Global,
-    tokens: &SymbolTable,
-    outline: &Outline,
-) -> Result<OwnTable, Refused>
-    ensures { (t : TreeOf) → Outlines outline.now t → texts tokens.now ≡ tokens_of_tree t →
-        Owns t result }
-{
-    let given = given_numbers(alloc, tokens, &outline.listed)?;
-    let numbers = own_numbers(tokens, given, &outline.declared, &outline.used);
-    match own_marks(alloc, &numbers)? {
-        Some(marks) => Ok(OwnTable { numbers, marks }),
-        None => Err(Refused::Mistake {
-            what: Mistake::BadNumber,
-            at: 0,
-        }),
-    }
 }

@@ -4,11 +4,11 @@
 
 mod bytes;
 mod checks;
-mod clashes;
 mod elaboration;
 mod fault;
 mod given;
 mod grammar;
+mod holders;
 mod kept;
 mod kind;
 mod lexer;

@@ -3,7 +3,7 @@ use Rattle.ygrammar.specs.declared.tree.Identifier.{Identifier as CodeIdentifier
 use Rattle.ygrammar.specs.Elaboration.{literal_value}
 use Rattle.ygrammar.specs.NameTexts.{texts}
 use Rattle.ygrammar.specs.Names.{number_in, printed}
-use Rattle.ygrammar.specs.Owned.{OwnSoFar, filled}
+use Rattle.ygrammar.specs.Owned.{OwnSoFar, with_number}
 use Rattle.ygrammar.specs.TreeViews.{identifier_view}
 use Rattle.ygrammar.proofs.OwnSteps.{fills_literal}
 use Rattle.ygrammar.proofs.given.fill_literal.Goals as goal
@@ -14,6 +14,6 @@ returns-in-Quoted-clause-told c = λ rest own s.
     c.number_of.result c.in-Quoted.value rest own
     (c.number_of.ensures ∙ ap (λ (w : CodeIdentifier). number_in (texts c.args.tokens.now)
     (printed (identifier_view w))) c.in-Quoted.is)
-    (c.fill.ensures.exact ∙ ap (filled c.args.table.now.items c.number_of.result) c.from.ensures)
+    (c.fill.ensures.exact ∙ ap (with_number c.args.table.now.items c.number_of.result) c.from.ensures)
     (subst (λ (w : CodeIdentifier). OwnSoFar (texts c.args.tokens.now) c.args.table.now.items
     (literal_value (identifier_view w ∷ rest)) own) c.in-Quoted.is s)

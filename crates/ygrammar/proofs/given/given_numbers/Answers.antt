@@ -1,46 +1,35 @@
-use Rattle.std.proofs.Common.{◌<◌, length, get_or, arith, inl, inr, refl, rules}
-use Rattle.ygrammar.specs.Elaboration.{digits_number}
-use Rattle.ygrammar.proofs.OwnSteps.{digits_are, fit_more, said_there, unfit}
-use Rattle.ygrammar.proofs.TellingSteps.{is_none, passes_at, says_at, twice_at}
+use Rattle.std.proofs.Common.{sym, subst, map, drop, get_or, ◌+◌, Option, List, ℕ}
+use Rattle.ygrammar.specs.declared.given.GivenNumbers.{GivenNumbers}
+use Rattle.ygrammar.specs.NameTexts.{texts}
+use Rattle.ygrammar.specs.Outline.{listed_view}
+use Rattle.ygrammar.specs.Owned.{AllSmall, TellsNumbers}
+use Rattle.ygrammar.proofs.OwnSteps.{adds_at, adds_none, no_digits}
+use Rattle.ygrammar.proofs.given.given_numbers.Goals.{Joined-listed-i, in-None, in-Some}
 use Rattle.ygrammar.proofs.given.given_numbers.Goals as goal
 
-pub loop-one-preserved : goal.loop-one-preserved
-loop-one-preserved c =
-    let table = c.loop-one.given.items in
-    let k = c.number_of-token.result in
-    let l : k < length table = search rules in
-    record {
-      told = says_at digits_number _ _ table c.args.listed.now c.loop-one.one-index _
-          c.in-Some-fit_number.number k (omega arith)
-          (digits_are (get_or c.args.listed.now c.loop-one.one-index _) _ _ c.in-Some.is
-          c.in-Some-fit_number.ensures.0) c.number_of-token.ensures
-          l (is_none _ (search rules)) c.loop-one.invariant.told;
-      fit = fit_more table k _ l c.in-Some-fit_number.ensures.1 c.loop-one.invariant.fit;
-    }
+-- the numbers of the listings behind the loop's
+abbrev more : (c : Joined-listed-i) → List (Option ℕ) → Option ℕ → Type 0
+more c table fault = TellsNumbers (texts c.args.tokens.now)
+    (map listed_view (drop (c.loop-i.i + 1) c.args.listed.now)) (map listed_view c.args.listed.now)
+    table fault
 
-pub returns-then-is_some : goal.returns-then-is_some
-returns-then-is_some c =
-    inr (twice_at digits_number _ _ c.loop-one.given.items c.args.listed.now c.loop-one.one-index _
-    c.in-Some-fit_number.number c.number_of-token.result _ _ (omega arith)
-    (digits_are (get_or c.args.listed.now c.loop-one.one-index _) _ _ c.in-Some.is
-    c.in-Some-fit_number.ensures.0) c.number_of-token.ensures
-    (search rules) c.index.ensures c.is_some.ensures c.if-is_some.true c.loop-one.invariant.told)
-
-pub loop-one-preserved-then-token-len : goal.loop-one-preserved-then-token-len
-loop-one-preserved-then-token-len c =
-    record {
-      told = passes_at digits_number _ _ c.loop-one.given.items c.args.listed.now
-          c.loop-one.one-index _ c.number_of-token.result (omega arith) c.number_of-token.ensures
-          (search rules) c.loop-one.invariant.told;
-      fit = c.loop-one.invariant.fit;
-    }
-
-pub returns-in_default-fit_number : goal.returns-in_default-fit_number
-returns-in_default-fit_number c =
-    inl (
-      _,
-      _,
-      said_there digits_number _ c.args.listed.now c.loop-one.one-index _ (omega arith)
-          (digits_are (get_or c.args.listed.now c.loop-one.one-index _) _ _ c.in-Some.is refl),
-      unfit _ c.in_default-fit_number.ensures,
-    )
+pub loop-i-preserved : goal.loop-i-preserved
+loop-i-preserved c = elim c.match-listed-i.branch [
+  | in-None w ↦ record {
+    small = subst (λ (g : GivenNumbers). AllSmall g.first.items) (sym w.given-is)
+        c.loop-i.invariant.small;
+    told = subst (λ (g : GivenNumbers). more c g.first.items g.fault) (sym w.given-is)
+        (adds_none _ _ _ c.args.listed.now c.loop-i.i _ c.loop-i-test.true (no_digits
+        (get_or c.args.listed.now c.loop-i.i _) w.in-None.is)
+        c.loop-i.invariant.told);
+  }
+  | in-Some w ↦ record {
+    small = subst (λ (g : GivenNumbers). AllSmall g.first.items) (sym w.given-is)
+        (w.add.ensures.small c.loop-i.invariant.small);
+    told = subst (λ (g : GivenNumbers). more c g.first.items g.fault) (sym w.given-is)
+        (subst (λ (t : List (Option ℕ)). more c t w.add.new.self.fault) (sym w.add.ensures.first)
+        (adds_at _ _ _ c.args.listed.now c.loop-i.i _ _ _ _ _ c.loop-i-test.true w.in-Some.is
+        w.number_of-token.ensures w.fit_number.ensures w.add.ensures.fault
+        c.loop-i.invariant.told));
+  }
+]
