@@ -18,34 +18,35 @@ use Rattle.ygrammar.specs.Syntax.{nlist_more, nmno_plain, nmno_number, identifie
 use Rattle.ygrammar.specs.Syntax.{identifier_literal, tlist_one, tlist_more, rules_one, rules_more}
 use Rattle.ygrammar.specs.Syntax.{rule_head, rule_bar, rbody_empty, rbody_symbol, rbody_act}
 use Rattle.ygrammar.specs.Syntax.{prec_empty, prec_named, prec_act, prec_semicolon, IsSpec}
-use Rattle.ygrammar.specs.Recogniser.{after_definition, after_rule, next_state, reached, is_final}
+use Rattle.ygrammar.specs.Recogniser.{after_definition, after_rule, next_state, state_after}
+use Rattle.ygrammar.specs.Recogniser.{is_final}
 use Rattle.ygrammar.specs.Recogniser.{is_final_at, run}
 use Rattle.ygrammar.proofs.Derivations.{Stands, sound}
 
 -- from nowhere the kinds lead nowhere
-pub lost : (ks : List Kind) → reached None ks ≡ None
+pub lost : (ks : List Kind) → state_after None ks ≡ None
 lost [] = refl
 lost (k ∷ ks) = refl
 
-pub reached_append : (o : Option State) (x y : List Kind) → reached o (x ++ y) ≡ reached
-    (reached o x) y
+pub reached_append : (o : Option State) (x y : List Kind) → state_after o (x ++ y) ≡ state_after
+    (state_after o x) y
 reached_append o [] y = refl
 reached_append None (k ∷ x) y = sym (lost y)
 reached_append (Some q) (k ∷ x) y = reached_append (next_state q k) x y
 
 -- the kinds lead from the first state to the second
 record Leads (q : State) (ks : List Kind) (r : State) : Type 0 where
-  is : reached (Some q) ks ≡ Some r
+  is : state_after (Some q) ks ≡ Some r
 
 then : {q r s : State} {x y : List Kind} → Leads q x r → Leads r y s → Leads q (x ++ y) s
 then {q} {r} {s} {x} {y} a b = record {
-  is = reached_append (Some q) x y ∙ ap (λ o. reached o y)
+  is = reached_append (Some q) x y ∙ ap (λ o. state_after o y)
       a.is ∙ b.is;
 }
 
 move : (q : State) (k : Kind) (r : State) {s : State} {ks : List Kind} → next_state q k ≡ Some r →
     Leads r ks s → Leads q (k ∷ ks) s
-move q k r {s} {ks} e l = record { is = ap (λ o. reached o ks) e ∙ l.is }
+move q k r {s} {ks} e l = record { is = ap (λ o. state_after o ks) e ∙ l.is }
 
 -- a move into one of some states
 record To (P : State → Type 0) (q : State) (y : List Kind) : Type 0 where
@@ -68,7 +69,7 @@ data Tagged : State → Type 0 where
 -- states behind an entry
 data Behind : State → Type 0 where
   plain : Behind Listed
-  numbered : Behind Numbered
+  numbered_rule : Behind Numbered
 
 -- states behind a rule
 data Ruled : State → Type 0 where
@@ -103,7 +104,7 @@ Meaning prec y = To Ruled Body y
 
 between_of : {q : State} → Behind q → Between q
 between_of plain = after_listed
-between_of numbered = after_numbered
+between_of numbered_rule = after_numbered
 
 leaves : (q : State) → Between q → (k : Kind) (r : State) → after_definition k ≡ Some r →
     next_state q k ≡ Some r
@@ -139,14 +140,14 @@ ends_rule _ closed_off k r h = h
 names : (q r : State) (y : List Kind) → next_state q kind.Name ≡ Some r →
     next_state q kind.Literal ≡ Some r → Meaning identifier y → Leads q y r
 unfolding Meaning
-names q r y n l (inl e) = record { is = ap (reached (Some q)) e ∙ n }
-names q r y n l (inr e) = record { is = ap (reached (Some q)) e ∙ l }
+names q r y n l (inl e) = record { is = ap (state_after (Some q)) e ∙ n }
+names q r y n l (inr e) = record { is = ap (state_after (Some q)) e ∙ l }
 
 entry : (q : State) (y : List Kind) → Tagged q ⊎ Behind q → Meaning identifier y → Leads q y Listed
 entry _ y (inl untagged) i = names _ _ y refl refl i
 entry _ y (inl tagged) i = names _ _ y refl refl i
 entry _ y (inr plain) i = names _ _ y refl refl i
-entry _ y (inr numbered) i = names _ _ y refl refl i
+entry _ y (inr numbered_rule) i = names _ _ y refl refl i
 
 -- ---- taking a form's pieces apart
 
@@ -183,13 +184,13 @@ whole_file y d m ru t e em md mr mt =
       last = q;
       such = final_of q r;
       leads =
-          then l (record { is = ap (reached (Some q)) n });
+          then l (record { is = ap (state_after (Some q)) n });
     }
     last q r l (inr n) = record {
       last = End;
       such = refl;
       leads =
-          then l (record { is = ap (reached (Some q)) n ∙ ends_rule q r kind.Mark End refl });
+          then l (record { is = ap (state_after (Some q)) n ∙ ends_rule q r kind.Mark End refl });
     }
 
 a_list : (y w t n : List Kind) → y ≡ w ++ (t ++ n) → Meaning rword w → Meaning tag t →
@@ -224,7 +225,7 @@ closed _ _ y defs_empty h = record {
   last = Declarations;
   such = after_declaration;
   leads =
-      record { is = ap (reached (Some Declarations)) h };
+      record { is = ap (state_after (Some Declarations)) h };
 }
 closed _ _ y defs_more (d, r, e, md, p) =
     let m = single def r p md.last md.such in
@@ -247,7 +248,7 @@ closed _ _ y def_union h = λ q b.
       such = after_declaration;
       leads =
           move q kind.Union UnionWord (leaves q b kind.Union UnionWord refl)
-          (record { is = ap (reached (Some UnionWord)) a });
+          (record { is = ap (state_after (Some UnionWord)) a });
     })
 closed _ _ y def_code h = λ q b.
     let a : y ≡ kind.Code ∷ [] = single (lexeme kind.Code) y h in
@@ -255,7 +256,7 @@ closed _ _ y def_code h = λ q b.
       last = Declarations;
       such = after_declaration;
       leads =
-          record { is = ap (reached (Some q)) a ∙ leaves q b kind.Code Declarations refl };
+          record { is = ap (state_after (Some q)) a ∙ leaves q b kind.Code Declarations refl };
     }
 closed _ _ y def_list (w, r1, e1, mw, (t, r2, e2, mt, p)) =
     a_list y w t r2 (e1 ∙ ap (λ z. w ++ z) e2) mw mt (single nlist r2 p)
@@ -283,7 +284,7 @@ closed _ _ y tag_empty h = record {
   last = ListWord;
   such = untagged;
   leads =
-      record { is = ap (reached (Some ListWord)) h };
+      record { is = ap (state_after (Some ListWord)) h };
 }
 closed _ _ y tag_name h =
     let (r1, e1, p1) = begun kind.Less (lexeme kind.Name ∷ lexeme kind.Greater ∷ []) y h in
@@ -294,7 +295,7 @@ closed _ _ y tag_name h =
       last = ListTagged;
       such = tagged;
       leads =
-          record { is = ap (reached (Some ListWord)) whole };
+          record { is = ap (state_after (Some ListWord)) whole };
     }
 closed _ _ y nlist_one h = λ q t. single nmno y h q (inl t)
 closed _ _ y nlist_more (n, r, e, mn, p) = λ q t.
@@ -313,21 +314,21 @@ closed _ _ y nmno_number (i, r, e, mi, p) = λ q t.
     subst (To Behind q) (sym e)
     (record {
       last = Numbered;
-      such = numbered;
+      such = numbered_rule;
       leads = then (entry q i t mi)
-          (record { is = ap (reached (Some Listed)) n });
+          (record { is = ap (state_after (Some Listed)) n });
     })
 closed _ _ y identifier_name h = inl (single (lexeme kind.Name) y h)
 closed _ _ y identifier_literal h = inr (single (lexeme kind.Literal) y h)
 closed _ _ y tlist_one h =
     record {
-      is = ap (reached (Some TypeTagged)) (let e : y ≡ kind.Name ∷ [] =
+      is = ap (state_after (Some TypeTagged)) (let e : y ≡ kind.Name ∷ [] =
           single (lexeme kind.Name) y h in e);
     }
 closed _ _ y tlist_more (t, r, e, mt, p) =
     let n : r ≡ kind.Name ∷ [] = single (lexeme kind.Name) r p in
     subst (λ z. Leads TypeTagged z Typed) (sym e)
-    (then mt (record { is = ap (reached (Some Typed)) n }))
+    (then mt (record { is = ap (state_after (Some Typed)) n }))
 closed _ _ y rules_one h =
     let (r, e, (b, r2, e2, mb, p)) = begun kind.CIdentifier (rbody ∷ prec ∷ []) y h in
     let m = rule_end r b r2 e2 mb (single prec r2 p) in
@@ -359,18 +360,20 @@ closed _ _ y rule_bar h = λ q u.
       leads = move q kind.Bar Body
           (ends_rule q u kind.Bar Body refl) m.leads;
     })
-closed _ _ y rbody_empty h = record { is = ap (reached (Some Body)) h }
+closed _ _ y rbody_empty h = record { is = ap (state_after (Some Body)) h }
 closed _ _ y rbody_symbol (b, r, e, mb, p) =
     subst (λ z. Leads Body z Body) (sym e)
     (then mb (names Body Body r refl refl (single identifier r p)))
 closed _ _ y rbody_act (b, r, e, mb, p) =
     let a : r ≡ kind.Braced ∷ [] = single (lexeme kind.Braced) r p in
-    subst (λ z. Leads Body z Body) (sym e) (then mb (record { is = ap (reached (Some Body)) a }))
+    subst (λ z. Leads Body z Body) (sym e) (then mb (record {
+      is = ap (state_after (Some Body)) a;
+    }))
 closed _ _ y prec_empty h = record {
   last = Body;
   such = bare;
   leads =
-      record { is = ap (reached (Some Body)) h };
+      record { is = ap (state_after (Some Body)) h };
 }
 closed _ _ y prec_named h =
     let (r, e, p) = begun kind.Prec (identifier ∷ []) y h in
@@ -386,7 +389,7 @@ closed _ _ y prec_act h =
     let a : r2 ≡ kind.Braced ∷ [] = single (lexeme kind.Braced) r2 p in
     let rest : Leads PrecWord r Semicolons = subst (λ z. Leads PrecWord z Semicolons) (sym e2)
     (then (names PrecWord PrecNamed i refl refl mi)
-    (record { is = ap (reached (Some PrecNamed)) a })) in
+    (record { is = ap (state_after (Some PrecNamed)) a })) in
     subst (To Ruled Body) (sym e) (record {
       last = Semicolons;
       such = closed_off;
@@ -400,7 +403,7 @@ closed _ _ y prec_semicolon (q, r, e, mq, p) =
       such = closed_off;
       leads =
           then mq.leads (record {
-            is = ap (reached (Some mq.last)) s ∙ ends_rule mq.last mq.such
+            is = ap (state_after (Some mq.last)) s ∙ ends_rule mq.last mq.such
                 kind.Semicolon Semicolons refl;
           });
     })

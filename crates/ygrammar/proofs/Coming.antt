@@ -21,7 +21,7 @@ use Rattle.ygrammar.specs.declared.recogniser.State.TheVariants.{TypeTagged, Typ
 use Rattle.ygrammar.specs.declared.recogniser.State.TheVariants.{PrecWord, PrecNamed, Semicolons}
 use Rattle.ygrammar.specs.declared.recogniser.State.TheVariants.{End}
 use Rattle.ygrammar.specs.Syntax.{BeginsSpec}
-use Rattle.ygrammar.specs.Recogniser.{next_state, reached, is_final, is_final_at, is_end}
+use Rattle.ygrammar.specs.Recogniser.{next_state, state_after, is_final, is_final_at, is_end}
 use Rattle.ygrammar.specs.Lexemes.{Lexeme, fixed, kind_of}
 use Rattle.ygrammar.specs.Lexer.{Part, lexeme, PartAt, Cuts, lexemes, kinds, is_mark, marks}
 use Rattle.ygrammar.specs.Lexer.{syntax, FaultAt, refusal, IsLine, ended, marked, lexical, stray}
@@ -128,7 +128,7 @@ marks_push : (ls : List Lexeme) (l : Lexeme) → marks (ls ++ l ∷ []) ≡ mark
 marks_push ls l = marks_append ls (l ∷ [])
 
 -- the state tells how many marks have been read
-reads_marks : (ls : List Lexeme) (q r : State) → reached (Some q) (kinds ls) ≡ Some r →
+reads_marks : (ls : List Lexeme) (q r : State) → state_after (Some q) (kinds ls) ≡ Some r →
     marks_of q + marks ls ≡ marks_of r
 reads_marks [] q r e = let z : q ≡ r = cc in let w : marks_of q ≡ marks_of r = ap marks_of z in
     omega (arith, w)
@@ -137,12 +137,13 @@ reads_marks (l ∷ ls) q r e = go (next_state q (kind_of l)) refl e (λ s f. rea
     count_first : marks (l ∷ ls) ≡ count_mark (kind_of l) + marks ls
     count_first = marks_append (l ∷ []) ls
 
-    go : (o : Option State) → next_state q (kind_of l) ≡ o → reached o (kinds ls) ≡ Some r →
-        ((s : State) → reached (Some s) (kinds ls) ≡ Some r → marks_of s + marks ls ≡ marks_of r) →
+    go : (o : Option State) → next_state q (kind_of l) ≡ o → state_after o (kinds ls) ≡ Some r →
+        ((s : State) → state_after (Some s) (kinds ls) ≡ Some r → marks_of s + marks ls ≡ marks_of
+        r) →
         marks_of q + marks (l ∷ ls) ≡ marks_of r
     go None h f again = lost_is (kinds ls) f
       where
-        lost_is : (ks : List Kind) → reached None ks ≡ Some r → marks_of q + marks
+        lost_is : (ks : List Kind) → state_after None ks ≡ Some r → marks_of q + marks
             (l ∷ ls) ≡ marks_of r
         lost_is [] f = cc
         lost_is (k ∷ ks) f = cc
@@ -197,11 +198,12 @@ views_push : (ls : List Placed) (p : Placed) → views (ls ++ p ∷ []) ≡ view
 views_push ls p = map_push (λ (x : Placed). lexeme_view x.lexeme) ls p
 
 reached_push : (ls : List Lexeme) (l : Lexeme) (q : State) (o : Option State) →
-    reached (Some Declarations) (kinds ls) ≡ Some q → next_state q (kind_of l) ≡ o →
-    reached (Some Declarations) (kinds (ls ++ l ∷ [])) ≡ o
+    state_after (Some Declarations) (kinds ls) ≡ Some q → next_state q (kind_of l) ≡ o →
+    state_after (Some Declarations) (kinds (ls ++ l ∷ [])) ≡ o
 reached_push ls l q o e h =
-    ap (reached (Some Declarations)) (kinds_append ls (l ∷ [])) ∙ reached_append (Some Declarations)
-    (kinds ls) (kind_of l ∷ []) ∙ ap (λ z. reached z (kind_of l ∷ [])) e ∙ h
+    ap (state_after (Some Declarations)) (kinds_append ls (l ∷ [])) ∙ reached_append (Some
+    Declarations)
+    (kinds ls) (kind_of l ∷ []) ∙ ap (λ z. state_after z (kind_of l ∷ [])) e ∙ h
 
 -- a lexeme that is read stands where the rest began
 here : (before rest : List ℕ) (at : ℕ) → at ≡ length (before ++ rest) - length rest →
@@ -234,8 +236,8 @@ pub goes_lexeme : (bytes rest m : List ℕ) (ls new : List Placed) (q r : State)
 goes_lexeme bytes rest m ls new q r p c h a e n f =
     let l = lexeme_view p.lexeme in
     let v : views new ≡ views ls ++ l ∷ [] = ap views f ∙ views_push ls p in
-    let s : reached (Some Declarations) (kinds (views new)) ≡ Some r =
-    ap (λ z. reached (Some Declarations) (kinds z)) v ∙ reached_push (views ls) l q
+    let s : state_after (Some Declarations) (kinds (views new)) ≡ Some r =
+    ap (λ z. state_after (Some Declarations) (kinds z)) v ∙ reached_push (views ls) l q
     (Some r) c.state_is e in
     let k = reads_marks (views new) Declarations r s in
     let w = few r n in
@@ -317,7 +319,7 @@ stops_marked bytes rest m ls new q r p c h e n f =
     let so_far = reads_marks (views ls) Declarations q c.state_is in
     let v : views new ≡ views ls ++ fixed sign.Mark ∷ [] = ap views f ∙ views_push ls p ∙ ap
     (λ z. views ls ++ z ∷ []) mark in
-    let s : reached (Some Declarations) (kinds (views ls ++ fixed sign.Mark ∷ [])) ≡ Some r =
+    let s : state_after (Some Declarations) (kinds (views ls ++ fixed sign.Mark ∷ [])) ≡ Some r =
     reached_push (views ls) (fixed sign.Mark) q (Some r) c.state_is
     (ap (λ z. next_state q (kind_of z)) (sym mark) ∙ e) in
     let (line, i) = line_here bytes rest ls q c in

@@ -6,7 +6,7 @@ use Rattle.std.specs.List.{Contains}
 use Rattle.std.proofs.lemmas.List.{get_or-map, get_or_read, length-map}
 use Rattle.std.proofs.lemmas.List.Elements.{All-contains, All-from_get_or, Contains-get_or}
 use Rattle.ygrammar.specs.Grammar.{Production, RuleValue}
-use Rattle.ygrammar.specs.Marking.{IsMarked, IsClosed, IsWorklist, Grows, AreListed, unmarked}
+use Rattle.ygrammar.specs.Marking.{IsMarked, IsClosed, IsWorklist, Grows, AreListed, unmarked_count}
 use Rattle.ygrammar.specs.Marking.{items_of, list_at, rule_at}
 use Rattle.ygrammar.proofs.MarkingSteps.{closed_grows, closed_next}
 
@@ -63,7 +63,7 @@ pub contains_alone : {x y : ℕ} → Contains (x ∷ []) y → x ≡ y
 contains_alone (zero, h, e) = e
 contains_alone (suc k, h, e) = absurd (omega arith)
 
-unmarked_few : (m : List Bool) → unmarked m ≤ length m
+unmarked_few : (m : List Bool) → unmarked_count m ≤ length m
 unmarked_few [] = omega arith
 unmarked_few (true ∷ m) = let i = unmarked_few m in omega arith
 unmarked_few (false ∷ m) = let i = unmarked_few m in omega arith

@@ -7,12 +7,12 @@ use Rattle.ygrammar.specs.declared.kind.Sign.TheVariants.{Mark}
 use Rattle.ygrammar.specs.declared.tree.BodyPart.{BodyPart as CodeBodyPart}
 use Rattle.ygrammar.specs.declared.tree.BodyPart.TheVariants as items
 use Rattle.ygrammar.specs.declared.tree.BracedText.{BracedText}
-use Rattle.ygrammar.specs.declared.tree.Clause.{Clause as CodeClause}
-use Rattle.ygrammar.specs.TreeViews.{body_part_view, clause_view}
+use Rattle.ygrammar.specs.declared.tree.RuleText.{RuleText as CodeRuleText}
+use Rattle.ygrammar.specs.TreeViews.{body_part_view, rule_text_view}
 use Rattle.ygrammar.specs.Elaboration.{body_from, final_of, split_last}
 use Rattle.ygrammar.specs.Lexemes.{Lexeme, fixed}
 use Rattle.ygrammar.specs.Numbered.{inner_after}
-use Rattle.ygrammar.specs.Tree.{Clause, BodyPart, symbol, action, Tree, clause_yield}
+use Rattle.ygrammar.specs.Tree.{RuleText, BodyPart, symbol, action, Tree, rule_text_yield}
 use Rattle.ygrammar.specs.Tree.{definition_yield}
 use Rattle.ygrammar.specs.Tree.{end_yield, body_part_yield, mark_yield, yield}
 
@@ -24,7 +24,7 @@ body_later k (symbol i ∷ xs) = body_later k xs
 body_later k (action t ∷ xs) = let h : suc k ≤ (body_from (suc k) xs).next =
     body_later (suc k) xs in omega arith
 
-rules_later : (k : ℕ) (cs : List Clause) → k ≤ inner_after k cs
+rules_later : (k : ℕ) (cs : List RuleText) → k ≤ inner_after k cs
 rules_later k [] = omega arith
 rules_later k (c ∷ cs) =
     let a = body_later k (final_of c.last c.body).0 in
@@ -45,32 +45,35 @@ action_room xs i k m n t d e h w l =
     omega (arith, b)
 
 -- a rule of the file, as the code reads it
-pub clause_read : (cs : List CodeClause) (i : ℕ) (x : CodeClause) → x ≡ get_or cs i x →
+pub rule_text_read : (cs : List CodeRuleText) (i : ℕ) (x : CodeRuleText) → x ≡ get_or cs i x →
     i < length cs → drop i cs ≡ x ∷ drop (i + 1) cs
-clause_read cs i x e h =
-    drop_more cs i x h ∙ ap (λ (y : CodeClause). y ∷ drop (i + 1) cs) (sym e)
+rule_text_read cs i x e h =
+    drop_more cs i x h ∙ ap (λ (y : CodeRuleText). y ∷ drop (i + 1) cs) (sym e)
 
 -- one rule of the file on, the last number is the same
-pub clause_counts : (cs : List CodeClause) (i k next m : ℕ) (x : CodeClause) (xs : List BodyPart) →
+pub rule_text_counts : (cs : List CodeRuleText) (i k next m : ℕ) (x : CodeRuleText) (xs : List
+    BodyPart) →
     x ≡ get_or cs i x → i < length cs →
-    xs ≡ (final_of (clause_view x).last (clause_view x).body).0 → next ≡ (body_from k xs).next →
-    inner_after k (map clause_view (drop i cs)) ≡ m →
-    inner_after next (map clause_view (drop (i + 1) cs)) ≡ m
-clause_counts cs i k next m x xs r h e f w =
-    ap (λ n. inner_after n (map clause_view (drop (i + 1) cs)))
+    xs ≡ (final_of (rule_text_view x).last (rule_text_view x).body).0 → next ≡ (body_from k xs).next
+    →
+    inner_after k (map rule_text_view (drop i cs)) ≡ m →
+    inner_after next (map rule_text_view (drop (i + 1) cs)) ≡ m
+rule_text_counts cs i k next m x xs r h e f w =
+    ap (λ n. inner_after n (map rule_text_view (drop (i + 1) cs)))
     (f ∙ ap (λ (ys : List BodyPart). (body_from k ys).next) e)
-    ∙ sym (ap (λ (ys : List CodeClause). inner_after k (map clause_view ys))
-    (clause_read cs i x r h)) ∙ w
+    ∙ sym (ap (λ (ys : List CodeRuleText). inner_after k (map rule_text_view ys))
+    (rule_text_read cs i x r h)) ∙ w
 
 -- behind its body there is room
-pub clause_room : (cs : List CodeClause) (i k m n : ℕ) (x : CodeClause) (xs : List BodyPart) →
+pub rule_text_room : (cs : List CodeRuleText) (i k m n : ℕ) (x : CodeRuleText) (xs : List BodyPart)
+    →
     x ≡ get_or cs i x → i < length cs →
-    xs ≡ (final_of (clause_view x).last (clause_view x).body).0 →
-    inner_after k (map clause_view (drop i cs)) ≡ m → m < n → (body_from k xs).next < n
-clause_room cs i k m n x xs r h e w l =
+    xs ≡ (final_of (rule_text_view x).last (rule_text_view x).body).0 →
+    inner_after k (map rule_text_view (drop i cs)) ≡ m → m < n → (body_from k xs).next < n
+rule_text_room cs i k m n x xs r h e w l =
     let next = (body_from k xs).next in
-    let rest : List Clause = map clause_view (drop (i + 1) cs) in
-    let a : inner_after next rest ≡ m = clause_counts cs i k next m x xs r h e refl w in
+    let rest : List RuleText = map rule_text_view (drop (i + 1) cs) in
+    let a : inner_after next rest ≡ m = rule_text_counts cs i k next m x xs r h e refl w in
     let b : next ≤ inner_after next rest = rules_later next rest in
     omega (arith, a)
 
@@ -95,32 +98,33 @@ final_count : (last : Option (List ℕ)) (xs : List BodyPart) → length (final_
 final_count (Some t) xs = omega arith
 final_count None xs = split_count xs
 
-rules_count : (k : ℕ) (cs : List Clause) → inner_after k cs ≤ k + length
-    (flat_map clause_yield cs)
+rules_count : (k : ℕ) (cs : List RuleText) → inner_after k cs ≤ k + length
+    (flat_map rule_text_yield cs)
 rules_count k [] = omega arith
 rules_count k (c ∷ cs) =
     let xs : List BodyPart = (final_of c.last c.body).0 in
     let end : List Lexeme = end_yield c.prec c.last c.semicolons in
     let body : List Lexeme = map body_part_yield c.body in
     let a : inner_after (body_from k xs).next cs ≤ (body_from k xs).next + length
-    (flat_map clause_yield cs) = rules_count (body_from k xs).next cs in
+    (flat_map rule_text_yield cs) = rules_count (body_from k xs).next cs in
     let b : (body_from k xs).next ≤ k + length xs = body_count k xs in
     let d : length xs ≤ length c.body = final_count c.last c.body in
     let e : length (body ++ end) ≡ length body + length end = length-append body end in
     let f : length body ≡ length c.body = length-map c.body body_part_yield in
-    let g : length (clause_yield c ++ flat_map clause_yield cs) ≡ length (clause_yield c) + length
-    (flat_map clause_yield cs) = length-append (clause_yield c)
-    (flat_map clause_yield cs) in
+    let g : length (rule_text_yield c ++ flat_map rule_text_yield cs) ≡ length (rule_text_yield c) +
+    length
+    (flat_map rule_text_yield cs) = length-append (rule_text_yield c)
+    (flat_map rule_text_yield cs) in
     omega arith
 
 -- no more inner actions than lexemes
-pub few_inner : (t : Tree) → inner_after 1 t.clauses ≤ 1 + length (yield t)
+pub few_inner : (t : Tree) → inner_after 1 t.rule_texts ≤ 1 + length (yield t)
 few_inner t =
     let front : List Lexeme = flat_map definition_yield t.definitions in
-    let body : List Lexeme = flat_map clause_yield t.clauses in
+    let body : List Lexeme = flat_map rule_text_yield t.rule_texts in
     let back : List Lexeme = mark_yield t.second_mark in
     let a : length (front ++ fixed Mark ∷ (body ++ back)) ≡ length front + suc
     (length (body ++ back)) = length-append front (fixed Mark ∷ (body ++ back)) in
     let b : length (body ++ back) ≡ length body + length back = length-append body back in
-    let r : inner_after 1 t.clauses ≤ 1 + length body = rules_count 1 t.clauses in
+    let r : inner_after 1 t.rule_texts ≤ 1 + length body = rules_count 1 t.rule_texts in
     omega arith

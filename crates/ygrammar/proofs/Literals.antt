@@ -15,7 +15,8 @@ use Rattle.ygrammar.specs.declared.literal.Stage.TheVariants.{HexMark, Hexed}
 use Rattle.ygrammar.specs.Lexemes.{escape_value, IsCharacter, plain, escape, octal, hexadecimal}
 use Rattle.ygrammar.specs.Lexemes.{IsLiteral, LiteralAt}
 use Rattle.ygrammar.specs.Stages.{is_plain, digit_in, octal_fits, octal_with, more_octals, hex_with}
-use Rattle.ygrammar.specs.Stages.{more_hex, escaped_with, next_stage, closed_stage, Answer, found}
+use Rattle.ygrammar.specs.Stages.{more_hex, after_backslash_with, next_stage, closed_stage, Answer}
+use Rattle.ygrammar.specs.Stages.{found}
 use Rattle.ygrammar.specs.Stages.{stuck, short, shut_with, shut_scan, scan}
 
 -- ---- moves
@@ -88,10 +89,10 @@ moves Backslash b r e = go (escape_value b) refl
   where
     go : (o : Option ℕ) → escape_value b ≡ o → Move Backslash b r
     go (Some v) h =
-        let w : Some (Shut v) ≡ Some r = sym (ap (escaped_with b) h) ∙ e in
+        let w : Some (Shut v) ≡ Some r = sym (ap (after_backslash_with b) h) ∙ e in
         subst (Move Backslash b) (some_is (Shut v) r w) (escape_byte h)
     go None h =
-        let w : escaped_with b None ≡ Some r = sym (ap (escaped_with b) h) ∙ e in
+        let w : after_backslash_with b None ≡ Some r = sym (ap (after_backslash_with b) h) ∙ e in
         choose (eqb b 120) (Some HexMark) (more_octals 0 0 b) (Some r) w
         (λ u j. subst (Move Backslash b) (some_is HexMark r j) (hex_sign (eqb-true b 120 u)))
         (λ u j. octal_moves 0 0 b r (Move Backslash b r) j (λ d f i. subst (Move Backslash b) i
@@ -341,7 +342,7 @@ character_found body v rest (plain e low high no_quote no_slash) =
     (cond-true (is_plain v) (Some (Shut v)) (cond (eqb v 92) (Some Backslash) None) t) refl
 character_found body v rest (escape {b = b} e h) =
     ap (λ z. scan Opened (z ++ 39 ∷ rest)) e ∙ goes Backslash b (Shut v) (39 ∷ rest) v rest
-    (ap (escaped_with b) h) refl
+    (ap (after_backslash_with b) h) refl
 character_found body v rest (octal {digits = ds} e some few digits is low high) =
     ap (λ z. scan Opened (z ++ 39 ∷ rest)) e ∙ begun ds some few digits is
   where
@@ -353,7 +354,8 @@ character_found body v rest (octal {digits = ds} e some few digits is low high) 
         let o = octal_digit d a0 in
         let m = 0 * 8 + digit_value d in
         goes Backslash d (Octals (0 + 1) m) (ds ++ 39 ∷ rest) v rest
-        (ap (escaped_with d) o.0 ∙ cond-false (eqb d 120) (Some HexMark) (more_octals 0 0 d) o.1 ∙
+        (ap (after_backslash_with d) o.0 ∙ cond-false (eqb d 120) (Some HexMark) (more_octals 0 0 d)
+        o.1 ∙
         octal_step 0 0 d a0 (omega arith) (omega (arith, a0)) (λ t. absurd (omega (arith, t))))
         (octals_found (0 + 1) m ds v rest (a.1, omega (arith, f), i, low, high))
 character_found body v rest (hexadecimal {digits = ds} e some digits is low high) =

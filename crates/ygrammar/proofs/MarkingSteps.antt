@@ -6,7 +6,8 @@ use Rattle.std.proofs.Common.{length-append}
 use Rattle.std.proofs.Math.ListN.{set}
 use Rattle.std.proofs.Math.ListN.{get_or-append, length-set}
 use Rattle.std.proofs.Math.Seq.{get_or-append_seam}
-use Rattle.ygrammar.specs.Marking.{IsMarked, IsUnmarked, unmarked, IsWaiting, IsWorklist, Grows}
+use Rattle.ygrammar.specs.Marking.{IsMarked, IsUnmarked, unmarked_count, IsWaiting, IsWorklist}
+use Rattle.ygrammar.specs.Marking.{Grows}
 use Rattle.ygrammar.specs.Marking.{IsClosed, stuck, ahead, marked}
 
 same_or : (a b : ℕ) → (a ≡ b) ⊎ (a ≢ b)
@@ -24,7 +25,7 @@ not_both true h k = search rules
 not_both false h k = search rules
 
 unmarked_set : (m : List Bool) (s : ℕ) → s < length m → get_or m s false ≡ false →
-    unmarked (set m s true) + 1 ≡ unmarked m
+    unmarked_count (set m s true) + 1 ≡ unmarked_count m
 unmarked_set [] s l h = absurd (omega arith)
 unmarked_set (false ∷ m) zero l h = omega arith
 unmarked_set (true ∷ m) zero l h = absurd (not_both true refl h)

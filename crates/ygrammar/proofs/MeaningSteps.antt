@@ -5,17 +5,18 @@ use Rattle.std.proofs.lemmas.List.{length-map}
 use Rattle.std.proofs.lemmas.List.Elements.{All-get_or}
 use Rattle.ygrammar.specs.declared.elaboration.Named.{Named}
 use Rattle.ygrammar.specs.declared.outline.Outline.{Outline}
-use Rattle.ygrammar.specs.declared.tree.Clause.{Clause as CodeClause}
+use Rattle.ygrammar.specs.declared.tree.RuleText.{RuleText as CodeRuleText}
 use Rattle.ygrammar.specs.declared.tree.Tree.{Tree as CodeTree}
 use Rattle.ygrammar.specs.Outline.{Outlines, start_view}
-use Rattle.ygrammar.specs.TreeViews.{clause_view, name_view, tree_view}
+use Rattle.ygrammar.specs.TreeViews.{rule_text_view, name_view, tree_view}
 use Rattle.ygrammar.proofs.NameSteps.{length_texts}
 use Rattle.ygrammar.specs.declared.mistake.Mistake.TheVariants.{BadStart, Undefined, Unproductive}
 use Rattle.ygrammar.specs.declared.mistake.Refused.{Refused}
 use Rattle.ygrammar.specs.declared.mistake.Refused.TheVariants as refused
 use Rattle.ygrammar.specs.declared.precedence.Precedence.{Precedence}
 use Rattle.ygrammar.specs.Elaborated.{AreNamed, Fruitful, IsReady}
-use Rattle.ygrammar.specs.Elaboration.{HavePrecedences, Rule, bare_of, first_rule, lefts, numbered}
+use Rattle.ygrammar.specs.Elaboration.{HavePrecedences, Rule, bare_of, first_rule, lefts}
+use Rattle.ygrammar.specs.Elaboration.{numbered_rule}
 use Rattle.ygrammar.specs.Elaboration.{own_number, token_precedence, rules}
 use Rattle.ygrammar.specs.Elaboration.{rules_from, starts, symbols, token_precedences, tokens}
 use Rattle.ygrammar.specs.Forms.{IsReachable, Productive}
@@ -29,17 +30,17 @@ use Rattle.ygrammar.specs.NameTexts.{texts, value_of}
 use Rattle.ygrammar.specs.Numbered.{rule_numbers, rule_precedence}
 use Rattle.ygrammar.specs.Numbers.{AreNumbers}
 use Rattle.ygrammar.specs.Owned.{Refuses}
-use Rattle.ygrammar.specs.Texts.{rule_text}
-use Rattle.ygrammar.specs.Tree.{Clause, Identifier, IsTree, Tree}
+use Rattle.ygrammar.specs.Texts.{kept_text}
+use Rattle.ygrammar.specs.Tree.{RuleText, Identifier, IsTree, Tree}
 use Rattle.ygrammar.specs.WellFormed.{IsWhole, StandOnce, WellFormed}
 use Rattle.ygrammar.proofs.LastTokens.{have_precedences}
 use Rattle.ygrammar.proofs.Once.{end_name, error_name, numbers_once, symbols_once}
 use Rattle.ygrammar.proofs.Wellness.{in_range}
 
 rules_bare : (ns : List Name) (given : List (Option Precedence)) (rs : List Rule) →
-    map production_of (map (rule_numbers ns given) rs) ≡ map (numbered ns) rs
+    map production_of (map (rule_numbers ns given) rs) ≡ map (numbered_rule ns) rs
 rules_bare ns given [] = refl
-rules_bare ns given (r ∷ rs) = ap (λ (ps : List Production). numbered ns r ∷ ps)
+rules_bare ns given (r ∷ rs) = ap (λ (ps : List Production). numbered_rule ns r ∷ ps)
     (rules_bare ns given rs)
 
 rules_chosen : (ns : List Name) (given : List (Option Precedence)) (rs : List Rule) →
@@ -104,8 +105,9 @@ all_productive t g q h = subst (λ (x : ContextFree). (s : ℕ) → x.tokens ≤
 
 -- the rules by number are those of the tree
 rules_are : (t : Tree) (ns : List Name) (given : List (Option Precedence))
-    (is : List Identifier) (ls : List Name) (cs : List Clause) (vs : List RuleValue) →
-    ns ≡ symbols t → given ≡ token_precedences t → is ≡ starts t → ls ≡ lefts t → cs ≡ t.clauses →
+    (is : List Identifier) (ls : List Name) (cs : List RuleText) (vs : List RuleValue) →
+    ns ≡ symbols t → given ≡ token_precedences t → is ≡ starts t → ls ≡ lefts t → cs ≡ t.rule_texts
+    →
     vs ≡ map (rule_numbers ns given) (first_rule is ls ∷ rules_from [] 1 cs) →
     vs ≡ map (rule_numbers (symbols t) (token_precedences t)) (rules t)
 rules_are t ns given is ls cs vs a b c d e h =
@@ -117,20 +119,20 @@ rules_are t ns given is ls cs vs a b c d e h =
     (first_rule x ls ∷ rules_from [] 1 cs)) c
     ∙ ap (λ (x : List Name). map (rule_numbers (symbols t) (token_precedences t))
     (first_rule (starts t) x ∷ rules_from [] 1 cs)) d
-    ∙ ap (λ (x : List Clause). map (rule_numbers (symbols t) (token_precedences t))
+    ∙ ap (λ (x : List RuleText). map (rule_numbers (symbols t) (token_precedences t))
     (first_rule (starts t) (lefts t) ∷ rules_from [] 1 x)) e
 
 -- the rules that are numbered are those of the tree
 pub numbered_rules : (tree : CodeTree) (n : Named) (o : Outline)
-    (given : List (Option Precedence)) (cs : List CodeClause) (vs : List RuleValue) →
+    (given : List (Option Precedence)) (cs : List CodeRuleText) (vs : List RuleValue) →
     AreNamed (tree_view tree) n → Outlines o (tree_view tree) → given ≡ n.given.items →
-    cs ≡ tree.clauses.items → vs ≡ map (rule_numbers (texts n.names) given)
+    cs ≡ tree.rule_texts.items → vs ≡ map (rule_numbers (texts n.names) given)
     (first_rule (map start_view o.starts.items) (map name_view o.lefts.items) ∷ rules_from [] 1
-    (map clause_view cs)) → vs ≡ map (rule_numbers (symbols (tree_view tree))
+    (map rule_text_view cs)) → vs ≡ map (rule_numbers (symbols (tree_view tree))
     (token_precedences (tree_view tree))) (rules (tree_view tree))
 numbered_rules tree n o given cs vs a b g e h = rules_are (tree_view tree) (texts n.names) given
-    (map start_view o.starts.items) (map name_view o.lefts.items) (map clause_view cs) vs a.names
-    (g ∙ a.given) b.starts b.lefts (ap (λ (xs : List CodeClause). map clause_view xs) e) h
+    (map start_view o.starts.items) (map name_view o.lefts.items) (map rule_text_view cs) vs a.names
+    (g ∙ a.given) b.starts b.lefts (ap (λ (xs : List CodeRuleText). map rule_text_view xs) e) h
 
 -- as many names as symbols
 pub symbols_counted : (t : Tree) (n : Named) (count : ℕ) → AreNamed t n →
@@ -153,7 +155,7 @@ whole_of t n vs ts numbers marks r a b = record {
   token_precedences = ap (λ (x : List (Option Precedence)). length x) r.named.given ∙ length-map
       (tokens t) (token_precedence t) ∙ sym r.named.tokens_first;
   rule_precedences = length-map vs precedence_of ∙ sym (length-map vs production_of);
-  texts = ap (λ (x : List (Option (List ℕ))). length x) r.texts ∙ length-map (rules t) rule_text ∙
+  texts = ap (λ (x : List (Option (List ℕ))). length x) r.texts ∙ length-map (rules t) kept_text ∙
       sym (length-map (rules t) (rule_numbers (symbols t) (token_precedences t))) ∙ ap
       (λ (x : List RuleValue). length x) (sym r.numbered) ∙ sym (length-map vs production_of);
   reachable = b;

@@ -12,7 +12,7 @@ use Rattle.ygrammar.specs.Elaboration.{rules, starts, symbols, token_precedences
 use Rattle.ygrammar.specs.Elaboration.{uses}
 use Rattle.ygrammar.specs.Grammar.{RuleValue}
 use Rattle.ygrammar.specs.Mistakes.{Holds}
-use Rattle.ygrammar.specs.Names.{Name, is_among, number_in, printed}
+use Rattle.ygrammar.specs.Names.{Name, is_among, number_in, printed_name}
 use Rattle.ygrammar.specs.Numbered.{is_between, is_long, rule_numbers}
 use Rattle.ygrammar.specs.Tree.{Identifier, Tree}
 use Rattle.ygrammar.proofs.TellingSteps.{false_true}
@@ -54,16 +54,18 @@ nowhere p (y ∷ xs) x h (zero, l, q) = subst (λ z. p z ≡ false) q (or_none (
 nowhere p (y ∷ xs) x h (suc k, l, q) = nowhere p xs x (or_none (p y) (list_any p xs) h).1
     (k, omega arith, q)
 
-printed_there : (is : List Identifier) (i : Identifier) → Contains is i → Contains (map printed is)
-    (printed i)
+printed_there : (is : List Identifier) (i : Identifier) → Contains is i → Contains (map printed_name
+    is)
+    (printed_name i)
 printed_there [] i c = let k = c.1 in absurd (omega arith)
-printed_there (j ∷ is) i (zero, l, q) = (0, omega arith, ap printed q)
+printed_there (j ∷ is) i (zero, l, q) = (0, omega arith, ap printed_name q)
 printed_there (j ∷ is) i (suc k, l, q) =
     let (m, n, r) = printed_there is i (k, omega arith, q) in
     (suc m, omega arith, r)
 
-printed_of : (is : List Identifier) (n : Name) → Contains (map printed is) n → (i : Identifier) ×
-    Contains is i × (printed i ≡ n)
+printed_of : (is : List Identifier) (n : Name) → Contains (map printed_name is) n → (i : Identifier)
+    ×
+    Contains is i × (printed_name i ≡ n)
 printed_of [] n c = let k = c.1 in absurd (omega arith)
 printed_of (j ∷ is) n (zero, l, q) = (j, (0, omega arith, refl), q)
 printed_of (j ∷ is) n (suc k, l, q) =
@@ -132,30 +134,31 @@ unknown_typed t ns names o k e f h q =
     )
 
 pub undefined_used : (t : Tree) (ns : List Name) (is : List Identifier) (o : Option ℕ) (k : ℕ) →
-    ns ≡ symbols t → is ≡ uses t → is_some o ≡ list_any (λ i. not (is_among ns (printed i))) is →
+    ns ≡ symbols t → is ≡ uses t → is_some o ≡ list_any (λ i. not (is_among ns (printed_name i))) is
+    →
     o ≡ Some k → Holds t Undefined
 undefined_used t ns is o k e f h q =
-    let (i, c, p) = found o k (λ i. not (is_among ns (printed i))) is h q in (
-      printed i,
-      subst (λ (x : List Name). is_among x (printed i) ≡ false) e
-          (not_true (is_among ns (printed i)) p),
+    let (i, c, p) = found o k (λ i. not (is_among ns (printed_name i))) is h q in (
+      printed_name i,
+      subst (λ (x : List Name). is_among x (printed_name i) ≡ false) e
+          (not_true (is_among ns (printed_name i)) p),
       inl (printed_there (uses t) i (subst (λ (x : List Identifier). Contains x i) f c)),
     )
 
 pub all_defined : (t : Tree) (ns ms : List Name) (is : List Identifier) (o u : Option ℕ) →
     ns ≡ symbols t → ms ≡ types_of t → is ≡ uses t → is_some o ≡ list_any (λ n. not (is_among ns n))
-    ms → is_some u ≡ list_any (λ i. not (is_among ns (printed i))) is → o ≡ None → u ≡ None →
+    ms → is_some u ≡ list_any (λ i. not (is_among ns (printed_name i))) is → o ≡ None → u ≡ None →
     Holds t Undefined → ⊥
 all_defined t ns ms is o u e f g h j q r (n, p, c) = go c
   where
     no : is_among ns n ≡ false
     no = ap (λ (x : List Name). is_among x n) e ∙ p
 
-    go : Contains (map printed (uses t)) n ⊎ Contains (types_of t) n → ⊥
+    go : Contains (map printed_name (uses t)) n ⊎ Contains (types_of t) n → ⊥
     go (inl c) =
         let (i, d, s) = printed_of (uses t) n c in
-        let y : is_among ns (printed i) ≡ true = not_false (is_among ns (printed i))
-        (not_found u (λ i. not (is_among ns (printed i))) is j r i
+        let y : is_among ns (printed_name i) ≡ true = not_false (is_among ns (printed_name i))
+        (not_found u (λ i. not (is_among ns (printed_name i))) is j r i
         (subst (λ (x : List Identifier). Contains x i) (sym g) d)) in
         false_true (sym no ∙ ap (is_among ns) (sym s) ∙ y)
     go (inr c) = false_true (sym no ∙ not_false (is_among ns n)
@@ -216,24 +219,31 @@ between_is t n = go (is_among (tokens t) n) refl
         (ap (λ b. cond b false (is_among (symbols t) n)) (sym (token_among t n) ∙ h))
 
 between_here : (t : Tree) (ns : List Name) (k : ℕ) (i : Identifier) → ns ≡ symbols t →
-    k ≡ length (tokens t) → is_between k (length ns) (number_in ns (printed i)) ≡ is_nonterminal t
-    (printed i)
-between_here t ns k i e f = ap (λ a. is_between a (length ns) (number_in ns (printed i))) f ∙ ap
-    (λ (x : List Name). is_between (length (tokens t)) (length x) (number_in x (printed i))) e ∙
-    between_is t (printed i)
+    k ≡ length (tokens t) → is_between k (length ns) (number_in ns (printed_name i)) ≡
+    is_nonterminal t
+    (printed_name i)
+between_here t ns k i e f = ap (λ a. is_between a (length ns) (number_in ns (printed_name i))) f ∙
+    ap
+    (λ (x : List Name). is_between (length (tokens t)) (length x) (number_in x (printed_name i))) e
+    ∙
+    between_is t (printed_name i)
 
 pub prec_found : (t : Tree) (ns : List Name) (k : ℕ) (is : List Identifier) (o : Option ℕ) (a : ℕ) →
     ns ≡ symbols t → k ≡ length (tokens t) → is ≡ precs t → is_some o ≡ list_any
-    (λ i. is_between k (length ns) (number_in ns (printed i))) is → o ≡ Some a → Holds t BadPrec
+    (λ i. is_between k (length ns) (number_in ns (printed_name i))) is → o ≡ Some a → Holds t
+    BadPrec
 prec_found t ns k is o a e f g h q =
-    let (i, c, p) = found o a (λ i. is_between k (length ns) (number_in ns (printed i))) is h q in
+    let (i, c, p) = found o a (λ i. is_between k (length ns) (number_in ns (printed_name i))) is h q
+    in
     (i, subst (λ (x : List Identifier). Contains x i) g c, sym (between_here t ns k i e f) ∙ p)
 
 pub no_prec : (t : Tree) (ns : List Name) (k : ℕ) (is : List Identifier) (o : Option ℕ) →
     ns ≡ symbols t → k ≡ length (tokens t) → is ≡ precs t → is_some o ≡ list_any
-    (λ i. is_between k (length ns) (number_in ns (printed i))) is → o ≡ None → Holds t BadPrec → ⊥
+    (λ i. is_between k (length ns) (number_in ns (printed_name i))) is → o ≡ None → Holds t BadPrec
+    → ⊥
 no_prec t ns k is o e f g h q (i, c, p) =
-    false_true (sym (not_found o (λ i. is_between k (length ns) (number_in ns (printed i))) is h q i
+    false_true (sym (not_found o (λ i. is_between k (length ns) (number_in ns (printed_name i))) is
+    h q i
     (subst (λ (x : List Identifier). Contains x i) (sym g) c)) ∙ between_here t ns k i e f ∙ p)
 
 -- ---- the start symbol
@@ -241,51 +251,54 @@ no_prec t ns k is o e f g h q (i, c, p) =
 pub start_found : (t : Tree) (ns : List Name) (k m : ℕ) (is : List Identifier) (o : Option ℕ)
     (a : ℕ) → ns ≡ symbols t → k ≡ length (tokens t) → is ≡ starts t → m ≡ length is →
     is_some o ≡ (nat_le 2 m || list_any
-    (λ i. not (is_between k (length ns) (number_in ns (printed i)))) is) → o ≡ Some a →
+    (λ i. not (is_between k (length ns) (number_in ns (printed_name i)))) is) → o ≡ Some a →
     Holds t BadStart
 start_found t ns k m is o a e f g j h q =
     go (or_split (nat_le 2 m)
-    (list_any (λ i. not (is_between k (length ns) (number_in ns (printed i)))) is)
+    (list_any (λ i. not (is_between k (length ns) (number_in ns (printed_name i)))) is)
     (sym h ∙ some_true o a q))
   where
     two : nat_le 2 m ≡ true → 2 ≤ m
     two x = grind (arith, nat_tests)
 
     go : (nat_le 2 m ≡ true) ⊎
-        (list_any (λ i. not (is_between k (length ns) (number_in ns (printed i)))) is ≡ true) →
+        (list_any (λ i. not (is_between k (length ns) (number_in ns (printed_name i)))) is ≡ true) →
         Holds t BadStart
     go (inl x) = inl (subst (λ (y : List Identifier). 2 ≤ length y) g
         (subst (λ n. 2 ≤ n) j (two x)))
     go (inr x) =
-        let (i, c, p) = there (λ i. not (is_between k (length ns) (number_in ns (printed i)))) is
+        let (i, c, p) = there (λ i. not (is_between k (length ns) (number_in ns (printed_name i))))
+        is
         x in
         inr (
           i,
           subst (λ (y : List Identifier). Contains y i) g c,
           sym (between_here t ns k i e f) ∙
-              not_true (is_between k (length ns) (number_in ns (printed i))) p,
+              not_true (is_between k (length ns) (number_in ns (printed_name i))) p,
         )
 
 pub no_start : (t : Tree) (ns : List Name) (k m : ℕ) (is : List Identifier) (o : Option ℕ) →
     ns ≡ symbols t → k ≡ length (tokens t) → is ≡ starts t → m ≡ length is →
     is_some o ≡ (nat_le 2 m || list_any
-    (λ i. not (is_between k (length ns) (number_in ns (printed i)))) is) → o ≡ None →
+    (λ i. not (is_between k (length ns) (number_in ns (printed_name i)))) is) → o ≡ None →
     Holds t BadStart → ⊥
 no_start t ns k m is o e f g j h q p =
     go (or_none (nat_le 2 m) (list_any
-    (λ i. not (is_between k (length ns) (number_in ns (printed i)))) is) (sym h ∙ none_false o q)) p
+    (λ i. not (is_between k (length ns) (number_in ns (printed_name i)))) is) (sym h ∙ none_false o
+    q)) p
   where
     few : nat_le 2 m ≡ false → 2 ≤ m → ⊥
     few x y = grind (arith, nat_tests)
 
     go : (nat_le 2 m ≡ false) ×
-        (list_any (λ i. not (is_between k (length ns) (number_in ns (printed i)))) is ≡ false) →
+        (list_any (λ i. not (is_between k (length ns) (number_in ns (printed_name i)))) is ≡ false)
+        →
         Holds t BadStart → ⊥
     go (x, y) (inl z) = few x
         (subst (λ n. 2 ≤ n) (sym (j ∙ ap (λ (w : List Identifier). length w) g)) z)
     go (x, y) (inr (i, c, z)) = false_true (sym z ∙ sym (between_here t ns k i e f) ∙ not_false
-        (is_between k (length ns) (number_in ns (printed i)))
-        (nowhere (λ i. not (is_between k (length ns) (number_in ns (printed i)))) is i y
+        (is_between k (length ns) (number_in ns (printed_name i)))
+        (nowhere (λ i. not (is_between k (length ns) (number_in ns (printed_name i)))) is i y
         (subst (λ (w : List Identifier). Contains w i) (sym g) c)))
 
 -- ---- the limits

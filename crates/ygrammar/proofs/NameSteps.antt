@@ -12,7 +12,7 @@ use Rattle.std.proofs.lemmas.List.Elements.{filter-append}
 use Rattle.std.proofs.lemmas.List.{map-append}
 use Rattle.std.specs.Global.{Vec}
 use Rattle.indexmap.specs.IndexSet.{insert_key}
-use Rattle.ygrammar.specs.Names.{Name, is_among, with_name, with_names, number_in, printed}
+use Rattle.ygrammar.specs.Names.{Name, is_among, with_name, with_names, number_in, printed_name}
 use Rattle.ygrammar.specs.Tree.{Identifier}
 use Rattle.ygrammar.specs.NameTexts.{texts_of}
 
@@ -144,15 +144,17 @@ filter_same p q h (n ∷ ns) = ap (λ b. cond b (n ∷ filter p ns) (filter p ns
 
 -- both halves of the names and literals are with_name
 pub tokens_noted : (all first found one two : List Name) (d u : List Identifier) →
-    found ≡ with_names [] all → one ≡ with_names first (filter (is_among found) (map printed d)) →
-    two ≡ with_names one (filter (is_among found) (map printed u)) → two ≡ with_names first
-    (filter (is_among all) (map printed (d ++ u)))
+    found ≡ with_names [] all → one ≡ with_names first (filter (is_among found) (map printed_name
+    d)) →
+    two ≡ with_names one (filter (is_among found) (map printed_name u)) → two ≡ with_names first
+    (filter (is_among all) (map printed_name (d ++ u)))
 tokens_noted all first found one two d u e f g =
     g
-    ∙ ap (λ ns. with_names ns (filter (is_among found) (map printed u))) f
-    ∙ sym (all_append first (filter (is_among found) (map printed d))
-    (filter (is_among found) (map printed u)))
-    ∙ ap (with_names first) (sym (filter-append (is_among found) (map printed d) (map printed u)) ∙
-    ap (filter (is_among found)) (sym (map-append printed d u)) ∙ filter_same (is_among found)
+    ∙ ap (λ ns. with_names ns (filter (is_among found) (map printed_name u))) f
+    ∙ sym (all_append first (filter (is_among found) (map printed_name d))
+    (filter (is_among found) (map printed_name u)))
+    ∙ ap (with_names first) (sym (filter-append (is_among found) (map printed_name d) (map
+    printed_name u)) ∙
+    ap (filter (is_among found)) (sym (map-append printed_name d u)) ∙ filter_same (is_among found)
     (is_among all) (λ n. ap (λ ns. is_among ns n) e ∙ among_all [] all n)
-    (map printed (d ++ u)))
+    (map printed_name (d ++ u)))

@@ -119,7 +119,8 @@ pub holders_skip : (count : ℕ) (own : List (Option ℕ)) (table : List Holders
 holders_skip count own table i e s = record {
   each = s.each;
   exact = λ m. same_holders (get_or table m Nobody) _ _
-      (λ k p. let l = p.0 in (omega arith, p.1)) (λ k p. back m k (last_or k i p.0) p.1) (s.exact m);
+      (λ k p. let l = p.0 in (omega arith, p.1)) (λ k p. back m k (last_or k i p.0) p.1) (s.exact
+      m);
 }
   where
     back : (m k : ℕ) → (k < i) ⊎ (k ≡ i) → slice_get own k ≡ Some (Some m) →
@@ -155,7 +156,8 @@ holders_more count own table i n e within s = record {
         IsHolders (get_or (set table n (with_holder (get_or table n Nobody) i)) m Nobody)
         (λ k. (k < i + 1) × (slice_get own k ≡ Some (Some m)))
     at m (inl d) =
-        subst (λ a. IsHolders (get_or (set table n (with_holder (get_or table n Nobody) i)) a Nobody)
+        subst (λ a. IsHolders (get_or (set table n (with_holder (get_or table n Nobody) i)) a
+        Nobody)
         (λ k. (k < i + 1) × (slice_get own k ≡ Some (Some a)))) (sym d)
         (subst (λ h. IsHolders h (λ k. (k < i + 1) × (slice_get own k ≡ Some (Some n))))
         (sym (get_or-set_same table n (with_holder (get_or table n Nobody) i) Nobody within))

@@ -8,7 +8,7 @@ use Rattle.ygrammar.specs.declared.mistake.Mistake.TheVariants.{BadNumber}
 use Rattle.ygrammar.specs.Elaboration.{appearances, listings, own_numbers, rule_left, rules}
 use Rattle.ygrammar.specs.Elaboration.{symbols, token_names_of, tokens}
 use Rattle.ygrammar.specs.Mistakes.{HasNone, Holds, order}
-use Rattle.ygrammar.specs.Names.{Name, is_among, with_names, number_in, printed}
+use Rattle.ygrammar.specs.Names.{Name, is_among, with_names, number_in, printed_name}
 use Rattle.ygrammar.specs.Numbers.{AreNumbers, Clashes}
 use Rattle.ygrammar.specs.Tree.{Tree}
 use Rattle.ygrammar.specs.WellFormed.{StandOnce}
@@ -41,7 +41,7 @@ first_names x y =
 
 first_symbols : (t : Tree) → (more : List Name) × (symbols t ≡ codes "$end" ∷ codes "error" ∷ more)
 first_symbols t = first_names (filter (is_among (token_names_of (listings t) (appearances t)))
-    (map printed (appearances t))) (map rule_left (rules t))
+    (map printed_name (appearances t))) (map rule_left (rules t))
 
 pub end_name : (t : Tree) → get_or (symbols t) 0 [] ≡ codes "$end"
 end_name t = ap (λ (ns : List Name). get_or ns 0 []) (first_symbols t).1

@@ -9,11 +9,11 @@ use Rattle.ygrammar.specs.declared.kind.Sign.{Sign}
 use Rattle.ygrammar.specs.declared.kind.Sign.TheVariants as sign
 use Rattle.ygrammar.specs.Lexemes.{Lexeme, name, c_identifier, literal, number, braced, code, fixed}
 use Rattle.ygrammar.specs.Tree.{Identifier, named, quoted, Word, Entry, Definition, start, union}
-use Rattle.ygrammar.specs.Tree.{block, listing, types, BodyPart, symbol, action, Clause, Tree}
+use Rattle.ygrammar.specs.Tree.{block, listing, types, BodyPart, symbol, action, RuleText, Tree}
 use Rattle.ygrammar.specs.Tree.{identifier_yield, option_yield, entry_yield, word_sign, tag_yield}
 use Rattle.ygrammar.specs.Tree.{definition_yield, body_part_yield, left_yield, end_yield}
-use Rattle.ygrammar.specs.Tree.{clause_yield}
-use Rattle.ygrammar.specs.Tree.{mark_yield, yield, IsDefinition, IsClause, IsTree}
+use Rattle.ygrammar.specs.Tree.{rule_text_yield}
+use Rattle.ygrammar.specs.Tree.{mark_yield, yield, IsDefinition, IsRuleText, IsTree}
 
 -- two things are the same, and so is what follows them
 record Same {A : Type 0} (a b : A) (x y : List Lexeme) : Type 0 where
@@ -383,7 +383,7 @@ definition_calm block x = refl
 definition_calm (listing w d es) x = refl
 definition_calm (types n ns) x = refl
 
--- ---- clauses
+-- ---- rules
 
 left_one : (a b : Option (List ℕ)) → left_yield a ≡ left_yield b → a ≡ b
 left_one None None e = refl
@@ -460,24 +460,24 @@ end_first (Some i) t n x w h = refl
 end_first None None n x w h = semis_first is_item n x refl (weaker is_item goes_on_rule items x h)
 end_first None (Some t) n x w h = let z : false ≡ true = w refl in cc
 
-clause_same : (c d : Clause) → c.left ≡ d.left → c.body ≡ d.body → c.prec ≡ d.prec →
+rule_text_same : (c d : RuleText) → c.left ≡ d.left → c.body ≡ d.body → c.prec ≡ d.prec →
     c.last ≡ d.last → c.semicolons ≡ d.semicolons → c ≡ d
-clause_same c d e f g h k =
-    ap (λ (z : Option (List ℕ)). let r : Clause = record {
+rule_text_same c d e f g h k =
+    ap (λ (z : Option (List ℕ)). let r : RuleText = record {
       left = z;
       body = c.body;
       prec = c.prec;
       last = c.last;
       semicolons = c.semicolons;
     } in r) e
-    ∙ ap (λ (z : List BodyPart). let r : Clause = record {
+    ∙ ap (λ (z : List BodyPart). let r : RuleText = record {
       left = d.left;
       body = z;
       prec = c.prec;
       last = c.last;
       semicolons = c.semicolons;
     } in r) f
-    ∙ ap (λ (z : Option Identifier). let r : Clause = record {
+    ∙ ap (λ (z : Option Identifier). let r : RuleText = record {
       left = d.left;
       body = d.body;
       prec =
@@ -485,7 +485,7 @@ clause_same c d e f g h k =
       last = c.last;
       semicolons = c.semicolons;
     } in r) g
-    ∙ ap (λ (z : Option (List ℕ)). let r : Clause = record {
+    ∙ ap (λ (z : Option (List ℕ)). let r : RuleText = record {
       left = d.left;
       body = d.body;
       prec =
@@ -493,7 +493,7 @@ clause_same c d e f g h k =
       last = z;
       semicolons = c.semicolons;
     } in r) h
-    ∙ ap (λ (z : ℕ). let r : Clause = record {
+    ∙ ap (λ (z : ℕ). let r : RuleText = record {
       left = d.left;
       body = d.body;
       prec = d.prec;
@@ -505,10 +505,11 @@ clause_same c d e f g h k =
 regroup : (a b c d x : List Lexeme) → (a ++ (b ++ (c ++ d))) ++ x ≡ a ++ (b ++ (c ++ (d ++ x)))
 regroup a b c d x = simp append_assoc
 
-clause_cancel : (c d : Clause) (x y : List Lexeme) → IsClause c → IsClause d →
-    first goes_on_rule x ≡ false → first goes_on_rule y ≡ false → clause_yield c ++ x ≡ clause_yield
+rule_text_cancel : (c d : RuleText) (x y : List Lexeme) → IsRuleText c → IsRuleText d →
+    first goes_on_rule x ≡ false → first goes_on_rule y ≡ false → rule_text_yield c ++ x ≡
+    rule_text_yield
     d ++ y → Same c d x y
-clause_cancel c d x y i j h k e =
+rule_text_cancel c d x y i j h k e =
     let l = left_one c.left d.left (let z : left_yield c.left ≡ left_yield d.left = cc in z) in
     let tail : (map body_part_yield c.body ++ end_yield c.prec c.last c.semicolons) ++ x ≡
     (map body_part_yield d.body ++ end_yield d.prec d.last d.semicolons) ++ y = cc in
@@ -538,17 +539,18 @@ clause_cancel c d x y i j h k e =
     (semis_first is_act c.semicolons x refl (weaker is_act goes_on_rule acts x h))
     (semis_first is_act d.semicolons y refl (weaker is_act goes_on_rule acts y k)) p.rest in
     let s = semis_one c.semicolons d.semicolons x y h k t.rest in
-    record { one = clause_same c d l b.one p.one t.one s.one; rest = s.rest }
+    record { one = rule_text_same c d l b.one p.one t.one s.one; rest = s.rest }
 
-clause_starts : (c : Clause) (x : List Lexeme) → first is_left (clause_yield c ++ x) ≡ true
-clause_starts c x = go c.left
+rule_text_starts : (c : RuleText) (x : List Lexeme) → first is_left (rule_text_yield c ++ x) ≡ true
+rule_text_starts c x = go c.left
   where
     go : (l : Option (List ℕ)) → is_left (left_yield l) ≡ true
     go None = refl
     go (Some n) = refl
 
-clause_calm : (c : Clause) (x : List Lexeme) → first goes_on_rule (clause_yield c ++ x) ≡ false
-clause_calm c x = go c.left
+rule_text_calm : (c : RuleText) (x : List Lexeme) → first goes_on_rule (rule_text_yield c ++ x) ≡
+    false
+rule_text_calm c x = go c.left
   where
     go : (l : Option (List ℕ)) → goes_on_rule (left_yield l) ≡ false
     go None = refl
@@ -567,22 +569,22 @@ mark_first : (p : Lexeme → Bool) (b : Bool) → p (fixed sign.Mark) ≡ false 
 mark_first p true h = h
 mark_first p false h = refl
 
-tree_same : (t u : Tree) → t.definitions ≡ u.definitions → t.clauses ≡ u.clauses →
+tree_same : (t u : Tree) → t.definitions ≡ u.definitions → t.rule_texts ≡ u.rule_texts →
     t.second_mark ≡ u.second_mark → t ≡ u
 tree_same t u e f g =
     ap (λ (z : List Definition). let r : Tree = record {
       definitions = z;
-      clauses = t.clauses;
+      rule_texts = t.rule_texts;
       second_mark = t.second_mark;
     } in r) e
-    ∙ ap (λ (z : List Clause). let r : Tree = record {
+    ∙ ap (λ (z : List RuleText). let r : Tree = record {
       definitions = u.definitions;
-      clauses = z;
+      rule_texts = z;
       second_mark = t.second_mark;
     } in r) f
     ∙ ap (λ (z : Bool). let r : Tree = record {
       definitions = u.definitions;
-      clauses = u.clauses;
+      rule_texts = u.rule_texts;
       second_mark = z;
     } in r) g
 
@@ -590,14 +592,15 @@ pub one_tree : (t u : Tree) → IsTree t → IsTree u → yield t ≡ yield u �
 one_tree t u h k e =
     let d = many_one definition_yield is_definition definition_starts IsDefinition goes_on_list
     definition_calm definition_cancel t.definitions u.definitions
-    (fixed sign.Mark ∷ (flat_map clause_yield t.clauses ++ mark_yield t.second_mark))
-    (fixed sign.Mark ∷ (flat_map clause_yield u.clauses ++ mark_yield u.second_mark))
+    (fixed sign.Mark ∷ (flat_map rule_text_yield t.rule_texts ++ mark_yield t.second_mark))
+    (fixed sign.Mark ∷ (flat_map rule_text_yield u.rule_texts ++ mark_yield u.second_mark))
     h.definitions k.definitions refl refl refl refl e in
-    let tail : flat_map clause_yield t.clauses ++ mark_yield t.second_mark ≡ flat_map clause_yield
-    u.clauses ++ mark_yield u.second_mark = let r = d.rest in cc in
-    let c = many_one clause_yield is_left clause_starts IsClause goes_on_rule clause_calm
-    clause_cancel t.clauses u.clauses (mark_yield t.second_mark) (mark_yield u.second_mark)
-    h.clauses k.clauses (mark_first is_left t.second_mark refl)
+    let tail : flat_map rule_text_yield t.rule_texts ++ mark_yield t.second_mark ≡ flat_map
+    rule_text_yield
+    u.rule_texts ++ mark_yield u.second_mark = let r = d.rest in cc in
+    let c = many_one rule_text_yield is_left rule_text_starts IsRuleText goes_on_rule rule_text_calm
+    rule_text_cancel t.rule_texts u.rule_texts (mark_yield t.second_mark) (mark_yield u.second_mark)
+    h.rule_texts k.rule_texts (mark_first is_left t.second_mark refl)
     (mark_first is_left u.second_mark refl) (mark_first goes_on_rule t.second_mark refl)
     (mark_first goes_on_rule u.second_mark refl) tail in
     tree_same t u d.one c.one (mark_one t.second_mark u.second_mark c.rest)

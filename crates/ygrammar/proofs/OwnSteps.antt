@@ -104,10 +104,12 @@ pub adds : (ns : List Name) (table : List (Option ℕ)) (l : Listing) (rest whol
     (Some i) → TellsNumbers ns (l ∷ rest) whole table fault →
     TellsNumbers ns rest whole (with_number table k (unwrap_or number 0)) new
 adds ns table l rest whole i k number (Some j) new hk gives e s =
-    subst (λ (o : Option ℕ). TellsNumbers ns rest whole (with_number table k (unwrap_or number 0)) o)
+    subst (λ (o : Option ℕ). TellsNumbers ns rest whole (with_number table k (unwrap_or number 0))
+    o)
     (sym e) s
 adds ns table l rest whole i k None None new hk gives e s =
-    subst (λ (o : Option ℕ). TellsNumbers ns rest whole (with_number table k 0) o) (sym e) (inl gives)
+    subst (λ (o : Option ℕ). TellsNumbers ns rest whole (with_number table k 0) o) (sym e) (inl
+    gives)
 adds ns table l rest whole i k (Some v) None new hk gives e s = go (get_or table k None) refl
   where
     within_or : (a b : ℕ) → ((a < b) × (nat_lt a b ≡ true)) ⊎ ((b ≤ a) × (nat_lt a b ≡ false))
@@ -123,7 +125,8 @@ adds ns table l rest whole i k (Some v) None new hk gives e s = go (get_or table
         ((length table ≤ k) × (nat_lt k (length table) ≡ false)) →
         TellsNumbers ns rest whole (with_number table k v) None
     more f (inl (h, b)) = subst (λ (t : List (Option ℕ)). TellsNumbers ns rest whole t None)
-        (sym (ap (λ c. cond (c && not (is_some (get_or table k None))) (set table k (Some v)) table) b
+        (sym (ap (λ c. cond (c && not (is_some (get_or table k None))) (set table k (Some v)) table)
+        b
         ∙ ap (λ (o : Option ℕ). cond (not (is_some o)) (set table k (Some v)) table) f)) (
           says digits_number ns table l rest whole v k gives.1 hk h f s.0,
           fit_more table k v h gives.0 s.1,
@@ -143,7 +146,8 @@ adds ns table l rest whole i k (Some v) None new hk gives e s = go (get_or table
         (within_or k (length table)))
     go (Some u) f = subst (λ (x : Option ℕ). TellsNumbers ns rest whole (with_number table k v) x)
         (sym (e ∙ ap (λ (x : Option ℕ). cond (not (is_some x)) None (Some i)) f))
-        (inr (twice digits_number ns table l rest whole u v k gives.1 hk (within table k u f) f s.0))
+        (inr (twice digits_number ns table l rest whole u v k gives.1 hk (within table k u f) f
+        s.0))
 
 -- the number of a listing's digits
 digits_are : (x : Listed) (d : Digits) (v : ℕ) → x.digits ≡ Some d →
@@ -160,7 +164,8 @@ digits_are x d v e f = ap (λ (o : Option Digits).
     some_of n = Some n
 
 -- a listing gives a number in range, or else one that is not
-number_given : (d : Listed) (xs : List Listed) (i : ℕ) (ds : Digits) (o : Option ℕ) → i < length xs →
+number_given : (d : Listed) (xs : List Listed) (i : ℕ) (ds : Digits) (o : Option ℕ) → i < length xs
+    →
     (get_or xs i d).digits ≡ Some ds → MatchOption o (IsFit (digits_value 10 ds.digits.now) → ⊥)
     (λ v. (v ≡ digits_value 10 ds.digits.now) × IsFit v) →
     MatchOption o (GivesUnfit (map listed_view xs))

@@ -10,13 +10,13 @@ use Rattle.ygrammar.specs.declared.mistake.Mistake.TheVariants as mistakes
 use Rattle.ygrammar.specs.declared.mistake.Refused.{Refused}
 use Rattle.ygrammar.specs.declared.mistake.Refused.TheVariants as refused
 use Rattle.ygrammar.specs.declared.precedence.Precedence.{Precedence}
-use Rattle.ygrammar.specs.Elaboration.{Listing, appearances, declared, uses, digits_number}
+use Rattle.ygrammar.specs.Elaboration.{Listing, appearances, identifiers_of, uses, digits_number}
 use Rattle.ygrammar.specs.Elaboration.{first_or, gives_of, listings, option_list, own_number}
 use Rattle.ygrammar.specs.Elaboration.{own_numbers, token_precedence, said_of, token_names_of}
 use Rattle.ygrammar.specs.Elaboration.{tokens}
 use Rattle.ygrammar.specs.Elaboration.{usual_of}
 use Rattle.ygrammar.specs.Mistakes.{Holds}
-use Rattle.ygrammar.specs.Names.{Name, is_among, number_in, printed}
+use Rattle.ygrammar.specs.Names.{Name, is_among, number_in, printed_name}
 use Rattle.ygrammar.specs.Numbers.{AreSmall, Clashes}
 use Rattle.ygrammar.specs.Owned.{AllFit, AllSmall, IsFit, OwnSoFar, Precedes, TellsNumbers, keep}
 use Rattle.ygrammar.specs.Told.{IsTold, SaidTwice, IsTwicePrecedence, TellsPrecedences}
@@ -27,7 +27,8 @@ use Rattle.ygrammar.proofs.TokenSteps.{distinct_none, listed_token, said_listed}
 
 pub distinct_tokens : (t : Tree) → Distinct (tokens t)
 distinct_tokens t = distinct_all (codes "$end" ∷ codes "error" ∷ [])
-    (filter (is_among (token_names_of (listings t) (appearances t))) (map printed (appearances t)))
+    (filter (is_among (token_names_of (listings t) (appearances t))) (map printed_name (appearances
+    t)))
     (distinct_all [] (codes "$end" ∷ codes "error" ∷ []) distinct_none)
 
 -- something is said of tokens alone
@@ -181,7 +182,8 @@ bad_given t table (Some i) h (inl p) = inl p
 bad_given t table (Some i) h (inr p) = inr (inl p)
 bad_given t table None h s = absurd (false_true h)
 
-pub appear : (d u : List Identifier) (t : Tree) → d ≡ flat_map declared t.definitions → u ≡ uses t →
+pub appear : (d u : List Identifier) (t : Tree) → d ≡ flat_map identifiers_of t.definitions → u ≡
+    uses t →
     d ++ u ≡ appearances t
 appear d u t e f = ap (λ (x : List Identifier). x ++ u) e ∙ ap (λ (x : List Identifier).
-    flat_map declared t.definitions ++ x) f
+    flat_map identifiers_of t.definitions ++ x) f

@@ -6,7 +6,7 @@ use Rattle.ygrammar.specs.declared.tree.BodyPart.{BodyPart as CodeBodyPart}
 use Rattle.ygrammar.specs.declared.tree.BracedText.{BracedText}
 use Rattle.ygrammar.specs.declared.tree.BodyPart.TheVariants as items
 use Rattle.ygrammar.specs.declared.tree.Occurrence.{Occurrence}
-use Rattle.ygrammar.specs.Tree.{BodyPart, symbol, action, Identifier, Clause}
+use Rattle.ygrammar.specs.Tree.{BodyPart, symbol, action, Identifier, RuleText}
 use Rattle.ygrammar.specs.TreeViews.{braced_view, body_part_view, occurrence_view, option_view}
 use Rattle.ygrammar.specs.Elaboration.{split_last, final_of, Body, Rule, body_from, inner_rule}
 use Rattle.ygrammar.specs.Elaboration.{or_else, precedence_at, rules_from}
@@ -78,7 +78,7 @@ inner_are ns given k (action t ∷ xs) =
 
 -- one more rule of the file is put behind the rules of its inner actions
 pub rule_step : (ns : List Name) (given : List (Option Precedence)) (before : Name) (k : ℕ)
-    (cv : Clause) (cs : List Clause) (items : List BodyPart) (left : Name) (symbols : List ℕ)
+    (cv : RuleText) (cs : List RuleText) (items : List BodyPart) (left : Name) (symbols : List ℕ)
     (next l : ℕ) (p : Option Precedence) (old mid new whole : List RuleValue)
     → items ≡ (final_of cv.last cv.body).0
     → mid ≡ old ++ map (inner_numbers ns) (body_from k items).inner

@@ -21,7 +21,8 @@ use Rattle.ygrammar.specs.Syntax.{nlist_more, nmno_plain, nmno_number, identifie
 use Rattle.ygrammar.specs.Syntax.{identifier_literal, tlist_one, tlist_more, rules_one, rules_more}
 use Rattle.ygrammar.specs.Syntax.{rule_head, rule_bar, rbody_empty, rbody_symbol, rbody_act}
 use Rattle.ygrammar.specs.Syntax.{prec_empty, prec_named, prec_act, prec_semicolon, IsSpec}
-use Rattle.ygrammar.specs.Recogniser.{after_definition, after_rule, next_state, reached, is_final}
+use Rattle.ygrammar.specs.Recogniser.{after_definition, after_rule, next_state, state_after}
+use Rattle.ygrammar.specs.Recogniser.{is_final}
 use Rattle.ygrammar.specs.Recogniser.{is_final_at, run}
 use Rattle.ygrammar.proofs.Derivations.{trans, within, replaced}
 use Rattle.ygrammar.proofs.Accepted.{lost}
@@ -46,7 +47,7 @@ before more = defs ∷ rword ∷ tag ∷ nlist ∷ []
 
 data Shape : Type 0 where
   declared start_word union_word list_word tag_open tag_named list_tagged listed_first listed_more
-      numbered : Shape
+      numbered_rule : Shape
   type_word type_open type_named type_tagged typed rules_mark whole : Shape
   body prec_word prec_read semicolons : Front → Shape
 
@@ -60,7 +61,7 @@ state tag_named = ListTagName
 state list_tagged = ListTagged
 state listed_first = Listed
 state listed_more = Listed
-state numbered = Numbered
+state numbered_rule = Numbered
 state type_word = TypeWord
 state type_open = TypeTagOpen
 state type_named = TypeTagName
@@ -83,7 +84,7 @@ form tag_named = defs ∷ rword ∷ lexeme kind.Less ∷ lexeme kind.Name ∷ []
 form list_tagged = defs ∷ rword ∷ tag ∷ []
 form listed_first = defs ∷ rword ∷ tag ∷ identifier ∷ []
 form listed_more = defs ∷ rword ∷ tag ∷ nlist ∷ identifier ∷ []
-form numbered = defs ∷ rword ∷ tag ∷ nlist ∷ []
+form numbered_rule = defs ∷ rword ∷ tag ∷ nlist ∷ []
 form type_word = defs ∷ lexeme kind.Types ∷ []
 form type_open = defs ∷ lexeme kind.Types ∷ lexeme kind.Less ∷ []
 form type_named = defs ∷ lexeme kind.Types ∷ lexeme kind.Less ∷ lexeme kind.Name ∷ []
@@ -297,25 +298,26 @@ moved list_tagged kind.Name = by listed_first
 moved list_tagged kind.Literal = by listed_first
     (at (defs ∷ rword ∷ tag ∷ []) [] identifier _ identifier_literal done)
 moved list_tagged _ = tt
-moved listed_first kind.Number = by numbered (at (defs ∷ rword ∷ tag ∷ []) [] nlist _ nlist_one
+moved listed_first kind.Number = by numbered_rule (at (defs ∷ rword ∷ tag ∷ []) [] nlist _ nlist_one
     (at (defs ∷ rword ∷ tag ∷ []) [] nmno _ nmno_number done))
 moved listed_first kind.Name = by listed_more
     (next_entry (form listed_first) kind.Name identifier_name first_entry)
 moved listed_first kind.Literal = by listed_more
     (next_entry (form listed_first) kind.Literal identifier_literal first_entry)
 moved listed_first k = between (form listed_first) k first_listed
-moved listed_more kind.Number = by numbered (at (defs ∷ rword ∷ tag ∷ []) [] nlist _ nlist_more
+moved listed_more kind.Number = by numbered_rule (at (defs ∷ rword ∷ tag ∷ []) [] nlist _ nlist_more
     (at (defs ∷ rword ∷ tag ∷ nlist ∷ []) [] nmno _ nmno_number done))
 moved listed_more kind.Name = by listed_more
     (next_entry (form listed_more) kind.Name identifier_name more_entry)
 moved listed_more kind.Literal = by listed_more
     (next_entry (form listed_more) kind.Literal identifier_literal more_entry)
 moved listed_more k = between (form listed_more) k more_listed
-moved numbered kind.Name = by listed_more (next_entry (form numbered) kind.Name identifier_name
+moved numbered_rule kind.Name = by listed_more (next_entry (form numbered_rule) kind.Name
+    identifier_name
     done)
-moved numbered kind.Literal = by listed_more
-    (next_entry (form numbered) kind.Literal identifier_literal done)
-moved numbered k = between (form numbered) k listed_done
+moved numbered_rule kind.Literal = by listed_more
+    (next_entry (form numbered_rule) kind.Literal identifier_literal done)
+moved numbered_rule k = between (form numbered_rule) k listed_done
 moved type_word kind.Less = by type_open done
 moved type_word _ = tt
 moved type_open kind.Name = by type_named done
@@ -369,23 +371,24 @@ final whole e = done
 final _ e = cc
 
 derived_from : (s : Shape) (x : List Symbol) (ks : List Kind) → Form (form s) x →
-    is_final_at (reached (Some (state s)) ks) ≡ true → Form (spec ∷ []) (x ++ map lexeme ks)
+    is_final_at (state_after (Some (state s)) ks) ≡ true → Form (spec ∷ []) (x ++ map lexeme ks)
 derived_from s x [] d e = rw append-nil (trans (final s e) d)
 derived_from s x (k ∷ ks) d e =
     subst (Form (spec ∷ [])) (append_assoc x (lexeme k ∷ []) (map lexeme ks))
     (go (next_state (state s) k) (moved s k) e (λ t y. derived_from t y ks))
   where
-    go : (o : Option State) → MovedTo o (form s ++ lexeme k ∷ []) → is_final_at (reached o ks) ≡
+    go : (o : Option State) → MovedTo o (form s ++ lexeme k ∷ []) → is_final_at (state_after o ks) ≡
         true
         → ((t : Shape) (y : List Symbol) → Form (form t) y →
-        is_final_at (reached (Some (state t)) ks) ≡ true → Form (spec ∷ [])
+        is_final_at (state_after (Some (state t)) ks) ≡ true → Form (spec ∷ [])
         (y ++ map lexeme ks))
         → Form (spec ∷ []) ((x ++ lexeme k ∷ []) ++ map lexeme ks)
-    go None m h again = let n : is_final_at (reached None ks) ≡ false = ap is_final_at (lost ks) in
+    go None m h again = let n : is_final_at (state_after None ks) ≡ false = ap is_final_at (lost ks)
+        in
         cc
     go (Some q) m h again = again m.shape (x ++ lexeme k ∷ [])
         (trans m.derives (within [] (lexeme k ∷ []) d))
-        (ap (λ p. is_final_at (reached (Some p) ks)) m.in_state ∙ h)
+        (ap (λ p. is_final_at (state_after (Some p) ks)) m.in_state ∙ h)
 
 -- what the recogniser accepts is derived
 pub derived : (ks : List Kind) → run Declarations ks ≡ true → IsSpec ks

@@ -13,16 +13,19 @@ use Rattle.ygrammar.specs.Lexemes.{Spells}
 use Rattle.ygrammar.specs.Lexer.{Part, blank, comment, lexeme, Cuts, ComesTo, IsCut, at_end}
 use Rattle.ygrammar.specs.Lexer.{at_mark, SpellsSyntax, lexemes}
 use Rattle.ygrammar.specs.Tree.{Identifier, named, quoted, Entry, Definition, start, union, block}
-use Rattle.ygrammar.specs.Tree.{listing, types, BodyPart, symbol, action, Clause, Tree}
+use Rattle.ygrammar.specs.Tree.{listing, types, BodyPart, symbol, action, RuleText, Tree}
 use Rattle.ygrammar.specs.Tree.{identifier_yield, option_yield, entry_yield, tag_yield}
 use Rattle.ygrammar.specs.Tree.{definition_yield, body_part_yield, left_yield, end_yield}
-use Rattle.ygrammar.specs.Tree.{clause_yield}
+use Rattle.ygrammar.specs.Tree.{rule_text_yield}
 use Rattle.ygrammar.specs.Tree.{mark_yield, yield}
-use Rattle.ygrammar.specs.Names.{Name, is_among, printed, printed_literal}
-use Rattle.ygrammar.specs.Elaboration.{appearances, declared, inner_name, is_literal, is_token}
-use Rattle.ygrammar.specs.Elaboration.{body_part_identifier, lefts, level_at, given_by, clause_left}
+use Rattle.ygrammar.specs.Names.{Name, is_among, printed_name, printed_literal}
+use Rattle.ygrammar.specs.Elaboration.{appearances, identifiers_of, inner_name, is_literal}
+use Rattle.ygrammar.specs.Elaboration.{is_token}
+use Rattle.ygrammar.specs.Elaboration.{body_part_identifier, lefts, level_at, given_by}
+use Rattle.ygrammar.specs.Elaboration.{left_of_rule}
 use Rattle.ygrammar.specs.Elaboration.{listed_name, listing_of, listings, listings_from}
-use Rattle.ygrammar.specs.Elaboration.{option_list, prec_of, typed, types_of, used, uses, who_of}
+use Rattle.ygrammar.specs.Elaboration.{option_list, prec_of, type_names, types_of, uses_of, uses}
+use Rattle.ygrammar.specs.Elaboration.{who_of}
 use Rattle.ygrammar.proofs.TellingSteps.{false_true, other_name}
 
 -- ---- what holds of each element
@@ -140,7 +143,7 @@ entries_named (e ∷ es) h = (
 )
 
 declared_named : (d : Definition) → AllByRecursion LexemeNamed (definition_yield d) →
-    AllByRecursion Named (declared d)
+    AllByRecursion Named (identifiers_of d)
 declared_named (start i) h = (identifier_named i h.1.0, tt)
 declared_named (union t) h = tt
 declared_named block h = tt
@@ -149,7 +152,7 @@ declared_named (listing w tag es) h = entries_named es
 declared_named (types tag ns) h = tt
 
 typed_named : (d : Definition) → AllByRecursion LexemeNamed (definition_yield d) →
-    AllByRecursion IsName (typed d)
+    AllByRecursion IsName (type_names d)
 typed_named (start i) h = tt
 typed_named (union t) h = tt
 typed_named block h = tt
@@ -173,8 +176,8 @@ left_named : (o : Option Name) → LexemeNamed (left_yield o) → AllByRecursion
 left_named None h = tt
 left_named (Some n) h = (h, tt)
 
-used_named : (c : Clause) → AllByRecursion LexemeNamed (clause_yield c) → AllByRecursion Named
-    (used c)
+used_named : (c : RuleText) → AllByRecursion LexemeNamed (rule_text_yield c) → AllByRecursion Named
+    (uses_of c)
 used_named c h =
     let e : List Lexeme = end_yield c.prec c.last c.semicolons in
     each_join Named (flat_map body_part_identifier c.body) (prec_of c)
@@ -183,9 +186,10 @@ used_named c h =
     (option_yield (λ i. fixed sign.Prec ∷ identifier_yield i ∷ []) c.prec) _
     (each_right LexemeNamed (map body_part_yield c.body) e h.1)))
 
-clause_named : (c : Clause) → AllByRecursion LexemeNamed (clause_yield c) → AllByRecursion IsName
-    (clause_left c)
-clause_named c h = left_named c.left h.0
+rule_text_named : (c : RuleText) → AllByRecursion LexemeNamed (rule_text_yield c) → AllByRecursion
+    IsName
+    (left_of_rule c)
+rule_text_named c h = left_named c.left h.0
 
 -- a file that is spelled has names for its names
 pub spelled_names : (bytes : List ℕ) (ls : List Lexeme) (t : Tree) → SpellsSyntax bytes ls →
@@ -195,19 +199,23 @@ spelled_names bytes ls t s e =
     (cut_named s.cut) in
     let front : AllByRecursion LexemeNamed (flat_map definition_yield t.definitions) =
     each_left LexemeNamed (flat_map definition_yield t.definitions)
-    (fixed sign.Mark ∷ (flat_map clause_yield t.clauses ++ mark_yield t.second_mark)) all in
+    (fixed sign.Mark ∷ (flat_map rule_text_yield t.rule_texts ++ mark_yield t.second_mark)) all in
     let more : AllByRecursion LexemeNamed
-    (fixed sign.Mark ∷ (flat_map clause_yield t.clauses ++ mark_yield t.second_mark)) =
+    (fixed sign.Mark ∷ (flat_map rule_text_yield t.rule_texts ++ mark_yield t.second_mark)) =
     each_right LexemeNamed (flat_map definition_yield t.definitions)
-    (fixed sign.Mark ∷ (flat_map clause_yield t.clauses ++ mark_yield t.second_mark)) all in
-    let back : AllByRecursion LexemeNamed (flat_map clause_yield t.clauses) = each_left LexemeNamed
-    (flat_map clause_yield t.clauses) (mark_yield t.second_mark) more.1 in
+    (fixed sign.Mark ∷ (flat_map rule_text_yield t.rule_texts ++ mark_yield t.second_mark)) all in
+    let back : AllByRecursion LexemeNamed (flat_map rule_text_yield t.rule_texts) = each_left
+    LexemeNamed
+    (flat_map rule_text_yield t.rule_texts) (mark_yield t.second_mark) more.1 in
     record {
-      appear = each_join Named (flat_map declared t.definitions) (uses t)
-          (each_piece LexemeNamed Named definition_yield declared declared_named t.definitions
-          front) (each_piece LexemeNamed Named clause_yield used used_named t.clauses back);
-      lefts = each_piece LexemeNamed IsName clause_yield clause_left clause_named t.clauses back;
-      types = each_piece LexemeNamed IsName definition_yield typed typed_named t.definitions front;
+      appear = each_join Named (flat_map identifiers_of t.definitions) (uses t)
+          (each_piece LexemeNamed Named definition_yield identifiers_of declared_named t.definitions
+          front) (each_piece LexemeNamed Named rule_text_yield uses_of used_named t.rule_texts
+          back);
+      lefts = each_piece LexemeNamed IsName rule_text_yield left_of_rule rule_text_named
+          t.rule_texts back;
+      types = each_piece LexemeNamed IsName definition_yield type_names typed_named t.definitions
+          front;
     }
 
 -- ---- names that begin with a dollar sign
@@ -229,7 +237,7 @@ literal_plain v = one _ _ _
     one true x y = refl
     one false x y = refl
 
-pub printed_plain : (i : Identifier) → Named i → dollar (printed i) ≡ false
+pub printed_plain : (i : Identifier) → Named i → dollar (printed_name i) ≡ false
 printed_plain (named n) h = name_plain n h
 printed_plain (quoted v) h = literal_plain v
 
@@ -253,18 +261,18 @@ inner_error k e = false_true (ap (λ (n : Name). get_or n 0 0 == 101) e)
 
 -- what holds of the names of all appearances holds of what is listed
 pub listed_each : (P : Name → Type 0) (k : ℕ) (ds : List Definition) → AllByRecursion
-    (λ i. P (printed i)) (flat_map declared ds) → AllByRecursion (λ l. P (listed_name l))
+    (λ i. P (printed_name i)) (flat_map identifiers_of ds) → AllByRecursion (λ l. P (listed_name l))
     (listings_from k ds)
 listed_each P k [] h = tt
 listed_each P k (listing w tag es ∷ ds) h =
     each_join (λ l. P (listed_name l)) (map (listing_of (given_by w (level_at w k))) es)
     (listings_from (level_at w k) ds)
-    (entries (given_by w (level_at w k)) es (each_left (λ i. P (printed i)) (map who_of es)
-    (flat_map declared ds) h))
-    (listed_each P (level_at w k) ds (each_right (λ i. P (printed i)) (map who_of es)
-    (flat_map declared ds) h))
+    (entries (given_by w (level_at w k)) es (each_left (λ i. P (printed_name i)) (map who_of es)
+    (flat_map identifiers_of ds) h))
+    (listed_each P (level_at w k) ds (each_right (λ i. P (printed_name i)) (map who_of es)
+    (flat_map identifiers_of ds) h))
   where
-    entries : (g : Option Precedence) (xs : List Entry) → AllByRecursion (λ i. P (printed i))
+    entries : (g : Option Precedence) (xs : List Entry) → AllByRecursion (λ i. P (printed_name i))
         (map who_of xs) → AllByRecursion (λ l. P (listed_name l)) (map (listing_of g) xs)
     entries g [] q = tt
     entries g (x ∷ xs) q = (q.0, entries g xs q.1)
@@ -275,19 +283,20 @@ listed_each P k (types tag ns ∷ ds) h = listed_each P k ds h
 
 -- what holds of the names of all appearances, of the end and of `error` holds of the tokens
 pub tokens_each : (P : Name → Type 0) (t : Tree) → P (codes "$end") → P (codes "error") →
-    AllByRecursion (λ i. P (printed i)) (appearances t) → AllByRecursion P
-    (codes "$end" ∷ codes "error" ∷ (map listed_name (listings t) ++ map printed
+    AllByRecursion (λ i. P (printed_name i)) (appearances t) → AllByRecursion P
+    (codes "$end" ∷ codes "error" ∷ (map listed_name (listings t) ++ map printed_name
     (filter is_literal (appearances t))))
 tokens_each P t a b h = (
   a,
   (
     b,
-    each_join P (map listed_name (listings t)) (map printed (filter is_literal (appearances t)))
+    each_join P (map listed_name (listings t)) (map printed_name (filter is_literal (appearances
+        t)))
         (each_to_map P listed_name (listings t)
         (listed_each P 0 t.definitions
-        (each_left (λ i. P (printed i)) (flat_map declared t.definitions) (uses t) h)))
-        (each_to_map P printed (filter is_literal (appearances t))
-        (each_filter (λ i. P (printed i)) is_literal (appearances t) h)),
+        (each_left (λ i. P (printed_name i)) (flat_map identifiers_of t.definitions) (uses t) h)))
+        (each_to_map P printed_name (filter is_literal (appearances t))
+        (each_filter (λ i. P (printed_name i)) is_literal (appearances t) h)),
   ),
 )
 
@@ -301,10 +310,10 @@ none_among (n ∷ ns) x h = ap (λ b. b || is_among ns x) (other_name x n (λ e.
 pub not_token : (t : Tree) (x : Name) → IsNamed t → dollar x ≡ true → (codes "$end" ≡ x → ⊥) →
     is_token t x ≡ false
 not_token t x h d e = none_among
-    (codes "$end" ∷ codes "error" ∷ (map listed_name (listings t) ++ map printed
+    (codes "$end" ∷ codes "error" ∷ (map listed_name (listings t) ++ map printed_name
     (filter is_literal (appearances t)))) x
     (tokens_each (λ n. n ≡ x → ⊥) t e (λ q. plain_other (codes "error") x refl d q)
-    (each_weaker Named (λ i. printed i ≡ x → ⊥) (λ i q r. plain_other (printed i) x
+    (each_weaker Named (λ i. printed_name i ≡ x → ⊥) (λ i q r. plain_other (printed_name i) x
     (printed_plain i q) d r) (appearances t) h.appear))
 
 pub accept_token : (t : Tree) → IsNamed t → is_token t (codes "$accept") ≡ false

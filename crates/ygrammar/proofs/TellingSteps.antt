@@ -10,7 +10,7 @@ use Rattle.std.proofs.Math.ListN.{set}
 use Rattle.std.specs.Str.{bytes_eq}
 use Rattle.std.specs.Cmp.Lexicographic.{same_text, other_text}
 use Rattle.ygrammar.specs.Elaboration.{Listing, listed_name, option_list, said_of}
-use Rattle.ygrammar.specs.Names.{Name, number_in, printed}
+use Rattle.ygrammar.specs.Names.{Name, number_in, printed_name}
 use Rattle.ygrammar.specs.Told.{SoFar, SaidTwice}
 use Rattle.ygrammar.proofs.NameSteps.{eq_self}
 
@@ -57,7 +57,8 @@ module _ {A : Type 0} (f : Listing → Option A) where
       empty false o h = refl
 
       nothing : (n : Name) → said_of f (l ∷ rest) n ≡ said_of f rest n
-      nothing n = ap (λ (xs : List A). xs ++ said_of f rest n) (empty (bytes_eq n (printed l.who))
+      nothing n = ap (λ (xs : List A). xs ++ said_of f rest n) (empty (bytes_eq n (printed_name
+          l.who))
           (f l) e)
 
   -- what is said of a name that isn't there
@@ -68,15 +69,17 @@ module _ {A : Type 0} (f : Listing → Option A) where
     each = s.each;
     said = λ n h. ap (λ (xs : List A). option_list (get_or table (number_in ns n) None) ++ xs)
         (sym (ap (λ b. cond b (option_list (f l)) [] ++ said_of f rest n)
-        (other_name n (printed l.who)
-        (λ e. absurd (let a : number_in ns (printed l.who) < length ns =
+        (other_name n (printed_name l.who)
+        (λ e. absurd (let a : number_in ns (printed_name l.who) < length ns =
         subst (λ m. number_in ns m < length ns) e h in omega arith))))) ∙ s.said n h;
   }
 
   told : (l : Listing) (rest : List Listing) (n : Name) (v : A) (b : Bool) → f l ≡ Some v →
-      bytes_eq n (printed l.who) ≡ b → said_of f (l ∷ rest) n ≡ cond b (v ∷ []) [] ++ said_of f rest
+      bytes_eq n (printed_name l.who) ≡ b → said_of f (l ∷ rest) n ≡ cond b (v ∷ []) [] ++ said_of f
+      rest
       n
-  told l rest n v b e q = ap (λ (o : Option A). cond (bytes_eq n (printed l.who)) (option_list o)
+  told l rest n v b e q = ap (λ (o : Option A). cond (bytes_eq n (printed_name l.who)) (option_list
+      o)
       [] ++ said_of f rest n) e ∙ ap (λ c. cond c (v ∷ []) [] ++ said_of f rest n) q
 
   -- one thing is said of a token
@@ -86,14 +89,16 @@ module _ {A : Type 0} (f : Listing → Option A) where
       SoFar f ns (set table k (Some v)) rest whole
   says ns table l rest whole v k e hk hl free s = record {
     each = length-set table k (Some v) ∙ s.each;
-    said = λ n h. here n h (bytes_eq n (printed l.who)) refl ∙ s.said n h;
+    said = λ n h. here n h (bytes_eq n (printed_name l.who)) refl ∙ s.said n h;
   }
     where
-      here : (n : Name) → number_in ns n < length ns → (b : Bool) → bytes_eq n (printed l.who) ≡ b →
+      here : (n : Name) → number_in ns n < length ns → (b : Bool) → bytes_eq n (printed_name l.who)
+          ≡ b →
           option_list (get_or (set table k (Some v)) (number_in ns n) None) ++ said_of f rest n ≡
           option_list (get_or table (number_in ns n) None) ++ said_of f (l ∷ rest) n
       here n h true q =
-          let i : number_in ns n ≡ k = ap (number_in ns) (same_text n (printed l.who) (sym q)) ∙ sym
+          let i : number_in ns n ≡ k = ap (number_in ns) (same_text n (printed_name l.who) (sym q))
+          ∙ sym
           hk in
           ap (λ (o : Option A). option_list o ++ said_of f rest n)
           (ap (λ j. get_or (set table k (Some v)) j None) i ∙ get_or-set_same table k
@@ -101,8 +106,8 @@ module _ {A : Type 0} (f : Listing → Option A) where
           ∙ sym (ap (λ (o : Option A). option_list o ++ said_of f (l ∷ rest) n)
           (ap (λ j. get_or table j None) i ∙ free) ∙ told l rest n v true e q)
       here n h false q =
-          let i : number_in ns n ≡ k → ⊥ = λ j. other_text n (printed l.who) (sym q)
-          (same_number ns n (printed l.who) h (j ∙ hk)) in
+          let i : number_in ns n ≡ k → ⊥ = λ j. other_text n (printed_name l.who) (sym q)
+          (same_number ns n (printed_name l.who) h (j ∙ hk)) in
           ap (λ (o : Option A). option_list o ++ said_of f rest n)
           (get_or-set_other table k (number_in ns n) (Some v) None i)
           ∙ sym (ap (λ (xs : List A). option_list (get_or table (number_in ns n) None) ++ xs)
@@ -113,7 +118,7 @@ module _ {A : Type 0} (f : Listing → Option A) where
       (u v : A) (k : ℕ) → f l ≡ Some v → k ≡ number_in ns (listed_name l) → k < length table →
       get_or table k None ≡ Some u → SoFar f ns table (l ∷ rest) whole → SaidTwice f whole
   twice ns table l rest whole u v k e hk hl held s =
-      let n : Name = printed l.who in
+      let n : Name = printed_name l.who in
       let h : number_in ns n < length ns = subst (λ m. number_in ns n < m) s.each
       (subst (λ j. j < length table) hk hl) in
       let w : u ∷ (v ∷ said_of f rest n) ≡ said_of f whole n =

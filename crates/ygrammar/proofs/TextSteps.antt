@@ -6,12 +6,12 @@ use Rattle.std.proofs.lemmas.List.{map-append}
 use Rattle.ygrammar.specs.declared.tree.BodyPart.{BodyPart as CodeBodyPart}
 use Rattle.ygrammar.specs.Elaboration.{Rule, body_from, final_of, or_else, rules_from}
 use Rattle.ygrammar.specs.Names.{Name}
-use Rattle.ygrammar.specs.Texts.{BodyPartStands, TextsValue, clause_texts, body_part_texts}
-use Rattle.ygrammar.specs.Texts.{rule_text}
-use Rattle.ygrammar.specs.Tree.{Clause, BodyPart, symbol, action}
+use Rattle.ygrammar.specs.Texts.{BodyPartStands, TextsValue, texts_of_rule, body_part_texts}
+use Rattle.ygrammar.specs.Texts.{kept_text}
+use Rattle.ygrammar.specs.Tree.{RuleText, BodyPart, symbol, action}
 use Rattle.ygrammar.specs.TreeViews.{body_part_view}
 
-inner_texts : (k : ℕ) (is : List BodyPart) → flat_map body_part_texts is ≡ map rule_text
+inner_texts : (k : ℕ) (is : List BodyPart) → flat_map body_part_texts is ≡ map kept_text
     (body_from k is).inner
 inner_texts k [] = refl
 inner_texts k (symbol i ∷ is) = inner_texts k is
@@ -19,8 +19,8 @@ inner_texts k (action t ∷ is) = ap (λ (x : List (Option (List ℕ))). Some t 
     (inner_texts (suc k) is)
 
 -- the texts of the rules from a rule of the file on
-pub rules_texts : (before : Name) (k : ℕ) (cs : List Clause) → flat_map clause_texts cs ≡ map
-    rule_text (rules_from before k cs)
+pub rules_texts : (before : Name) (k : ℕ) (cs : List RuleText) → flat_map texts_of_rule cs ≡ map
+    kept_text (rules_from before k cs)
 rules_texts before k [] = refl
 rules_texts before k (c ∷ cs) =
     let f = final_of c.last c.body in
@@ -28,11 +28,11 @@ rules_texts before k (c ∷ cs) =
     let n = or_else c.left before in
     let rest : List Rule = rules_from n b.next cs in
     let r : Rule = record { left = n; body = b.symbols; prec = c.prec; text = f.1 } in
-    append_assoc (flat_map body_part_texts f.0) (f.1 ∷ []) (flat_map clause_texts cs)
+    append_assoc (flat_map body_part_texts f.0) (f.1 ∷ []) (flat_map texts_of_rule cs)
     ∙ ap (λ (x : List (Option (List ℕ))). flat_map body_part_texts f.0 ++ (f.1 ∷ x))
     (rules_texts n b.next cs)
-    ∙ ap (λ (x : List (Option (List ℕ))). x ++ (f.1 ∷ map rule_text rest)) (inner_texts k f.0)
-    ∙ sym (map-append rule_text b.inner (r ∷ rest))
+    ∙ ap (λ (x : List (Option (List ℕ))). x ++ (f.1 ∷ map kept_text rest)) (inner_texts k f.0)
+    ∙ sym (map-append kept_text b.inner (r ∷ rest))
 
 -- one part of a body on, the texts of the inner actions are those of the whole body
 pub one_item : (source : List ℕ) (old new : TextsValue) (xs rest : List CodeBodyPart)

@@ -7,11 +7,12 @@ use Rattle.std.specs.Str.{bytes_eq}
 use Rattle.std.specs.Cmp.Lexicographic.{same_text}
 use Rattle.std.proofs.lemmas.List.{length-map, map-append}
 use Rattle.std.proofs.lemmas.List.Folds.{list_any-append}
-use Rattle.ygrammar.specs.Elaboration.{Listing, appearances, declared, is_literal, is_token}
+use Rattle.ygrammar.specs.Elaboration.{Listing, appearances, identifiers_of, is_literal, is_token}
 use Rattle.ygrammar.specs.Elaboration.{level_at, given_by, listed_name, listing_of, listings}
 use Rattle.ygrammar.specs.Elaboration.{listings_from, option_list, said_of, token_names_of, tokens}
 use Rattle.ygrammar.specs.Elaboration.{uses, who_of}
-use Rattle.ygrammar.specs.Names.{Name, find_in, is_among, with_name, with_names, number_in, printed}
+use Rattle.ygrammar.specs.Names.{Name, find_in, is_among, with_name, with_names, number_in}
+use Rattle.ygrammar.specs.Names.{printed_name}
 use Rattle.ygrammar.specs.Tree.{Definition, Entry, Identifier, Tree, start, union, block, listing}
 use Rattle.ygrammar.specs.Tree.{types}
 use Rattle.ygrammar.proofs.NameSteps.{among_all, eq_self}
@@ -81,42 +82,47 @@ filter_among p (x ∷ xs) n h = go (p x) refl h (λ r. filter_among p xs n r)
     go false q k again = again
         (subst (λ c. is_among (cond c (x ∷ filter p xs) (filter p xs)) n ≡ true) q k)
 
-literals_appear : (is : List Identifier) (n : Name) → is_among (map printed (filter is_literal is))
-    n ≡ true → is_among (map printed is) n ≡ true
+literals_appear : (is : List Identifier) (n : Name) → is_among (map printed_name (filter is_literal
+    is))
+    n ≡ true → is_among (map printed_name is) n ≡ true
 literals_appear [] n h = h
 literals_appear (i ∷ is) n h = go (is_literal i) refl h (λ r. literals_appear is n r)
   where
     go : (b : Bool) → is_literal i ≡ b →
-        is_among (map printed (cond (is_literal i) (i ∷ filter is_literal is)
+        is_among (map printed_name (cond (is_literal i) (i ∷ filter is_literal is)
         (filter is_literal is))) n ≡ true →
-        (is_among (map printed (filter is_literal is)) n ≡ true → is_among (map printed is) n ≡
-        true) → is_among (map printed (i ∷ is)) n ≡ true
-    go true q k again = split (or_cases (bytes_eq n (printed i))
-        (is_among (map printed (filter is_literal is)) n)
-        (subst (λ c. is_among (map printed (cond c (i ∷ filter is_literal is)
+        (is_among (map printed_name (filter is_literal is)) n ≡ true → is_among (map printed_name
+        is) n ≡
+        true) → is_among (map printed_name (i ∷ is)) n ≡ true
+    go true q k again = split (or_cases (bytes_eq n (printed_name i))
+        (is_among (map printed_name (filter is_literal is)) n)
+        (subst (λ c. is_among (map printed_name (cond c (i ∷ filter is_literal is)
         (filter is_literal is))) n ≡ true) q k))
       where
-        split : (bytes_eq n (printed i) ≡ true) ⊎
-            (is_among (map printed (filter is_literal is)) n ≡ true) →
-            is_among (map printed (i ∷ is)) n ≡ true
-        split (inl e) = or_left (bytes_eq n (printed i)) (is_among (map printed is) n) e
-        split (inr r) = or_right (bytes_eq n (printed i)) (is_among (map printed is) n) (again r)
-    go false q k again = or_right (bytes_eq n (printed i)) (is_among (map printed is) n)
+        split : (bytes_eq n (printed_name i) ≡ true) ⊎
+            (is_among (map printed_name (filter is_literal is)) n ≡ true) →
+            is_among (map printed_name (i ∷ is)) n ≡ true
+        split (inl e) = or_left (bytes_eq n (printed_name i)) (is_among (map printed_name is) n) e
+        split (inr r) = or_right (bytes_eq n (printed_name i)) (is_among (map printed_name is) n)
+            (again r)
+    go false q k again = or_right (bytes_eq n (printed_name i)) (is_among (map printed_name is) n)
         (again (subst (λ c. is_among
-        (map printed (cond c (i ∷ filter is_literal is) (filter is_literal is))) n ≡ true) q k))
+        (map printed_name (cond c (i ∷ filter is_literal is) (filter is_literal is))) n ≡ true) q
+        k))
 
-listed_entries : (g : Entry → Listing) → ((e : Entry) → listed_name (g e) ≡ printed (who_of e)) →
-    (es : List Entry) → map listed_name (map g es) ≡ map printed (map who_of es)
+listed_entries : (g : Entry → Listing) → ((e : Entry) → listed_name (g e) ≡ printed_name (who_of e))
+    →
+    (es : List Entry) → map listed_name (map g es) ≡ map printed_name (map who_of es)
 listed_entries g h [] = refl
 listed_entries g h (e ∷ es) = ap (λ (n : Name). n ∷ map listed_name (map g es)) (h e) ∙ ap
-    (λ (ns : List Name). printed (who_of e) ∷ ns) (listed_entries g h es)
+    (λ (ns : List Name). printed_name (who_of e) ∷ ns) (listed_entries g h es)
 
 listed_declared : (k : ℕ) (ds : List Definition) (n : Name) →
     is_among (map listed_name (listings_from k ds)) n ≡ true →
-    is_among (map printed (flat_map declared ds)) n ≡ true
+    is_among (map printed_name (flat_map identifiers_of ds)) n ≡ true
 listed_declared k [] n h = h
-listed_declared k (start i ∷ ds) n h = or_right (bytes_eq n (printed i))
-    (is_among (map printed (flat_map declared ds)) n) (listed_declared k ds n h)
+listed_declared k (start i ∷ ds) n h = or_right (bytes_eq n (printed_name i))
+    (is_among (map printed_name (flat_map identifiers_of ds)) n) (listed_declared k ds n h)
 listed_declared k (union t ∷ ds) n h = listed_declared k ds n h
 listed_declared k (block ∷ ds) n h = listed_declared k ds n h
 listed_declared k (types tag ns ∷ ds) n h = listed_declared k ds n h
@@ -124,21 +130,24 @@ listed_declared k (listing w tag es ∷ ds) n h =
     let here : List Listing = map (listing_of (given_by w (level_at w k))) es in
     let rest : List Listing = listings_from (level_at w k) ds in
     subst (λ (xs : List Name). is_among xs n ≡ true)
-    (sym (map-append printed (map who_of es) (flat_map declared ds)))
-    (split (among_cases (map printed (map who_of es)) (map listed_name rest) n
+    (sym (map-append printed_name (map who_of es) (flat_map identifiers_of ds)))
+    (split (among_cases (map printed_name (map who_of es)) (map listed_name rest) n
     (subst (λ (xs : List Name). is_among (xs ++ map listed_name rest) n ≡ true)
     (listed_entries (listing_of (given_by w (level_at w k))) (λ e. refl) es)
     (subst (λ (xs : List Name). is_among xs n ≡ true) (map-append listed_name here rest) h)))
     (listed_declared (level_at w k) ds n))
   where
-    split : (is_among (map printed (map who_of es)) n ≡ true) ⊎
+    split : (is_among (map printed_name (map who_of es)) n ≡ true) ⊎
         (is_among (map listed_name (listings_from (level_at w k) ds)) n ≡ true) →
         (is_among (map listed_name (listings_from (level_at w k) ds)) n ≡ true →
-        is_among (map printed (flat_map declared ds)) n ≡ true) →
-        is_among (map printed (map who_of es) ++ map printed (flat_map declared ds)) n ≡ true
-    split (inl e) f = among_left (map printed (map who_of es)) (map printed (flat_map declared ds))
+        is_among (map printed_name (flat_map identifiers_of ds)) n ≡ true) →
+        is_among (map printed_name (map who_of es) ++ map printed_name (flat_map identifiers_of ds))
+        n ≡ true
+    split (inl e) f = among_left (map printed_name (map who_of es)) (map printed_name (flat_map
+        identifiers_of ds))
         n e
-    split (inr r) f = among_right (map printed (map who_of es)) (map printed (flat_map declared ds))
+    split (inr r) f = among_right (map printed_name (map who_of es)) (map printed_name (flat_map
+        identifiers_of ds))
         n (f r)
 
 -- ---- the tokens by number are the tokens
@@ -147,25 +156,26 @@ abbrev first_two : List Name
 first_two = codes "$end" ∷ codes "error" ∷ []
 
 abbrev others : Tree → List Name
-others t = map listed_name (listings t) ++ map printed (filter is_literal (appearances t))
+others t = map listed_name (listings t) ++ map printed_name (filter is_literal (appearances t))
 
 abbrev those : Tree → List Name
 those t = token_names_of (listings t) (appearances t)
 
 abbrev names_of : Tree → List Name
-names_of t = map printed (appearances t)
+names_of t = map printed_name (appearances t)
 
 others_appear : (t : Tree) (n : Name) → is_among (others t) n ≡ true →
     is_among (names_of t) n ≡ true
 others_appear t n h = go (among_cases (map listed_name (listings t))
-    (map printed (filter is_literal (appearances t))) n h)
+    (map printed_name (filter is_literal (appearances t))) n h)
   where
     go : (is_among (map listed_name (listings t)) n ≡ true) ⊎
-        (is_among (map printed (filter is_literal (appearances t))) n ≡ true) →
-        is_among (map printed (appearances t)) n ≡ true
+        (is_among (map printed_name (filter is_literal (appearances t))) n ≡ true) →
+        is_among (map printed_name (appearances t)) n ≡ true
     go (inl e) = subst (λ (xs : List Name). is_among xs n ≡ true)
-        (sym (map-append printed (flat_map declared t.definitions) (uses t)))
-        (among_left (map printed (flat_map declared t.definitions)) (map printed (uses t)) n
+        (sym (map-append printed_name (flat_map identifiers_of t.definitions) (uses t)))
+        (among_left (map printed_name (flat_map identifiers_of t.definitions)) (map printed_name
+        (uses t)) n
         (listed_declared 0 t.definitions n e))
     go (inr e) = literals_appear (appearances t) n e
 
@@ -201,18 +211,20 @@ token_among t n = among_all first_two (filter (is_among (those t)) (names_of t))
 pub listed_token : (t : Tree) (n : Name) → is_among (map listed_name (listings t)) n ≡ true →
     is_among (tokens t) n ≡ true
 listed_token t n h = token_among t n ∙ among_right (codes "$end" ∷ codes "error" ∷ [])
-    (map listed_name (listings t) ++ map printed (filter is_literal (appearances t))) n
-    (among_left (map listed_name (listings t)) (map printed (filter is_literal (appearances t))) n
+    (map listed_name (listings t) ++ map printed_name (filter is_literal (appearances t))) n
+    (among_left (map listed_name (listings t)) (map printed_name (filter is_literal (appearances
+    t))) n
     h)
 
 -- what is said is said of a name that is listed
 pub said_listed : {A : Type 0} (f : Listing → Option A) (ls : List Listing) (n : Name) →
     0 < length (said_of f ls n) → is_among (map listed_name ls) n ≡ true
 said_listed f [] n h = absurd (omega arith)
-said_listed f (l ∷ ls) n h = go (bytes_eq n (printed l.who)) refl h (said_listed f ls n)
+said_listed f (l ∷ ls) n h = go (bytes_eq n (printed_name l.who)) refl h (said_listed f ls n)
   where
-    go : (b : Bool) → bytes_eq n (printed l.who) ≡ b →
-        0 < length (cond (bytes_eq n (printed l.who)) (option_list (f l)) [] ++ said_of f ls n) →
+    go : (b : Bool) → bytes_eq n (printed_name l.who) ≡ b →
+        0 < length (cond (bytes_eq n (printed_name l.who)) (option_list (f l)) [] ++ said_of f ls n)
+        →
         (0 < length (said_of f ls n) → is_among (map listed_name ls) n ≡ true) →
         (bytes_eq n (listed_name l) || is_among (map listed_name ls) n) ≡ true
     go true q k again = or_left (bytes_eq n (listed_name l)) (is_among (map listed_name ls) n) q

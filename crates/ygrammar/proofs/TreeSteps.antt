@@ -18,8 +18,8 @@ use Rattle.ygrammar.specs.declared.kind.Sign.{Sign}
 use Rattle.ygrammar.specs.declared.kind.Sign.TheVariants as sign
 use Rattle.ygrammar.specs.declared.tree.Entry.{Entry as CodeEntry}
 use Rattle.ygrammar.specs.declared.tree.NameAt.{NameAt}
-use Rattle.ygrammar.specs.TreeViews.{entry_view, name_view, option_view, clause_view}
-use Rattle.ygrammar.specs.declared.tree.Clause.{Clause as CodeClause}
+use Rattle.ygrammar.specs.TreeViews.{entry_view, name_view, option_view, rule_text_view}
+use Rattle.ygrammar.specs.declared.tree.RuleText.{RuleText as CodeRuleText}
 use Rattle.ygrammar.specs.declared.recogniser.State.{State}
 use Rattle.ygrammar.specs.declared.recogniser.State.TheVariants.{Declarations, StartWord, UnionWord}
 use Rattle.ygrammar.specs.declared.recogniser.State.TheVariants.{ListWord, ListTagOpen, ListTagName}
@@ -29,7 +29,7 @@ use Rattle.ygrammar.specs.declared.recogniser.State.TheVariants.{TypeTagged, Typ
 use Rattle.ygrammar.specs.declared.recogniser.State.TheVariants.{PrecWord, PrecNamed, Semicolons}
 use Rattle.ygrammar.specs.Recogniser.{on_name, on_identifier, on_less, on_greater, on_braced}
 use Rattle.ygrammar.specs.Recogniser.{on_c_identifier}
-use Rattle.ygrammar.specs.Recogniser.{next_state, reached, is_final_at, run}
+use Rattle.ygrammar.specs.Recogniser.{next_state, state_after, is_final_at, run}
 use Rattle.ygrammar.specs.Lexemes.{Lexeme, name, c_identifier, literal, number, braced, fixed}
 use Rattle.ygrammar.specs.Lexemes.{kind_of}
 use Rattle.ygrammar.specs.Lexer.{kinds}
@@ -48,10 +48,10 @@ Goes q ls = run q (kinds ls) ≡ true
 
 -- the same, from a state or nowhere
 abbrev Leads : Option State → List Lexeme → Type 0
-Leads o ls = is_final_at (reached o (kinds ls)) ≡ true
+Leads o ls = is_final_at (state_after o (kinds ls)) ≡ true
 
 -- from nowhere nothing goes on
-astray : {P : Type 0} (ks : List Kind) → is_final_at (reached None ks) ≡ true → P
+astray : {P : Type 0} (ks : List Kind) → is_final_at (state_after None ks) ≡ true → P
 astray [] h = cc
 astray (k ∷ ks) h = cc
 
@@ -464,25 +464,25 @@ counted_all whole rest n (m, e, l) h = let w : m ≡ n = omega (arith, l, h) in
     e ∙ ap (λ z. semis z ++ views rest) w
 
 -- before the first rule, or behind one
-abbrev pub FirstNamed : List CodeClause → List Lexeme → Type 0
-FirstNamed cs rest = (Goes RulesMark rest × (cs ≡ [])) ⊎ BeginsWithName (map clause_view cs)
+abbrev pub FirstNamed : List CodeRuleText → List Lexeme → Type 0
+FirstNamed cs rest = (Goes RulesMark rest × (cs ≡ [])) ⊎ BeginsWithName (map rule_text_view cs)
 
-pub first_keeps : (xs new : List CodeClause) (x : CodeClause) (left : Option NameAt)
+pub first_keeps : (xs new : List CodeRuleText) (x : CodeRuleText) (left : Option NameAt)
     (before after : List Lexeme) → FirstNamed xs before → before ≡ left_yield
     (option_view name_view left) ∷ after → x.left ≡ left → new ≡ xs ++ x ∷ [] → BeginsWithName
-    (map clause_view new)
+    (map rule_text_view new)
 first_keeps xs new x left before after (inl (g, e)) h k w =
     let only : new ≡ x ∷ [] = w ∙ ap (λ z. z ++ x ∷ []) e in
     let named_left : IsSome (option_view name_view x.left) =
     subst (λ z. IsSome (option_view name_view z)) (sym k)
     (first_named (option_view name_view left) after (subst (Goes RulesMark) h g)) in
-    subst (λ z. BeginsWithName (map clause_view z)) (sym only) named_left
+    subst (λ z. BeginsWithName (map rule_text_view z)) (sym only) named_left
 first_keeps [] new x left before after (inr b) h k w = absurd b
 first_keeps (y ∷ ys) new x left before after (inr b) h k w =
-    subst (λ z. BeginsWithName (map clause_view z)) (sym w) b
+    subst (λ z. BeginsWithName (map rule_text_view z)) (sym w) b
 
-pub first_there : (xs : List CodeClause) (rest : List Lexeme) → FirstNamed xs rest →
-    NoneOf left_yield rest → BeginsWithName (map clause_view xs)
+pub first_there : (xs : List CodeRuleText) (rest : List Lexeme) → FirstNamed xs rest →
+    NoneOf left_yield rest → BeginsWithName (map rule_text_view xs)
 first_there xs rest (inl (g, e)) n = absurd (left_there rest g n)
 first_there xs rest (inr b) n = b
 

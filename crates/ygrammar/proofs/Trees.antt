@@ -24,11 +24,11 @@ use Rattle.ygrammar.specs.Lexemes.{kind_of}
 use Rattle.ygrammar.specs.Lexemes.{sign_kind}
 use Rattle.ygrammar.specs.Lexer.{kinds}
 use Rattle.ygrammar.specs.Tree.{Identifier, named, quoted, Word, Entry, Definition, start, union}
-use Rattle.ygrammar.specs.Tree.{block, listing, types, BodyPart, symbol, action, Clause, Tree}
+use Rattle.ygrammar.specs.Tree.{block, listing, types, BodyPart, symbol, action, RuleText, Tree}
 use Rattle.ygrammar.specs.Tree.{identifier_yield, option_yield, entry_yield, word_sign, tag_yield}
 use Rattle.ygrammar.specs.Tree.{definition_yield, body_part_yield, left_yield, end_yield}
-use Rattle.ygrammar.specs.Tree.{clause_yield}
-use Rattle.ygrammar.specs.Tree.{mark_yield, yield, IsDefinition, IsClause, BeginsWithName, IsTree}
+use Rattle.ygrammar.specs.Tree.{rule_text_yield}
+use Rattle.ygrammar.specs.Tree.{mark_yield, yield, IsDefinition, IsRuleText, BeginsWithName, IsTree}
 use Rattle.ygrammar.proofs.Derivations.{Stands, sound}
 
 -- ---- lexemes of a kind
@@ -123,9 +123,9 @@ Meaning nlist y = (es : List Entry) × (0 < length es) × (y ≡ flat_map entry_
 Meaning nmno y = (e : Entry) × (y ≡ entry_yield e)
 Meaning identifier y = (i : Identifier) × (y ≡ identifier_yield i ∷ [])
 Meaning tlist y = (ns : List (List ℕ)) × (0 < length ns) × (y ≡ map name ns)
-Meaning rules y = (cs : List Clause) × AllByRecursion IsClause cs × BeginsWithName cs ×
-    (y ≡ flat_map clause_yield cs)
-Meaning rule y = (c : Clause) × IsClause c × (y ≡ clause_yield c)
+Meaning rules y = (cs : List RuleText) × AllByRecursion IsRuleText cs × BeginsWithName cs ×
+    (y ≡ flat_map rule_text_yield cs)
+Meaning rule y = (c : RuleText) × IsRuleText c × (y ≡ rule_text_yield c)
 Meaning rbody y = (is : List BodyPart) × (y ≡ map body_part_yield is)
 Meaning prec y = (p : Option Identifier) × (t : Option (List ℕ)) × (n : ℕ) × (IsSome t → IsSome p) ×
     (y ≡ end_yield p t n)
@@ -173,15 +173,18 @@ one_more : {A : Type 0} (f : A → List Lexeme) (xs : List A) (x : A) (y a r : L
 one_more f xs x y a r e h k = e ∙ ap (λ z. z ++ r) h ∙ ap (λ z. flat_map f xs ++ z)
     (k ∙ sym (append-nil (f x))) ∙ sym (flat_map-append f xs (x ∷ []))
 
-begins_more : (cs : List Clause) (c : Clause) → BeginsWithName cs → BeginsWithName (cs ++ c ∷ [])
+begins_more : (cs : List RuleText) (c : RuleText) → BeginsWithName cs → BeginsWithName (cs ++ c ∷
+    [])
 begins_more [] c h = absurd h
 begins_more (d ∷ cs) c h = h
 
--- a clause from its parts
-clause_of : (left : Option (List ℕ)) (y r : List Lexeme) → y ≡ left_yield left ∷ r → Stands Meaning
-    (rbody ∷ prec ∷ []) r → (c : Clause) × IsClause c × (y ≡ clause_yield c) × (c.left ≡ left)
+-- a rule from its parts
+rule_text_of : (left : Option (List ℕ)) (y r : List Lexeme) → y ≡ left_yield left ∷ r → Stands
+    Meaning
+    (rbody ∷ prec ∷ []) r → (c : RuleText) × IsRuleText c × (y ≡ rule_text_yield c) × (c.left ≡
+    left)
 unfolding Meaning
-clause_of left y r e (b, r2, e2, (is, f), p) =
+rule_text_of left y r e (b, r2, e2, (is, f), p) =
     let (q, t, n, w, g) = single prec r2 p in (
       record { left = left; body = is; prec = q; last = t; semicolons = n },
       w,
@@ -209,11 +212,11 @@ closed _ _ y spec_is (
 ) =
     let (second, t) = single tail r3 p in
     let mark : m ≡ fixed sign.Mark ∷ [] = g ∙ ap (λ z. z ∷ []) (only_sign l sign.Mark k) in (
-      record { definitions = ds; clauses = cs; second_mark = second },
-      record { definitions = a; clauses = b; first = first },
+      record { definitions = ds; rule_texts = cs; second_mark = second },
+      record { definitions = a; rule_texts = b; first = first },
       e1 ∙ ap (λ z. z ++ r1) f ∙ ap (λ z. flat_map definition_yield ds ++ z)
           (e2 ∙ ap (λ z. z ++ r2) mark ∙ ap (λ z. fixed sign.Mark ∷ z)
-          (e3 ∙ ap (λ z. z ++ r3) h ∙ ap (λ z. flat_map clause_yield cs ++ z) t)),
+          (e3 ∙ ap (λ z. z ++ r3) h ∙ ap (λ z. flat_map rule_text_yield cs ++ z) t)),
     )
 closed _ _ y tail_mark h = (true, sign_alone sign.Mark y h)
 closed _ _ y tail_empty h = (false, h)
@@ -309,22 +312,22 @@ closed _ _ y tlist_more (a, r, e, (ns, some, f), p) =
     )
 closed _ _ y rules_one h =
     let (n, r, e, p) = c_identifier_first (rbody ∷ prec ∷ []) y h in
-    let (c, i, f, l) = clause_of (Some n) y r e p in
-    (c ∷ [], (i, tt), subst IsSome (sym l) refl, f ∙ sym (append-nil (clause_yield c)))
+    let (c, i, f, l) = rule_text_of (Some n) y r e p in
+    (c ∷ [], (i, tt), subst IsSome (sym l) refl, f ∙ sym (append-nil (rule_text_yield c)))
 closed _ _ y rules_more (a, r, e, (cs, all, first, f), p) =
     let (c, i, g) = single rule r p in (
       cs ++ c ∷ [],
-      all_join IsClause cs (c ∷ []) all (i, tt),
+      all_join IsRuleText cs (c ∷ []) all (i, tt),
       begins_more cs c first,
-      one_more clause_yield cs c y a r e f g,
+      one_more rule_text_yield cs c y a r e f g,
     )
 closed _ _ y rule_head h =
     let (n, r, e, p) = c_identifier_first (rbody ∷ prec ∷ []) y h in
-    let (c, i, f, l) = clause_of (Some n) y r e p in
+    let (c, i, f, l) = rule_text_of (Some n) y r e p in
     (c, i, f)
 closed _ _ y rule_bar h =
     let (r, e, p) = sign_first sign.Bar (rbody ∷ prec ∷ []) y h in
-    let (c, i, f, l) = clause_of None y r e p in
+    let (c, i, f, l) = rule_text_of None y r e p in
     (c, i, f)
 closed _ _ y rbody_empty h = ([], h)
 closed _ _ y rbody_symbol (b, r, e, (is, f), p) =

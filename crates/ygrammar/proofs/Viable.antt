@@ -11,7 +11,7 @@ use Rattle.ygrammar.specs.declared.recogniser.State.TheVariants.{TypeTagged, Typ
 use Rattle.ygrammar.specs.declared.recogniser.State.TheVariants.{PrecWord, PrecNamed, Semicolons}
 use Rattle.ygrammar.specs.declared.recogniser.State.TheVariants.{End}
 use Rattle.ygrammar.specs.Syntax.{BeginsSpec}
-use Rattle.ygrammar.specs.Recogniser.{reached, is_final_at, run}
+use Rattle.ygrammar.specs.Recogniser.{state_after, is_final_at, run}
 use Rattle.ygrammar.proofs.Accepted.{lost, reached_append, recognised}
 use Rattle.ygrammar.proofs.Shapes.{derived}
 
@@ -62,18 +62,20 @@ completed PrecNamed = refl
 completed Semicolons = refl
 completed End = refl
 
-pub viable : (ks : List Kind) (q : State) → reached (Some Declarations) ks ≡ Some q → BeginsSpec ks
+pub viable : (ks : List Kind) (q : State) → state_after (Some Declarations) ks ≡ Some q → BeginsSpec
+    ks
 viable ks q e = (
   completion q,
   derived (ks ++ completion q)
       (ap is_final_at (reached_append (Some Declarations) ks (completion q) ∙ ap
-      (λ o. reached o (completion q)) e) ∙ completed q),
+      (λ o. state_after o (completion q)) e) ∙ completed q),
 )
 
-pub not_viable : (ks : List Kind) → reached (Some Declarations) ks ≡ None → BeginsSpec ks → ⊥
+pub not_viable : (ks : List Kind) → state_after (Some Declarations) ks ≡ None → BeginsSpec ks → ⊥
 not_viable ks e (more, d) =
-    let accepted : is_final_at (reached (Some Declarations) (ks ++ more)) ≡ true =
+    let accepted : is_final_at (state_after (Some Declarations) (ks ++ more)) ≡ true =
     recognised (ks ++ more) d in
-    let nowhere : is_final_at (reached (Some Declarations) (ks ++ more)) ≡ false = ap is_final_at
-    (reached_append (Some Declarations) ks more ∙ ap (λ o. reached o more) e ∙ lost more) in
+    let nowhere : is_final_at (state_after (Some Declarations) (ks ++ more)) ≡ false = ap
+    is_final_at
+    (reached_append (Some Declarations) ks more ∙ ap (λ o. state_after o more) e ∙ lost more) in
     cc

@@ -16,16 +16,18 @@ use Rattle.ygrammar.specs.Forms.{Productive}
 use Rattle.ygrammar.specs.WellFormed.{WellFormed}
 use Rattle.ygrammar.specs.Lexemes.{IsName}
 use Rattle.ygrammar.specs.Mistakes.{Holds, HasNone, order}
-use Rattle.ygrammar.specs.Names.{Name, is_among, with_names, number_in, printed}
+use Rattle.ygrammar.specs.Names.{Name, is_among, with_names, number_in, printed_name}
 use Rattle.ygrammar.specs.Tree.{Identifier, Definition, start, union, block, listing, types}
 use Rattle.ygrammar.specs.Tree.{BodyPart}
-use Rattle.ygrammar.specs.Tree.{symbol, action, Clause, Tree, IsTree, BeginsWithName}
-use Rattle.ygrammar.specs.Elaboration.{Rule, appearances, bare_of, body_from, clause_left, declared}
+use Rattle.ygrammar.specs.Tree.{symbol, action, RuleText, Tree, IsTree, BeginsWithName}
+use Rattle.ygrammar.specs.Elaboration.{Rule, appearances, bare_of, body_from, left_of_rule}
+use Rattle.ygrammar.specs.Elaboration.{identifiers_of}
 use Rattle.ygrammar.specs.Elaboration.{final_of, inner_name, is_nonterminal, is_token}
-use Rattle.ygrammar.specs.Elaboration.{body_part_identifier, lefts, listings, numbered, option_list}
+use Rattle.ygrammar.specs.Elaboration.{body_part_identifier, lefts, listings, numbered_rule}
+use Rattle.ygrammar.specs.Elaboration.{option_list}
 use Rattle.ygrammar.specs.Elaboration.{or_else, prec_of, rule_left, rules, rules_from, split_last}
-use Rattle.ygrammar.specs.Elaboration.{start_symbol, started, starts, symbols, tokens}
-use Rattle.ygrammar.specs.Elaboration.{token_names_of, used, uses}
+use Rattle.ygrammar.specs.Elaboration.{start_symbol, starts_of, starts, symbols, tokens}
+use Rattle.ygrammar.specs.Elaboration.{token_names_of, uses_of, uses}
 use Rattle.ygrammar.proofs.NameSteps.{among_all, eq_self}
 use Rattle.ygrammar.proofs.TellingSteps.{false_true, same_number}
 use Rattle.ygrammar.proofs.TokenSteps.{among_number, noted_behind, number_behind, or_left, or_right}
@@ -91,7 +93,7 @@ two_tokens x = let a = noted_length (codes "$end" ∷ codes "error" ∷ []) x in
 -- the names and literals that are tokens, as they appear
 abbrev appeared : Tree → List Name
 appeared t = filter (is_among (token_names_of (listings t) (appearances t)))
-    (map printed (appearances t))
+    (map printed_name (appearances t))
 
 pub end_number : (t : Tree) → number_in (symbols t) (codes "$end") ≡ 0
 end_number t = end_first (appeared t) (map rule_left (rules t))
@@ -99,7 +101,7 @@ end_number t = end_first (appeared t) (map rule_left (rules t))
 -- ---- left sides
 
 -- the first left side passes
-abbrev FirstLeft : (Name → Type 0) → Name → List Clause → Type 0
+abbrev FirstLeft : (Name → Type 0) → Name → List RuleText → Type 0
 FirstLeft P n [] = Unit {0}
 FirstLeft P n (c ∷ cs) = P (or_else c.left n)
 
@@ -109,22 +111,24 @@ module _ (P : Name → Type 0) where
   or_passes None n h q = q
   or_passes (Some m) n h q = h.0
 
-  next_passes : (n : Name) (cs : List Clause) → P n → AllByRecursion P (flat_map clause_left cs) →
+  next_passes : (n : Name) (cs : List RuleText) → P n → AllByRecursion P (flat_map left_of_rule cs)
+      →
       FirstLeft P n cs
   next_passes n [] q h = tt
   next_passes n (c ∷ cs) q h = or_passes c.left n
-      (each_left P (clause_left c) (flat_map clause_left cs) h) q
+      (each_left P (left_of_rule c) (flat_map left_of_rule cs) h) q
 
   some_passes : (o : Option Name) (n : Name) → IsSome o → AllByRecursion P (option_list o) →
       P (or_else o n)
   some_passes None n s h = absurd (false_true s)
   some_passes (Some m) n s h = h.0
 
-  top_passes : (cs : List Clause) → BeginsWithName cs → AllByRecursion P (flat_map clause_left cs) →
+  top_passes : (cs : List RuleText) → BeginsWithName cs → AllByRecursion P (flat_map left_of_rule
+      cs) →
       FirstLeft P [] cs
   top_passes [] s h = absurd s
   top_passes (c ∷ cs) s h = some_passes c.left [] s
-      (each_left P (clause_left c) (flat_map clause_left cs) h)
+      (each_left P (left_of_rule c) (flat_map left_of_rule cs) h)
 
   inner_passes : ((k : ℕ) → P (inner_name k)) → (k : ℕ) (xs : List BodyPart) → AllByRecursion
       (λ r. P r.left) (body_from k xs).inner
@@ -134,14 +138,14 @@ module _ (P : Name → Type 0) where
 
   -- what holds of the left sides in the file and of the names of inner actions holds of all left
   -- sides
-  pub lefts_each : ((k : ℕ) → P (inner_name k)) → (before : Name) (k : ℕ) (cs : List Clause) →
-      FirstLeft P before cs → AllByRecursion P (flat_map clause_left cs) → AllByRecursion
+  pub lefts_each : ((k : ℕ) → P (inner_name k)) → (before : Name) (k : ℕ) (cs : List RuleText) →
+      FirstLeft P before cs → AllByRecursion P (flat_map left_of_rule cs) → AllByRecursion
       (λ r. P r.left) (rules_from before k cs)
   lefts_each f before k [] q h = tt
   lefts_each f before k (c ∷ cs) q h =
       let items : List BodyPart = (final_of c.last c.body).0 in
-      let rest : AllByRecursion P (flat_map clause_left cs) = each_right P (clause_left c)
-      (flat_map clause_left cs) h in
+      let rest : AllByRecursion P (flat_map left_of_rule cs) = each_right P (left_of_rule c)
+      (flat_map left_of_rule cs) h in
       each_join (λ r. P r.left) (body_from k items).inner _ (inner_passes f k items) (
         q,
         lefts_each f (or_else c.left before) (body_from k items).next cs
@@ -153,13 +157,13 @@ module _ (P : Name → Type 0) where
   left_back (Some m) n h = (h, tt)
 
   -- what holds of all left sides holds of those in the file
-  pub lefts_back : (before : Name) (k : ℕ) (cs : List Clause) → AllByRecursion (λ r. P r.left)
-      (rules_from before k cs) → AllByRecursion P (flat_map clause_left cs)
+  pub lefts_back : (before : Name) (k : ℕ) (cs : List RuleText) → AllByRecursion (λ r. P r.left)
+      (rules_from before k cs) → AllByRecursion P (flat_map left_of_rule cs)
   lefts_back before k [] h = tt
   lefts_back before k (c ∷ cs) h =
       let items : List BodyPart = (final_of c.last c.body).0 in
       let g = each_right (λ r. P r.left) (body_from k items).inner _ h in
-      each_join P (clause_left c) (flat_map clause_left cs) (left_back c.left before g.0)
+      each_join P (left_of_rule c) (flat_map left_of_rule cs) (left_back c.left before g.0)
       (lefts_back (or_else c.left before) (body_from k items).next cs g.1)
 
 -- ---- bodies
@@ -179,7 +183,7 @@ final_used None xs = split_used xs
 final_used (Some x) xs = refl
 
 module _ (P : Name → Type 0) where
-  body_names : (k : ℕ) (xs : List BodyPart) → AllByRecursion (λ i. P (printed i))
+  body_names : (k : ℕ) (xs : List BodyPart) → AllByRecursion (λ i. P (printed_name i))
       (flat_map body_part_identifier xs) → AllByRecursion (λ r. P r.left) (body_from k xs).inner →
       AllByRecursion P (body_from k xs).symbols
   body_names k [] h q = tt
@@ -193,37 +197,41 @@ module _ (P : Name → Type 0) where
   inner_bodies k (action x ∷ xs) = (tt, inner_bodies (suc k) xs)
 
   -- what holds of the names used and of all left sides holds of all names in bodies
-  pub bodies_each : (before : Name) (k : ℕ) (cs : List Clause) → AllByRecursion (λ i. P (printed i))
-      (flat_map used cs) → AllByRecursion (λ r. P r.left) (rules_from before k cs) → AllByRecursion
+  pub bodies_each : (before : Name) (k : ℕ) (cs : List RuleText) → AllByRecursion (λ i. P
+      (printed_name i))
+      (flat_map uses_of cs) → AllByRecursion (λ r. P r.left) (rules_from before k cs) →
+      AllByRecursion
       (λ r. AllByRecursion P r.body) (rules_from before k cs)
   bodies_each before k [] h q = tt
   bodies_each before k (c ∷ cs) h q =
       let items : List BodyPart = (final_of c.last c.body).0 in
-      let here = each_left (λ i. P (printed i)) (used c) (flat_map used cs) h in
-      let mine = subst (AllByRecursion (λ i. P (printed i))) (sym (final_used c.last c.body))
-      (each_left (λ i. P (printed i)) (flat_map body_part_identifier c.body) (prec_of c) here) in
+      let here = each_left (λ i. P (printed_name i)) (uses_of c) (flat_map uses_of cs) h in
+      let mine = subst (AllByRecursion (λ i. P (printed_name i))) (sym (final_used c.last c.body))
+      (each_left (λ i. P (printed_name i)) (flat_map body_part_identifier c.body) (prec_of c) here)
+      in
       let inner = each_left (λ r. P r.left) (body_from k items).inner _ q in
       let later = each_right (λ r. P r.left) (body_from k items).inner _ q in
       each_join (λ r. AllByRecursion P r.body) (body_from k items).inner _ (inner_bodies k items) (
         body_names k items mine inner,
         bodies_each (or_else c.left before)
-            (body_from k items).next cs (each_right (λ i. P (printed i)) (used c) (flat_map used cs)
+            (body_from k items).next cs (each_right (λ i. P (printed_name i)) (uses_of c) (flat_map
+            uses_of cs)
             h) later.1,
       )
 
 -- ---- symbols
 
 start_passes : (P : Name → Type 0) (is : List Identifier) (ls : List Name) → AllByRecursion
-    (λ i. P (printed i)) is → AllByRecursion P ls → 0 < length ls → P (start_symbol is ls)
+    (λ i. P (printed_name i)) is → AllByRecursion P ls → 0 < length ls → P (start_symbol is ls)
 start_passes P (i ∷ is) ls a b h = a.0
 start_passes P [] (n ∷ ls) a b h = b.0
 start_passes P [] [] a b h = absurd (omega arith)
 
-some_lefts : (cs : List Clause) → BeginsWithName cs → 0 < length (flat_map clause_left cs)
+some_lefts : (cs : List RuleText) → BeginsWithName cs → 0 < length (flat_map left_of_rule cs)
 some_lefts [] s = absurd s
 some_lefts (c ∷ cs) s = one c.left s
   where
-    one : (o : Option Name) → IsSome o → 0 < length (option_list o ++ flat_map clause_left cs)
+    one : (o : Option Name) → IsSome o → 0 < length (option_list o ++ flat_map left_of_rule cs)
     one None q = absurd (false_true q)
     one (Some n) q = omega arith
 
@@ -245,27 +253,29 @@ lefts_among t = each_from_map (Among t) rule_left (rules t)
     (is_among (map rule_left (rules t)) n) h) (map rule_left (rules t))
     (among_self (map rule_left (rules t))))
 
-uses_among : (t : Tree) → (Holds t Undefined → ⊥) → AllByRecursion (λ i. Among t (printed i))
+uses_among : (t : Tree) → (Holds t Undefined → ⊥) → AllByRecursion (λ i. Among t (printed_name i))
     (uses t)
-uses_among t h = each_from_map (Among t) printed (uses t)
-    (each_weaker (Contains (map printed (uses t))) (Among t)
-    (λ n c. bool_true (is_among (symbols t) n) (λ e. h (n, e, inl c))) (map printed (uses t))
-    (itself (map printed (uses t))))
+uses_among t h = each_from_map (Among t) printed_name (uses t)
+    (each_weaker (Contains (map printed_name (uses t))) (Among t)
+    (λ n c. bool_true (is_among (symbols t) n) (λ e. h (n, e, inl c))) (map printed_name (uses t))
+    (itself (map printed_name (uses t))))
 
 starts_nonterminal : (t : Tree) → (Holds t BadStart → ⊥) → AllByRecursion
-    (λ i. is_nonterminal t (printed i) ≡ true) (starts t)
+    (λ i. is_nonterminal t (printed_name i) ≡ true) (starts t)
 starts_nonterminal t h = each_weaker (Contains (starts t))
-    (λ i. is_nonterminal t (printed i) ≡ true) (λ i c. bool_true (is_nonterminal t (printed i))
+    (λ i. is_nonterminal t (printed_name i) ≡ true) (λ i c. bool_true (is_nonterminal t
+    (printed_name i))
     (λ e. h (inr (i, c, e)))) (starts t) (itself (starts t))
 
 start_among : (t : Tree) → IsTree t → (Holds t BadStart → ⊥) →
     Among t (start_symbol (starts t) (lefts t))
 start_among t s h = start_passes (Among t) (starts t) (lefts t)
-    (each_weaker (λ i. is_nonterminal t (printed i) ≡ true) (λ i. Among t (printed i)) (λ i q.
-    (nonterminal_parts (is_token t (printed i)) (is_among (symbols t) (printed i)) q).1)
+    (each_weaker (λ i. is_nonterminal t (printed_name i) ≡ true) (λ i. Among t (printed_name i)) (λ
+    i q.
+    (nonterminal_parts (is_token t (printed_name i)) (is_among (symbols t) (printed_name i)) q).1)
     (starts t) (starts_nonterminal t h))
-    (lefts_back (Among t) [] 1 t.clauses (lefts_among t).1)
-    (some_lefts t.clauses s.first)
+    (lefts_back (Among t) [] 1 t.rule_texts (lefts_among t).1)
+    (some_lefts t.rule_texts s.first)
 
 end_among : (t : Tree) → Among t (codes "$end")
 end_among t = among_all (tokens t) (map rule_left (rules t)) (codes "$end") ∙ or_left
@@ -277,22 +287,22 @@ pub bodies_among : (t : Tree) → IsTree t → (Holds t Undefined → ⊥) → (
     AllByRecursion (λ r. AllByRecursion (λ n. is_among (symbols t) n ≡ true) r.body) (rules t)
 bodies_among t s u b = (
   (start_among t s b, (end_among t, tt)),
-  bodies_each (Among t) [] 1 t.clauses
+  bodies_each (Among t) [] 1 t.rule_texts
       (uses_among t u) (lefts_among t).1,
 )
 
 -- ---- rules by number
 
 rule_each : (ns : List Name) (rs : List Rule) (Q : Production → Type 0) → AllByRecursion
-    (λ r. Q (numbered ns r)) rs → (r : ℕ) → r < length (map (numbered ns) rs) →
-    Q (get_or (map (numbered ns) rs) r blank)
-rule_each ns rs Q a r h = All-from_recursion Q (map (numbered ns) rs)
-    (each_to_map Q (numbered ns) rs a) r blank h
+    (λ r. Q (numbered_rule ns r)) rs → (r : ℕ) → r < length (map (numbered_rule ns) rs) →
+    Q (get_or (map (numbered_rule ns) rs) r blank)
+rule_each ns rs Q a r h = All-from_recursion Q (map (numbered_rule ns) rs)
+    (each_to_map Q (numbered_rule ns) rs a) r blank h
 
 later_each : (ns : List Name) (first : Rule) (rs : List Rule) (Q : Production → Type 0) →
-    AllByRecursion (λ r. Q (numbered ns r)) rs → (r : ℕ) → 0 < r →
-    r < length (map (numbered ns) (first ∷ rs)) →
-    Q (get_or (map (numbered ns) (first ∷ rs)) r blank)
+    AllByRecursion (λ r. Q (numbered_rule ns r)) rs → (r : ℕ) → 0 < r →
+    r < length (map (numbered_rule ns) (first ∷ rs)) →
+    Q (get_or (map (numbered_rule ns) (first ∷ rs)) r blank)
 later_each ns first rs Q a zero l h = absurd (omega arith)
 later_each ns first rs Q a (suc r) l h = rule_each ns rs Q a r (omega arith)
 
@@ -314,10 +324,10 @@ each_both P Q R f (x ∷ xs) a b = (f x a.0 b.0, each_both P Q R f xs a.1 b.1)
 
 rules_range : (ns : List Name) (rs : List Rule) → AllByRecursion (λ r. is_among ns r.left ≡ true)
     rs → AllByRecursion (λ r. AllByRecursion (λ n. is_among ns n ≡ true) r.body) rs → AllByRecursion
-    (λ r. InRange (length ns) (numbered ns r)) rs
+    (λ r. InRange (length ns) (numbered_rule ns r)) rs
 rules_range ns rs a b = each_both (λ r. is_among ns r.left ≡ true)
     (λ r. AllByRecursion (λ n. is_among ns n ≡ true) r.body)
-    (λ r. InRange (length ns) (numbered ns r))
+    (λ r. InRange (length ns) (numbered_rule ns r))
     (λ r x y. record {
       left = among_number ns r.left x;
       body =
@@ -345,11 +355,11 @@ plain_ordinary n h = record {
       plain_other n (codes "$end") (name_plain n h) refl;
 }
 
-printed_ordinary : (i : Identifier) → Named i → Ordinary (printed i)
+printed_ordinary : (i : Identifier) → Named i → Ordinary (printed_name i)
 printed_ordinary i h = record {
-  accept = plain_other (printed i) (codes "$accept")
+  accept = plain_other (printed_name i) (codes "$accept")
       (printed_plain i h) refl;
-  end = plain_other (printed i) (codes "$end") (printed_plain i h) refl;
+  end = plain_other (printed_name i) (codes "$end") (printed_plain i h) refl;
 }
 
 inner_ordinary : (k : ℕ) → Ordinary (inner_name k)
@@ -366,7 +376,8 @@ pub lefts_other : (t : Tree) → IsTree t → IsNamed t → (Holds t TokenLeft �
 lefts_other t s n h = (
   accept_token t n,
   lefts_each (λ m. is_token t m ≡ false)
-      (λ k. inner_token t k n) [] 1 t.clauses (top_passes (λ m. is_token t m ≡ false) t.clauses
+      (λ k. inner_token t k n) [] 1 t.rule_texts (top_passes (λ m. is_token t m ≡ false)
+      t.rule_texts
       s.first (lefts_tokens t h)) (lefts_tokens t h),
 )
 
@@ -378,24 +389,28 @@ lefts_above t s n h = each_weaker (λ r. is_token t r.left ≡ false)
     (rules t) (lefts_other t s n h)
 
 lefts_ordinary : (t : Tree) → IsTree t → IsNamed t → AllByRecursion (λ r. Ordinary r.left)
-    (rules_from [] 1 t.clauses)
+    (rules_from [] 1 t.rule_texts)
 lefts_ordinary t s n =
     let a : AllByRecursion Ordinary (lefts t) = each_weaker IsName Ordinary plain_ordinary
     (lefts t) n.lefts in
-    lefts_each Ordinary inner_ordinary [] 1 t.clauses (top_passes Ordinary t.clauses s.first a) a
+    lefts_each Ordinary inner_ordinary [] 1 t.rule_texts (top_passes Ordinary t.rule_texts s.first
+    a) a
 
-appear_ordinary : (t : Tree) → IsNamed t → AllByRecursion (λ i. Ordinary (printed i))
+appear_ordinary : (t : Tree) → IsNamed t → AllByRecursion (λ i. Ordinary (printed_name i))
     (appearances t)
-appear_ordinary t n = each_weaker Named (λ i. Ordinary (printed i)) printed_ordinary (appearances t)
+appear_ordinary t n = each_weaker Named (λ i. Ordinary (printed_name i)) printed_ordinary
+    (appearances t)
     n.appear
 
 bodies_ordinary : (t : Tree) → IsTree t → IsNamed t → AllByRecursion
-    (λ r. AllByRecursion Ordinary r.body) (rules_from [] 1 t.clauses)
-bodies_ordinary t s n = bodies_each Ordinary [] 1 t.clauses (each_right (λ i. Ordinary (printed i))
-    (flat_map declared t.definitions) (uses t) (appear_ordinary t n)) (lefts_ordinary t s n)
+    (λ r. AllByRecursion Ordinary r.body) (rules_from [] 1 t.rule_texts)
+bodies_ordinary t s n = bodies_each Ordinary [] 1 t.rule_texts (each_right (λ i. Ordinary
+    (printed_name i))
+    (flat_map identifiers_of t.definitions) (uses t) (appear_ordinary t n)) (lefts_ordinary t s n)
 
-started_declared : (P : Identifier → Type 0) (d : Definition) → AllByRecursion P (declared d) →
-    AllByRecursion P (started d)
+started_declared : (P : Identifier → Type 0) (d : Definition) → AllByRecursion P (identifiers_of d)
+    →
+    AllByRecursion P (starts_of d)
 started_declared P (start i) h = h
 started_declared P (union x) h = tt
 started_declared P block h = tt
@@ -404,21 +419,24 @@ started_declared P (types tag ns) h = tt
 
 start_ordinary : (t : Tree) → IsTree t → IsNamed t → Ordinary (start_symbol (starts t) (lefts t))
 start_ordinary t s n = start_passes Ordinary (starts t) (lefts t)
-    (each_piece (λ i. Ordinary (printed i)) (λ i. Ordinary (printed i)) declared started
-    (started_declared (λ i. Ordinary (printed i))) t.definitions
-    (each_left (λ i. Ordinary (printed i)) (flat_map declared t.definitions) (uses t)
+    (each_piece (λ i. Ordinary (printed_name i)) (λ i. Ordinary (printed_name i)) identifiers_of
+    starts_of
+    (started_declared (λ i. Ordinary (printed_name i))) t.definitions
+    (each_left (λ i. Ordinary (printed_name i)) (flat_map identifiers_of t.definitions) (uses t)
     (appear_ordinary t n)))
     (each_weaker IsName Ordinary plain_ordinary (lefts t) n.lefts)
-    (some_lefts t.clauses s.first)
+    (some_lefts t.rule_texts s.first)
 
 start_other_token : (t : Tree) → IsTree t → (Holds t TokenLeft → ⊥) → (Holds t BadStart → ⊥) →
     is_token t (start_symbol (starts t) (lefts t)) ≡ false
 start_other_token t s l b = start_passes (λ n. is_token t n ≡ false) (starts t) (lefts t)
-    (each_weaker (λ i. is_nonterminal t (printed i) ≡ true) (λ i. is_token t (printed i) ≡ false)
-    (λ i q. (nonterminal_parts (is_token t (printed i)) (is_among (symbols t) (printed i)) q).0)
+    (each_weaker (λ i. is_nonterminal t (printed_name i) ≡ true) (λ i. is_token t (printed_name i) ≡
+    false)
+    (λ i q. (nonterminal_parts (is_token t (printed_name i)) (is_among (symbols t) (printed_name i))
+    q).0)
     (starts t) (starts_nonterminal t b))
     (lefts_tokens t l)
-    (some_lefts t.clauses s.first)
+    (some_lefts t.rule_texts s.first)
 
 -- the first rule, with this start symbol
 abbrev opening : Name → Rule
@@ -437,7 +455,7 @@ abbrev grammar_of : ℕ → List Name → Name → List Rule → ContextFree
 grammar_of k ns first rs = record {
   tokens = k;
   symbols = length ns;
-  rules = map (numbered ns)
+  rules = map (numbered_rule ns)
       (opening first ∷ rs);
 }
 
@@ -501,7 +519,7 @@ known_well k ns first rs h p = record {
       (λ n m q. number_positive ns n h.zeroth m q.end) i o) rs h.bodies_in.1 h.bodies_plain) r a l;
   productive = p;
   small = h.small;
-  few = subst (λ n. n ≤ 8192) (sym (length-map all (numbered ns))) h.few;
+  few = subst (λ n. n ≤ 8192) (sym (length-map all (numbered_rule ns))) h.few;
   short = λ r l. rule_each ns all (λ q. length q.body ≤ 255) (each_weaker (λ x. length x.body ≤ 255)
       (λ x. length (map (number_in ns) x.body) ≤ 255)
       (λ x b. subst (λ n. n ≤ 255) (sym (length-map x.body (number_in ns))) b) all h.short) r l;
@@ -541,7 +559,7 @@ pub well_formed_of : (t : Tree) → IsTree t → IsNamed t → HasNone t order �
     ((s : ℕ) → length (tokens t) ≤ s → s < length (symbols t) → Productive (bare_of t) s) →
     WellFormed (bare_of t)
 well_formed_of t s n h p = known_well (length (tokens t)) (symbols t)
-    (start_symbol (starts t) (lefts t)) (rules_from [] 1 t.clauses) known p
+    (start_symbol (starts t) (lefts t)) (rules_from [] 1 t.rule_texts) known p
   where
     token_left : Holds t TokenLeft → ⊥
     token_left = h.0
@@ -556,7 +574,7 @@ well_formed_of t s n h p = known_well (length (tokens t)) (symbols t)
     limit = h.1.1.1.1.1.1.1.0
 
     known : Known (length (tokens t)) (symbols t) (start_symbol (starts t) (lefts t))
-        (rules_from [] 1 t.clauses)
+        (rules_from [] 1 t.rule_texts)
     known = record {
       recovers = two_tokens (appeared t);
       within = tokens_within t;

@@ -4,7 +4,7 @@ use Rattle.std.specs.List.{AllByRecursion}
 use Rattle.std.specs.Global.{Vec}
 use Rattle.ygrammar.specs.declared.recogniser.State.{State}
 use Rattle.ygrammar.specs.declared.recogniser.State.TheVariants.{Declarations}
-use Rattle.ygrammar.specs.Recogniser.{reached}
+use Rattle.ygrammar.specs.Recogniser.{state_after}
 use Rattle.ygrammar.specs.declared.lexer.Placed.{Placed}
 use Rattle.ygrammar.specs.declared.part.LexicalFault.{LexicalFault}
 use Rattle.ygrammar.specs.declared.part.LexicalFault.TheVariants as lexical
@@ -61,5 +61,5 @@ StandIn source ls = AllByRecursion (StandsIn source) ls
 -- reading has come to the rest, in this state
 pub record Comes (bytes : List ℕ) (ls : List Placed) (rest : List ℕ) (state : State) : Type 0 where
   pub cut : ComesTo bytes (views ls) rest
-  pub state_is : reached (Some Declarations) (kinds (views ls)) ≡ Some state
+  pub state_is : state_after (Some Declarations) (kinds (views ls)) ≡ Some state
   pub placed : StandIn bytes ls

@@ -14,7 +14,7 @@ use Rattle.ygrammar.specs.Mistakes.{HasNone, Holds, IsFirst, order}
 use Rattle.ygrammar.specs.NameTexts.{texts}
 use Rattle.ygrammar.specs.Numbered.{rule_numbers}
 use Rattle.ygrammar.specs.Owned.{IsOwnTable}
-use Rattle.ygrammar.specs.Texts.{rule_text}
+use Rattle.ygrammar.specs.Texts.{kept_text}
 use Rattle.ygrammar.specs.Tree.{Tree}
 use Rattle.ygrammar.specs.WellFormed.{WellFormed}
 
@@ -54,7 +54,7 @@ pub record IsReady (t : Tree) (n : Named) (vs : List RuleValue) (ts : List (Opti
     Type 0 where
   pub named : AreNamed t n
   pub numbered : vs ≡ map (rule_numbers (symbols t) (token_precedences t)) (rules t)
-  pub texts : ts ≡ map rule_text (rules t)
+  pub texts : ts ≡ map kept_text (rules t)
   pub sound : HasNone t order
   pub in_range : AreIn (length (symbols t)) vs
   pub well_formed : WellFormed (bare_of t)

@@ -11,8 +11,9 @@ use Rattle.ygrammar.specs.declared.precedence.Associativity.TheVariants as assoc
 use Rattle.ygrammar.specs.declared.precedence.Precedence.{Precedence}
 use Rattle.ygrammar.specs.Tree.{Identifier, named, quoted, Word, token, left, right, nonassoc}
 use Rattle.ygrammar.specs.Tree.{Entry, Definition, start, union, block, listing, types, BodyPart}
-use Rattle.ygrammar.specs.Tree.{symbol, action, Clause, Tree}
-use Rattle.ygrammar.specs.Names.{Name, printed, printed_literal, is_among, with_names, number_in}
+use Rattle.ygrammar.specs.Tree.{symbol, action, RuleText, Tree}
+use Rattle.ygrammar.specs.Names.{Name, printed_name, printed_literal, is_among, with_names}
+use Rattle.ygrammar.specs.Names.{number_in}
 use Rattle.ygrammar.specs.Grammar.{ContextFree, Production}
 
 abbrev pub option_list : {A : Type 0} → Option A → List A
@@ -60,67 +61,67 @@ listings_from n (types tag ns ∷ ds) = listings_from n ds
 abbrev pub listings : Tree → List Listing
 listings t = listings_from 0 t.definitions
 
-abbrev pub started : Definition → List Identifier
-started (start i) = i ∷ []
-started (union t) = []
-started block = []
-started (listing w tag es) = []
-started (types tag ns) = []
+abbrev pub starts_of : Definition → List Identifier
+starts_of (start i) = i ∷ []
+starts_of (union t) = []
+starts_of block = []
+starts_of (listing w tag es) = []
+starts_of (types tag ns) = []
 
 -- the names that `%start` names
 abbrev pub starts : Tree → List Identifier
-starts t = flat_map started t.definitions
+starts t = flat_map starts_of t.definitions
 
-abbrev pub typed : Definition → List Name
-typed (types tag ns) = ns
-typed (start i) = []
-typed (union t) = []
-typed block = []
-typed (listing w tag es) = []
+abbrev pub type_names : Definition → List Name
+type_names (types tag ns) = ns
+type_names (start i) = []
+type_names (union t) = []
+type_names block = []
+type_names (listing w tag es) = []
 
 -- the names that `%type` lists
 abbrev pub types_of : Tree → List Name
-types_of t = flat_map typed t.definitions
+types_of t = flat_map type_names t.definitions
 
-abbrev pub clause_left : Clause → List Name
-clause_left c = option_list c.left
+abbrev pub left_of_rule : RuleText → List Name
+left_of_rule c = option_list c.left
 
 -- the left sides
 abbrev pub lefts : Tree → List Name
-lefts t = flat_map clause_left t.clauses
+lefts t = flat_map left_of_rule t.rule_texts
 
 abbrev pub who_of : Entry → Identifier
 who_of e = e.who
 
 -- the names and literals of a declaration; a tag is none
-abbrev pub declared : Definition → List Identifier
-declared (start i) = i ∷ []
-declared (union t) = []
-declared block = []
-declared (listing w tag es) = map who_of es
-declared (types tag ns) = []
+abbrev pub identifiers_of : Definition → List Identifier
+identifiers_of (start i) = i ∷ []
+identifiers_of (union t) = []
+identifiers_of block = []
+identifiers_of (listing w tag es) = map who_of es
+identifiers_of (types tag ns) = []
 
 abbrev pub body_part_identifier : BodyPart → List Identifier
 body_part_identifier (symbol i) = i ∷ []
 body_part_identifier (action t) = []
 
-abbrev pub prec_of : Clause → List Identifier
+abbrev pub prec_of : RuleText → List Identifier
 prec_of c = option_list c.prec
 
 -- the names and literals of a rule, that of its precedence among them
-abbrev pub used : Clause → List Identifier
-used c = flat_map body_part_identifier c.body ++ prec_of c
+abbrev pub uses_of : RuleText → List Identifier
+uses_of c = flat_map body_part_identifier c.body ++ prec_of c
 
 abbrev pub uses : Tree → List Identifier
-uses t = flat_map used t.clauses
+uses t = flat_map uses_of t.rule_texts
 
 -- those behind `%prec`
 abbrev pub precs : Tree → List Identifier
-precs t = flat_map prec_of t.clauses
+precs t = flat_map prec_of t.rule_texts
 
 -- every name and literal, in the order of the file
 abbrev pub appearances : Tree → List Identifier
-appearances t = flat_map declared t.definitions ++ uses t
+appearances t = flat_map identifiers_of t.definitions ++ uses t
 
 -- ---- symbols
 
@@ -129,12 +130,12 @@ is_literal (named n) = false
 is_literal (quoted v) = true
 
 abbrev pub listed_name : Listing → Name
-listed_name l = printed l.who
+listed_name l = printed_name l.who
 
 -- the names of the tokens: the end, `error`, what is listed, and every literal that appears
 abbrev pub token_names_of : List Listing → List Identifier → List Name
 token_names_of ls is = codes "$end" ∷ codes "error"
-    ∷ (map listed_name ls ++ map printed (filter is_literal is))
+    ∷ (map listed_name ls ++ map printed_name (filter is_literal is))
 
 abbrev pub is_token : Tree → Name → Bool
 is_token t n = is_among (token_names_of (listings t) (appearances t)) n
@@ -142,7 +143,7 @@ is_token t n = is_among (token_names_of (listings t) (appearances t)) n
 -- the tokens by number: the end, `error`, and the others in the order of their first appearance
 abbrev pub tokens_of : List Listing → List Identifier → List Name
 tokens_of ls is = with_names (codes "$end" ∷ codes "error" ∷ [])
-    (filter (is_among (token_names_of ls is)) (map printed is))
+    (filter (is_among (token_names_of ls is)) (map printed_name is))
 
 abbrev pub tokens : Tree → List Name
 tokens t = tokens_of (listings t) (appearances t)
@@ -174,7 +175,7 @@ abbrev pub body_from : ℕ → List BodyPart → Body
 body_from k [] = record { inner = []; symbols = []; next = k }
 body_from k (symbol i ∷ items) =
     let b = body_from k items in
-    record { inner = b.inner; symbols = printed i ∷ b.symbols; next = b.next }
+    record { inner = b.inner; symbols = printed_name i ∷ b.symbols; next = b.next }
 body_from k (action text ∷ items) =
     let b = body_from (suc k) items in
     record {
@@ -198,7 +199,7 @@ final_of None items = split_last items
 
 -- the rules from a rule of the file on, with the left side before it and the next number of an
 -- inner action
-abbrev pub rules_from : Name → ℕ → List Clause → List Rule
+abbrev pub rules_from : Name → ℕ → List RuleText → List Rule
 rules_from before k [] = []
 rules_from before k (c ∷ cs) =
     let f = final_of c.last c.body in
@@ -208,7 +209,7 @@ rules_from before k (c ∷ cs) =
 
 -- the start symbol: the one that `%start` names, or the first left side
 abbrev pub start_symbol : List Identifier → List Name → Name
-start_symbol (i ∷ is) ls = printed i
+start_symbol (i ∷ is) ls = printed_name i
 start_symbol [] (n ∷ ns) = n
 start_symbol [] [] = []
 
@@ -222,7 +223,7 @@ first_rule is ls = record {
 }
 
 abbrev pub rules : Tree → List Rule
-rules t = first_rule (starts t) (lefts t) ∷ rules_from [] 1 t.clauses
+rules t = first_rule (starts t) (lefts t) ∷ rules_from [] 1 t.rule_texts
 
 abbrev pub rule_left : Rule → Name
 rule_left r = r.left
@@ -238,15 +239,15 @@ is_nonterminal t n = if is_token t n then false else is_among (symbols t) n
 -- ---- rules by number
 
 -- a rule's left side and body by the numbers of its symbols
-abbrev pub numbered : List Name → Rule → Production
-numbered ns r = record { left = number_in ns r.left; body = map (number_in ns) r.body }
+abbrev pub numbered_rule : List Name → Rule → Production
+numbered_rule ns r = record { left = number_in ns r.left; body = map (number_in ns) r.body }
 
 -- the bare grammar of a file
 abbrev pub bare_of : Tree → ContextFree
 bare_of t = record {
   tokens = length (tokens t);
   symbols = length (symbols t);
-  rules = map (numbered (symbols t)) (rules t);
+  rules = map (numbered_rule (symbols t)) (rules t);
 }
 
 -- The token s is the last of a body: no token stands behind it.
@@ -260,7 +261,7 @@ pub record IsLastToken (tokens : ℕ) (body : List ℕ) (s : ℕ) : Type 0 where
 -- the token whose precedence a rule has: the one named, or else the last of its body, where there
 -- is one
 abbrev pub IsChosenToken : List Name → ℕ → Option Identifier → List ℕ → Option ℕ → Type 0
-IsChosenToken ns tokens (Some i) body chosen = chosen ≡ Some (number_in ns (printed i))
+IsChosenToken ns tokens (Some i) body chosen = chosen ≡ Some (number_in ns (printed_name i))
 IsChosenToken ns tokens None body (Some s) = IsLastToken tokens body s
 IsChosenToken ns tokens None body None = All (λ x. tokens ≤ x) body
 
@@ -287,7 +288,8 @@ HavePrecedences ns given (r ∷ rs) [] = ⊥
 
 -- what the listings say of a token, in their order
 abbrev pub said_of : {A : Type 0} → (Listing → Option A) → List Listing → Name → List A
-said_of f ls n = flat_map (λ l. if bytes_eq n (printed l.who) then option_list (f l) else []) ls
+said_of f ls n = flat_map (λ l. if bytes_eq n (printed_name l.who) then option_list (f l) else [])
+    ls
 
 abbrev pub digits_number : Listing → Option ℕ
 digits_number l = number l.digits

@@ -34,9 +34,9 @@ abbrev pub IsUnmarked : List Bool → ℕ → Type 0
 IsUnmarked m s = slice_index_or m s false ≡ false
 
 -- how many are not marked
-abbrev pub unmarked : List Bool → ℕ
-unmarked [] = 0
-unmarked (b ∷ m) = cond b 0 1 + unmarked m
+abbrev pub unmarked_count : List Bool → ℕ
+unmarked_count [] = 0
+unmarked_count (b ∷ m) = cond b 0 1 + unmarked_count m
 
 -- s stands in the order, and has not been taken: `done` have been
 pub record IsWaiting (order : List ℕ) (done s : ℕ) : Type 0 where
@@ -48,7 +48,7 @@ pub record IsWaiting (order : List ℕ) (done s : ℕ) : Type 0 where
 -- the symbols of a worklist are marked, each once
 pub record IsWorklist (m : List Bool) (order : List ℕ) : Type 0 where
   pub marked : (k : ℕ) → k < length order → IsMarked m (slice_index order k)
-  pub few : length order + unmarked m ≤ length m
+  pub few : length order + unmarked_count m ≤ length m
 
 -- more are marked, and each that is new waits in the order
 pub record Grows (m : List Bool) (order : List ℕ) (m2 : List Bool) (order2 : List ℕ) : Type 0 where

@@ -11,7 +11,7 @@ use Rattle.ygrammar.specs.Elaboration.{numbers_given, own_numbers, precedences_g
 use Rattle.ygrammar.specs.Elaboration.{starts, symbols, tokens, types_of, uses}
 use Rattle.ygrammar.specs.Forms.{Productive}
 use Rattle.ygrammar.specs.Grammar.{greatest_number, longest_body, most_rules, most_symbols}
-use Rattle.ygrammar.specs.Names.{Name, is_among, printed}
+use Rattle.ygrammar.specs.Names.{Name, is_among, printed_name}
 use Rattle.ygrammar.specs.Numbers.{Clashes}
 use Rattle.ygrammar.specs.Tree.{Identifier, Tree}
 
@@ -21,7 +21,7 @@ Holds t TokenLeft = (n : Name) × (is_token t n ≡ true)
     × (Contains (lefts t) n ⊎ Contains (types_of t) n)
 -- a name in a body, a `%prec` or a `%type` is no symbol
 Holds t Undefined = (n : Name) × (is_among (symbols t) n ≡ false)
-    × (Contains (map printed (uses t)) n ⊎ Contains (types_of t) n)
+    × (Contains (map printed_name (uses t)) n ⊎ Contains (types_of t) n)
 -- a token is given a precedence twice
 Holds t TwicePrecedence = (n : Name) × (2 ≤ length (precedences_given t n))
 -- a number is out of range, a token is given two, or two tokens have one
@@ -31,12 +31,13 @@ Holds t BadNumber = ((n : Name) × (m : ℕ) × Contains (numbers_given t n) m
     ⊎ Clashes (own_numbers t))
 -- `%start` stands twice, or names no nonterminal
 Holds t BadStart = (2 ≤ length (starts t))
-    ⊎ ((i : Identifier) × Contains (starts t) i × (is_nonterminal t (printed i) ≡ false))
+    ⊎ ((i : Identifier) × Contains (starts t) i × (is_nonterminal t (printed_name i) ≡ false))
 -- a nonterminal derives no list of tokens
 Holds t Unproductive = (s : ℕ) × (length (tokens t) ≤ s) × (s < length (symbols t))
     × (Productive (bare_of t) s → ⊥)
 -- `%prec` names a nonterminal
-Holds t BadPrec = (i : Identifier) × Contains (precs t) i × (is_nonterminal t (printed i) ≡ true)
+Holds t BadPrec = (i : Identifier) × Contains (precs t) i × (is_nonterminal t (printed_name i) ≡
+    true)
 -- more symbols, rules or symbols in a body than the limits
 Holds t Limit = (most_symbols < length (symbols t))
     ⊎ ((most_rules < length (rules t))

@@ -15,9 +15,9 @@ printed_literal v =
     if nat_le 32 v && nat_le v 126 && not (v == 39) && not (v == 92) then 39 ∷ v ∷ 39 ∷ []
     else 39 ∷ 92 ∷ (48 + v / 64) ∷ (48 + v / 8 % 8) ∷ (48 + v % 8) ∷ 39 ∷ []
 
-abbrev pub printed : Identifier → Name
-printed (named n) = n
-printed (quoted v) = printed_literal v
+abbrev pub printed_name : Identifier → Name
+printed_name (named n) = n
+printed_name (quoted v) = printed_literal v
 
 -- the name is listed
 abbrev pub is_among : List Name → Name → Bool

@@ -2,13 +2,13 @@
 use Rattle.std.specs.Prelude.{ℕ, ◌&&◌, nat_le, nat_lt, fold, Bool, List, [], ◌∷◌, length, map}
 use Rattle.std.specs.Prelude.{Option, Some, None, if◌then◌else◌}
 use Rattle.ygrammar.specs.declared.precedence.Precedence.{Precedence}
-use Rattle.ygrammar.specs.Elaboration.{Rule, body_from, final_of, numbered, precedence_at}
+use Rattle.ygrammar.specs.Elaboration.{Rule, body_from, final_of, numbered_rule, precedence_at}
 use Rattle.ygrammar.specs.Grammar.{RuleValue, longest_body}
-use Rattle.ygrammar.specs.Names.{Name, number_in, printed}
-use Rattle.ygrammar.specs.Tree.{Clause, Identifier}
+use Rattle.ygrammar.specs.Names.{Name, number_in, printed_name}
+use Rattle.ygrammar.specs.Tree.{RuleText, Identifier}
 
 -- the next number of an inner action behind rules of the file, from k on
-abbrev pub inner_after : ℕ → List Clause → ℕ
+abbrev pub inner_after : ℕ → List RuleText → ℕ
 inner_after k [] = k
 inner_after k (c ∷ cs) = inner_after (body_from k (final_of c.last c.body).0).next cs
 
@@ -18,7 +18,7 @@ last_token tokens body = fold (λ last s. if nat_lt s tokens then Some s else la
 
 -- the token whose precedence a rule has
 abbrev pub chosen_token : List Name → ℕ → Option Identifier → List ℕ → Option ℕ
-chosen_token ns tokens (Some i) body = Some (number_in ns (printed i))
+chosen_token ns tokens (Some i) body = Some (number_in ns (printed_name i))
 chosen_token ns tokens None body = last_token tokens body
 
 -- the precedence of a rule; given are those of the tokens by number
@@ -28,12 +28,12 @@ rule_precedence ns given r = precedence_at given
 
 -- what the rule of an inner action is by number: it has no precedence
 abbrev pub inner_numbers : List Name → Rule → RuleValue
-inner_numbers ns r = record { production = numbered ns r; precedence = None }
+inner_numbers ns r = record { production = numbered_rule ns r; precedence = None }
 
 -- what a rule of the file is by number
 abbrev pub rule_numbers : List Name → List (Option Precedence) → Rule → RuleValue
 rule_numbers ns given r = record {
-  production = numbered ns r;
+  production = numbered_rule ns r;
   precedence = rule_precedence ns given r;
 }
 

@@ -6,7 +6,8 @@ use Rattle.ygrammar.specs.declared.outline.Started.{Started}
 use Rattle.ygrammar.specs.declared.outline.Outline.{Outline}
 use Rattle.ygrammar.specs.Tree.{Identifier, Tree}
 use Rattle.ygrammar.specs.TreeViews.{digits_view, occurrence_view, name_view, option_view}
-use Rattle.ygrammar.specs.Elaboration.{Listing, declared, lefts, listings, precs, starts, types_of}
+use Rattle.ygrammar.specs.Elaboration.{Listing, identifiers_of, lefts, listings, precs, starts}
+use Rattle.ygrammar.specs.Elaboration.{types_of}
 use Rattle.ygrammar.specs.Elaboration.{uses}
 
 abbrev pub listed_view : Listed → Listing
@@ -24,7 +25,7 @@ pub record Outlines (o : Outline) (t : Tree) : Type 0 where
   pub listed : map listed_view o.listed.items ≡ listings t
   pub starts : map start_view o.starts.items ≡ starts t
   pub typed : map name_view o.typed.items ≡ types_of t
-  pub declared : map occurrence_view o.declared.items ≡ flat_map declared t.definitions
+  pub declared : map occurrence_view o.declared.items ≡ flat_map identifiers_of t.definitions
   pub lefts : map name_view o.lefts.items ≡ lefts t
   pub used : map occurrence_view o.used.items ≡ uses t
   pub precs : map occurrence_view o.precs.items ≡ precs t

@@ -51,7 +51,8 @@ pub record OwnSoFar (ns : List Name) (table : List (Option ℕ))
 
 -- the table, with a number for a token that has none
 abbrev pub with_number : List (Option ℕ) → ℕ → ℕ → List (Option ℕ)
-with_number table k v = cond (nat_lt k (length table) && not (is_some (slice_index_or table k None)))
+with_number table k v = cond (nat_lt k (length table) && not (is_some (slice_index_or table k
+    None)))
     (slice_set table k (Some v)) table
 
 -- the mistake is this one, and it holds; or memory was refused

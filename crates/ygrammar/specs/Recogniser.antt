@@ -121,14 +121,14 @@ is_end End = true
 is_end _ = false
 
 -- where the kinds lead from a state
-abbrev pub reached : Option State → List Kind → Option State
-reached q [] = q
-reached None (k ∷ ks) = None
-reached (Some q) (k ∷ ks) = reached (next_state q k) ks
+abbrev pub state_after : Option State → List Kind → Option State
+state_after q [] = q
+state_after None (k ∷ ks) = None
+state_after (Some q) (k ∷ ks) = state_after (next_state q k) ks
 
 abbrev pub is_final_at : Option State → Bool
 is_final_at None = false
 is_final_at (Some q) = is_final q
 
 abbrev pub run : State → List Kind → Bool
-run q ks = is_final_at (reached (Some q) ks)
+run q ks = is_final_at (state_after (Some q) ks)

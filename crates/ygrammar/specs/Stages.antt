@@ -16,8 +16,8 @@ is_plain b = nat_le 32 b && nat_le b 126 && not (b == 39) && not (b == 92)
 abbrev pub digit_in : ℕ → ℕ → Option ℕ
 digit_in radix b = if nat_lt (digit_value b) radix then Some (digit_value b) else None
 
-abbrev pub opened : ℕ → Option Stage
-opened b = if is_plain b then Some (Shut b) else if b == 92 then Some Backslash else None
+abbrev pub after_quote : ℕ → Option Stage
+after_quote b = if is_plain b then Some (Shut b) else if b == 92 then Some Backslash else None
 
 -- a third digit must leave a value of 1 to 255, or no literal comes of it
 abbrev pub octal_fits : ℕ → ℕ → Bool
@@ -39,16 +39,16 @@ hex_with value (Some d) =
 abbrev pub more_hex : ℕ → ℕ → Option Stage
 more_hex value b = hex_with value (digit_in 16 b)
 
-abbrev pub escaped_with : ℕ → Option ℕ → Option Stage
-escaped_with b (Some value) = Some (Shut value)
-escaped_with b None = if b == 120 then Some HexMark else more_octals 0 0 b
+abbrev pub after_backslash_with : ℕ → Option ℕ → Option Stage
+after_backslash_with b (Some value) = Some (Shut value)
+after_backslash_with b None = if b == 120 then Some HexMark else more_octals 0 0 b
 
-abbrev pub escaped : ℕ → Option Stage
-escaped b = escaped_with b (escape_value b)
+abbrev pub after_backslash : ℕ → Option Stage
+after_backslash b = after_backslash_with b (escape_value b)
 
 abbrev pub next_stage : Stage → ℕ → Option Stage
-next_stage Opened b = opened b
-next_stage Backslash b = escaped b
+next_stage Opened b = after_quote b
+next_stage Backslash b = after_backslash b
 next_stage (Shut v) b = None
 next_stage (Octals n v) b = more_octals n v b
 next_stage HexMark b = more_hex 0 b

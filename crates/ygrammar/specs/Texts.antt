@@ -3,11 +3,11 @@ use Rattle.std.specs.Prelude.{ℕ, ◌≡◌, List, [], ◌∷◌, ◌++◌, tak
 use Rattle.std.specs.List.{flat_map, AllByRecursion}
 use Rattle.ygrammar.specs.declared.texts.Span.{Span}
 use Rattle.ygrammar.specs.declared.tree.BracedText.{BracedText}
-use Rattle.ygrammar.specs.declared.tree.Clause.{Clause as CodeClause}
+use Rattle.ygrammar.specs.declared.tree.RuleText.{RuleText as CodeRuleText}
 use Rattle.ygrammar.specs.declared.tree.BodyPart.{BodyPart as CodeBodyPart}
 use Rattle.ygrammar.specs.declared.tree.BodyPart.TheVariants as items
 use Rattle.ygrammar.specs.Elaboration.{Rule, final_of}
-use Rattle.ygrammar.specs.Tree.{Clause, BodyPart, symbol, action}
+use Rattle.ygrammar.specs.Tree.{RuleText, BodyPart, symbol, action}
 
 -- the part of the source there
 abbrev pub part_of : List ℕ → Span → List ℕ
@@ -28,13 +28,13 @@ BodyPartStands source (items.Symbol m) = Unit {0}
 BodyPartStands source (items.Action b) = StandsAt source b
 
 -- so do the actions of a rule
-pub record ClauseStands (source : List ℕ) (c : CodeClause) : Type 0 where
+pub record RuleTextStands (source : List ℕ) (c : CodeRuleText) : Type 0 where
   pub body : AllByRecursion (BodyPartStands source) c.body.items
   pub last : IfSome c.last (λ b. StandsAt source b)
 
 -- the text of a rule, where it has one
-abbrev pub rule_text : Rule → Option (List ℕ)
-rule_text r = r.text
+abbrev pub kept_text : Rule → Option (List ℕ)
+kept_text r = r.text
 
 -- the text of the rule of an inner action
 abbrev pub body_part_texts : BodyPart → List (Option (List ℕ))
@@ -42,5 +42,5 @@ body_part_texts (symbol i) = []
 body_part_texts (action t) = Some t ∷ []
 
 -- the texts of the rules that a rule of the file makes, inner ones first
-abbrev pub clause_texts : Clause → List (Option (List ℕ))
-clause_texts c = let f = final_of c.last c.body in flat_map body_part_texts f.0 ++ f.1 ∷ []
+abbrev pub texts_of_rule : RuleText → List (Option (List ℕ))
+texts_of_rule c = let f = final_of c.last c.body in flat_map body_part_texts f.0 ++ f.1 ∷ []

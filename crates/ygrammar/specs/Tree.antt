@@ -35,7 +35,7 @@ pub data BodyPart : Type 0 where
   action : List ℕ → BodyPart
 
 -- a rule, as it stands in the file
-pub record Clause : Type 0 where
+pub record RuleText : Type 0 where
   -- the name before the colon, or a bar
   pub left : Option (List ℕ)
   pub body : List BodyPart
@@ -47,7 +47,7 @@ pub record Clause : Type 0 where
 -- a whole file
 pub record Tree : Type 0 where
   pub definitions : List Definition
-  pub clauses : List Clause
+  pub rule_texts : List RuleText
   pub second_mark : Bool
 
 -- ---- the lexemes
@@ -93,8 +93,8 @@ abbrev pub end_yield : Option Identifier → Option (List ℕ) → ℕ → List 
 end_yield prec last semicolons = option_yield (λ i. fixed sign.Prec ∷ identifier_yield i ∷ []) prec
     ++ (option_yield (λ t. braced t ∷ []) last ++ replicate semicolons (fixed sign.Semicolon))
 
-abbrev pub clause_yield : Clause → List Lexeme
-clause_yield c = left_yield c.left
+abbrev pub rule_text_yield : RuleText → List Lexeme
+rule_text_yield c = left_yield c.left
     ∷ (map body_part_yield c.body ++ end_yield c.prec c.last c.semicolons)
 
 abbrev pub mark_yield : Bool → List Lexeme
@@ -103,7 +103,7 @@ mark_yield false = []
 
 abbrev pub yield : Tree → List Lexeme
 yield t = flat_map definition_yield t.definitions ++ fixed sign.Mark
-    ∷ (flat_map clause_yield t.clauses ++ mark_yield t.second_mark)
+    ∷ (flat_map rule_text_yield t.rule_texts ++ mark_yield t.second_mark)
 
 -- ---- which trees a grammar file has
 
@@ -113,19 +113,19 @@ IsDefinition (types tag ns) = 0 < length ns
 IsDefinition _ = Unit {0}
 
 -- an action behind a precedence wants that precedence
-abbrev pub IsClause : Clause → Type 0
-IsClause c = IsSome c.last → IsSome c.prec
+abbrev pub IsRuleText : RuleText → Type 0
+IsRuleText c = IsSome c.last → IsSome c.prec
 
-abbrev pub BeginsWithName : List Clause → Type 0
+abbrev pub BeginsWithName : List RuleText → Type 0
 BeginsWithName [] = ⊥
 BeginsWithName (c ∷ cs) = IsSome c.left
 
--- a list has no empty listing, an action stands behind a precedence alone, and the first clause
+-- a list has no empty listing, an action stands behind a precedence alone, and the first rule
 -- has a name
 pub record IsTree (t : Tree) : Type 0 where
   pub definitions : AllByRecursion IsDefinition t.definitions
-  pub clauses : AllByRecursion IsClause t.clauses
-  pub first : BeginsWithName t.clauses
+  pub rule_texts : AllByRecursion IsRuleText t.rule_texts
+  pub first : BeginsWithName t.rule_texts
 
 -- the lexemes are those of exactly one tree
 pub record HasOneTree (ls : List Lexeme) : Type 0 where

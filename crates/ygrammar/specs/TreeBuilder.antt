@@ -47,7 +47,8 @@ TakesTag None before after = ((n : List ℕ) (rest : List Lexeme) → before ≡
 TakesTag (Some n) before after = before ≡ tag_yield n ++ after
 
 -- A declaration, with the lexemes before and behind it.
-pub record IsDeclared (before : List Lexeme) (d : CodeDefinition) (after : List Placed) : Type 0 where
+pub record IsDeclared (before : List Lexeme) (d : CodeDefinition) (after : List Placed) :
+    Type 0 where
   pub whole : before ≡ definition_yield (definition_view d) ++ views after
   pub shaped : IsDefinition (definition_view d)
   pub goes_on : GoesOn Declarations after

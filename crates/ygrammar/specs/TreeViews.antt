@@ -14,11 +14,11 @@ use Rattle.ygrammar.specs.declared.tree.Definition.{Definition as CodeDefinition
 use Rattle.ygrammar.specs.declared.tree.Definition.TheVariants as definitions
 use Rattle.ygrammar.specs.declared.tree.BodyPart.{BodyPart as CodeBodyPart}
 use Rattle.ygrammar.specs.declared.tree.BodyPart.TheVariants as items
-use Rattle.ygrammar.specs.declared.tree.Clause.{Clause as CodeClause}
+use Rattle.ygrammar.specs.declared.tree.RuleText.{RuleText as CodeRuleText}
 use Rattle.ygrammar.specs.declared.tree.Tree.{Tree as CodeTree}
 use Rattle.ygrammar.specs.Tree.{Identifier, named, quoted, Word, token, left, right, nonassoc}
 use Rattle.ygrammar.specs.Tree.{Entry, Definition, start, union, block, listing, types, BodyPart}
-use Rattle.ygrammar.specs.Tree.{symbol, action, Clause, Tree}
+use Rattle.ygrammar.specs.Tree.{symbol, action, RuleText, Tree}
 
 abbrev pub identifier_view : CodeIdentifier → Identifier
 identifier_view (identifiers.Named n) = named n.now
@@ -65,8 +65,8 @@ abbrev pub body_part_view : CodeBodyPart → BodyPart
 body_part_view (items.Symbol m) = symbol (occurrence_view m)
 body_part_view (items.Action b) = action (braced_view b)
 
-abbrev pub clause_view : CodeClause → Clause
-clause_view c = record {
+abbrev pub rule_text_view : CodeRuleText → RuleText
+rule_text_view c = record {
   left = option_view name_view c.left;
   body = map body_part_view c.body.items;
   prec = option_view occurrence_view c.prec;
@@ -77,6 +77,6 @@ clause_view c = record {
 abbrev pub tree_view : CodeTree → Tree
 tree_view t = record {
   definitions = map definition_view t.definitions.items;
-  clauses = map clause_view t.clauses.items;
+  rule_texts = map rule_text_view t.rule_texts.items;
   second_mark = t.second_mark;
 }

@@ -5,7 +5,7 @@ ghost use Rattle.std.specs.Prelude.{◌≡◌, ◌||◌, ◌&&◌, None, Some, i
 ghost use Rattle.std.specs.Prelude.{nat_lt, not, IfSome};
 ghost use Rattle.std.specs.List.{find, last_or, list_any};
 ghost use Rattle.ygrammar.specs.NameTexts.{texts};
-ghost use Rattle.ygrammar.specs.Names.{is_among, number_in, printed};
+ghost use Rattle.ygrammar.specs.Names.{is_among, number_in, printed_name};
 ghost use Rattle.ygrammar.specs.Numbered.{is_between, is_long};
 ghost use Rattle.ygrammar.specs.Outline.{start_view};
 ghost use Rattle.ygrammar.specs.TreeViews.{identifier_view, occurrence_view, name_view};
@@ -52,11 +52,11 @@ pub fn first_unknown(names: &[NameAt], symbols: &SymbolTable) -> Option<usize>
 /// The first of some names and literals that is no symbol.
 pub fn first_undefined(occurrences: &[Occurrence], symbols: &SymbolTable) -> Option<usize>
     ensures found { is_some result
-        ≡ list_any (λ i. not (is_among (texts symbols.now) (printed i)))
+        ≡ list_any (λ i. not (is_among (texts symbols.now) (printed_name i)))
         (map occurrence_view occurrences.now) }
     ensures place { result
         ≡ option_view (λ m. m.at)
-        (find (λ m. not (is_among (texts symbols.now) (printed (occurrence_view m))))
+        (find (λ m. not (is_among (texts symbols.now) (printed_name (occurrence_view m))))
         occurrences.now) }
 {
     for occurrence in occurrences {
@@ -71,7 +71,7 @@ pub fn first_undefined(occurrences: &[Occurrence], symbols: &SymbolTable) -> Opt
 fn is_nonterminal(who: Identifier, symbols: &SymbolTable, tokens: usize) -> bool
     ensures { result
         ≡ is_between tokens (length (texts symbols.now))
-        (number_in (texts symbols.now) (printed (identifier_view who.entry))) }
+        (number_in (texts symbols.now) (printed_name (identifier_view who.entry))) }
 {
     let number = number_of(symbols, who);
     tokens <= number && number < symbols.len()
@@ -85,11 +85,11 @@ pub fn first_nonterminal(
 ) -> Option<usize>
     ensures found { is_some result
         ≡ list_any (λ i. is_between tokens (length (texts symbols.now))
-        (number_in (texts symbols.now) (printed i))) (map occurrence_view occurrences.now) }
+        (number_in (texts symbols.now) (printed_name i))) (map occurrence_view occurrences.now) }
     ensures place { result
         ≡ option_view (λ m. m.at)
         (find (λ m. is_between tokens (length (texts symbols.now))
-        (number_in (texts symbols.now) (printed (occurrence_view m)))) occurrences.now) }
+        (number_in (texts symbols.now) (printed_name (occurrence_view m)))) occurrences.now) }
 {
     for occurrence in occurrences {
         if is_nonterminal(occurrence.who, symbols, tokens) {
@@ -104,7 +104,7 @@ pub fn bad_start(starts: &[Started], symbols: &SymbolTable, tokens: usize) -> Op
     ensures found { is_some result
         ≡ (nat_le 2 (length starts.now)
         || list_any (λ i. not (is_between tokens (length (texts symbols.now))
-        (number_in (texts symbols.now) (printed i)))) (map start_view starts.now)) }
+        (number_in (texts symbols.now) (printed_name i)))) (map start_view starts.now)) }
     ensures place { IfSome result (λ at. option_view (λ s. s.at) (last_or None starts.now)
         ≡ Some at) }
 {

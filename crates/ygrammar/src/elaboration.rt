@@ -10,7 +10,7 @@ ghost use Rattle.ygrammar.specs.Meaning.{IsMeaning};
 ghost use Rattle.ygrammar.specs.NameTexts.{texts};
 ghost use Rattle.ygrammar.specs.Names.{number_in};
 ghost use Rattle.ygrammar.specs.Numbered.{inner_after};
-ghost use Rattle.ygrammar.specs.Texts.{ClauseStands};
+ghost use Rattle.ygrammar.specs.Texts.{RuleTextStands};
 ghost use Rattle.ygrammar.specs.Tree.{IsTree, Tree as TreeOf, yield};
 ghost use Rattle.ygrammar.specs.Outline.{Outlines};
 ghost use Rattle.ygrammar.specs.TreeViews.{name_view, option_view, tree_view};
@@ -28,7 +28,7 @@ use crate::reachable::reachable;
 use crate::refusals::{
     refuse_limit, refuse_prec, refuse_start, refuse_token_left, refuse_undefined,
 };
-use crate::rules::{intern_nonterminals, number_rules, rule_texts};
+use crate::rules::{intern_nonterminals, kept_texts, number_rules};
 use crate::texts::Texts;
 use crate::tokens::tokens;
 use crate::tree::{NameAt, Tree};
@@ -46,7 +46,7 @@ pub struct Named {
 /// The symbols of a tree, or the first of the mistakes that can stand in them.
 fn name_symbols(alloc: Global, tree: &Tree, outline: &Outline) -> Result<Named, Refused>
     requires outline { Outlines outline.now (tree_view tree.now) }
-    requires counted { inner_after 1 (tree_view tree.now).clauses < 2 ^ 64 }
+    requires counted { inner_after 1 (tree_view tree.now).rule_texts < 2 ^ 64 }
     ensures { GivesNamed (tree_view tree.now) result }
 {
     let mut names = tokens(alloc, outline)?;
@@ -54,7 +54,7 @@ fn name_symbols(alloc: Global, tree: &Tree, outline: &Outline) -> Result<Named, 
     refuse_token_left(outline, &names)?;
     let given = precedences(alloc, &names, outline);
     let own = own_table(alloc, &names, outline);
-    intern_nonterminals(alloc, &mut names, &tree.clauses)?;
+    intern_nonterminals(alloc, &mut names, &tree.rule_texts)?;
     refuse_undefined(outline, &names)?;
     let given = given?;
     let own = own?;
@@ -133,18 +133,24 @@ fn grammar_of(
 pub fn elaborate(alloc: Global, source: &[u8], tree: &Tree) -> Result<Grammar, Refused>
     requires spelled { (bytes : List ℕ) × SpellsSyntax bytes (yield (tree_view tree.now)) }
     requires shaped { IsTree (tree_view tree.now) }
-    requires stands { AllByRecursion (ClauseStands source.now) tree.now.clauses.items }
-    requires counted { inner_after 1 (tree_view tree.now).clauses < 2 ^ 64 }
+    requires stands { AllByRecursion (RuleTextStands source.now) tree.now.rule_texts.items }
+    requires counted { inner_after 1 (tree_view tree.now).rule_texts < 2 ^ 64 }
     ensures { Elaborates (tree_view tree.now) result }
 {
     let outline = Outline::new(alloc, tree)?;
     let named = name_symbols(alloc, tree, &outline)?;
     refuse_start(&outline, &named.names, named.tokens)?;
-    let rules = number_rules(alloc, &named.names, &named.given, &outline, &tree.clauses)?;
+    let rules = number_rules(
+        alloc,
+        &named.names,
+        &named.given,
+        &outline,
+        &tree.rule_texts,
+    )?;
     let symbols = named.names.len();
     refuse_unproductive(alloc, &outline, &named.names, &rules, named.tokens, symbols)?;
     refuse_prec(&outline, &named.names, named.tokens)?;
     refuse_limit(&named.names, &rules)?;
-    let texts = rule_texts(alloc, source, tree)?;
+    let texts = kept_texts(alloc, source, tree)?;
     Ok(grammar_of(alloc, named, rules, texts)?)
 }

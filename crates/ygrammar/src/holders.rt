@@ -1,6 +1,7 @@
 //! Which tokens hold each number, and the first number of the file that is at fault.
 
-ghost use Rattle.std.specs.Prelude.{◌≡◌, ◌<◌, ℕ, IfOk, MatchBool, length, slice_index_or, slice_set};
+ghost use Rattle.std.specs.Prelude.{◌≡◌, ◌<◌, ℕ, IfOk, MatchBool, length, slice_index_or};
+ghost use Rattle.std.specs.Prelude.{slice_set};
 ghost use Rattle.ygrammar.specs.Elaboration.{tokens as tokens_of_tree};
 ghost use Rattle.ygrammar.specs.Grammar.{number_bound};
 ghost use Rattle.ygrammar.specs.NameTexts.{texts};

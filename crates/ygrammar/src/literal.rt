@@ -2,7 +2,8 @@
 
 ghost use Rattle.std.specs.Prelude.{◌≡◌, ◌≤◌, true};
 ghost use Rattle.ygrammar.specs.Lexemes.{FindsLiteral, escape_value};
-ghost use Rattle.ygrammar.specs.Stages.{is_plain, digit_in, opened, escaped, more_octals};
+ghost use Rattle.ygrammar.specs.Stages.{is_plain, digit_in, after_quote, after_backslash};
+ghost use Rattle.ygrammar.specs.Stages.{more_octals};
 ghost use Rattle.ygrammar.specs.Stages.{more_hex, next_stage, closed_stage, shut_scan, scan};
 ghost use Rattle.ygrammar.specs.Stages.{scan_view};
 ghost use Rattle.ygrammar.specs.Views.{Reads, begins_quote};
@@ -67,8 +68,8 @@ fn escape(b: u8) -> Option<u8>
     }
 }
 
-fn opened(b: u8) -> Option<Stage>
-    ensures { result ≡ opened b }
+fn after_quote(b: u8) -> Option<Stage>
+    ensures { result ≡ after_quote b }
 {
     if is_plain(b) {
         Some(Stage::Shut(b))
@@ -79,8 +80,8 @@ fn opened(b: u8) -> Option<Stage>
     }
 }
 
-fn escaped(b: u8) -> Option<Stage>
-    ensures { result ≡ escaped b }
+fn after_backslash(b: u8) -> Option<Stage>
+    ensures { result ≡ after_backslash b }
 {
     match escape(b) {
         Some(value) => Some(Stage::Shut(value)),
@@ -134,8 +135,8 @@ impl Stage {
         ensures { result ≡ next_stage self b }
     {
         match self {
-            Stage::Opened => opened(b),
-            Stage::Backslash => escaped(b),
+            Stage::Opened => after_quote(b),
+            Stage::Backslash => after_backslash(b),
             Stage::Shut(_) => None,
             Stage::Octals(digits, value) => more_octals(digits, value, b),
             Stage::HexMark => more_hex(0, b),

@@ -1,7 +1,7 @@
 //! Symbols by their printed names: each name once, its number the place where it was interned.
 
 ghost use Rattle.std.specs.Prelude.{◌≡◌, ◌≤◌, ℕ, List, length, map, take, OnOk, IfOk, [], ◌∷◌};
-ghost use Rattle.ygrammar.specs.Names.{is_among, with_name, with_names, number_in, printed};
+ghost use Rattle.ygrammar.specs.Names.{is_among, with_name, with_names, number_in, printed_name};
 ghost use Rattle.ygrammar.specs.Names.{printed_literal};
 ghost use Rattle.ygrammar.specs.NameTexts.{texts};
 ghost use Rattle.ygrammar.specs.TreeViews.{identifier_view, occurrence_view, name_view};
@@ -88,7 +88,7 @@ pub fn intern(alloc: Global, names: &mut SymbolTable, name: &[u8]) -> Result<(),
 
 /// The number of a name or literal, or how many names there are, where it isn't there.
 pub fn number_of(names: &SymbolTable, who: Identifier) -> usize
-    ensures { result ≡ number_in (texts names.now) (printed (identifier_view who.entry)) }
+    ensures { result ≡ number_in (texts names.now) (printed_name (identifier_view who.entry)) }
 {
     match who {
         Identifier::Named(name) => number_in(names, name),
@@ -98,7 +98,7 @@ pub fn number_of(names: &SymbolTable, who: Identifier) -> usize
 
 /// Whether a name or literal is there.
 pub fn is_named(names: &SymbolTable, who: Identifier) -> bool
-    ensures { result ≡ is_among (texts names.now) (printed (identifier_view who.entry)) }
+    ensures { result ≡ is_among (texts names.now) (printed_name (identifier_view who.entry)) }
 {
     match who {
         Identifier::Named(name) => is_among(names, name),
@@ -113,7 +113,7 @@ pub fn intern_identifier(
     who: Identifier,
 ) -> Result<(), AllocError>
     ensures { OnOk result (texts names.new
-        ≡ with_name (texts names.old) (printed (identifier_view who.entry))) }
+        ≡ with_name (texts names.old) (printed_name (identifier_view who.entry))) }
 {
     match who {
         Identifier::Named(name) => intern(alloc, names, name),

@@ -3,17 +3,18 @@
 
 ghost use Rattle.std.specs.Prelude.{◌≡◌, ◌++◌, ℕ, map, IfOk, OnOk, length};
 ghost use Rattle.std.specs.List.{flat_map};
-ghost use Rattle.ygrammar.specs.Elaboration.{clause_left, declared, given_by, body_part_identifier};
+ghost use Rattle.ygrammar.specs.Elaboration.{left_of_rule, identifiers_of, given_by};
+ghost use Rattle.ygrammar.specs.Elaboration.{body_part_identifier};
 ghost use Rattle.ygrammar.specs.Elaboration.{level_at, listing_of, listings_from, option_list};
-ghost use Rattle.ygrammar.specs.Elaboration.{prec_of, started, typed, used, who_of};
+ghost use Rattle.ygrammar.specs.Elaboration.{prec_of, starts_of, type_names, uses_of, who_of};
 ghost use Rattle.ygrammar.specs.Outline.{Outlines, listed_view, start_view};
-ghost use Rattle.ygrammar.specs.TreeViews.{clause_view, definition_view, entry_view};
+ghost use Rattle.ygrammar.specs.TreeViews.{rule_text_view, definition_view, entry_view};
 ghost use Rattle.ygrammar.specs.TreeViews.{body_part_view};
 ghost use Rattle.ygrammar.specs.TreeViews.{occurrence_view, name_view, option_view, tree_view};
 ghost use Rattle.ygrammar.specs.TreeViews.{word_view};
 
 use crate::precedence::{Associativity, Precedence};
-use crate::tree::{BodyPart, Clause, Definition, Digits, Entry, NameAt, Occurrence, Tree, Word};
+use crate::tree::{BodyPart, Definition, Digits, Entry, NameAt, Occurrence, RuleText, Tree, Word};
 use std::alloc::{AllocError, Global};
 
 /// A token that a line lists: the precedence that the line gives, and the digits behind the token.
@@ -68,7 +69,7 @@ fn push_declared<'a>(
     definition: &Definition<'a>,
 ) -> Result<(), AllocError>
     ensures { OnOk result (map occurrence_view found.new.items
-        ≡ map occurrence_view found.old.items ++ declared (definition_view definition.now)) }
+        ≡ map occurrence_view found.old.items ++ identifiers_of (definition_view definition.now)) }
 {
     match definition {
         Definition::Start(who, _) => found.push(*who)?,
@@ -85,7 +86,7 @@ fn all_declared<'a>(
     definitions: &[Definition<'a>],
 ) -> Result<Vec<Occurrence<'a>>, AllocError>
     ensures { IfOk result (λ v. map occurrence_view v.items
-        ≡ flat_map declared (map definition_view definitions.now)) }
+        ≡ flat_map identifiers_of (map definition_view definitions.now)) }
 {
     let mut found = Vec::new(alloc);
     for definition in definitions {
@@ -99,7 +100,7 @@ fn all_starts<'a>(
     definitions: &[Definition<'a>],
 ) -> Result<Vec<Started<'a>>, AllocError>
     ensures { IfOk result (λ v. map start_view v.items
-        ≡ flat_map started (map definition_view definitions.now)) }
+        ≡ flat_map starts_of (map definition_view definitions.now)) }
 {
     let mut found = Vec::new(alloc);
     for definition in definitions {
@@ -130,7 +131,7 @@ fn all_typed<'a>(
     definitions: &[Definition<'a>],
 ) -> Result<Vec<NameAt<'a>>, AllocError>
     ensures { IfOk result (λ v. map name_view v.items
-        ≡ flat_map typed (map definition_view definitions.now)) }
+        ≡ flat_map type_names (map definition_view definitions.now)) }
 {
     let mut found = Vec::new(alloc);
     for definition in definitions {
@@ -203,13 +204,13 @@ fn all_listed<'a>(
     Ok(found)
 }
 
-fn all_lefts<'a>(alloc: Global, clauses: &[Clause<'a>]) -> Result<Vec<NameAt<'a>>, AllocError>
+fn all_lefts<'a>(alloc: Global, rule_texts: &[RuleText<'a>]) -> Result<Vec<NameAt<'a>>, AllocError>
     ensures { IfOk result (λ v. map name_view v.items
-        ≡ flat_map clause_left (map clause_view clauses.now)) }
+        ≡ flat_map left_of_rule (map rule_text_view rule_texts.now)) }
 {
     let mut found = Vec::new(alloc);
-    for clause in clauses {
-        match clause.left {
+    for rule_text in rule_texts {
+        match rule_text.left {
             Some(name) => found.push(name)?,
             None => {}
         }
@@ -248,25 +249,31 @@ fn push_prec<'a>(
     Ok(())
 }
 
-fn all_used<'a>(alloc: Global, clauses: &[Clause<'a>]) -> Result<Vec<Occurrence<'a>>, AllocError>
+fn all_used<'a>(
+    alloc: Global,
+    rule_texts: &[RuleText<'a>],
+) -> Result<Vec<Occurrence<'a>>, AllocError>
     ensures { IfOk result (λ v. map occurrence_view v.items
-        ≡ flat_map used (map clause_view clauses.now)) }
+        ≡ flat_map uses_of (map rule_text_view rule_texts.now)) }
 {
     let mut found = Vec::new(alloc);
-    for clause in clauses {
-        push_items(&mut found, &clause.body)?;
-        push_prec(&mut found, clause.prec)?;
+    for rule_text in rule_texts {
+        push_items(&mut found, &rule_text.body)?;
+        push_prec(&mut found, rule_text.prec)?;
     }
     Ok(found)
 }
 
-fn all_precs<'a>(alloc: Global, clauses: &[Clause<'a>]) -> Result<Vec<Occurrence<'a>>, AllocError>
+fn all_precs<'a>(
+    alloc: Global,
+    rule_texts: &[RuleText<'a>],
+) -> Result<Vec<Occurrence<'a>>, AllocError>
     ensures { IfOk result (λ v. map occurrence_view v.items
-        ≡ flat_map prec_of (map clause_view clauses.now)) }
+        ≡ flat_map prec_of (map rule_text_view rule_texts.now)) }
 {
     let mut found = Vec::new(alloc);
-    for clause in clauses {
-        push_prec(&mut found, clause.prec)?;
+    for rule_text in rule_texts {
+        push_prec(&mut found, rule_text.prec)?;
     }
     Ok(found)
 }
@@ -281,9 +288,9 @@ impl<'a> Outline<'a> {
             starts: all_starts(alloc, &tree.definitions)?,
             typed: all_typed(alloc, &tree.definitions)?,
             declared: all_declared(alloc, &tree.definitions)?,
-            lefts: all_lefts(alloc, &tree.clauses)?,
-            used: all_used(alloc, &tree.clauses)?,
-            precs: all_precs(alloc, &tree.clauses)?,
+            lefts: all_lefts(alloc, &tree.rule_texts)?,
+            used: all_used(alloc, &tree.rule_texts)?,
+            precs: all_precs(alloc, &tree.rule_texts)?,
         })
     }
 }

@@ -5,7 +5,7 @@ ghost use Rattle.std.specs.Prelude.{EachIndex, false, IfOk, OnOk, vec_len};
 ghost use Rattle.ygrammar.specs.Forms.{Productive};
 ghost use Rattle.ygrammar.specs.Marking.{AreDots, AreIn, DotFits, Grows, IsMarked, IsSettled};
 ghost use Rattle.ygrammar.specs.Marking.{IsUnmarked, IsWorklist, OnlyProductive};
-ghost use Rattle.ygrammar.specs.Marking.{numbered_grammar, rule_at, unmarked};
+ghost use Rattle.ygrammar.specs.Marking.{numbered_grammar, rule_at, unmarked_count};
 
 use crate::grammar::{Rule, Sym};
 use crate::occurrences::{body_at, left_at, occurrences};

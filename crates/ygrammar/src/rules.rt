@@ -11,10 +11,10 @@ ghost use Rattle.ygrammar.specs.Names.{with_names, number_in};
 ghost use Rattle.ygrammar.specs.Outline.{start_view};
 ghost use Rattle.ygrammar.specs.Numbered.{chosen_token, inner_after, inner_numbers, last_token};
 ghost use Rattle.ygrammar.specs.Numbered.{rule_numbers};
-ghost use Rattle.ygrammar.specs.Texts.{ClauseStands, BodyPartStands, StandsAt, clause_texts};
+ghost use Rattle.ygrammar.specs.Texts.{RuleTextStands, BodyPartStands, StandsAt, texts_of_rule};
 ghost use Rattle.ygrammar.specs.Texts.{body_part_texts};
-ghost use Rattle.ygrammar.specs.Texts.{rule_text};
-ghost use Rattle.ygrammar.specs.TreeViews.{braced_view, clause_view, body_part_view};
+ghost use Rattle.ygrammar.specs.Texts.{kept_text};
+ghost use Rattle.ygrammar.specs.TreeViews.{braced_view, rule_text_view, body_part_view};
 ghost use Rattle.ygrammar.specs.TreeViews.{occurrence_view};
 ghost use Rattle.ygrammar.specs.TreeViews.{name_view, option_view, tree_view};
 
@@ -23,7 +23,7 @@ use crate::names::{SymbolTable, intern, number_in, number_of};
 use crate::outline::{Outline, Started};
 use crate::precedence::Precedence;
 use crate::texts::Texts;
-use crate::tree::{BodyPart, BracedText, Clause, NameAt, Occurrence, Tree};
+use crate::tree::{BodyPart, BracedText, NameAt, Occurrence, RuleText, Tree};
 use itoa::Buffer;
 use std::alloc::{AllocError, Global};
 
@@ -39,17 +39,17 @@ fn inner_name(alloc: Global, k: usize) -> Result<Vec<u8>, AllocError>
 
 /// A body without its final action, and that action: the one behind the precedence, or else the
 /// last part of the body.
-fn final_parts<'t, 'a>(clause: &'t Clause<'a>) -> (&'t [BodyPart<'a>], Option<BracedText<'a>>)
+fn final_parts<'t, 'a>(rule_text: &'t RuleText<'a>) -> (&'t [BodyPart<'a>], Option<BracedText<'a>>)
     ensures items { map body_part_view result.0.now
-        ≡ (final_of (clause_view clause.now).last (clause_view clause.now).body).0 }
+        ≡ (final_of (rule_text_view rule_text.now).last (rule_text_view rule_text.now).body).0 }
     ensures text { option_view braced_view result.1
-        ≡ (final_of (clause_view clause.now).last (clause_view clause.now).body).1 }
-    ensures stands { (source : List ℕ) → ClauseStands source clause.now →
+        ≡ (final_of (rule_text_view rule_text.now).last (rule_text_view rule_text.now).body).1 }
+    ensures stands { (source : List ℕ) → RuleTextStands source rule_text.now →
         AllByRecursion (BodyPartStands source) result.0.now
         × IfSome result.1 (λ b. StandsAt source b) }
 {
-    let body = clause.body.as_slice();
-    match clause.last {
+    let body = rule_text.body.as_slice();
+    match rule_text.last {
         Some(text) => (body, Some(text)),
         None => match body.split_last() {
             Some((BodyPart::Action(text), rest)) => (rest, Some(*text)),
@@ -88,10 +88,10 @@ fn intern_inner(
 }
 
 /// The left side of a rule, where `before` is that of the rule before it.
-fn left_name<'a>(clause: &Clause<'a>, before: &'a [u8]) -> &'a [u8]
-    ensures { result.now ≡ or_else (option_view name_view clause.now.left) before.now }
+fn left_name<'a>(rule_text: &RuleText<'a>, before: &'a [u8]) -> &'a [u8]
+    ensures { result.now ≡ or_else (option_view name_view rule_text.now.left) before.now }
 {
-    match clause.left {
+    match rule_text.left {
         Some(left) => left.name,
         None => before,
     }
@@ -100,19 +100,19 @@ fn left_name<'a>(clause: &Clause<'a>, before: &'a [u8]) -> &'a [u8]
 fn intern_lefts(
     alloc: Global,
     names: &mut SymbolTable,
-    clauses: &[Clause],
+    rule_texts: &[RuleText],
 ) -> Result<(), AllocError>
-    requires { inner_after 1 (map clause_view clauses.now) < 2 ^ 64 }
+    requires { inner_after 1 (map rule_text_view rule_texts.now) < 2 ^ 64 }
     ensures { OnOk result (texts names.new
         ≡ with_names (texts names.old)
-        (map rule_left (rules_from [] 1 (map clause_view clauses.now)))) }
+        (map rule_left (rules_from [] 1 (map rule_text_view rule_texts.now)))) }
 {
     let mut before: &[u8] = b"";
     let mut next: usize = 1;
-    for clause in clauses {
-        let (items, _) = final_parts(clause);
+    for rule_text in rule_texts {
+        let (items, _) = final_parts(rule_text);
         next = intern_inner(alloc, names, items, next)?;
-        before = left_name(clause, before);
+        before = left_name(rule_text, before);
         intern(alloc, names, before)?;
     }
     Ok(())
@@ -122,15 +122,15 @@ fn intern_lefts(
 pub fn intern_nonterminals(
     alloc: Global,
     names: &mut SymbolTable,
-    clauses: &[Clause],
+    rule_texts: &[RuleText],
 ) -> Result<(), AllocError>
-    requires { inner_after 1 (map clause_view clauses.now) < 2 ^ 64 }
+    requires { inner_after 1 (map rule_text_view rule_texts.now) < 2 ^ 64 }
     ensures { OnOk result (texts names.new
         ≡ with_names (texts names.old) (codes "$accept"
-        ∷ map rule_left (rules_from [] 1 (map clause_view clauses.now)))) }
+        ∷ map rule_left (rules_from [] 1 (map rule_text_view rule_texts.now)))) }
 {
     intern(alloc, names, b"$accept")?;
-    intern_lefts(alloc, names, clauses)
+    intern_lefts(alloc, names, rule_texts)
 }
 
 /// Adds the rule of an inner action, and answers its left side.
@@ -230,21 +230,21 @@ fn push_rules(
     alloc: Global,
     names: &SymbolTable,
     given: &[Option<Precedence>],
-    clauses: &[Clause],
+    rule_texts: &[RuleText],
     rules: &mut Vec<Rule>,
 ) -> Result<(), AllocError>
-    requires { inner_after 1 (map clause_view clauses.now) < 2 ^ 64 }
+    requires { inner_after 1 (map rule_text_view rule_texts.now) < 2 ^ 64 }
     ensures { OnOk result (rules.new.items
         ≡ rules.old.items ++ map (rule_numbers (texts names.now) given.now)
-        (rules_from [] 1 (map clause_view clauses.now))) }
+        (rules_from [] 1 (map rule_text_view rule_texts.now))) }
 {
     let mut before: &[u8] = b"";
     let mut next: usize = 1;
-    for clause in clauses {
-        let (items, _) = final_parts(clause);
+    for rule_text in rule_texts {
+        let (items, _) = final_parts(rule_text);
         let body = number_body(alloc, names, items, next, rules)?;
-        let precedence = rule_precedence(names, given, clause.prec, &body.symbols);
-        before = left_name(clause, before);
+        let precedence = rule_precedence(names, given, rule_text.prec, &body.symbols);
+        before = left_name(rule_text, before);
         next = body.next;
         let left = number_in(names, before);
         rules.push(Rule::of(left, body.symbols, precedence))?;
@@ -270,15 +270,15 @@ fn push_inner_texts(items: &[BodyPart], texts: &mut Texts) -> Result<(), AllocEr
 }
 
 /// Adds the texts of the rules of the file.
-fn push_texts(clauses: &[Clause], texts: &mut Texts) -> Result<(), AllocError>
-    requires { AllByRecursion (ClauseStands texts.old.source) clauses.now }
+fn push_texts(rule_texts: &[RuleText], texts: &mut Texts) -> Result<(), AllocError>
+    requires { AllByRecursion (RuleTextStands texts.old.source) rule_texts.now }
     ensures { OnOk result (texts.new
         ≡ record texts.old {
-          texts = texts.old.texts ++ flat_map clause_texts (map clause_view clauses.now);
+          texts = texts.old.texts ++ flat_map texts_of_rule (map rule_text_view rule_texts.now);
         }) }
 {
-    for clause in clauses {
-        let (items, text) = final_parts(clause);
+    for rule_text in rule_texts {
+        let (items, text) = final_parts(rule_text);
         push_inner_texts(items, texts)?;
         texts.push(text)?;
     }
@@ -286,13 +286,13 @@ fn push_texts(clauses: &[Clause], texts: &mut Texts) -> Result<(), AllocError>
 }
 
 /// The texts of the rules of a file.
-pub fn rule_texts(alloc: Global, source: &[u8], tree: &Tree) -> Result<Texts, AllocError>
-    requires { AllByRecursion (ClauseStands source.now) tree.now.clauses.items }
-    ensures { IfOk result (λ t. t.texts ≡ map rule_text (rules (tree_view tree.now))) }
+pub fn kept_texts(alloc: Global, source: &[u8], tree: &Tree) -> Result<Texts, AllocError>
+    requires { AllByRecursion (RuleTextStands source.now) tree.now.rule_texts.items }
+    ensures { IfOk result (λ t. t.texts ≡ map kept_text (rules (tree_view tree.now))) }
 {
     let mut texts = Texts::new(alloc, source)?;
     texts.push(None)?;
-    push_texts(&tree.clauses, &mut texts)?;
+    push_texts(&tree.rule_texts, &mut texts)?;
     Ok(texts)
 }
 
@@ -337,16 +337,17 @@ pub fn number_rules(
     names: &SymbolTable,
     given: &[Option<Precedence>],
     outline: &Outline,
-    clauses: &[Clause],
+    rule_texts: &[RuleText],
 ) -> Result<Vec<Rule>, AllocError>
-    requires { inner_after 1 (map clause_view clauses.now) < 2 ^ 64 }
+    requires { inner_after 1 (map rule_text_view rule_texts.now) < 2 ^ 64 }
     ensures { IfOk result (λ v. v.items
         ≡ map (rule_numbers (texts names.now) given.now)
         (first_rule (map start_view outline.now.starts.items)
-        (map name_view outline.now.lefts.items) ∷ rules_from [] 1 (map clause_view clauses.now))) }
+        (map name_view outline.now.lefts.items) ∷ rules_from [] 1 (map rule_text_view
+        rule_texts.now))) }
 {
     let mut rules = Vec::new(alloc);
     rules.push(first_rule(alloc, names, given, outline)?)?;
-    push_rules(alloc, names, given, clauses, &mut rules)?;
+    push_rules(alloc, names, given, rule_texts, &mut rules)?;
     Ok(rules)
 }

@@ -3,7 +3,7 @@
 ghost use Rattle.std.specs.Prelude.{◌≡◌, ◌++◌, ◌∷◌, [], filter, map, codes, IfOk, OnOk};
 ghost use Rattle.ygrammar.specs.Elaboration.{is_literal, listed_name, token_names_of, tokens_of};
 ghost use Rattle.ygrammar.specs.NameTexts.{texts};
-ghost use Rattle.ygrammar.specs.Names.{is_among, with_names, printed};
+ghost use Rattle.ygrammar.specs.Names.{is_among, with_names, printed_name};
 ghost use Rattle.ygrammar.specs.Outline.{listed_view};
 ghost use Rattle.ygrammar.specs.TreeViews.{occurrence_view};
 
@@ -44,7 +44,7 @@ fn intern_literals(
 ) -> Result<(), AllocError>
     ensures { OnOk result (texts names.new
         ≡ with_names (texts names.old)
-        (map printed (filter is_literal (map occurrence_view occurrences.now)))) }
+        (map printed_name (filter is_literal (map occurrence_view occurrences.now)))) }
 {
     for occurrence in occurrences {
         match occurrence.who {
@@ -78,7 +78,8 @@ fn intern_those(
 ) -> Result<(), AllocError>
     ensures { OnOk result (texts tokens.new
         ≡ with_names (texts tokens.old)
-        (filter (is_among (texts names.now)) (map printed (map occurrence_view occurrences.now)))) }
+        (filter (is_among (texts names.now)) (map printed_name (map occurrence_view
+        occurrences.now)))) }
 {
     for occurrence in occurrences {
         if is_named(names, occurrence.who) {

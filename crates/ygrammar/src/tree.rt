@@ -88,7 +88,7 @@ pub enum BodyPart<'a> {
 
 /// A rule, as it stands in the file.
 #[derive(Drop)]
-pub struct Clause<'a> {
+pub struct RuleText<'a> {
     /// The name before the colon, unless the rule begins with a bar.
     pub left: Option<NameAt<'a>>,
     pub body: Vec<BodyPart<'a>>,
@@ -102,6 +102,6 @@ pub struct Clause<'a> {
 #[derive(Drop)]
 pub struct Tree<'a> {
     pub definitions: Vec<Definition<'a>>,
-    pub clauses: Vec<Clause<'a>>,
+    pub rule_texts: Vec<RuleText<'a>>,
     pub second_mark: bool,
 }

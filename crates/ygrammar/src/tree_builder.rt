@@ -15,27 +15,28 @@ ghost use Rattle.ygrammar.specs.declared.recogniser.State.TheVariants.{Numbered,
 ghost use Rattle.ygrammar.specs.declared.recogniser.State.TheVariants.{TypeTagged, RulesMark, Body};
 ghost use Rattle.ygrammar.specs.declared.recogniser.State.TheVariants.{Semicolons};
 ghost use Rattle.ygrammar.specs.Answers.{StandIn, views};
-ghost use Rattle.ygrammar.specs.TreeBuilder.{GoesOn, NoBodyPart, NoSign, Takes, TakesSign, TakesTag};
+ghost use Rattle.ygrammar.specs.TreeBuilder.{GoesOn, NoBodyPart, NoSign, Takes, TakesSign};
+ghost use Rattle.ygrammar.specs.TreeBuilder.{TakesTag};
 ghost use Rattle.ygrammar.specs.TreeBuilder.{place_of, DefinitionAt, IsRead, Reads, ReadsMark};
 ghost use Rattle.ygrammar.specs.Lexer.{kinds};
 ghost use Rattle.ygrammar.specs.Lexemes.{name, number, braced, fixed, sign_kind};
 ghost use Rattle.ygrammar.specs.Recogniser.{run};
 ghost use Rattle.ygrammar.specs.Syntax.{IsSpec};
-ghost use Rattle.ygrammar.specs.Tree.{IsDefinition, IsClause, BeginsWithName, IsTree};
+ghost use Rattle.ygrammar.specs.Tree.{IsDefinition, IsRuleText, BeginsWithName, IsTree};
 ghost use Rattle.ygrammar.specs.Tree.{identifier_yield, option_yield, entry_yield, word_sign};
 ghost use Rattle.ygrammar.specs.Tree.{tag_yield, definition_yield, body_part_yield, left_yield};
-ghost use Rattle.ygrammar.specs.Tree.{end_yield, clause_yield, mark_yield, yield};
-ghost use Rattle.ygrammar.specs.Texts.{ClauseStands, BodyPartStands, StandsAt};
+ghost use Rattle.ygrammar.specs.Tree.{end_yield, rule_text_yield, mark_yield, yield};
+ghost use Rattle.ygrammar.specs.Texts.{RuleTextStands, BodyPartStands, StandsAt};
 ghost use Rattle.ygrammar.specs.TreeViews.{braced_view, name_view, occurrence_view, digits_view};
 ghost use Rattle.ygrammar.specs.TreeViews.{text_view, word_view, entry_view, definition_view};
-ghost use Rattle.ygrammar.specs.TreeViews.{body_part_view, clause_view, tree_view, option_view};
+ghost use Rattle.ygrammar.specs.TreeViews.{body_part_view, rule_text_view, tree_view, option_view};
 
 use crate::kind::Sign;
 use crate::lexer::Placed;
 use crate::part::Lexeme;
 use crate::tree::{
-    BodyPart, BracedText, Clause, Definition, Digits, Entry, Identifier, Listing, NameAt,
-    Occurrence, Tree, Types, Word,
+    BodyPart, BracedText, Definition, Digits, Entry, Identifier, Listing, NameAt, Occurrence,
+    RuleText, Tree, Types, Word,
 };
 use std::alloc::{AllocError, Global};
 use std::marker::Model;
@@ -285,7 +286,7 @@ impl<'a> TreeBuilder<'_, 'a> {
     }
 
     /// A declaration, behind its word, which stands at the place; nothing behind the mark.
-    fn declared(
+    fn declaration(
         &mut self,
         alloc: Global,
         word: Sign,
@@ -319,7 +320,7 @@ impl<'a> TreeBuilder<'_, 'a> {
         self.rest = rest;
         match first.lexeme {
             Lexeme::Code => Ok(Some(Definition::Block)),
-            Lexeme::Fixed(word) => self.declared(alloc, word, first.at),
+            Lexeme::Fixed(word) => self.declaration(alloc, word, first.at),
             _ => Ok(None),
         }
     }
@@ -396,21 +397,25 @@ impl<'a> TreeBuilder<'_, 'a> {
     }
 
     /// A rule, behind what it begins with.
-    fn clause(&mut self, alloc: Global, left: Option<NameAt<'a>>) -> Result<Clause<'a>, AllocError>
+    fn rule_text(
+        &mut self,
+        alloc: Global,
+        left: Option<NameAt<'a>>,
+    ) -> Result<RuleText<'a>, AllocError>
         requires { GoesOn Body self.old }
         ensures whole { IfOk result (λ c. left_yield (option_view name_view left.entry)
-            ∷ views self.old ≡ clause_yield (clause_view c) ++ views self.new) }
+            ∷ views self.old ≡ rule_text_yield (rule_text_view c) ++ views self.new) }
         ensures left { IfOk result (λ c. c.left ≡ left.entry) }
-        ensures shaped { IfOk result (λ c. IsClause (clause_view c)) }
+        ensures shaped { IfOk result (λ c. IsRuleText (rule_text_view c)) }
         ensures ended { IfOk result (λ c. NoSign Semicolon (views self.new)) }
         ensures goes_on { IfOk result (λ c. GoesOn Semicolons self.new) }
         ensures stands { IfOk result (λ c. (source : List ℕ) → StandIn source self.old →
-            ClauseStands source c × StandIn source self.new) }
+            RuleTextStands source c × StandIn source self.new) }
     {
         let body = self.body(alloc)?;
         let (prec, last) = self.precedence();
         let semicolons = self.semicolons();
-        Ok(Clause {
+        Ok(RuleText {
             left,
             body,
             prec,
@@ -420,22 +425,22 @@ impl<'a> TreeBuilder<'_, 'a> {
     }
 
     /// The rules. Behind them nothing is left, or the second mark.
-    fn clauses(&mut self, alloc: Global) -> Result<Vec<Clause<'a>>, AllocError>
+    fn rule_texts(&mut self, alloc: Global) -> Result<Vec<RuleText<'a>>, AllocError>
         requires { GoesOn RulesMark self.old }
         ensures whole { IfOk result (λ v. views self.old
-            ≡ flat_map clause_yield (map clause_view v.items) ++ views self.new) }
-        ensures shaped { IfOk result (λ v. AllByRecursion IsClause (map clause_view v.items)) }
-        ensures first { IfOk result (λ v. BeginsWithName (map clause_view v.items)) }
+            ≡ flat_map rule_text_yield (map rule_text_view v.items) ++ views self.new) }
+        ensures shaped { IfOk result (λ v. AllByRecursion IsRuleText (map rule_text_view v.items)) }
+        ensures first { IfOk result (λ v. BeginsWithName (map rule_text_view v.items)) }
         ensures ended { IfOk result (λ v. (b : Bool) × (views self.new ≡ mark_yield b)) }
         ensures stands { IfOk result (λ v. (source : List ℕ) → StandIn source self.old →
-            AllByRecursion (ClauseStands source) v.items) }
+            AllByRecursion (RuleTextStands source) v.items) }
     {
-        let mut clauses = Vec::new(alloc);
+        let mut rule_texts = Vec::new(alloc);
         'rules: while let Some(left) = self.left() {
-            let clause = self.clause(alloc, left)?;
-            clauses.push(clause)?;
+            let rule_text = self.rule_text(alloc, left)?;
+            rule_texts.push(rule_text)?;
         }
-        Ok(clauses)
+        Ok(rule_texts)
     }
 }
 
@@ -445,16 +450,16 @@ pub fn build_tree<'a>(alloc: Global, lexemes: &[Placed<'a>]) -> Result<Tree<'a>,
     ensures whole { IfOk result (λ t. views lexemes.now ≡ yield (tree_view t)) }
     ensures shaped { IfOk result (λ t. IsTree (tree_view t)) }
     ensures stands { IfOk result (λ t. (source : List ℕ) → StandIn source lexemes.now →
-        AllByRecursion (ClauseStands source) t.clauses.items) }
+        AllByRecursion (RuleTextStands source) t.rule_texts.items) }
 {
     let mut front = TreeBuilder { rest: lexemes };
     let definitions = front.definitions(alloc)?;
     let (_, rules) = lexemes.split_at(lexemes.len() - front.rest.len());
     let mut rest = TreeBuilder { rest: rules };
-    let clauses = rest.clauses(alloc)?;
+    let rule_texts = rest.rule_texts(alloc)?;
     Ok(Tree {
         definitions,
-        clauses,
+        rule_texts,
         second_mark: !rest.rest.is_empty(),
     })
 }

@@ -145,8 +145,10 @@ module _ (find : List ℕ → Option ℕ) (tokens : ℕ) where
   -- below it
   pub says_broken : (n : ℕ) → n < most_tokens
       → says find tokens n broken ≡ answer (Err (faults.BadLiteral (n + 1)))
-  says_broken n h = let t : nat_lt n most_tokens ≡ true = lt-ltb n most_tokens h in let e : n + 1 ≡ suc n =
-      omega arith in rw t (rw e refl)
+  says_broken n h =
+      let t : nat_lt n most_tokens ≡ true = lt-ltb n most_tokens h in
+      let e : n + 1 ≡ suc n = omega arith in
+      rw t (rw e refl)
 
   pub says_named : (n : ℕ) (name rest : List ℕ) → n < most_tokens
       → says find tokens n (word name rest) ≡ by_name tokens (n + 1) (find name) rest

@@ -38,10 +38,10 @@ clear_6 : (t : Tree) (g : ContextFree) → g ≡ bare_of t →
 clear_6 t g q p five =
     more t (take 5 order) mistakes.Unproductive five (none_barren t (all_productive t g q p))
 
-numbered : (c : After-deref-3) → c.in_ok-rules.rules.items
+numbered_rule : (c : After-deref-3) → c.in_ok-rules.rules.items
     ≡ map (rule_numbers (symbols (tree_view c.args.tree.now))
     (token_precedences (tree_view c.args.tree.now))) (rules (tree_view c.args.tree.now))
-numbered c = numbered_rules c.args.tree.now c.in_ok-named.named c.in_ok-outline.outline
+numbered_rule c = numbered_rules c.args.tree.now c.in_ok-named.named c.in_ok-outline.outline
     c.deref.result.now c.deref-2.result.now _ c.in_ok-named.ensures c.in_ok-outline.ensures
     c.deref.ensures.value c.deref-2.ensures.value c.in_ok-rules.ensures
 
@@ -52,7 +52,7 @@ bare : (c : After-deref-3)
     → numbered_grammar c.in_ok-named.named.tokens c.len-symbols.result c.deref-3.result.now
     ≡ bare_of (tree_view c.args.tree.now)
 bare c = bare_same (tree_view c.args.tree.now) _ _ _ c.in_ok-named.ensures.tokens_first (counted c)
-    (c.deref-3.ensures.value ∙ numbered c)
+    (c.deref-3.ensures.value ∙ numbered_rule c)
 
 ready : (c : In_ok-texts)
     → c.in_ok-rules.rules.items
@@ -95,7 +95,7 @@ refuse_unproductive-requires-clause-in_range c =
     let n = c.in_ok-named.ensures in
     are_in (tree_view c.args.tree.now) _ _ _ c.requires.shaped n.all_defined
     (clear_5 here).1.1.1.1.0 n.tokens_first
-    (counted here) (c.deref-3.ensures.value ∙ numbered here)
+    (counted here) (c.deref-3.ensures.value ∙ numbered_rule here)
 
 pub returns-in_err-refuse_start : goal.returns-in_err-refuse_start
 returns-in_err-refuse_start c =
@@ -140,16 +140,16 @@ returns-in_err-refuse_limit c =
     c.from_residual-in_err-refuse_limit.ensures.1 (more t (take 6 order) mistakes.BadPrec
     (clear_6 t _ (bare here) c.in_ok-refuse_unproductive.ensures (clear_5 here))
     (c.in_ok-refuse_prec.ensures t c.in_ok-outline.ensures n.names n.tokens_first))
-    (c.in_err-refuse_limit.ensures t n.names (c.deref-4.ensures.value ∙ numbered here))
+    (c.in_err-refuse_limit.ensures t n.names (c.deref-4.ensures.value ∙ numbered_rule here))
 
 pub grammar_of-requires : goal.grammar_of-requires
 grammar_of-requires c =
     let here = goal.at.grammar_of-requires c in
     let at = here.After-deref-3 in
-    (_, ready here.In_ok-texts (numbered at) (bare at) (clear_5 at))
+    (_, ready here.In_ok-texts (numbered_rule at) (bare at) (clear_5 at))
 
 pub returns : goal.returns
 returns c =
     let here = goal.at.returns c in
     let at = here.After-deref-3 in
-    c.in_ok-grammar_of.ensures _ (ready here.In_ok-texts (numbered at) (bare at) (clear_5 at))
+    c.in_ok-grammar_of.ensures _ (ready here.In_ok-texts (numbered_rule at) (bare at) (clear_5 at))

@@ -1,7 +1,7 @@
 use Rattle.std.proofs.Common.{◌≡◌, ◌++◌, ◌∷◌, [], ◌∙◌, sym, ap, map, length, refl, List, ℕ}
 use Rattle.std.proofs.Common.{codes}
 use Rattle.ygrammar.specs.declared.mistake.Mistake.TheVariants as mistakes
-use Rattle.ygrammar.specs.declared.tree.Clause.{Clause}
+use Rattle.ygrammar.specs.declared.tree.RuleText.{RuleText}
 use Rattle.ygrammar.specs.declared.tree.Tree.{Tree as CodeTree}
 use Rattle.ygrammar.specs.declared.outline.Outline.{Outline}
 use Rattle.ygrammar.specs.Elaborated.{GivesNamed}
@@ -10,8 +10,8 @@ use Rattle.ygrammar.specs.Elaboration.{tokens_of}
 use Rattle.ygrammar.specs.NameTexts.{texts}
 use Rattle.ygrammar.specs.Names.{with_names}
 use Rattle.ygrammar.specs.Outline.{Outlines, listed_view}
-use Rattle.ygrammar.specs.Tree.{Clause as ClauseOf, Identifier, Tree}
-use Rattle.ygrammar.specs.TreeViews.{clause_view, occurrence_view, tree_view}
+use Rattle.ygrammar.specs.Tree.{RuleText as RuleTextOf, Identifier, Tree}
+use Rattle.ygrammar.specs.TreeViews.{rule_text_view, occurrence_view, tree_view}
 use Rattle.ygrammar.proofs.ElaborationSteps.{refuses}
 use Rattle.ygrammar.proofs.NameSteps.{length_texts}
 use Rattle.ygrammar.proofs.OwnTables.{appear}
@@ -30,16 +30,18 @@ names_are outline t o ns h =
     (appear (map occurrence_view outline.declared.items) (map occurrence_view outline.used.items) t
     o.declared o.used)
 
-symbols_are : (t : Tree) (ns ms : List (List ℕ)) (cs : List Clause) (tree : CodeTree) →
+symbols_are : (t : Tree) (ns ms : List (List ℕ)) (cs : List RuleText) (tree : CodeTree) →
     ns ≡ tokens t → ms ≡ with_names ns
-    (codes "$accept" ∷ map rule_left (rules_from [] 1 (map clause_view cs))) →
-    cs ≡ tree.clauses.items → map clause_view tree.clauses.items ≡ t.clauses → ms ≡ symbols t
+    (codes "$accept" ∷ map rule_left (rules_from [] 1 (map rule_text_view cs))) →
+    cs ≡ tree.rule_texts.items → map rule_text_view tree.rule_texts.items ≡ t.rule_texts → ms ≡
+    symbols t
 symbols_are t ns ms cs tree k h e f =
     h ∙ ap (λ (xs : List (List ℕ)).
-    with_names xs (codes "$accept" ∷ map rule_left (rules_from [] 1 (map clause_view cs)))) k ∙ ap
-    (λ (xs : List ClauseOf). with_names (tokens t)
+    with_names xs (codes "$accept" ∷ map rule_left (rules_from [] 1 (map rule_text_view cs)))) k ∙
+    ap
+    (λ (xs : List RuleTextOf). with_names (tokens t)
     (codes "$accept" ∷ map rule_left (rules_from [] 1 xs)))
-    (ap (λ (xs : List Clause). map clause_view xs) e ∙ f)
+    (ap (λ (xs : List RuleText). map rule_text_view xs) e ∙ f)
 
 named : (c : In_ok-names) → texts c.in_ok-names.names ≡ tokens (tree_view c.args.tree.now)
 named c = names_are c.args.outline.now (tree_view c.args.tree.now) c.requires.outline _

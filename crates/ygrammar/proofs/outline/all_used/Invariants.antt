@@ -1,9 +1,10 @@
 use Rattle.std.proofs.Common.{◌≡◌, ◌++◌, map, drop}
 use Rattle.std.specs.List.{flat_map}
-use Rattle.ygrammar.specs.Elaboration.{used}
-use Rattle.ygrammar.specs.TreeViews.{clause_view, occurrence_view}
+use Rattle.ygrammar.specs.Elaboration.{uses_of}
+use Rattle.ygrammar.specs.TreeViews.{rule_text_view, occurrence_view}
 use Rattle.ygrammar.proofs.outline.all_used.Given as goal
 
-abbrev pub invariant-loop-clause : goal.invariant-loop-clause
-invariant-loop-clause l = map occurrence_view l.found.items ++ flat_map used
-    (map clause_view (drop l.clause-index l.clauses)) ≡ flat_map used (map clause_view l.clauses)
+abbrev pub invariant-loop-rule_text : goal.invariant-loop-rule_text
+invariant-loop-rule_text l = map occurrence_view l.found.items ++ flat_map uses_of
+    (map rule_text_view (drop l.rule_text-index l.rule_texts)) ≡ flat_map uses_of (map
+    rule_text_view l.rule_texts)

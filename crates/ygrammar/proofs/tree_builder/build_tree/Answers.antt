@@ -7,8 +7,8 @@ use Rattle.ygrammar.specs.declared.recogniser.State.TheVariants.{RulesMark}
 use Rattle.ygrammar.specs.Answers.{StandIn, StandsIn, views}
 use Rattle.ygrammar.specs.Lexer.{kinds}
 use Rattle.ygrammar.specs.Lexemes.{Lexeme, fixed}
-use Rattle.ygrammar.specs.Tree.{clause_yield, definition_yield}
-use Rattle.ygrammar.specs.TreeViews.{clause_view, definition_view}
+use Rattle.ygrammar.specs.Tree.{rule_text_yield, definition_yield}
+use Rattle.ygrammar.specs.TreeViews.{rule_text_view, definition_view}
 use Rattle.ygrammar.proofs.Accepted.{recognised}
 use Rattle.ygrammar.proofs.TreeSteps.{Goes, all_behind, end_marked, left_behind}
 use Rattle.ygrammar.proofs.tree_builder.build_tree.Goals as goal
@@ -25,8 +25,8 @@ overflow_sub-lexemes c =
     (fixed Mark) c.in_ok-definitions.ensures.whole).0 in
     omega (arith, same, left)
 
-pub clauses-requires : goal.clauses-requires
-clauses-requires c =
+pub rule_texts-requires : goal.rule_texts-requires
+rule_texts-requires c =
     let rest : c.front.inside.rest.now ≡ c.definitions.new.self = c.front.view_is in
     let same : views c.split_at.result.1.now ≡ views c.definitions.new.self =
     ap views c.split_at.ensures.back ∙ ap (λ (x : List Placed). views
@@ -40,25 +40,25 @@ pub returns-clause-whole : goal.returns-clause-whole
 returns-clause-whole c =
     let front : List Lexeme = flat_map definition_yield
     (map definition_view c.in_ok-definitions.definitions.items) in
-    let rules : List Lexeme = flat_map clause_yield
-    (map clause_view c.in_ok-clauses.clauses.items) in
+    let rules : List Lexeme = flat_map rule_text_yield
+    (map rule_text_view c.in_ok-rule_texts.rule_texts.items) in
     let rest : c.front.inside.rest.now ≡ c.definitions.new.self = c.front.view_is in
     let same : views c.split_at.result.1.now ≡ views c.definitions.new.self =
     ap views c.split_at.ensures.back ∙ ap (λ (x : List Placed). views
     (drop (length c.args.lexemes.now - length x) c.args.lexemes.now)) rest ∙
     (left_behind c.args.lexemes.now c.definitions.new.self front (fixed Mark)
     c.in_ok-definitions.ensures.whole).1 in
-    let left : c.rest.inside.rest.now ≡ c.clauses.new.self = c.rest.view_is in
-    let (b, ended) = c.in_ok-clauses.ensures.ended in
+    let left : c.rest.inside.rest.now ≡ c.rule_texts.new.self = c.rest.view_is in
+    let (b, ended) = c.in_ok-rule_texts.ensures.ended in
     let marked = end_marked c.rest.inside.rest.now b c.is_empty.result (ap views left ∙ ended)
     c.is_empty.ensures in
     c.in_ok-definitions.ensures.whole
     ∙ ap (λ (x : List Lexeme). front ++ fixed Mark ∷ x)
-    (sym same ∙ c.in_ok-clauses.ensures.whole
+    (sym same ∙ c.in_ok-rule_texts.ensures.whole
     ∙ ap (λ (x : List Lexeme). rules ++ x) (sym (ap views left) ∙ marked))
 
 pub returns-clause-stands : goal.returns-clause-stands
 returns-clause-stands c = λ source h.
-    c.in_ok-clauses.ensures.stands source (subst (StandIn source) (sym c.split_at.ensures.back)
+    c.in_ok-rule_texts.ensures.stands source (subst (StandIn source) (sym c.split_at.ensures.back)
     (all_behind (StandsIn source) (length c.args.lexemes.now - length c.front.inside.rest.now)
     c.args.lexemes.now h))

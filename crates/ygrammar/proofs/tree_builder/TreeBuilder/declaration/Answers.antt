@@ -1,6 +1,6 @@
 use Rattle.ygrammar.specs.Answers.{views}
 use Rattle.ygrammar.proofs.TreeSteps.{mark_word}
-use Rattle.ygrammar.proofs.tree_builder.TreeBuilder.declared.Goals as goal
+use Rattle.ygrammar.proofs.tree_builder.TreeBuilder.declaration.Goals as goal
 
 pub returns-in_default-clause-read : goal.returns-in_default-clause-read
 returns-in_default-clause-read c =

@@ -1,4 +1,4 @@
-use Rattle.ygrammar.proofs.tree_builder.TreeBuilder.clause.Goals as goal
+use Rattle.ygrammar.proofs.tree_builder.TreeBuilder.rule_text.Goals as goal
 
 pub returns-clause-stands : goal.returns-clause-stands
 returns-clause-stands c = λ source h.
