@@ -4,5 +4,4 @@ mod Replying
 mod Transcripts
 mod Required
 mod Running
-pub mod Generated
 mod Words

@@ -6,7 +6,7 @@ use Rattle.std.proofs.Common.{append_assoc, inl, inr}
 use Rattle.std.proofs.lemmas.Bool.{cases_lt, lt-ltb, eqb-true}
 use Rattle.ycli.specs.Command.{Unknown}
 use Rattle.ycli.specs.Line.{Command}
-use Rattle.ycli.specs.Line.{line_in}
+use Rattle.ycli.specs.Line.{line_in, line_room, longest_line}
 use Rattle.std.proofs.lemmas.List.{take_all, take_more_set, take_at}
 use Rattle.std.proofs.Math.ListN.{set}
 use Rattle.std.specs.List.{flat_map}
@@ -86,12 +86,13 @@ take-front zero xs ys = refl
 take-front (suc n) [] ys = refl
 take-front (suc n) (x ∷ xs) ys = ap (λ (l : List ℕ). x ∷ l) (take-front n xs ys)
 
-pub long-unknown : (line : List ℕ) → 4096 < length line → line_in line ≡ Command Unknown
+pub long-unknown : (line : List ℕ) → longest_line < length line → line_in line ≡ Command Unknown
 unfolding line_in
 long-unknown line h =
-    let e : nat_lt 4096 (length line) ≡ true = lt-ltb 4096 (length line) h in rw e refl
+    let e : nat_lt longest_line (length line) ≡ true = lt-ltb longest_line (length line) h in
+    rw e refl
 
-pub line_in-front : (n : ℕ) (line : List ℕ) → n ≡ 4097 → line_in (take n line) ≡ line_in line
+pub line_in-front : (n : ℕ) (line : List ℕ) → n ≡ line_room → line_in (take n line) ≡ line_in line
 line_in-front n line e =
     elim (cases_lt n (length line)) [
       | inr h ↦ ap line_in (take_all n line h)

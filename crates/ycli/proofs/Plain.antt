@@ -12,7 +12,7 @@ use Rattle.yparse.specs.declared.machine.StepFault.TheVariants.{Halted, NoToken,
 use Rattle.yparse.specs.declared.machine.Mode.{Mode}
 use Rattle.yparse.specs.declared.machine.Mode.TheVariants.{Running, Popping, Accepted, Failed}
 use Rattle.yparse.specs.Machine.{Machine, Configuration, next, edited}
-use Rattle.yparse.specs.Past.{position, back_by, to_first}
+use Rattle.yparse.specs.Past.{position, most_steps, back_by, to_first}
 use Rattle.yparse.specs.History.{History}
 use Rattle.yparse.specs.Unwinding.{NoErrors, is_error_step, tree_lines, forms_text}
 use Rattle.ycli.specs.Command.{Command}
@@ -36,7 +36,7 @@ use Rattle.ycli.specs.Plain.{PlainSteps, PlainEdits, PlainReply, PlainTranscript
 -- ---- there is a text
 
 step_at : (m : Machine) (h : History) (o : Option (StepKind × Configuration)) → next m h.now ≡ o
-    → (position h < 1000000) ⊎ (1000000 ≤ position h)
+    → (position h < most_steps) ⊎ (most_steps ≤ position h)
     → (result : Result StepKind StepFault) × (mid : History) × PlainSteps m h result mid
 step_at m h None e p = (Err Halted, h, ((e, refl), λ bad. cc))
 step_at m h (Some s) e (inl p) = (
@@ -50,11 +50,12 @@ step_at m h (Some s) e (inr p) =
 
 plain_step : (m : Machine) (h : History) → (result : Result StepKind StepFault) × (mid : History)
     × PlainSteps m h result mid
-plain_step m h = step_at m h (next m h.now) refl (cases_lt (position h) 1000000)
+plain_step m h = step_at m h (next m h.now) refl (cases_lt (position h) most_steps)
 
 -- an edit is answered, where memory is there
 edit_at : (m : Machine) (edit : Edit) (h : History) (o e : Option (StepKind × Configuration))
-    → next m h.now ≡ o → edited m edit h.now ≡ e → (position h < 1000000) ⊎ (1000000 ≤ position h)
+    → next m h.now ≡ o → edited m edit h.now ≡ e
+    → (position h < most_steps) ⊎ (most_steps ≤ position h)
     → (result : Result StepKind StepFault) × (new : History) × PlainEdits m edit h result new
 edit_at m edit h None e f g p = (Err Halted, h, ((f, refl), λ bad. cc))
 edit_at m edit h (Some s) None f g p =
@@ -73,8 +74,8 @@ plain_edit : (m : Machine) (edit : Edit) (h : History) → (text : List ℕ) × 
     × EditsBy (PlainSteps m) (PlainEdits m) m edit h text new
 plain_edit m edit h =
     let (result, new, s) =
-    edit_at m edit h (next m h.now) (edited m edit h.now) refl refl (cases_lt (position h) 1000000)
-    in
+    edit_at m edit h (next m h.now) (edited m edit h.now) refl refl
+    (cases_lt (position h) most_steps) in
     (edit_text m new result, new, (result, s, refl))
 
 insert_at : (m : Machine) (bytes : List ℕ) (h : History) (o : Option ℕ) → Spells m bytes o

@@ -16,7 +16,7 @@ use Rattle.ytables.specs.Link.{device_of}
 use Rattle.ytables.specs.Sends.{Sends}
 use Rattle.yparse.specs.Machine.{Machine}
 use Rattle.yparse.specs.History.{History}
-use Rattle.ycli.specs.Line.{line_in, line_view, line_room}
+use Rattle.ycli.specs.Line.{line_in, line_view, line_room, longest_line}
 use Rattle.ycli.specs.declared.command.Line.{Line as CodeLine}
 use Rattle.ycli.specs.Lines.{last_line}
 use Rattle.ycli.specs.Reply.{Reply, Answers}
@@ -93,7 +93,7 @@ quit_ends e = let bad : 1 ≡ 0 = ap flow_number e in omega (arith, bad)
 
 -- the line that came so far says the same
 pub held-line : (line held : List ℕ) → held ≡ take line_room line → line_in held ≡ line_in line
-held-line line held e = ap line_in e ∙ line_in-front 4097 line refl
+held-line line held e = ap line_in e ∙ line_in-front line_room line refl
 
 -- what the code takes for a line
 pub line_read : (r l : CodeLine) (slice held : List ℕ) → line_view r ≡ line_in slice → slice ≡ held
@@ -243,7 +243,7 @@ module _ {W : Type 0} (contents : W → Option (List ℕ)) where
   pub ends_empty : (a : Link W) (m : Machine) (h : History) (line held : List ℕ)
       → held ≡ take line_room line → held ≡ [] → Ends contents a a true m h line
   ends_empty a m h [] held e f = ([], refl, Sends-nothing contents a)
-  ends_empty a m h (b ∷ bs) held e f = let bad : [] ≡ b ∷ take 4096 bs = sym f ∙ e in cc
+  ends_empty a m h (b ∷ bs) held e f = let bad : [] ≡ b ∷ take longest_line bs = sym f ∙ e in cc
 
   pub ends_quit : (a : Link W) (m : Machine) (h : History) (line held : List ℕ)
       → held ≡ take line_room line → (held ≡ [] → ⊥) → line_in held ≡ words.Quit

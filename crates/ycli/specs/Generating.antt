@@ -1,5 +1,5 @@
 -- What `yacc` does but for its exit: what became of a run, its message and its exit status.
-use Rattle.std.specs.Prelude.{ℕ, ◌≡◌, List, [], Option, Result, Ok, Err}
+use Rattle.std.specs.Prelude.{ℕ, ◌≡◌, ◌⊎◌, List, [], Option, Result, Ok, Err}
 use Rattle.ylalr.specs.Collection.{Guide}
 use Rattle.ytables.specs.declared.link.Link.{Link}
 use Rattle.ytables.specs.declared.tables.Counts.{Counts}
@@ -22,8 +22,8 @@ use Rattle.ycli.specs.declared.generator.Request.TheVariants as requests
 use Rattle.ycli.specs.Halves.{AreTablesOf}
 use Rattle.ycli.specs.Arguments.{yacc_app, AreYaccWordsIn}
 use Rattle.ycli.specs.Messages.{message, conflicts_line}
-use Rattle.ycli.specs.Programs.{AreMistaken, AreTaken, AskHelp, GrammarFails, Says}
-use Rattle.ycli.specs.Programs.{status}
+use Rattle.ycli.specs.Programs.{AreMistaken, AreTaken, AskHelp, GrammarFails, Says, WordsFail}
+use Rattle.ycli.specs.Programs.{status_after}
 
 -- the text of a file that is written
 abbrev pub text_of : Tables → Guide → Text → List ℕ
@@ -34,14 +34,7 @@ text_of t u texts.Report = report_of t u
 abbrev pub Asks : List (List ℕ) → Result Request Trouble → Type 0
 Asks words (Ok (requests.Generate said)) = AreTaken yacc_app words × AreYaccWordsIn words said
 Asks words (Ok (requests.Help text)) = AskHelp yacc_app words
-Asks words (Err Usage) = AreMistaken yacc_app words
-Asks words (Err NoMemory) = Unit {0}
-Asks words (Err (Grammar fault)) = ⊥
-Asks words (Err (Tokens fault)) = ⊥
-Asks words (Err TooManySets) = ⊥
-Asks words (Err (CannotRead path)) = ⊥
-Asks words (Err (CannotWrite prefix ending)) = ⊥
-Asks words (Err (Session fault)) = ⊥
+Asks words (Err trouble) = WordsFail yacc_app words trouble
 
 -- the files were written for tables of the grammar of some bytes, whose conflicts these are
 pub record Generates (counts : Counts) : Type 0 where
@@ -59,24 +52,17 @@ Say words said = AreTaken yacc_app words × AreYaccWordsIn words said
 abbrev pub WriteFails : YaccWords → Trouble → Type 0
 WriteFails said (CannotWrite prefix ending) = prefix ≡ said.prefix
 WriteFails said NoMemory = Unit {0}
-WriteFails said Usage = ⊥
-WriteFails said (Grammar fault) = ⊥
-WriteFails said (Tokens fault) = ⊥
-WriteFails said TooManySets = ⊥
-WriteFails said (CannotRead path) = ⊥
-WriteFails said (Session fault) = ⊥
+WriteFails said _ = ⊥
 
--- why no files were written for these words
+-- why not all files were written for these words: there are no tables, or there are
 abbrev pub FilesFail : YaccWords → Trouble → Type 0
-FilesFail said (CannotWrite prefix ending) =
-    (prefix ≡ said.prefix) × ((source : List ℕ) × (t : Tables) × AreTablesOf source t)
-FilesFail said (Grammar fault) = GrammarFails said.grammar (Grammar fault)
-FilesFail said TooManySets = GrammarFails said.grammar TooManySets
-FilesFail said NoMemory = Unit {0}
-FilesFail said (CannotRead path) = GrammarFails said.grammar (CannotRead path)
-FilesFail said (Tokens fault) = ⊥
-FilesFail said Usage = ⊥
-FilesFail said (Session fault) = ⊥
+FilesFail said trouble =
+    GrammarFails said.grammar trouble
+    ⊎ ((source : List ℕ) × (t : Tables) × AreTablesOf source t × WriteFails said trouble)
+
+-- not all files were written that the words ask for
+abbrev pub Fails : List (List ℕ) → Trouble → Type 0
+Fails words trouble = (said : YaccWords) × Say words said × FilesFail said trouble
 
 module _ {W : Type 0} (words : List (List ℕ)) (w : W) (writer : Link W) where
   -- A run over these words ended so; but for help, nothing went to the writer.
@@ -86,15 +72,11 @@ module _ {W : Type 0} (words : List (List ℕ)) (w : W) (writer : Link W) where
       × (device_of writer ≡ w)
   EndsIn (Err Usage) = AreMistaken yacc_app words × (device_of writer ≡ w)
   EndsIn (Err NoMemory) = device_of writer ≡ w
-  EndsIn (Err (Grammar fault)) = ((said : YaccWords) × Say words said × FilesFail said
-      (Grammar fault)) × (device_of writer ≡ w)
-  EndsIn (Err TooManySets) = ((said : YaccWords) × Say words said × FilesFail said TooManySets)
-      × (device_of writer ≡ w)
-  EndsIn (Err (CannotRead path)) = ((said : YaccWords) × Say words said × FilesFail said
-      (CannotRead path)) × (device_of writer ≡ w)
+  EndsIn (Err (Grammar fault)) = Fails words (Grammar fault) × (device_of writer ≡ w)
+  EndsIn (Err TooManySets) = Fails words TooManySets × (device_of writer ≡ w)
+  EndsIn (Err (CannotRead path)) = Fails words (CannotRead path) × (device_of writer ≡ w)
   EndsIn (Err (CannotWrite prefix ending)) =
-      ((said : YaccWords) × Say words said × FilesFail said (CannotWrite prefix ending))
-      × (device_of writer ≡ w)
+      Fails words (CannotWrite prefix ending) × (device_of writer ≡ w)
   EndsIn (Err (Tokens fault)) = ⊥
   EndsIn (Err (Session fault)) = ⊥
 
@@ -107,11 +89,6 @@ said_of (Wrote counts) = conflicts_line counts
 abbrev pub message_after : Result Done Trouble → List ℕ
 message_after (Ok done) = said_of done
 message_after (Err trouble) = message Yacc trouble
-
--- the exit status after an end of a run
-abbrev pub status_after : Result Done Trouble → ℕ
-status_after (Ok done) = 0
-status_after (Err trouble) = status trouble
 
 -- what a run answers and does: its end, with the status and the message of that end
 pub record Runs {W E : Type 0} (messages : E → Option (List ℕ)) (words : List (List ℕ))

@@ -1,5 +1,5 @@
 -- What a line says.
-use Rattle.std.specs.Prelude.{ℕ, nat_lt, List, length, codes, if◌then◌else◌}
+use Rattle.std.specs.Prelude.{ℕ, ◌+◌, nat_lt, List, length, codes, if◌then◌else◌}
 use Rattle.std.specs.Str.{bytes_eq}
 use Rattle.ycli.specs.declared.command.Line.{Line as CodeLine}
 use Rattle.ycli.specs.declared.command.Line.TheVariants as code
@@ -22,7 +22,7 @@ longest_line = 4096
 
 -- the bytes of a line that tell what it says: one more tells a longer line from the longest
 abbrev pub line_room : ℕ
-line_room = 4097
+line_room = longest_line + 1
 
 -- the end of the session or a command; a line of more than 4,096 bytes is unknown
 unfoldable pub line_in : List ℕ → Line

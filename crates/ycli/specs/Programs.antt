@@ -48,14 +48,10 @@ use Rattle.ycli.specs.Arguments.{ystep_app, ArePathsIn}
 
 -- 1 for a file that is refused, 2 for words, 3 for what comes from outside and for limits
 abbrev pub status : Trouble → ℕ
-status Usage = 2
 status (Grammar fault) = 1
 status (Tokens fault) = 1
-status TooManySets = 3
-status NoMemory = 3
-status (CannotRead path) = 3
-status (CannotWrite prefix ending) = 3
-status (Session fault) = 3
+status Usage = 2
+status _ = 3
 
 -- the same of a whole run, which ended in a trouble or not
 abbrev pub message_after : Program → Result (Unit {0}) Trouble → List ℕ
@@ -63,26 +59,14 @@ message_after p (Ok done) = []
 message_after p (Err trouble) = message p trouble
 
 -- the exit status after an end of a run
-abbrev pub status_after : Result (Unit {0}) Trouble → ℕ
+abbrev pub status_after : {X : Type 0} → Result X Trouble → ℕ
 status_after (Ok done) = 0
 status_after (Err trouble) = status trouble
 
 -- the trouble that a fault of each file is
 abbrev pub of_grammar : GrammarFault → Trouble
-of_grammar grammars.TooLong = Grammar grammars.TooLong
-of_grammar (grammars.Unfinished line) = Grammar (grammars.Unfinished line)
-of_grammar (grammars.BadLiteral line) = Grammar (grammars.BadLiteral line)
-of_grammar (grammars.Foreign line) = Grammar (grammars.Foreign line)
-of_grammar (grammars.Syntax line) = Grammar (grammars.Syntax line)
-of_grammar (grammars.TokenLeft line) = Grammar (grammars.TokenLeft line)
-of_grammar (grammars.Undefined line) = Grammar (grammars.Undefined line)
-of_grammar (grammars.TwicePrecedence line) = Grammar (grammars.TwicePrecedence line)
-of_grammar (grammars.BadNumber line) = Grammar (grammars.BadNumber line)
-of_grammar (grammars.BadStart line) = Grammar (grammars.BadStart line)
-of_grammar (grammars.Unproductive line) = Grammar (grammars.Unproductive line)
-of_grammar (grammars.BadPrec line) = Grammar (grammars.BadPrec line)
-of_grammar (grammars.Limit line) = Grammar (grammars.Limit line)
 of_grammar grammars.Memory = NoMemory
+of_grammar fault = Grammar fault
 
 -- a file that can't be read at this path, for an error of this kind
 abbrev pub of_unread : IoKind → Bor (List ℕ) → Trouble
@@ -96,11 +80,8 @@ of_tables building.Memory = NoMemory
 
 -- why a tokens file that was refused ends the program
 abbrev pub of_tokens : TokenFault → Trouble
-of_tokens (tokens.Unknown place) = Tokens (tokens.Unknown place)
-of_tokens (tokens.NotInput place) = Tokens (tokens.NotInput place)
-of_tokens tokens.TooMany = Tokens tokens.TooMany
 of_tokens tokens.Memory = NoMemory
-of_tokens (tokens.BadLiteral place) = Tokens (tokens.BadLiteral place)
+of_tokens fault = Tokens fault
 
 -- why a stepper that did not start ends the program
 abbrev pub of_start : StepperFault → Trouble
@@ -125,18 +106,17 @@ abbrev pub AreMistaken : App → List (List ℕ) → Type 0
 AreMistaken app words =
     (kind : ErrorKind) × IsAmong kind (fault_of app words) × (kind ≢ kinds.DisplayHelp)
 
+-- why words are refused: they are mistaken, or memory is wanted
+abbrev pub WordsFail : App → List (List ℕ) → Trouble → Type 0
+WordsFail app words Usage = AreMistaken app words
+WordsFail app words NoMemory = Unit {0}
+WordsFail app words _ = ⊥
+
 -- what the words ask `ystep` for
 abbrev pub Asks : List (List ℕ) → Result Request Trouble → Type 0
 Asks words (Ok (requests.Session paths)) = AreTaken ystep_app words × ArePathsIn words paths
 Asks words (Ok (requests.Help text)) = AskHelp ystep_app words
-Asks words (Err Usage) = AreMistaken ystep_app words
-Asks words (Err NoMemory) = Unit {0}
-Asks words (Err (Grammar fault)) = ⊥
-Asks words (Err (Tokens fault)) = ⊥
-Asks words (Err TooManySets) = ⊥
-Asks words (Err (CannotRead path)) = ⊥
-Asks words (Err (CannotWrite prefix ending)) = ⊥
-Asks words (Err (Session fault)) = ⊥
+Asks words (Err trouble) = WordsFail ystep_app words trouble
 
 -- ---- what became of it
 
@@ -148,10 +128,7 @@ GrammarFails path TooManySets =
     (source : List ℕ) × (v : GrammarValue) × IsGrammarOf source v × TooMany v.bare
 GrammarFails path NoMemory = Unit {0}
 GrammarFails path (CannotRead unread) = unread ≡ path
-GrammarFails path (Tokens fault) = ⊥
-GrammarFails path Usage = ⊥
-GrammarFails path (Session fault) = ⊥
-GrammarFails path (CannotWrite prefix ending) = ⊥
+GrammarFails path _ = ⊥
 
 -- why there are no tokens in the file at this path, for tables of the grammar of some bytes
 abbrev pub TokensFail : Bor (List ℕ) → Trouble → Type 0
@@ -161,11 +138,7 @@ TokensFail path (Tokens fault) =
     × TokensOf t.built.grammar bytes (Err fault)
 TokensFail path NoMemory = Unit {0}
 TokensFail path (CannotRead unread) = unread ≡ path
-TokensFail path (Grammar fault) = ⊥
-TokensFail path TooManySets = ⊥
-TokensFail path Usage = ⊥
-TokensFail path (Session fault) = ⊥
-TokensFail path (CannotWrite prefix ending) = ⊥
+TokensFail path _ = ⊥
 
 -- why there is no session over these files
 abbrev pub FilesFail : YstepWords → Trouble → Type 0

@@ -10,10 +10,11 @@ use crate::stepper::tables_over;
 use std::fs;
 use std::io::{self, Read};
 use std::rt::Files;
+use ygrammar::LONGEST_FILE;
 use ytables::Tables;
 
 /// As many bytes of a grammar file as decide that it is too long, also where it never ends.
-const GRAMMAR_BYTES: u64 = 1_048_577;
+const GRAMMAR_BYTES: u64 = LONGEST_FILE as u64 + 1;
 
 /// At most so many bytes of a file.
 fn first_bytes<F: Files + AllocGlobal>(rt: &F, path: &str, most: u64) -> io::Result<Vec<u8>> {

@@ -37,6 +37,7 @@ mod worklist;
 
 pub use fault::GrammarFault;
 pub use grammar::{Grammar, Rule, Sym};
+pub use limits::LONGEST_FILE;
 pub use literal::literal_at;
 pub use precedence::{Associativity, Precedence};
 pub use reader::read_grammar;

@@ -6,8 +6,9 @@ use Rattle.std.proofs.Common.{None, is_some}
 use Rattle.std.specs.List.{All}
 use Rattle.std.specs.Io.KnownBytes.{Appends}
 use Rattle.std.proofs.KnownBytes.{Appends-trans}
-use Rattle.ytables.specs.Sends.{Begins}
-use Rattle.ytables.proofs.Sent.{Begins-more, flat_map-append}
+use Rattle.ytables.specs.declared.link.Link.{Link}
+use Rattle.ytables.specs.Sends.{Begins, Sends}
+use Rattle.ytables.proofs.Sent.{Begins-more, flat_map-append, Sends-none, Sends-stop, Sends-then}
 use Rattle.yparse.specs.declared.machine.StepKind.{StepKind}
 use Rattle.yparse.specs.declared.parts.PlaceChange.{PlaceChange}
 use Rattle.yparse.specs.Machine.{Machine, Configuration}
@@ -55,6 +56,30 @@ joined-cut m (x ∷ y ∷ xs) (suc (suc i)) =
       ap (λ (l : List ℕ). m.name x ++ (32 ∷ l)) r.1
           ∙ sym (append_assoc (m.name x) (32 ∷ names_text m (take (suc i) (y ∷ xs))) r.0),
     )
+
+module _ {W : Type 0} (contents : W → Option (List ℕ)) (m : Machine) (form : List ℕ) (i : ℕ)
+    (inside : i < length form) where
+  -- the names before one were sent, and that one too
+  pub names_sent : (a b c : Link W) → Sends contents a b true (names_text m (take i form))
+      → Sends contents b c true (gap i ++ m.name (get_or form i 0))
+      → Sends contents a c true (names_text m (take (i + 1) form))
+  names_sent a b c s t =
+      let next : i + 1 ≡ suc i = omega arith in
+      subst (λ (x : List ℕ). Sends contents a c true x)
+      (sym (ap (λ (n : ℕ). names_text m (take n form)) next ∙ joined-take m form i inside))
+      (Sends-then contents a b c true _ _ s t)
+
+  -- the names before one were sent, and that one was cut
+  pub names_cut : {X : Type 0} (a b c : Link W) (o : Option X) → o ≡ None
+      → Sends contents a b true (names_text m (take i form))
+      → Sends contents b c false (gap i ++ m.name (get_or form i 0))
+      → Sends contents a c (is_some o) (names_text m form)
+  names_cut a b c o e s t =
+      let rest = joined-cut m form (suc i) in
+      Sends-none contents a c o _ e
+      (subst (λ (x : List ℕ). Sends contents a c false x)
+      (sym (rest.1 ∙ ap (λ (l : List ℕ). l ++ rest.0) (joined-take m form i inside)))
+      (Sends-stop contents a c _ rest.0 (Sends-then contents a b c false _ _ s t)))
 
 -- ---- undos
 

@@ -45,5 +45,5 @@ unfoldable pub history_of : Session → History
 history_of s = past_view (past_of s)
 
 -- the tokens that were shifted by the steps that an unwinding has undone
-unfoldable pub later_of : Session → List ℕ
+abbrev pub later_of : Session → List ℕ
 later_of s = reverse s.later.items

@@ -13,7 +13,7 @@ ghost use Rattle.yparse.specs.Reversible.{Advances};
 ghost use Rattle.yparse.specs.Rightmost.{UnwindsRight};
 ghost use Rattle.yparse.specs.declared.machine.StepKind.{StepKind as Kind};
 ghost use Rattle.yparse.specs.Spelling.{Spells};
-ghost use Rattle.yparse.specs.Tables.{name_of, is_input};
+ghost use Rattle.yparse.specs.Tables.{is_input};
 ghost use Rattle.yparse.specs.Tokens.{Fits, symbols_of};
 ghost use Rattle.yparse.specs.Tree.{error_leaf};
 ghost use Rattle.yparse.specs.Unwinding.{tree_lines};
@@ -73,8 +73,9 @@ impl PlaceParser {
     }
 
     /// The printed name of a symbol; empty for a number that is no symbol.
+    #[tactic(auto, unfolding(crate::specs::MachineOver::machine_over))]
     pub(crate) fn name(&self, symbol: Sym) -> &[u8]
-        ensures { result.now ≡ name_of self.now.tables.built.grammar symbol }
+        ensures { result.now ≡ (machine_over self.now.tables).name symbol }
     {
         name_of(grammar_of(&self.tables), symbol)
     }

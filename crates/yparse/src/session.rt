@@ -198,7 +198,6 @@ impl Session {
     }
 
     /// The printed name of a symbol; empty for a number that is no symbol.
-    #[tactic(auto, unfolding(crate::specs::Session::setting_of, crate::specs::MachineOver::machine_over))]
     pub fn name(&self, symbol: Sym) -> &[u8]
         ensures { result.now ≡ (machine_of self.now).name symbol }
     {

@@ -135,7 +135,7 @@ impl Session {
     ghost use Rattle.yparse.specs.declared.machine.Mode.TheVariants.{Accepted};
 
     /// How many symbols the form has: those of the stack, and the tokens that were shifted later.
-    #[tactic(auto, unfolding(crate::specs::Session::history_of, crate::specs::Session::later_of))]
+    #[tactic(auto, unfolding(crate::specs::Session::history_of))]
     fn form_len(&self) -> usize
         ensures { result ≡ length (form_of (history_of self.now).now (later_of self.now)) }
     {
@@ -143,7 +143,7 @@ impl Session {
     }
 
     /// A symbol of the form.
-    #[tactic(auto, unfolding(crate::specs::Session::history_of, crate::specs::Session::later_of))]
+    #[tactic(auto, unfolding(crate::specs::Session::history_of))]
     fn form(&self, index: usize) -> Sym
         requires { index < length (form_of (history_of self.now).now (later_of self.now)) }
         ensures { result
@@ -159,7 +159,7 @@ impl Session {
     }
 
     /// No step is undone yet.
-    #[tactic(auto, unfolding(crate::specs::Session::setting_of, crate::specs::Session::history_of, crate::specs::Session::later_of))]
+    #[tactic(auto, unfolding(crate::specs::Session::setting_of, crate::specs::Session::history_of))]
     fn forget_later(&mut self)
         ensures later { later_of self.new ≡ [] }
         ensures history { history_of self.new ≡ history_of self.old }
@@ -169,7 +169,7 @@ impl Session {
     }
 
     /// Keeps the token that an undone step has shifted.
-    #[tactic(auto, unfolding(crate::specs::Session::setting_of, crate::specs::Session::history_of, crate::specs::Session::later_of))]
+    #[tactic(auto, unfolding(crate::specs::Session::setting_of, crate::specs::Session::history_of))]
     fn keep_later(&mut self, kind: StepKind)
         requires { vec_len self.old.later + position (history_of self.old)
             < vec_capacity self.old.later }

@@ -1,7 +1,7 @@
 -- The row of one state: what the code has found of its cells.
-use Rattle.std.specs.Prelude.{ℕ, ◌≡◌, ◌<◌, Bool, true, List, ◌∷◌, length, map, Option}
+use Rattle.std.specs.Prelude.{ℕ, ◌≡◌, ◌<◌, ◌*◌, Bool, true, List, ◌∷◌, length, map, Option}
 use Rattle.std.specs.List.{All, list_any, list_all, sum_by, range_with_len}
-use Rattle.ygrammar.specs.Grammar.{ContextFree}
+use Rattle.ygrammar.specs.Grammar.{ContextFree, most_symbols, most_rules}
 use Rattle.ylalr.specs.declared.items.Item.{Item}
 use Rattle.ylalr.specs.Collection.{Collection, Guide}
 use Rattle.ytables.specs.declared.cell.Action.{Action}
@@ -26,6 +26,10 @@ pub record ReduceBy (r : ℕ) (actions : List Action) : Type 0 where
   pub rest : List Action
   pub first : actions ≡ Reduce r ∷ rest
   pub same : list_all (is_reduce r) rest ≡ true
+
+-- the most conflicts of one kind in a row: one for each rule at each token
+abbrev pub most_in_row : ℕ
+most_in_row = most_symbols * most_rules
 
 -- The whole row of state q: the actions of its cells, its default rule, and what the cells count.
 pub record IsRow (m : Collection) (u : Guide) (q : ℕ) (row : List Action) (rule : Option ℕ)

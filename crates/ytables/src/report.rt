@@ -142,10 +142,9 @@ fn put_look<W: Write>(
     ensures { (u : Guide) → IsGuide tables.now.built u
         → Sends W.contents link.old link.new (is_some result) (look_text tables.now u q item t) }
 {
-    let automaton = tables.automaton();
-    let grammar = automaton.grammar();
+    let grammar = tables.grammar();
     let _well_formed = grammar.symbols();
-    if automaton.looks(q, item, t) {
+    if tables.automaton().looks(q, item, t) {
         put_name(link, grammar, t)
     } else {
         Some(())
@@ -157,7 +156,7 @@ fn put_looks<W: Write>(link: &mut Link<W>, tables: &Tables, q: usize, item: Item
     ensures { (u : Guide) → IsGuide tables.now.built u
         → Sends W.contents link.old link.new (is_some result) (looks_text tables.now u q item) }
 {
-    for t in 0..token_count(tables.automaton().grammar()) {
+    for t in 0..token_count(tables.grammar()) {
         put_look(link, tables, q, item, t)?;
     }
     Some(())
@@ -170,7 +169,7 @@ fn put_on<W: Write>(link: &mut Link<W>, tables: &Tables, q: usize, item: Item) -
     ensures { (u : Guide) → IsGuide tables.now.built u
         → Sends W.contents link.old link.new (is_some result) (on_text tables.now u q item) }
 {
-    if item.dot < tables.automaton().grammar().rule(item.rule).body().len() {
+    if item.dot < tables.grammar().rule(item.rule).body().len() {
         return Some(());
     }
     put(link, b" on")?;
@@ -206,7 +205,7 @@ fn put_back<W: Write>(link: &mut Link<W>, tables: &Tables, q: usize, item: Item)
     ensures { (u : Guide) → IsGuide tables.now.built u
         → Sends W.contents link.old link.new (is_some result) (item_back tables.now u q item) }
 {
-    let grammar = tables.automaton().grammar();
+    let grammar = tables.grammar();
     let _well_formed = grammar.symbols();
     put_names(link, grammar, &grammar.rule(item.rule).body()[item.dot..])?;
     put_on(link, tables, q, item)?;
@@ -221,7 +220,7 @@ fn put_item<W: Write>(link: &mut Link<W>, tables: &Tables, q: usize, item: Item)
     ensures { (u : Guide) → IsGuide tables.now.built u
         → Sends W.contents link.old link.new (is_some result) (item_line tables.now u q item) }
 {
-    put_front(link, tables.automaton().grammar(), item)?;
+    put_front(link, tables.grammar(), item)?;
     put_back(link, tables, q, item)
 }
 
@@ -264,7 +263,7 @@ fn put_actions<W: Write>(link: &mut Link<W>, tables: &Tables, q: usize) -> Optio
     requires { q < length tables.now.built.states }
     ensures { Sends W.contents link.old link.new (is_some result) (actions_text tables.now q) }
 {
-    let grammar = tables.automaton().grammar();
+    let grammar = tables.grammar();
     let _well_formed = grammar.symbols();
     for t in 0..token_count(grammar) {
         put_action(link, grammar, t, tables.action(q, t))?;
@@ -306,7 +305,7 @@ fn put_gotos<W: Write>(link: &mut Link<W>, tables: &Tables, q: usize) -> Option<
     requires { q < length tables.now.built.states }
     ensures { Sends W.contents link.old link.new (is_some result) (gotos_text tables.now q) }
 {
-    let grammar = tables.automaton().grammar();
+    let grammar = tables.grammar();
     for x in token_count(grammar)..grammar.symbols() {
         put_goto(link, grammar, x, tables.goto(q, x))?;
     }
@@ -339,11 +338,10 @@ fn put_all_conflicts<W: Write>(link: &mut Link<W>, tables: &Tables, q: usize) ->
     ensures { (u : Guide) → IsGuide tables.now.built u
         → Sends W.contents link.old link.new (is_some result) (conflicts_text tables.now u q) }
 {
-    let automaton = tables.automaton();
-    let grammar = automaton.grammar();
+    let grammar = tables.grammar();
     let _well_formed = grammar.symbols();
     for t in 0..token_count(grammar) {
-        put_conflict(link, grammar, t, cell_of(automaton, q, t))?;
+        put_conflict(link, grammar, t, cell_of(tables.automaton(), q, t))?;
     }
     Some(())
 }
@@ -356,7 +354,7 @@ fn put_conflicts<W: Write>(link: &mut Link<W>, tables: &Tables, q: usize) -> Opt
 {
     let automaton = tables.automaton();
     let _guide = automaton.states();
-    if has_ready(automaton.grammar(), automaton.items(q)) {
+    if has_ready(tables.grammar(), automaton.items(q)) {
         put_all_conflicts(link, tables, q)
     } else {
         Some(())
@@ -424,7 +422,7 @@ fn put_tokens_part<W: Write>(link: &mut Link<W>, tables: &Tables) -> Option<()>
         → Sends W.contents link.old link.new (is_some result) (tokens_part tables.now u) }
 {
     put(link, b"Tokens\n")?;
-    put_tokens(link, tables.automaton().grammar())?;
+    put_tokens(link, tables.grammar())?;
     put_states_part(link, tables)
 }
 
@@ -443,7 +441,7 @@ fn put_unreachable_part<W: Write>(link: &mut Link<W>, tables: &Tables) -> Option
         → Sends W.contents link.old link.new (is_some result) (unreachable_part tables.now u) }
 {
     put(link, b"Unreachable\n")?;
-    put_unreachables(link, tables.automaton().grammar())?;
+    put_unreachables(link, tables.grammar())?;
     put_tokens_part(link, tables)
 }
 
@@ -452,7 +450,7 @@ fn put_report<W: Write>(link: &mut Link<W>, tables: &Tables) -> Option<()>
         → Sends W.contents link.old link.new (is_some result) (report_of tables.now u) }
 {
     put(link, b"Rules\n")?;
-    put_rules(link, tables.automaton().grammar())?;
+    put_rules(link, tables.grammar())?;
     put_unreachable_part(link, tables)
 }
 

@@ -7,7 +7,7 @@ ghost use Rattle.std.specs.List.{filter, list_any};
 ghost use Rattle.ygrammar.specs.Grammar.{body_of};
 ghost use Rattle.ylalr.specs.Collection.{Guide, IsGuide, bare_of, state_of, goto_in};
 ghost use Rattle.ytables.specs.Cell.{common, is_filled};
-ghost use Rattle.ytables.specs.Rows.{InGrammar, IsRowTo, IsRow};
+ghost use Rattle.ytables.specs.Rows.{InGrammar, IsRowTo, IsRow, most_in_row};
 ghost use Rattle.ytables.specs.Tables.{after_dot, is_ready, has_before, ready_in, class_at};
 ghost use Rattle.ytables.specs.Tables.{rules_by, shift_of, cell_in, default_in};
 ghost use Rattle.ytables.specs.Tally.{IsTally};
@@ -239,8 +239,8 @@ fn cells_of(
         → IsRowTo automaton.now u q
         (length before.now) c.actions.items c.shift_reduce c.reduce_reduce c.choice) }
     ensures len { IfOk result (λ c. length c.actions.items ≡ length before.now) }
-    ensures shift_reduce { IfOk result (λ c. c.shift_reduce ≤ 33554432) }
-    ensures reduce_reduce { IfOk result (λ c. c.reduce_reduce ≤ 33554432) }
+    ensures shift_reduce { IfOk result (λ c. c.shift_reduce ≤ most_in_row) }
+    ensures reduce_reduce { IfOk result (λ c. c.reduce_reduce ≤ most_in_row) }
 {
     let _guide = automaton.states();
     let _well_formed = automaton.grammar().symbols();
@@ -298,8 +298,8 @@ pub fn row_of(
         → IsRow automaton.now u q r.actions.items r.default r.shift_reduce r.reduce_reduce
         r.choice) }
     ensures len { IfOk result (λ r. length r.actions.items ≡ tokens) }
-    ensures shift_reduce { IfOk result (λ r. r.shift_reduce ≤ 33554432) }
-    ensures reduce_reduce { IfOk result (λ r. r.reduce_reduce ≤ 33554432) }
+    ensures shift_reduce { IfOk result (λ r. r.shift_reduce ≤ most_in_row) }
+    ensures reduce_reduce { IfOk result (λ r. r.reduce_reduce ≤ most_in_row) }
 {
     let _guide = automaton.states();
     let grammar = automaton.grammar();

@@ -97,7 +97,7 @@ fn put_actions<W: Write>(link: &mut Link<W>, tables: &Tables, q: usize) -> Optio
     requires { q < length tables.now.built.states }
     ensures { Sends W.contents link.old link.new (is_some result) (actions_text tables.now q) }
 {
-    for t in 0..token_count(tables.automaton().grammar()) {
+    for t in 0..token_count(tables.grammar()) {
         put_action(link, q, t, tables.action(q, t))?;
     }
     Some(())
@@ -139,7 +139,7 @@ fn put_gotos<W: Write>(link: &mut Link<W>, tables: &Tables, q: usize) -> Option<
     requires { q < length tables.now.built.states }
     ensures { Sends W.contents link.old link.new (is_some result) (gotos_text tables.now q) }
 {
-    let grammar = tables.automaton().grammar();
+    let grammar = tables.grammar();
     for x in token_count(grammar)..grammar.symbols() {
         put_goto(link, q, x, tables.goto(q, x))?;
     }
@@ -174,7 +174,7 @@ fn put_states_part<W: Write>(link: &mut Link<W>, tables: &Tables) -> Option<()>
 fn put_rules_part<W: Write>(link: &mut Link<W>, tables: &Tables) -> Option<()>
     ensures { Sends W.contents link.old link.new (is_some result) (rules_part tables.now) }
 {
-    let grammar = tables.automaton().grammar();
+    let grammar = tables.grammar();
     put_count(link, b"rules ", grammar.rules())?;
     put_rules(link, grammar)?;
     put_states_part(link, tables)
@@ -183,7 +183,7 @@ fn put_rules_part<W: Write>(link: &mut Link<W>, tables: &Tables) -> Option<()>
 fn put_table<W: Write>(link: &mut Link<W>, tables: &Tables) -> Option<()>
     ensures { Sends W.contents link.old link.new (is_some result) (table_of tables.now) }
 {
-    let grammar = tables.automaton().grammar();
+    let grammar = tables.grammar();
     put_count(link, b"table 2\nsymbols ", grammar.symbols())?;
     put_symbols(link, grammar)?;
     put_rules_part(link, tables)

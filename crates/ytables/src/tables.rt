@@ -17,7 +17,7 @@ use crate::packed::Packed;
 use crate::row::row_of;
 use std::alloc::{AllocError, Global};
 use std::marker::Model;
-use ygrammar::Sym;
+use ygrammar::{Grammar, Sym};
 use ylalr::{Automaton, token_count};
 
 /// How many conflicts the cells count.
@@ -176,6 +176,13 @@ impl Tables {
         let _guide = self.automaton.states();
         let _well_formed = self.automaton.grammar().symbols();
         &self.automaton
+    }
+
+    /// The grammar that the tables were made for, as it was.
+    pub(crate) fn grammar(&self) -> &Grammar
+        ensures { result.now ≡ self.now.built.grammar }
+    {
+        self.automaton.grammar()
     }
 
     /// What is done in state `q` at the token `t`: by the default rule of the state, where it is

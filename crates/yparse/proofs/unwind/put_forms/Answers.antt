@@ -9,7 +9,7 @@ use Rattle.yparse.specs.Machine.{Machine}
 use Rattle.yparse.specs.Past.{position, back_by}
 use Rattle.yparse.specs.History.{History}
 use Rattle.yparse.specs.Session.{Setting, setting_of, machine_of, history_of, later_of}
-use Rattle.yparse.specs.Unwinding.{form_of, shifts_from, forms_from, forms_of, forms_before}
+use Rattle.yparse.specs.Unwinding.{form_of, forms_from, forms_of, forms_before}
 use Rattle.yparse.specs.Unwinding.{form_line, is_reduction}
 use Rattle.yparse.proofs.Unwound.{undone-next, forms-reduction, forms-other, stops, goes_back-none}
 use Rattle.yparse.proofs.Unwound.{lines-push}

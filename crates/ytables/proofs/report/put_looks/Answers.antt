@@ -1,6 +1,5 @@
 use Rattle.std.proofs.Common.{◌≡◌, ap, ◌∙◌, arith}
 use Rattle.ygrammar.specs.Grammar.{GrammarValue}
-use Rattle.ylalr.specs.Collection.{Collection}
 use Rattle.ytables.specs.Report.{look_text}
 use Rattle.ytables.proofs.LineSteps.{range_cut, range_sent}
 use Rattle.ytables.proofs.report.put_looks.Goals as goal
@@ -8,24 +7,16 @@ use Rattle.ytables.proofs.report.put_looks.Goals as goal
 pub returns-in_err-put_look : goal.returns-in_err-put_look
 returns-in_err-put_look g c = λ u h.
     let v = c.args.tables.now in
-    let q = c.args.q in
     let t = c.loop-t.t in
     let n : c.token_count-t-end.result ≡ v.built.grammar.bare.tokens =
-    c.token_count-t-end.ensures ∙ ap (λ (v : GrammarValue). v.bare.tokens)
-    (c.grammar.ensures ∙ ap (λ (m : Collection). m.grammar) c.automaton.ensures.value) in
-    range_cut g.W.Write.contents (look_text v u q c.args.item) (0) c.args.link.now c.loop-t.link
-    c.put_look.new.link c.from_residual.result (v.built.grammar.bare.tokens) (t)
-    (t) c.from_residual.ensures (omega arith) (omega arith) (c.loop-t.invariant u h)
+    c.token_count-t-end.ensures ∙ ap (λ (x : GrammarValue). x.bare.tokens) c.grammar.ensures in
+    range_cut g.W.Write.contents (look_text v u c.args.q c.args.item) 0 _ _ _ _ _ t t
+    c.from_residual.ensures (omega arith) (omega arith) (c.loop-t.invariant u h)
     (c.in_err-put_look.ensures u h)
 
 pub loop-t-preserved : goal.loop-t-preserved
 loop-t-preserved g c = λ u h.
     let v = c.args.tables.now in
-    let q = c.args.q in
     let t = c.loop-t.t in
-    let n : c.token_count-t-end.result ≡ v.built.grammar.bare.tokens =
-    c.token_count-t-end.ensures ∙ ap (λ (v : GrammarValue). v.bare.tokens)
-    (c.grammar.ensures ∙ ap (λ (m : Collection). m.grammar) c.automaton.ensures.value) in
-    range_sent g.W.Write.contents (look_text v u q c.args.item) (0) c.args.link.now c.loop-t.link
-    c.put_look.new.link (t) (t) (omega arith) (c.loop-t.invariant u h)
-    (c.in_ok-put_look.ensures u h)
+    range_sent g.W.Write.contents (look_text v u c.args.q c.args.item) 0 _ _ _ t t (omega arith)
+    (c.loop-t.invariant u h) (c.in_ok-put_look.ensures u h)

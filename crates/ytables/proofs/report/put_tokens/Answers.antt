@@ -7,15 +7,11 @@ pub returns-in_err-put_token : goal.returns-in_err-put_token
 returns-in_err-put_token g c =
     let n : c.token_count-t-end.result ≡ c.args.grammar.now.bare.tokens =
     c.token_count-t-end.ensures in
-    range_cut g.W.Write.contents (token_line c.args.grammar.now) (0) c.args.link.now c.loop-t.link
-    c.put_token.new.link c.from_residual.result (c.args.grammar.now.bare.tokens) (c.loop-t.t)
-    (c.loop-t.t) c.from_residual.ensures (omega arith) (omega arith) c.loop-t.invariant
-    (c.in_err-put_token.ensures)
+    range_cut g.W.Write.contents (token_line c.args.grammar.now) 0 _ _ _ _ _ c.loop-t.t c.loop-t.t
+    c.from_residual.ensures (omega arith) (omega arith) c.loop-t.invariant
+    c.in_err-put_token.ensures
 
 pub loop-t-preserved : goal.loop-t-preserved
 loop-t-preserved g c =
-    let n : c.token_count-t-end.result ≡ c.args.grammar.now.bare.tokens =
-    c.token_count-t-end.ensures in
-    range_sent g.W.Write.contents (token_line c.args.grammar.now) (0) c.args.link.now c.loop-t.link
-    c.put_token.new.link (c.loop-t.t) (c.loop-t.t) (omega arith) c.loop-t.invariant
-    (c.in_ok-put_token.ensures)
+    range_sent g.W.Write.contents (token_line c.args.grammar.now) 0 _ _ _ c.loop-t.t c.loop-t.t
+    (omega arith) c.loop-t.invariant c.in_ok-put_token.ensures

@@ -6,14 +6,11 @@ use Rattle.ytables.proofs.report.put_unreachables.Goals as goal
 pub returns-in_err-put_unreachable : goal.returns-in_err-put_unreachable
 returns-in_err-put_unreachable g c =
     let n : c.rules-r-end.result ≡ length c.args.grammar.now.bare.rules = c.rules-r-end.ensures in
-    range_cut g.W.Write.contents (unreachable_line c.args.grammar.now) (0) c.args.link.now
-    c.loop-r.link c.put_unreachable.new.link c.from_residual.result
-    (length c.args.grammar.now.bare.rules) (c.loop-r.r) (c.loop-r.r) c.from_residual.ensures
-    (omega arith) (omega arith) c.loop-r.invariant (c.in_err-put_unreachable.ensures)
+    range_cut g.W.Write.contents (unreachable_line c.args.grammar.now) 0 _ _ _ _ _ c.loop-r.r
+    c.loop-r.r c.from_residual.ensures (omega arith) (omega arith) c.loop-r.invariant
+    c.in_err-put_unreachable.ensures
 
 pub loop-r-preserved : goal.loop-r-preserved
 loop-r-preserved g c =
-    let n : c.rules-r-end.result ≡ length c.args.grammar.now.bare.rules = c.rules-r-end.ensures in
-    range_sent g.W.Write.contents (unreachable_line c.args.grammar.now) (0) c.args.link.now
-    c.loop-r.link c.put_unreachable.new.link (c.loop-r.r) (c.loop-r.r)
-    (omega arith) c.loop-r.invariant (c.in_ok-put_unreachable.ensures)
+    range_sent g.W.Write.contents (unreachable_line c.args.grammar.now) 0 _ _ _ c.loop-r.r
+    c.loop-r.r (omega arith) c.loop-r.invariant c.in_ok-put_unreachable.ensures

@@ -1,7 +1,7 @@
 use Rattle.std.proofs.Common.{◌≤◌, ◌+◌, List, ◌∷◌, ◌||◌, [], length, sym, ap, ◌∙◌, subst, arith}
 use Rattle.std.proofs.Common.{length-append}
 use Rattle.ylalr.specs.declared.items.Item.{Item}
-use Rattle.ygrammar.specs.Grammar.{GrammarValue}
+use Rattle.ygrammar.specs.Grammar.{GrammarValue, most_rules}
 use Rattle.ylalr.specs.Collection.{state_of}
 use Rattle.ytables.specs.declared.cell.Action.{Action}
 use Rattle.ytables.specs.Rows.{InGrammar, IsRowTo}
@@ -28,9 +28,9 @@ pub loop-t-preserved : goal.loop-t-preserved
 loop-t-preserved c =
     let m = c.args.automaton.now in
     let k = state_of m c.args.q in
-    let few : length c.args.ready.now ≤ 8192 =
-    (let rules : length m.grammar.bare.rules ≤ 8192 =
-    subst (λ (v : GrammarValue). length v.bare.rules ≤ 8192) c.grammar.ensures
+    let few : length c.args.ready.now ≤ most_rules =
+    (let rules : length m.grammar.bare.rules ≤ most_rules =
+    subst (λ (v : GrammarValue). length v.bare.rules ≤ most_rules) c.grammar.ensures
     c.symbols-well_formed.ensures.well_formed.few in
     let states = c.states-guide.ensures.states in
     let ready = few_ready m.grammar.bare k (states.range c.args.q c.requires.state)

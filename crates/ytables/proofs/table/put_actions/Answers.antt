@@ -1,8 +1,5 @@
-use Rattle.std.proofs.Common.{◌≡◌, true, false, ap, ◌∙◌, subst, arith}
+use Rattle.std.proofs.Common.{◌≡◌, ap, ◌∙◌, arith}
 use Rattle.ygrammar.specs.Grammar.{GrammarValue}
-use Rattle.ylalr.specs.Collection.{Collection}
-use Rattle.ytables.specs.Sends.{Sends}
-use Rattle.ytables.specs.declared.cell.Action.{Action}
 use Rattle.ytables.specs.Tables.{action_at}
 use Rattle.ytables.specs.Table.{action_line}
 use Rattle.ytables.proofs.LineSteps.{range_cut, range_sent}
@@ -14,25 +11,15 @@ returns-in_err-put_action g c =
     let q = c.args.q in
     let t = c.loop-t.t in
     let n : c.token_count-t-end.result ≡ v.built.grammar.bare.tokens =
-    c.token_count-t-end.ensures ∙ ap (λ (v : GrammarValue). v.bare.tokens)
-    (c.grammar.ensures ∙ ap (λ (m : Collection). m.grammar) c.automaton.ensures.value) in
-    let same : c.action.result ≡ action_at v q t = c.action.ensures.value in
-    range_cut g.W.Write.contents (λ t. action_line q t (action_at v q t)) (0) c.args.link.now
-    c.loop-t.link c.put_action.new.link c.from_residual.result (v.built.grammar.bare.tokens) (t)
-    (t) c.from_residual.ensures (omega arith) (omega arith) c.loop-t.invariant
-    (subst (λ (x : Action). Sends g.W.Write.contents c.loop-t.link c.put_action.new.link false
-    (action_line q t x)) same c.in_err-put_action.ensures)
+    c.token_count-t-end.ensures ∙ ap (λ (x : GrammarValue). x.bare.tokens) c.grammar.ensures in
+    range_cut g.W.Write.contents (λ k. action_line q k (action_at v q k)) 0 _ _ _ _ _ t t
+    c.from_residual.ensures (omega arith) (omega arith) c.loop-t.invariant
+    (rw c.action.ensures.value at c.in_err-put_action.ensures)
 
 pub loop-t-preserved : goal.loop-t-preserved
 loop-t-preserved g c =
     let v = c.args.tables.now in
     let q = c.args.q in
     let t = c.loop-t.t in
-    let n : c.token_count-t-end.result ≡ v.built.grammar.bare.tokens =
-    c.token_count-t-end.ensures ∙ ap (λ (v : GrammarValue). v.bare.tokens)
-    (c.grammar.ensures ∙ ap (λ (m : Collection). m.grammar) c.automaton.ensures.value) in
-    let same : c.action.result ≡ action_at v q t = c.action.ensures.value in
-    range_sent g.W.Write.contents (λ t. action_line q t (action_at v q t)) (0) c.args.link.now
-    c.loop-t.link c.put_action.new.link (t) (t) (omega arith) c.loop-t.invariant
-    (subst (λ (x : Action). Sends g.W.Write.contents c.loop-t.link c.put_action.new.link true
-    (action_line q t x)) same c.in_ok-put_action.ensures)
+    range_sent g.W.Write.contents (λ k. action_line q k (action_at v q k)) 0 _ _ _ t t (omega arith)
+    c.loop-t.invariant (rw c.action.ensures.value at c.in_ok-put_action.ensures)

@@ -9,16 +9,11 @@ returns-in_err-put_state g c =
     let n : c.states-q-end.result ≡ length c.args.tables.now.built.states =
     c.states-q-end.ensures.count ∙ ap (λ (m : Collection). length m.states)
     c.automaton.ensures.value in
-    range_cut g.W.Write.contents (state_lines c.args.tables.now) (0) c.args.link.now c.loop-q.link
-    c.put_state.new.link c.from_residual.result (length c.args.tables.now.built.states)
-    (c.loop-q.q) (c.loop-q.q) c.from_residual.ensures (omega arith)
-    (omega arith) c.loop-q.invariant (c.in_err-put_state.ensures)
+    range_cut g.W.Write.contents (state_lines c.args.tables.now) 0 _ _ _ _ _ c.loop-q.q c.loop-q.q
+    c.from_residual.ensures (omega arith) (omega arith) c.loop-q.invariant
+    c.in_err-put_state.ensures
 
 pub loop-q-preserved : goal.loop-q-preserved
 loop-q-preserved g c =
-    let n : c.states-q-end.result ≡ length c.args.tables.now.built.states =
-    c.states-q-end.ensures.count ∙ ap (λ (m : Collection). length m.states)
-    c.automaton.ensures.value in
-    range_sent g.W.Write.contents (state_lines c.args.tables.now) (0) c.args.link.now c.loop-q.link
-    c.put_state.new.link (c.loop-q.q) (c.loop-q.q) (omega arith) c.loop-q.invariant
-    (c.in_ok-put_state.ensures)
+    range_sent g.W.Write.contents (state_lines c.args.tables.now) 0 _ _ _ c.loop-q.q c.loop-q.q
+    (omega arith) c.loop-q.invariant c.in_ok-put_state.ensures

@@ -2,7 +2,7 @@ use Rattle.std.proofs.Common.{ℕ, suc, ◌≡◌, ◌<◌, ◌+◌, length, ap,
 use Rattle.std.proofs.Common.{Global}
 use Rattle.std.specs.Prelude.{vec_len, vec_capacity, reverse}
 use Rattle.yparse.specs.Past.{position}
-use Rattle.yparse.specs.Session.{history_of, later_of}
+use Rattle.yparse.specs.Session.{history_of}
 use Rattle.yparse.specs.Shown.{step_view}
 use Rattle.yparse.specs.Unwinding.{shifts_from}
 use Rattle.yparse.proofs.Shown.{length-map}
@@ -21,7 +21,6 @@ keep_later-requires c =
     (sym c.in-Ok.ensures.later) (omega (arith, room, many, fewer))
 
 pub returns-clause-later : goal.returns-clause-later
-unfolding later_of
 returns-clause-later c =
     c.keep_later.ensures.later ∙ ap
     (λ (later : Vec ℕ Global). shifts_from c.in-Ok.kind (reverse later.items))

@@ -1,38 +1,40 @@
-use Rattle.std.proofs.Common.{ℕ, ◌≡◌, ◌+◌, ◌-◌, length, take, drop, map, ap, ◌∙◌, arith}
+use Rattle.std.proofs.Common.{ℕ, ◌≡◌, ◌<◌, ◌≤◌, ◌+◌, ◌-◌, true, List, length, take, drop, map}
+use Rattle.std.proofs.Common.{get_or, ap, ◌∙◌, arith}
 use Rattle.std.proofs.lemmas.Grind.{common_steps}
 use Rattle.std.proofs.lemmas.Bool.{leb-true}
+use Rattle.yparse.specs.declared.parts.Node.{Node}
 use Rattle.yparse.specs.declared.parts.Node.TheVariants as nodes
-use Rattle.yparse.specs.Content.{node_tree, trees_over, all_below}
+use Rattle.yparse.specs.declared.parts.StackEntry.{StackEntry}
+use Rattle.yparse.specs.Content.{node_tree, nodes_fit, trees_over, all_below}
 use Rattle.yparse.specs.View.{tree_by}
 use Rattle.yparse.proofs.Ends.{first}
 use Rattle.yparse.proofs.Nodes.{seen}
 use Rattle.yparse.proofs.tree_view.TreeView.entries.Goals as goal
 
+-- the children of a rule end where the list of children does, or before
+ends_in : (children : List StackEntry) (ns : List Node) (k : ℕ) (d : Node) (rule from count : ℕ)
+    → nodes_fit children 0 ns ≡ true → k < length ns → get_or ns k d ≡ nodes.Rule rule from count
+    → from + count ≤ length children
+ends_in children ns k d rule from count fit there is =
+    leb-true (from + count) (length children)
+    (first _ _ (seen children ns k d (nodes.Rule rule from count) fit there is).fits)
+
 pub overflow_add-result : goal.overflow_add-result
 overflow_add-result c =
     let v = c.args.self.now in
-    let s = seen v.children.now v.nodes.now v.number _
-    (nodes.Rule c.in-Rule.field-0 c.in-Rule.from c.in-Rule.count) v.fit v.there c.in-Rule.is in
-    let l = leb-true (c.in-Rule.from + c.in-Rule.count) (length v.children.now) (first _ _ s.fits)
-    in
+    let l = ends_in v.children.now v.nodes.now v.number _ _ _ _ v.fit v.there c.in-Rule.is in
     grind (arith, common_steps, l)
 
 pub offset_bounds-self-from : goal.offset_bounds-self-from
 offset_bounds-self-from c =
     let v = c.args.self.now in
-    let s = seen v.children.now v.nodes.now v.number _
-    (nodes.Rule c.in-Rule.field-0 c.in-Rule.from c.in-Rule.count) v.fit v.there c.in-Rule.is in
-    let l = leb-true (c.in-Rule.from + c.in-Rule.count) (length v.children.now) (first _ _ s.fits)
-    in
+    let l = ends_in v.children.now v.nodes.now v.number _ _ _ _ v.fit v.there c.in-Rule.is in
     grind (arith, common_steps, l)
 
 pub slice_bounds-result-end : goal.slice_bounds-result-end
 slice_bounds-result-end c =
     let v = c.args.self.now in
-    let s = seen v.children.now v.nodes.now v.number _
-    (nodes.Rule c.in-Rule.field-0 c.in-Rule.from c.in-Rule.count) v.fit v.there c.in-Rule.is in
-    let l = leb-true (c.in-Rule.from + c.in-Rule.count) (length v.children.now) (first _ _ s.fits)
-    in
+    let l = ends_in v.children.now v.nodes.now v.number _ _ _ _ v.fit v.there c.in-Rule.is in
     grind (arith, common_steps, l)
 
 pub returns-in-Rule-clause-trees : goal.returns-in-Rule-clause-trees
