@@ -1,14 +1,18 @@
 -- What is derived from `spec` is accepted by the recogniser: each nonterminal is a set of moves.
 use Rattle.std.proofs.Common.{◌≡◌, List, [], ◌∷◌, ◌++◌, map, Option, Some, None, true, refl, sym}
 use Rattle.std.proofs.Common.{ap, ◌∙◌, subst, append_assoc, append-nil, ◌⊎◌, inl, inr}
-use Rattle.ygrammar.specs.declared.kind.Kind.{Kind}
-use Rattle.ygrammar.specs.declared.kind.Kind.TheVariants as kind
-use Rattle.ygrammar.specs.declared.recogniser.State.{State}
-use Rattle.ygrammar.specs.declared.recogniser.State.TheVariants.{Declarations, StartWord, UnionWord}
-use Rattle.ygrammar.specs.declared.recogniser.State.TheVariants.{ListWord, ListTagged, Listed}
-use Rattle.ygrammar.specs.declared.recogniser.State.TheVariants.{Numbered, TypeWord, TypeTagged}
-use Rattle.ygrammar.specs.declared.recogniser.State.TheVariants.{Typed, RulesMark, Body, PrecWord}
-use Rattle.ygrammar.specs.declared.recogniser.State.TheVariants.{PrecNamed, Semicolons, End}
+use Rattle.ygrammar.specs.declared.syntax.kind.Kind.{Kind}
+use Rattle.ygrammar.specs.declared.syntax.kind.Kind.TheVariants as kind
+use Rattle.ygrammar.specs.declared.syntax.recogniser.State.{State}
+use Rattle.ygrammar.specs.declared.syntax.recogniser.State.TheVariants.{Declarations, StartWord}
+use Rattle.ygrammar.specs.declared.syntax.recogniser.State.TheVariants.{UnionWord}
+use Rattle.ygrammar.specs.declared.syntax.recogniser.State.TheVariants.{ListWord, ListTagged}
+use Rattle.ygrammar.specs.declared.syntax.recogniser.State.TheVariants.{Listed}
+use Rattle.ygrammar.specs.declared.syntax.recogniser.State.TheVariants.{Numbered, TypeWord}
+use Rattle.ygrammar.specs.declared.syntax.recogniser.State.TheVariants.{TypeTagged}
+use Rattle.ygrammar.specs.declared.syntax.recogniser.State.TheVariants.{Typed, RulesMark, Body}
+use Rattle.ygrammar.specs.declared.syntax.recogniser.State.TheVariants.{PrecWord}
+use Rattle.ygrammar.specs.declared.syntax.recogniser.State.TheVariants.{PrecNamed, Semicolons, End}
 use Rattle.ygrammar.specs.Syntax.{Symbol, lexeme, spec, tail, defs, def, rword, tag, nlist, nmno}
 use Rattle.ygrammar.specs.Syntax.{identifier, tlist, rules, rule, rbody, prec, Production, spec_is}
 use Rattle.ygrammar.specs.Syntax.{tail_mark, tail_empty, defs_empty, defs_more, def_start}

@@ -7,19 +7,25 @@ use Rattle.std.proofs.lemmas.List.{map_push}
 use Rattle.std.proofs.Math.Seq.{drop-append_seam}
 use Rattle.std.proofs.Common.{Result}
 use Rattle.ygrammar.specs.declared.lexer.Placed.{Placed}
-use Rattle.ygrammar.specs.declared.kind.Kind.{Kind}
-use Rattle.ygrammar.specs.declared.kind.Kind.TheVariants as kind
-use Rattle.ygrammar.specs.declared.kind.Sign.TheVariants as sign
-use Rattle.ygrammar.specs.declared.part.LexicalFault.{LexicalFault}
-use Rattle.ygrammar.specs.declared.part.LexicalFault.TheVariants as code_faults
-use Rattle.ygrammar.specs.declared.recogniser.State.{State}
-use Rattle.ygrammar.specs.declared.recogniser.State.TheVariants.{Declarations, StartWord, UnionWord}
-use Rattle.ygrammar.specs.declared.recogniser.State.TheVariants.{ListWord, ListTagOpen, ListTagName}
-use Rattle.ygrammar.specs.declared.recogniser.State.TheVariants.{ListTagged, Listed, Numbered}
-use Rattle.ygrammar.specs.declared.recogniser.State.TheVariants.{TypeWord, TypeTagOpen, TypeTagName}
-use Rattle.ygrammar.specs.declared.recogniser.State.TheVariants.{TypeTagged, Typed, RulesMark, Body}
-use Rattle.ygrammar.specs.declared.recogniser.State.TheVariants.{PrecWord, PrecNamed, Semicolons}
-use Rattle.ygrammar.specs.declared.recogniser.State.TheVariants.{End}
+use Rattle.ygrammar.specs.declared.syntax.kind.Kind.{Kind}
+use Rattle.ygrammar.specs.declared.syntax.kind.Kind.TheVariants as kind
+use Rattle.ygrammar.specs.declared.syntax.kind.Sign.TheVariants as sign
+use Rattle.ygrammar.specs.declared.lexer.part.LexicalFault.{LexicalFault}
+use Rattle.ygrammar.specs.declared.lexer.part.LexicalFault.TheVariants as code_faults
+use Rattle.ygrammar.specs.declared.syntax.recogniser.State.{State}
+use Rattle.ygrammar.specs.declared.syntax.recogniser.State.TheVariants.{Declarations, StartWord}
+use Rattle.ygrammar.specs.declared.syntax.recogniser.State.TheVariants.{UnionWord}
+use Rattle.ygrammar.specs.declared.syntax.recogniser.State.TheVariants.{ListWord, ListTagOpen}
+use Rattle.ygrammar.specs.declared.syntax.recogniser.State.TheVariants.{ListTagName}
+use Rattle.ygrammar.specs.declared.syntax.recogniser.State.TheVariants.{ListTagged, Listed}
+use Rattle.ygrammar.specs.declared.syntax.recogniser.State.TheVariants.{Numbered}
+use Rattle.ygrammar.specs.declared.syntax.recogniser.State.TheVariants.{TypeWord, TypeTagOpen}
+use Rattle.ygrammar.specs.declared.syntax.recogniser.State.TheVariants.{TypeTagName}
+use Rattle.ygrammar.specs.declared.syntax.recogniser.State.TheVariants.{TypeTagged, Typed}
+use Rattle.ygrammar.specs.declared.syntax.recogniser.State.TheVariants.{RulesMark, Body}
+use Rattle.ygrammar.specs.declared.syntax.recogniser.State.TheVariants.{PrecWord, PrecNamed}
+use Rattle.ygrammar.specs.declared.syntax.recogniser.State.TheVariants.{Semicolons}
+use Rattle.ygrammar.specs.declared.syntax.recogniser.State.TheVariants.{End}
 use Rattle.ygrammar.specs.Syntax.{BeginsSpec}
 use Rattle.ygrammar.specs.Recogniser.{next_state, state_after, is_final, is_final_at, is_end}
 use Rattle.ygrammar.specs.Lexemes.{Lexeme, fixed, kind_of}

@@ -3,11 +3,11 @@ use Rattle.std.proofs.Common.{ℕ, suc, ◌≡◌, ◌<◌, ◌≤◌, ◌+◌, 
 use Rattle.std.proofs.Common.{Some, None, ◌∙◌, ap, map, arith, drop, get_or, refl, length-append}
 use Rattle.std.specs.List.{flat_map}
 use Rattle.std.proofs.lemmas.List.{drop_more, length-map}
-use Rattle.ygrammar.specs.declared.kind.Sign.TheVariants.{Mark}
-use Rattle.ygrammar.specs.declared.tree.BodyPart.{BodyPart as CodeBodyPart}
-use Rattle.ygrammar.specs.declared.tree.BodyPart.TheVariants as items
-use Rattle.ygrammar.specs.declared.tree.BracedText.{BracedText}
-use Rattle.ygrammar.specs.declared.tree.RuleText.{RuleText as CodeRuleText}
+use Rattle.ygrammar.specs.declared.syntax.kind.Sign.TheVariants.{Mark}
+use Rattle.ygrammar.specs.declared.syntax.tree.BodyPart.{BodyPart as CodeBodyPart}
+use Rattle.ygrammar.specs.declared.syntax.tree.BodyPart.TheVariants as items
+use Rattle.ygrammar.specs.declared.syntax.tree.BracedText.{BracedText}
+use Rattle.ygrammar.specs.declared.syntax.tree.RuleText.{RuleText as CodeRuleText}
 use Rattle.ygrammar.specs.TreeViews.{body_part_view, rule_text_view}
 use Rattle.ygrammar.specs.Elaboration.{body_from, final_of, split_last}
 use Rattle.ygrammar.specs.Lexemes.{Lexeme, fixed}

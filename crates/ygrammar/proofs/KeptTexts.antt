@@ -4,9 +4,9 @@ use Rattle.std.proofs.Common.{◌||◌, ◌⊎◌, inl, inr, eqb, List, [], ◌�
 use Rattle.std.proofs.Common.{sym, ap, ◌∙◌, subst, arith, append_assoc, length-append}
 use Rattle.std.proofs.lemmas.Bool.{eq-eqb, eqb-true, eqb-false, ne_eqb, and_parts, or_cases}
 use Rattle.std.proofs.lemmas.Bool.{or_parts, or_from, and_from, cond-true, cond-false}
-use Rattle.ygrammar.specs.declared.kept.Mode.{Mode}
-use Rattle.ygrammar.specs.declared.kept.Mode.TheVariants.{Outside, Quoted, Escaped, Opening}
-use Rattle.ygrammar.specs.declared.kept.Mode.TheVariants.{Commented, Closing, Lined}
+use Rattle.ygrammar.specs.declared.lexer.kept.Mode.{Mode}
+use Rattle.ygrammar.specs.declared.lexer.kept.Mode.TheVariants.{Outside, Quoted, Escaped, Opening}
+use Rattle.ygrammar.specs.declared.lexer.kept.Mode.TheVariants.{Commented, Closing, Lined}
 use Rattle.ygrammar.specs.Bytes.{all_pass, begins, has_pair}
 use Rattle.ygrammar.specs.Lexemes.{IsInside, IsQuoted, IsKept, IsBraced}
 use Rattle.ygrammar.specs.Kept.{outside_mode, next_mode, close, closes}

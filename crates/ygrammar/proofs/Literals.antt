@@ -9,9 +9,9 @@ use Rattle.std.proofs.lemmas.Bool.{ltb-true, le-leb, lt-ltb, not-true}
 use Rattle.std.proofs.lemmas.Bool.Decides.{nat_tests}
 use Rattle.std.specs.Char.{digit_value}
 use Rattle.std.specs.Str.Parse.{AllDigits, digits_value, digits_value_after}
-use Rattle.ygrammar.specs.declared.literal.Stage.{Stage}
-use Rattle.ygrammar.specs.declared.literal.Stage.TheVariants.{Opened, Backslash, Shut, Octals}
-use Rattle.ygrammar.specs.declared.literal.Stage.TheVariants.{HexMark, Hexed}
+use Rattle.ygrammar.specs.declared.lexer.literal.Stage.{Stage}
+use Rattle.ygrammar.specs.declared.lexer.literal.Stage.TheVariants.{Opened, Backslash, Shut, Octals}
+use Rattle.ygrammar.specs.declared.lexer.literal.Stage.TheVariants.{HexMark, Hexed}
 use Rattle.ygrammar.specs.Lexemes.{escape_value, IsCharacter, plain, escape, octal, hexadecimal}
 use Rattle.ygrammar.specs.Lexemes.{IsLiteral, LiteralAt}
 use Rattle.ygrammar.specs.Stages.{is_plain, digit_in, octal_fits, octal_with, more_octals, hex_with}

@@ -8,10 +8,10 @@ use Rattle.std.proofs.lemmas.Bool.{cond-false}
 use Rattle.std.proofs.lemmas.List.{append_cancel_right, take_at}
 use Rattle.std.proofs.lemmas.Slice.Eq.{bytes_eq-Decides}
 use Rattle.std.specs.Str.{bytes_eq}
-use Rattle.ygrammar.specs.declared.kept.Mode.TheVariants.{Outside}
-use Rattle.ygrammar.specs.declared.kind.Sign.{Sign}
-use Rattle.ygrammar.specs.declared.kind.Sign.TheVariants as sign
-use Rattle.ygrammar.specs.declared.literal.Stage.TheVariants.{Opened}
+use Rattle.ygrammar.specs.declared.lexer.kept.Mode.TheVariants.{Outside}
+use Rattle.ygrammar.specs.declared.syntax.kind.Sign.{Sign}
+use Rattle.ygrammar.specs.declared.syntax.kind.Sign.TheVariants as sign
+use Rattle.ygrammar.specs.declared.lexer.literal.Stage.TheVariants.{Opened}
 use Rattle.ygrammar.specs.Bytes.{is_blank, is_digit, is_name_start, is_name_byte, all_pass, begins}
 use Rattle.ygrammar.specs.Bytes.{IsBetween, IsComment}
 use Rattle.ygrammar.specs.Lexemes.{Lexeme, name, c_identifier, literal, number, braced, code, fixed}

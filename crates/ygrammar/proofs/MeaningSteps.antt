@@ -3,16 +3,17 @@ use Rattle.std.proofs.Common.{ℕ, ◌≡◌, ◌<◌, ◌≤◌, ◌↔◌, Boo
 use Rattle.std.proofs.Common.{length, Option, refl, sym, ◌∙◌, ap, subst, get_or}
 use Rattle.std.proofs.lemmas.List.{length-map}
 use Rattle.std.proofs.lemmas.List.Elements.{All-get_or}
-use Rattle.ygrammar.specs.declared.elaboration.Named.{Named}
-use Rattle.ygrammar.specs.declared.outline.Outline.{Outline}
-use Rattle.ygrammar.specs.declared.tree.RuleText.{RuleText as CodeRuleText}
-use Rattle.ygrammar.specs.declared.tree.Tree.{Tree as CodeTree}
+use Rattle.ygrammar.specs.declared.meaning.elaboration.Named.{Named}
+use Rattle.ygrammar.specs.declared.meaning.outline.Outline.{Outline}
+use Rattle.ygrammar.specs.declared.syntax.tree.RuleText.{RuleText as CodeRuleText}
+use Rattle.ygrammar.specs.declared.syntax.tree.Tree.{Tree as CodeTree}
 use Rattle.ygrammar.specs.Outline.{Outlines, start_view}
 use Rattle.ygrammar.specs.TreeViews.{rule_text_view, name_view, tree_view}
 use Rattle.ygrammar.proofs.NameSteps.{length_texts}
-use Rattle.ygrammar.specs.declared.mistake.Mistake.TheVariants.{BadStart, Undefined, Unproductive}
-use Rattle.ygrammar.specs.declared.mistake.Refused.{Refused}
-use Rattle.ygrammar.specs.declared.mistake.Refused.TheVariants as refused
+use Rattle.ygrammar.specs.declared.meaning.mistake.Mistake.TheVariants.{BadStart, Undefined}
+use Rattle.ygrammar.specs.declared.meaning.mistake.Mistake.TheVariants.{Unproductive}
+use Rattle.ygrammar.specs.declared.meaning.mistake.Refused.{Refused}
+use Rattle.ygrammar.specs.declared.meaning.mistake.Refused.TheVariants as refused
 use Rattle.ygrammar.specs.declared.precedence.Precedence.{Precedence}
 use Rattle.ygrammar.specs.Elaborated.{AreNamed, Fruitful, IsReady}
 use Rattle.ygrammar.specs.Elaboration.{HavePrecedences, Rule, bare_of, first_rule, lefts}

@@ -5,8 +5,9 @@ use Rattle.std.proofs.Common.{length, Option, Some, None, refl, sym, ◌∙◌, 
 use Rattle.std.specs.List.{Contains, list_any}
 use Rattle.std.proofs.lemmas.Bool.Decides.{nat_tests}
 use Rattle.std.proofs.lemmas.List.{length-map}
-use Rattle.ygrammar.specs.declared.mistake.Mistake.TheVariants.{BadPrec, BadStart, Limit, TokenLeft}
-use Rattle.ygrammar.specs.declared.mistake.Mistake.TheVariants.{Undefined}
+use Rattle.ygrammar.specs.declared.meaning.mistake.Mistake.TheVariants.{BadPrec, BadStart, Limit}
+use Rattle.ygrammar.specs.declared.meaning.mistake.Mistake.TheVariants.{TokenLeft}
+use Rattle.ygrammar.specs.declared.meaning.mistake.Mistake.TheVariants.{Undefined}
 use Rattle.ygrammar.specs.Elaboration.{Rule, is_nonterminal, is_token, lefts, precs, rule_left}
 use Rattle.ygrammar.specs.Elaboration.{rules, starts, symbols, token_precedences, tokens, types_of}
 use Rattle.ygrammar.specs.Elaboration.{uses}

@@ -4,7 +4,7 @@ use Rattle.std.proofs.Common.{Some, None, codes, refl, sym, ◌∙◌, ap, subst
 use Rattle.std.specs.List.{slice_get}
 use Rattle.std.proofs.lemmas.Bool.{cases_order}
 use Rattle.std.proofs.lemmas.Option.{get_or_from_slice_get, slice_get-get_or, slice_get_within}
-use Rattle.ygrammar.specs.declared.mistake.Mistake.TheVariants.{BadNumber}
+use Rattle.ygrammar.specs.declared.meaning.mistake.Mistake.TheVariants.{BadNumber}
 use Rattle.ygrammar.specs.Elaboration.{appearances, listings, own_numbers, rule_left, rules}
 use Rattle.ygrammar.specs.Elaboration.{symbols, token_names_of, tokens}
 use Rattle.ygrammar.specs.Mistakes.{HasNone, Holds, order}

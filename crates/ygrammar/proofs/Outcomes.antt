@@ -4,7 +4,7 @@ use Rattle.std.proofs.Common.{List, [], ◌∷◌, ◌++◌, length, Result, Ok,
 use Rattle.std.proofs.Common.{subst, arith, append_assoc, append-nil, length-append}
 use Rattle.std.proofs.lemmas.Bool.{eqb-false}
 use Rattle.std.proofs.lemmas.List.{append_cancel_right, map-append}
-use Rattle.ygrammar.specs.declared.kind.Sign.TheVariants as sign
+use Rattle.ygrammar.specs.declared.syntax.kind.Sign.TheVariants as sign
 use Rattle.ygrammar.specs.Syntax.{IsSpec, BeginsSpec}
 use Rattle.ygrammar.specs.Lexemes.{Lexeme, fixed, kind_of}
 use Rattle.ygrammar.specs.Lexer.{Part, blank, comment, lexeme, PartAt, Cuts, lexemes, kinds}

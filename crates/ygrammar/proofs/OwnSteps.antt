@@ -16,8 +16,8 @@ use Rattle.std.proofs.lemmas.Int.Digits.{digits_value_push}
 use Rattle.std.proofs.lemmas.Str.Parse.{digits_value-take-le}
 use Rattle.std.proofs.lemmas.List.{drop_more, take_more}
 use Rattle.std.proofs.lemmas.List.Elements.{Contains-append_left, Contains-append_right}
-use Rattle.ygrammar.specs.declared.outline.Listed.{Listed}
-use Rattle.ygrammar.specs.declared.tree.Digits.{Digits}
+use Rattle.ygrammar.specs.declared.meaning.outline.Listed.{Listed}
+use Rattle.ygrammar.specs.declared.syntax.tree.Digits.{Digits}
 use Rattle.ygrammar.specs.TreeViews.{digits_view, occurrence_view, option_view}
 use Rattle.ygrammar.specs.Elaboration.{Listing, digits_number, listed_name, literal_value}
 use Rattle.ygrammar.specs.Elaboration.{option_list, said_of, usual_of}

@@ -5,10 +5,10 @@ use Rattle.std.proofs.Common.{subst, arith, get_or, codes, false, is_some, true}
 use Rattle.std.specs.List.{Contains, flat_map}
 use Rattle.std.specs.Global.{Global}
 use Rattle.std.proofs.lemmas.Option.{get_or_from_slice_get}
-use Rattle.ygrammar.specs.declared.mistake.Mistake.{Mistake}
-use Rattle.ygrammar.specs.declared.mistake.Mistake.TheVariants as mistakes
-use Rattle.ygrammar.specs.declared.mistake.Refused.{Refused}
-use Rattle.ygrammar.specs.declared.mistake.Refused.TheVariants as refused
+use Rattle.ygrammar.specs.declared.meaning.mistake.Mistake.{Mistake}
+use Rattle.ygrammar.specs.declared.meaning.mistake.Mistake.TheVariants as mistakes
+use Rattle.ygrammar.specs.declared.meaning.mistake.Refused.{Refused}
+use Rattle.ygrammar.specs.declared.meaning.mistake.Refused.TheVariants as refused
 use Rattle.ygrammar.specs.declared.precedence.Precedence.{Precedence}
 use Rattle.ygrammar.specs.Elaboration.{Listing, appearances, identifiers_of, uses, digits_number}
 use Rattle.ygrammar.specs.Elaboration.{first_or, gives_of, listings, option_list, own_number}

@@ -5,13 +5,14 @@ use Rattle.std.specs.Result.{IsErrOf}
 use Rattle.ygrammar.specs.Answers.{Answers, views}
 use Rattle.ygrammar.specs.declared.fault.GrammarFault.{GrammarFault}
 use Rattle.ygrammar.specs.declared.fault.GrammarFault.TheVariants as faults
-use Rattle.ygrammar.specs.declared.mistake.Mistake.{Mistake}
-use Rattle.ygrammar.specs.declared.mistake.Mistake.TheVariants.{TokenLeft, Undefined}
-use Rattle.ygrammar.specs.declared.mistake.Mistake.TheVariants.{TwicePrecedence, BadNumber}
-use Rattle.ygrammar.specs.declared.mistake.Mistake.TheVariants.{BadStart, Unproductive, BadPrec}
-use Rattle.ygrammar.specs.declared.mistake.Mistake.TheVariants.{Limit}
-use Rattle.ygrammar.specs.declared.mistake.Refused.{Refused}
-use Rattle.ygrammar.specs.declared.mistake.Refused.TheVariants as refused
+use Rattle.ygrammar.specs.declared.meaning.mistake.Mistake.{Mistake}
+use Rattle.ygrammar.specs.declared.meaning.mistake.Mistake.TheVariants.{TokenLeft, Undefined}
+use Rattle.ygrammar.specs.declared.meaning.mistake.Mistake.TheVariants.{TwicePrecedence, BadNumber}
+use Rattle.ygrammar.specs.declared.meaning.mistake.Mistake.TheVariants.{BadStart, Unproductive}
+use Rattle.ygrammar.specs.declared.meaning.mistake.Mistake.TheVariants.{BadPrec}
+use Rattle.ygrammar.specs.declared.meaning.mistake.Mistake.TheVariants.{Limit}
+use Rattle.ygrammar.specs.declared.meaning.mistake.Refused.{Refused}
+use Rattle.ygrammar.specs.declared.meaning.mistake.Refused.TheVariants as refused
 use Rattle.ygrammar.specs.declared.lexer.Placed.{Placed}
 use Rattle.ygrammar.specs.Lexer.{Refusal, SpellsSyntax}
 use Rattle.ygrammar.specs.Elaborated.{IsFirstRefused}

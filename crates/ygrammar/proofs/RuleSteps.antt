@@ -2,10 +2,10 @@
 use Rattle.std.proofs.Common.{ℕ, suc, ◌≡◌, List, [], ◌∷◌, ◌++◌, map, Option, Some, None, refl, sym}
 use Rattle.std.proofs.Common.{◌∙◌, ap, append_assoc, length}
 use Rattle.std.proofs.lemmas.List.{map-append}
-use Rattle.ygrammar.specs.declared.tree.BodyPart.{BodyPart as CodeBodyPart}
-use Rattle.ygrammar.specs.declared.tree.BracedText.{BracedText}
-use Rattle.ygrammar.specs.declared.tree.BodyPart.TheVariants as items
-use Rattle.ygrammar.specs.declared.tree.Occurrence.{Occurrence}
+use Rattle.ygrammar.specs.declared.syntax.tree.BodyPart.{BodyPart as CodeBodyPart}
+use Rattle.ygrammar.specs.declared.syntax.tree.BracedText.{BracedText}
+use Rattle.ygrammar.specs.declared.syntax.tree.BodyPart.TheVariants as items
+use Rattle.ygrammar.specs.declared.syntax.tree.Occurrence.{Occurrence}
 use Rattle.ygrammar.specs.Tree.{BodyPart, symbol, action, Identifier, RuleText}
 use Rattle.ygrammar.specs.TreeViews.{braced_view, body_part_view, occurrence_view, option_view}
 use Rattle.ygrammar.specs.Elaboration.{split_last, final_of, Body, Rule, body_from, inner_rule}

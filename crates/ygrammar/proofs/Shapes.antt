@@ -1,16 +1,22 @@
 -- What the recogniser accepts is derived: each state stands for forms, as in a bottom-up parse.
 use Rattle.std.proofs.Common.{◌≡◌, List, [], ◌∷◌, ◌++◌, map, Option, Some, None, true, false, refl}
 use Rattle.std.proofs.Common.{ap, ◌∙◌, subst, append_assoc, append-nil}
-use Rattle.ygrammar.specs.declared.kind.Kind.{Kind}
-use Rattle.ygrammar.specs.declared.kind.Kind.TheVariants as kind
-use Rattle.ygrammar.specs.declared.recogniser.State.{State}
-use Rattle.ygrammar.specs.declared.recogniser.State.TheVariants.{Declarations, StartWord, UnionWord}
-use Rattle.ygrammar.specs.declared.recogniser.State.TheVariants.{ListWord, ListTagOpen, ListTagName}
-use Rattle.ygrammar.specs.declared.recogniser.State.TheVariants.{ListTagged, Listed, Numbered}
-use Rattle.ygrammar.specs.declared.recogniser.State.TheVariants.{TypeWord, TypeTagOpen, TypeTagName}
-use Rattle.ygrammar.specs.declared.recogniser.State.TheVariants.{TypeTagged, Typed, RulesMark, Body}
-use Rattle.ygrammar.specs.declared.recogniser.State.TheVariants.{PrecWord, PrecNamed, Semicolons}
-use Rattle.ygrammar.specs.declared.recogniser.State.TheVariants.{End}
+use Rattle.ygrammar.specs.declared.syntax.kind.Kind.{Kind}
+use Rattle.ygrammar.specs.declared.syntax.kind.Kind.TheVariants as kind
+use Rattle.ygrammar.specs.declared.syntax.recogniser.State.{State}
+use Rattle.ygrammar.specs.declared.syntax.recogniser.State.TheVariants.{Declarations, StartWord}
+use Rattle.ygrammar.specs.declared.syntax.recogniser.State.TheVariants.{UnionWord}
+use Rattle.ygrammar.specs.declared.syntax.recogniser.State.TheVariants.{ListWord, ListTagOpen}
+use Rattle.ygrammar.specs.declared.syntax.recogniser.State.TheVariants.{ListTagName}
+use Rattle.ygrammar.specs.declared.syntax.recogniser.State.TheVariants.{ListTagged, Listed}
+use Rattle.ygrammar.specs.declared.syntax.recogniser.State.TheVariants.{Numbered}
+use Rattle.ygrammar.specs.declared.syntax.recogniser.State.TheVariants.{TypeWord, TypeTagOpen}
+use Rattle.ygrammar.specs.declared.syntax.recogniser.State.TheVariants.{TypeTagName}
+use Rattle.ygrammar.specs.declared.syntax.recogniser.State.TheVariants.{TypeTagged, Typed}
+use Rattle.ygrammar.specs.declared.syntax.recogniser.State.TheVariants.{RulesMark, Body}
+use Rattle.ygrammar.specs.declared.syntax.recogniser.State.TheVariants.{PrecWord, PrecNamed}
+use Rattle.ygrammar.specs.declared.syntax.recogniser.State.TheVariants.{Semicolons}
+use Rattle.ygrammar.specs.declared.syntax.recogniser.State.TheVariants.{End}
 use Rattle.ygrammar.specs.Derivation.{Derives, done}
 use Rattle.ygrammar.specs.Syntax.{Symbol, lexeme, spec, tail, defs, def, rword, tag, nlist, nmno}
 use Rattle.ygrammar.specs.Syntax.{identifier, tlist, rules, rule, rbody, prec, Production, spec_is}

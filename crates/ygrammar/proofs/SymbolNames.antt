@@ -5,7 +5,7 @@ use Rattle.std.proofs.Common.{codes, get_or}
 use Rattle.std.specs.List.{flat_map, AllByRecursion}
 use Rattle.std.proofs.lemmas.Bool.Decides.{nat_tests}
 use Rattle.ygrammar.specs.declared.precedence.Precedence.{Precedence}
-use Rattle.ygrammar.specs.declared.kind.Sign.TheVariants as sign
+use Rattle.ygrammar.specs.declared.syntax.kind.Sign.TheVariants as sign
 use Rattle.ygrammar.specs.Bytes.{begins, is_name_start}
 use Rattle.ygrammar.specs.Lexemes.{Lexeme, name, c_identifier, literal, number, braced, code, fixed}
 use Rattle.ygrammar.specs.Lexemes.{IsName}

@@ -4,7 +4,7 @@ use Rattle.std.proofs.Common.{◌++◌, length, Option, Some, None, refl, sym, �
 use Rattle.std.proofs.Common.{get_or, get_or-set_other, get_or-set_same, length-set, replicate}
 use Rattle.std.proofs.Common.{is_some, map, drop, ◌+◌}
 use Rattle.std.proofs.lemmas.List.{drop_more, get_or_read}
-use Rattle.ygrammar.specs.declared.outline.Listed.{Listed}
+use Rattle.ygrammar.specs.declared.meaning.outline.Listed.{Listed}
 use Rattle.ygrammar.specs.Outline.{listed_view}
 use Rattle.std.proofs.Math.ListN.{set}
 use Rattle.std.specs.Str.{bytes_eq}

@@ -3,7 +3,7 @@ use Rattle.std.proofs.Common.{ℕ, suc, ◌≡◌, List, [], ◌∷◌, ◌++◌
 use Rattle.std.proofs.Common.{sym, ◌∙◌, ap, append_assoc, subst}
 use Rattle.std.specs.List.{flat_map, AllByRecursion}
 use Rattle.std.proofs.lemmas.List.{map-append}
-use Rattle.ygrammar.specs.declared.tree.BodyPart.{BodyPart as CodeBodyPart}
+use Rattle.ygrammar.specs.declared.syntax.tree.BodyPart.{BodyPart as CodeBodyPart}
 use Rattle.ygrammar.specs.Elaboration.{Rule, body_from, final_of, or_else, rules_from}
 use Rattle.ygrammar.specs.Names.{Name}
 use Rattle.ygrammar.specs.Texts.{BodyPartStands, TextsValue, texts_of_rule, body_part_texts}

@@ -12,21 +12,27 @@ use Rattle.std.proofs.Math.Seq.{drop-append_seam}
 use Rattle.std.specs.List.{flat_map, AllByRecursion}
 use Rattle.std.specs.Prelude.{replicate}
 use Rattle.ygrammar.specs.declared.lexer.Placed.{Placed}
-use Rattle.ygrammar.specs.declared.kind.Kind.{Kind}
-use Rattle.ygrammar.specs.declared.kind.Kind.TheVariants as kind
-use Rattle.ygrammar.specs.declared.kind.Sign.{Sign}
-use Rattle.ygrammar.specs.declared.kind.Sign.TheVariants as sign
-use Rattle.ygrammar.specs.declared.tree.Entry.{Entry as CodeEntry}
-use Rattle.ygrammar.specs.declared.tree.NameAt.{NameAt}
+use Rattle.ygrammar.specs.declared.syntax.kind.Kind.{Kind}
+use Rattle.ygrammar.specs.declared.syntax.kind.Kind.TheVariants as kind
+use Rattle.ygrammar.specs.declared.syntax.kind.Sign.{Sign}
+use Rattle.ygrammar.specs.declared.syntax.kind.Sign.TheVariants as sign
+use Rattle.ygrammar.specs.declared.syntax.tree.Entry.{Entry as CodeEntry}
+use Rattle.ygrammar.specs.declared.syntax.tree.NameAt.{NameAt}
 use Rattle.ygrammar.specs.TreeViews.{entry_view, name_view, option_view, rule_text_view}
-use Rattle.ygrammar.specs.declared.tree.RuleText.{RuleText as CodeRuleText}
-use Rattle.ygrammar.specs.declared.recogniser.State.{State}
-use Rattle.ygrammar.specs.declared.recogniser.State.TheVariants.{Declarations, StartWord, UnionWord}
-use Rattle.ygrammar.specs.declared.recogniser.State.TheVariants.{ListWord, ListTagOpen, ListTagName}
-use Rattle.ygrammar.specs.declared.recogniser.State.TheVariants.{ListTagged, Listed, Numbered}
-use Rattle.ygrammar.specs.declared.recogniser.State.TheVariants.{TypeWord, TypeTagOpen, TypeTagName}
-use Rattle.ygrammar.specs.declared.recogniser.State.TheVariants.{TypeTagged, Typed, RulesMark, Body}
-use Rattle.ygrammar.specs.declared.recogniser.State.TheVariants.{PrecWord, PrecNamed, Semicolons}
+use Rattle.ygrammar.specs.declared.syntax.tree.RuleText.{RuleText as CodeRuleText}
+use Rattle.ygrammar.specs.declared.syntax.recogniser.State.{State}
+use Rattle.ygrammar.specs.declared.syntax.recogniser.State.TheVariants.{Declarations, StartWord}
+use Rattle.ygrammar.specs.declared.syntax.recogniser.State.TheVariants.{UnionWord}
+use Rattle.ygrammar.specs.declared.syntax.recogniser.State.TheVariants.{ListWord, ListTagOpen}
+use Rattle.ygrammar.specs.declared.syntax.recogniser.State.TheVariants.{ListTagName}
+use Rattle.ygrammar.specs.declared.syntax.recogniser.State.TheVariants.{ListTagged, Listed}
+use Rattle.ygrammar.specs.declared.syntax.recogniser.State.TheVariants.{Numbered}
+use Rattle.ygrammar.specs.declared.syntax.recogniser.State.TheVariants.{TypeWord, TypeTagOpen}
+use Rattle.ygrammar.specs.declared.syntax.recogniser.State.TheVariants.{TypeTagName}
+use Rattle.ygrammar.specs.declared.syntax.recogniser.State.TheVariants.{TypeTagged, Typed}
+use Rattle.ygrammar.specs.declared.syntax.recogniser.State.TheVariants.{RulesMark, Body}
+use Rattle.ygrammar.specs.declared.syntax.recogniser.State.TheVariants.{PrecWord, PrecNamed}
+use Rattle.ygrammar.specs.declared.syntax.recogniser.State.TheVariants.{Semicolons}
 use Rattle.ygrammar.specs.Recogniser.{on_name, on_identifier, on_less, on_greater, on_braced}
 use Rattle.ygrammar.specs.Recogniser.{on_c_identifier}
 use Rattle.ygrammar.specs.Recogniser.{next_state, state_after, is_final_at, run}

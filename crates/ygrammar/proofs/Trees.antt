@@ -6,10 +6,10 @@ use Rattle.std.proofs.lemmas.Grind.{flat_map-append}
 use Rattle.std.proofs.lemmas.List.{map-append, replicate_more}
 use Rattle.std.specs.List.{flat_map, AllByRecursion}
 use Rattle.std.specs.Prelude.{replicate}
-use Rattle.ygrammar.specs.declared.kind.Kind.{Kind}
-use Rattle.ygrammar.specs.declared.kind.Kind.TheVariants as kind
-use Rattle.ygrammar.specs.declared.kind.Sign.{Sign}
-use Rattle.ygrammar.specs.declared.kind.Sign.TheVariants as sign
+use Rattle.ygrammar.specs.declared.syntax.kind.Kind.{Kind}
+use Rattle.ygrammar.specs.declared.syntax.kind.Kind.TheVariants as kind
+use Rattle.ygrammar.specs.declared.syntax.kind.Sign.{Sign}
+use Rattle.ygrammar.specs.declared.syntax.kind.Sign.TheVariants as sign
 use Rattle.ygrammar.specs.Syntax.{Symbol, lexeme, spec, tail, defs, def, rword, tag, nlist, nmno}
 use Rattle.ygrammar.specs.Syntax.{identifier, tlist, rules, rule, rbody, prec, Production, spec_is}
 use Rattle.ygrammar.specs.Syntax.{tail_mark, tail_empty, defs_empty, defs_more, def_start}

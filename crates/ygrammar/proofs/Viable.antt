@@ -1,15 +1,21 @@
 -- The recogniser has a state behind exactly the lists that begin a grammar file.
 use Rattle.std.proofs.Common.{◌≡◌, List, [], ◌∷◌, ◌++◌, Some, None, true, false, refl, ap, ◌∙◌}
-use Rattle.ygrammar.specs.declared.kind.Kind.{Kind}
-use Rattle.ygrammar.specs.declared.kind.Kind.TheVariants as kind
-use Rattle.ygrammar.specs.declared.recogniser.State.{State}
-use Rattle.ygrammar.specs.declared.recogniser.State.TheVariants.{Declarations, StartWord, UnionWord}
-use Rattle.ygrammar.specs.declared.recogniser.State.TheVariants.{ListWord, ListTagOpen, ListTagName}
-use Rattle.ygrammar.specs.declared.recogniser.State.TheVariants.{ListTagged, Listed, Numbered}
-use Rattle.ygrammar.specs.declared.recogniser.State.TheVariants.{TypeWord, TypeTagOpen, TypeTagName}
-use Rattle.ygrammar.specs.declared.recogniser.State.TheVariants.{TypeTagged, Typed, RulesMark, Body}
-use Rattle.ygrammar.specs.declared.recogniser.State.TheVariants.{PrecWord, PrecNamed, Semicolons}
-use Rattle.ygrammar.specs.declared.recogniser.State.TheVariants.{End}
+use Rattle.ygrammar.specs.declared.syntax.kind.Kind.{Kind}
+use Rattle.ygrammar.specs.declared.syntax.kind.Kind.TheVariants as kind
+use Rattle.ygrammar.specs.declared.syntax.recogniser.State.{State}
+use Rattle.ygrammar.specs.declared.syntax.recogniser.State.TheVariants.{Declarations, StartWord}
+use Rattle.ygrammar.specs.declared.syntax.recogniser.State.TheVariants.{UnionWord}
+use Rattle.ygrammar.specs.declared.syntax.recogniser.State.TheVariants.{ListWord, ListTagOpen}
+use Rattle.ygrammar.specs.declared.syntax.recogniser.State.TheVariants.{ListTagName}
+use Rattle.ygrammar.specs.declared.syntax.recogniser.State.TheVariants.{ListTagged, Listed}
+use Rattle.ygrammar.specs.declared.syntax.recogniser.State.TheVariants.{Numbered}
+use Rattle.ygrammar.specs.declared.syntax.recogniser.State.TheVariants.{TypeWord, TypeTagOpen}
+use Rattle.ygrammar.specs.declared.syntax.recogniser.State.TheVariants.{TypeTagName}
+use Rattle.ygrammar.specs.declared.syntax.recogniser.State.TheVariants.{TypeTagged, Typed}
+use Rattle.ygrammar.specs.declared.syntax.recogniser.State.TheVariants.{RulesMark, Body}
+use Rattle.ygrammar.specs.declared.syntax.recogniser.State.TheVariants.{PrecWord, PrecNamed}
+use Rattle.ygrammar.specs.declared.syntax.recogniser.State.TheVariants.{Semicolons}
+use Rattle.ygrammar.specs.declared.syntax.recogniser.State.TheVariants.{End}
 use Rattle.ygrammar.specs.Syntax.{BeginsSpec}
 use Rattle.ygrammar.specs.Recogniser.{state_after, is_final_at, run}
 use Rattle.ygrammar.proofs.Accepted.{lost, reached_append, recognised}

@@ -9,8 +9,9 @@ use Rattle.std.proofs.lemmas.Bool.{cases_lt}
 use Rattle.std.proofs.lemmas.List.{length-map}
 use Rattle.std.proofs.lemmas.List.Elements.{All-contains_itself, All-from_recursion}
 use Rattle.std.proofs.lemmas.List.Elements.{recursion_from_All}
-use Rattle.ygrammar.specs.declared.mistake.Mistake.TheVariants.{TokenLeft, Undefined, BadStart}
-use Rattle.ygrammar.specs.declared.mistake.Mistake.TheVariants.{Limit}
+use Rattle.ygrammar.specs.declared.meaning.mistake.Mistake.TheVariants.{TokenLeft, Undefined}
+use Rattle.ygrammar.specs.declared.meaning.mistake.Mistake.TheVariants.{BadStart}
+use Rattle.ygrammar.specs.declared.meaning.mistake.Mistake.TheVariants.{Limit}
 use Rattle.ygrammar.specs.Grammar.{ContextFree, Production, blank, rule_of}
 use Rattle.ygrammar.specs.Forms.{Productive}
 use Rattle.ygrammar.specs.WellFormed.{WellFormed}

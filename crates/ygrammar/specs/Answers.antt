@@ -2,12 +2,12 @@
 use Rattle.std.specs.Prelude.{◌≡◌, ℕ, List, drop, map, Result, Ok, Err, Some}
 use Rattle.std.specs.List.{AllByRecursion}
 use Rattle.std.specs.Global.{Vec}
-use Rattle.ygrammar.specs.declared.recogniser.State.{State}
-use Rattle.ygrammar.specs.declared.recogniser.State.TheVariants.{Declarations}
+use Rattle.ygrammar.specs.declared.syntax.recogniser.State.{State}
+use Rattle.ygrammar.specs.declared.syntax.recogniser.State.TheVariants.{Declarations}
 use Rattle.ygrammar.specs.Recogniser.{state_after}
 use Rattle.ygrammar.specs.declared.lexer.Placed.{Placed}
-use Rattle.ygrammar.specs.declared.part.LexicalFault.{LexicalFault}
-use Rattle.ygrammar.specs.declared.part.LexicalFault.TheVariants as lexical
+use Rattle.ygrammar.specs.declared.lexer.part.LexicalFault.{LexicalFault}
+use Rattle.ygrammar.specs.declared.lexer.part.LexicalFault.TheVariants as lexical
 use Rattle.ygrammar.specs.declared.fault.GrammarFault.{GrammarFault}
 use Rattle.ygrammar.specs.declared.fault.GrammarFault.TheVariants as faults
 use Rattle.ygrammar.specs.Lexemes.{Lexeme}

@@ -1,10 +1,11 @@
 -- What elaboration gives: the grammar that a tree means, or its first mistake.
 use Rattle.std.specs.Prelude.{ℕ, ◌≡◌, ◌<◌, ◌≤◌, List, length, map, Option, Result, Ok, Err}
-use Rattle.ygrammar.specs.declared.elaboration.Named.{Named}
-use Rattle.ygrammar.specs.declared.mistake.Mistake.TheVariants.{TokenLeft, Undefined}
-use Rattle.ygrammar.specs.declared.mistake.Mistake.TheVariants.{TwicePrecedence, Unproductive}
-use Rattle.ygrammar.specs.declared.mistake.Refused.{Refused}
-use Rattle.ygrammar.specs.declared.mistake.Refused.TheVariants as refused
+use Rattle.ygrammar.specs.declared.meaning.elaboration.Named.{Named}
+use Rattle.ygrammar.specs.declared.meaning.mistake.Mistake.TheVariants.{TokenLeft, Undefined}
+use Rattle.ygrammar.specs.declared.meaning.mistake.Mistake.TheVariants.{TwicePrecedence}
+use Rattle.ygrammar.specs.declared.meaning.mistake.Mistake.TheVariants.{Unproductive}
+use Rattle.ygrammar.specs.declared.meaning.mistake.Refused.{Refused}
+use Rattle.ygrammar.specs.declared.meaning.mistake.Refused.TheVariants as refused
 use Rattle.ygrammar.specs.Elaboration.{bare_of, rules, symbols, token_precedences, tokens}
 use Rattle.ygrammar.specs.Forms.{Productive}
 use Rattle.ygrammar.specs.Grammar.{ContextFree, GrammarValue, RuleValue}

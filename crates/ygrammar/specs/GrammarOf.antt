@@ -2,11 +2,12 @@
 use Rattle.std.specs.Prelude.{ℕ, ◌≡◌, ◌<◌, ◌≤◌, List, length, Result, Ok, Err}
 use Rattle.ygrammar.specs.declared.fault.GrammarFault.{GrammarFault}
 use Rattle.ygrammar.specs.declared.fault.GrammarFault.TheVariants as faults
-use Rattle.ygrammar.specs.declared.mistake.Mistake.{Mistake}
-use Rattle.ygrammar.specs.declared.mistake.Mistake.TheVariants.{TokenLeft, Undefined}
-use Rattle.ygrammar.specs.declared.mistake.Mistake.TheVariants.{TwicePrecedence, BadNumber}
-use Rattle.ygrammar.specs.declared.mistake.Mistake.TheVariants.{BadStart, Unproductive, BadPrec}
-use Rattle.ygrammar.specs.declared.mistake.Mistake.TheVariants.{Limit}
+use Rattle.ygrammar.specs.declared.meaning.mistake.Mistake.{Mistake}
+use Rattle.ygrammar.specs.declared.meaning.mistake.Mistake.TheVariants.{TokenLeft, Undefined}
+use Rattle.ygrammar.specs.declared.meaning.mistake.Mistake.TheVariants.{TwicePrecedence, BadNumber}
+use Rattle.ygrammar.specs.declared.meaning.mistake.Mistake.TheVariants.{BadStart, Unproductive}
+use Rattle.ygrammar.specs.declared.meaning.mistake.Mistake.TheVariants.{BadPrec}
+use Rattle.ygrammar.specs.declared.meaning.mistake.Mistake.TheVariants.{Limit}
 use Rattle.ygrammar.specs.Lexer.{Fault, Refusal, Outcome, SpellsSyntax, refusal, unfinished}
 use Rattle.ygrammar.specs.Lexer.{bad_literal, foreign, syntax}
 use Rattle.ygrammar.specs.Grammar.{GrammarValue, longest_file}

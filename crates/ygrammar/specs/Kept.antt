@@ -1,9 +1,9 @@
 -- Reading a kept text byte by byte, as functions of lists.
 use Rattle.std.specs.Prelude.{ℕ, zero, suc, ◌==◌, ◌-◌, ◌&&◌, ◌||◌, Bool, true, false, cond, List}
 use Rattle.std.specs.Prelude.{[], ◌∷◌, Option, Some, None}
-use Rattle.ygrammar.specs.declared.kept.Mode.{Mode}
-use Rattle.ygrammar.specs.declared.kept.Mode.TheVariants.{Outside, Quoted, Escaped, Opening}
-use Rattle.ygrammar.specs.declared.kept.Mode.TheVariants.{Commented, Closing, Lined}
+use Rattle.ygrammar.specs.declared.lexer.kept.Mode.{Mode}
+use Rattle.ygrammar.specs.declared.lexer.kept.Mode.TheVariants.{Outside, Quoted, Escaped, Opening}
+use Rattle.ygrammar.specs.declared.lexer.kept.Mode.TheVariants.{Commented, Closing, Lined}
 use Rattle.ygrammar.specs.Bytes.{begins}
 
 -- the mode after a byte outside strings and comments that is no brace, with what follows it

@@ -2,9 +2,9 @@
 -- Ullman, section 3.5: the longest match).
 use Rattle.std.specs.Prelude.{ℕ, suc, count_by, ◌≡◌, ◌≤◌, ◌<◌, Result, Ok, Err, ◌+◌, Bool, true}
 use Rattle.std.specs.Prelude.{false, cond, ◌==◌, List, [], ◌∷◌, ◌++◌, length, map, ◌⊎◌, codes}
-use Rattle.ygrammar.specs.declared.kind.Kind.{Kind}
-use Rattle.ygrammar.specs.declared.kind.Kind.TheVariants as kind
-use Rattle.ygrammar.specs.declared.kind.Sign.TheVariants as sign
+use Rattle.ygrammar.specs.declared.syntax.kind.Kind.{Kind}
+use Rattle.ygrammar.specs.declared.syntax.kind.Kind.TheVariants as kind
+use Rattle.ygrammar.specs.declared.syntax.kind.Sign.TheVariants as sign
 use Rattle.ygrammar.specs.Syntax.{IsSpec, BeginsSpec}
 use Rattle.ygrammar.specs.Bytes.{is_blank, is_name_byte, all_pass, IsComment}
 use Rattle.ygrammar.specs.Lexemes.{Lexeme, fixed, literal, Spells, kind_of}

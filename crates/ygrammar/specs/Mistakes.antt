@@ -1,11 +1,12 @@
 -- What is wrong with a file whose syntax is right, and which mistake is answered.
 use Rattle.std.specs.Prelude.{ℕ, ◌≡◌, ◌≢◌, ◌<◌, ◌≤◌, ◌⊎◌, true, false, List, [], ◌∷◌, length, map}
 use Rattle.std.specs.Prelude.{Contains}
-use Rattle.ygrammar.specs.declared.mistake.Mistake.{Mistake}
-use Rattle.ygrammar.specs.declared.mistake.Mistake.TheVariants.{TokenLeft, Undefined}
-use Rattle.ygrammar.specs.declared.mistake.Mistake.TheVariants.{TwicePrecedence, BadNumber}
-use Rattle.ygrammar.specs.declared.mistake.Mistake.TheVariants.{BadStart, Unproductive, BadPrec}
-use Rattle.ygrammar.specs.declared.mistake.Mistake.TheVariants.{Limit}
+use Rattle.ygrammar.specs.declared.meaning.mistake.Mistake.{Mistake}
+use Rattle.ygrammar.specs.declared.meaning.mistake.Mistake.TheVariants.{TokenLeft, Undefined}
+use Rattle.ygrammar.specs.declared.meaning.mistake.Mistake.TheVariants.{TwicePrecedence, BadNumber}
+use Rattle.ygrammar.specs.declared.meaning.mistake.Mistake.TheVariants.{BadStart, Unproductive}
+use Rattle.ygrammar.specs.declared.meaning.mistake.Mistake.TheVariants.{BadPrec}
+use Rattle.ygrammar.specs.declared.meaning.mistake.Mistake.TheVariants.{Limit}
 use Rattle.ygrammar.specs.Elaboration.{Rule, bare_of, is_nonterminal, is_token, lefts}
 use Rattle.ygrammar.specs.Elaboration.{numbers_given, own_numbers, precedences_given, precs, rules}
 use Rattle.ygrammar.specs.Elaboration.{starts, symbols, tokens, types_of, uses}

@@ -1,19 +1,26 @@
 -- The recogniser's states and moves.
 use Rattle.std.specs.Prelude.{List, [], ◌∷◌, Option, Some, None, Bool, true, false}
-use Rattle.ygrammar.specs.declared.kind.Kind.{Kind}
-use Rattle.ygrammar.specs.declared.kind.Kind.TheVariants.{Name, CIdentifier, Literal, Number, Mark}
-use Rattle.ygrammar.specs.declared.kind.Kind.TheVariants.{Token}
-use Rattle.ygrammar.specs.declared.kind.Kind.TheVariants.{Left, Right, Nonassoc, Types, Start}
-use Rattle.ygrammar.specs.declared.kind.Kind.TheVariants.{Union, Prec, Code, Braced, Less, Greater}
-use Rattle.ygrammar.specs.declared.kind.Kind.TheVariants.{Bar, Semicolon}
-use Rattle.ygrammar.specs.declared.recogniser.State.{State}
-use Rattle.ygrammar.specs.declared.recogniser.State.TheVariants.{Declarations, StartWord}
-use Rattle.ygrammar.specs.declared.recogniser.State.TheVariants.{UnionWord, ListWord, ListTagOpen}
-use Rattle.ygrammar.specs.declared.recogniser.State.TheVariants.{ListTagName, ListTagged, Listed}
-use Rattle.ygrammar.specs.declared.recogniser.State.TheVariants.{Numbered, TypeWord, TypeTagOpen}
-use Rattle.ygrammar.specs.declared.recogniser.State.TheVariants.{TypeTagName, TypeTagged, Typed}
-use Rattle.ygrammar.specs.declared.recogniser.State.TheVariants.{RulesMark, Body, PrecWord}
-use Rattle.ygrammar.specs.declared.recogniser.State.TheVariants.{PrecNamed, Semicolons, End}
+use Rattle.ygrammar.specs.declared.syntax.kind.Kind.{Kind}
+use Rattle.ygrammar.specs.declared.syntax.kind.Kind.TheVariants.{Name, CIdentifier, Literal}
+use Rattle.ygrammar.specs.declared.syntax.kind.Kind.TheVariants.{Number, Mark}
+use Rattle.ygrammar.specs.declared.syntax.kind.Kind.TheVariants.{Token}
+use Rattle.ygrammar.specs.declared.syntax.kind.Kind.TheVariants.{Left, Right, Nonassoc, Types}
+use Rattle.ygrammar.specs.declared.syntax.kind.Kind.TheVariants.{Start}
+use Rattle.ygrammar.specs.declared.syntax.kind.Kind.TheVariants.{Union, Prec, Code, Braced, Less}
+use Rattle.ygrammar.specs.declared.syntax.kind.Kind.TheVariants.{Greater}
+use Rattle.ygrammar.specs.declared.syntax.kind.Kind.TheVariants.{Bar, Semicolon}
+use Rattle.ygrammar.specs.declared.syntax.recogniser.State.{State}
+use Rattle.ygrammar.specs.declared.syntax.recogniser.State.TheVariants.{Declarations, StartWord}
+use Rattle.ygrammar.specs.declared.syntax.recogniser.State.TheVariants.{UnionWord, ListWord}
+use Rattle.ygrammar.specs.declared.syntax.recogniser.State.TheVariants.{ListTagOpen}
+use Rattle.ygrammar.specs.declared.syntax.recogniser.State.TheVariants.{ListTagName, ListTagged}
+use Rattle.ygrammar.specs.declared.syntax.recogniser.State.TheVariants.{Listed}
+use Rattle.ygrammar.specs.declared.syntax.recogniser.State.TheVariants.{Numbered, TypeWord}
+use Rattle.ygrammar.specs.declared.syntax.recogniser.State.TheVariants.{TypeTagOpen}
+use Rattle.ygrammar.specs.declared.syntax.recogniser.State.TheVariants.{TypeTagName, TypeTagged}
+use Rattle.ygrammar.specs.declared.syntax.recogniser.State.TheVariants.{Typed}
+use Rattle.ygrammar.specs.declared.syntax.recogniser.State.TheVariants.{RulesMark, Body, PrecWord}
+use Rattle.ygrammar.specs.declared.syntax.recogniser.State.TheVariants.{PrecNamed, Semicolons, End}
 
 abbrev pub after_definition : Kind → Option State
 after_definition Start = Some StartWord

@@ -2,11 +2,11 @@
 use Rattle.std.specs.Prelude.{ℕ, ◌+◌, ◌*◌, ◌==◌, nat_lt, nat_le, Bool, ◌&&◌, ◌||◌, not, List, []}
 use Rattle.std.specs.Prelude.{◌∷◌, Option, Some, None, if◌then◌else◌}
 use Rattle.std.specs.Char.{digit_value}
-use Rattle.ygrammar.specs.declared.literal.Stage.{Stage}
-use Rattle.ygrammar.specs.declared.literal.Stage.TheVariants.{Opened, Backslash, Shut, Octals}
-use Rattle.ygrammar.specs.declared.literal.Stage.TheVariants.{HexMark, Hexed}
-use Rattle.ygrammar.specs.declared.literal.Scan.{Scan}
-use Rattle.ygrammar.specs.declared.literal.Scan.TheVariants as scans
+use Rattle.ygrammar.specs.declared.lexer.literal.Stage.{Stage}
+use Rattle.ygrammar.specs.declared.lexer.literal.Stage.TheVariants.{Opened, Backslash, Shut, Octals}
+use Rattle.ygrammar.specs.declared.lexer.literal.Stage.TheVariants.{HexMark, Hexed}
+use Rattle.ygrammar.specs.declared.lexer.literal.Scan.{Scan}
+use Rattle.ygrammar.specs.declared.lexer.literal.Scan.TheVariants as scans
 use Rattle.ygrammar.specs.Lexemes.{escape_value}
 
 -- a byte that stands for itself

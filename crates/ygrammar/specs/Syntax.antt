@@ -2,8 +2,8 @@
 -- profile).
 use Rattle.std.specs.Prelude.{List, [], ◌∷◌, ◌++◌, map}
 use Rattle.ygrammar.specs.Derivation.{Derives}
-use Rattle.ygrammar.specs.declared.kind.Kind.{Kind}
-use Rattle.ygrammar.specs.declared.kind.Kind.TheVariants as kind
+use Rattle.ygrammar.specs.declared.syntax.kind.Kind.{Kind}
+use Rattle.ygrammar.specs.declared.syntax.kind.Kind.TheVariants as kind
 
 pub data Symbol : Type 0 where
   -- a lexeme of a kind

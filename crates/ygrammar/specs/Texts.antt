@@ -1,11 +1,11 @@
 -- The braced texts of a file, by their places in the source.
 use Rattle.std.specs.Prelude.{ℕ, ◌≡◌, List, [], ◌∷◌, ◌++◌, take, drop, length, Option, Some, IfSome}
 use Rattle.std.specs.List.{flat_map, AllByRecursion}
-use Rattle.ygrammar.specs.declared.texts.Span.{Span}
-use Rattle.ygrammar.specs.declared.tree.BracedText.{BracedText}
-use Rattle.ygrammar.specs.declared.tree.RuleText.{RuleText as CodeRuleText}
-use Rattle.ygrammar.specs.declared.tree.BodyPart.{BodyPart as CodeBodyPart}
-use Rattle.ygrammar.specs.declared.tree.BodyPart.TheVariants as items
+use Rattle.ygrammar.specs.declared.meaning.texts.Span.{Span}
+use Rattle.ygrammar.specs.declared.syntax.tree.BracedText.{BracedText}
+use Rattle.ygrammar.specs.declared.syntax.tree.RuleText.{RuleText as CodeRuleText}
+use Rattle.ygrammar.specs.declared.syntax.tree.BodyPart.{BodyPart as CodeBodyPart}
+use Rattle.ygrammar.specs.declared.syntax.tree.BodyPart.TheVariants as items
 use Rattle.ygrammar.specs.Elaboration.{Rule, final_of}
 use Rattle.ygrammar.specs.Tree.{RuleText, BodyPart, symbol, action}
 

@@ -2,10 +2,10 @@
 use Rattle.std.specs.Prelude.{◌≡◌, ◌<◌, ◌≤◌, List, [], ◌++◌, length, Option, None, Result, Ok, Err}
 use Rattle.std.specs.Prelude.{slice_index_or}
 use Rattle.std.specs.Global.{Vec}
-use Rattle.ygrammar.specs.declared.mistake.Mistake.{Mistake}
-use Rattle.ygrammar.specs.declared.mistake.Mistake.TheVariants as mistakes
-use Rattle.ygrammar.specs.declared.mistake.Refused.{Refused}
-use Rattle.ygrammar.specs.declared.mistake.Refused.TheVariants as refused
+use Rattle.ygrammar.specs.declared.meaning.mistake.Mistake.{Mistake}
+use Rattle.ygrammar.specs.declared.meaning.mistake.Mistake.TheVariants as mistakes
+use Rattle.ygrammar.specs.declared.meaning.mistake.Refused.{Refused}
+use Rattle.ygrammar.specs.declared.meaning.mistake.Refused.TheVariants as refused
 use Rattle.ygrammar.specs.declared.precedence.Precedence.{Precedence}
 use Rattle.ygrammar.specs.Elaboration.{Listing, option_list, said_of, gives_of}
 use Rattle.ygrammar.specs.Names.{Name, number_in}

@@ -3,8 +3,8 @@
 use Rattle.std.specs.Prelude.{ℕ, ◌≡◌, ◌<◌, Bool, true, false, List, [], ◌∷◌, ◌++◌, length, map}
 use Rattle.std.specs.Prelude.{Option, Some, None, IsSome, replicate}
 use Rattle.std.specs.List.{flat_map, AllByRecursion}
-use Rattle.ygrammar.specs.declared.kind.Sign.{Sign}
-use Rattle.ygrammar.specs.declared.kind.Sign.TheVariants as sign
+use Rattle.ygrammar.specs.declared.syntax.kind.Sign.{Sign}
+use Rattle.ygrammar.specs.declared.syntax.kind.Sign.TheVariants as sign
 use Rattle.ygrammar.specs.Lexemes.{Lexeme, name, c_identifier, literal, number, braced, code, fixed}
 
 -- a name or a literal

@@ -1,12 +1,12 @@
 -- What the builder of syntax trees asks of lexemes, and what it takes of them.
 use Rattle.std.specs.Prelude.{ℕ, ◌≡◌, Bool, true, false, List, [], ◌∷◌, ◌++◌, Option, Some, None}
 use Rattle.ygrammar.specs.declared.lexer.Placed.{Placed}
-use Rattle.ygrammar.specs.declared.kind.Sign.{Sign}
-use Rattle.ygrammar.specs.declared.kind.Sign.TheVariants.{Mark}
-use Rattle.ygrammar.specs.declared.recogniser.State.{State}
-use Rattle.ygrammar.specs.declared.recogniser.State.TheVariants.{Declarations, RulesMark}
-use Rattle.ygrammar.specs.declared.tree.Definition.{Definition as CodeDefinition}
-use Rattle.ygrammar.specs.declared.tree.Definition.TheVariants as definitions
+use Rattle.ygrammar.specs.declared.syntax.kind.Sign.{Sign}
+use Rattle.ygrammar.specs.declared.syntax.kind.Sign.TheVariants.{Mark}
+use Rattle.ygrammar.specs.declared.syntax.recogniser.State.{State}
+use Rattle.ygrammar.specs.declared.syntax.recogniser.State.TheVariants.{Declarations, RulesMark}
+use Rattle.ygrammar.specs.declared.syntax.tree.Definition.{Definition as CodeDefinition}
+use Rattle.ygrammar.specs.declared.syntax.tree.Definition.TheVariants as definitions
 use Rattle.ygrammar.specs.Recogniser.{run}
 use Rattle.ygrammar.specs.Lexemes.{Lexeme, fixed}
 use Rattle.ygrammar.specs.Lexer.{kinds}

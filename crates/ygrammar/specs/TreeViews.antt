@@ -1,21 +1,21 @@
 -- The code's syntax trees as trees of the definitions: without places.
 use Rattle.std.specs.Prelude.{ℕ, List, map, Option, Some, None}
 use Rattle.std.specs.Borrow.{Bor}
-use Rattle.ygrammar.specs.declared.tree.Identifier.{Identifier as CodeIdentifier}
-use Rattle.ygrammar.specs.declared.tree.Identifier.TheVariants as identifiers
-use Rattle.ygrammar.specs.declared.tree.Occurrence.{Occurrence}
-use Rattle.ygrammar.specs.declared.tree.NameAt.{NameAt}
-use Rattle.ygrammar.specs.declared.tree.Digits.{Digits}
-use Rattle.ygrammar.specs.declared.tree.BracedText.{BracedText}
-use Rattle.ygrammar.specs.declared.tree.Word.{Word as CodeWord}
-use Rattle.ygrammar.specs.declared.tree.Word.TheVariants as words
-use Rattle.ygrammar.specs.declared.tree.Entry.{Entry as CodeEntry}
-use Rattle.ygrammar.specs.declared.tree.Definition.{Definition as CodeDefinition}
-use Rattle.ygrammar.specs.declared.tree.Definition.TheVariants as definitions
-use Rattle.ygrammar.specs.declared.tree.BodyPart.{BodyPart as CodeBodyPart}
-use Rattle.ygrammar.specs.declared.tree.BodyPart.TheVariants as items
-use Rattle.ygrammar.specs.declared.tree.RuleText.{RuleText as CodeRuleText}
-use Rattle.ygrammar.specs.declared.tree.Tree.{Tree as CodeTree}
+use Rattle.ygrammar.specs.declared.syntax.tree.Identifier.{Identifier as CodeIdentifier}
+use Rattle.ygrammar.specs.declared.syntax.tree.Identifier.TheVariants as identifiers
+use Rattle.ygrammar.specs.declared.syntax.tree.Occurrence.{Occurrence}
+use Rattle.ygrammar.specs.declared.syntax.tree.NameAt.{NameAt}
+use Rattle.ygrammar.specs.declared.syntax.tree.Digits.{Digits}
+use Rattle.ygrammar.specs.declared.syntax.tree.BracedText.{BracedText}
+use Rattle.ygrammar.specs.declared.syntax.tree.Word.{Word as CodeWord}
+use Rattle.ygrammar.specs.declared.syntax.tree.Word.TheVariants as words
+use Rattle.ygrammar.specs.declared.syntax.tree.Entry.{Entry as CodeEntry}
+use Rattle.ygrammar.specs.declared.syntax.tree.Definition.{Definition as CodeDefinition}
+use Rattle.ygrammar.specs.declared.syntax.tree.Definition.TheVariants as definitions
+use Rattle.ygrammar.specs.declared.syntax.tree.BodyPart.{BodyPart as CodeBodyPart}
+use Rattle.ygrammar.specs.declared.syntax.tree.BodyPart.TheVariants as items
+use Rattle.ygrammar.specs.declared.syntax.tree.RuleText.{RuleText as CodeRuleText}
+use Rattle.ygrammar.specs.declared.syntax.tree.Tree.{Tree as CodeTree}
 use Rattle.ygrammar.specs.Tree.{Identifier, named, quoted, Word, token, left, right, nonassoc}
 use Rattle.ygrammar.specs.Tree.{Entry, Definition, start, union, block, listing, types, BodyPart}
 use Rattle.ygrammar.specs.Tree.{symbol, action, RuleText, Tree}

@@ -3,14 +3,14 @@ use Rattle.std.specs.Prelude.{ℕ, ◌≡◌, not, ◌||◌, codes, if◌then◌
 use Rattle.std.specs.Prelude.{◌==◌, List, [], ◌∷◌, ◌++◌, drop, Option, Some, None, Result, Ok, Err}
 use Rattle.std.specs.Borrow.{Bor}
 use Rattle.std.specs.Str.{bytes_eq}
-use Rattle.ygrammar.specs.declared.kind.Sign.{Sign}
-use Rattle.ygrammar.specs.declared.kind.Sign.TheVariants as sign
-use Rattle.ygrammar.specs.declared.part.Part.{Part as CodePart}
-use Rattle.ygrammar.specs.declared.part.Part.TheVariants as parts
-use Rattle.ygrammar.specs.declared.part.Lexeme.{Lexeme as CodeLexeme}
-use Rattle.ygrammar.specs.declared.part.Lexeme.TheVariants as lexemes
-use Rattle.ygrammar.specs.declared.part.LexicalFault.{LexicalFault}
-use Rattle.ygrammar.specs.declared.part.LexicalFault.TheVariants as faults
+use Rattle.ygrammar.specs.declared.syntax.kind.Sign.{Sign}
+use Rattle.ygrammar.specs.declared.syntax.kind.Sign.TheVariants as sign
+use Rattle.ygrammar.specs.declared.lexer.part.Part.{Part as CodePart}
+use Rattle.ygrammar.specs.declared.lexer.part.Part.TheVariants as parts
+use Rattle.ygrammar.specs.declared.lexer.part.Lexeme.{Lexeme as CodeLexeme}
+use Rattle.ygrammar.specs.declared.lexer.part.Lexeme.TheVariants as lexemes
+use Rattle.ygrammar.specs.declared.lexer.part.LexicalFault.{LexicalFault}
+use Rattle.ygrammar.specs.declared.lexer.part.LexicalFault.TheVariants as faults
 use Rattle.ygrammar.specs.Bytes.{is_digit, is_blank, is_name_start, begins, IsComment, IsGap}
 use Rattle.ygrammar.specs.Lexemes.{Lexeme, name, c_identifier, literal, number, braced, code, fixed}
 use Rattle.ygrammar.specs.Lexer.{Part, blank, comment, lexeme, PartAt, Fault, unfinished}

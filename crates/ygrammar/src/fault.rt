@@ -6,8 +6,8 @@ ghost use Rattle.ygrammar.specs.Faults.{IsRefusal, line_of};
 ghost use Rattle.ygrammar.specs.GrammarOf.{mistake_at};
 ghost use Rattle.ygrammar.specs.declared.fault.GrammarFault.TheVariants.{Memory};
 
-use crate::mistake::{Mistake, Refused};
-use crate::part::LexicalFault;
+use crate::lexer::part::LexicalFault;
+use crate::meaning::mistake::{Mistake, Refused};
 use std::alloc::{AllocError, AllocFailed};
 use thiserror::Error;
 

@@ -8,9 +8,9 @@ ghost use Rattle.ygrammar.specs.Names.{find_in, printed_literal};
 ghost use Rattle.ygrammar.specs.TreeViews.{text_view};
 ghost use Rattle.ygrammar.specs.WellFormed.{IsWhole, WellFormed};
 
-use crate::names::{Printed, SymbolTable, number_in};
+use crate::meaning::names::{Printed, SymbolTable, number_in};
+use crate::meaning::texts::Texts;
 use crate::precedence::Precedence;
-use crate::texts::Texts;
 use std::marker::Model;
 
 /// The number of a symbol, below `Grammar::symbols`. The tokens come first: 0 is `$end`, 1 is

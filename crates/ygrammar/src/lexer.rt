@@ -8,11 +8,18 @@ ghost use Rattle.ygrammar.specs.Grammar.{longest_file};
 ghost use Rattle.ygrammar.specs.Lexemes.{Lexeme as LexemeOf};
 ghost use Rattle.ygrammar.specs.Tree.{HasOneTree};
 
+pub mod bytes;
+pub mod kept;
+pub mod literal;
+pub mod part;
+pub mod percent;
+pub mod reading;
+
 use crate::fault::GrammarFault;
+use crate::lexer::part::{Lexeme, Part};
+use crate::lexer::reading::part_at;
 use crate::limits::LONGEST_FILE;
-use crate::part::{Lexeme, Part};
-use crate::reading::part_at;
-use crate::recogniser::State;
+use crate::syntax::recogniser::State;
 use std::alloc::Global;
 
 /// A lexeme, and how many bytes stand before it.

@@ -6,13 +6,13 @@ ghost use Rattle.ygrammar.specs.Lexer.{Refusal};
 ghost use Rattle.ygrammar.specs.GrammarOf.{AnswersGrammar, AnswersMistake, AnswersRefusal};
 ghost use Rattle.ygrammar.specs.GrammarOf.{GivesGrammar, IsFaultOf, IsGrammarOf, IsMistaken};
 ghost use Rattle.ygrammar.specs.GrammarOf.{IsRefused};
-ghost use Rattle.ygrammar.specs.declared.mistake.Mistake.{Mistake};
+ghost use Rattle.ygrammar.specs.declared.meaning.mistake.Mistake.{Mistake};
 
-use crate::elaboration::elaborate;
 use crate::fault::GrammarFault;
 use crate::grammar::Grammar;
 use crate::lexer::read_syntax;
-use crate::tree_builder::build_tree;
+use crate::meaning::elaboration::elaborate;
+use crate::syntax::tree_builder::build_tree;
 use std::alloc::Global;
 
 /// The grammar of a grammar file, or the file's first fault (POSIX yacc, "Input Files" and

@@ -14,7 +14,7 @@ use Rattle.yparse.specs.Spelling.{has_blank_end, Spells}
 use Rattle.std.specs.Prelude.{◌||◌, ◌==◌, not}
 use Rattle.std.proofs.Common.{◌++◌, ap, ap₂, arith}
 use Rattle.std.proofs.lemmas.Bool.{eqb-true}
-use Rattle.ygrammar.specs.declared.literal.Stage.TheVariants.{Opened}
+use Rattle.ygrammar.specs.declared.lexer.literal.Stage.TheVariants.{Opened}
 use Rattle.ygrammar.specs.Stages.{Answer, found, stuck, short, scan}
 use Rattle.ygrammar.specs.Names.{printed_literal}
 use Rattle.ygrammar.proofs.Literals.{literal_of_scan, no_literal_of_scan}

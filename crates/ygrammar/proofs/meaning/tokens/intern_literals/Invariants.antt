@@ -1,0 +1,15 @@
+use Rattle.std.proofs.Common.{◌≡◌, map, drop}
+use Rattle.ygrammar.specs.NameTexts.{texts}
+use Rattle.ygrammar.specs.TreeViews.{occurrence_view}
+use Rattle.std.specs.Prelude.{filter}
+use Rattle.ygrammar.specs.Names.{with_names, printed_name}
+use Rattle.ygrammar.specs.Elaboration.{is_literal}
+use Rattle.ygrammar.proofs.meaning.tokens.intern_literals.Given as goal
+
+abbrev pub invariant-loop-occurrence : goal.invariant-loop-occurrence
+invariant-loop-occurrence l = with_names (texts l.names)
+    (map printed_name (filter is_literal (map occurrence_view (drop l.occurrence-index
+    l.occurrences))))
+    ≡
+    with_names (texts l.fn.names)
+    (map printed_name (filter is_literal (map occurrence_view l.occurrences)))

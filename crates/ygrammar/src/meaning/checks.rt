@@ -1,0 +1,134 @@
+//! Tests for mistakes, each over one list of the file. An answer is how many bytes stand before
+//! the first name at fault.
+
+ghost use Rattle.std.specs.Prelude.{◌≡◌, ◌||◌, ◌&&◌, None, Some, is_some, length, map, nat_le};
+ghost use Rattle.std.specs.Prelude.{nat_lt, not, IfSome};
+ghost use Rattle.std.specs.List.{find, last_or, list_any};
+ghost use Rattle.ygrammar.specs.NameTexts.{texts};
+ghost use Rattle.ygrammar.specs.Names.{is_among, number_in, printed_name};
+ghost use Rattle.ygrammar.specs.Numbered.{is_between, is_long};
+ghost use Rattle.ygrammar.specs.Outline.{start_view};
+ghost use Rattle.ygrammar.specs.TreeViews.{identifier_view, occurrence_view, name_view};
+ghost use Rattle.ygrammar.specs.TreeViews.{option_view};
+
+use crate::grammar::Rule;
+use crate::limits::LONGEST_BODY;
+use crate::meaning::names::{SymbolTable, is_among, is_named, number_of};
+use crate::meaning::outline::Started;
+use crate::syntax::tree::{Identifier, NameAt, Occurrence};
+
+/// The first of some names that is a token.
+pub fn first_token(names: &[NameAt], tokens: &SymbolTable) -> Option<usize>
+    ensures found { is_some result
+        ≡ list_any (is_among (texts tokens.now)) (map name_view names.now) }
+    ensures place { result
+        ≡ option_view (λ n. n.at) (find (λ n. is_among (texts tokens.now) (name_view n))
+        names.now) }
+{
+    for name in names {
+        if is_among(tokens, name.name) {
+            return Some(name.at);
+        }
+    }
+    None
+}
+
+/// The first of some names that is no symbol.
+pub fn first_unknown(names: &[NameAt], symbols: &SymbolTable) -> Option<usize>
+    ensures found { is_some result
+        ≡ list_any (λ n. not (is_among (texts symbols.now) n)) (map name_view names.now) }
+    ensures place { result
+        ≡ option_view (λ n. n.at) (find (λ n. not (is_among (texts symbols.now) (name_view n)))
+        names.now) }
+{
+    for name in names {
+        if !is_among(symbols, name.name) {
+            return Some(name.at);
+        }
+    }
+    None
+}
+
+/// The first of some names and literals that is no symbol.
+pub fn first_undefined(occurrences: &[Occurrence], symbols: &SymbolTable) -> Option<usize>
+    ensures found { is_some result
+        ≡ list_any (λ i. not (is_among (texts symbols.now) (printed_name i)))
+        (map occurrence_view occurrences.now) }
+    ensures place { result
+        ≡ option_view (λ m. m.at)
+        (find (λ m. not (is_among (texts symbols.now) (printed_name (occurrence_view m))))
+        occurrences.now) }
+{
+    for occurrence in occurrences {
+        if !is_named(symbols, occurrence.who) {
+            return Some(occurrence.at);
+        }
+    }
+    None
+}
+
+/// Whether a name or literal is a symbol, but none of the first `tokens`.
+fn is_nonterminal(who: Identifier, symbols: &SymbolTable, tokens: usize) -> bool
+    ensures { result
+        ≡ is_between tokens (length (texts symbols.now))
+        (number_in (texts symbols.now) (printed_name (identifier_view who.entry))) }
+{
+    let number = number_of(symbols, who);
+    tokens <= number && number < symbols.len()
+}
+
+/// The first of some names and literals that is a nonterminal.
+pub fn first_nonterminal(
+    occurrences: &[Occurrence],
+    symbols: &SymbolTable,
+    tokens: usize,
+) -> Option<usize>
+    ensures found { is_some result
+        ≡ list_any (λ i. is_between tokens (length (texts symbols.now))
+        (number_in (texts symbols.now) (printed_name i))) (map occurrence_view occurrences.now) }
+    ensures place { result
+        ≡ option_view (λ m. m.at)
+        (find (λ m. is_between tokens (length (texts symbols.now))
+        (number_in (texts symbols.now) (printed_name (occurrence_view m)))) occurrences.now) }
+{
+    for occurrence in occurrences {
+        if is_nonterminal(occurrence.who, symbols, tokens) {
+            return Some(occurrence.at);
+        }
+    }
+    None
+}
+
+/// The last `%start`, where one stands twice or names no nonterminal.
+pub fn bad_start(starts: &[Started], symbols: &SymbolTable, tokens: usize) -> Option<usize>
+    ensures found { is_some result
+        ≡ (nat_le 2 (length starts.now)
+        || list_any (λ i. not (is_between tokens (length (texts symbols.now))
+        (number_in (texts symbols.now) (printed_name i)))) (map start_view starts.now)) }
+    ensures place { IfSome result (λ at. option_view (λ s. s.at) (last_or None starts.now)
+        ≡ Some at) }
+{
+    match starts {
+        [] => None,
+        [one] => {
+            if is_nonterminal(one.who.who, symbols, tokens) {
+                None
+            } else {
+                Some(one.at)
+            }
+        }
+        [.., last] => Some(last.at),
+    }
+}
+
+/// Whether the body of a rule is longer than the limit.
+pub fn any_long(rules: &[Rule]) -> bool
+    ensures { result ≡ list_any is_long rules.now }
+{
+    for rule in rules {
+        if rule.body().len() > LONGEST_BODY {
+            return true;
+        }
+    }
+    false
+}

@@ -1,0 +1,173 @@
+//! Which symbols derive a list of tokens, by a worklist over the places where symbols stand.
+
+ghost use Rattle.std.specs.Prelude.{◌≡◌, ◌≤◌, ◌<◌, ◌↔◌, ℕ, length, slice_index, slice_index_or};
+ghost use Rattle.std.specs.Prelude.{EachIndex, false, IfOk, OnOk, vec_len};
+ghost use Rattle.ygrammar.specs.Forms.{Productive};
+ghost use Rattle.ygrammar.specs.Marking.{AreDots, AreIn, DotFits, Grows, IsMarked, IsSettled};
+ghost use Rattle.ygrammar.specs.Marking.{IsUnmarked, IsWorklist, OnlyProductive};
+ghost use Rattle.ygrammar.specs.Marking.{numbered_grammar, rule_at, unmarked_count};
+
+use crate::grammar::{Rule, Sym};
+use crate::meaning::occurrences::{body_at, left_at, occurrences};
+use crate::meaning::worklist::mark;
+use std::alloc::{AllocError, Global};
+
+/// Where the dot of a body comes to, past the marked symbols.
+fn advance(body: &[Sym], marks: &[bool], dot: usize) -> usize
+    requires body { EachIndex body.now (λ k. slice_index body.now k < length marks.now) }
+    requires dot { DotFits body.now marks.now dot }
+    ensures fits { DotFits body.now marks.now result }
+    ensures stuck { result < length body.now → IsUnmarked marks.now (slice_index body.now result) }
+{
+    for at in dot..body.len() {
+        if !marks[body[at]] {
+            return at;
+        }
+    }
+    body.len()
+}
+
+/// Moves the dot of a rule, and marks its left side once its body is marked.
+fn visit(
+    rules: &[Rule],
+    r: usize,
+    dots: &mut Vec<usize>,
+    marks: &mut Vec<bool>,
+    order: &mut Vec<Sym>,
+) -> Result<(), AllocError>
+    requires within { r < length rules.now }
+    requires in_range { AreIn (length marks.old.items) rules.now }
+    requires dots { AreDots rules.now dots.old.items marks.old.items }
+    ensures grows { OnOk result (Grows marks.old.items order.old.items marks.new.items
+        order.new.items) }
+    ensures dots { OnOk result (AreDots rules.now dots.new.items marks.new.items) }
+    ensures settled { OnOk result ((done : ℕ) →
+        IsSettled (rule_at rules.now r) marks.new.items order.new.items done) }
+    ensures sound { OnOk result ((tokens symbols : ℕ) →
+        OnlyProductive (numbered_grammar tokens symbols rules.now) marks.old.items →
+        OnlyProductive (numbered_grammar tokens symbols rules.now) marks.new.items) }
+{
+    let body = body_at(rules, r);
+    let dot = advance(body, marks, dots[r]);
+    dots[r] = dot;
+    if dot == body.len() {
+        mark(marks, order, left_at(rules, r))?;
+    }
+    Ok(())
+}
+
+/// Visits the rules listed.
+fn visit_listed(
+    rules: &[Rule],
+    listed: &[usize],
+    dots: &mut Vec<usize>,
+    marks: &mut Vec<bool>,
+    order: &mut Vec<Sym>,
+) -> Result<(), AllocError>
+    requires listed { EachIndex listed.now (λ k. slice_index listed.now k < length rules.now) }
+    requires in_range { AreIn (length marks.old.items) rules.now }
+    requires dots { AreDots rules.now dots.old.items marks.old.items }
+    ensures grows { OnOk result (Grows marks.old.items order.old.items marks.new.items
+        order.new.items) }
+    ensures dots { OnOk result (AreDots rules.now dots.new.items marks.new.items) }
+    ensures settled { OnOk result ((done : ℕ) → done ≤ length order.old.items →
+        EachIndex listed.now (λ k. IsSettled (rule_at rules.now (slice_index listed.now k))
+        marks.new.items order.new.items done)) }
+    ensures sound { OnOk result ((tokens symbols : ℕ) →
+        OnlyProductive (numbered_grammar tokens symbols rules.now) marks.old.items →
+        OnlyProductive (numbered_grammar tokens symbols rules.now) marks.new.items) }
+{
+    for r in listed {
+        visit(rules, *r, dots, marks, order)?;
+    }
+    Ok(())
+}
+
+/// Visits every rule once.
+fn visit_each(
+    rules: &[Rule],
+    dots: &mut Vec<usize>,
+    marks: &mut Vec<bool>,
+    order: &mut Vec<Sym>,
+) -> Result<(), AllocError>
+    requires in_range { AreIn (length marks.old.items) rules.now }
+    requires dots { AreDots rules.now dots.old.items marks.old.items }
+    ensures grows { OnOk result (Grows marks.old.items order.old.items marks.new.items
+        order.new.items) }
+    ensures dots { OnOk result (AreDots rules.now dots.new.items marks.new.items) }
+    ensures settled { OnOk result ((r : ℕ) → r < length rules.now →
+        IsSettled (rule_at rules.now r) marks.new.items order.new.items 0) }
+    ensures sound { OnOk result ((tokens symbols : ℕ) →
+        OnlyProductive (numbered_grammar tokens symbols rules.now) marks.old.items →
+        OnlyProductive (numbered_grammar tokens symbols rules.now) marks.new.items) }
+{
+    for r in 0..rules.len() {
+        visit(rules, r, dots, marks, order)?;
+    }
+    Ok(())
+}
+
+/// Takes the symbols in their order, and visits the rules in whose bodies they stand.
+fn drain(
+    alloc: Global,
+    rules: &[Rule],
+    dots: &mut Vec<usize>,
+    marks: &mut Vec<bool>,
+    order: &mut Vec<Sym>,
+) -> Result<(), AllocError>
+    requires in_range { AreIn (length marks.old.items) rules.now }
+    requires dots { AreDots rules.now dots.old.items marks.old.items }
+    requires list { IsWorklist marks.old.items order.old.items }
+    requires settled { (r : ℕ) → r < length rules.now →
+        IsSettled (rule_at rules.now r) marks.old.items order.old.items 0 }
+    ensures grows { OnOk result (Grows marks.old.items order.old.items marks.new.items
+        order.new.items) }
+    ensures settled { OnOk result ((r : ℕ) → r < length rules.now →
+        IsSettled (rule_at rules.now r) marks.new.items order.new.items (length order.new.items)) }
+    ensures sound { OnOk result ((tokens symbols : ℕ) →
+        OnlyProductive (numbered_grammar tokens symbols rules.now) marks.old.items →
+        OnlyProductive (numbered_grammar tokens symbols rules.now) marks.new.items) }
+{
+    let places = occurrences(alloc, rules, marks.len())?;
+    let mut done = 0;
+    while done < order.len() {
+        let s = order[done];
+        done += 1;
+        visit_listed(rules, &places[s], dots, marks, order)?;
+    }
+    Ok(())
+}
+
+/// Marks of the tokens alone.
+fn token_marks(alloc: Global, tokens: usize, symbols: usize) -> Result<Vec<bool>, AllocError>
+    requires { tokens ≤ symbols }
+    ensures sized { IfOk result (λ v. vec_len v ≡ symbols) }
+    ensures marked { IfOk result (λ v. (s : ℕ) → IsMarked v.items s ↔ s < tokens) }
+{
+    let mut marks = vec![in alloc; false; symbols]?;
+    for t in 0..tokens {
+        marks[t] = true;
+    }
+    Ok(marks)
+}
+
+/// For each symbol whether it derives a list of tokens, in time linear in the length of the rules.
+pub fn productive(
+    alloc: Global,
+    rules: &[Rule],
+    tokens: usize,
+    symbols: usize,
+) -> Result<Vec<bool>, AllocError>
+    requires within { tokens ≤ symbols }
+    requires in_range { AreIn symbols rules.now }
+    ensures sized { IfOk result (λ marks. vec_len marks ≡ symbols) }
+    ensures exact { IfOk result (λ marks. (s : ℕ) → s < symbols →
+        (IsMarked marks.items s ↔ Productive (numbered_grammar tokens symbols rules.now) s)) }
+{
+    let mut marks = token_marks(alloc, tokens, symbols)?;
+    let mut order = Vec::new(alloc);
+    let mut dots = vec![in alloc; 0; rules.len()]?;
+    visit_each(rules, &mut dots, &mut marks, &mut order)?;
+    drain(alloc, rules, &mut dots, &mut marks, &mut order)?;
+    Ok(marks)
+}
