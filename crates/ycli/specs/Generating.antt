@@ -54,13 +54,13 @@ WriteFails said (CannotWrite prefix ending) = prefix ≡ said.prefix
 WriteFails said NoMemory = Unit {0}
 WriteFails said _ = ⊥
 
--- why not all files were written for these words: there are no tables, or there are
+-- why not all files were written for these words: there are no tables, or a file of them failed
 abbrev pub FilesFail : YaccWords → Trouble → Type 0
 FilesFail said trouble =
     GrammarFails said.grammar trouble
     ⊎ ((source : List ℕ) × (t : Tables) × AreTablesOf source t × WriteFails said trouble)
 
--- not all files were written that the words ask for
+-- the words are taken, and this is why not all the files were written that they ask for
 abbrev pub Fails : List (List ℕ) → Trouble → Type 0
 Fails words trouble = (said : YaccWords) × Say words said × FilesFail said trouble
 

@@ -53,7 +53,7 @@ status (Tokens fault) = 1
 status Usage = 2
 status _ = 3
 
--- the same of a whole run, which ended in a trouble or not
+-- the message of a whole run, none where it did what was asked
 abbrev pub message_after : Program → Result (Unit {0}) Trouble → List ℕ
 message_after p (Ok done) = []
 message_after p (Err trouble) = message p trouble
@@ -63,7 +63,7 @@ abbrev pub status_after : {X : Type 0} → Result X Trouble → ℕ
 status_after (Ok done) = 0
 status_after (Err trouble) = status trouble
 
--- the trouble that a fault of each file is
+-- the trouble that a fault of a grammar file is
 abbrev pub of_grammar : GrammarFault → Trouble
 of_grammar grammars.Memory = NoMemory
 of_grammar fault = Grammar fault
@@ -106,7 +106,7 @@ abbrev pub AreMistaken : App → List (List ℕ) → Type 0
 AreMistaken app words =
     (kind : ErrorKind) × IsAmong kind (fault_of app words) × (kind ≢ kinds.DisplayHelp)
 
--- why words are refused: they are mistaken, or memory is wanted
+-- why words are refused: they are mistaken, or there is no memory
 abbrev pub WordsFail : App → List (List ℕ) → Trouble → Type 0
 WordsFail app words Usage = AreMistaken app words
 WordsFail app words NoMemory = Unit {0}

@@ -25,6 +25,7 @@ impl Model for LineBuffer {
 }
 
 impl LineBuffer {
+    /// No bytes.
     pub(crate) fn new() -> Self
         ensures { result ≡ [] }
     {
@@ -34,12 +35,14 @@ impl LineBuffer {
         }
     }
 
+    /// The bytes.
     pub(crate) fn as_slice(&self) -> &[u8]
         ensures { result.now ≡ self.now }
     {
         &self.bytes[..self.len]
     }
 
+    /// One byte more, where there is room.
     pub(crate) fn push(&mut self, byte: u8)
         ensures { self.new ≡ take line_room (self.old ++ byte ∷ []) }
     {
@@ -49,6 +52,7 @@ impl LineBuffer {
         }
     }
 
+    /// Takes all bytes out.
     pub(crate) fn clear(&mut self)
         ensures { self.new ≡ [] }
     {

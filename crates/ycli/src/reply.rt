@@ -1,16 +1,15 @@
 //! The replies to commands.
 
-ghost use Rattle.std.specs.Prelude.{◌≡◌, true, false, if◌then◌else◌, List, ℕ, length, is_some};
-ghost use Rattle.std.specs.Prelude.{Some, decimal, map, drop, ◌∷◌, ◌++◌, codes};
+ghost use Rattle.std.specs.Prelude.{◌≡◌, true, false, if◌then◌else◌, is_some};
+ghost use Rattle.std.specs.Prelude.{Some, drop, ◌∷◌, ◌++◌, codes};
 ghost use Rattle.ycli.specs.Command as commands;
 ghost use Rattle.ytables.specs.Link.{has_failed};
 ghost use Rattle.ytables.specs.Sends.{Sends};
 ghost use Rattle.yparse.specs.Past.{position};
 ghost use Rattle.yparse.specs.Session.{machine_of, history_of};
-ghost use Rattle.yparse.specs.View.{configuration_by};
 ghost use Rattle.ycli.specs.Reply.{step_line, refusal, kind_word, kind_tail};
 ghost use Rattle.ycli.specs.Reply.{mode_word, configuration_text};
-ghost use Rattle.ycli.specs.Reply.{spaced_names, shown_head, shown_stack, shown_rest, shown_counts};
+ghost use Rattle.ycli.specs.Reply.{shown_head, shown_stack, shown_rest, shown_counts};
 ghost use Rattle.ycli.specs.Command.{command_view};
 ghost use Rattle.ycli.specs.Reply.{Answers, edit_text};
 

@@ -32,11 +32,11 @@ pub lost : (ks : List Kind) → state_after None ks ≡ None
 lost [] = refl
 lost (k ∷ ks) = refl
 
-pub reached_append : (o : Option State) (x y : List Kind) → state_after o (x ++ y) ≡ state_after
+pub state_after_append : (o : Option State) (x y : List Kind) → state_after o (x ++ y) ≡ state_after
     (state_after o x) y
-reached_append o [] y = refl
-reached_append None (k ∷ x) y = sym (lost y)
-reached_append (Some q) (k ∷ x) y = reached_append (next_state q k) x y
+state_after_append o [] y = refl
+state_after_append None (k ∷ x) y = sym (lost y)
+state_after_append (Some q) (k ∷ x) y = state_after_append (next_state q k) x y
 
 -- the kinds lead from the first state to the second
 record Leads (q : State) (ks : List Kind) (r : State) : Type 0 where
@@ -44,7 +44,7 @@ record Leads (q : State) (ks : List Kind) (r : State) : Type 0 where
 
 then : {q r s : State} {x y : List Kind} → Leads q x r → Leads r y s → Leads q (x ++ y) s
 then {q} {r} {s} {x} {y} a b = record {
-  is = reached_append (Some q) x y ∙ ap (λ o. state_after o y)
+  is = state_after_append (Some q) x y ∙ ap (λ o. state_after o y)
       a.is ∙ b.is;
 }
 

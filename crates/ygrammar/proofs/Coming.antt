@@ -34,7 +34,7 @@ use Rattle.ygrammar.specs.Lexer.{syntax, FaultAt, refusal, IsLine, ended, marked
 use Rattle.ygrammar.specs.Lexer.{early, Outcome, Refusal, Stops}
 use Rattle.ygrammar.specs.Views.{lexeme_view, fault_view}
 use Rattle.ygrammar.specs.Answers.{views, fault_at, Fails, Comes, StandIn, StandsIn}
-use Rattle.ygrammar.proofs.Accepted.{reached_append, recognised}
+use Rattle.ygrammar.proofs.Accepted.{state_after_append, recognised}
 use Rattle.ygrammar.proofs.Shapes.{derived}
 use Rattle.ygrammar.proofs.Viable.{viable, not_viable}
 use Rattle.ygrammar.proofs.Outcomes.{lexemes_append, marks_append, kinds_append, cut_before}
@@ -203,11 +203,11 @@ views_push : (ls : List Placed) (p : Placed) → views (ls ++ p ∷ []) ≡ view
     p.lexeme ∷ []
 views_push ls p = map_push (λ (x : Placed). lexeme_view x.lexeme) ls p
 
-reached_push : (ls : List Lexeme) (l : Lexeme) (q : State) (o : Option State) →
+state_after_push : (ls : List Lexeme) (l : Lexeme) (q : State) (o : Option State) →
     state_after (Some Declarations) (kinds ls) ≡ Some q → next_state q (kind_of l) ≡ o →
     state_after (Some Declarations) (kinds (ls ++ l ∷ [])) ≡ o
-reached_push ls l q o e h =
-    ap (state_after (Some Declarations)) (kinds_append ls (l ∷ [])) ∙ reached_append (Some
+state_after_push ls l q o e h =
+    ap (state_after (Some Declarations)) (kinds_append ls (l ∷ [])) ∙ state_after_append (Some
     Declarations)
     (kinds ls) (kind_of l ∷ []) ∙ ap (λ z. state_after z (kind_of l ∷ [])) e ∙ h
 
@@ -243,7 +243,7 @@ goes_lexeme bytes rest m ls new q r p c h a e n f =
     let l = lexeme_view p.lexeme in
     let v : views new ≡ views ls ++ l ∷ [] = ap views f ∙ views_push ls p in
     let s : state_after (Some Declarations) (kinds (views new)) ≡ Some r =
-    ap (λ z. state_after (Some Declarations) (kinds z)) v ∙ reached_push (views ls) l q
+    ap (λ z. state_after (Some Declarations) (kinds z)) v ∙ state_after_push (views ls) l q
     (Some r) c.state_is e in
     let k = reads_marks (views new) Declarations r s in
     let w = few r n in
@@ -308,7 +308,7 @@ pub stops_stray : (bytes rest m : List ℕ) (ls : List Placed) (q : State) (l : 
     IsLine bytes rest line → Outcome bytes (Err (refusal syntax line))
 stops_stray bytes rest m ls q l line c h e i = outcome bytes rest ls q line _ c i
     (stray h (not_viable (kinds (views ls ++ l ∷ []))
-    (reached_push (views ls) l q None c.state_is e)))
+    (state_after_push (views ls) l q None c.state_is e)))
 
 pub stops_marked : (bytes rest m : List ℕ) (ls new : List Placed) (q r : State) (p : Placed) →
     Comes bytes ls rest q → PartAt rest (lexeme (lexeme_view p.lexeme)) m
@@ -326,7 +326,7 @@ stops_marked bytes rest m ls new q r p c h e n f =
     let v : views new ≡ views ls ++ fixed sign.Mark ∷ [] = ap views f ∙ views_push ls p ∙ ap
     (λ z. views ls ++ z ∷ []) mark in
     let s : state_after (Some Declarations) (kinds (views ls ++ fixed sign.Mark ∷ [])) ≡ Some r =
-    reached_push (views ls) (fixed sign.Mark) q (Some r) c.state_is
+    state_after_push (views ls) (fixed sign.Mark) q (Some r) c.state_is
     (ap (λ z. next_state q (kind_of z)) (sym mark) ∙ e) in
     let (line, i) = line_here bytes rest ls q c in
     subst (λ z. Outcome bytes (Ok z)) (sym v) (outcome bytes rest ls q line _ c i

@@ -197,7 +197,7 @@ clash_held Several own m e (j, k, d, p, q) = go (order_of j k) d
     go (inl (inr l)) d = (k, j, m, l, q, p)
     go (inr e) d = absurd (d e)
 
--- no two tokens have one number, where several hold none
+-- where no number has several holders, no two tokens have one number
 pub none_clash : (count : ℕ) (own : List (Option ℕ)) (table : List Holders) →
     AreHolders count own table → ((m : ℕ) → get_or table m Nobody ≡ Several → ⊥) → Clashes own → ⊥
 none_clash count own table s none (i, j, m, l, p, q) =

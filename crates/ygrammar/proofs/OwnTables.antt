@@ -17,7 +17,8 @@ use Rattle.ygrammar.specs.Elaboration.{tokens}
 use Rattle.ygrammar.specs.Elaboration.{usual_of}
 use Rattle.ygrammar.specs.Mistakes.{Holds}
 use Rattle.ygrammar.specs.Names.{Name, is_among, number_in, printed_name}
-use Rattle.ygrammar.specs.Numbers.{AreSmall, Clashes}
+use Rattle.ygrammar.specs.Grammar.{number_bound}
+use Rattle.ygrammar.specs.Numbers.{Clashes, IsOwn}
 use Rattle.ygrammar.specs.Owned.{AllFit, AllSmall, IsFit, OwnSoFar, Precedes, TellsNumbers, keep}
 use Rattle.ygrammar.specs.Told.{IsTold, SaidTwice, IsTwicePrecedence, TellsPrecedences}
 use Rattle.ygrammar.specs.Tree.{Identifier, Tree}
@@ -114,7 +115,8 @@ own_list t table s = by_numbers (own_number t) (tokens t) table None (distinct_t
 pub fit_small : (table : List (Option ℕ)) → AllFit table → AllSmall table
 fit_small table h k m e = let p = h k m e in let q = p.1 in omega arith
 
-pub are_small : (table : List (Option ℕ)) → AllSmall table → AreSmall table
+pub are_small : (table : List (Option ℕ)) → AllSmall table →
+    (m : ℕ) → IsOwn table m → m < number_bound
 are_small table h m p = h p.0 m (get_or_from_slice_get table p.0 (Some m) None p.1)
 
 -- no number given is out of range, no token is given two, and no two tokens have one

@@ -1,13 +1,14 @@
 -- Marks that a worklist leaves, and the symbols that derive a list of tokens.
 use Rattle.std.proofs.Common.{ℕ, zero, suc, Bool, ◌≡◌, ◌<◌, ◌≤◌, ◌⊎◌, List, [], ◌∷◌, ◌++◌}
 use Rattle.std.proofs.Common.{length, get_or, slice_index, sym, subst}
-use Rattle.std.proofs.Common.{append-nil, inl, inr, arith}
-use Rattle.std.specs.List.{AllByRecursion}
+use Rattle.std.proofs.Common.{append-nil, inl, inr, arith, refl, ◌↔◌}
+use Rattle.std.specs.List.{All, AllByRecursion}
 use Rattle.std.proofs.lemmas.List.Elements.{recursion_from_All, All-weaker, All-from_get_or}
+use Rattle.std.proofs.lemmas.List.Elements.{All-head, All-nil}
 use Rattle.std.proofs.lemmas.List.{length-map}
 use Rattle.ygrammar.specs.Grammar.{ContextFree, left_of, body_of, IsToken}
 use Rattle.ygrammar.specs.Derivation.{Derives, done, step}
-use Rattle.ygrammar.specs.Forms.{IsRule, Productive}
+use Rattle.ygrammar.specs.Forms.{IsRule, MarksNullable, Nullable, Productive}
 use Rattle.ygrammar.specs.Grammar.{RuleValue}
 use Rattle.ygrammar.specs.Marking.{IsMarked, IsSettled, OnlyProductive}
 use Rattle.ygrammar.specs.Marking.{numbered_grammar, rule_at}
@@ -91,3 +92,65 @@ all_marked tokens symbols rules m o n z c t s p =
     (covers {g = g} m (λ r h e. closed_end (rule_at rules r).body ((rule_at rules r).left ∷ []) m o
     n z (c r (subst (λ (n : ℕ). r < n) (length-map rules production_of) h))
     (λ k l. every_at (IsMarked m) (rule_at rules r).body k l e) 0 (omega arith)) p.derives w).0
+
+-- ---- without tokens, what derives a list of tokens derives the empty form
+
+-- the same rules make the same derivations
+same_rules : {g h : ContextFree} {x y : List ℕ} →
+    ((s : ℕ) (b : List ℕ) → IsRule g s b → IsRule h s b) →
+    Derives (IsRule g) x y → Derives (IsRule h) x y
+same_rules f done = done
+same_rules f (step s d) = step (record {
+  before = s.before;
+  symbol = s.symbol;
+  body = s.body;
+  after = s.after;
+  rule = f s.symbol s.body s.rule;
+  from = s.from;
+  to = s.to;
+}) (same_rules f d)
+
+tokenless : (symbols : ℕ) (rules : List RuleValue) (w : List ℕ) →
+    All (IsToken (numbered_grammar 0 symbols rules)) w → w ≡ []
+tokenless symbols rules [] a = refl
+tokenless symbols rules (t ∷ w) a =
+    let h = All-head (IsToken (numbered_grammar 0 symbols rules)) t w a in
+    absurd (omega (arith, h))
+
+pub nullable_productive : (tokens symbols : ℕ) (rules : List RuleValue) (s : ℕ) →
+    Productive (numbered_grammar 0 symbols rules) s
+    ↔ Nullable (numbered_grammar tokens symbols rules) (s ∷ [])
+nullable_productive tokens symbols rules s =
+    let g = numbered_grammar 0 symbols rules in
+    let h = numbered_grammar tokens symbols rules in (
+      λ p. same_rules {g = g} {h = h} (λ _ _ r. record {
+        number = r.number;
+        within = r.within;
+        left = r.left;
+        body = r.body;
+      }) (subst (Derives (IsRule g) (s ∷ [])) (tokenless symbols rules p.word p.tokens) p.derives),
+      λ d. record {
+        word = [];
+        tokens = All-nil (IsToken g);
+        derives = same_rules {g = h} {h = g} (λ _ _ r. record {
+          number = r.number;
+          within = r.within;
+          left = r.left;
+          body = r.body;
+        }) d;
+      },
+    )
+
+pub marks_nullable : (tokens symbols n : ℕ) (rules rs : List RuleValue) (m : List Bool) →
+    n ≡ symbols → rs ≡ rules → length m ≡ n →
+    ((s : ℕ) → s < n → IsMarked m s ↔ Productive (numbered_grammar 0 n rs) s) →
+    MarksNullable (numbered_grammar tokens symbols rules) m
+marks_nullable tokens symbols n rules rs m e f sized exact =
+    subst (λ (x : ℕ). MarksNullable (numbered_grammar tokens x rules) m) e
+    (subst (λ (x : List RuleValue). MarksNullable (numbered_grammar tokens n x) m) f (record {
+      each = sized;
+      exact = λ s l.
+          let a = exact s l in
+          let b = nullable_productive tokens n rs s in
+          (λ h. b.0 (a.0 h), λ h. a.1 (b.1 h));
+    }))

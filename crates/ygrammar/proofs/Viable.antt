@@ -18,7 +18,7 @@ use Rattle.ygrammar.specs.declared.syntax.recogniser.State.TheVariants.{Semicolo
 use Rattle.ygrammar.specs.declared.syntax.recogniser.State.TheVariants.{End}
 use Rattle.ygrammar.specs.Syntax.{BeginsSpec}
 use Rattle.ygrammar.specs.Recogniser.{state_after, is_final_at, run}
-use Rattle.ygrammar.proofs.Accepted.{lost, reached_append, recognised}
+use Rattle.ygrammar.proofs.Accepted.{lost, state_after_append, recognised}
 use Rattle.ygrammar.proofs.Shapes.{derived}
 
 -- kinds that lead from a state to the end of a file
@@ -73,7 +73,7 @@ pub viable : (ks : List Kind) (q : State) → state_after (Some Declarations) ks
 viable ks q e = (
   completion q,
   derived (ks ++ completion q)
-      (ap is_final_at (reached_append (Some Declarations) ks (completion q) ∙ ap
+      (ap is_final_at (state_after_append (Some Declarations) ks (completion q) ∙ ap
       (λ o. state_after o (completion q)) e) ∙ completed q),
 )
 
@@ -83,5 +83,5 @@ not_viable ks e (more, d) =
     recognised (ks ++ more) d in
     let nowhere : is_final_at (state_after (Some Declarations) (ks ++ more)) ≡ false = ap
     is_final_at
-    (reached_append (Some Declarations) ks more ∙ ap (λ o. state_after o more) e ∙ lost more) in
+    (state_after_append (Some Declarations) ks more ∙ ap (λ o. state_after o more) e ∙ lost more) in
     cc

@@ -3,9 +3,11 @@
 use Rattle.std.specs.Prelude.{ℕ, ◌≡◌, Bool, true, false, ◌&&◌, ◌||◌, ◌==◌, nat_le, List, [], ◌∷◌}
 use Rattle.std.specs.Prelude.{◌++◌}
 
+-- space, tab, newline, carriage return, form feed
 abbrev pub is_blank : ℕ → Bool
 is_blank b = b == 32 || b == 9 || b == 10 || b == 13 || b == 12
 
+-- a decimal digit
 abbrev pub is_digit : ℕ → Bool
 is_digit b = nat_le 48 b && nat_le b 57
 
@@ -14,6 +16,7 @@ abbrev pub is_name_start : ℕ → Bool
 is_name_start b = (nat_le 65 b && nat_le b 90) || (nat_le 97 b && nat_le b 122) || b == 46
     || b == 95
 
+-- a byte that a name can have behind its first
 abbrev pub is_name_byte : ℕ → Bool
 is_name_byte b = is_name_start b || is_digit b
 

@@ -61,6 +61,7 @@ listings_from n (types tag ns ∷ ds) = listings_from n ds
 abbrev pub listings : Tree → List Listing
 listings t = listings_from 0 t.definitions
 
+-- the name that a `%start` names
 abbrev pub starts_of : Definition → List Identifier
 starts_of (start i) = i ∷ []
 starts_of (union t) = []
@@ -72,6 +73,7 @@ starts_of (types tag ns) = []
 abbrev pub starts : Tree → List Identifier
 starts t = flat_map starts_of t.definitions
 
+-- the names that a `%type` lists
 abbrev pub type_names : Definition → List Name
 type_names (types tag ns) = ns
 type_names (start i) = []
@@ -83,6 +85,7 @@ type_names (listing w tag es) = []
 abbrev pub types_of : Tree → List Name
 types_of t = flat_map type_names t.definitions
 
+-- the left side of a rule, where it has one
 abbrev pub left_of_rule : RuleText → List Name
 left_of_rule c = option_list c.left
 

@@ -1,6 +1,7 @@
 -- Derivations by the rules of a grammar (Aho, Sethi, Ullman, section 4.2). A form is a list of
 -- symbols.
-use Rattle.std.specs.Prelude.{ℕ, ◌≡◌, ◌<◌, List, [], ◌∷◌, length, Contains, refl}
+use Rattle.std.specs.Prelude.{ℕ, ◌≡◌, ◌<◌, ◌↔◌, Bool, true, false, List, [], ◌∷◌, length, Contains}
+use Rattle.std.specs.Prelude.{refl, slice_index_or}
 use Rattle.std.specs.List.{All}
 use Rattle.ygrammar.specs.Derivation.{Replaces, Derives, done, step}
 use Rattle.ygrammar.specs.Grammar.{ContextFree, left_of, body_of, IsToken}
@@ -15,6 +16,12 @@ pub record IsRule (g : ContextFree) (s : ℕ) (b : List ℕ) : Type 0 where
 -- The form x derives the empty form.
 abbrev pub Nullable : ContextFree → List ℕ → Type 0
 Nullable g x = Derives (IsRule g) x []
+
+-- The marks are those of the symbols that derive the empty form.
+pub record MarksNullable (g : ContextFree) (marks : List Bool) : Type 0 where
+  pub each : length marks ≡ g.symbols
+  pub exact : (s : ℕ) → s < g.symbols →
+      (slice_index_or marks s false ≡ true) ↔ Nullable g (s ∷ [])
 
 -- The form x derives a form that begins with the token t.
 pub record First (g : ContextFree) (x : List ℕ) (t : ℕ) : Type 0 where

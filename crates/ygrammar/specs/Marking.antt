@@ -70,13 +70,13 @@ pub record AreDots (rules : List RuleValue) (dots : List ℕ) (m : List Bool) : 
   pub sized : length dots ≡ length rules
   pub fits : (r : ℕ) → r < length rules → DotFits (rule_at rules r).body m (slice_index dots r)
 
--- the symbols of a rule's left side: it alone
-abbrev pub left_symbols : Production → List ℕ
-left_symbols p = p.left ∷ []
+-- the left side of a rule, as a list of one symbol
+abbrev pub left_side : Production → List ℕ
+left_side p = p.left ∷ []
 
--- those of its body
-abbrev pub body_symbols : Production → List ℕ
-body_symbols p = p.body
+-- the right side of a rule: its body
+abbrev pub right_side : Production → List ℕ
+right_side p = p.body
 
 -- a premise is not marked, or is still to be taken, or all conclusions are marked
 pub data IsClosed (premises conclusions : List ℕ) (m : List Bool) (order : List ℕ) (done : ℕ) :
@@ -88,13 +88,13 @@ pub data IsClosed (premises conclusions : List ℕ) (m : List Bool) (order : Lis
   marked : EachIndex conclusions (λ k. IsMarked m (slice_index conclusions k)) →
       IsClosed premises conclusions m order done
 
--- marks of a rule's body lead to one of its left side
+-- once the body of a rule is marked and taken, its left side is marked
 abbrev pub IsSettled : Production → List Bool → List ℕ → ℕ → Type 0
-IsSettled p = IsClosed (body_symbols p) (left_symbols p)
+IsSettled p = IsClosed (right_side p) (left_side p)
 
--- that of its left side leads to those of its body
+-- once the left side of a rule is marked and taken, its body is marked
 abbrev pub IsSpread : Production → List Bool → List ℕ → ℕ → Type 0
-IsSpread p = IsClosed (left_symbols p) (body_symbols p)
+IsSpread p = IsClosed (left_side p) (right_side p)
 
 -- only symbols that derive a list of tokens are marked
 abbrev pub OnlyProductive : ContextFree → List Bool → Type 0
@@ -122,7 +122,7 @@ pub record IsFiled (s r : ℕ) (lists lists2 : List (List ℕ)) : Type 0 where
   pub only : (t q : ℕ) → Contains (list_at lists2 t) q →
       Contains (list_at lists t) q ⊎ ((t ≡ s) × (q ≡ r))
 
--- r was added to the list of each symbol of the part
+-- r was added to the list of each of these symbols
 pub record IsFiledEach (part : List ℕ) (r : ℕ) (lists lists2 : List (List ℕ)) : Type 0 where
   pub sized : length lists2 ≡ length lists
   pub here : EachIndex part (λ k. Contains (list_at lists2 (slice_index part k)) r)
@@ -130,7 +130,7 @@ pub record IsFiledEach (part : List ℕ) (r : ℕ) (lists lists2 : List (List �
   pub only : (t q : ℕ) → Contains (list_at lists2 t) q →
       Contains (list_at lists t) q ⊎ (Contains part t × (q ≡ r))
 
--- for each symbol the rules, in front of the bound, in whose part it stands
+-- for each symbol the rules in front of the bound that have it in this part
 pub record AreListed (part : Production → List ℕ) (rules : List RuleValue) (bound symbols : ℕ)
     (lists : List (List ℕ)) : Type 0 where
   pub sized : length lists ≡ symbols
@@ -139,10 +139,10 @@ pub record AreListed (part : Production → List ℕ) (rules : List RuleValue) (
   pub each : (r k : ℕ) → r < bound → k < length (part (rule_at rules r)) →
       Contains (list_at lists (slice_index (part (rule_at rules r)) k)) r
 
--- those in whose body
+-- for each symbol the rules in whose body it stands
 abbrev pub AreOccurrences : List RuleValue → ℕ → ℕ → List (List ℕ) → Type 0
-AreOccurrences = AreListed body_symbols
+AreOccurrences = AreListed right_side
 
--- those of which it is the left side
+-- for each symbol the rules of which it is the left side
 abbrev pub AreByLeft : List RuleValue → ℕ → ℕ → List (List ℕ) → Type 0
-AreByLeft = AreListed left_symbols
+AreByLeft = AreListed left_side

@@ -15,6 +15,7 @@ printed_literal v =
     if nat_le 32 v && nat_le v 126 && not (v == 39) && not (v == 92) then 39 ∷ v ∷ 39 ∷ []
     else 39 ∷ 92 ∷ (48 + v / 64) ∷ (48 + v / 8 % 8) ∷ (48 + v % 8) ∷ 39 ∷ []
 
+-- a name as it stands, a literal by its value
 abbrev pub printed_name : Identifier → Name
 printed_name (named n) = n
 printed_name (quoted v) = printed_literal v

@@ -3,7 +3,6 @@ use Rattle.std.specs.Prelude.{ℕ, ◌≡◌, ◌≢◌, ◌<◌, ◌≤◌, ◌
 use Rattle.std.specs.Prelude.{Some, None, slice_get, slice_index_or, if◌then◌else◌, ◌==◌}
 use Rattle.ygrammar.specs.declared.meaning.holders.Holders.{Holders}
 use Rattle.ygrammar.specs.declared.meaning.holders.Holders.TheVariants.{Nobody, One, Several}
-use Rattle.ygrammar.specs.Grammar.{number_bound}
 
 -- a number that some token has by itself
 abbrev pub IsOwn : List (Option ℕ) → ℕ → Type 0
@@ -24,10 +23,6 @@ pub record AreNumbers (own : List (Option ℕ)) (ns : List ℕ) : Type 0 where
   pub given : (i m : ℕ) → slice_get own i ≡ Some None → slice_get ns i ≡ Some m →
       IsLeast own ns i m
 
--- own numbers are below 32,768
-abbrev pub AreSmall : List (Option ℕ) → Type 0
-AreSmall own = (m : ℕ) → IsOwn own m → m < number_bound
-
 -- two tokens have one number by themselves
 abbrev pub Clashes : List (Option ℕ) → Type 0
 Clashes own = (i : ℕ) × (j : ℕ) × (m : ℕ) × (i < j) × (slice_get own i ≡ Some (Some m))
@@ -39,19 +34,19 @@ is_held Nobody = false
 is_held (One k) = true
 is_held Several = true
 
--- the holders of a number, and one more
+-- the holders of a number, this token among them
 abbrev pub with_holder : Holders → ℕ → Holders
 with_holder Nobody k = One k
 with_holder (One j) k = if j == k then One j else Several
 with_holder Several k = Several
 
--- the tokens that hold a number: none, only this one, or two others
+-- which tokens hold a number: none, only this one, or two different ones at least
 abbrev pub IsHolders : Holders → (ℕ → Type 0) → Type 0
 IsHolders Nobody holds = (k : ℕ) → holds k → ⊥
 IsHolders (One k) holds = holds k × ((j : ℕ) → holds j → j ≡ k)
 IsHolders Several holds = (j : ℕ) × (k : ℕ) × (j ≢ k) × holds j × holds k
 
--- Of each number below count the tokens that have it by themselves.
+-- Of each number below `count` the tokens that have it by themselves.
 pub record AreHolders (count : ℕ) (own : List (Option ℕ)) (table : List Holders) : Type 0 where
   pub each : length table ≡ count
   pub exact : (m : ℕ) →

@@ -31,8 +31,8 @@ GivesUnfit ls = (n : Name) × (m : ℕ) × Contains (said_of digits_number ls n)
 abbrev pub AllFit : List (Option ℕ) → Type 0
 AllFit table = (k m : ℕ) → slice_index_or table k None ≡ Some m → IsFit m
 
--- the table has the numbers that the listings before these give to the tokens; or a listing is at
--- fault: a number is out of range, or a second one for its token
+-- the table has what the listings before the rest give to the tokens, each number in range; or a
+-- listing is at fault: its number is out of range, or a second one for its token
 abbrev pub TellsNumbers : List Name → List Listing → List Listing → List (Option ℕ) → Option ℕ →
     Type 0
 TellsNumbers ns rest whole table None = SoFar digits_number ns table rest whole × AllFit table
@@ -49,10 +49,10 @@ pub record OwnSoFar (ns : List Name) (table : List (Option ℕ))
   pub said : (n : Name) → number_in ns n < length ns →
       keep (slice_index_or table (number_in ns n) None) (left n) ≡ own n
 
--- the table, with a number for a token that has none
+-- the table, with a number for a token unless it has one
 abbrev pub with_number : List (Option ℕ) → ℕ → ℕ → List (Option ℕ)
-with_number table k v = cond (nat_lt k (length table) && not (is_some (slice_index_or table k
-    None)))
+with_number table k v =
+    cond (nat_lt k (length table) && not (is_some (slice_index_or table k None)))
     (slice_set table k (Some v)) table
 
 -- the mistake is this one, and it holds; or memory was refused
@@ -65,7 +65,7 @@ abbrev pub Clears : {A : Type 0} → Tree → Mistake → Result A Refused → T
 Clears t m (Ok v) = Holds t m → ⊥
 Clears t m (Err e) = Refuses t m e
 
--- The numbers that the tokens have by themselves, with the token that holds each number.
+-- The numbers that the tokens have by themselves, with the tokens that hold each number.
 pub record IsOwnTable (t : Tree) (o : OwnTable) : Type 0 where
   pub numbers : o.numbers.items ≡ own_numbers t
   pub holders : AreHolders number_bound (own_numbers t) o.holders.items

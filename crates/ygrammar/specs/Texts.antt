@@ -32,15 +32,15 @@ pub record RuleTextStands (source : List ℕ) (c : CodeRuleText) : Type 0 where
   pub body : AllByRecursion (BodyPartStands source) c.body.items
   pub last : IfSome c.last (λ b. StandsAt source b)
 
--- the text of a rule, where it has one
+-- the kept text of a rule's action, where it has one
 abbrev pub kept_text : Rule → Option (List ℕ)
 kept_text r = r.text
 
--- the text of the rule of an inner action
+-- the kept text of an inner action, as that of its rule
 abbrev pub body_part_texts : BodyPart → List (Option (List ℕ))
 body_part_texts (symbol i) = []
 body_part_texts (action t) = Some t ∷ []
 
--- the texts of the rules that a rule of the file makes, inner ones first
+-- the kept texts of the rules that a rule of the file makes, inner ones first
 abbrev pub texts_of_rule : RuleText → List (Option (List ℕ))
 texts_of_rule c = let f = final_of c.last c.body in flat_map body_part_texts f.0 ++ f.1 ∷ []

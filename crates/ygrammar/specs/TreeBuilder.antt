@@ -46,7 +46,7 @@ TakesTag None before after = ((n : List ℕ) (rest : List Lexeme) → before ≡
     × (before ≡ after)
 TakesTag (Some n) before after = before ≡ tag_yield n ++ after
 
--- A declaration, with the lexemes before and behind it.
+-- A declaration was taken off the lexemes before, and those behind go on.
 pub record IsDeclared (before : List Lexeme) (d : CodeDefinition) (after : List Placed) :
     Type 0 where
   pub whole : before ≡ definition_yield (definition_view d) ++ views after
@@ -57,15 +57,15 @@ pub record IsDeclared (before : List Lexeme) (d : CodeDefinition) (after : List 
 abbrev pub IsRead : Sign → CodeDefinition → List Placed → List Placed → Type 0
 IsRead word d before after = IsDeclared (fixed word ∷ views before) d after
 
--- the same, where it may not be missing
-abbrev pub Reads : Sign → Option CodeDefinition → List Placed → List Placed → Type 0
-Reads word None before after = ⊥
-Reads word (Some d) before after = IsRead word d before after
+-- the same of an answer that is never none
+abbrev pub ReadsDeclaration : Sign → Option CodeDefinition → List Placed → List Placed → Type 0
+ReadsDeclaration word None before after = ⊥
+ReadsDeclaration word (Some d) before after = IsRead word d before after
 
 -- a declaration was read, or the mark behind the last
-abbrev pub ReadsMark : Option CodeDefinition → List Lexeme → List Placed → Type 0
-ReadsMark None before after = (before ≡ fixed Mark ∷ views after) × GoesOn RulesMark after
-ReadsMark (Some d) before after = IsDeclared before d after
+abbrev pub ReadsOrMark : Option CodeDefinition → List Lexeme → List Placed → Type 0
+ReadsOrMark None before after = (before ≡ fixed Mark ∷ views after) × GoesOn RulesMark after
+ReadsOrMark (Some d) before after = IsDeclared before d after
 
 -- where the lexeme in front stands
 abbrev pub place_of : List Placed → ℕ

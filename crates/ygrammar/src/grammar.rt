@@ -1,7 +1,8 @@
 //! The value that stands between the reader and the automaton: a grammar that is well formed.
 
-ghost use Rattle.std.specs.Prelude.{◌≡◌, ◌<◌, ◌↔◌, [], None, IsTrue, false, length, slice_get};
-ghost use Rattle.std.specs.Prelude.{slice_index_or};
+ghost use Rattle.std.specs.Prelude.{◌≡◌, ◌<◌, ◌↔◌, [], None, IfOk, IsTrue, false, length};
+ghost use Rattle.std.specs.Prelude.{slice_get, slice_index_or};
+ghost use Rattle.ygrammar.specs.Forms.{MarksNullable};
 ghost use Rattle.ygrammar.specs.Grammar.{IsToken, rule_of};
 ghost use Rattle.ygrammar.specs.NameTexts.{value_of};
 ghost use Rattle.ygrammar.specs.Names.{find_in, printed_literal};
@@ -9,8 +10,10 @@ ghost use Rattle.ygrammar.specs.TreeViews.{text_view};
 ghost use Rattle.ygrammar.specs.WellFormed.{IsWhole, WellFormed};
 
 use crate::meaning::names::{Printed, SymbolTable, number_in};
+use crate::meaning::productive::productive;
 use crate::meaning::texts::Texts;
 use crate::precedence::Precedence;
+use std::alloc::{AllocError, Global};
 use std::marker::Model;
 
 /// The number of a symbol, below `Grammar::symbols`. The tokens come first: 0 is `$end`, 1 is
@@ -219,6 +222,15 @@ impl Grammar {
         ensures { result ≡ slice_index_or self.now.reachable s false }
     {
         self.reachable[s]
+    }
+
+    /// For each symbol, by its number, whether it derives the empty form (Aho, Sethi, Ullman,
+    /// section 4.4). It fails only for want of memory.
+    pub fn nullable(&self, alloc: Global) -> Result<Vec<bool>, AllocError>
+        ensures { IfOk result (λ v. MarksNullable self.now.bare v.items) }
+    {
+        // A list of tokens, where there are none, is the empty form.
+        productive(alloc, &self.rules, 0, self.symbols())
     }
 
     /// How many rules there are, `$accept : S $end` among them: 2 to 8,192.

@@ -1,5 +1,5 @@
-//! The reader of grammar files, bytes to lexemes and lexemes to a syntax; and grammars as the
-//! layers above see them.
+//! The reader of grammar files: bytes to lexemes, lexemes to a tree, the tree to a grammar; and
+//! grammars as the layers above see them.
 #![tactic(auto)]
 
 mod fault;

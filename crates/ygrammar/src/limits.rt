@@ -15,5 +15,5 @@ pub const GREATEST_NUMBER: u32 = 32_767;
 /// Numbers of tokens are below this.
 pub const NUMBERS: usize = 32_768;
 
-/// The bytes of a grammar file.
+/// The most bytes that a grammar file may have.
 pub const LONGEST_FILE: usize = 1_048_576;

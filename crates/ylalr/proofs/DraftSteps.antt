@@ -145,8 +145,8 @@ module _ (P : Parts) (f : WellFormed P.grammar.bare) (fit : FitParts P) where
       both (inl h) = subst (Starts P.grammar.bare s) h o
       both (inr h) = (h.1.0, h.1.1 ∙ o.1)
 
-  -- the dot stands in front of a symbol and the form y, and `to` is the row of an item that opens
-  -- that symbol
+  -- the dot stands in front of a symbol and then the form y, and `to` is the row of the items of
+  -- that symbol with the dot at 0
   pub record Opening (h : Here) (to : ℕ) (y : List ℕ) : Type 0 where
     pub symbol : ℕ
     pub dotted : drop h.item.dot (body_of P.grammar.bare h.item.rule) ≡ symbol ∷ y

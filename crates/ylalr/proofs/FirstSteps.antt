@@ -3,20 +3,41 @@ use Rattle.std.proofs.Common.{ℕ, zero, suc, Bool, ◌≡◌, ◌<◌, List, []
 use Rattle.std.proofs.Common.{length, get_or, take, drop, refl, sym, ap, subst}
 use Rattle.std.proofs.Common.{arith}
 use Rattle.std.specs.List.{All}
-use Rattle.std.proofs.lemmas.List.Elements.{All-nil, All-cons}
+use Rattle.std.proofs.lemmas.List.Elements.{All-nil, All-cons, All-head, All-tail}
 use Rattle.ygrammar.specs.Grammar.{ContextFree, left_of, body_of, IsToken}
 use Rattle.ygrammar.specs.Derivation.{done}
-use Rattle.ygrammar.specs.Forms.{First}
+use Rattle.ygrammar.specs.Forms.{First, MarksNullable, Nullable}
+use Rattle.ygrammar.specs.WellFormed.{WellFormed}
+use Rattle.ygrammar.proofs.DrainSteps.{marked_below}
 use Rattle.ylalr.specs.Looks.{FormHas}
 use Rattle.ylalr.specs.Marks.{Has}
 use Rattle.ylalr.specs.Rows.{BitRows, Holds}
 use Rattle.ylalr.specs.Links.{Reaches, given, passed, IsSpread}
 use Rattle.ylalr.specs.First.{IsNullable, IsFirst}
 use Rattle.ylalr.specs.Fronts.{AreFrontLinks, HasEach}
-use Rattle.ylalr.proofs.Vanish.{Vanishes, none, more, nullable_from_vanishes}
+use Rattle.ylalr.proofs.Vanish.{Vanishes, none, more, nullable_from_vanishes, vanishes_append}
+use Rattle.ylalr.proofs.Vanish.{vanishes_from_nullable}
 use Rattle.ylalr.proofs.Begins.{Begins, here, over, into, begins_append, begins_past}
 use Rattle.ylalr.proofs.Begins.{begins_from_first, first_is}
-use Rattle.ylalr.proofs.NullableSteps.{vanishing_form}
+
+-- the marks of a well-formed grammar's nullable symbols, over all numbers
+pub all_nullable : (g : ContextFree) (m : List Bool) → WellFormed g → MarksNullable g m →
+    IsNullable g m
+all_nullable g m w h s = (
+  λ k. (h.exact s (subst (λ (n : ℕ). s < n) h.each (marked_below m s k))).0 k,
+  λ d. (h.exact s (below (vanishes_from_nullable d))).1 d,
+)
+  where
+    below : Vanishes g (s ∷ []) → s < g.symbols
+    below (more r i e b v) = subst (λ (n : ℕ). n < g.symbols) (sym e) (w.left r i)
+
+-- marked symbols all vanish
+vanishing_form : (g : ContextFree) (m : List Bool) → ((s : ℕ) → Has m s → Nullable g (s ∷ [])) →
+    (x : List ℕ) → All (Has m) x → Vanishes g x
+vanishing_form g m f [] h = none
+vanishing_form g m f (s ∷ x) h = vanishes_append
+    (vanishes_from_nullable (f s (All-head (Has m) s x h))) x
+    (vanishing_form g m f x (All-tail (Has m) s x h))
 
 pub marked_form : (g : ContextFree) (n : List Bool) → IsNullable g n → (x : List ℕ) →
     All (Has n) x → Vanishes g x

@@ -17,7 +17,7 @@ pub mod LinkSteps
 pub mod ListSteps
 pub mod Live
 pub mod LookSteps
-pub mod NullableSteps
+pub mod MarkSteps
 pub mod OrderSteps
 pub mod PlaceSteps
 pub mod RowLemmas

@@ -12,7 +12,7 @@ use Rattle.ylalr.specs.declared.order.Turn.{Turn}
 use Rattle.ylalr.specs.declared.order.Turn.TheVariants.{Enter, Leave}
 use Rattle.ylalr.specs.Marks.{Has}
 use Rattle.ylalr.specs.Order.{AreTurns, row_of}
-use Rattle.ylalr.proofs.NullableSteps.{marked_cases, none_marked}
+use Rattle.ylalr.proofs.MarkSteps.{marked_cases, none_marked}
 
 -- no row was seen
 pub turns_none : (n : ℕ) (m : List Bool) (t : List Turn) (o : List ℕ) → m ≡ replicate n false →

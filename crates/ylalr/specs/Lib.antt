@@ -8,7 +8,6 @@ pub mod Items
 pub mod Links
 pub mod Looks
 pub mod Marks
-pub mod Nullable
 pub mod Order
 pub mod Parts
 pub mod Places

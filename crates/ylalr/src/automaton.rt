@@ -10,10 +10,9 @@ ghost use Rattle.ylalr.specs.declared.fault.BuildFault.{BuildFault};
 
 use crate::collection::all_states;
 use crate::fault::BuildFault;
-use crate::first::first_tokens;
+use crate::first::{first_tokens, nullable_symbols};
 use crate::items::Item;
 use crate::looks::{Parts, all_looks, has_look};
-use crate::nullable::nullable_symbols;
 use crate::places::Places;
 use crate::rows::Rows;
 use std::alloc::Global;

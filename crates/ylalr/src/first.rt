@@ -1,4 +1,5 @@
-//! The tokens that a symbol can begin with: rows that are passed on to left sides.
+//! The symbols that derive the empty form, and the tokens that a symbol can begin with: rows that
+//! are passed on to left sides.
 
 ghost use Rattle.std.specs.Prelude.{◌≡◌, length, IfOk};
 ghost use Rattle.ylalr.specs.First.{IsNullable, IsFirst};
@@ -12,6 +13,16 @@ use crate::spread::spread;
 use crate::tokens::token_count;
 use std::alloc::{AllocError, Global};
 use ygrammar::Grammar;
+
+/// The symbols that derive the empty form.
+pub fn nullable_symbols(alloc: Global, grammar: &Grammar) -> Result<Marks, AllocError>
+    ensures sized { IfOk result (λ marks. length marks ≡ grammar.now.bare.symbols) }
+    ensures exact { IfOk result (λ marks. IsNullable grammar.now.bare marks) }
+{
+    let _well_formed = grammar.symbols();
+    let places = grammar.nullable(alloc)?;
+    Ok(Marks::of(places))
+}
 
 /// Rows in which each token has itself.
 fn own_tokens(alloc: Global, grammar: &Grammar) -> Result<Rows, AllocError>

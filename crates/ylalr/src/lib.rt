@@ -1,8 +1,8 @@
 //! The item sets of a grammar and their lookaheads: the merged canonical LR(1) items (Aho, Sethi,
 //! Ullman, section 4.7).
 //!
-//! `build` goes one way. From the rules: which symbols vanish (`nullable`), what each begins with
-//! (`first`), and which rules it leads to after a dot (`first_rules`). From these the states
+//! `build` goes one way. From the rules: which symbols vanish, what each begins with (`first`), and
+//! which rules it leads to after a dot (`first_rules`). From these the states
 //! (`collection`): a state is its kernel, by which an `indexmap` numbers it, and the closure of
 //! that, a list of items by rule and dot. The items of a state sorted by the symbol after the dot
 //! (`buckets`) are the kernels of its gotos, and each state has a list of those by symbol
@@ -42,7 +42,6 @@ mod links;
 mod list;
 mod looks;
 mod marks;
-mod nullable;
 mod order;
 mod places;
 mod rows;

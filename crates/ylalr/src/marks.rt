@@ -30,12 +30,11 @@ impl Marks {
         Ok(Marks { places })
     }
 
-    /// `n` places, all marked.
-    pub fn all(alloc: Global, n: usize) -> Result<Marks, AllocError>
-        ensures { IfOk result (λ m. m ≡ replicate n true) }
+    /// The marks of a list.
+    pub fn of(places: Vec<bool>) -> Marks
+        ensures { result ≡ places.items }
     {
-        let places = vec![in alloc; true; n]?;
-        Ok(Marks { places })
+        Marks { places }
     }
 
     /// Whether place `i` is marked.

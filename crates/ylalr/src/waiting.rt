@@ -37,18 +37,6 @@ impl Waiting {
         })
     }
 
-    /// All numbers below `n`, in order.
-    pub fn all(alloc: Global, n: usize) -> Result<Waiting, AllocError>
-        ensures sized { IfOk result (λ w. length w.marks ≡ n) }
-        ensures every { IfOk result (λ w. (p : ℕ) → p < n → Contains w.queue p) }
-    {
-        let mut waiting = Waiting::none(alloc, n)?;
-        for p in 0..n {
-            waiting.put(p)?;
-        }
-        Ok(waiting)
-    }
-
     /// The numbers of a list, all below `n`, the last one first.
     pub fn from_back(alloc: Global, n: usize, list: &[usize]) -> Result<Waiting, AllocError>
         requires { All (λ p. p < n) list.now }
@@ -86,22 +74,6 @@ impl Waiting {
         if !self.marks.has(p) {
             self.queue.push_back(p)?;
             self.marks.mark(p);
-        }
-        Ok(())
-    }
-
-    /// Has each number of a list wait.
-    pub fn put_each(&mut self, list: &[usize]) -> Result<(), AllocError>
-        requires within { All (λ p. p < length self.old.marks) list.now }
-        requires few { length self.old.queue ≤ length self.old.marks }
-        ensures sized { OnOk result (length self.new.marks ≡ length self.old.marks) }
-        ensures few { OnOk result (length self.new.queue ≤ length self.new.marks) }
-        ensures there { OnOk result (All (λ p. Contains self.new.queue p) list.now) }
-        ensures kept { OnOk result
-            ((x : ℕ) → Contains self.old.queue x → Contains self.new.queue x) }
-    {
-        for p in list {
-            self.put(*p)?;
         }
         Ok(())
     }

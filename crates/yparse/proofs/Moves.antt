@@ -19,11 +19,11 @@ use Rattle.yparse.specs.declared.machine.StepKind.TheVariants as kinds
 use Rattle.yparse.specs.declared.parts.StackEntry.{StackEntry}
 use Rattle.yparse.specs.declared.parts.Node.{Node}
 use Rattle.yparse.specs.declared.parts.Node.TheVariants as nodes
-use Rattle.yparse.specs.Machine.{Machine, Configuration, Entry, symbols, entry_of, lookahead}
-use Rattle.yparse.specs.Machine.{without_last, last_ones, Move, Shift, Reduce, Accept, Error, width}
-use Rattle.yparse.specs.Machine.{shift_step, reduce_step, discard_step, detect_step, error_step}
+use Rattle.yparse.specs.Machine.{Machine, Configuration, Entry, symbols}
+use Rattle.yparse.specs.Machine.{without_last, last_ones, Move, Shift, Reduce, Accept, Error}
+use Rattle.yparse.specs.Machine.{shift_step, discard_step, detect_step}
 use Rattle.yparse.specs.Machine.{step_by, pop_step}
-use Rattle.yparse.specs.Machine.{shift_error_step, recover_by, next_in, next, edited_rest}
+use Rattle.yparse.specs.Machine.{recover_by, next_in, next, edited_rest}
 use Rattle.yparse.specs.Machine.{edited_in}
 use Rattle.yparse.specs.Machine.{edited}
 use Rattle.yparse.specs.Rest.{Rest, ahead, is_left, place_left, without_first, with_insertion}

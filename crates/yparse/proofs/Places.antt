@@ -12,8 +12,8 @@ use Rattle.yparse.specs.Sound.{Sound}
 use Rattle.ytables.specs.Tables.{TablesValue as Tables}
 use Rattle.yparse.specs.declared.machine.StepKind.TheVariants as kinds
 use Rattle.yparse.specs.Content.{Content, Place, kind_in, place_after, content_after}
-use Rattle.yparse.specs.Content.{content_before, change_at}
-use Rattle.yparse.specs.Content.{place_before, place_fits, place_next, place_edited, edit_kind}
+use Rattle.yparse.specs.Content.{content_before}
+use Rattle.yparse.specs.Content.{place_next, place_edited, edit_kind}
 use Rattle.yparse.specs.Content.{configuration_of, valid}
 use Rattle.yparse.specs.Ahead.{LeadsOn}
 use Rattle.yparse.specs.declared.parts.PlaceChange.{PlaceChange}

@@ -59,7 +59,7 @@ joined-cut m (x ∷ y ∷ xs) (suc (suc i)) =
 
 module _ {W : Type 0} (contents : W → Option (List ℕ)) (m : Machine) (form : List ℕ) (i : ℕ)
     (inside : i < length form) where
-  -- the names before one were sent, and that one too
+  -- the names before place i were sent, and then the one there
   pub names_sent : (a b c : Link W) → Sends contents a b true (names_text m (take i form))
       → Sends contents b c true (gap i ++ m.name (get_or form i 0))
       → Sends contents a c true (names_text m (take (i + 1) form))
@@ -69,7 +69,7 @@ module _ {W : Type 0} (contents : W → Option (List ℕ)) (m : Machine) (form :
       (sym (ap (λ (n : ℕ). names_text m (take n form)) next ∙ joined-take m form i inside))
       (Sends-then contents a b c true _ _ s t)
 
-  -- the names before one were sent, and that one was cut
+  -- the names before place i were sent, and the one there was cut
   pub names_cut : {X : Type 0} (a b c : Link W) (o : Option X) → o ≡ None
       → Sends contents a b true (names_text m (take i form))
       → Sends contents b c false (gap i ++ m.name (get_or form i 0))

@@ -48,6 +48,7 @@ pub record Place : Type 0 where
   pub tokens : List ℕ
   pub content : Content
 
+-- an entry of the stack, with the number of its node
 abbrev pub entry : ℕ → ℕ → ℕ → StackEntry
 entry state symbol number = record { state = state; symbol = symbol; node = number }
 
@@ -61,6 +62,7 @@ state_from state zero stack = state
 state_from state (suc n) [] = state
 state_from state (suc n) (e ∷ stack) = state_from e.state n stack
 
+-- the state on top, or 0 where the stack is empty
 abbrev pub top_state : List StackEntry → ℕ
 top_state stack = state_from 0 (length stack) stack
 
@@ -113,9 +115,11 @@ content_after t kinds.Fail c = record c { mode = Failed }
 content_after t (kinds.Insert token) c = record c { rest = with_insertion token c.rest }
 content_after t (kinds.Drop token) c = record c { rest = without_first c.rest }
 
+-- one step more stands
 abbrev pub one_step : Content → Content
 one_step c = record c { steps = c.steps + 1 }
 
+-- what a step of a kind makes of a content with what stays, one step more standing
 abbrev pub place_after : StepKind → Place → Place
 place_after kind p = record p { content = one_step (content_after p.tables kind p.content) }
 
@@ -149,6 +153,7 @@ content_before t change (kinds.Insert token) c = record c { rest = without_inser
 content_before t change (kinds.Drop token) c =
     record c { rest = with_first_back change.place token c.rest }
 
+-- the counter and the mode before a change, and one step fewer
 abbrev pub one_back : PlaceChange → Content → Content
 one_back change c = record c { counter = change.counter; mode = change.mode; steps = c.steps - 1 }
 
@@ -172,6 +177,7 @@ trees_from children trees [] = trees
 trees_from children trees (n ∷ ns) =
     trees_from children (trees ++ tree_over children trees n ∷ []) ns
 
+-- the trees of all nodes, in their order
 abbrev pub trees_over : List StackEntry → List Node → List Tree
 trees_over children ns = trees_from children [] ns
 
@@ -179,9 +185,11 @@ trees_over children ns = trees_from children [] ns
 abbrev pub node_tree : List Tree → StackEntry → Tree
 node_tree trees e = slice_index_or trees e.node error_leaf
 
+-- an entry as the machine has it, with the tree of its node
 abbrev pub entry_view : List Tree → StackEntry → Entry
 entry_view trees e = entry_of e.symbol (node_tree trees e)
 
+-- the tokens left, with their places
 abbrev pub rest_of : List ℕ → Content → List (ℕ × ℕ)
 rest_of tokens c = rest_left tokens c.rest
 
@@ -195,6 +203,7 @@ configuration_in tokens c = record {
   mode = c.mode;
 }
 
+-- the same of a content with what stays
 abbrev pub configuration_of : Place → Configuration
 configuration_of p = configuration_in p.tokens p.content
 
@@ -210,7 +219,7 @@ place_edited edit p =
     option_map (λ (step : StepKind × Configuration). (step.0, place_after step.0 p))
     (edited (machine_over p.tables) edit (configuration_of p))
 
--- the same of either
+-- a step or an edit is that of the machine, and leaves what its kind makes
 abbrev pub place_deed : Deed → Place → Option (StepKind × Place)
 place_deed deeds.Step = place_next
 place_deed (deeds.Edit edit) = place_edited edit
@@ -224,24 +233,28 @@ kind_running actions.Accept token counter left = kinds.Accept
 kind_running actions.Error token counter left =
     if counter == 3 then (if left then kinds.Discard token else kinds.Fail) else kinds.Detect
 
+-- the action is a shift
 abbrev pub is_shift : Action → Bool
 is_shift (actions.Shift q) = true
 is_shift _ = false
 
+-- the entry on top, or one of zeros
 abbrev pub top_of : List StackEntry → StackEntry
 top_of stack = slice_index_or stack (length stack - 1) (entry 0 0 0)
 
+-- the kind of the step of recovery, by the cell of the error token
 abbrev pub kind_popping : Action → List StackEntry → StepKind
 kind_popping a stack =
     if is_shift a then kinds.ShiftError
     else (if length stack == 0 then kinds.Fail else kinds.Pop (top_of stack).symbol)
 
--- the same by the tables, in a state
+-- the kind of the step from a running content by the tables, in a state
 abbrev pub running_at : Tables → List ℕ → Content → ℕ → StepKind
 running_at t tokens c q =
     kind_running (cell_at t q (ahead tokens c.rest)) (ahead tokens c.rest) c.counter
     (is_left tokens c.rest)
 
+-- the kind of the step of recovery by the tables, in a state
 abbrev pub popping_at : Tables → Content → ℕ → StepKind
 popping_at t c q = kind_popping (cell_at t q error_token) c.stack
 
@@ -259,11 +272,12 @@ kind_in t tokens c Popping = Some (popping_at t c (top_state c.stack))
 kind_in t tokens c Accepted = None
 kind_in t tokens c Failed = None
 
--- whether the states are those to which the symbols lead
+-- whether the state found is this one
 abbrev pub is_state : Option ℕ → ℕ → Bool
 is_state None state = false
 is_state (Some found) state = found == state
 
+-- whether the states of the entries are those to which their symbols lead, from this state on
 abbrev pub leads : Tables → ℕ → List StackEntry → Bool
 leads t state [] = true
 leads t state (e ∷ stack) = is_state (goto_at t state e.symbol) e.state && leads t e.state stack
@@ -280,6 +294,7 @@ node_fits children i nodes.ErrorLeaf = true
 node_fits children i (nodes.Rule rule from count) =
     nat_le (from + count) (length children) && all_below i (take count (drop from children))
 
+-- the same of all nodes, counted from i
 abbrev pub nodes_fit : List StackEntry → ℕ → List Node → Bool
 nodes_fit children i [] = true
 nodes_fit children i (n ∷ ns) = node_fits children i n && nodes_fit children (suc i) ns
@@ -294,6 +309,7 @@ counts_fit c = nat_le (length c.nodes) c.steps
 abbrev pub rest_fits : List ℕ → Rest → Bool
 rest_fits tokens r = nat_le (length r.inserted) r.edits && nat_le r.at (length tokens)
 
+-- whether stack, nodes, counts and tokens left fit together, as those of a parse do
 abbrev pub valid : Place → Bool
 valid p =
     leads p.tables 0 p.content.stack
@@ -343,5 +359,6 @@ first_content = record {
   steps = 0;
 }
 
+-- the first content over these tables and tokens
 abbrev pub first_place : Tables → List ℕ → Place
 first_place t tokens = record { tables = t; tokens = tokens; content = first_content }

@@ -6,6 +6,7 @@ use Rattle.yparse.specs.declared.machine.StepKind.{StepKind}
 use Rattle.yparse.specs.Machine.{Machine, Configuration, next, edited}
 use Rattle.yparse.specs.Past.{Past, first_past, IsPast}
 
+-- the configurations of a parse, now and before
 abbrev pub History : Type 0
 History = Past StepKind Configuration
 

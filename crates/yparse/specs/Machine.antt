@@ -44,9 +44,11 @@ pub record Configuration : Type 0 where
   pub errors : ℕ
   pub mode : Mode
 
+-- the symbols of a stack, from the bottom
 abbrev pub symbols : List Entry → List ℕ
 symbols stack = map (λ (e : Entry). e.symbol) stack
 
+-- a symbol with its tree
 abbrev pub entry_of : ℕ → Tree → Entry
 entry_of symbol tree = record { symbol = symbol; tree = tree }
 
@@ -55,10 +57,11 @@ abbrev pub lookahead : List (ℕ × ℕ) → ℕ
 lookahead [] = 0
 lookahead (token ∷ rest) = token.0
 
--- a list without its last n elements, and these elements
+-- a list without its last n elements
 abbrev pub without_last : {X : Type 0} → ℕ → List X → List X
 without_last n xs = take (length xs - n) xs
 
+-- the last n elements of a list
 abbrev pub last_ones : {X : Type 0} → ℕ → List X → List X
 last_ones n xs = drop (length xs - n) xs
 

@@ -4,6 +4,7 @@ use Rattle.yparse.specs.declared.parts.Parts.{Parts}
 use Rattle.yparse.specs.Rest.{rest_in}
 use Rattle.yparse.specs.Content.{Content}
 
+-- what the parts hold
 abbrev pub content_of : Parts → Content
 content_of p = record {
   stack = p.stack.items;

@@ -28,6 +28,7 @@ back_from zero now earlier = record { now = now; earlier = earlier }
 back_from (suc n) now [] = record { now = now; earlier = [] }
 back_from (suc n) now (step ∷ earlier) = back_from n step.1 earlier
 
+-- the past after n undos
 abbrev pub back_by : {K S : Type 0} → ℕ → Past K S → Past K S
 back_by n h = back_from n h.now h.earlier
 
@@ -52,6 +53,7 @@ LeadsTo next edited first now [] = now ≡ first
 LeadsTo next edited first now (step ∷ earlier) =
     Comes next edited step.1 step.0 now × LeadsTo next edited first step.1 earlier
 
+-- a past from this first content on
 abbrev pub IsPast : {K S E : Type 0} → (S → Option (K × S)) → (E → S → Option (K × S)) → S
     → Past K S → Type 0
 IsPast next edited first h = LeadsTo next edited first h.now h.earlier
@@ -61,8 +63,8 @@ abbrev pub Makes : {K S : Type 0} → (S → Option (K × S)) → K → Past K S
 Makes next kind h new = Follows next h.now kind new.now × (new.earlier ≡ (kind, h.now) ∷ h.earlier)
 
 -- why a step or an edit is refused, where one function says what a step makes and the other what is
--- to be made: no step follows, or else it can't be made, or else so many stand, or else memory is
--- wanted
+-- to be made: no step follows, or else it can't be made, or else as many stand as may, or else
+-- there is no memory
 abbrev pub Refuses : {K S : Type 0} → (S → Option (K × S)) → (S → Option (K × S)) → Past K S
     → StepFault → Type 0
 Refuses next made h Halted = next h.now ≡ None

@@ -8,6 +8,7 @@ use Rattle.yparse.specs.Sound.{Sound}
 use Rattle.yparse.specs.Content.{Place, valid}
 use Rattle.yparse.specs.Parts.{content_of, HasRoom}
 
+-- what the parts hold, with what stays
 abbrev pub place_of : Tables → Tokens → Parts → Place
 place_of t tokens parts = record {
   tables = t;

@@ -13,6 +13,7 @@ pub record Rest : Type 0 where
   pub at : ℕ
   pub edits : ℕ
 
+-- the tokens left that the code holds
 abbrev pub rest_in : Remaining → Rest
 rest_in r = record { inserted = r.inserted.items; at = r.at; edits = r.edits }
 

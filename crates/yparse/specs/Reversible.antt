@@ -35,6 +35,7 @@ fit_from before fits now (change ∷ changes) =
 abbrev pub states_before : {S C K : Type 0} → (C → S → S) → (C → K) → S → List C → List (K × S)
 states_before before kind now changes = states_from before kind now (reverse changes)
 
+-- whether all changes fit, the newest last
 abbrev pub all_fit : {S C : Type 0} → (C → S → S) → (C → S → Bool) → S → List C → Bool
 all_fit before fits now changes = fit_from before fits now (reverse changes)
 

@@ -21,6 +21,7 @@ pub record Setting : Type 0 where
   pub machine : Machine
   pub tokens : List ℕ
 
+-- the setting of a content
 abbrev pub setting_at : Place → Setting
 setting_at p = record {
   grammar = p.tables.built.grammar;
@@ -28,15 +29,19 @@ setting_at p = record {
   tokens = p.tokens;
 }
 
+-- the setting of a session
 unfoldable pub setting_of : Session → Setting
 setting_of s = setting_at s.journal.now
 
+-- the grammar of its tables
 abbrev pub grammar_of : Session → GrammarValue
 grammar_of s = (setting_of s).grammar
 
+-- the machine over its tables
 abbrev pub machine_of : Session → Machine
 machine_of s = (setting_of s).machine
 
+-- the tokens first read
 abbrev pub tokens_of : Session → List ℕ
 tokens_of s = (setting_of s).tokens
 

@@ -6,6 +6,7 @@ use Rattle.yparse.specs.Past.{Past}
 use Rattle.yparse.specs.History.{History}
 use Rattle.yparse.specs.Content.{Place, configuration_of}
 
+-- the kind of a step, with the configuration in which it was made
 abbrev pub step_view : StepKind × Place → StepKind × Configuration
 step_view step = (step.0, configuration_of step.1)
 

@@ -1,5 +1,5 @@
 -- A tokens file: words between blanks, and the input tokens that they name.
-use Rattle.std.specs.Prelude.{ℕ, suc, ◌≡◌, ◌<◌, nat_lt, ◌==◌, ◌&&◌, ◌||◌, not, Bool, true, false}
+use Rattle.std.specs.Prelude.{ℕ, suc, ◌≡◌, ◌<◌, nat_lt, ◌==◌, ◌||◌, not, Bool, true, false}
 use Rattle.std.specs.Prelude.{List, [], ◌∷◌, ◌++◌, length, Option, Some, None, Result, Ok, Err}
 use Rattle.std.specs.Prelude.{if◌then◌else◌}
 use Prim.Native.Nat.{zero}
@@ -61,7 +61,8 @@ by_name tokens place (Some symbol) rest =
 abbrev pub most_tokens : ℕ
 most_tokens = 1000000
 
--- behind n tokens: at the most a further word is K3, and a quote that begins no literal is K5
+-- behind n tokens: at the end the answer is fine; where no more tokens may follow, anything else is
+-- K3; before that a quote that begins no literal is K5
 abbrev pub says : (List ℕ → Option ℕ) → ℕ → ℕ → Front → Says
 says find tokens n nothing = answer (Ok [])
 says find tokens n (word name rest) =

@@ -14,10 +14,12 @@ mutual
     none : Trees
     more : (first : Tree) (rest : Trees) → Trees
 
+-- a list of trees as the children of a node
 abbrev pub trees_of : List Tree → Trees
 trees_of [] = none
 trees_of (tree ∷ trees) = more tree (trees_of trees)
 
+-- the children of a node as a list
 abbrev pub list_of : Trees → List Tree
 list_of none = []
 list_of (more tree trees) = tree ∷ list_of trees

@@ -21,6 +21,7 @@ shifts_from _ later = later
 abbrev pub form_of : Configuration → List ℕ → List ℕ
 form_of c later = symbols c.stack ++ later
 
+-- the step is a reduction
 abbrev pub is_reduction : StepKind → Bool
 is_reduction (kinds.Reduce r) = true
 is_reduction _ = false
@@ -69,6 +70,7 @@ forms_before later (step ∷ earlier) =
 abbrev pub forms_from : List ℕ → History → List (List ℕ)
 forms_from later h = form_of h.now later ∷ forms_before later h.earlier
 
+-- the forms that unwinding goes through, the newest first
 abbrev pub forms_of : History → List (List ℕ)
 forms_of h = forms_from [] h
 
@@ -78,9 +80,11 @@ names_text m [] = []
 names_text m (s ∷ []) = m.name s
 names_text m (s ∷ t ∷ form) = m.name s ++ (32 ∷ names_text m (t ∷ form))
 
+-- the line of a form
 abbrev pub form_line : Machine → List ℕ → List ℕ
 form_line m form = names_text m form ++ codes "\n"
 
+-- the lines of all forms, the newest first
 abbrev pub forms_text : Machine → History → List ℕ
 forms_text m h = flat_map (form_line m) (forms_of h)
 

@@ -10,6 +10,7 @@ use Rattle.yparse.specs.Machine.{Machine}
 use Rattle.yparse.specs.Content.{node_tree, all_below}
 use Rattle.yparse.specs.Unwinding.{trees_text}
 
+-- an open node: the place of its next child, and the place behind its last
 abbrev pub frame : ℕ → ℕ → Frame
 frame next end = record { next = next; end = end }
 
@@ -39,6 +40,7 @@ open_from m children trees [] rest = rest
 open_from m children trees (f ∷ fs) rest =
     open_from m children trees fs (kids_text m trees (range_of children f) ++ (41 ∷ rest))
 
+-- what is left to write of the open nodes
 abbrev pub open_text : Machine → List StackEntry → List Tree → List Frame → List ℕ
 open_text m children trees fs = open_from m children trees fs []
 

@@ -53,10 +53,12 @@ pub enum Edit {
     Drop,
 }
 
-/// What may be made of a parse: its next step, or an edit of the tokens left.
+/// What may be made of a parse.
 #[derive(Clone, Copy, Debug, PartialEq, Eq)]
 pub enum Deed {
+    /// Its next step.
     Step,
+    /// An edit of the tokens left.
     Edit(Edit),
 }
 

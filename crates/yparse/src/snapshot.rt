@@ -95,7 +95,7 @@ impl SnapshotParser {
         }
     }
 
-    /// Makes a step or an edit of this kind on a copy, which leads on, and keeps what was before.
+    /// Makes on a copy a step or an edit of this kind, which leads on, and keeps what was before.
     /// An `Err` changes nothing.
     fn change(&mut self, kind: StepKind) -> Result<SnapshotChange, StepFault>
         requires { IsTrue (valid (place_after kind self.old)) }

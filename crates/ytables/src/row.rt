@@ -9,14 +9,14 @@ ghost use Rattle.ylalr.specs.Collection.{Guide, IsGuide, bare_of, state_of, goto
 ghost use Rattle.ytables.specs.Cell.{common, is_filled};
 ghost use Rattle.ytables.specs.Rows.{InGrammar, IsRowTo, IsRow, most_in_row};
 ghost use Rattle.ytables.specs.Tables.{after_dot, is_ready, has_before, ready_in, class_at};
-ghost use Rattle.ytables.specs.Tables.{rules_by, shift_of, cell_in, default_in};
+ghost use Rattle.ytables.specs.Tables.{rules_by, shift_of, cell_in};
 ghost use Rattle.ytables.specs.Tally.{IsTally};
 
 use crate::cell::{Action, Cell, Tally};
 use crate::class::class_between;
 use std::alloc::{AllocError, Global};
 use ygrammar::{Grammar, Precedence, Sym};
-use ylalr::{Automaton, END, Item, token_count};
+use ylalr::{Automaton, END, Item};
 
 /// The symbol after the dot.
 pub fn next_symbol(grammar: &Grammar, item: Item) -> Option<Sym>

@@ -1,11 +1,11 @@
 //! Which symbols derive a list of tokens, by a worklist over the places where symbols stand.
 
-ghost use Rattle.std.specs.Prelude.{◌≡◌, ◌≤◌, ◌<◌, ◌↔◌, ℕ, length, slice_index, slice_index_or};
+ghost use Rattle.std.specs.Prelude.{◌≡◌, ◌≤◌, ◌<◌, ◌↔◌, ℕ, length, slice_index};
 ghost use Rattle.std.specs.Prelude.{EachIndex, false, IfOk, OnOk, vec_len};
 ghost use Rattle.ygrammar.specs.Forms.{Productive};
 ghost use Rattle.ygrammar.specs.Marking.{AreDots, AreIn, DotFits, Grows, IsMarked, IsSettled};
 ghost use Rattle.ygrammar.specs.Marking.{IsUnmarked, IsWorklist, OnlyProductive};
-ghost use Rattle.ygrammar.specs.Marking.{numbered_grammar, rule_at, unmarked_count};
+ghost use Rattle.ygrammar.specs.Marking.{numbered_grammar, rule_at};
 
 use crate::grammar::{Rule, Sym};
 use crate::meaning::occurrences::{body_at, left_at, occurrences};

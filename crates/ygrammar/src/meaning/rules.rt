@@ -252,7 +252,7 @@ fn push_rules(
     Ok(())
 }
 
-/// Adds the texts of the rules of inner actions.
+/// Adds the kept texts of inner actions.
 fn push_inner_texts(items: &[BodyPart], texts: &mut Texts) -> Result<(), AllocError>
     requires { AllByRecursion (BodyPartStands texts.old.source) items.now }
     ensures { OnOk result (texts.new
@@ -269,7 +269,7 @@ fn push_inner_texts(items: &[BodyPart], texts: &mut Texts) -> Result<(), AllocEr
     Ok(())
 }
 
-/// Adds the texts of the rules of the file.
+/// Adds the kept texts of the rules of the file.
 fn push_texts(rule_texts: &[RuleText], texts: &mut Texts) -> Result<(), AllocError>
     requires { AllByRecursion (RuleTextStands texts.old.source) rule_texts.now }
     ensures { OnOk result (texts.new
@@ -285,7 +285,7 @@ fn push_texts(rule_texts: &[RuleText], texts: &mut Texts) -> Result<(), AllocErr
     Ok(())
 }
 
-/// The texts of the rules of a file.
+/// The kept texts of the rules of a file.
 pub fn kept_texts(alloc: Global, source: &[u8], tree: &Tree) -> Result<Texts, AllocError>
     requires { AllByRecursion (RuleTextStands source.now) tree.now.rule_texts.items }
     ensures { IfOk result (λ t. t.texts ≡ map kept_text (rules (tree_view tree.now))) }

@@ -1,9 +1,10 @@
 //! The syntax tree of a grammar file's lexemes.
 //!
-//! Each function takes what it makes off the front of the lexemes, and asks that they go on with a
-//! grammar file. So no lexeme can be one that doesn't fit, and only memory can be wanting.
+//! Each function takes what it makes off the front of the lexemes, or answers none where another
+//! piece stands there. Those for declarations and rules ask that the lexemes go on with a grammar
+//! file. So no lexeme can be one that doesn't fit, and only memory can be wanting.
 
-ghost use Rattle.std.specs.Prelude.{ℕ, ◌≡◌, ◌≢◌, ◌++◌, ◌∷◌, ◌<◌, Bool, true, List, Option, map};
+ghost use Rattle.std.specs.Prelude.{ℕ, ◌≡◌, ◌++◌, ◌∷◌, ◌<◌, Bool, true, List, Option, map};
 ghost use Rattle.std.specs.Prelude.{length, replicate, IfOk, IfSome, IsSome};
 ghost use Rattle.std.specs.List.{flat_map, AllByRecursion};
 ghost use Rattle.ygrammar.specs.declared.syntax.kind.Sign.TheVariants as sign;
@@ -19,14 +20,15 @@ ghost use Rattle.ygrammar.specs.declared.syntax.recogniser.State.TheVariants.{Se
 ghost use Rattle.ygrammar.specs.Answers.{StandIn, views};
 ghost use Rattle.ygrammar.specs.TreeBuilder.{GoesOn, NoBodyPart, NoSign, Takes, TakesSign};
 ghost use Rattle.ygrammar.specs.TreeBuilder.{TakesTag};
-ghost use Rattle.ygrammar.specs.TreeBuilder.{place_of, DefinitionAt, IsRead, Reads, ReadsMark};
+ghost use Rattle.ygrammar.specs.TreeBuilder.{place_of, DefinitionAt, IsRead, ReadsDeclaration};
+ghost use Rattle.ygrammar.specs.TreeBuilder.{ReadsOrMark};
 ghost use Rattle.ygrammar.specs.Lexer.{kinds};
 ghost use Rattle.ygrammar.specs.Lexemes.{name, number, braced, fixed, sign_kind};
 ghost use Rattle.ygrammar.specs.Recogniser.{run};
 ghost use Rattle.ygrammar.specs.Syntax.{IsSpec};
 ghost use Rattle.ygrammar.specs.Tree.{IsDefinition, IsRuleText, BeginsWithName, IsTree};
-ghost use Rattle.ygrammar.specs.Tree.{identifier_yield, option_yield, entry_yield, word_sign};
-ghost use Rattle.ygrammar.specs.Tree.{tag_yield, definition_yield, body_part_yield, left_yield};
+ghost use Rattle.ygrammar.specs.Tree.{identifier_yield, entry_yield, word_sign};
+ghost use Rattle.ygrammar.specs.Tree.{definition_yield, body_part_yield, left_yield};
 ghost use Rattle.ygrammar.specs.Tree.{end_yield, rule_text_yield, mark_yield, yield};
 ghost use Rattle.ygrammar.specs.Texts.{RuleTextStands, BodyPartStands, StandsAt};
 ghost use Rattle.ygrammar.specs.TreeViews.{braced_view, name_view, occurrence_view, digits_view};
@@ -186,7 +188,7 @@ impl<'a> TreeBuilder<'_, 'a> {
 
 // Declarations. Behind a word, what it asks for is always there.
 impl<'a> TreeBuilder<'_, 'a> {
-    /// The name of a tag.
+    /// The name of the tag in front, where one stands there.
     fn tag(&mut self) -> Option<&'a [u8]>
         ensures { TakesTag (text_view result) (views self.old) (views self.new) }
     {
@@ -259,7 +261,7 @@ impl<'a> TreeBuilder<'_, 'a> {
     /// A tag and its names, behind `%type`.
     fn types(&mut self, alloc: Global) -> Result<Option<Definition<'a>>, AllocError>
         requires { GoesOn TypeWord self.old }
-        ensures { IfOk result (λ o. Reads sign.Types o self.old self.new) }
+        ensures { IfOk result (λ o. ReadsDeclaration sign.Types o self.old self.new) }
     {
         let Some(tag) = self.tag() else {
             return Ok(None);
@@ -272,7 +274,7 @@ impl<'a> TreeBuilder<'_, 'a> {
     fn start(&mut self, at: usize) -> Option<Definition<'a>>
         requires { GoesOn StartWord self.old }
         ensures place { IfSome result (λ d. DefinitionAt at d) }
-        ensures read { Reads sign.Start result self.old self.new }
+        ensures read { ReadsDeclaration sign.Start result self.old self.new }
     {
         let symbol = self.occurrence()?;
         Some(Definition::Start(symbol, at))
@@ -281,13 +283,13 @@ impl<'a> TreeBuilder<'_, 'a> {
     /// A kept text, behind `%union`.
     fn union_text(&mut self) -> Option<Definition<'a>>
         requires { GoesOn UnionWord self.old }
-        ensures { Reads sign.Union result self.old self.new }
+        ensures { ReadsDeclaration sign.Union result self.old self.new }
     {
         let text = self.text()?;
         Some(Definition::Union(text))
     }
 
-    /// A declaration, behind its word, which stands at the place; nothing behind the mark.
+    /// A declaration, behind its word, which stands at the place; none where the word is the mark.
     fn declaration(
         &mut self,
         alloc: Global,
@@ -296,7 +298,7 @@ impl<'a> TreeBuilder<'_, 'a> {
     ) -> Result<Option<Definition<'a>>, AllocError>
         requires { run Declarations (sign_kind word ∷ kinds (views self.old)) ≡ true }
         ensures place { IfOk result (λ o. IfSome o (λ d. DefinitionAt at d)) }
-        ensures read { IfOk result (λ o. ReadsMark o (fixed word ∷ views self.old) self.new) }
+        ensures read { IfOk result (λ o. ReadsOrMark o (fixed word ∷ views self.old) self.new) }
     {
         match word {
             Sign::Start => Ok(self.start(at)),
@@ -310,11 +312,11 @@ impl<'a> TreeBuilder<'_, 'a> {
         }
     }
 
-    /// A declaration, or nothing behind the mark.
+    /// The declaration in front, or none where the mark stands there, which is then taken.
     fn definition(&mut self, alloc: Global) -> Result<Option<Definition<'a>>, AllocError>
         requires { GoesOn Declarations self.old }
         ensures place { IfOk result (λ o. IfSome o (λ d. DefinitionAt (place_of self.old) d)) }
-        ensures read { IfOk result (λ o. ReadsMark o (views self.old) self.new) }
+        ensures read { IfOk result (λ o. ReadsOrMark o (views self.old) self.new) }
     {
         let [first, rest @ ..] = self.rest else {
             return Ok(None);

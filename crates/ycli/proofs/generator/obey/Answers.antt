@@ -10,7 +10,7 @@ use Rattle.ycli.specs.declared.message.Trouble.TheVariants.{Session}
 use Rattle.ycli.specs.Generating.{EndsIn, FilesFail, Say}
 use Rattle.ycli.proofs.generator.obey.Goals as goal
 
--- why not all files were written ends the run
+-- where not all files were written for words that are taken, the run ends so
 ends : {W : Type 0} (words : List (List ℕ)) (w : W) (writer : Link W) (said : YaccWords) →
     Say words said → (trouble : Trouble) → FilesFail said trouble → device_of writer ≡ w →
     EndsIn words w writer (Err trouble)

@@ -7,7 +7,7 @@ use Rattle.yparse.specs.declared.parts.Node.TheVariants as nodes
 use Rattle.yparse.specs.declared.walk.Frame.{Frame}
 use Rattle.yparse.specs.MachineOver.{machine_over}
 use Rattle.yparse.specs.Content.{trees_over}
-use Rattle.yparse.specs.Walk.{head_text, frames_of, open_text, frames_fit}
+use Rattle.yparse.specs.Walk.{frames_of, open_text, frames_fit}
 use Rattle.yparse.proofs.Walks.{Rooted, rooted, cut-behind}
 use Rattle.yparse.proofs.walk.write_tree.Given.{Over}
 use Rattle.yparse.proofs.walk.write_tree.Goals.{After-clear, In_ok-open_node}

@@ -16,8 +16,6 @@ use Rattle.ygrammar.proofs.NumberSteps.{clash_held, none_clash}
 use Rattle.ygrammar.proofs.OwnTables.{all_given, appear, are_small, bad_given, numbers_sound}
 use Rattle.ygrammar.proofs.OwnTables.{own_whole, told_here}
 use Rattle.ygrammar.proofs.meaning.holders.own_table.Goals.{In_ok-holders}
-use Rattle.ygrammar.proofs.meaning.holders.own_table.Goals.{else-is_none-via-else-is_none}
-use Rattle.ygrammar.proofs.meaning.holders.own_table.Goals.{else-is_none-via-then-is_none+else-not-has_shared}
 use Rattle.ygrammar.proofs.meaning.holders.own_table.Goals as goal
 
 -- what was given
@@ -68,9 +66,9 @@ pub returns : goal.returns
 returns c = λ t o e. (
   refl,
   elim c.else-is_none.branch [
-    | else-is_none-via-else-is_none w ↦
+    | goal.else-is_none-via-else-is_none w ↦
         bad_given t _ _ w.if-is_none.ensures (given (goal.at.returns c).In_ok-holders t o e)
-    | else-is_none-via-then-is_none+else-not-has_shared w ↦
+    | goal.else-is_none-via-then-is_none+else-not-has_shared w ↦
         let n = (owned (goal.at.returns c).In_ok-holders t o e w.if-is_none.ensures).1 in
         let (m, s) = w.if-not-has_shared.ensures in
         inr (inr (subst Clashes (c.deref-4.ensures.value ∙ n) (clash_held _ _ m

@@ -1,6 +1,6 @@
 use Rattle.std.proofs.Common.{◌≡◌, ◌<◌, length, subst, arith}
 use Rattle.std.proofs.lemmas.List.{get_or_read}
-use Rattle.ygrammar.specs.Marking.{IsSettled, left_symbols, list_at, lists_of, rule_at}
+use Rattle.ygrammar.specs.Marking.{IsSettled, left_side, list_at, lists_of, rule_at}
 use Rattle.ygrammar.proofs.MarkingSteps.{grows_then}
 use Rattle.ygrammar.proofs.DrainSteps.{drain_next, list_read, listed_within, taken_in}
 use Rattle.ygrammar.proofs.meaning.productive.drain.Goals.{After-index-s, After-deref}
@@ -40,7 +40,7 @@ loop-done-preserved c =
       dots = c.in_ok-visit_listed.ensures.dots;
       list = g.list c.loop-done.invariant.list;
       settled = drain_next _ _ _ _ _ _ (taken here.After-deref (inside here.After-index-s))
-          c.in_ok-places.ensures left_symbols _ e g (omega arith)
+          c.in_ok-places.ensures left_side _ e g (omega arith)
           (c.in_ok-visit_listed.ensures.settled _ (omega arith)) c.loop-done.invariant.settled;
       sound = λ tokens symbols f. c.in_ok-visit_listed.ensures.sound tokens symbols
           (c.loop-done.invariant.sound tokens symbols f);

@@ -32,8 +32,8 @@ returns-else-dot-body-clause-settled c = λ taken.
     let body = c.body_at-body.result.now in
     let fits = subst (λ (x : List Bool). DotFits body x dot) c.deref.ensures.value
     c.advance-dot.ensures.fits in
-    let unmarked_count = subst (λ (x : List Bool). dot < length body →
+    let unmarked = subst (λ (x : List Bool). dot < length body →
     IsUnmarked x (slice_index body dot)) c.deref.ensures.value c.advance-dot.ensures.stuck
     in
     stuck_at (rule_at c.args.rules.now c.args.r) m c.args.order.now.items taken dot body
-    c.body_at-body.ensures fits c.if-dot-body.false unmarked_count
+    c.body_at-body.ensures fits c.if-dot-body.false unmarked

@@ -1,7 +1,7 @@
 use Rattle.std.proofs.Common.{◌≡◌, ◌<◌, length, sym, subst, arith}
 use Rattle.std.proofs.lemmas.List.{get_or_read}
 use Rattle.ygrammar.specs.Forms.{IsReachable}
-use Rattle.ygrammar.specs.Marking.{IsMarked, IsSpread, body_symbols, numbered_grammar, list_at}
+use Rattle.ygrammar.specs.Marking.{IsMarked, IsSpread, right_side, numbered_grammar, list_at}
 use Rattle.ygrammar.specs.Marking.{lists_of, rule_at}
 use Rattle.ygrammar.proofs.MarkingSteps.{grows_then}
 use Rattle.ygrammar.proofs.DrainSteps.{contains_alone, drain_next, list_read, listed_within}
@@ -49,7 +49,7 @@ loop-done-preserved c =
       taken = omega (arith, g.longer);
       grows = grows_then c.loop-done.invariant.grows g;
       list = g.list c.loop-done.invariant.list;
-      spread = drain_next _ _ _ _ _ _ l c.in_ok-by_left.ensures body_symbols _ e g (omega arith)
+      spread = drain_next _ _ _ _ _ _ l c.in_ok-by_left.ensures right_side _ e g (omega arith)
           (c.in_ok-mark_bodies.ensures.spread _) c.loop-done.invariant.spread;
       sound = λ tokens symbols f.
           let before = c.loop-done.invariant.sound tokens symbols f in
