@@ -1,6 +1,6 @@
 -- What a command replies, and the history that it leaves.
 use Rattle.std.specs.Prelude.{ℕ, suc, ◌≡◌, ◌≢◌, ◌⊎◌, ◌-◌, nat_lt, Bool, true, false, List, [], ◌∷◌}
-use Rattle.std.specs.Prelude.{◌++◌, length, flat_map, decimal, codes, if◌then◌else◌, Result, Ok}
+use Rattle.std.specs.Prelude.{◌++◌, length, decimal, codes, if◌then◌else◌, Result, Ok}
 use Rattle.std.specs.Prelude.{Err, Option}
 use Prim.Native.Nat.{zero}
 use Rattle.yparse.specs.declared.machine.Mode.{Mode}
@@ -14,6 +14,7 @@ use Rattle.yparse.specs.declared.machine.Edit.TheVariants as edit
 use Rattle.ycli.specs.Command.{Command, Run, Back, To, Show, Tree, Unwind, Insert, Drop, Unknown}
 use Rattle.ytables.specs.declared.link.Link.{Link}
 use Rattle.ytables.specs.Sends.{Sends}
+use Rattle.ytables.specs.Text.{spaced_names}
 use Rattle.yparse.specs.Machine.{Machine, Configuration, symbols, next, edited}
 use Rattle.yparse.specs.Past.{Steps, Changes, position, back_by, to_first}
 use Rattle.yparse.specs.History.{History}
@@ -89,32 +90,28 @@ mode_word Popping = codes "popping"
 mode_word Accepted = codes "accepted"
 mode_word Failed = codes "failed"
 
--- each name after a space
-abbrev pub spaced_names : Machine → List ℕ → List ℕ
-spaced_names m form = flat_map (λ symbol. 32 ∷ m.name symbol) form
-
 -- the position, the mode, and what begins the line of the stack
-abbrev pub shown_head : History → List ℕ
-shown_head h = decimal (position h) ++ (codes " " ++ (mode_word h.now.mode ++ codes "\nstack:"))
+abbrev pub head_text : History → List ℕ
+head_text h = decimal (position h) ++ (codes " " ++ (mode_word h.now.mode ++ codes "\nstack:"))
 
 -- the symbols of the stack from the bottom
-abbrev pub shown_stack : Machine → History → List ℕ
-shown_stack m h = spaced_names m (symbols h.now.stack)
+abbrev pub stack_text : Machine → History → List ℕ
+stack_text m h = spaced_names m.name (symbols h.now.stack)
 
 -- the tokens that are left
-abbrev pub shown_rest : Machine → History → List ℕ
-shown_rest m h = spaced_names m (tokens_left h.now.rest)
+abbrev pub rest_text : Machine → History → List ℕ
+rest_text m h = spaced_names m.name (tokens_left h.now.rest)
 
 -- the recovery counter and the errors reported
-abbrev pub shown_counts : History → List ℕ
-shown_counts h =
+abbrev pub errors_text : History → List ℕ
+errors_text h =
     codes "\ncounter: " ++ (decimal h.now.counter
     ++ (codes "\nerrors: " ++ (decimal h.now.errors ++ codes "\n")))
 
 -- the five lines of a configuration
 abbrev pub configuration_text : Machine → History → List ℕ
 configuration_text m h =
-    shown_head h ++ (shown_stack m h ++ (codes "\nrest:" ++ (shown_rest m h ++ shown_counts h)))
+    head_text h ++ (stack_text m h ++ (codes "\nrest:" ++ (rest_text m h ++ errors_text h)))
 
 -- the forms of an accepted parse without error steps, from the last to the first, and then its
 -- start; else why there are none

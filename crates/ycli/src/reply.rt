@@ -9,7 +9,7 @@ ghost use Rattle.yparse.specs.Past.{position};
 ghost use Rattle.yparse.specs.Session.{machine_of, history_of};
 ghost use Rattle.ycli.specs.Reply.{step_line, refusal, kind_word, kind_tail};
 ghost use Rattle.ycli.specs.Reply.{mode_word, configuration_text};
-ghost use Rattle.ycli.specs.Reply.{shown_head, shown_stack, shown_rest, shown_counts};
+ghost use Rattle.ycli.specs.Reply.{head_text, stack_text, rest_text, errors_text};
 ghost use Rattle.ycli.specs.Command.{command_view};
 ghost use Rattle.ycli.specs.Reply.{Answers, edit_text};
 
@@ -167,7 +167,7 @@ fn to<W: Write>(session: &mut Session, writer: &mut Link<W>, position: usize) ->
 /// The position and the mode.
 fn put_head<W: Write>(session: &Session, writer: &mut Link<W>) -> Option<()>
     ensures { Sends W.contents writer.old writer.new (is_some result)
-        (shown_head (history_of session.now)) }
+        (head_text (history_of session.now)) }
 {
     let mut at = itoa::Buffer::new();
     let digits = at.format(session.position()).as_bytes();
@@ -180,7 +180,7 @@ fn put_head<W: Write>(session: &Session, writer: &mut Link<W>) -> Option<()>
 /// A space and a name.
 fn put_name<W: Write>(session: &Session, writer: &mut Link<W>, symbol: Sym) -> Option<()>
     ensures { Sends W.contents writer.old writer.new (is_some result)
-        (32 ∷ (machine_of session.now).name symbol) }
+        (codes " " ++ (machine_of session.now).name symbol) }
 {
     put_all(writer, &[b" ", session.name(symbol)])
 }
@@ -188,7 +188,7 @@ fn put_name<W: Write>(session: &Session, writer: &mut Link<W>, symbol: Sym) -> O
 /// The symbols of the stack from the bottom.
 fn put_stack<W: Write>(session: &Session, writer: &mut Link<W>) -> Option<()>
     ensures { Sends W.contents writer.old writer.new (is_some result)
-        (shown_stack (machine_of session.now) (history_of session.now)) }
+        (stack_text (machine_of session.now) (history_of session.now)) }
 {
     let view = session.view();
     for index in 0..view.stack_len() {
@@ -200,7 +200,7 @@ fn put_stack<W: Write>(session: &Session, writer: &mut Link<W>) -> Option<()>
 /// The tokens that are left.
 fn put_rest<W: Write>(session: &Session, writer: &mut Link<W>) -> Option<()>
     ensures { Sends W.contents writer.old writer.new (is_some result)
-        (shown_rest (machine_of session.now) (history_of session.now)) }
+        (rest_text (machine_of session.now) (history_of session.now)) }
 {
     let view = session.view();
     for index in 0..view.rest_len() {
@@ -211,9 +211,9 @@ fn put_rest<W: Write>(session: &Session, writer: &mut Link<W>) -> Option<()>
 }
 
 /// The recovery counter and the errors reported.
-fn put_counts<W: Write>(session: &Session, writer: &mut Link<W>) -> Option<()>
+fn put_errors<W: Write>(session: &Session, writer: &mut Link<W>) -> Option<()>
     ensures { Sends W.contents writer.old writer.new (is_some result)
-        (shown_counts (history_of session.now)) }
+        (errors_text (history_of session.now)) }
 {
     let view = session.view();
     let mut counter = itoa::Buffer::new();
@@ -227,7 +227,7 @@ fn put_counts<W: Write>(session: &Session, writer: &mut Link<W>) -> Option<()>
 }
 
 /// The five lines of the configuration now.
-fn put_shown<W: Write>(session: &Session, writer: &mut Link<W>) -> Option<()>
+fn put_configuration<W: Write>(session: &Session, writer: &mut Link<W>) -> Option<()>
     ensures { Sends W.contents writer.old writer.new (is_some result)
         (configuration_text (machine_of session.now) (history_of session.now)) }
 {
@@ -235,7 +235,7 @@ fn put_shown<W: Write>(session: &Session, writer: &mut Link<W>) -> Option<()>
     put_stack(session, writer)?;
     put(writer, b"\nrest:")?;
     put_rest(session, writer)?;
-    put_counts(session, writer)
+    put_errors(session, writer)
 }
 
 /// A line for each tree of the stack.
@@ -320,7 +320,7 @@ fn reply<W: Write>(session: &mut Session, command: Command<'_>, writer: &mut Lin
         Command::Run(count) => run(session, writer, count),
         Command::Back(count) => back(session, writer, count),
         Command::To(position) => to(session, writer, position),
-        Command::Show => put_shown(session, writer),
+        Command::Show => put_configuration(session, writer),
         Command::Tree => tree(session, writer),
         Command::Unwind => unwind(session, writer),
         Command::Insert(bytes) => insert(session, writer, bytes),

@@ -6,6 +6,7 @@ use Rattle.std.proofs.Math.ListN.{set, length-set}
 use Rattle.ygrammar.specs.Grammar.{ContextFree, left_of}
 use Rattle.ygrammar.specs.WellFormed.{WellFormed}
 use Rattle.ylalr.specs.declared.items.Item.{Item}
+use Rattle.ylalr.specs.Collection.{most_states}
 use Rattle.ylalr.specs.Sets.{Before, IsAscending, InRange}
 use Rattle.ylalr.specs.States.{StateLists, set_at, start_item}
 use Rattle.ylalr.specs.Places.{Places, At, Starts, Shares, AreRows, FillRows, AreLefts, TakesRow}
@@ -354,7 +355,7 @@ placing_push g s q rows more list total end p em f hn = subst (λ xs. Placing g 
     apart n m i k t (inr h) (inr l) a b = h ∙ sym l
 
 pub placing_all : (g : ContextFree) (s : StateLists) (q : ℕ) (l : Places) → q ≡ length s.closures →
-    length s.closures ≤ 16384 → Placing g s q l.rows l.total → ArePlaces g s l
+    length s.closures ≤ most_states → Placing g s q l.rows l.total → ArePlaces g s l
 placing_all g s q l e few p = record {
   sized = p.sized ∙ e;
   rows = λ n h. p.each n (subst (λ t. n < t) (sym e) h);

@@ -13,7 +13,7 @@ use Rattle.ylalr.proofs.WaitingSteps.{head_or, line_nearer}
 
 pub record Spreading (l : List (List ℕ)) (m n : BitRows) (w : Queue) : Type 0 where
   pub sized : IsSized m.height m.width n
-  pub line : length w.marks ≡ m.height
+  pub marks : length w.marks ≡ m.height
   pub sound : (r c : ℕ) → Holds n r c → Reaches l m r c
   pub kept : (r c : ℕ) → Holds m r c → Holds n r c
   pub waits : (p : ℕ) → p < m.height → PassesOn l n p ⊎ Contains w.queue p
@@ -23,7 +23,7 @@ pub spreading_none : (l : List (List ℕ)) (m : BitRows) (w : Queue) → length 
     ((p : ℕ) → p < m.height → Contains w.queue p) → Spreading l m m w
 spreading_none l m w e every = record {
   sized = record { rows = refl; columns = refl };
-  line = e;
+  marks = e;
   sound = λ r c h. given h;
   kept = λ r c h. h;
   waits = λ p h. inr (every p h);
@@ -41,7 +41,7 @@ spreading_give l m n o v w x p s e ew g = record {
     rows = g.sized.rows ∙ s.sized.rows;
     columns = g.sized.columns ∙ s.sized.columns;
   };
-  line = g.line ∙ ew ∙ s.line;
+  marks = g.marks ∙ ew ∙ s.marks;
   sound = sound;
   kept = λ r c h. (g.adds r c).1 (inl (s.kept r c h));
   waits = λ r h. waits r (same_or r p) (s.waits r h) (g.waits r);
@@ -101,7 +101,7 @@ pub gives_none : (p : ℕ) (m : BitRows) (v : Queue) → length v.queue ≤ leng
     Gives [] p m v m v
 gives_none p m v few = record {
   sized = record { rows = refl; columns = refl };
-  line = refl;
+  marks = refl;
   few = few;
   adds = λ r c. ((λ h. inl h), back r c);
   waits = λ r. inl (λ c h. h);
@@ -153,7 +153,7 @@ pub gives_same : (to : List ℕ) (p t : ℕ) (m n o : BitRows) (v w x : Queue) �
 gives_same to p t m n o v w x g a eo ex = subst (λ (y : Queue). Gives (to ++ t ∷ []) p m v o y)
     (sym ex) (record {
       sized = subst (IsSized m.height m.width) (sym eo) g.sized;
-      line = g.line;
+      marks = g.marks;
       few = g.few;
       adds = λ r c. adds_push to p t m n o g.adds a r c;
       waits = λ r. subst (λ (y : BitRows). SameRow m y r ⊎ Contains w.queue r) (sym eo) (g.waits r);
@@ -167,9 +167,9 @@ pub gives_grew : (to : List ℕ) (p t : ℕ) (m n o : BitRows) (v w x : Queue) �
     AddsFrom n o t n p → IsSized n.height n.width o → room o < room n →
     length x.marks ≡ length w.marks → length x.queue ≤ length x.marks → Contains x.queue t →
     ((r : ℕ) → Contains w.queue r → Contains x.queue r) → Gives (to ++ t ∷ []) p m v o x
-gives_grew to p t m n o v w x g a es less line few there kept = record {
+gives_grew to p t m n o v w x g a es less marks few there kept = record {
   sized = record { rows = es.rows ∙ g.sized.rows; columns = es.columns ∙ g.sized.columns };
-  line = line ∙ g.line;
+  marks = marks ∙ g.marks;
   few = few;
   adds = λ r c. adds_push to p t m n o g.adds a r c;
   waits = λ r. waits r (same_or r t) (g.waits r);
@@ -195,7 +195,7 @@ gives_grew to p t m n o v w x g a es less line few there kept = record {
 pub spread_nearer : (l : List (List ℕ)) (n o : BitRows) (v w x : Queue) (p : ℕ) →
     v.queue ≡ p ∷ w.queue → length w.marks ≡ length v.marks → Gives (get_or l p []) p n w o x →
     room o * (length x.marks + 1) + length x.queue < room n * (length v.marks + 1) + length v.queue
-spread_nearer l n o v w x p e ew g = line_nearer (room n) (room o) v w x p e ew g.line g.few g.fewer
+spread_nearer l n o v w x p e ew g = line_nearer (room n) (room o) v w x p e ew g.marks g.few g.fewer
     g.calm
 
 pub linked_at : (n : ℕ) (l : List (List ℕ)) (p k : ℕ) (xs : List ℕ) → AreLinks n l →

@@ -5,6 +5,7 @@ use Rattle.std.specs.List.{Contains}
 use Rattle.ygrammar.specs.Grammar.{ContextFree}
 use Rattle.ygrammar.specs.WellFormed.{WellFormed}
 use Rattle.ylalr.specs.declared.items.Item.{Item}
+use Rattle.ylalr.specs.Collection.{most_states}
 use Rattle.ylalr.specs.Sets.{IsClosure, IsAscending, InRange}
 use Rattle.ylalr.specs.States.{StateLists, set_at, start_item, IsState, AreStates, Extends, MayJoin}
 use Rattle.ylalr.specs.States.{with_state, IsFresh, Overflows}
@@ -143,7 +144,7 @@ pub start_ascending : IsAscending (start_item ∷ [])
 start_ascending = one_ascending start_item
 
 pub overflows : (g : ContextFree) (s : StateLists) (k w : List Item) → AreStates g s → MayJoin g k →
-    IsFresh s k → IsClosure g k w → IsAscending w → InRange g w → 16384 ≤ length s.closures →
+    IsFresh s k → IsClosure g k w → IsAscending w → InRange g w → most_states ≤ length s.closures →
     Overflows g
 overflows g s k w are may fresh shut asc range h = (
   with_state s k w,

@@ -19,6 +19,7 @@ use Rattle.ylalr.specs.States.{Overflows}
 use Rattle.ylalr.specs.Looks.{SoundLooks, ClosedLooks}
 use Rattle.ylalr.specs.Places.{Places, IsPlace, rows_at}
 use Rattle.ylalr.specs.Collection.{HasStates, IsGoto, Guide, IsGuide, TooMany}
+use Rattle.ylalr.specs.Collection.{most_states}
 use Rattle.ylalr.proofs.Cores.{every, once, core_start, core_goto, source_item}
 use Rattle.ylalr.proofs.LookSteps.{looks_exact, looks_none}
 
@@ -46,7 +47,7 @@ module _ (v : GrammarValue) (f : WellFormed v.bare) (t : StateLists) (rows : Lis
       IsGoto (record { grammar = v; states = t.closures; gotos = rows }) q x (goto_of rows q x)
   goto_is q x h l = goto_at q x (goto_of rows q x) (gotos q x h l)
 
-  pub has_states : length t.closures ≤ 16384 →
+  pub has_states : length t.closures ≤ most_states →
       HasStates (record { grammar = v; states = t.closures; gotos = rows })
   has_states few = record {
     first = core_start v.bare f (set_at t.closures 0)

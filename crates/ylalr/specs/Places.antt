@@ -4,7 +4,7 @@ use Rattle.std.specs.Prelude.{ℕ, ◌≡◌, ◌<◌, ◌≤◌, ◌+◌, ◌�
 use Rattle.std.specs.Prelude.{slice_set, Option, Some, None, MatchOption}
 use Rattle.ygrammar.specs.Grammar.{ContextFree, left_of}
 use Rattle.ylalr.specs.declared.items.Item.{Item}
-use Rattle.ylalr.specs.Rows.{BitRows, Holds, IsSized}
+use Rattle.ylalr.specs.Rows.{BitRows, Holds, IsSized, most_rows}
 use Rattle.ylalr.specs.States.{StateLists, set_at}
 
 -- the rows of the items of each state, and how many rows there are
@@ -80,7 +80,7 @@ pub record ArePlaces (g : ContextFree) (s : StateLists) (l : Places) : Type 0 wh
   pub rows : (q : ℕ) → q < length s.closures → AreRows g (set_at s.closures q) (rows_at l q)
   pub below : (q : ℕ) (i : Item) (p : ℕ) → IsPlace s l q i p → p < l.total
   pub apart : (q n : ℕ) (i k : Item) (p : ℕ) → IsPlace s l q i p → IsPlace s l n k p → q ≡ n
-  pub small : l.total ≤ 34359738368
+  pub small : l.total ≤ most_rows
 
 -- the row of the item i of state q, or none where the state doesn't have it
 abbrev pub IsPlaceOf : StateLists → Places → ℕ → Item → Option ℕ → Type 0

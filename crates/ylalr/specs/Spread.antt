@@ -12,7 +12,7 @@ SameRow m n r = (c : ℕ) → Holds n r c → Holds m r c
 pub record Gives (to : List ℕ) (p : ℕ) (m : BitRows) (v : Queue) (n : BitRows) (w : Queue) : Type 0
   where
     pub sized : IsSized m.height m.width n
-    pub line : length w.marks ≡ length v.marks
+    pub marks : length w.marks ≡ length v.marks
     pub few : length w.queue ≤ length w.marks
     pub adds : (r c : ℕ) → Holds n r c ↔ (Holds m r c ⊎ (Contains to r × Holds m p c))
     pub waits : (r : ℕ) → SameRow m n r ⊎ Contains w.queue r

@@ -29,7 +29,7 @@ fn want(grammar: &Grammar, first_rules: &Rows, kernel: &[Item], wanted: &mut Row
 }
 
 /// Adds the first items of the wanted rules from `from` up to `to`.
-fn push_opened(
+fn push_first_items(
     items: &mut Sequence<Item>,
     wanted: &Rows,
     from: usize,
@@ -56,7 +56,7 @@ fn push_opened(
     Ok(())
 }
 
-/// Up to which rule opened items come before this item of a kernel.
+/// Up to which rule first items come before this item of a kernel.
 fn until(item: Item) -> usize
     requires { item.rule < 2 ^ 63 }
     ensures first { item.dot ≡ 0 → result ≡ item.rule }
@@ -86,11 +86,11 @@ fn merge(
     let mut items = Sequence::new(alloc);
     let mut at = 0;
     for item in kernel {
-        push_opened(&mut items, wanted, at, until(*item))?;
+        push_first_items(&mut items, wanted, at, until(*item))?;
         items.push(*item)?;
         at = item.rule + 1;
     }
-    push_opened(&mut items, wanted, at, rules)?;
+    push_first_items(&mut items, wanted, at, rules)?;
     Ok(items)
 }
 

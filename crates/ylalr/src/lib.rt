@@ -53,4 +53,4 @@ mod waiting;
 pub use automaton::{Automaton, build};
 pub use fault::BuildFault;
 pub use items::Item;
-pub use tokens::{END, token_count};
+pub use tokens::{END, ERROR, token_count};

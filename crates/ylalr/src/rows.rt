@@ -3,7 +3,8 @@
 ghost use Rattle.std.specs.Prelude.{ℕ, ◌≡◌, ◌+◌, ◌*◌, ◌<◌, ◌≤◌, ◌↔◌, ◌⊎◌, true, false, length};
 ghost use Rattle.std.specs.Prelude.{IfOk, IsTrue};
 ghost use Rattle.ygrammar.specs.Grammar.{most_rules};
-ghost use Rattle.ylalr.specs.Rows.{BitRows, Holds, IsSized, AddsFrom, GrowsIf, room, unite};
+ghost use Rattle.ylalr.specs.Rows.{BitRows, Holds, IsSized, AddsFrom, GrowsIf, most_rows};
+ghost use Rattle.ylalr.specs.Rows.{room, unite};
 
 use std::alloc::{AllocError, Global};
 use std::marker::Model;
@@ -35,7 +36,7 @@ impl Model for Rows {
 impl Rows {
     /// Rows with no bit set.
     pub fn new(alloc: Global, height: usize, width: usize) -> Result<Rows, AllocError>
-        requires tall { height ≤ 34359738368 }
+        requires tall { height ≤ most_rows }
         requires wide { width ≤ most_rules }
         ensures sized { IfOk result (λ m. IsSized height width m) }
         ensures empty { IfOk result (λ m. (r c : ℕ) → Holds m r c → ⊥) }

@@ -16,7 +16,7 @@ use std::alloc::{AllocError, Global};
 fn give(links: &Links, p: usize, rows: &mut Rows, waiting: &mut Waiting) -> Result<(), AllocError>
     requires links { AreLinks rows.old.height links.now }
     requires row { p < rows.old.height }
-    requires line { length waiting.old.marks ≡ rows.old.height }
+    requires marks { length waiting.old.marks ≡ rows.old.height }
     requires few { length waiting.old.queue ≤ length waiting.old.marks }
     ensures { OnOk result
         (Gives (slice_index_or links.now p []) p rows.old waiting.old rows.new waiting.new) }

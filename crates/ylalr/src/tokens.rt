@@ -1,4 +1,4 @@
-//! The tokens of a grammar: how many there are, and which is the end.
+//! The tokens of a grammar: how many there are, and which are the end and `error`.
 
 ghost use Rattle.std.specs.Prelude.{◌≡◌};
 
@@ -6,6 +6,9 @@ use ygrammar::{Grammar, Sym};
 
 /// The number of `$end`.
 pub const END: Sym = 0;
+
+/// The number of `error`.
+pub const ERROR: Sym = 1;
 
 /// How many of the symbols are tokens. They are the numbers below this.
 pub fn token_count(grammar: &Grammar) -> usize

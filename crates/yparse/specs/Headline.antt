@@ -9,7 +9,8 @@ use Rattle.ytables.specs.Cell.{by_default}
 use Rattle.ytables.specs.Tables.{cell_by, default_by}
 use Rattle.yparse.specs.Machine.{Machine, Move, Error}
 use Rattle.yparse.specs.MachineOver.{move_of}
-use Rattle.yparse.specs.Tables.{name_of, symbol_named, token_count}
+use Rattle.ytables.specs.Text.{name_of}
+use Rattle.yparse.specs.Tables.{symbol_named, token_count}
 
 -- the items k, in order and at least one, are all that are valid for the stack's symbols
 abbrev pub IsStateOf : ContextFree → List ℕ → List Item → Type 0

@@ -3,7 +3,8 @@ use Rattle.ytables.specs.declared.cell.Action.{Action}
 use Rattle.ytables.specs.declared.cell.Action.TheVariants as actions
 use Rattle.ytables.specs.Tables.{TablesValue as Tables}
 use Rattle.yparse.specs.Machine.{Machine, Move, Shift, Reduce, Accept, Error}
-use Rattle.yparse.specs.Tables.{name_of, symbol_named, token_count, rule_of, state_after, cell_in}
+use Rattle.ytables.specs.Text.{name_of}
+use Rattle.yparse.specs.Tables.{symbol_named, token_count, rule_of, state_after, cell_in}
 
 -- an action without its state number
 abbrev pub move_of : Action → Move

@@ -8,7 +8,7 @@ use Rattle.yparse.specs.Past.{Past, Follows, Changes, most_steps}
 
 -- What a step or an edit answers and leaves, where one function says what a step makes and the
 -- other what is to be made: a change that leads to it and back; or no change, where no step
--- follows, or else what is to be made can't be, or else memory is wanted.
+-- follows, or else what is to be made can't be, or else there is no memory.
 abbrev pub Advances : {S C K : Type 0} → (S → Option (K × S)) → (S → Option (K × S)) → (C → S → S)
     → (C → K) → (C → S → Bool) → S → Result C StepFault → S → Type 0
 Advances next made before kind fits old (Ok change) new =

@@ -1,17 +1,13 @@
 -- What the tables say: cells and gotos by state, rules by number, names by symbol.
-use Rattle.std.specs.Prelude.{ℕ, ◌&&◌, Bool, nat_lt, List, [], ◌∷◌, length, slice_index_or, Option}
+use Rattle.std.specs.Prelude.{ℕ, ◌&&◌, Bool, nat_lt, List, [], ◌∷◌, length, Option}
 use Rattle.std.specs.Prelude.{Some, None, if◌then◌else◌}
-use Rattle.ygrammar.specs.Grammar.{Production, GrammarValue}
+use Rattle.ygrammar.specs.Grammar.{Production, GrammarValue, error_token}
 use Rattle.ygrammar.specs.Grammar as grammar
 use Rattle.ygrammar.specs.Names.{find_in}
 use Rattle.ylalr.specs.Collection.{goto_in}
 use Rattle.ytables.specs.declared.cell.Action.{Action}
 use Rattle.ytables.specs.declared.cell.Action.TheVariants as actions
 use Rattle.ytables.specs.Tables.{TablesValue as Tables, action_at}
-
--- the printed name of a symbol, empty for a number that is no symbol
-abbrev pub name_of : GrammarValue → ℕ → List ℕ
-name_of v symbol = slice_index_or v.names symbol []
 
 -- the number of the symbol with this printed name
 abbrev pub symbol_named : GrammarValue → List ℕ → Option ℕ
@@ -23,7 +19,7 @@ token_count v = v.bare.tokens
 
 -- input tokens are those other than `$end` and `error`; tokens have the numbers below `tokens`
 abbrev pub is_input : ℕ → ℕ → Bool
-is_input tokens symbol = nat_lt 1 symbol && nat_lt symbol tokens
+is_input tokens symbol = nat_lt error_token symbol && nat_lt symbol tokens
 
 -- the left side and the body of a rule
 abbrev pub rule_of : Tables → ℕ → Production

@@ -1,7 +1,7 @@
 -- What a list of tokens is.
 use Rattle.std.specs.Prelude.{ℕ, ◌<◌, List}
 use Rattle.std.specs.List.{All}
-use Rattle.ygrammar.specs.Grammar.{GrammarValue}
+use Rattle.ygrammar.specs.Grammar.{GrammarValue, error_token}
 use Rattle.yparse.specs.declared.tokens.Tokens.{Tokens}
 use Rattle.yparse.specs.Tables.{token_count}
 
@@ -11,7 +11,7 @@ symbols_of tokens = tokens.symbols.items
 
 -- a token other than `$end` and `error`; tokens have the numbers below the number of tokens
 abbrev pub IsInput : ℕ → ℕ → Type 0
-IsInput tokens symbol = (1 < symbol) × (symbol < tokens)
+IsInput tokens symbol = (error_token < symbol) × (symbol < tokens)
 
 -- each of the symbols is an input token of the grammar
 abbrev pub Fits : GrammarValue → List ℕ → Type 0

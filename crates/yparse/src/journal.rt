@@ -14,7 +14,7 @@ use std::marker::Model;
 use ytables::Link;
 
 /// How many steps may stand.
-const MAX_POSITION: usize = 1_000_000;
+const MOST_STEPS: usize = 1_000_000;
 
 /// A machine, and the changes of the steps that stand, the newest last.
 #[derive(Drop)]
@@ -58,7 +58,7 @@ fn keep<M: Reversible>(
         (past_by M.before M.kind machine.new changes.new.items)
         × IsJournal M.before M.fits machine.new changes.new.items }
 {
-    let full = changes.len() >= MAX_POSITION;
+    let full = changes.len() >= MOST_STEPS;
     match made {
         Ok(change) => {
             if full {

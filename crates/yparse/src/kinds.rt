@@ -14,6 +14,7 @@ use crate::rest::{is_left, token_ahead};
 use crate::tables::{cell, grammar_of, known};
 use crate::tokens::{Tokens, is_input};
 use ygrammar::Sym;
+use ylalr::ERROR;
 use ytables::{Action, Tables};
 
 /// The kind of the step of a running parse.
@@ -35,7 +36,7 @@ fn kind_running(tables: &Tables, tokens: &[Sym], parts: &Parts, state: usize) ->
 fn kind_popping(tables: &Tables, parts: &Parts, state: usize) -> StepKind
     ensures { result ≡ popping_at tables.now (content_of parts.now) state }
 {
-    if let Action::Shift(_) = cell(tables, state, 1) {
+    if let Action::Shift(_) = cell(tables, state, ERROR) {
         return StepKind::ShiftError;
     }
     let len = parts.stack.len();

@@ -16,6 +16,7 @@ use crate::tables::{goto, rule_of};
 use crate::walk::Frame;
 use std::alloc::{AllocError, Global};
 use ygrammar::Sym;
+use ylalr::ERROR;
 use ytables::Tables;
 
 /// A symbol of the stack, the state to which the stack up to it leads, and its node.
@@ -258,8 +259,8 @@ fn shift_error(tables: &Tables, parts: &mut Parts)
         ≡ content_after tables.now kinds.ShiftError (content_of parts.old) }
     ensures capacity { KeepsRoom parts.old parts.new }
 {
-    let state = lead_of(tables, state_below(&parts.stack, parts.stack.len()), 1);
-    grow(parts, state, 1, Node::ErrorLeaf);
+    let state = lead_of(tables, state_below(&parts.stack, parts.stack.len()), ERROR);
+    grow(parts, state, ERROR, Node::ErrorLeaf);
     parts.mode = Mode::Running;
 }
 

@@ -8,6 +8,7 @@ ghost use Rattle.yparse.specs.Rest.{with_insertion, without_insertion, first_res
 
 use std::alloc::{AllocError, Global};
 use ygrammar::Sym;
+use ylalr::END;
 
 /// The tokens inserted and not taken, the next one last; how many of those first read were taken;
 /// and how many insertions stand, for which there is room.
@@ -46,7 +47,7 @@ pub(crate) fn token_ahead(tokens: &[Sym], rest: &Remaining) -> Sym
 {
     let len = rest.inserted.len();
     if len == 0 {
-        tokens.get(rest.at).copied().unwrap_or(0)
+        tokens.get(rest.at).copied().unwrap_or(END)
     } else {
         rest.inserted[len - 1]
     }

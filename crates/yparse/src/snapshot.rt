@@ -155,13 +155,11 @@ mod tests {
     use crate::view::View;
     use std::test::Fail;
     use ygrammar::{Sym, read_grammar};
-    use ylalr::build;
+    use ylalr::{ERROR, build};
     use ytables::resolve;
 
     /// Lists of numbers, each behind it a semicolon; `error` stands for one that is spoiled.
     const LIST: &[u8] = b"%token NUM %% list : | list NUM ';' | list error ';' ;";
-
-    const ERROR: Sym = 1;
 
     const NUM: Sym = 2;
 

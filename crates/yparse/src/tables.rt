@@ -5,6 +5,7 @@ ghost use Rattle.ygrammar.specs.WellFormed.{WellFormed};
 ghost use Rattle.ylalr.specs.Collection.{Guide, HasStates, IsGuide};
 ghost use Rattle.ytables.specs.Allowed.{CellsAllow};
 ghost use Rattle.ytables.specs.Tables.{AreTables};
+ghost use Rattle.ytables.specs.Text.{name_of};
 ghost use Rattle.yparse.specs.Cells.{IsSound};
 ghost use Rattle.yparse.specs.Headline.{IsMachineOf};
 ghost use Rattle.yparse.specs.History.{History};
@@ -12,7 +13,7 @@ ghost use Rattle.yparse.specs.Machine.{Machine};
 ghost use Rattle.yparse.specs.MachineOver.{machine_over};
 ghost use Rattle.yparse.specs.Rightmost.{AreInput, UnwindsRight};
 ghost use Rattle.yparse.specs.Sound.{Sound};
-ghost use Rattle.yparse.specs.Tables.{name_of, rule_of, goto_at, cell_at};
+ghost use Rattle.yparse.specs.Tables.{rule_of, goto_at, cell_at};
 
 use ygrammar::{Grammar, Sym};
 use ytables::{Action, Tables};

@@ -15,10 +15,11 @@ use crate::token_words::{Front, front_of, is_blank};
 use std::alloc::{AllocFailed, Global};
 use thiserror::Error;
 use ygrammar::{Grammar, Sym};
+use ylalr::ERROR;
 use ytables::Tables;
 
 /// The most tokens of an input.
-const MAX_TOKENS: usize = 1_000_000;
+const MOST_TOKENS: usize = 1_000_000;
 
 /// Why a tokens file is refused. A place is counted from 1.
 #[derive(Clone, Copy, Debug, PartialEq, Eq, Error)]
@@ -54,7 +55,7 @@ impl<T: Drop> From<AllocFailed<T>> for TokenFault {
 pub(crate) fn is_input(grammar: &Grammar, symbol: Sym) -> bool
     ensures { result ≡ is_input (token_count grammar.now) symbol }
 {
-    1 < symbol && grammar.is_token(symbol)
+    ERROR < symbol && grammar.is_token(symbol)
 }
 
 /// The tokens of an input, each a symbol of the tables that it was read for.
@@ -108,7 +109,7 @@ pub(crate) enum Next<'a> {
 
 /// The symbol that was found, where it is an input token, and what follows it; else K1 or K2 at
 /// this place.
-fn named<'a>(grammar: &Grammar, found: Option<Sym>, place: usize, after: &'a [u8]) -> Next<'a>
+fn next_by_name<'a>(grammar: &Grammar, found: Option<Sym>, place: usize, after: &'a [u8]) -> Next<'a>
     ensures { next_view result ≡ by_name (token_count grammar.now) place found after.entry.now }
 {
     match found {
@@ -126,13 +127,13 @@ fn next_in<'a>(grammar: &Grammar, read: usize, bytes: &'a [u8]) -> Next<'a>
 {
     match front_of(bytes) {
         Front::Nothing => Next::End,
-        Front::Broken if read == MAX_TOKENS => Next::Fault(TokenFault::TooMany),
+        Front::Broken if read == MOST_TOKENS => Next::Fault(TokenFault::TooMany),
         Front::Broken => Next::Fault(TokenFault::BadLiteral(read + 1)),
-        Front::Word(_, _) if read == MAX_TOKENS => Next::Fault(TokenFault::TooMany),
-        Front::Word(name, after) => named(grammar, grammar.find(name), read + 1, after),
-        Front::Literal(_, _) if read == MAX_TOKENS => Next::Fault(TokenFault::TooMany),
+        Front::Word(_, _) if read == MOST_TOKENS => Next::Fault(TokenFault::TooMany),
+        Front::Word(name, after) => next_by_name(grammar, grammar.find(name), read + 1, after),
+        Front::Literal(_, _) if read == MOST_TOKENS => Next::Fault(TokenFault::TooMany),
         Front::Literal(value, after) => {
-            named(grammar, grammar.find_literal(value), read + 1, after)
+            next_by_name(grammar, grammar.find_literal(value), read + 1, after)
         }
     }
 }

@@ -11,11 +11,8 @@ use Rattle.ytables.specs.declared.cell.Action.TheVariants.{Shift, Reduce, Accept
 use Rattle.ytables.specs.declared.cell.Cell.{Cell}
 use Rattle.ytables.specs.Tables.{TablesValue, action_at, default_at, cell_in, after_dot, is_empty}
 use Rattle.ytables.specs.Tables.{tokens_of, states_of}
-use Rattle.ytables.specs.Text.{name_of, count_line, pair_line, rules_of, nonterminals_of}
-
--- each name after a space
-abbrev pub name_list : GrammarValue → List ℕ → List ℕ
-name_list v symbols = flat_map (λ s. codes " " ++ name_of v s) symbols
+use Rattle.ytables.specs.Text.{name_of, spaced_names, count_line, pair_line, rules_of}
+use Rattle.ytables.specs.Text.{nonterminals_of}
 
 -- the number of a rule, its left side, and words
 abbrev pub rule_head : GrammarValue → ℕ → List ℕ → List ℕ
@@ -23,7 +20,7 @@ rule_head v r words = decimal r ++ (codes " " ++ (name_of v (left_of v.bare r) +
 
 -- the line of a rule
 abbrev pub rule_text : GrammarValue → ℕ → List ℕ
-rule_text v r = rule_head v r (codes ":") ++ (name_list v (body_of v.bare r) ++ codes "\n")
+rule_text v r = rule_head v r (codes ":") ++ (spaced_names (name_of v) (body_of v.bare r) ++ codes "\n")
 
 -- the line of a rule whose left side can't be reached
 abbrev pub unreachable_line : GrammarValue → ℕ → List ℕ
@@ -55,11 +52,11 @@ item_left v r = codes "  " ++ (name_of v (left_of v.bare r) ++ codes ":")
 -- the left side, and the body up to the dot, which is a period
 abbrev pub item_front : GrammarValue → Item → List ℕ
 item_front v i = item_left v i.rule ++
-    (name_list v (take i.dot (body_of v.bare i.rule)) ++ codes " .")
+    (spaced_names (name_of v) (take i.dot (body_of v.bare i.rule)) ++ codes " .")
 
 -- the body from the dot on, and for a complete item its lookaheads
 abbrev pub item_back : TablesValue → Guide → ℕ → Item → List ℕ
-item_back v u q i = name_list v.built.grammar (after_dot v.built.grammar.bare i) ++
+item_back v u q i = spaced_names (name_of v.built.grammar) (after_dot v.built.grammar.bare i) ++
     (on_text v u q i ++ codes "\n")
 
 -- the line of an item

@@ -1,11 +1,16 @@
 -- Words that the texts of the report and the table share.
-use Rattle.std.specs.Prelude.{ℕ, ◌-◌, ◌++◌, List, [], length, codes, decimal, slice_index_or}
+use Rattle.std.specs.Prelude.{ℕ, ◌-◌, ◌++◌, List, [], length, codes, decimal, flat_map}
+use Rattle.std.specs.Prelude.{slice_index_or}
 use Rattle.std.specs.List.{range_with_len}
 use Rattle.ygrammar.specs.Grammar.{GrammarValue}
 
--- the printed name of a symbol
+-- the printed name of a symbol, empty for a number that is no symbol
 abbrev pub name_of : GrammarValue → ℕ → List ℕ
 name_of v s = slice_index_or v.names s []
+
+-- each name after a space
+abbrev pub spaced_names : (ℕ → List ℕ) → List ℕ → List ℕ
+spaced_names name symbols = flat_map (λ s. codes " " ++ name s) symbols
 
 -- words, a number and a newline
 abbrev pub count_line : List ℕ → ℕ → List ℕ

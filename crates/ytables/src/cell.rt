@@ -95,7 +95,7 @@ impl Tally {
     }
 
     /// The cell that reduces by the least rule, each further one counted as a conflict.
-    fn reduced(&self, choice: bool) -> Cell
+    fn reduce(&self, choice: bool) -> Cell
         ensures { result ≡ reduce_of self.now choice }
     {
         if self.kept == 0 {
@@ -114,13 +114,13 @@ impl Tally {
         ensures { result ≡ settle self.now shift }
     {
         let Some(action) = shift else {
-            return self.reduced(self.all > 1);
+            return self.reduce(self.all > 1);
         };
         if self.banned {
             return lone(Action::Error, true);
         }
         if self.beaten {
-            return self.reduced(true);
+            return self.reduce(true);
         }
         Cell {
             action,

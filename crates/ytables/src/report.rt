@@ -8,8 +8,8 @@ ghost use Rattle.ytables.specs.declared.fault.TableFault.{TableFault};
 ghost use Rattle.ytables.specs.Link.{device_of, has_failed};
 ghost use Rattle.ytables.specs.Sends.{Sends, Grows};
 ghost use Rattle.ytables.specs.Tables.{default_at, tokens_of};
-ghost use Rattle.ytables.specs.Text.{name_of, pair_line, rules_of};
-ghost use Rattle.ytables.specs.Report.{name_list, rule_head, rule_text, unreachable_line};
+ghost use Rattle.ytables.specs.Text.{name_of, pair_line, rules_of, spaced_names};
+ghost use Rattle.ytables.specs.Report.{rule_head, rule_text, unreachable_line};
 ghost use Rattle.ytables.specs.Report.{token_line, look_text, looks_text, on_text, item_left};
 ghost use Rattle.ytables.specs.Report.{item_front, item_back, item_line, action_line, goto_line};
 ghost use Rattle.ytables.specs.Report.{conflict_line, actions_text, rule_or_actions};
@@ -40,7 +40,7 @@ fn put_name<W: Write>(link: &mut Link<W>, grammar: &Grammar, s: Sym) -> Option<(
 fn put_names<W: Write>(link: &mut Link<W>, grammar: &Grammar, symbols: &[Sym]) -> Option<()>
     requires { All (λ s. s < grammar.now.bare.symbols) symbols.now }
     ensures { Sends W.contents link.old link.new (is_some result)
-        (name_list grammar.now symbols.now) }
+        (spaced_names (name_of grammar.now) symbols.now) }
 {
     for s in symbols {
         put_name(link, grammar, *s)?;
@@ -49,7 +49,7 @@ fn put_names<W: Write>(link: &mut Link<W>, grammar: &Grammar, symbols: &[Sym]) -
 }
 
 /// The number of a rule, its left side, and words.
-fn put_headed<W: Write>(link: &mut Link<W>, grammar: &Grammar, r: usize, words: &[u8]) -> Option<()>
+fn put_rule_head<W: Write>(link: &mut Link<W>, grammar: &Grammar, r: usize, words: &[u8]) -> Option<()>
     requires { r < length grammar.now.bare.rules }
     ensures { Sends W.contents link.old link.new (is_some result)
         (rule_head grammar.now r words.now) }
@@ -69,7 +69,7 @@ fn put_rule<W: Write>(link: &mut Link<W>, grammar: &Grammar, r: usize) -> Option
     ensures { Sends W.contents link.old link.new (is_some result) (rule_text grammar.now r) }
 {
     let _well_formed = grammar.symbols();
-    put_headed(link, grammar, r, b":")?;
+    put_rule_head(link, grammar, r, b":")?;
     put_names(link, grammar, grammar.rule(r).body())?;
     put(link, b"\n")
 }
@@ -94,7 +94,7 @@ fn put_unreachable<W: Write>(link: &mut Link<W>, grammar: &Grammar, r: usize) ->
     if grammar.reachable(grammar.rule(r).left()) {
         Some(())
     } else {
-        put_headed(link, grammar, r, b"\n")
+        put_rule_head(link, grammar, r, b"\n")
     }
 }
 

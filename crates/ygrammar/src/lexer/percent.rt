@@ -37,9 +37,8 @@ pub fn percent_at<'a>(bytes: &'a [u8]) -> Result<(Part<'a>, &'a [u8]), LexicalFa
     requires { begins_percent bytes.now ≡ true }
     ensures { Reads bytes.now result }
 {
-    match after_text(bytes, b"%%") {
-        Some(rest) => return Ok((Part::Lexeme(Lexeme::Fixed(Sign::Mark)), rest)),
-        None => {}
+    if let Some(rest) = after_text(bytes, b"%%") {
+        return Ok((Part::Lexeme(Lexeme::Fixed(Sign::Mark)), rest));
     }
     match after_text(bytes, b"%{") {
         Some(more) => code_end(bytes, more),

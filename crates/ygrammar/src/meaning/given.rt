@@ -129,12 +129,9 @@ pub fn given_numbers(
         fault: None,
     };
     for i in 0..listed.len() {
-        match listed[i].digits {
-            None => {}
-            Some(digits) => {
-                let token = number_of(tokens, listed[i].who.who);
-                given.add(i, token, fit_number(digits.digits));
-            }
+        if let Some(digits) = listed[i].digits {
+            let token = number_of(tokens, listed[i].who.who);
+            given.add(i, token, fit_number(digits.digits));
         }
     }
     Ok(given)
@@ -147,9 +144,8 @@ fn fill_literal(table: &mut Vec<Option<u32>>, tokens: &SymbolTable, who: Identif
         OwnSoFar (texts tokens.now) table.old.items (literal_value (identifier_view who.entry
         ∷ rest)) own → OwnSoFar (texts tokens.now) table.new.items (literal_value rest) own }
 {
-    match who {
-        Identifier::Named(_) => {}
-        Identifier::Quoted(value) => fill(table, number_of(tokens, who), u32::from(value)),
+    if let Identifier::Quoted(value) = who {
+        fill(table, number_of(tokens, who), u32::from(value));
     }
 }
 

@@ -31,22 +31,14 @@ impl Holders {
     pub fn is_held(self) -> bool
         ensures { result ≡ is_held self }
     {
-        match self {
-            Holders::Nobody => false,
-            Holders::One(_) => true,
-            Holders::Several => true,
-        }
+        !matches!(self, Holders::Nobody)
     }
 
     /// Whether several tokens hold it.
     fn is_shared(self) -> bool
         ensures { MatchBool result (self ≡ Several) (self ≡ Several → ⊥) }
     {
-        match self {
-            Holders::Nobody => false,
-            Holders::One(_) => false,
-            Holders::Several => true,
-        }
+        matches!(self, Holders::Several)
     }
 
     /// These, and a token.
@@ -84,9 +76,8 @@ fn own_holders(alloc: Global, own: &[Option<u32>], count: usize) -> Result<Vec<H
 {
     let mut holders = vec![in alloc; Holders::Nobody; count]?;
     for token in 0..own.len() {
-        match own[token] {
-            None => {}
-            Some(number) => hold(&mut holders, token, number),
+        if let Some(number) = own[token] {
+            hold(&mut holders, token, number);
         }
     }
     Ok(holders)

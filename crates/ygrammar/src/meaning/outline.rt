@@ -76,9 +76,7 @@ fn push_declared<'a>(
     match definition {
         Definition::Start(who, _) => found.push(*who)?,
         Definition::Listing(line) => push_entries(found, &line.entries)?,
-        Definition::Union(_) => {}
-        Definition::Block => {}
-        Definition::Types(_) => {}
+        Definition::Union(_) | Definition::Block | Definition::Types(_) => {}
     }
     Ok(())
 }
@@ -106,12 +104,8 @@ fn all_starts<'a>(
 {
     let mut found = Vec::new(alloc);
     for definition in definitions {
-        match definition {
-            Definition::Start(who, at) => found.push(Started { who: *who, at: *at })?,
-            Definition::Listing(_) => {}
-            Definition::Union(_) => {}
-            Definition::Block => {}
-            Definition::Types(_) => {}
+        if let Definition::Start(who, at) = definition {
+            found.push(Started { who: *who, at: *at })?;
         }
     }
     Ok(found)
@@ -137,12 +131,8 @@ fn all_typed<'a>(
 {
     let mut found = Vec::new(alloc);
     for definition in definitions {
-        match definition {
-            Definition::Types(line) => push_names(&mut found, &line.names)?,
-            Definition::Start(_, _) => {}
-            Definition::Listing(_) => {}
-            Definition::Union(_) => {}
-            Definition::Block => {}
+        if let Definition::Types(line) = definition {
+            push_names(&mut found, &line.names)?;
         }
     }
     Ok(found)
@@ -190,17 +180,11 @@ fn all_listed<'a>(
     let mut found = Vec::new(alloc);
     let mut level: usize = 0;
     for definition in definitions {
-        match definition {
-            Definition::Listing(line) => {
-                if line.word != Word::Token {
-                    level += 1;
-                }
-                push_listed(&mut found, given_by(line.word, level), &line.entries)?;
+        if let Definition::Listing(line) = definition {
+            if line.word != Word::Token {
+                level += 1;
             }
-            Definition::Types(_) => {}
-            Definition::Start(_, _) => {}
-            Definition::Union(_) => {}
-            Definition::Block => {}
+            push_listed(&mut found, given_by(line.word, level), &line.entries)?;
         }
     }
     Ok(found)
@@ -212,9 +196,8 @@ fn all_lefts<'a>(alloc: Global, rule_texts: &[RuleText<'a>]) -> Result<Vec<NameA
 {
     let mut found = Vec::new(alloc);
     for rule_text in rule_texts {
-        match rule_text.left {
-            Some(name) => found.push(name)?,
-            None => {}
+        if let Some(name) = rule_text.left {
+            found.push(name)?;
         }
     }
     Ok(found)
@@ -227,9 +210,8 @@ fn push_items<'a>(found: &mut Vec<Occurrence<'a>>, items: &[BodyPart<'a>]) -> Re
         (map body_part_view items.now)) }
 {
     for item in items {
-        match item {
-            BodyPart::Symbol(who) => found.push(*who)?,
-            BodyPart::Action(_) => {}
+        if let BodyPart::Symbol(who) = item {
+            found.push(*who)?;
         }
     }
     Ok(())
@@ -244,9 +226,8 @@ fn push_prec<'a>(
         ≡ map occurrence_view found.old.items ++ option_list
         (option_view occurrence_view prec.entry)) }
 {
-    match prec {
-        Some(who) => found.push(who)?,
-        None => {}
+    if let Some(who) = prec {
+        found.push(who)?;
     }
     Ok(())
 }

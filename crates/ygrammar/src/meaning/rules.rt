@@ -75,13 +75,10 @@ fn intern_inner(
 {
     let mut next = k;
     for item in items {
-        match item {
-            BodyPart::Symbol(_) => {}
-            BodyPart::Action(_) => {
-                let name = inner_name(alloc, next)?;
-                intern(alloc, names, &name)?;
-                next += 1;
-            }
+        if let BodyPart::Action(_) = item {
+            let name = inner_name(alloc, next)?;
+            intern(alloc, names, &name)?;
+            next += 1;
         }
     }
     Ok(next)
@@ -261,9 +258,8 @@ fn push_inner_texts(items: &[BodyPart], texts: &mut Texts) -> Result<(), AllocEr
         }) }
 {
     for item in items {
-        match item {
-            BodyPart::Symbol(_) => {}
-            BodyPart::Action(text) => texts.push(Some(*text))?,
+        if let BodyPart::Action(text) = item {
+            texts.push(Some(*text))?;
         }
     }
     Ok(())

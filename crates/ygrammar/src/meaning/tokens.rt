@@ -47,9 +47,8 @@ fn intern_literals(
         (map printed_name (filter is_literal (map occurrence_view occurrences.now)))) }
 {
     for occurrence in occurrences {
-        match occurrence.who {
-            Identifier::Quoted(_) => intern_identifier(alloc, names, occurrence.who)?,
-            Identifier::Named(_) => {}
+        if let Identifier::Quoted(_) = occurrence.who {
+            intern_identifier(alloc, names, occurrence.who)?;
         }
     }
     Ok(())

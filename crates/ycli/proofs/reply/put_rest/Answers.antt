@@ -1,10 +1,10 @@
 use Rattle.std.proofs.Common.{ap, is_some, ◌≡◌, ◌+◌, suc, take, subst, ◌∷◌, ℕ, List, true, false}
 use Rattle.std.proofs.Common.{arith}
 use Rattle.ytables.specs.Sends.{Sends}
+use Rattle.ytables.specs.Text.{spaced_names}
 use Rattle.yparse.specs.Machine.{Configuration, Machine}
 use Rattle.yparse.specs.Session.{machine_of, history_of}
 use Rattle.yparse.specs.Unwinding.{tokens_left}
-use Rattle.ycli.specs.Reply.{spaced_names}
 use Rattle.ytables.proofs.Sent.{Sends-part, Sends-next}
 use Rattle.ycli.proofs.Replying.{rest_at, rest_count}
 use Rattle.ycli.proofs.reply.put_rest.Goals as goal
@@ -34,6 +34,6 @@ loop-index-preserved g c =
     (32 ∷ m.name s)) symbol c.in_ok-put_name.ensures in
     let next : suc c.loop-index.index ≡ c.loop-index.index + 1 = omega arith in
     subst (λ (i : ℕ). Sends w c.args.writer.now c.put_name.new.writer true
-    (spaced_names m (take i rest)))
+    (spaced_names m.name (take i rest)))
     next (Sends-next w (λ s. 32 ∷ m.name s) _ _ _ rest c.loop-index.index 0
     (omega (arith, count)) c.loop-index.invariant added)

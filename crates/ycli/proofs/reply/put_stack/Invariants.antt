@@ -1,11 +1,11 @@
 use Rattle.std.proofs.Common.{true, take}
 use Rattle.ytables.specs.Sends.{Sends}
+use Rattle.ytables.specs.Text.{spaced_names}
 use Rattle.yparse.specs.Session.{machine_of, history_of}
 use Rattle.yparse.specs.Machine.{symbols}
-use Rattle.ycli.specs.Reply.{spaced_names}
 use Rattle.ycli.proofs.reply.put_stack.Given as goal
 
 -- the names so far were sent
 abbrev pub invariant-loop-index : goal.invariant-loop-index
 invariant-loop-index g l = Sends g.W.Write.contents l.initial.writer l.writer true
-    (spaced_names (machine_of l.session) (take l.index (symbols (history_of l.session).now.stack)))
+    (spaced_names (machine_of l.session).name (take l.index (symbols (history_of l.session).now.stack)))

@@ -1,4 +1,5 @@
 use Rattle.std.proofs.Common.{◌≤◌, ◌-◌, length}
+use Rattle.ylalr.specs.Collection.{most_states}
 use Rattle.ylalr.specs.Finder.{FitFinder}
 use Rattle.ylalr.specs.States.{IsSorted, RowsAre}
 use Rattle.ylalr.proofs.collection.all_states.Given as goal
@@ -12,4 +13,4 @@ invariant-loop-alloc l = record {
 }
 
 abbrev pub decreases-loop-alloc : goal.decreases-loop-alloc
-decreases-loop-alloc l = 16384 - length l.gotos
+decreases-loop-alloc l = most_states - length l.gotos

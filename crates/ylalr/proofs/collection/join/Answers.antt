@@ -1,5 +1,6 @@
 use Rattle.std.proofs.Common.{◌≤◌, length, subst, sym, arith}
 use Rattle.std.proofs.lemmas.Grind.{common_steps}
+use Rattle.ylalr.specs.Collection.{most_states}
 use Rattle.ylalr.specs.Sets.{IsClosure}
 use Rattle.ylalr.specs.States.{StateLists, AreStates}
 use Rattle.ylalr.proofs.StateSteps.{states_push, push_length, overflows}
@@ -12,7 +13,7 @@ returns-then-n-ge-MOST_STATES-clause-fault c = λ e.
     let s = c.args.finder.now.states in
     let w = c.in_ok-items.items in
     let shut = subst (λ k. IsClosure g k w) c.as_slice.ensures c.in_ok-items.ensures.closure in
-    let l : 16384 ≤ length s.closures = grind (arith, common_steps) in
+    let l : most_states ≤ length s.closures = grind (arith, common_steps) in
     too_many g (overflows g s c.args.kernel.items w c.requires.fit.states.are c.requires.kernel
     c.requires.fresh shut c.in_ok-items.ensures.ascending c.in_ok-items.ensures.range l)
 
@@ -26,7 +27,7 @@ returns-clause-fit c =
     (states_push g s c.args.kernel.items w c.requires.fit.states.are c.requires.kernel
     c.requires.fresh shut c.in_ok-items.ensures.ascending c.in_ok-items.ensures.range) in
     let longer = push_length s.closures w in
-    let few = subst (λ (t : StateLists). length t.closures ≤ 16384) (sym c.in_ok-push.ensures)
+    let few = subst (λ (t : StateLists). length t.closures ≤ most_states) (sym c.in_ok-push.ensures)
     (grind (arith, common_steps)) in
     record {
       first_rules = c.requires.fit.first_rules;

@@ -19,7 +19,7 @@ pub put-requires : goal.put-requires
 put-requires c =
     let n = c.args.rows.now.height in
     let t = get_or c.of-to-items.result.now c.loop-to.to-index 0 in
-    subst (λ h. t < h) (sym (c.loop-to.invariant.line ∙ c.requires.line))
+    subst (λ h. t < h) (sym (c.loop-to.invariant.marks ∙ c.requires.marks))
     (linked_at n c.args.links.now c.args.p c.loop-to.to-index c.of-to-items.result.now
     c.requires.links c.of-to-items.ensures c.loop-to-test.true)
 

@@ -4,7 +4,7 @@ use Rattle.ygrammar.specs.NameTexts.{texts}
 use Rattle.ygrammar.specs.Outline.{listed_view}
 use Rattle.ygrammar.specs.Owned.{AllSmall, TellsNumbers}
 use Rattle.ygrammar.proofs.OwnSteps.{adds_at, adds_none, no_digits}
-use Rattle.ygrammar.proofs.meaning.given.given_numbers.Goals.{Joined-listed-i, in-None, in-Some}
+use Rattle.ygrammar.proofs.meaning.given.given_numbers.Goals.{Joined-listed-i, in_default, in-Some}
 use Rattle.ygrammar.proofs.meaning.given.given_numbers.Goals as goal
 
 -- the numbers of the listings behind the loop's
@@ -15,12 +15,12 @@ more c table fault = TellsNumbers (texts c.args.tokens.now)
 
 pub loop-i-preserved : goal.loop-i-preserved
 loop-i-preserved c = elim c.match-listed-i.branch [
-  | in-None w ↦ record {
+  | in_default w ↦ record {
     small = subst (λ (g : GivenNumbers). AllSmall g.first.items) (sym w.given-is)
         c.loop-i.invariant.small;
     told = subst (λ (g : GivenNumbers). more c g.first.items g.fault) (sym w.given-is)
         (adds_none _ _ _ c.args.listed.now c.loop-i.i _ c.loop-i-test.true (no_digits
-        (get_or c.args.listed.now c.loop-i.i _) w.in-None.is)
+        (get_or c.args.listed.now c.loop-i.i _) w.in_default.is)
         c.loop-i.invariant.told);
   }
   | in-Some w ↦ record {

@@ -2,7 +2,7 @@ use Rattle.std.proofs.Common.{◌<◌, sym, arith, Some, None, subst, Vec, ◌+�
 use Rattle.std.specs.Global.{Global}
 use Rattle.ygrammar.specs.declared.meaning.holders.Holders.{Holders}
 use Rattle.ygrammar.proofs.NumberSteps.{Holding, at_place, holders_all, holders_more, holders_skip}
-use Rattle.ygrammar.proofs.meaning.holders.own_holders.Goals.{in-None, in-Some}
+use Rattle.ygrammar.proofs.meaning.holders.own_holders.Goals.{in_default, in-Some}
 use Rattle.ygrammar.proofs.meaning.holders.own_holders.Goals as goal
 
 pub hold-requires : goal.hold-requires
@@ -15,13 +15,13 @@ hold-requires c = subst (λ n. c.in-Some.number < n) (sym c.loop-token.invariant
 
 pub loop-token-preserved : goal.loop-token-preserved
 loop-token-preserved c = elim c.match-own-token.branch [
-  | in-None w ↦
+  | in_default w ↦
       let own = c.args.own.now in
       let i = c.loop-token.token in
       subst (λ (v : Vec Holders Global). Holding c.args.count own v.items (i + 1))
       (sym w.holders-is)
       (holders_skip c.args.count own c.loop-token.holders.items i
-      (at_place own i None (omega arith) w.in-None.is) c.loop-token.invariant)
+      (at_place own i None (omega arith) w.in_default.is) c.loop-token.invariant)
   | in-Some w ↦
       let own = c.args.own.now in
       let i = c.loop-token.token in

@@ -4,8 +4,8 @@ use Rattle.ygrammar.specs.declared.syntax.tree.BodyPart.{BodyPart as CodeBodyPar
 use Rattle.ygrammar.specs.Texts.{TextsValue}
 use Rattle.ygrammar.proofs.TextSteps.{one_item}
 use Rattle.ygrammar.proofs.meaning.rules.push_inner_texts.Goals as goal
-use Rattle.ygrammar.proofs.meaning.rules.push_inner_texts.Goals.{in-Symbol}
-use Rattle.ygrammar.proofs.meaning.rules.push_inner_texts.Goals.{in-Action+in_ok-push-in-Action}
+use Rattle.ygrammar.proofs.meaning.rules.push_inner_texts.Goals.{in_default}
+use Rattle.ygrammar.proofs.meaning.rules.push_inner_texts.Goals.{in-Action+in_ok-push}
 
 pub loop-item-preserved : goal.loop-item-preserved
 loop-item-preserved c =
@@ -13,23 +13,23 @@ loop-item-preserved c =
     let rest : List CodeBodyPart = drop (c.loop-item.item-index + 1) xs in
     let v = c.loop-item.invariant in
     elim c.match-item.branch [
-      | in-Symbol w ↦
+      | in_default w ↦
           let e : c.match-item.texts ≡ c.loop-item.texts = cc w.texts-is in
           let r = one_item c.args.texts.now.source c.loop-item.texts c.match-item.texts _ rest _ _
           (drop_more xs c.loop-item.item-index _ (omega arith) ∙ ap
-          (λ (y : CodeBodyPart). y ∷ rest) w.in-Symbol.is)
+          (λ (y : CodeBodyPart). y ∷ rest) w.in_default.is)
           (ap (λ (t : TextsValue). t.source) e)
           (ap (λ (t : TextsValue). t.texts) e ∙ sym (append-nil c.loop-item.texts.texts))
           v.source v.texts v.stands in
           record { source = r.0; texts = r.1; stands = r.2 }
-      | in-Action+in_ok-push-in-Action w ↦
+      | in-Action+in_ok-push w ↦
           let e : c.match-item.texts ≡ w.push.new.self = cc w.texts-is in
           let r = one_item c.args.texts.now.source c.loop-item.texts c.match-item.texts _ rest _ _
           (drop_more xs c.loop-item.item-index _ (omega arith) ∙ ap
           (λ (y : CodeBodyPart). y ∷ rest) w.in-Action.is)
           (ap (λ (t : TextsValue). t.source) e ∙ ap (λ (t : TextsValue). t.source)
-          w.in_ok-push-in-Action.ensures)
+          w.in_ok-push.ensures)
           (ap (λ (t : TextsValue). t.texts) e ∙ ap (λ (t : TextsValue). t.texts)
-          w.in_ok-push-in-Action.ensures) v.source v.texts v.stands in
+          w.in_ok-push.ensures) v.source v.texts v.stands in
           record { source = r.0; texts = r.1; stands = r.2 }
     ]

@@ -2,7 +2,7 @@ use Rattle.ytables.proofs.Sent.{Sends-then}
 use Rattle.yparse.specs.Session.{machine_of, history_of}
 use Rattle.ycli.specs.Reply.{configuration_text}
 use Rattle.ycli.proofs.Replying.{front_none, front_then, front_cut}
-use Rattle.ycli.proofs.reply.put_shown.Goals as goal
+use Rattle.ycli.proofs.reply.put_configuration.Goals as goal
 
 pub returns-in_err-put_head : goal.returns-in_err-put_head
 returns-in_err-put_head g c =
@@ -48,4 +48,4 @@ returns g c =
     Sends-then w _ _ _ _ _ _ c.in_ok-put_head.ensures
     (Sends-then w _ _ _ _ _ _ c.in_ok-put_stack.ensures
     (Sends-then w _ _ _ _ _ _ c.in_ok-put.ensures
-    (Sends-then w _ _ _ _ _ _ c.in_ok-put_rest.ensures c.put_counts.ensures)))
+    (Sends-then w _ _ _ _ _ _ c.in_ok-put_rest.ensures c.put_errors.ensures)))

@@ -1,7 +1,7 @@
 use Rattle.std.proofs.Common.{◌≡◌, ◌≤◌, subst, arith}
 use Rattle.std.proofs.lemmas.Grind.{common_steps}
 use Rattle.ylalr.proofs.ListSteps.{Opening, opening_skip, opening_push}
-use Rattle.ylalr.proofs.closure.push_opened.Goals as goal
+use Rattle.ylalr.proofs.closure.push_first_items.Goals as goal
 
 pub loop-r-preserved-then-has : goal.loop-r-preserved-then-has
 loop-r-preserved-then-has c =

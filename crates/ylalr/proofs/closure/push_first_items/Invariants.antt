@@ -1,6 +1,6 @@
 use Rattle.std.proofs.Common.{◌≤◌, ◌-◌}
 use Rattle.ylalr.proofs.ListSteps.{Opening}
-use Rattle.ylalr.proofs.closure.push_opened.Given as goal
+use Rattle.ylalr.proofs.closure.push_first_items.Given as goal
 
 abbrev pub invariant-loop-r : goal.invariant-loop-r
 invariant-loop-r l = record {
