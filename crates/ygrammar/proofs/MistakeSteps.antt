@@ -2,7 +2,8 @@
 use Rattle.std.proofs.Common.{ℕ, zero, suc, Bool, true, false, not, ◌||◌, cond, nat_lt, nat_le}
 use Rattle.std.proofs.Common.{is_some, ◌≡◌, ◌<◌, ◌≤◌, ◌⊎◌, inl, inr, List, [], ◌∷◌, ◌++◌, map}
 use Rattle.std.proofs.Common.{length, Option, Some, None, refl, sym, ◌∙◌, ap, subst, arith}
-use Rattle.std.specs.List.{Contains, list_any}
+use Rattle.std.proofs.Common.{if◌then◌else◌}
+use Rattle.std.specs.List.{Contains, find, list_any}
 use Rattle.std.proofs.lemmas.Bool.Decides.{nat_tests}
 use Rattle.std.proofs.lemmas.List.{length-map}
 use Rattle.ygrammar.specs.declared.meaning.mistake.Mistake.TheVariants.{BadPrec, BadStart, Limit}
@@ -11,11 +12,12 @@ use Rattle.ygrammar.specs.declared.meaning.mistake.Mistake.TheVariants.{Undefine
 use Rattle.ygrammar.specs.Elaboration.{Rule, is_nonterminal, is_token, lefts, precs, rule_left}
 use Rattle.ygrammar.specs.Elaboration.{rules, starts, symbols, token_precedences, tokens, types_of}
 use Rattle.ygrammar.specs.Elaboration.{uses}
-use Rattle.ygrammar.specs.Grammar.{RuleValue}
+use Rattle.ygrammar.specs.Grammar.{RuleValue, longest_body, most_rules, most_symbols}
 use Rattle.ygrammar.specs.Mistakes.{Holds}
 use Rattle.ygrammar.specs.Names.{Name, is_among, number_in, printed_name}
 use Rattle.ygrammar.specs.Numbered.{is_between, is_long, rule_numbers}
 use Rattle.ygrammar.specs.Tree.{Identifier, Tree}
+use Rattle.ygrammar.specs.TreeViews.{option_view}
 use Rattle.ygrammar.proofs.TellingSteps.{false_true}
 use Rattle.ygrammar.proofs.TokenSteps.{among_number, noted_behind, number_among, number_behind}
 use Rattle.ygrammar.proofs.TokenSteps.{number_stays, token_among}
@@ -87,6 +89,20 @@ found o k p xs e h = there p xs (sym e ∙ some_true o k h)
 pub not_found : {A : Type 0} (o : Option ℕ) (p : A → Bool) (xs : List A) →
     is_some o ≡ list_any p xs → o ≡ None → (x : A) → Contains xs x → p x ≡ false
 not_found o p xs e h x c = nowhere p xs x (sym e ∙ none_false o h) c
+
+-- an answer that is the first of some, and the test of all that is seen in them
+pub any_found : {A B : Type 0} (p : B → Bool) (f : A → B) (at : A → ℕ) (xs : List A) (o : Option ℕ)
+    → o ≡ option_view at (find (λ x. p (f x)) xs) → is_some o ≡ list_any p (map f xs)
+any_found p f at [] o e = ap is_some e
+any_found {A = A} p f at (x ∷ xs) o e = go (p (f x)) refl (any_found p f at xs o)
+  where
+    first : Bool → Option ℕ
+    first b = option_view at (if b then Some x else find (λ y. p (f y)) xs)
+
+    go : (b : Bool) → p (f x) ≡ b → (o ≡ first false → is_some o ≡ list_any p (map f xs)) →
+        is_some o ≡ (p (f x) || list_any p (map f xs))
+    go true h again = ap is_some (e ∙ ap first h) ∙ ap (λ b. b || list_any p (map f xs)) (sym h)
+    go false h again = again (e ∙ ap first h) ∙ ap (λ b. b || list_any p (map f xs)) (sym h)
 
 -- ---- tokens on the left
 
@@ -319,29 +335,29 @@ long_found t ns vs e h =
     any_map (r ∷ rs) = ap (λ b. is_long (rule_numbers (symbols t) (token_precedences t) r) || b)
         (any_map rs)
 
-    more : (n : ℕ) → nat_lt 255 n ≡ true → 255 < n
+    more : (n : ℕ) → nat_lt longest_body n ≡ true → longest_body < n
     more n x = grind (arith, nat_tests)
 
     long : (r : Rule) → is_long (rule_numbers (symbols t) (token_precedences t) r) ≡ true →
-        255 < length r.body
-    long r x = subst (λ n. 255 < n) (length-map r.body (number_in (symbols t)))
+        longest_body < length r.body
+    long r x = subst (λ n. longest_body < n) (length-map r.body (number_in (symbols t)))
         (more (length (map (number_in (symbols t)) r.body)) x)
 
 pub no_limit : (t : Tree) (a b : ℕ) (vs : List RuleValue) → a ≡ length (symbols t) →
     b ≡ length (rules t) → vs ≡ map (rule_numbers (symbols t) (token_precedences t)) (rules t) →
-    a ≤ 4096 → b ≤ 8192 → list_any is_long vs ≡ false → Holds t Limit → ⊥
-no_limit t a b vs e f g x y z (inl p) = let q : 4096 < a = subst (λ n. 4096 < n) (sym e) p in
+    a ≤ most_symbols → b ≤ most_rules → list_any is_long vs ≡ false → Holds t Limit → ⊥
+no_limit t a b vs e f g x y z (inl p) = let q : most_symbols < a = subst (λ n. most_symbols < n) (sym e) p in
     absurd (omega arith)
-no_limit t a b vs e f g x y z (inr (inl p)) = let q : 8192 < b = subst (λ n. 8192 < n) (sym f) p in
+no_limit t a b vs e f g x y z (inr (inl p)) = let q : most_rules < b = subst (λ n. most_rules < n) (sym f) p in
     absurd (omega arith)
 no_limit t a b vs e f g x y z (inr (inr (r, c, p))) =
     not_more (length (map (number_in (symbols t)) r.body))
     (nowhere is_long vs (rule_numbers (symbols t) (token_precedences t) r) z
     (subst (λ (w : List RuleValue). Contains w (rule_numbers (symbols t) (token_precedences t) r))
     (sym g) (map_there (rules t) r c)))
-    (subst (λ n. 255 < n) (sym (length-map r.body (number_in (symbols t)))) p)
+    (subst (λ n. longest_body < n) (sym (length-map r.body (number_in (symbols t)))) p)
   where
-    not_more : (n : ℕ) → nat_lt 255 n ≡ false → 255 < n → ⊥
+    not_more : (n : ℕ) → nat_lt longest_body n ≡ false → longest_body < n → ⊥
     not_more n u v = grind (arith, nat_tests)
 
     map_there : (rs : List Rule) (r : Rule) → Contains rs r →

@@ -19,52 +19,39 @@ use crate::syntax::tree::{Identifier, NameAt, Occurrence};
 
 /// The first of some names that is a token.
 pub fn first_token(names: &[NameAt], tokens: &SymbolTable) -> Option<usize>
-    ensures found { is_some result
-        ≡ list_any (is_among (texts tokens.now)) (map name_view names.now) }
-    ensures place { result
+    ensures { result
         ≡ option_view (λ n. n.at) (find (λ n. is_among (texts tokens.now) (name_view n))
         names.now) }
 {
-    for name in names {
-        if is_among(tokens, name.name) {
-            return Some(name.at);
-        }
-    }
-    None
+    names
+        .iter()
+        .find(|name| is_among(tokens, name.name))
+        .map(|name| name.at)
 }
 
 /// The first of some names that is no symbol.
 pub fn first_unknown(names: &[NameAt], symbols: &SymbolTable) -> Option<usize>
-    ensures found { is_some result
-        ≡ list_any (λ n. not (is_among (texts symbols.now) n)) (map name_view names.now) }
-    ensures place { result
+    ensures { result
         ≡ option_view (λ n. n.at) (find (λ n. not (is_among (texts symbols.now) (name_view n)))
         names.now) }
 {
-    for name in names {
-        if !is_among(symbols, name.name) {
-            return Some(name.at);
-        }
-    }
-    None
+    names
+        .iter()
+        .find(|name| !is_among(symbols, name.name))
+        .map(|name| name.at)
 }
 
 /// The first of some names and literals that is no symbol.
 pub fn first_undefined(occurrences: &[Occurrence], symbols: &SymbolTable) -> Option<usize>
-    ensures found { is_some result
-        ≡ list_any (λ i. not (is_among (texts symbols.now) (printed_name i)))
-        (map occurrence_view occurrences.now) }
-    ensures place { result
+    ensures { result
         ≡ option_view (λ m. m.at)
         (find (λ m. not (is_among (texts symbols.now) (printed_name (occurrence_view m))))
         occurrences.now) }
 {
-    for occurrence in occurrences {
-        if !is_named(symbols, occurrence.who) {
-            return Some(occurrence.at);
-        }
-    }
-    None
+    occurrences
+        .iter()
+        .find(|one| !is_named(symbols, one.who))
+        .map(|one| one.at)
 }
 
 /// Whether a name or literal is a symbol, but none of the first `tokens`.
@@ -83,20 +70,15 @@ pub fn first_nonterminal(
     symbols: &SymbolTable,
     tokens: usize,
 ) -> Option<usize>
-    ensures found { is_some result
-        ≡ list_any (λ i. is_between tokens (length (texts symbols.now))
-        (number_in (texts symbols.now) (printed_name i))) (map occurrence_view occurrences.now) }
-    ensures place { result
+    ensures { result
         ≡ option_view (λ m. m.at)
         (find (λ m. is_between tokens (length (texts symbols.now))
         (number_in (texts symbols.now) (printed_name (occurrence_view m)))) occurrences.now) }
 {
-    for occurrence in occurrences {
-        if is_nonterminal(occurrence.who, symbols, tokens) {
-            return Some(occurrence.at);
-        }
-    }
-    None
+    occurrences
+        .iter()
+        .find(|one| is_nonterminal(one.who, symbols, tokens))
+        .map(|one| one.at)
 }
 
 /// The last `%start`, where one stands twice or names no nonterminal.
@@ -125,10 +107,5 @@ pub fn bad_start(starts: &[Started], symbols: &SymbolTable, tokens: usize) -> Op
 pub fn any_long(rules: &[Rule]) -> bool
     ensures { result ≡ list_any is_long rules.now }
 {
-    for rule in rules {
-        if rule.body().len() > LONGEST_BODY {
-            return true;
-        }
-    }
-    false
+    rules.iter().any(|rule| rule.body().len() > LONGEST_BODY)
 }

@@ -27,9 +27,8 @@ pub fn refuse_token_left(outline: &Outline, tokens: &SymbolTable) -> Result<(), 
         Clears t TokenLeft result }
 {
     let what = Mistake::TokenLeft;
-    match first_token(&outline.typed, tokens) {
-        Some(at) => return Err(Refused::Mistake { what, at }),
-        None => {}
+    if let Some(at) = first_token(&outline.typed, tokens) {
+        return Err(Refused::Mistake { what, at });
     }
     match first_token(&outline.lefts, tokens) {
         Some(at) => Err(Refused::Mistake { what, at }),
@@ -43,9 +42,8 @@ pub fn refuse_undefined(outline: &Outline, symbols: &SymbolTable) -> Result<(), 
         Clears t Undefined result }
 {
     let what = Mistake::Undefined;
-    match first_unknown(&outline.typed, symbols) {
-        Some(at) => return Err(Refused::Mistake { what, at }),
-        None => {}
+    if let Some(at) = first_unknown(&outline.typed, symbols) {
+        return Err(Refused::Mistake { what, at });
     }
     match first_undefined(&outline.used, symbols) {
         Some(at) => Err(Refused::Mistake { what, at }),
