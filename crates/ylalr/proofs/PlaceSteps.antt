@@ -6,7 +6,7 @@ use Rattle.std.proofs.Math.ListN.{set, length-set}
 use Rattle.ygrammar.specs.Grammar.{ContextFree, left_of}
 use Rattle.ygrammar.specs.WellFormed.{WellFormed}
 use Rattle.ylalr.specs.declared.items.Item.{Item}
-use Rattle.ylalr.specs.Collection.{most_states}
+use Rattle.ylalr.specs.Limits.{most_states}
 use Rattle.ylalr.specs.Sets.{Before, IsAscending, InRange}
 use Rattle.ylalr.specs.States.{StateLists, set_at, start_item}
 use Rattle.ylalr.specs.Places.{Places, At, Starts, Shares, AreRows, FillRows, AreLefts, TakesRow}

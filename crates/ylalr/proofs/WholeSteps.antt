@@ -19,7 +19,7 @@ use Rattle.ylalr.specs.States.{Overflows}
 use Rattle.ylalr.specs.Looks.{SoundLooks, ClosedLooks}
 use Rattle.ylalr.specs.Places.{Places, IsPlace, rows_at}
 use Rattle.ylalr.specs.Collection.{HasStates, IsGoto, Guide, IsGuide, TooMany}
-use Rattle.ylalr.specs.Collection.{most_states}
+use Rattle.ylalr.specs.Limits.{most_states}
 use Rattle.ylalr.proofs.Cores.{every, once, core_start, core_goto, source_item}
 use Rattle.ylalr.proofs.LookSteps.{looks_exact, looks_none}
 

@@ -6,6 +6,7 @@ use Rattle.ygrammar.specs.Grammar.{ContextFree, GrammarValue}
 use Rattle.ylalr.specs.declared.items.Item.{Item}
 use Rattle.ylalr.specs.declared.gotos.Goto.{Goto}
 use Rattle.ylalr.specs.Gotos.{goto_of}
+use Rattle.ylalr.specs.Limits.{most_states}
 use Rattle.ylalr.specs.declared.fault.BuildFault.{BuildFault}
 use Rattle.ylalr.specs.Items.{InCore, IsCore, Lookahead}
 use Rattle.ylalr.specs.Sets.{IsAscending, InRange}
@@ -15,10 +16,6 @@ pub record Collection : Type 0 where
   pub grammar : GrammarValue
   pub states : List (List Item)
   pub gotos : List (List Goto)
-
--- the most states that there may be
-abbrev pub most_states : ℕ
-most_states = 16384
 
 -- the bare grammar
 abbrev pub bare_of : Collection → ContextFree

@@ -5,6 +5,7 @@ pub mod First
 pub mod Fronts
 pub mod Gotos
 pub mod Items
+pub mod Limits
 pub mod Links
 pub mod Looks
 pub mod Marks

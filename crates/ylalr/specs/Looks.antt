@@ -7,7 +7,7 @@ use Rattle.ygrammar.specs.Forms.{First}
 use Rattle.ygrammar.specs.WellFormed.{WellFormed}
 use Rattle.ylalr.specs.declared.items.Item.{Item}
 use Rattle.ylalr.specs.declared.gotos.Goto.{Goto}
-use Rattle.ylalr.specs.Collection.{most_states}
+use Rattle.ylalr.specs.Limits.{most_states}
 use Rattle.ylalr.specs.Marks.{Has}
 use Rattle.ylalr.specs.Rows.{BitRows, Holds, IsSized}
 use Rattle.ylalr.specs.First.{IsNullable, IsFirst}

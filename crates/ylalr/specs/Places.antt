@@ -4,7 +4,8 @@ use Rattle.std.specs.Prelude.{ℕ, ◌≡◌, ◌<◌, ◌≤◌, ◌+◌, ◌�
 use Rattle.std.specs.Prelude.{slice_set, Option, Some, None, MatchOption}
 use Rattle.ygrammar.specs.Grammar.{ContextFree, left_of}
 use Rattle.ylalr.specs.declared.items.Item.{Item}
-use Rattle.ylalr.specs.Rows.{BitRows, Holds, IsSized, most_rows}
+use Rattle.ylalr.specs.Rows.{BitRows, Holds, IsSized}
+use Rattle.ylalr.specs.Limits.{most_rows}
 use Rattle.ylalr.specs.States.{StateLists, set_at}
 
 -- the rows of the items of each state, and how many rows there are

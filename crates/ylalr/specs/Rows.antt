@@ -2,12 +2,6 @@
 use Rattle.std.specs.Prelude.{ℕ, Bool, true, false, List, ◌≡◌, ◌<◌, ◌≤◌, ◌+◌, ◌-◌, ◌*◌, ◌/◌, ◌%◌}
 use Rattle.std.specs.Prelude.{◌^◌, ◌⊎◌, ◌↔◌, length, slice_index_or, slice_set, sum_by, bit_or}
 use Rattle.std.specs.Int.{bit_at}
-use Rattle.ygrammar.specs.Grammar.{longest_body, most_rules}
-use Rattle.ylalr.specs.Collection.{most_states}
-
--- the most rows: one for each item in each state
-abbrev pub most_rows : ℕ
-most_rows = most_states * (most_rules * (longest_body + 1))
 
 -- so many rows, each of so many columns in so many words
 pub record BitRows : Type 0 where

@@ -4,7 +4,8 @@ ghost use Rattle.std.specs.Prelude.{◌≡◌, ◌<◌, ◌≤◌, ◌↔◌, []
 ghost use Rattle.ygrammar.specs.Forms.{Nullable, First};
 ghost use Rattle.ylalr.specs.Items.{Lookahead};
 ghost use Rattle.ylalr.specs.Collection.{Collection, HasStates, IsGoto, goto_in, Guide, IsGuide};
-ghost use Rattle.ylalr.specs.Collection.{TooMany, bare_of, most_states, state_of};
+ghost use Rattle.ylalr.specs.Collection.{TooMany, bare_of, state_of};
+ghost use Rattle.ylalr.specs.Limits.{most_states};
 ghost use Rattle.ylalr.specs.Parts.{FitParts};
 ghost use Rattle.ylalr.specs.declared.fault.BuildFault.{BuildFault};
 

@@ -2,7 +2,7 @@
 //! 0 share one.
 
 ghost use Rattle.std.specs.Prelude.{◌≡◌, ◌<◌, ◌≤◌, ◌+◌, ◌^◌, length, IfOk, OnOk};
-ghost use Rattle.ylalr.specs.Collection.{most_states};
+ghost use Rattle.ylalr.specs.Limits.{most_states};
 ghost use Rattle.ylalr.specs.Places.{ArePlaces, FillRows, rows_at, IsPlaceOf};
 ghost use Rattle.ylalr.specs.Sets.{InRange, IsAscending};
 ghost use Rattle.ylalr.specs.States.{AreStates, set_at};

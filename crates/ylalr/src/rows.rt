@@ -3,8 +3,8 @@
 ghost use Rattle.std.specs.Prelude.{ℕ, ◌≡◌, ◌+◌, ◌*◌, ◌<◌, ◌≤◌, ◌↔◌, ◌⊎◌, true, false, length};
 ghost use Rattle.std.specs.Prelude.{IfOk, IsTrue};
 ghost use Rattle.ygrammar.specs.Grammar.{most_rules};
-ghost use Rattle.ylalr.specs.Rows.{BitRows, Holds, IsSized, AddsFrom, GrowsIf, most_rows};
-ghost use Rattle.ylalr.specs.Rows.{room, unite};
+ghost use Rattle.ylalr.specs.Rows.{BitRows, Holds, IsSized, AddsFrom, GrowsIf, room, unite};
+ghost use Rattle.ylalr.specs.Limits.{most_rows};
 
 use std::alloc::{AllocError, Global};
 use std::marker::Model;

@@ -109,7 +109,12 @@ pub(crate) enum Next<'a> {
 
 /// The symbol that was found, where it is an input token, and what follows it; else K1 or K2 at
 /// this place.
-fn next_by_name<'a>(grammar: &Grammar, found: Option<Sym>, place: usize, after: &'a [u8]) -> Next<'a>
+fn next_by_name<'a>(
+    grammar: &Grammar,
+    found: Option<Sym>,
+    place: usize,
+    after: &'a [u8],
+) -> Next<'a>
     ensures { next_view result ≡ by_name (token_count grammar.now) place found after.entry.now }
 {
     match found {

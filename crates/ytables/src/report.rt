@@ -49,7 +49,12 @@ fn put_names<W: Write>(link: &mut Link<W>, grammar: &Grammar, symbols: &[Sym]) -
 }
 
 /// The number of a rule, its left side, and words.
-fn put_rule_head<W: Write>(link: &mut Link<W>, grammar: &Grammar, r: usize, words: &[u8]) -> Option<()>
+fn put_rule_head<W: Write>(
+    link: &mut Link<W>,
+    grammar: &Grammar,
+    r: usize,
+    words: &[u8],
+) -> Option<()>
     requires { r < length grammar.now.bare.rules }
     ensures { Sends W.contents link.old link.new (is_some result)
         (rule_head grammar.now r words.now) }
