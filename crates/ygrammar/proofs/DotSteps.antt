@@ -1,15 +1,16 @@
 -- The dots of the rules, and what is settled once one has moved.
 use Rattle.std.proofs.Common.{ℕ, Bool, ◌≡◌, ◌≢◌, ◌<◌, List, length, slice_index, subst, arith}
 use Rattle.ygrammar.specs.Grammar.{Production}
-use Rattle.ygrammar.specs.Marking.{IsMarked, IsUnmarked, IsSettled, stuck, DotFits}
+use Rattle.ygrammar.specs.Marking.{WorklistValue, IsMarked, IsUnmarked, IsSettled, stuck}
+use Rattle.ygrammar.specs.Marking.{DotFits}
 
-pub stuck_at : (p : Production) (m : List Bool) (o : List ℕ) (taken dot : ℕ) (body : List ℕ) →
-    body ≡ p.body → DotFits body m dot → dot ≢ length body →
-    (dot < length body → IsUnmarked m (slice_index body dot)) → IsSettled p m o taken
-stuck_at p m o taken dot body e f n u =
-    let l : dot < length body = let w = f.within in omega arith in
+pub stuck_at : (p : Production) (w : WorklistValue) (dot : ℕ) (body : List ℕ) →
+    body ≡ p.body → DotFits body w.marks dot → dot ≢ length body →
+    (dot < length body → IsUnmarked w.marks (slice_index body dot)) → IsSettled p w
+stuck_at p w dot body e f n u =
+    let l : dot < length body = let i = f.within in omega arith in
     stuck dot (subst (λ (x : List ℕ). dot < length x) e l)
-    (subst (λ (x : List ℕ). IsUnmarked m (slice_index x dot)) e (u l))
+    (subst (λ (x : List ℕ). IsUnmarked w.marks (slice_index x dot)) e (u l))
 
 pub whole_marked : (p : Production) (m : List Bool) (dot : ℕ) (body : List ℕ) → body ≡ p.body →
     DotFits body m dot → dot ≡ length body → (k : ℕ) → k < length p.body →

@@ -6,9 +6,8 @@ use Rattle.std.proofs.Common.{length-append}
 use Rattle.std.proofs.Math.ListN.{set}
 use Rattle.std.proofs.Math.ListN.{get_or-append, length-set}
 use Rattle.std.proofs.Math.Seq.{get_or-append_seam}
-use Rattle.ygrammar.specs.Marking.{IsMarked, IsUnmarked, unmarked_count, IsWaiting, IsWorklist}
-use Rattle.ygrammar.specs.Marking.{Grows}
-use Rattle.ygrammar.specs.Marking.{IsClosed, stuck, ahead, marked}
+use Rattle.ygrammar.specs.Marking.{WorklistValue, IsMarked, IsUnmarked, unmarked_count, IsWaiting}
+use Rattle.ygrammar.specs.Marking.{IsWorklist, Keeps, Grows, Takes, IsClosed, stuck, ahead, marked}
 
 same_or : (a b : ℕ) → (a ≡ b) ⊎ (a ≢ b)
 same_or a b = grind arith
@@ -42,143 +41,155 @@ only_by : (m : List Bool) (s t : ℕ) → (t ≡ s) ⊎ (t ≢ s) → IsMarked (
 only_by m s t (inl e) k = inr e
 only_by m s t (inr n) k = inl (sym (get_or-set_other m s t true false n) ∙ k)
 
-waiting_more : (o : List ℕ) (s done t : ℕ) → IsWaiting o done t → IsWaiting (o ++ s ∷ []) done t
-waiting_more o s done t w = record {
-  at = w.at;
-  later = w.later;
-  within = let l = w.within in omega (arith, length-append o (s ∷ []));
-  there = get_or-append o (s ∷ []) 0 w.at w.within ∙ w.there;
+-- the worklist with one more symbol marked
+abbrev pub with_mark : WorklistValue → ℕ → WorklistValue
+with_mark w s = record {
+  marks = set w.marks s true;
+  order = w.order ++ s ∷ [];
+  taken = w.taken;
 }
 
-waiting_new : (o : List ℕ) (s done : ℕ) → done ≤ length o → IsWaiting (o ++ s ∷ []) done s
-waiting_new o s done d = record {
-  at = length o;
+waiting_more : (w : WorklistValue) (s t : ℕ) → IsWaiting w t → IsWaiting (with_mark w s) t
+waiting_more w s t a = record {
+  at = a.at;
+  later = a.later;
+  within = let l = a.within in omega (arith, length-append w.order (s ∷ []));
+  there = get_or-append w.order (s ∷ []) 0 a.at a.within ∙ a.there;
+}
+
+waiting_new : (w : WorklistValue) (s : ℕ) → w.taken ≤ length w.order → IsWaiting (with_mark w s) s
+waiting_new w s d = record {
+  at = length w.order;
   later = d;
-  within = omega (arith, length-append o (s ∷ []));
-  there = get_or-append_seam o s [] 0;
+  within = omega (arith, length-append w.order (s ∷ []));
+  there = get_or-append_seam w.order s [] 0;
 }
 
-waits_by : (m : List Bool) (o : List ℕ) (s done t : ℕ) → done ≤ length o → IsMarked m t ⊎
-    (t ≡ s) → IsMarked m t ⊎ IsWaiting (o ++ s ∷ []) done t
-waits_by m o s done t d (inl k) = inl k
-waits_by m o s done t d (inr e) = inr (subst (λ (u : ℕ). IsWaiting (o ++ s ∷ []) done u) (sym e)
-    (waiting_new o s done d))
+waits_by : (w : WorklistValue) (s t : ℕ) → w.taken ≤ length w.order → IsMarked w.marks t ⊎ (t ≡ s)
+    → IsMarked w.marks t ⊎ IsWaiting (with_mark w s) t
+waits_by w s t d (inl k) = inl k
+waits_by w s t d (inr e) = inr (subst (λ (u : ℕ). IsWaiting (with_mark w s) u) (sym e)
+    (waiting_new w s d))
 
-in_order : (m : List Bool) (o : List ℕ) (s k : ℕ) → s < length m → IsWorklist m o → (k < length o) ⊎
-    (k ≡ length o) → IsMarked (set m s true) (get_or (o ++ s ∷ []) k 0)
-in_order m o s k l w (inl h) = rw (get_or-append o (s ∷ []) 0 k h)
-    (kept_by m s (get_or o k 0) l (same_or (get_or o k 0) s) (w.marked k h))
-in_order m o s k l w (inr e) = subst (λ (u : ℕ). IsMarked (set m s true) u)
-    (sym (ap (λ (j : ℕ). get_or (o ++ s ∷ []) j 0) e ∙ get_or-append_seam o s [] 0))
-    (get_or-set_same m s true false l)
+in_order : (w : WorklistValue) (s k : ℕ) → s < length w.marks → IsWorklist w
+    → (k < length w.order) ⊎ (k ≡ length w.order)
+    → IsMarked (set w.marks s true) (get_or (w.order ++ s ∷ []) k 0)
+in_order w s k l i (inl h) = rw (get_or-append w.order (s ∷ []) 0 k h)
+    (kept_by w.marks s (get_or w.order k 0) l (same_or (get_or w.order k 0) s) (i.marked k h))
+in_order w s k l i (inr e) = subst (λ (u : ℕ). IsMarked (set w.marks s true) u)
+    (sym (ap (λ (j : ℕ). get_or (w.order ++ s ∷ []) j 0) e ∙ get_or-append_seam w.order s [] 0))
+    (get_or-set_same w.marks s true false l)
 
 last_or : (k n : ℕ) → k < n + 1 → (k < n) ⊎ (k ≡ n)
 last_or k n h = grind arith
 
-pub grows_new : (m : List Bool) (o : List ℕ) (s : ℕ) → s < length m → IsUnmarked m s →
-    Grows m o (set m s true) (o ++ s ∷ [])
-grows_new m o s l h = record {
-  sized = length-set m s true;
-  longer = omega (arith, length-append o (s ∷ []));
-  kept = λ t k. kept_by m s t l (same_or t s) k;
-  ahead = λ done t w. waiting_more o s done t w;
-  waits = λ done t d k. waits_by m o s done t d (only_by m s t (same_or t s) k);
-  list = λ w. record {
-    marked = λ k i. in_order m o s k l w
-        (last_or k (length o) (omega (arith, length-append o (s ∷ []))));
-    few = let f = w.few in omega (
-      arith,
-      length-append o (s ∷ []),
-      unmarked_set m s l h,
-      length-set m s true,
-    );
+-- a symbol that was not marked waits
+pub grows_new : (w : WorklistValue) (s : ℕ) → s < length w.marks → w.taken ≤ length w.order
+    → Grows w (with_mark w s)
+grows_new w s l d = record {
+  keeps = record {
+    sized = length-set w.marks s true;
+    kept = λ t k. kept_by w.marks s t l (same_or t s) k;
   };
+  taken = refl;
+  ahead = λ t a. waiting_more w s t a;
+  waits = λ t k. waits_by w s t d (only_by w.marks s t (same_or t s) k);
 }
 
-waits_on : (m : List Bool) {m2 m3 : List Bool} {o2 o3 : List ℕ} (done s : ℕ) → Grows m2 o2 m3 o3 →
-    IsMarked m s ⊎ IsWaiting o2 done s → IsMarked m s ⊎ IsWaiting o3 done s
-waits_on m done s h (inl i) = inl i
-waits_on m done s h (inr w) = inr (h.ahead done s w)
-
-waits_then : {m m2 m3 : List Bool} {o o2 o3 : List ℕ} (done s : ℕ) → Grows m o m2 o2 →
-    Grows m2 o2 m3 o3 → done ≤ length o → IsMarked m2 s ⊎ IsWaiting o3 done s → IsMarked m s ⊎
-    IsWaiting o3 done s
-waits_then done s g h d (inr w) = inr w
-waits_then {m = m} done s g h d (inl k) = waits_on m done s h (g.waits done s d k)
-
-pub grows_then : {m m2 m3 : List Bool} {o o2 o3 : List ℕ} → Grows m o m2 o2 → Grows m2 o2 m3 o3 →
-    Grows m o m3 o3
-grows_then g h = record {
-  sized = h.sized ∙ g.sized;
-  longer = let a = g.longer in let b = h.longer in omega arith;
-  kept = λ s k. h.kept s (g.kept s k);
-  ahead = λ done s w. h.ahead done s (g.ahead done s w);
-  waits = λ done s d k. waits_then done s g h d (h.waits done s (let a = g.longer in omega arith)
-      k);
-  list = λ w. h.list (g.list w);
+pub worklist_new : (w : WorklistValue) (s : ℕ) → s < length w.marks → IsUnmarked w.marks s
+    → IsWorklist w → IsWorklist (with_mark w s)
+worklist_new w s l h i = record {
+  marked = λ k j. in_order w s k l i
+      (last_or k (length w.order) (omega (arith, length-append w.order (s ∷ []))));
+  few = let f = i.few in omega (
+    arith,
+    length-append w.order (s ∷ []),
+    unmarked_set w.marks s l h,
+    length-set w.marks s true,
+  );
+  within = let j = i.within in omega (arith, length-append w.order (s ∷ []));
 }
 
-closed_some : (m : List Bool) {m2 : List Bool} {o2 : List ℕ} (xs ys : List ℕ) (done k : ℕ) →
-    k < length xs → IsUnmarked m (slice_index xs k) → IsMarked m (slice_index xs k) ⊎
-    IsWaiting o2 done (slice_index xs k) → IsClosed xs ys m2 o2 done
-closed_some m xs ys done k l n (inl i) = absurd (not_both (get_or m (slice_index xs k) false) i n)
-closed_some m xs ys done k l n (inr w) = ahead k l w
+unmarked_few : (m : List Bool) → unmarked_count m ≤ length m
+unmarked_few [] = omega arith
+unmarked_few (true ∷ m) = let i = unmarked_few m in omega arith
+unmarked_few (false ∷ m) = let i = unmarked_few m in omega arith
 
-closed_stuck : {m m2 : List Bool} {o o2 : List ℕ} (xs ys : List ℕ) (done k : ℕ) →
-    Grows m o m2 o2 → done ≤ length o → k < length xs → IsUnmarked m (slice_index xs k) →
-    IsMarked m2 (slice_index xs k) ⊎ IsUnmarked m2 (slice_index xs k) → IsClosed xs ys m2 o2 done
-closed_stuck {m = m} xs ys done k g d l n (inl i) = closed_some m xs ys done k l n
-    (g.waits done (slice_index xs k) d i)
-closed_stuck xs ys done k g d l n (inr u) = stuck k l u
+-- nothing waits at first
+pub worklist_none : (m : List Bool) → IsWorklist (record { marks = m; order = []; taken = 0 })
+worklist_none m = record {
+  marked = λ k h. absurd (omega arith);
+  few = let i = unmarked_few m in omega arith;
+  within = omega arith;
+}
+
+pub keeps_then : {m m2 m3 : List Bool} → Keeps m m2 → Keeps m2 m3 → Keeps m m3
+keeps_then g h = record { sized = h.sized ∙ g.sized; kept = λ s k. h.kept s (g.kept s k) }
+
+waits_on : {v u : WorklistValue} (m : List Bool) (s : ℕ) → Grows v u
+    → IsMarked m s ⊎ IsWaiting v s → IsMarked m s ⊎ IsWaiting u s
+waits_on m s h (inl i) = inl i
+waits_on m s h (inr a) = inr (h.ahead s a)
+
+waits_then : {w v u : WorklistValue} (s : ℕ) → Grows w v → Grows v u
+    → IsMarked v.marks s ⊎ IsWaiting u s → IsMarked w.marks s ⊎ IsWaiting u s
+waits_then s g h (inr a) = inr a
+waits_then {w = w} {v = v} {u = u} s g h (inl k) = waits_on {v = v} {u = u} w.marks s h (g.waits s k)
+
+pub grows_then : {w v u : WorklistValue} → Grows w v → Grows v u → Grows w u
+grows_then {w = w} {v = v} {u = u} g h = record {
+  keeps = keeps_then g.keeps h.keeps;
+  taken = h.taken ∙ g.taken;
+  ahead = λ s a. h.ahead s (g.ahead s a);
+  waits = λ s k. waits_then {w = w} {v = v} {u = u} s g h (h.waits s k);
+}
+
+closed_some : (m : List Bool) {v : WorklistValue} (xs ys : List ℕ) (k : ℕ) → k < length xs
+    → IsUnmarked m (slice_index xs k) → IsMarked m (slice_index xs k)
+    ⊎ IsWaiting v (slice_index xs k) → IsClosed xs ys v
+closed_some m xs ys k l n (inl i) = absurd (not_both (get_or m (slice_index xs k) false) i n)
+closed_some m xs ys k l n (inr a) = ahead k l a
+
+closed_stuck : {w v : WorklistValue} (xs ys : List ℕ) (k : ℕ) → Grows w v → k < length xs
+    → IsUnmarked w.marks (slice_index xs k)
+    → IsMarked v.marks (slice_index xs k) ⊎ IsUnmarked v.marks (slice_index xs k)
+    → IsClosed xs ys v
+closed_stuck {w = w} {v = v} xs ys k g l n (inl i) = closed_some w.marks {v = v} xs ys k l n
+    (g.waits (slice_index xs k) i)
+closed_stuck xs ys k g l n (inr u) = stuck k l u
 
 -- what is closed stays so
-pub closed_grows : {m m2 : List Bool} {o o2 : List ℕ} (xs ys : List ℕ) (done : ℕ) →
-    Grows m o m2 o2 → done ≤ length o → IsClosed xs ys m o done → IsClosed xs ys m2 o2 done
-closed_grows {m2 = m2} xs ys done g d (stuck k l n) = closed_stuck xs ys done k g d l n
-    (marked_or m2 (slice_index xs k))
-closed_grows xs ys done g d (ahead k l w) = ahead k l (g.ahead done (slice_index xs k) w)
-closed_grows xs ys done g d (marked f) = marked (λ k l. g.kept (slice_index ys k) (f k l))
+pub closed_grows : {w v : WorklistValue} (xs ys : List ℕ) → Grows w v → IsClosed xs ys w
+    → IsClosed xs ys v
+closed_grows {w = w} {v = v} xs ys g (stuck k l n) = closed_stuck {w = w} {v = v} xs ys k g l n
+    (marked_or v.marks (slice_index xs k))
+closed_grows xs ys g (ahead k l a) = ahead k l (g.ahead (slice_index xs k) a)
+closed_grows xs ys g (marked f) = marked (λ k l. g.keeps.kept (slice_index ys k) (f k l))
 
-next_or : (a b : ℕ) → a ≤ b → (b ≡ a) ⊎ (a + 1 ≤ b)
-next_or a b h = grind arith
+closed_ahead : {v : WorklistValue} (xs ys : List ℕ) (s k : ℕ) → k < length xs
+    → (slice_index xs k ≡ s) ⊎ IsWaiting v (slice_index xs k)
+    → IsClosed xs ys v ⊎ ((j : ℕ) × (j < length xs) × (slice_index xs j ≡ s))
+closed_ahead xs ys s k l (inl e) = inr (k, l, e)
+closed_ahead xs ys s k l (inr a) = inl (ahead k l a)
 
-waiting_next : (o : List ℕ) (done s : ℕ) → (w : IsWaiting o done s) → (w.at ≡ done) ⊎
-    (done + 1 ≤ w.at) → (slice_index o done ≡ s) ⊎ IsWaiting o (done + 1) s
-waiting_next o done s w (inl e) = inl (ap (λ (j : ℕ). get_or o j 0) (sym e) ∙ w.there)
-waiting_next o done s w (inr l) =
-    inr (record { at = w.at; later = l; within = w.within; there = w.there })
+-- what is closed stays so, or the symbol that is taken is one of its premises
+pub closed_taken : {w v : WorklistValue} (xs ys : List ℕ) (s : ℕ) → Takes w s v → IsClosed xs ys w
+    → IsClosed xs ys v ⊎ ((j : ℕ) × (j < length xs) × (slice_index xs j ≡ s))
+closed_taken xs ys s t (stuck k l n) =
+    inl (stuck k l (subst (λ m. IsUnmarked m (slice_index xs k)) (sym t.marks) n))
+closed_taken {w = w} {v = v} xs ys s t (ahead k l a) = closed_ahead {v = v} xs ys s k l
+    (t.others (slice_index xs k) a)
+closed_taken xs ys s t (marked f) =
+    inl (marked (λ k l. subst (λ m. IsMarked m (slice_index ys k)) (sym t.marks) (f k l)))
 
--- one more is taken
-pub taken : (o : List ℕ) (done s : ℕ) → IsWaiting o done s → (slice_index o done ≡ s) ⊎
-    IsWaiting o (done + 1) s
-taken o done s w = waiting_next o done s w (next_or done w.at w.later)
-
-closed_ahead : {m : List Bool} {o : List ℕ} (xs ys : List ℕ) (done k : ℕ) → k < length xs →
-    (slice_index o done ≡ slice_index xs k) ⊎ IsWaiting o (done + 1) (slice_index xs k) →
-    IsClosed xs ys m o (done + 1) ⊎
-    ((j : ℕ) × (j < length xs) × (slice_index o done ≡ slice_index xs j))
-closed_ahead xs ys done k l (inl e) = inr (k, l, e)
-closed_ahead xs ys done k l (inr w) = inl (ahead k l w)
-
-pub closed_next : {m : List Bool} {o : List ℕ} (xs ys : List ℕ) (done : ℕ) →
-    IsClosed xs ys m o done → IsClosed xs ys m o (done + 1) ⊎
-    ((j : ℕ) × (j < length xs) × (slice_index o done ≡ slice_index xs j))
-closed_next xs ys done (stuck k l n) = inl (stuck k l n)
-closed_next {o = o} xs ys done (ahead k l w) = closed_ahead xs ys done k l
-    (taken o done (slice_index xs k) w)
-closed_next xs ys done (marked f) = inl (marked f)
-
-pub none_waits : (o : List ℕ) (done s : ℕ) → length o ≤ done → IsWaiting o done s → ⊥
-none_waits o done s h w = let a = w.later in let b = w.within in omega arith
-
--- once all are taken, marked premises have marked conclusions
-pub closed_end : (xs ys : List ℕ) (m : List Bool) (o : List ℕ) (n : ℕ) → length o ≤ n →
-    IsClosed xs ys m o n → ((k : ℕ) → k < length xs → IsMarked m (slice_index xs k)) →
-    (k : ℕ) → k < length ys → IsMarked m (slice_index ys k)
-closed_end xs ys m o n z (stuck k l u) e = absurd (not_both (get_or m (slice_index xs k) false)
+-- where nothing waits, marked premises have marked conclusions
+pub closed_end : (xs ys : List ℕ) (w : WorklistValue) → ((s : ℕ) → IsWaiting w s → ⊥)
+    → IsClosed xs ys w → ((k : ℕ) → k < length xs → IsMarked w.marks (slice_index xs k))
+    → (k : ℕ) → k < length ys → IsMarked w.marks (slice_index ys k)
+closed_end xs ys w z (stuck k l u) e = absurd (not_both (get_or w.marks (slice_index xs k) false)
     (e k l) u)
-closed_end xs ys m o n z (ahead k l w) e = absurd (none_waits o n (slice_index xs k) z w)
-closed_end xs ys m o n z (marked f) e = f
+closed_end xs ys w z (ahead k l a) e = absurd (z (slice_index xs k) a)
+closed_end xs ys w z (marked f) e = f
 
 -- what holds of an element holds of each of the list of it alone
 pub alone : (P : ℕ → Type 0) (x : ℕ) → P x → (k : ℕ) → k < length (x ∷ []) →

@@ -10,7 +10,7 @@ use Rattle.ygrammar.specs.Grammar.{ContextFree, left_of, body_of, IsToken}
 use Rattle.ygrammar.specs.Derivation.{Derives, done, step}
 use Rattle.ygrammar.specs.Forms.{IsRule, MarksNullable, Nullable, Productive}
 use Rattle.ygrammar.specs.Grammar.{RuleValue}
-use Rattle.ygrammar.specs.Marking.{IsMarked, IsSettled, OnlyProductive}
+use Rattle.ygrammar.specs.Marking.{WorklistValue, IsMarked, IsSettled, IsWaiting, OnlyProductive}
 use Rattle.ygrammar.specs.Marking.{numbered_grammar, rule_at}
 use Rattle.ygrammar.specs.Grammar.{production_of}
 use Rattle.ygrammar.proofs.Derivations.{trans, replaced, rule_is, words}
@@ -81,17 +81,18 @@ every_at P [] k l h = absurd (omega arith)
 every_at P (x ∷ xs) zero l h = h.0
 every_at P (x ∷ xs) (suc k) l h = every_at P xs k (omega arith) h.1
 
-pub all_marked : (tokens symbols : ℕ) (rules : List RuleValue) (m : List Bool) (o : List ℕ)
-    (n : ℕ) → length o ≤ n → ((r : ℕ) → r < length rules → IsSettled (rule_at rules r) m o n) →
-    ((t : ℕ) → t < tokens → IsMarked m t) →
-    (s : ℕ) → Productive (numbered_grammar tokens symbols rules) s → IsMarked m s
-all_marked tokens symbols rules m o n z c t s p =
+pub all_marked : (tokens symbols : ℕ) (rules : List RuleValue) (w : WorklistValue) →
+    ((s : ℕ) → IsWaiting w s → ⊥) → ((r : ℕ) → r < length rules → IsSettled (rule_at rules r) w) →
+    ((t : ℕ) → t < tokens → IsMarked w.marks t) →
+    (s : ℕ) → Productive (numbered_grammar tokens symbols rules) s → IsMarked w.marks s
+all_marked tokens symbols rules w z c t s p =
     let g = numbered_grammar tokens symbols rules in
-    let w : Every (IsMarked m) p.word = recursion_from_All (IsMarked m) p.word
+    let m = w.marks in
+    let i : Every (IsMarked m) p.word = recursion_from_All (IsMarked m) p.word
     (All-weaker (IsToken g) (IsMarked m) t p.word p.tokens) in
-    (covers {g = g} m (λ r h e. closed_end (rule_at rules r).body ((rule_at rules r).left ∷ []) m o
-    n z (c r (subst (λ (n : ℕ). r < n) (length-map rules production_of) h))
-    (λ k l. every_at (IsMarked m) (rule_at rules r).body k l e) 0 (omega arith)) p.derives w).0
+    (covers {g = g} m (λ r h e. closed_end (rule_at rules r).body ((rule_at rules r).left ∷ []) w
+    z (c r (subst (λ (n : ℕ). r < n) (length-map rules production_of) h))
+    (λ k l. every_at (IsMarked m) (rule_at rules r).body k l e) 0 (omega arith)) p.derives i).0
 
 -- ---- without tokens, what derives a list of tokens derives the empty form
 

@@ -9,7 +9,7 @@ use Rattle.std.proofs.lemmas.List.Elements.{All-contains, All-from_get_or, Conta
 use Rattle.ygrammar.specs.Grammar.{ContextFree}
 use Rattle.ygrammar.specs.Forms.{IsReachable, first, further}
 use Rattle.ygrammar.specs.Grammar.{RuleValue}
-use Rattle.ygrammar.specs.Marking.{IsMarked, IsUnmarked, IsSpread}
+use Rattle.ygrammar.specs.Marking.{WorklistValue, IsMarked, IsUnmarked, IsSpread, IsWaiting}
 use Rattle.ygrammar.specs.Marking.{OnlyReachable, numbered_grammar, rule_at}
 use Rattle.ygrammar.specs.Grammar.{production_of}
 use Rattle.ygrammar.proofs.MarkingSteps.{alone, closed_end}
@@ -42,18 +42,18 @@ first_marked tokens symbols rules m m2 x e only f s k =
     let g = numbered_grammar tokens symbols rules in
     either g m s x f (subst (IsReachable g) (sym e) first) (only s k)
 
-pub all_marked : (tokens symbols : ℕ) (rules : List RuleValue) (m : List Bool) (o : List ℕ)
-    (n : ℕ) → length o ≤ n → ((r : ℕ) → r < length rules → IsSpread (rule_at rules r) m o n) →
-    IsMarked m (rule_at rules 0).left →
-    (s : ℕ) → IsReachable (numbered_grammar tokens symbols rules) s → IsMarked m s
-all_marked tokens symbols rules m o n z c b s first = b
-all_marked tokens symbols rules m o n z c b s (further {r = r} h p k) =
+pub all_marked : (tokens symbols : ℕ) (rules : List RuleValue) (w : WorklistValue) →
+    ((s : ℕ) → IsWaiting w s → ⊥) → ((r : ℕ) → r < length rules → IsSpread (rule_at rules r) w) →
+    IsMarked w.marks (rule_at rules 0).left →
+    (s : ℕ) → IsReachable (numbered_grammar tokens symbols rules) s → IsMarked w.marks s
+all_marked tokens symbols rules w z c b s first = b
+all_marked tokens symbols rules w z c b s (further {r = r} h p k) =
     let body = (rule_at rules r).body in
-    let f = closed_end ((rule_at rules r).left ∷ []) body m o n z
+    let f = closed_end ((rule_at rules r).left ∷ []) body w z
     (c r (subst (λ (j : ℕ). r < j) (length-map rules production_of) h))
-    (alone (IsMarked m) (rule_at rules r).left
-    (all_marked tokens symbols rules m o n z c b (rule_at rules r).left p)) in
-    All-contains (IsMarked m) body s (All-from_get_or (IsMarked m) body 0 f) k
+    (alone (IsMarked w.marks) (rule_at rules r).left
+    (all_marked tokens symbols rules w z c b (rule_at rules r).left p)) in
+    All-contains (IsMarked w.marks) body s (All-from_get_or (IsMarked w.marks) body 0 f) k
 
 blank_at : (n s : ℕ) → get_or (replicate n false) s false ≡ false
 blank_at zero s = refl

@@ -38,27 +38,45 @@ abbrev pub unmarked_count : List Bool → ℕ
 unmarked_count [] = 0
 unmarked_count (b ∷ m) = cond b 0 1 + unmarked_count m
 
--- s stands in the order, and has not been taken: `done` have been
-pub record IsWaiting (order : List ℕ) (done s : ℕ) : Type 0 where
+-- marks of symbols; those marked since the start, in the order in which they were; and how many of
+-- these are taken
+pub record WorklistValue : Type 0 where
+  pub marks : List Bool
+  pub order : List ℕ
+  pub taken : ℕ
+
+-- s stands in the order, and is not taken yet
+pub record IsWaiting (w : WorklistValue) (s : ℕ) : Type 0 where
   pub at : ℕ
-  pub later : done ≤ at
-  pub within : at < length order
-  pub there : slice_index order at ≡ s
+  pub later : w.taken ≤ at
+  pub within : at < length w.order
+  pub there : slice_index w.order at ≡ s
 
--- the symbols of a worklist are marked, each once
-pub record IsWorklist (m : List Bool) (order : List ℕ) : Type 0 where
-  pub marked : (k : ℕ) → k < length order → IsMarked m (slice_index order k)
-  pub few : length order + unmarked_count m ≤ length m
+-- the symbols of the order are marked, each once
+pub record IsWorklist (w : WorklistValue) : Type 0 where
+  pub marked : (k : ℕ) → k < length w.order → IsMarked w.marks (slice_index w.order k)
+  pub few : length w.order + unmarked_count w.marks ≤ length w.marks
+  pub within : w.taken ≤ length w.order
 
--- more are marked, and each that is new waits in the order
-pub record Grows (m : List Bool) (order : List ℕ) (m2 : List Bool) (order2 : List ℕ) : Type 0 where
+-- what is marked stays so
+pub record Keeps (m m2 : List Bool) : Type 0 where
   pub sized : length m2 ≡ length m
-  pub longer : length order ≤ length order2
   pub kept : (s : ℕ) → IsMarked m s → IsMarked m2 s
-  pub ahead : (done s : ℕ) → IsWaiting order done s → IsWaiting order2 done s
-  pub waits : (done s : ℕ) → done ≤ length order → IsMarked m2 s →
-      IsMarked m s ⊎ IsWaiting order2 done s
-  pub list : IsWorklist m order → IsWorklist m2 order2
+
+-- more are marked, and each that is new waits
+pub record Grows (w v : WorklistValue) : Type 0 where
+  pub keeps : Keeps w.marks v.marks
+  pub taken : v.taken ≡ w.taken
+  pub ahead : (s : ℕ) → IsWaiting w s → IsWaiting v s
+  pub waits : (s : ℕ) → IsMarked v.marks s → IsMarked w.marks s ⊎ IsWaiting v s
+
+-- a symbol that waits is taken, and each other one waits on
+pub record Takes (w : WorklistValue) (s : ℕ) (v : WorklistValue) : Type 0 where
+  pub marks : v.marks ≡ w.marks
+  pub taken : v.taken ≡ w.taken + 1
+  pub few : v.taken ≤ length v.marks
+  pub marked : IsMarked w.marks s
+  pub others : (t : ℕ) → IsWaiting w t → (t ≡ s) ⊎ IsWaiting v t
 
 -- what stands before the dot of a body is marked
 pub record DotFits (body : List ℕ) (m : List Bool) (dot : ℕ) : Type 0 where
@@ -79,21 +97,20 @@ abbrev pub right_side : Production → List ℕ
 right_side p = p.body
 
 -- a premise is not marked, or is still to be taken, or all conclusions are marked
-pub data IsClosed (premises conclusions : List ℕ) (m : List Bool) (order : List ℕ) (done : ℕ) :
-    Type 0 where
-  stuck : (k : ℕ) → k < length premises → IsUnmarked m (slice_index premises k) →
-      IsClosed premises conclusions m order done
-  ahead : (k : ℕ) → k < length premises → IsWaiting order done (slice_index premises k) →
-      IsClosed premises conclusions m order done
-  marked : EachIndex conclusions (λ k. IsMarked m (slice_index conclusions k)) →
-      IsClosed premises conclusions m order done
+pub data IsClosed (premises conclusions : List ℕ) (w : WorklistValue) : Type 0 where
+  stuck : (k : ℕ) → k < length premises → IsUnmarked w.marks (slice_index premises k) →
+      IsClosed premises conclusions w
+  ahead : (k : ℕ) → k < length premises → IsWaiting w (slice_index premises k) →
+      IsClosed premises conclusions w
+  marked : EachIndex conclusions (λ k. IsMarked w.marks (slice_index conclusions k)) →
+      IsClosed premises conclusions w
 
 -- once the body of a rule is marked and taken, its left side is marked
-abbrev pub IsSettled : Production → List Bool → List ℕ → ℕ → Type 0
+abbrev pub IsSettled : Production → WorklistValue → Type 0
 IsSettled p = IsClosed (right_side p) (left_side p)
 
 -- once the left side of a rule is marked and taken, its body is marked
-abbrev pub IsSpread : Production → List Bool → List ℕ → ℕ → Type 0
+abbrev pub IsSpread : Production → WorklistValue → Type 0
 IsSpread p = IsClosed (left_side p) (right_side p)
 
 -- only symbols that derive a list of tokens are marked

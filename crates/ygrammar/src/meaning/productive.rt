@@ -4,12 +4,12 @@ ghost use Rattle.std.specs.Prelude.{◌≡◌, ◌≤◌, ◌<◌, ◌↔◌, �
 ghost use Rattle.std.specs.Prelude.{EachIndex, false, IfOk, OnOk, vec_len};
 ghost use Rattle.ygrammar.specs.Forms.{Productive};
 ghost use Rattle.ygrammar.specs.Marking.{AreDots, AreIn, DotFits, Grows, IsMarked, IsSettled};
-ghost use Rattle.ygrammar.specs.Marking.{IsUnmarked, IsWorklist, OnlyProductive};
+ghost use Rattle.ygrammar.specs.Marking.{IsUnmarked, IsWaiting, Keeps, OnlyProductive};
 ghost use Rattle.ygrammar.specs.Marking.{numbered_grammar, rule_at};
 
 use crate::grammar::{Rule, Sym};
 use crate::meaning::occurrences::{body_at, left_at, occurrences};
-use crate::meaning::worklist::mark;
+use crate::meaning::worklist::Worklist;
 use std::alloc::{AllocError, Global};
 
 /// Where the dot of a body comes to, past the marked symbols.
@@ -32,26 +32,23 @@ fn visit(
     rules: &[Rule],
     r: usize,
     dots: &mut Vec<usize>,
-    marks: &mut Vec<bool>,
-    order: &mut Vec<Sym>,
+    list: &mut Worklist,
 ) -> Result<(), AllocError>
     requires within { r < length rules.now }
-    requires in_range { AreIn (length marks.old.items) rules.now }
-    requires dots { AreDots rules.now dots.old.items marks.old.items }
-    ensures grows { OnOk result (Grows marks.old.items order.old.items marks.new.items
-        order.new.items) }
-    ensures dots { OnOk result (AreDots rules.now dots.new.items marks.new.items) }
-    ensures settled { OnOk result ((done : ℕ) →
-        IsSettled (rule_at rules.now r) marks.new.items order.new.items done) }
+    requires in_range { AreIn (length list.old.marks) rules.now }
+    requires dots { AreDots rules.now dots.old.items list.old.marks }
+    ensures grows { OnOk result (Grows list.old list.new) }
+    ensures dots { OnOk result (AreDots rules.now dots.new.items list.new.marks) }
+    ensures settled { OnOk result (IsSettled (rule_at rules.now r) list.new) }
     ensures sound { OnOk result ((tokens symbols : ℕ) →
-        OnlyProductive (numbered_grammar tokens symbols rules.now) marks.old.items →
-        OnlyProductive (numbered_grammar tokens symbols rules.now) marks.new.items) }
+        OnlyProductive (numbered_grammar tokens symbols rules.now) list.old.marks →
+        OnlyProductive (numbered_grammar tokens symbols rules.now) list.new.marks) }
 {
     let body = body_at(rules, r);
-    let dot = advance(body, marks, dots[r]);
+    let dot = advance(body, list.marks(), dots[r]);
     dots[r] = dot;
     if dot == body.len() {
-        mark(marks, order, left_at(rules, r))?;
+        list.mark(left_at(rules, r))?;
     }
     Ok(())
 }
@@ -61,48 +58,39 @@ fn visit_listed(
     rules: &[Rule],
     listed: &[usize],
     dots: &mut Vec<usize>,
-    marks: &mut Vec<bool>,
-    order: &mut Vec<Sym>,
+    list: &mut Worklist,
 ) -> Result<(), AllocError>
     requires listed { EachIndex listed.now (λ k. slice_index listed.now k < length rules.now) }
-    requires in_range { AreIn (length marks.old.items) rules.now }
-    requires dots { AreDots rules.now dots.old.items marks.old.items }
-    ensures grows { OnOk result (Grows marks.old.items order.old.items marks.new.items
-        order.new.items) }
-    ensures dots { OnOk result (AreDots rules.now dots.new.items marks.new.items) }
-    ensures settled { OnOk result ((done : ℕ) → done ≤ length order.old.items →
-        EachIndex listed.now (λ k. IsSettled (rule_at rules.now (slice_index listed.now k))
-        marks.new.items order.new.items done)) }
+    requires in_range { AreIn (length list.old.marks) rules.now }
+    requires dots { AreDots rules.now dots.old.items list.old.marks }
+    ensures grows { OnOk result (Grows list.old list.new) }
+    ensures dots { OnOk result (AreDots rules.now dots.new.items list.new.marks) }
+    ensures settled { OnOk result (EachIndex listed.now
+        (λ k. IsSettled (rule_at rules.now (slice_index listed.now k)) list.new)) }
     ensures sound { OnOk result ((tokens symbols : ℕ) →
-        OnlyProductive (numbered_grammar tokens symbols rules.now) marks.old.items →
-        OnlyProductive (numbered_grammar tokens symbols rules.now) marks.new.items) }
+        OnlyProductive (numbered_grammar tokens symbols rules.now) list.old.marks →
+        OnlyProductive (numbered_grammar tokens symbols rules.now) list.new.marks) }
 {
     for r in listed {
-        visit(rules, *r, dots, marks, order)?;
+        visit(rules, *r, dots, list)?;
     }
     Ok(())
 }
 
 /// Visits every rule once.
-fn visit_each(
-    rules: &[Rule],
-    dots: &mut Vec<usize>,
-    marks: &mut Vec<bool>,
-    order: &mut Vec<Sym>,
-) -> Result<(), AllocError>
-    requires in_range { AreIn (length marks.old.items) rules.now }
-    requires dots { AreDots rules.now dots.old.items marks.old.items }
-    ensures grows { OnOk result (Grows marks.old.items order.old.items marks.new.items
-        order.new.items) }
-    ensures dots { OnOk result (AreDots rules.now dots.new.items marks.new.items) }
+fn visit_each(rules: &[Rule], dots: &mut Vec<usize>, list: &mut Worklist) -> Result<(), AllocError>
+    requires in_range { AreIn (length list.old.marks) rules.now }
+    requires dots { AreDots rules.now dots.old.items list.old.marks }
+    ensures grows { OnOk result (Grows list.old list.new) }
+    ensures dots { OnOk result (AreDots rules.now dots.new.items list.new.marks) }
     ensures settled { OnOk result ((r : ℕ) → r < length rules.now →
-        IsSettled (rule_at rules.now r) marks.new.items order.new.items 0) }
+        IsSettled (rule_at rules.now r) list.new) }
     ensures sound { OnOk result ((tokens symbols : ℕ) →
-        OnlyProductive (numbered_grammar tokens symbols rules.now) marks.old.items →
-        OnlyProductive (numbered_grammar tokens symbols rules.now) marks.new.items) }
+        OnlyProductive (numbered_grammar tokens symbols rules.now) list.old.marks →
+        OnlyProductive (numbered_grammar tokens symbols rules.now) list.new.marks) }
 {
     for r in 0..rules.len() {
-        visit(rules, r, dots, marks, order)?;
+        visit(rules, r, dots, list)?;
     }
     Ok(())
 }
@@ -112,28 +100,22 @@ fn drain(
     alloc: Global,
     rules: &[Rule],
     dots: &mut Vec<usize>,
-    marks: &mut Vec<bool>,
-    order: &mut Vec<Sym>,
+    list: &mut Worklist,
 ) -> Result<(), AllocError>
-    requires in_range { AreIn (length marks.old.items) rules.now }
-    requires dots { AreDots rules.now dots.old.items marks.old.items }
-    requires list { IsWorklist marks.old.items order.old.items }
-    requires settled { (r : ℕ) → r < length rules.now →
-        IsSettled (rule_at rules.now r) marks.old.items order.old.items 0 }
-    ensures grows { OnOk result (Grows marks.old.items order.old.items marks.new.items
-        order.new.items) }
+    requires in_range { AreIn (length list.old.marks) rules.now }
+    requires dots { AreDots rules.now dots.old.items list.old.marks }
+    requires settled { (r : ℕ) → r < length rules.now → IsSettled (rule_at rules.now r) list.old }
+    ensures keeps { OnOk result (Keeps list.old.marks list.new.marks) }
     ensures settled { OnOk result ((r : ℕ) → r < length rules.now →
-        IsSettled (rule_at rules.now r) marks.new.items order.new.items (length order.new.items)) }
+        IsSettled (rule_at rules.now r) list.new) }
+    ensures empty { OnOk result ((s : ℕ) → IsWaiting list.new s → ⊥) }
     ensures sound { OnOk result ((tokens symbols : ℕ) →
-        OnlyProductive (numbered_grammar tokens symbols rules.now) marks.old.items →
-        OnlyProductive (numbered_grammar tokens symbols rules.now) marks.new.items) }
+        OnlyProductive (numbered_grammar tokens symbols rules.now) list.old.marks →
+        OnlyProductive (numbered_grammar tokens symbols rules.now) list.new.marks) }
 {
-    let places = occurrences(alloc, rules, marks.len())?;
-    let mut done = 0;
-    while done < order.len() {
-        let s = order[done];
-        done += 1;
-        visit_listed(rules, &places[s], dots, marks, order)?;
+    let places = occurrences(alloc, rules, list.marks().len())?;
+    while let Some(s) = list.take() {
+        visit_listed(rules, &places[s], dots, list)?;
     }
     Ok(())
 }
@@ -164,10 +146,9 @@ pub fn productive(
     ensures exact { IfOk result (λ marks. (s : ℕ) → s < symbols →
         (IsMarked marks.items s ↔ Productive (numbered_grammar tokens symbols rules.now) s)) }
 {
-    let mut marks = token_marks(alloc, tokens, symbols)?;
-    let mut order = Vec::new(alloc);
+    let mut list = Worklist::new(alloc, token_marks(alloc, tokens, symbols)?);
     let mut dots = vec![in alloc; 0; rules.len()]?;
-    visit_each(rules, &mut dots, &mut marks, &mut order)?;
-    drain(alloc, rules, &mut dots, &mut marks, &mut order)?;
-    Ok(marks)
+    visit_each(rules, &mut dots, &mut list)?;
+    drain(alloc, rules, &mut dots, &mut list)?;
+    Ok(list.into_marks())
 }

@@ -1,19 +1,16 @@
-use Rattle.std.proofs.Common.{ℕ, ◌≤◌, ◌<◌, ◌-◌, length}
-use Rattle.ygrammar.specs.Marking.{AreDots, Grows, IsSettled, IsWorklist, OnlyProductive}
-use Rattle.ygrammar.specs.Marking.{numbered_grammar, rule_at}
+use Rattle.std.proofs.Common.{ℕ, ◌<◌, ◌-◌, length}
+use Rattle.ygrammar.specs.Marking.{AreDots, Keeps, IsSettled, OnlyProductive, numbered_grammar}
+use Rattle.ygrammar.specs.Marking.{rule_at}
 use Rattle.ygrammar.proofs.meaning.productive.drain.Given as goal
 
-abbrev pub invariant-loop-done : goal.invariant-loop-done
-invariant-loop-done l = record {
-  taken : l.done ≤ length l.order.items;
-  grows : Grows l.fn.marks.items l.fn.order.items l.marks.items l.order.items;
-  dots : AreDots l.rules l.dots.items l.marks.items;
-  list : IsWorklist l.marks.items l.order.items;
-  settled : (k : ℕ) → k < length l.rules → IsSettled (rule_at l.rules k) l.marks.items l.order.items
-      l.done;
+abbrev pub invariant-loop-s : goal.invariant-loop-s
+invariant-loop-s l = record {
+  keeps : Keeps l.initial.list.marks l.list.marks;
+  dots : AreDots l.rules l.dots.items l.list.marks;
+  settled : (k : ℕ) → k < length l.rules → IsSettled (rule_at l.rules k) l.list;
   sound : (tokens symbols : ℕ) → OnlyProductive (numbered_grammar tokens symbols l.rules)
-      l.fn.marks.items → OnlyProductive (numbered_grammar tokens symbols l.rules) l.marks.items;
+      l.initial.list.marks → OnlyProductive (numbered_grammar tokens symbols l.rules) l.list.marks;
 }
 
-abbrev pub decreases-loop-done : goal.decreases-loop-done
-decreases-loop-done l = length l.marks.items - l.done
+abbrev pub decreases-loop-s : goal.decreases-loop-s
+decreases-loop-s l = length l.list.marks - l.list.taken

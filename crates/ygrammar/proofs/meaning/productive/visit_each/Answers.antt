@@ -10,10 +10,9 @@ loop-r-preserved c =
     record {
       grows = grows_then c.loop-r.invariant.grows g;
       dots = c.in_ok-visit.ensures.dots;
-      settled = below_more (λ (k : ℕ). IsSettled (rule_at rs k) c.visit.new.marks.items
-          c.visit.new.order.items 0) c.loop-r.r (λ k h. closed_grows (rule_at rs k).body
-          ((rule_at rs k).left ∷ []) 0 g
-          (omega arith) (c.loop-r.invariant.settled k h)) (c.in_ok-visit.ensures.settled 0);
+      settled = below_more (λ (k : ℕ). IsSettled (rule_at rs k) c.visit.new.list) c.loop-r.r
+          (λ k h. closed_grows (rule_at rs k).body ((rule_at rs k).left ∷ []) g
+          (c.loop-r.invariant.settled k h)) c.in_ok-visit.ensures.settled;
       sound = λ tokens symbols f. c.in_ok-visit.ensures.sound tokens symbols
           (c.loop-r.invariant.sound tokens symbols f);
     }

@@ -5,9 +5,9 @@ use Rattle.ygrammar.proofs.meaning.productive.visit_each.Given as goal
 
 abbrev pub invariant-loop-r : goal.invariant-loop-r
 invariant-loop-r l = record {
-  grows : Grows l.fn.marks.items l.fn.order.items l.marks.items l.order.items;
-  dots : AreDots l.rules l.dots.items l.marks.items;
-  settled : (k : ℕ) → k < l.r → IsSettled (rule_at l.rules k) l.marks.items l.order.items 0;
+  grows : Grows l.initial.list l.list;
+  dots : AreDots l.rules l.dots.items l.list.marks;
+  settled : (k : ℕ) → k < l.r → IsSettled (rule_at l.rules k) l.list;
   sound : (tokens symbols : ℕ) → OnlyProductive (numbered_grammar tokens symbols l.rules)
-      l.fn.marks.items → OnlyProductive (numbered_grammar tokens symbols l.rules) l.marks.items;
+      l.initial.list.marks → OnlyProductive (numbered_grammar tokens symbols l.rules) l.list.marks;
 }

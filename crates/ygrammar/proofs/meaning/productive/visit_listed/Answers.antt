@@ -8,18 +8,16 @@ loop-r-preserved c =
     let rs = c.args.rules.now in
     let xs = c.args.listed.now in
     let g = c.in_ok-visit.ensures.grows in
-    let longer = c.loop-r.invariant.grows.longer in
     record {
       grows = grows_then c.loop-r.invariant.grows g;
       dots = c.in_ok-visit.ensures.dots;
-      settled = λ taken t. below_more (λ (k : ℕ). IsSettled (rule_at rs (slice_index xs k))
-          c.visit.new.marks.items c.visit.new.order.items taken) c.loop-r.r-index
-          (λ k h. closed_grows (rule_at rs (slice_index xs k)).body
-          ((rule_at rs (slice_index xs k)).left ∷ []) taken g (omega (arith, longer, t))
-          (c.loop-r.invariant.settled taken t k h)) (c.in_ok-visit.ensures.settled taken);
+      settled = below_more (λ (k : ℕ). IsSettled (rule_at rs (slice_index xs k)) c.visit.new.list)
+          c.loop-r.r-index (λ k h. closed_grows (rule_at rs (slice_index xs k)).body
+          ((rule_at rs (slice_index xs k)).left ∷ []) g (c.loop-r.invariant.settled k h))
+          c.in_ok-visit.ensures.settled;
       sound = λ tokens symbols f. c.in_ok-visit.ensures.sound tokens symbols
           (c.loop-r.invariant.sound tokens symbols f);
     }
 
 pub returns-clause-settled : goal.returns-clause-settled
-returns-clause-settled c = λ taken t k h. c.loop-r.invariant.settled taken t k (omega arith)
+returns-clause-settled c = λ k h. c.loop-r.invariant.settled k (omega arith)

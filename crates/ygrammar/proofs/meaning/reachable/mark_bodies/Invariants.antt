@@ -5,12 +5,12 @@ use Rattle.ygrammar.proofs.meaning.reachable.mark_bodies.Given as goal
 
 abbrev pub invariant-loop-r : goal.invariant-loop-r
 invariant-loop-r l = record {
-  grows : Grows l.fn.marks.items l.fn.order.items l.marks.items l.order.items;
+  grows : Grows l.initial.list l.list;
   all : (k : ℕ) → k < l.r-index → EachIndex (rule_at l.rules (slice_index l.listed k)).body
-      (λ j. IsMarked l.marks.items (slice_index (rule_at l.rules (slice_index l.listed k)).body j));
+      (λ j. IsMarked l.list.marks (slice_index (rule_at l.rules (slice_index l.listed k)).body j));
   sound : (tokens symbols : ℕ) → EachIndex l.listed
       (λ k. IsReachable (numbered_grammar tokens symbols l.rules)
       (rule_at l.rules (slice_index l.listed k)).left) → OnlyReachable
-      (numbered_grammar tokens symbols l.rules) l.fn.marks.items → OnlyReachable
-      (numbered_grammar tokens symbols l.rules) l.marks.items;
+      (numbered_grammar tokens symbols l.rules) l.initial.list.marks → OnlyReachable
+      (numbered_grammar tokens symbols l.rules) l.list.marks;
 }

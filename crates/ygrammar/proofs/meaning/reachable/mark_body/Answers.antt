@@ -10,13 +10,13 @@ loop-s-preserved c =
     let r = c.args.r in
     let i = c.loop-s.s-index in
     let body = c.body_at-s-items.result.now in
-    let m = c.loop-s.marks.items in
-    let m2 = c.mark.new.marks.items in
+    let m = c.loop-s.list.marks in
+    let m2 = c.mark.new.self.marks in
     let l : i < length body = omega arith in
     record {
       grows = grows_then c.loop-s.invariant.grows c.in_ok-mark.ensures.grows;
       all = below_more (λ (k : ℕ). IsMarked m2 (slice_index (rule_at rs r).body k)) i
-          (λ k h. c.in_ok-mark.ensures.grows.kept (slice_index (rule_at rs r).body k)
+          (λ k h. c.in_ok-mark.ensures.grows.keeps.kept (slice_index (rule_at rs r).body k)
           (c.loop-s.invariant.all k h)) (subst (λ (b : List ℕ). IsMarked m2 (slice_index b i))
           c.body_at-s-items.ensures c.in_ok-mark.ensures.marked);
       sound = λ tokens symbols p f. symbol_marked tokens symbols rs m m2 r i (slice_index body i)

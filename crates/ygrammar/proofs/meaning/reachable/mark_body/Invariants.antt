@@ -5,9 +5,9 @@ use Rattle.ygrammar.proofs.meaning.reachable.mark_body.Given as goal
 
 abbrev pub invariant-loop-s : goal.invariant-loop-s
 invariant-loop-s l = record {
-  grows : Grows l.fn.marks.items l.fn.order.items l.marks.items l.order.items;
-  all : (k : ℕ) → k < l.s-index → IsMarked l.marks.items (slice_index (rule_at l.rules l.r).body k);
+  grows : Grows l.initial.list l.list;
+  all : (k : ℕ) → k < l.s-index → IsMarked l.list.marks (slice_index (rule_at l.rules l.r).body k);
   sound : (tokens symbols : ℕ) → IsReachable (numbered_grammar tokens symbols l.rules)
       (rule_at l.rules l.r).left → OnlyReachable (numbered_grammar tokens symbols l.rules)
-      l.fn.marks.items → OnlyReachable (numbered_grammar tokens symbols l.rules) l.marks.items;
+      l.initial.list.marks → OnlyReachable (numbered_grammar tokens symbols l.rules) l.list.marks;
 }

@@ -1,18 +1,14 @@
-use Rattle.std.proofs.Common.{ℕ, ◌≤◌, ◌<◌, ◌-◌, length}
-use Rattle.ygrammar.specs.Marking.{Grows, IsSpread, IsWorklist, OnlyReachable, numbered_grammar}
-use Rattle.ygrammar.specs.Marking.{rule_at}
+use Rattle.std.proofs.Common.{ℕ, ◌<◌, ◌-◌, length}
+use Rattle.ygrammar.specs.Marking.{Keeps, IsSpread, OnlyReachable, numbered_grammar, rule_at}
 use Rattle.ygrammar.proofs.meaning.reachable.spread.Given as goal
 
-abbrev pub invariant-loop-done : goal.invariant-loop-done
-invariant-loop-done l = record {
-  taken : l.done ≤ length l.order.items;
-  grows : Grows l.fn.marks.items l.fn.order.items l.marks.items l.order.items;
-  list : IsWorklist l.marks.items l.order.items;
-  spread : (k : ℕ) → k < length l.rules → IsSpread (rule_at l.rules k) l.marks.items l.order.items
-      l.done;
+abbrev pub invariant-loop-s : goal.invariant-loop-s
+invariant-loop-s l = record {
+  keeps : Keeps l.initial.list.marks l.list.marks;
+  spread : (k : ℕ) → k < length l.rules → IsSpread (rule_at l.rules k) l.list;
   sound : (tokens symbols : ℕ) → OnlyReachable (numbered_grammar tokens symbols l.rules)
-      l.fn.marks.items → OnlyReachable (numbered_grammar tokens symbols l.rules) l.marks.items;
+      l.initial.list.marks → OnlyReachable (numbered_grammar tokens symbols l.rules) l.list.marks;
 }
 
-abbrev pub decreases-loop-done : goal.decreases-loop-done
-decreases-loop-done l = length l.marks.items - l.done
+abbrev pub decreases-loop-s : goal.decreases-loop-s
+decreases-loop-s l = length l.list.marks - l.list.taken
