@@ -9,6 +9,7 @@ use Rattle.std.proofs.lemmas.Bool.Decides.{nat_tests}
 use Rattle.std.proofs.lemmas.Option.{slice_get_within, slice_get-get_or}
 use Rattle.ygrammar.specs.declared.meaning.holders.Holders.{Holders}
 use Rattle.ygrammar.specs.declared.meaning.holders.Holders.TheVariants.{Nobody, One, Several}
+use Rattle.ygrammar.specs.Grammar.{number_bound}
 use Rattle.ygrammar.specs.Numbers.{AreHolders, AreNumbers, Clashes, IsHolders, IsLeast, IsOwn}
 use Rattle.ygrammar.specs.Numbers.{is_held, with_holder}
 use Rattle.ygrammar.proofs.TellingSteps.{false_true}
@@ -210,7 +211,7 @@ none_clash count own table s none (i, j, m, l, p, q) =
 pub record SoFar (own : List (Option ℕ)) (ns : List ℕ) (i cursor : ℕ) : Type 0 where
   pub each : length ns ≡ i
   pub low : 257 ≤ cursor
-  pub high : cursor ≤ 32768 + i
+  pub high : cursor ≤ number_bound + i
   pub kept : (j m : ℕ) → j < i → slice_get own j ≡ Some (Some m) → slice_get ns j ≡ Some m
   pub given : (j m : ℕ) → j < i → slice_get own j ≡ Some None → slice_get ns j ≡ Some m →
       IsLeast own ns j m
@@ -310,22 +311,23 @@ numbers_own own ns new i cursor m e q s = subst (λ (xs : List ℕ). SoFar own x
     taken_more u (inr p) = inr (p.0, (let h = p.1 in omega arith), p.2, before p.0 p.1 ∙ p.3)
 
 pub numbers_free : (own : List (Option ℕ)) (table : List Holders) (ns new : List ℕ)
-    (i cursor m : ℕ) → AreHolders 32768 own table → slice_get own i ≡ Some None → cursor ≤ m →
+    (i cursor m : ℕ) → length table ≤ number_bound → AreHolders (length table) own table → slice_get own i ≡ Some None → cursor ≤ m →
     m ≤ max cursor (length table) → is_held (get_or table m Nobody) ≡ false →
     ((u : ℕ) → cursor ≤ u → u < m → is_held (get_or table u Nobody) ≡ true) →
     new ≡ ns ++ m ∷ [] → SoFar own ns i cursor → SoFar own new (i + 1) (m + 1)
-numbers_free own table ns new i cursor m k e from bound free all q s =
+numbers_free own table ns new i cursor m few k e from bound free all q s =
     subst (λ (xs : List ℕ). SoFar own xs (i + 1) (m + 1)) (sym q) (record {
       each = length_push ns m ∙ ap (λ n. n + 1) s.each;
       low = let h = s.low in omega arith;
-      high = high_of (length table) k.each bound s.high;
+      high = high_of (length table) few bound s.high;
       kept = λ j n h f. kept_last j n (last_or j i h) f;
       given = λ j n h f g. given_last j n (last_or j i h) f g;
       below = λ j p h f g. below_last j p (last_or j i h) f g;
       taken = λ u a b. taken_more u a (last_or u m b);
     })
   where
-    high_of : (n : ℕ) → n ≡ 32768 → m ≤ max cursor n → cursor ≤ 32768 + i → m + 1 ≤ 32768 + (i + 1)
+    high_of : (n : ℕ) → n ≤ number_bound → m ≤ max cursor n → cursor ≤ number_bound + i →
+        m + 1 ≤ number_bound + (i + 1)
     high_of n a b c = grind (arith)
 
     at_i : slice_get (ns ++ m ∷ []) i ≡ Some m

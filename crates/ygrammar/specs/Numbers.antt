@@ -46,7 +46,7 @@ IsHolders Nobody holds = (k : ℕ) → holds k → ⊥
 IsHolders (One k) holds = holds k × ((j : ℕ) → holds j → j ≡ k)
 IsHolders Several holds = (j : ℕ) × (k : ℕ) × (j ≢ k) × holds j × holds k
 
--- Of each number below `count` the tokens that have it by themselves.
+-- Of each number below `count` the tokens that have it by themselves; from there on nobody has one.
 pub record AreHolders (count : ℕ) (own : List (Option ℕ)) (table : List Holders) : Type 0 where
   pub each : length table ≡ count
   pub exact : (m : ℕ) →

@@ -68,7 +68,8 @@ Clears t m (Err e) = Refuses t m e
 -- The numbers that the tokens have by themselves, with the tokens that hold each number.
 pub record IsOwnTable (t : Tree) (o : OwnTable) : Type 0 where
   pub numbers : o.numbers.items ≡ own_numbers t
-  pub holders : AreHolders number_bound (own_numbers t) o.holders.items
+  pub few : length o.holders.items ≤ number_bound
+  pub holders : AreHolders (length o.holders.items) (own_numbers t) o.holders.items
   pub sound : Holds t mistakes.BadNumber → ⊥
 
 -- these numbers, or a mistake in them

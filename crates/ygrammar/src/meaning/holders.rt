@@ -1,13 +1,13 @@
 //! Which tokens hold each number, and the first number of the file that is at fault.
 
-ghost use Rattle.std.specs.Prelude.{◌≡◌, ◌<◌, ℕ, IfOk, MatchBool, length, slice_index_or};
+ghost use Rattle.std.specs.Prelude.{◌≡◌, ◌<◌, ◌≤◌, ℕ, IfOk, MatchBool, length, slice_index_or};
 ghost use Rattle.std.specs.Prelude.{slice_set};
 ghost use Rattle.ygrammar.specs.Elaboration.{tokens as tokens_of_tree};
 ghost use Rattle.ygrammar.specs.Grammar.{number_bound};
 ghost use Rattle.ygrammar.specs.NameTexts.{texts};
 ghost use Rattle.ygrammar.specs.Numbers.{AreHolders, IsOwn, is_held, with_holder};
 ghost use Rattle.ygrammar.specs.Outline.{Outlines};
-ghost use Rattle.ygrammar.specs.Owned.{Owns};
+ghost use Rattle.ygrammar.specs.Owned.{AllSmall, Owns};
 ghost use Rattle.ygrammar.specs.Tree.{Tree as TreeOf};
 ghost use Rattle.ygrammar.specs.declared.meaning.holders.Holders.TheVariants.{Nobody, Several};
 
@@ -67,6 +67,21 @@ fn hold(holders: &mut Vec<Holders>, token: usize, number: u32)
 {
     let place = number as usize;
     holders[place] = holders[place].with(token);
+}
+
+/// One more than the greatest number that a token has by itself, 0 where none has one.
+fn bound_of(own: &[Option<u32>]) -> usize
+    requires { AllSmall own.now }
+    ensures few { result ≤ number_bound }
+    ensures above { (m : ℕ) → IsOwn own.now m → m < result }
+{
+    let mut bound = 0;
+    for one in own {
+        if let Some(number) = one {
+            bound = bound.max(*number as usize + 1);
+        }
+    }
+    bound
 }
 
 /// Of each number below `count` the tokens that have it by themselves.
@@ -150,10 +165,11 @@ pub fn own_table(
     let given = given_numbers(alloc, tokens, &outline.listed)?;
     let fault = given.fault;
     let numbers = own_numbers(tokens, given.first, &outline.declared, &outline.used);
-    let mut holders = own_holders(alloc, &numbers, NUMBERS)?;
+    let holders = own_holders(alloc, &numbers, bound_of(&numbers))?;
     if fault.is_none() && !has_shared(&holders) {
         return Ok(OwnTable { numbers, holders });
     }
+    let mut holders = own_holders(alloc, &numbers, NUMBERS)?;
     hold_given(&mut holders, tokens, &outline.listed);
     Err(Refused::Mistake {
         what: Mistake::BadNumber,

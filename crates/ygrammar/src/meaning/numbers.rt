@@ -32,7 +32,8 @@ pub fn numbers(
     own: &[Option<u32>],
     holders: &[Holders],
 ) -> Result<Vec<u32>, AllocError>
-    requires held { AreHolders number_bound own.now holders.now }
+    requires held { AreHolders (length holders.now) own.now holders.now }
+    requires bound { length holders.now ≤ number_bound }
     requires few { length own.now ≤ most_symbols }
     ensures { IfOk result (λ v. AreNumbers own.now v.items) }
 {

@@ -1,4 +1,4 @@
-use Rattle.std.proofs.Common.{◌≡◌, ap, ◌∙◌, map, subst, refl, inr, List, [], is_some}
+use Rattle.std.proofs.Common.{◌≡◌, ◌≤◌, ap, sym, ◌∙◌, map, subst, refl, inr, List, [], is_some}
 use Rattle.std.proofs.Common.{false, get_or}
 use Rattle.ygrammar.specs.declared.meaning.holders.Holders.TheVariants.{Nobody, Several}
 use Rattle.ygrammar.specs.declared.meaning.outline.Listed.{Listed}
@@ -44,20 +44,25 @@ owned c t o e f =
     )
 
 pub own_holders-requires : goal.own_holders-requires
-own_holders-requires c = λ m p. are_small c.own_numbers-numbers.result.items
+own_holders-requires c = λ m p. c.bound_of.ensures.above m
+    (subst (λ xs. IsOwn xs m) (c.deref-4.ensures.value ∙ sym c.deref-5.ensures.value) p)
+
+pub own_holders-requires-2 : goal.own_holders-requires-2
+own_holders-requires-2 c = λ m p. are_small c.own_numbers-numbers.result.items
     (c.own_numbers-numbers.ensures.small c.in_ok-given.ensures.small) m
-    (subst (λ xs. IsOwn xs m) c.deref-4.ensures.value p)
+    (subst (λ xs. IsOwn xs m) c.deref-6.ensures.value p)
 
 pub returns-then-not-has_shared : goal.returns-then-not-has_shared
 returns-then-not-has_shared c = λ t o e.
     let (told, n) =
     owned (goal.at.returns-then-not-has_shared c).In_ok-holders t o e c.if-is_none.ensures in
-    let k = subst (λ xs. AreHolders number_bound xs c.in_ok-holders.holders.items)
+    let k = subst (λ xs. AreHolders c.bound_of.result xs c.in_ok-holders.holders.items)
     (c.deref-4.ensures.value ∙ n) c.in_ok-holders.ensures in
     record {
       numbers = n;
-      holders = k;
-      sound = numbers_sound t _ told.0 told.1 (none_clash number_bound _ _ k
+      few = subst (λ m. m ≤ number_bound) (sym k.each) c.bound_of.ensures.few;
+      holders = record { each = refl; exact = k.exact };
+      sound = numbers_sound t _ told.0 told.1 (none_clash c.bound_of.result _ _ k
           (subst (λ hs. (m : _) → get_or hs m Nobody ≡ Several → ⊥)
           c.deref-then-is_none.ensures.value c.if-not-has_shared.ensures));
     }

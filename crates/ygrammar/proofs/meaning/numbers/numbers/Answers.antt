@@ -24,7 +24,7 @@ loop-one-preserved c = elim c.match-one.branch [
       (subst (λ (v : Vec ℕ Global). SoFar own v.items (i + 1) (w.next_free-number.result + 1))
       (sym w.given-is)
       (numbers_free own c.args.holders.now c.loop-one.given.items w.push-in-None.new.self.items i
-      c.loop-one.cursor w.next_free-number.result c.requires.held
+      c.loop-one.cursor w.next_free-number.result c.requires.bound c.requires.held
       (at_place own i None h w.in-None.is) w.next_free-number.ensures.from
       w.next_free-number.ensures.bound w.next_free-number.ensures.free
       w.next_free-number.ensures.least w.in_ok-push-in-None.ensures.items c.loop-one.invariant))
