@@ -224,21 +224,6 @@ runs_fault m x k n made h mid fault e f s =
 pub runs_off : (m : Machine) (k : ℕ) (made : Bool) (h : History) → k ≡ 0 → Runs m k made h [] h
 runs_off m k made h e = subst (λ (j : ℕ). Runs m j made h [] h) (sym e) (refl, refl)
 
-le-not-ltb : (k n : ℕ) → k ≤ n → nat_lt n k ≡ false
-le-not-ltb k n h = false_from_ne_true (nat_lt n k) (λ e. let l = ltb-true n k e in
-    omega (arith, l, h))
-
--- steps or undos to a position
-pub to_run : (m : Machine) (k : ℕ) (h new : History) (text : List ℕ) → position h < k
-    → Runs m (k - position h) false h text new → Reply m h (To k) text new
-to_run m k h new text l r = subst (λ (b : Bool). GoesTo m k b h text new)
-    (sym (lt-ltb (position h) k l)) r
-
-pub to_back : (m : Machine) (k : ℕ) (h new : History) (text : List ℕ) → k ≤ position h → GoesBack m
-    (position h - k) h text new → Reply m h (To k) text new
-to_back m k h new text l r = subst (λ (b : Bool). GoesTo m k b h text new)
-    (sym (le-not-ltb k (position h) l)) r
-
 module _ {W : Type 0} (contents : W → Option (List ℕ)) where
   -- a reply that was sent, and not flushed
   pub answered-unflushed : (a b c : Link W) (m : Machine) (h now : History) (command : Command)

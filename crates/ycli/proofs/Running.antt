@@ -62,11 +62,6 @@ tables_fail path source starts.Tables is = tt
 tables_fail path source (starts.Tokens fault) is = absurd is
 tables_fail path source (starts.Session fault) is = absurd is
 
--- a file that can't be read
-pub grammar_unread : (path : Bor (List ℕ)) (kind : IoKind) → GrammarFails path (of_unread kind path)
-grammar_unread path errors.OutOfMemory = tt
-grammar_unread path _ = refl
-
 pub tokens_unread : (path : Bor (List ℕ)) (kind : IoKind) → TokensFail path (of_unread kind path)
 tokens_unread path errors.OutOfMemory = tt
 tokens_unread path _ = refl

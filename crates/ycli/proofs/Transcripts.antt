@@ -240,11 +240,6 @@ module _ {W : Type 0} (contents : W → Option (List ℕ)) where
 
   -- ---- a last line that lacks its newline
 
-  pub ends_empty : (a : Link W) (m : Machine) (h : History) (line held : List ℕ)
-      → held ≡ take line_room line → held ≡ [] → Ends contents a a true m h line
-  ends_empty a m h [] held e f = ([], refl, Sends-nothing contents a)
-  ends_empty a m h (b ∷ bs) held e f = let bad : [] ≡ b ∷ take longest_line bs = sym f ∙ e in cc
-
   pub ends_quit : (a : Link W) (m : Machine) (h : History) (line held : List ℕ)
       → held ≡ take line_room line → (held ≡ [] → ⊥) → line_in held ≡ words.Quit
       → Ends contents a a true m h line

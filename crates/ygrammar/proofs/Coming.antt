@@ -129,10 +129,6 @@ two Declarations h = cc
 two End h = refl
 two _ h = cc
 
-marks_push : (ls : List Lexeme) (l : Lexeme) → marks (ls ++ l ∷ []) ≡ marks ls + count_mark
-    (kind_of l)
-marks_push ls l = marks_append ls (l ∷ [])
-
 -- the state tells how many marks have been read
 reads_marks : (ls : List Lexeme) (q r : State) → state_after (Some q) (kinds ls) ≡ Some r →
     marks_of q + marks ls ≡ marks_of r
@@ -171,19 +167,6 @@ cuts_more : (ps : List Part) (bytes rest : List ℕ) (p : Part) (m : List ℕ) �
     PartAt rest p m → Cuts bytes (ps ++ p ∷ []) m
 cuts_more [] bytes rest p m e h = (m, subst (λ z. PartAt z p m) (sym e) h, refl)
 cuts_more (q ∷ ps) bytes rest p m (n, a, c) h = (n, a, cuts_more ps n rest p m c h)
-
-pub comes_start : (bytes : List ℕ) → Comes bytes [] bytes Declarations
-comes_start bytes = record {
-  cut = record {
-    parts = [];
-    cut = refl;
-    read = refl;
-    unfinished =
-        omega arith;
-  };
-  state_is = refl;
-  placed = tt;
-}
 
 pub goes_gap : (bytes rest m : List ℕ) (ls : List Placed) (q : State) (p : Part) →
     Comes bytes ls rest q → lexemes (p ∷ []) ≡ [] → PartAt rest p m → Comes bytes ls m q

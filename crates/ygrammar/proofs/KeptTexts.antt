@@ -41,9 +41,6 @@ slash_goes d (b ∷ bs) h =
     ap (λ m. closes m d (b ∷ bs)) (cond-false (eqb b 42) Opening (cond (eqb b 47) Lined Outside) p.0
     ∙ cond-false (eqb b 47) Lined Outside p.1)
 
-open_goes : (d : ℕ) (bs : List ℕ) → closes Outside d (123 ∷ bs) ≡ closes Outside (suc d) bs
-open_goes d bs = refl
-
 close_goes : (d : ℕ) (bs : List ℕ) → closes Outside (suc d) (125 ∷ bs) ≡ closes Outside d bs
 close_goes d bs = ap (λ n. closes Outside n bs) (let e : suc d - 1 ≡ d = omega arith in e)
 

@@ -116,10 +116,6 @@ made bytes p t r e h f g = record {
       (g k.word after z k.each (class_at p t r 37 (k.word ++ after) (sym e ∙ z) h));
 }
 
-pub blank_part : (b : ℕ) (rest : List ℕ) → is_blank b ≡ true → PartAt (b ∷ rest) blank rest
-blank_part b rest h = made (b ∷ rest) blank (b ∷ []) rest refl (b, refl, h) (λ l longer after w c s.
-    absurd (no_blank_lexeme l (sym c))) (λ word after w k c. cc)
-
 pub comment_part : (bytes more rest : List ℕ) → bytes ≡ 47 ∷ 42 ∷ more →
     pair_after 42 47 more ≡ Some rest → PartAt bytes comment rest
 comment_part bytes more rest e h =

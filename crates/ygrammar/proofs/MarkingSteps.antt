@@ -134,7 +134,8 @@ waits_on m s h (inr a) = inr (h.ahead s a)
 waits_then : {w v u : WorklistValue} (s : ℕ) → Grows w v → Grows v u
     → IsMarked v.marks s ⊎ IsWaiting u s → IsMarked w.marks s ⊎ IsWaiting u s
 waits_then s g h (inr a) = inr a
-waits_then {w = w} {v = v} {u = u} s g h (inl k) = waits_on {v = v} {u = u} w.marks s h (g.waits s k)
+waits_then {w = w} {v = v} {u = u} s g h (inl k) =
+    waits_on {v = v} {u = u} w.marks s h (g.waits s k)
 
 pub grows_then : {w v u : WorklistValue} → Grows w v → Grows v u → Grows w u
 grows_then {w = w} {v = v} {u = u} g h = record {

@@ -346,9 +346,11 @@ long_found t ns vs e h =
 pub no_limit : (t : Tree) (a b : ℕ) (vs : List RuleValue) → a ≡ length (symbols t) →
     b ≡ length (rules t) → vs ≡ map (rule_numbers (symbols t) (token_precedences t)) (rules t) →
     a ≤ most_symbols → b ≤ most_rules → list_any is_long vs ≡ false → Holds t Limit → ⊥
-no_limit t a b vs e f g x y z (inl p) = let q : most_symbols < a = subst (λ n. most_symbols < n) (sym e) p in
+no_limit t a b vs e f g x y z (inl p) =
+    let q : most_symbols < a = subst (λ n. most_symbols < n) (sym e) p in
     absurd (omega arith)
-no_limit t a b vs e f g x y z (inr (inl p)) = let q : most_rules < b = subst (λ n. most_rules < n) (sym f) p in
+no_limit t a b vs e f g x y z (inr (inl p)) =
+    let q : most_rules < b = subst (λ n. most_rules < n) (sym f) p in
     absurd (omega arith)
 no_limit t a b vs e f g x y z (inr (inr (r, c, p))) =
     not_more (length (map (number_in (symbols t)) r.body))

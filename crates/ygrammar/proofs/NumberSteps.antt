@@ -97,24 +97,6 @@ several_hold Nobody P j k d p q s = absurd (s j p)
 several_hold (One a) P j k d p q s = absurd (d (s.1 j p ∙ sym (s.1 k q)))
 several_hold Several P j k d p q s = refl
 
-nobody_holds : (n m : ℕ) → get_or (replicate n Nobody) m Nobody ≡ Nobody
-nobody_holds zero m = refl
-nobody_holds (suc n) zero = refl
-nobody_holds (suc n) (suc m) = nobody_holds n m
-
-length_replicate : (n : ℕ) → length (replicate n Nobody) ≡ n
-length_replicate zero = refl
-length_replicate (suc n) = ap (λ k. suc k) (length_replicate n)
-
-pub holders_none : (count : ℕ) (own : List (Option ℕ)) (table : List Holders) →
-    table ≡ replicate count Nobody → Holding count own table 0
-holders_none count own table e = record {
-  each = ap length e ∙ length_replicate count;
-  exact = λ m. subst (λ h. IsHolders h (λ k. (k < 0) × (slice_get own k ≡ Some (Some m))))
-      (sym (ap (λ (t : List Holders). get_or t m Nobody) e ∙ nobody_holds count m))
-      (λ k p. let l = p.0 in absurd (omega arith));
-}
-
 pub holders_skip : (count : ℕ) (own : List (Option ℕ)) (table : List Holders) (i : ℕ) →
     slice_get own i ≡ Some None → Holding count own table i → Holding count own table (i + 1)
 holders_skip count own table i e s = record {
@@ -250,17 +232,6 @@ least_more own ns x j m h l = record {
 length_push : (ns : List ℕ) (x : ℕ) → length (ns ++ x ∷ []) ≡ length ns + 1
 length_push ns x = length-append ns (x ∷ [])
 
-pub numbers_none : (own : List (Option ℕ)) (ns : List ℕ) → ns ≡ [] → SoFar own ns 0 257
-numbers_none own ns e = record {
-  each = ap length e;
-  low = omega arith;
-  high = omega arith;
-  kept = λ j m h. absurd (omega arith);
-  given = λ j m h. absurd (omega arith);
-  below = λ j p h. absurd (omega arith);
-  taken = λ u a b. absurd (omega arith);
-}
-
 pub numbers_own : (own : List (Option ℕ)) (ns new : List ℕ) (i cursor m : ℕ) →
     slice_get own i ≡ Some (Some m) → new ≡ ns ++ m ∷ [] → SoFar own ns i cursor →
     SoFar own new (i + 1) cursor
@@ -311,7 +282,8 @@ numbers_own own ns new i cursor m e q s = subst (λ (xs : List ℕ). SoFar own x
     taken_more u (inr p) = inr (p.0, (let h = p.1 in omega arith), p.2, before p.0 p.1 ∙ p.3)
 
 pub numbers_free : (own : List (Option ℕ)) (table : List Holders) (ns new : List ℕ)
-    (i cursor m : ℕ) → length table ≤ number_bound → AreHolders (length table) own table → slice_get own i ≡ Some None → cursor ≤ m →
+    (i cursor m : ℕ) → length table ≤ number_bound → AreHolders (length table) own table →
+    slice_get own i ≡ Some None → cursor ≤ m →
     m ≤ max cursor (length table) → is_held (get_or table m Nobody) ≡ false →
     ((u : ℕ) → cursor ≤ u → u < m → is_held (get_or table u Nobody) ≡ true) →
     new ≡ ns ++ m ∷ [] → SoFar own ns i cursor → SoFar own new (i + 1) (m + 1)

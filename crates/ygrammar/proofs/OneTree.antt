@@ -121,10 +121,6 @@ abbrev is_prec : Lexeme → Bool
 is_prec (fixed sign.Prec) = true
 is_prec _ = false
 
-abbrev is_semicolon : Lexeme → Bool
-is_semicolon (fixed sign.Semicolon) = true
-is_semicolon _ = false
-
 -- what begins a definition
 abbrev is_definition : Lexeme → Bool
 is_definition (fixed sign.Start) = true

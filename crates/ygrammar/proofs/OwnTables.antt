@@ -112,9 +112,6 @@ own_list t table s = by_numbers (own_number t) (tokens t) table None (distinct_t
     kept None = refl
     kept (Some x) = refl
 
-pub fit_small : (table : List (Option ℕ)) → AllFit table → AllSmall table
-fit_small table h k m e = let p = h k m e in let q = p.1 in omega arith
-
 pub are_small : (table : List (Option ℕ)) → AllSmall table →
     (m : ℕ) → IsOwn table m → m < number_bound
 are_small table h m p = h p.0 m (get_or_from_slice_get table p.0 (Some m) None p.1)

@@ -130,9 +130,6 @@ weaken : (o : Option State) {g h : List Symbol} → MovedTo o g → Form g h →
 weaken None m d = tt
 weaken (Some q) m d = record { shape = m.shape; in_state = m.in_state; derives = trans m.derives d }
 
-front_defs : List Symbol
-front_defs = defs ∷ []
-
 a_definition : (k : Kind) → MovedTo (after_definition k) (defs ∷ lexeme k ∷ [])
 a_definition kind.Start = by start_word done
 a_definition kind.Union = by union_word done

@@ -254,9 +254,6 @@ inner_accept k e = false_true (ap (λ (n : Name). get_or n 1 0 == 97) e)
 pub inner_end : (k : ℕ) → inner_name k ≡ codes "$end" → ⊥
 inner_end k e = false_true (ap (λ (n : Name). get_or n 1 0 == 101) e)
 
-pub inner_error : (k : ℕ) → inner_name k ≡ codes "error" → ⊥
-inner_error k e = false_true (ap (λ (n : Name). get_or n 0 0 == 101) e)
-
 -- ---- which of them are tokens
 
 -- what holds of the names of all appearances holds of what is listed

@@ -127,25 +127,6 @@ module _ {A : Type 0} (f : Listing → Option A) where
       (told l rest n v true e (eq_self n))) ∙ s.said n h in
       (n, subst (λ (xs : List A). 2 ≤ length xs) w (omega arith))
 
-  empty_table : (m k : ℕ) → get_or (replicate {A = Option A} m None) k None ≡ None
-  empty_table zero k = refl
-  empty_table (suc m) zero = refl
-  empty_table (suc m) (suc k) = empty_table m k
-
-  -- nothing is said before the first listing
-  pub starts_told : (ns : List Name) (table : List (Option A)) (m : ℕ) (whole : List Listing) →
-      m ≡ length ns → table ≡ replicate m None → SoFar f ns table whole whole
-  starts_told ns table m whole e h = record {
-    each = ap length h ∙ length_replicate m ∙ e;
-    said = λ n i. ap (λ (o : Option A). option_list o ++ said_of f whole n)
-        (ap (λ (t : List (Option A)). get_or t (number_in ns n) None) h ∙ empty_table m
-        (number_in ns n));
-  }
-    where
-      length_replicate : (k : ℕ) → length (replicate {A = Option A} k None) ≡ k
-      length_replicate zero = refl
-      length_replicate (suc k) = ap (λ j. suc j) (length_replicate k)
-
   -- the same, for a place in a list of the code
   pub skips_at : (d : Listed) (ns : List Name) (table : List (Option A)) (xs : List Listed) (i : ℕ)
       (whole : List Listing) → i < length xs → f (listed_view (get_or xs i d)) ≡ None →

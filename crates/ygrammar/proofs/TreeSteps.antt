@@ -322,11 +322,6 @@ rules_begin (l ∷ ls) h =
       λ r f. cc,
     )
 
-pub rule_goes : (left : Option (List ℕ)) (before after : List Lexeme) → Goes Semicolons before →
-    before ≡ left_yield left ∷ after → Goes Body after
-rule_goes None before after h e = subst (Goes Semicolons) e h
-rule_goes (Some n) before after h e = subst (Goes Semicolons) e h
-
 first_named : (left : Option (List ℕ)) (ls : List Lexeme) → Goes RulesMark (left_yield left ∷ ls) →
     IsSome left
 first_named (Some n) ls h = refl
@@ -463,11 +458,6 @@ one_more_semicolon whole rest next (n, e, l) h =
           (views next)) ∙ ap (λ z. z ++ views next) made,
       omega (arith, a, c, d, l),
     )
-
-pub counted_all : (whole rest : List Placed) (n : ℕ) → Counted whole rest →
-    n ≡ length whole - length rest → views whole ≡ semis n ++ views rest
-counted_all whole rest n (m, e, l) h = let w : m ≡ n = omega (arith, l, h) in
-    e ∙ ap (λ z. semis z ++ views rest) w
 
 -- before the first rule, or behind one
 abbrev pub FirstNamed : List CodeRuleText → List Lexeme → Type 0

@@ -17,9 +17,6 @@ opens_then : {g : ContextFree} {s n t : ℕ} (y : List ℕ) (r : ℕ) → FirstR
 opens_then y r (itself h q) b e l = through h q b (itself l e)
 opens_then y r (through h q b o) c e l = through h q b (opens_then y r o c e l)
 
-head_same : (s t : ℕ) (x y : List ℕ) → s ∷ x ≡ t ∷ y → s ≡ t
-head_same s t x y e = cc
-
 pub closed_cases : {g : ContextFree} {K : ℕ → ℕ → Type 0} {r d : ℕ} → Closure g K r d → K r d ⊎
     ((d ≡ 0) × LeadsTo g K r)
 closed_cases (given c) = inl c

@@ -76,9 +76,6 @@ below_dot (suc d) (s ∷ b) x y e = let z = below_dot d b x y e in omega arith
 pub step_is : (i : Item) → ◌≡◌ {A = Item} (record { rule = i.rule; dot = i.dot + 1 }) (step_of i)
 step_is i = let e : i.dot + 1 ≡ suc i.dot = omega arith in λ j. record { rule = i.rule; dot = e j }
 
-pub further_same : (d : DraftValue) → Further d d
-further_same d = record { looks = λ r c h. h; links = λ p t h. h }
-
 pub further_then : (d e f : DraftValue) → Further d e → Further e f → Further d f
 further_then d e f a b = record {
   looks = λ r c h. b.looks r c (a.looks r c h);
@@ -354,14 +351,6 @@ module _ (P : Parts) (f : WellFormed P.grammar.bare) (fit : FitParts P) where
       let en : m.target ≡ n = some_same m.target n (goto_of P.gotos h.state m.symbol) m.leads
       (ap (λ v. goto_of P.gotos h.state v) ex ∙ e) in
       subst (λ v. PlaceIn P v (step_of h.item) t) en m.place
-
-  pub moved_nowhere : (h : Here) (x : ℕ) → Moves P.grammar.bare h.item x →
-      goto_of P.gotos h.state x ≡ None → (t : ℕ) → IsMoved P h t → ⊥
-  moved_nowhere h x mv e t m =
-      let ex : m.symbol ≡ x = heads m.symbol x m.moves.0 mv.0
-      (drop h.item.dot (body_of P.grammar.bare h.item.rule)) m.moves.1 mv.1 in
-      none_some m.target (goto_of P.gotos h.state x) e (ap (λ v. goto_of P.gotos h.state v)
-      (sym ex) ∙ m.leads)
 
   pub moved_match : (h : Here) (x n : ℕ) (o : Option ℕ) → Moves P.grammar.bare h.item x →
       goto_of P.gotos h.state x ≡ Some n →

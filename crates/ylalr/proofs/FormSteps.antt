@@ -17,14 +17,6 @@ pub record Adding (n : List Bool) (f : BitRows) (x : List ℕ) (m o : BitRows) (
     pub every : (j b : ℕ) → j < k → Holds f (get_or x j 0) b → Holds o to b
     pub kept : (r b : ℕ) → Holds m r b → Holds o r b
 
-pub adding_none : (n : List Bool) (f : BitRows) (x : List ℕ) (m : BitRows) (to : ℕ) →
-    Adding n f x m m to 0
-adding_none n f x m to = record {
-  sound = λ r b h. inl h;
-  every = λ j b h z. absurd (omega arith);
-  kept = λ r b h. h;
-}
-
 pub adding_more : (n : List Bool) (f : BitRows) (x : List ℕ) (m o v : BitRows) (to k s : ℕ) →
     k < length x → s ≡ get_or x k 0 → All (Has n) (take k x) → AddsFrom o v to f s →
     Adding n f x m o to k → Adding n f x m v to (k + 1)
@@ -59,20 +51,3 @@ adding_more n f x m o v to k s h e p a i = record {
         go (inr (inl w)) = (a to b).1
             (inr (refl, subst (λ t. Holds f t b) (ap (λ t. get_or x t 0) w ∙ sym e) z))
         go (inr (inr w)) = absurd (omega arith)
-
--- a symbol that can't vanish ends the form
-pub stop_every : (n : List Bool) (f : BitRows) (x : List ℕ) (m v : BitRows) (to k : ℕ) →
-    k < length x → (Has n (get_or x k 0) → ⊥) → Adding n f x m v to (k + 1) →
-    (b : ℕ) → FormHas n f x b → Holds v to b
-stop_every n f x m v to k h u i b w = go (order w.place k)
-  where
-    go : (w.place < k) ⊎ ((w.place ≡ k) ⊎ (k < w.place)) → Holds v to b
-    go (inl l) = i.every w.place b (omega arith) w.there
-    go (inr (inl l)) = i.every w.place b (omega arith) w.there
-    go (inr (inr l)) = absurd (unmarked_end n x k w.place l w.within u w.before)
-
--- the whole form vanishes
-pub whole_every : (n : List Bool) (f : BitRows) (x : List ℕ) (m v : BitRows) (to k : ℕ) →
-    k ≡ length x → Adding n f x m v to k → (b : ℕ) → FormHas n f x b → Holds v to b
-whole_every n f x m v to k e i b w = i.every w.place b (subst (λ t. w.place < t) (sym e) w.within)
-    w.there

@@ -88,14 +88,6 @@ pub record Rowing (g : ContextFree) (s : StateLists) (q n : ℕ) (row : List Got
   pub below : All (λ a. a.symbol < n) row
   pub order : IsAscendingRow row
 
-pub rowing_none : (g : ContextFree) (s : StateLists) (q : ℕ) → Rowing g s q 0 []
-rowing_none g s q = record {
-  gotos = λ x h. absurd (omega arith);
-  below =
-      All-nil (λ (a : Goto). a.symbol < 0);
-  order = λ i j d h l. absurd (omega arith);
-}
-
 pub rowing_kept : (g : ContextFree) (s t : StateLists) (q n : ℕ) (row : List Goto) → Extends s t →
     q < length s.closures → Rowing g s q n row → Rowing g t q n row
 rowing_kept g s t q n row e h r = record {
@@ -151,13 +143,6 @@ rowing_push g s q n m row z r = record {
     go x (inr e) = subst (λ y. GotoIs g s q y (lookup (row ++ record { symbol = n; state = m } ∷ [])
         y)) (sym e) (subst (GotoIs g s q n)
         (sym (lookup_new row (record { symbol = n; state = m }) n r.below refl)) z)
-
-pub rowing_whole : (g : ContextFree) (s : StateLists) (q n : ℕ) (row : List Goto) → n ≡ g.symbols →
-    Rowing g s q n row → RowIs g s q row
-rowing_whole g s q n row e r x h = r.gotos x (subst (λ t. x < t) (sym e) h)
-
-pub rows_none : (g : ContextFree) (s : StateLists) → RowsAre g s 0 []
-rows_none g s = record { gotos = λ q h. absurd (omega arith); order = λ q h. absurd (omega arith) }
 
 pub rows_push : (g : ContextFree) (s t : StateLists) (n : ℕ) (xs : List (List Goto))
     (o : List Goto) → Extends s t → n ≤ length s.closures → length xs ≡ n → RowsAre g s n xs →

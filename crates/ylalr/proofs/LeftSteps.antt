@@ -25,17 +25,6 @@ pub record Noting (g : ContextFree) (xs : List Item) (rows : List ℕ) (k : ℕ)
   pub every : (i : Item) (p : ℕ) (a : At xs rows i p) → a.index < k → i.dot ≡ 0 →
       get_or lefts (left_of g i.rule) None ≡ Some p
 
-pub noting_none : (g : ContextFree) (xs : List Item) (rows : List ℕ) (lefts : List (Option ℕ)) →
-    length lefts ≡ g.symbols → ((s : ℕ) → get_or lefts s None ≡ None) → Noting g xs rows 0 lefts
-noting_none g xs rows lefts e none = record {
-  sized = e;
-  found = λ s p h. absurd (no (get_or lefts s None) p (none s) h);
-  every = λ i p a h d. absurd (omega arith);
-}
-  where
-    no : (o : Option ℕ) (p : ℕ) → o ≡ None → o ≡ Some p → ⊥
-    no o p e h = cc
-
 module _ (g : ContextFree) (xs : List Item) (rows : List ℕ) (k : ℕ) (x : Item) (p : ℕ)
     (old new : List (Option ℕ)) (n : Noting g xs rows k old) (are : AreRows g xs rows)
     (hx : left_of g x.rule < g.symbols) (here : At xs rows x p) (ek : here.index ≡ k) where

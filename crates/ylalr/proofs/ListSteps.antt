@@ -61,19 +61,6 @@ pub record Opening (w : BitRows) (from r : ℕ) (old new : List Item) : Type 0 w
   pub exact : (i : Item) → Contains new i ↔ (Contains old i ⊎
       ((i.dot ≡ 0) × (from ≤ i.rule) × (i.rule < r) × Holds w 0 i.rule))
 
-pub opening_none : (w : BitRows) (from : ℕ) (old : List Item) → IsAscending old →
-    All (λ i. i.rule < from) old → Opening w from from old old
-opening_none w from old a b = record {
-  ascending = a;
-  below = b;
-  exact = λ i. ((λ c. inl c), back i);
-}
-  where
-    back : (i : Item) → Contains old i ⊎ ((i.dot ≡ 0) × (from ≤ i.rule) × (i.rule < from) ×
-        Holds w 0 i.rule) → Contains old i
-    back i (inl c) = c
-    back i (inr c) = absurd (let x = c.1 in let y = c.2 in omega arith)
-
 pub opening_skip : (w : BitRows) (from r n : ℕ) (old new : List Item) → r ≤ n →
     ((k : ℕ) → r ≤ k → k < n → Holds w 0 k → ⊥) → Opening w from r old new →
     Opening w from n old new
@@ -158,33 +145,10 @@ pub record Merging (w : BitRows) (kernel : List Item) (n at : ℕ) (out : List I
   pub order_first : (k : ℕ) (d : Item) → n ≤ k → k < length kernel → (get_or kernel k d).dot ≡ 0 →
       at ≤ (get_or kernel k d).rule
 
-pub merging_none : (w : BitRows) (kernel : List Item) → Merging w kernel 0 0 []
-merging_none w kernel = record {
-  ascending = λ i j d l h. absurd (omega arith);
-  below = λ k d h. absurd (omega arith);
-  sound = λ i c. absurd (let h = c.1 in omega arith);
-  items = λ k d h. absurd (omega arith);
-  opened = λ r h x. absurd (omega arith);
-  rest = λ k d l h j e z. absurd (omega arith);
-  order = λ k d l h. omega arith;
-  order_first = λ k d l h e. omega arith;
-}
-
 -- how far the opened rules go before the item p
 pub record Until (p : Item) (to : ℕ) : Type 0 where
   pub first : p.dot ≡ 0 → to ≡ p.rule
   pub later : 0 < p.dot → to ≡ p.rule + 1
-
-pub until_order : (w : BitRows) (kernel out : List Item) (n at to : ℕ) (p : Item) →
-    Merging w kernel n at out → n < length kernel → p ≡ get_or kernel n p → Until p to → at ≤ to
-until_order w kernel out n at to p m h e u = go (cases_zero p.dot)
-  where
-    go : (p.dot ≡ 0) ⊎ (0 < p.dot) → at ≤ to
-    go (inl z) = let a = m.order_first n p (omega arith) h (ap (λ (t : Item). t.dot) (sym e) ∙ z) in
-        let b = u.first z in let c : (get_or kernel n p).rule ≡ p.rule = ap (λ (t : Item). t.rule)
-        (sym e) in omega arith
-    go (inr z) = let a = m.order n p (omega arith) h in let b = u.later z in
-        let c : (get_or kernel n p).rule ≡ p.rule = ap (λ (t : Item). t.rule) (sym e) in omega arith
 
 -- an opened item is before p
 opened_before : (p i : Item) (to : ℕ) → Until p to → i.dot ≡ 0 → i.rule < to → Before i p
@@ -367,14 +331,6 @@ pub record Wanting (g : ContextFree) (kernel : List Item) (n : ℕ) (w : BitRows
   pub every : (k : ℕ) (d : Item) (s r : ℕ) (y : List ℕ) → k < n → drop (get_or kernel k d).dot
       (body_of g (get_or kernel k d).rule) ≡ s ∷ y → FirstRule g s r → Holds w 0 r
 
-pub wanting_none : (g : ContextFree) (kernel : List Item) (w : BitRows) →
-    ((r c : ℕ) → Holds w r c → ⊥) → Wanting g kernel 0 w
-wanting_none g kernel w n = record {
-  sound = λ r h. absurd (n 0 r h);
-  every = λ k d s r y l e o.
-      absurd (omega arith);
-}
-
 nil_cons : (s : ℕ) (x y : List ℕ) → x ≡ [] → x ≡ s ∷ y → ⊥
 nil_cons s x y e f = cc
 
@@ -442,18 +398,6 @@ wanting_more g kernel n w o opens p t x io h e q a v = record { sound = sound; e
             let es : t ≡ s = heads t s x y (drop p.dot (body_of g p.rule)) q
             (subst (λ (u : Item). drop u.dot (body_of g u.rule) ≡ s ∷ y) ep f) in
             (a 0 r).1 (inr (refl, (io t r).1 (subst (λ u. FirstRule g u r) (sym es) b)))
-
-pub wanted_all : (g : ContextFree) (kernel : List Item) (n : ℕ) (w : BitRows) → n ≡ length kernel →
-    Wanting g kernel n w → (r : ℕ) → Holds w 0 r ↔ LeadsTo g (ItemsOf kernel) r
-wanted_all g kernel n w e v r = (v.sound r, up)
-  where
-    up : LeadsTo g (ItemsOf kernel) r → Holds w 0 r
-    up o =
-        let i : Item = record { rule = o.rule; dot = o.dot } in
-        let z : get_or kernel o.item.0 i ≡ i = o.item.2 in
-        v.every o.item.0 i o.symbol r o.rest (subst (λ t. o.item.0 < t) (sym e) o.item.1)
-        (subst (λ (t : Item). drop t.dot (body_of g t.rule) ≡ o.symbol ∷ o.rest) (sym z) o.next)
-        o.first
 
 -- an element doesn't depend on the default
 pub same_default : {X : Type 0} (xs : List X) (k : ℕ) (d e : X) → k < length xs →

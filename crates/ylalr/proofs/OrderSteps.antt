@@ -14,15 +14,6 @@ use Rattle.ylalr.specs.Marks.{Has}
 use Rattle.ylalr.specs.Order.{AreTurns, row_of}
 use Rattle.ylalr.proofs.MarkSteps.{marked_cases, none_marked}
 
--- no row was seen
-pub turns_none : (n : ℕ) (m : List Bool) (t : List Turn) (o : List ℕ) → m ≡ replicate n false →
-    t ≡ [] → o ≡ [] → AreTurns m t o
-turns_none n m t o em et eo = record {
-  turns = subst (All (λ t. row_of t < length m)) (sym et) (All-nil (λ t. row_of t < length m));
-  order = subst (All (λ p. p < length m)) (sym eo) (All-nil (λ p. p < length m));
-  left = λ p h. absurd (none_marked n p (subst (λ (x : List Bool). Has x p) em h));
-}
-
 last_turn : (P : Turn → Type 0) (t : List Turn) (x : Turn) → All P (t ++ x ∷ []) → P x
 last_turn P [] x a = a 0 x (omega arith)
 last_turn P (y ∷ t) x a = last_turn P t x (λ k d h. a (suc k) d (omega arith))

@@ -193,9 +193,6 @@ module _ (g : ContextFree) (xs : List Item) (rows : List ℕ) (first end next p 
       go (inr z) = let w = f.filled.bounds z.0 p z.1 in let u = w.0 in let v = w.1 in
           let y = grown in let h = a.1 in (omega arith, omega arith)
 
-  rows' : List ℕ
-  rows' = rows ++ p ∷ []
-
   found : (s t : ℕ) → get_or new s None ≡ Some t → (i : Item) × At (xs ++ x ∷ []) (rows ++ p ∷ []) i
       t × Starts g s i
   found s t e = go takes
@@ -292,16 +289,6 @@ pub record Placing (g : ContextFree) (s : StateLists) (q : ℕ) (rows : List (Li
   pub apart : (n m : ℕ) (i k : Item) (p : ℕ) → n < q → m < q → At (set_at s.closures n)
       (get_or rows n []) i p → At (set_at s.closures m) (get_or rows m []) k p → n ≡ m
   pub small : total ≤ q * 2097152
-
-pub placing_none : (g : ContextFree) (s : StateLists) (rows : List (List ℕ)) → rows ≡ [] →
-    Placing g s 0 rows 0
-placing_none g s rows e = record {
-  sized = ap (λ (xs : List (List ℕ)). length xs) e;
-  each = λ n h. absurd (omega arith);
-  below = λ n i p h a. absurd (omega arith);
-  apart = λ n m i k p h l a b. absurd (omega arith);
-  small = omega arith;
-}
 
 pub placing_push : (g : ContextFree) (s : StateLists) (q : ℕ) (rows more : List (List ℕ))
     (list : List ℕ) (total end : ℕ) → Placing g s q rows total → more ≡ rows ++ list ∷ [] →

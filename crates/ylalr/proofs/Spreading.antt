@@ -96,24 +96,6 @@ spreading_end l m n w s e r c = (s.sound r c, back)
     back : Reaches l m r c → Holds n r c
     back z = go z
 
--- no list yet
-pub gives_none : (p : ℕ) (m : BitRows) (v : Queue) → length v.queue ≤ length v.marks →
-    Gives [] p m v m v
-gives_none p m v few = record {
-  sized = record { rows = refl; columns = refl };
-  marks = refl;
-  few = few;
-  adds = λ r c. ((λ h. inl h), back r c);
-  waits = λ r. inl (λ c h. h);
-  kept = λ r h. h;
-  fewer = omega arith;
-  calm = inr refl;
-}
-  where
-    back : (r c : ℕ) → Holds m r c ⊎ (Contains [] r × Holds m p c) → Holds m r c
-    back r c (inl h) = h
-    back r c (inr h) = absurd (let z = h.0.1 in omega arith)
-
 -- one more row got what row p has
 adds_push : (to : List ℕ) (p t : ℕ) (m n o : BitRows) →
     ((r c : ℕ) → Holds n r c ↔ (Holds m r c ⊎ (Contains to r × Holds m p c))) → AddsFrom n o t n p →
@@ -195,7 +177,8 @@ gives_grew to p t m n o v w x g a es less marks few there kept = record {
 pub spread_nearer : (l : List (List ℕ)) (n o : BitRows) (v w x : Queue) (p : ℕ) →
     v.queue ≡ p ∷ w.queue → length w.marks ≡ length v.marks → Gives (get_or l p []) p n w o x →
     room o * (length x.marks + 1) + length x.queue < room n * (length v.marks + 1) + length v.queue
-spread_nearer l n o v w x p e ew g = line_nearer (room n) (room o) v w x p e ew g.marks g.few g.fewer
+spread_nearer l n o v w x p e ew g = line_nearer (room n) (room o) v w x p e ew g.marks g.few
+    g.fewer
     g.calm
 
 pub linked_at : (n : ℕ) (l : List (List ℕ)) (p k : ℕ) (xs : List ℕ) → AreLinks n l →

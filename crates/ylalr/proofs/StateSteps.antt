@@ -31,17 +31,6 @@ push_length (y ∷ xs) x = let z = push_length xs x in omega arith
 pub last_or : (k n : ℕ) → k < n + 1 → (k < n) ⊎ (k ≡ n)
 last_or k n h = grind arith
 
-pub extends_push : (s : StateLists) (k w : List Item) → length s.kernels ≡ length s.closures →
-    Extends s (with_state s k w)
-extends_push s k w e = record {
-  longer = (let z = push_length s.closures w in omega arith);
-  kernels = λ q h. push_old s.kernels k [] q (subst (λ t. q < t) (sym e) h);
-  closures = λ q h. push_old s.closures w [] q h;
-}
-
-pub extends_same : (s : StateLists) → Extends s s
-extends_same s = record { longer = omega arith; kernels = λ q h. refl; closures = λ q h. refl }
-
 pub extends_then : (s t u : StateLists) → Extends s t → Extends t u → Extends s u
 extends_then s t u a b = record {
   longer = (let x = a.longer in let y = b.longer in omega arith);
@@ -137,12 +126,6 @@ states_one g f w shut asc range = record {
     }
     each (suc q) h = absurd (omega arith)
 
-pub start_range : (g : ContextFree) → WellFormed g → InRange g (start_item ∷ [])
-start_range g f = one_range g f
-
-pub start_ascending : IsAscending (start_item ∷ [])
-start_ascending = one_ascending start_item
-
 pub overflows : (g : ContextFree) (s : StateLists) (k w : List Item) → AreStates g s → MayJoin g k →
     IsFresh s k → IsClosure g k w → IsAscending w → InRange g w → most_states ≤ length s.closures →
     Overflows g
@@ -170,6 +153,3 @@ states_first g f s w a b shut asc range =
       closures = nil_of s.closures b i ++ w ∷ [];
     }) in
     subst (AreStates g) (sym e) (states_one g f w shut asc range)
-
-pub fresh_none : (s : StateLists) (k : List Item) → length s.kernels ≡ 0 → IsFresh s k
-fresh_none s k e n h q = omega arith

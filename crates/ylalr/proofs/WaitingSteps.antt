@@ -37,9 +37,6 @@ set_count m i h e =
     let y = ap {B = ℕ} (λ (b : Bool). cond (not b) 1 0) e in
     omega (arith, z, y)
 
-pub line_few : (w : Queue) → IsQueue w → length w.queue ≤ length w.marks
-line_few w l = let e = l.counted in omega arith
-
 pub line_push : (w : Queue) (p : ℕ) → IsQueue w → p < length w.marks →
     get_or w.marks p false ≡ false →
     IsQueue (record { queue = w.queue ++ p ∷ []; marks = set w.marks p true })

@@ -62,12 +62,6 @@ both a n b m e = by (nat_lt a n) (nat_lt b m) refl refl e
 not_both : (a n b m : ℕ) → (nat_lt a n && nat_lt b m) ≡ false → a < n → b < m → ⊥
 not_both a n b m e h l = let x = lt-ltb a n h in let y = lt-ltb b m l in cc
 
--- the last symbol leads on from the state of those before it
-pub walk_push : (t : Tables) (o : Option ℕ) (stack : List ℕ) (x : ℕ)
-    → walk t o (stack ++ x ∷ []) ≡ goto_from t (walk t o stack) x
-walk_push t o [] x = refl
-walk_push t o (y ∷ stack) x = walk_push t (goto_from t o y) stack x
-
 module _ (t : Tables) (w : WellFormed (bare_of t.built)) (s : HasStates t.built) where
   abbrev g : ContextFree
   g = bare_of t.built

@@ -154,17 +154,6 @@ shown-more trees more (e ∷ es) h =
     ∙ ap (λ (rest : List Entry). entry_view trees e ∷ rest)
     (shown-more trees more es (second _ _ h))
 
-pub got-more : (trees more : List Tree) (es : List StackEntry) → all_below (length trees) es ≡ true
-    → map (λ (e : StackEntry). get_or (trees ++ more) e.node error_leaf) es
-    ≡ map (λ (e : StackEntry). get_or trees e.node error_leaf) es
-got-more trees more [] h = refl
-got-more trees more (e ∷ es) h =
-    let l = ltb-true e.node (length trees) (first _ _ h) in
-    ap (λ (t : Tree). t ∷ map (λ (x : StackEntry). get_or (trees ++ more) x.node error_leaf) es)
-    (get_or_append_left trees more error_leaf e.node l)
-    ∙ ap (λ (rest : List Tree). get_or trees e.node error_leaf ∷ rest)
-    (got-more trees more es (second _ _ h))
-
 -- ---- the tree of one node
 
 abbrev no_trees : List Tree

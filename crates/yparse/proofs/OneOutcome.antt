@@ -133,28 +133,6 @@ module _ (find : List ℕ → Option ℕ) (tokens : ℕ) where
       → Outcome find tokens n bytes r → Outcome find tokens n bytes s → r ≡ s
   one_outcome n bytes r s (k, a) (j, b) = one_reading k j n bytes r s a b
 
-  -- at the limit
-  pub says_many : (n : ℕ) (name rest : List ℕ) → n ≡ most_tokens
-      → says find tokens n (word name rest) ≡ answer (Err faults.TooMany)
-  says_many n name rest e = ap (λ (k : ℕ). says find tokens k (word name rest)) e
-
-  pub says_many_broken : (n : ℕ) → n ≡ most_tokens
-      → says find tokens n broken ≡ answer (Err faults.TooMany)
-  says_many_broken n e = ap (λ (k : ℕ). says find tokens k broken) e
-
-  -- below it
-  pub says_broken : (n : ℕ) → n < most_tokens
-      → says find tokens n broken ≡ answer (Err (faults.BadLiteral (n + 1)))
-  says_broken n h =
-      let t : nat_lt n most_tokens ≡ true = lt-ltb n most_tokens h in
-      let e : n + 1 ≡ suc n = omega arith in
-      rw t (rw e refl)
-
-  pub says_named : (n : ℕ) (name rest : List ℕ) → n < most_tokens
-      → says find tokens n (word name rest) ≡ by_name tokens (n + 1) (find name) rest
-  says_named n name rest h = let t : nat_lt n most_tokens ≡ true = lt-ltb n most_tokens h in
-      let e : n + 1 ≡ suc n = omega arith in rw t (rw e refl)
-
 -- tokens that were read, before those of an answer
 abbrev pub after_tokens : List ℕ → Result (List ℕ) TokenFault → Result (List ℕ) TokenFault
 after_tokens symbols (Ok more) = Ok (symbols ++ more)

@@ -76,11 +76,6 @@ get-places_from n (suc i) k (x ∷ xs) h =
     from ∙ ap (λ (m : ℕ). let pair : ℕ × ℕ = (get_or xs (i + k) 0, m) in pair) e
     ∙ ap (λ (j : ℕ). let pair : ℕ × ℕ = (get_or (x ∷ xs) j 0, n + suc i + k) in pair) (sym g)
 
--- what is left of the tokens, at a place behind some of them
-pub within_rest : (n i k : ℕ) (xs : List ℕ) → k < length (drop i (places_from n xs))
-    → i + k < length xs
-within_rest n i k xs h = omega (arith, length-drop i (places_from n xs), length-places_from n xs)
-
 -- ---- with those that were inserted
 
 abbrev held : List ℕ → ℕ → ℕ → Rest
@@ -250,19 +245,6 @@ length-left tokens r =
     let d = length-drop r.at (places_from 1 tokens) in
     let e = length-places_from 1 tokens in
     omega (arith, a, b, c, d, e)
-
--- one that was inserted
-pub left_inserted : (tokens : List ℕ) (r : Rest) (k : ℕ) → k < length r.inserted
-    → get_or (rest_left tokens r) k (0, 0) ≡ (get_or r.inserted (length r.inserted - 1 - k) 0, 0)
-left_inserted tokens r k h =
-    let a = length-map (reverse r.inserted) at_no_place in
-    let b = length-reverse r.inserted in
-    get_or_append_left (map at_no_place (reverse r.inserted)) (drop r.at (places_from 1 tokens)) (
-      0,
-      0,
-    ) k (omega (arith, a, b, h))
-    ∙ get_or-map at_no_place (reverse r.inserted) k 0 (0, 0) (omega (arith, b, h))
-    ∙ ap at_no_place (get_or-reverse r.inserted k 0 h)
 
 -- one that was read
 pub left_read : (tokens : List ℕ) (r : Rest) (k : ℕ) → length r.inserted ≤ k

@@ -94,14 +94,6 @@ led p q what found kind d e = by found refl (sym d.is ∙ e)
           tokens = sym (ap (λ (x : StepKind × Place). x.1.tokens) y);
         }
 
-none_on : (p : Place) (o : Option (StepKind × Configuration)) → onward p o ≡ None → o ≡ None
-none_on p None e = refl
-none_on p (Some s) e = let bad : true ≡ false = ap is_some e in cc
-
-some_on : (p : Place) (o : Option (StepKind × Configuration)) → IsSome (onward p o) → IsSome o
-some_on p None e = e
-some_on p (Some s) e = refl
-
 -- the kind of the newest step, where one was made
 newest : (kind found : StepKind) (now : Place) (earlier all : List (StepKind × Place))
     → all ≡ (kind, now) ∷ earlier
@@ -184,37 +176,6 @@ module _ (what : Place → Option (StepKind × Place)) (found : Option (StepKind
               (k, configuration_of h.now) in step ∷ map step_view h.earlier) same,
         ),
       )
-
-  -- what is refused, as the history shows it
-  pub refusal_shown : (shown : Configuration → Option (StepKind × Configuration))
-      → shown (configuration_of h.now) ≡ found → (fault : StepFault)
-      → StepsOn place_next what h (Err fault) new
-      → Changes (next (machine_over h.now.tables)) shown (past_view h) (Err fault) (past_view new)
-  refusal_shown shown f Halted steps = (
-    none_on h.now (next (machine_over h.now.tables) (configuration_of h.now)) steps.0,
-    ap past_view steps.1,
-  )
-  refusal_shown shown f NoToken steps = (
-    (
-      some_on h.now (next (machine_over h.now.tables) (configuration_of h.now)) steps.0.0,
-      f ∙ none_on h.now found (sym d.is ∙ steps.0.1),
-    ),
-    ap past_view steps.1,
-  )
-  refusal_shown shown f Limit steps = (
-    (
-      subst IsSome (sym f) (some_on h.now found (subst IsSome d.is steps.0.0)),
-      subst (λ (n : ℕ). most_steps ≤ n) (sym (length-map step_view h.earlier)) steps.0.1,
-    ),
-    ap past_view steps.1,
-  )
-  refusal_shown shown f Memory steps = (
-    (
-      subst IsSome (sym f) (some_on h.now found (subst IsSome d.is steps.0.0)),
-      subst (λ (n : ℕ). n < most_steps) (sym (length-map step_view h.earlier)) steps.0.1,
-    ),
-    ap past_view steps.1,
-  )
 
   -- what was made and taken back has changed nothing
   pub undone_deed : (after : Past StepKind Place) → StepsOn place_next what h (Ok tt) new

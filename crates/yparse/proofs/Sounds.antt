@@ -16,8 +16,7 @@ use Rattle.yparse.specs.Tables.{rule_of, goto_at, goto_from, cell_at, state_afte
 use Rattle.yparse.specs.Sound.{Sound}
 use Rattle.yparse.proofs.Prefixes.{reverse_push, Viable, viable_expected, handle}
 use Rattle.yparse.proofs.StepKinds.{without_last_append}
-use Rattle.yparse.proofs.Unwindings.{prefix_of, viable_history}
-use Rattle.yparse.proofs.Machines.{LeadsIn, Licensed, sound_machine, walk_push, leads, leads_on}
+use Rattle.yparse.proofs.Machines.{LeadsIn, Licensed, sound_machine, leads, leads_on}
 use Rattle.yparse.proofs.Machines.{leads_some, licensed_state}
 
 pub sound : (t : Tables) → WellFormed (bare_of t.built) → HasStates t.built → CellsAllow t → Sound t
@@ -60,22 +59,3 @@ sound t w s c = record { shift = at_shift; reduce = at_reduce }
           omega (arith, n),
           leads_some t w s (reverse after) (state_after t after) (leads t w s after) v,
         )
-
--- a reduction's left side leads on from the state below its body
-pub reduce_leads : (t : Tables) → Sound t → (stack : List ℕ) (q token r : ℕ)
-    → state_after t stack ≡ Some q → cell_at t q token ≡ actions.Reduce r →
-    IsSome (goto_from t (state_after t (without_last (length (rule_of t r).body) stack))
-    (rule_of t r).left)
-reduce_leads t h stack q token r e f =
-    subst IsSome (walk_push t (Some 0) (without_last (length (rule_of t r).body) stack)
-    (rule_of t r).left) (h.reduce stack q token r e f).2
-
--- in every history the stack has a state
-pub has_state : (t : Tables) → WellFormed (bare_of t.built) → HasStates t.built → CellsAllow t
-    → (tokens : List ℕ) (h : History) → IsHistory (machine_over t) tokens h
-    → IsSome (state_after t (symbols h.now.stack))
-has_state t w s c tokens h p =
-    leads_some t w s (prefix_of h.now) (state_after t (symbols h.now.stack))
-    (leads t w s (symbols h.now.stack))
-    (viable_history (bare_of t.built) (machine_over t) w (sound_machine t w s c)
-    (first_configuration tokens) h.now h.earlier refl p)

@@ -54,10 +54,6 @@ quiet step = is_error_step step.0 ≡ false
 abbrev unedited : StepKind × Configuration → Type 0
 unedited step = is_edit step.0 ≡ false
 
--- the prefix of a configuration: its stack's symbols, the newest first
-abbrev pub prefix_of : Configuration → List ℕ
-prefix_of c = reverse (symbols c.stack)
-
 pub left_of_places : (n : ℕ) (tokens : List ℕ) → tokens_left (places_from n tokens) ≡ tokens
 left_of_places n [] = refl
 left_of_places n (token ∷ tokens) = ap (λ z. token ∷ z) (left_of_places (suc n) tokens)
@@ -97,41 +93,6 @@ module _ (g : ContextFree) (m : Machine) (w : WellFormed g) (s : IsSound g m) wh
             (without_last_append (reverse d.below) (body_of g r) (width m r) n)
             ∙ ap (λ z. reverse d.below ++ z.left ∷ []) rule);
       }
-
-  viable_step : {c n : Configuration} {k : StepKind} → Stepped m c k n → Viable g (prefix_of c)
-      → Viable g (prefix_of n)
-  viable_step {c = c} (shifts t rest r h e k st re mo) v =
-      subst (Viable g) (sym (ap reverse st ∙ reverse_push (symbols c.stack) t.0))
-      (viable_expected (s.shift (symbols c.stack) t.0 h))
-  viable_step {c = c} (reduces r d h k st re mo) v =
-      let f = found c (lookahead c.rest) r h in
-      subst (Viable g) (sym (ap reverse (st ∙ f.left)
-      ∙ (reverse_push (reverse f.below) (left_of g r)
-      ∙ ap (λ z. left_of g r ∷ z) (reverse-reverse f.below)))) (viable_expected f.goto)
-  viable_step (accepts d h k st re mo) v = subst (λ z. Viable g (reverse (symbols z))) (sym st) v
-  viable_step (fails k st re mo) v = subst (λ z. Viable g (reverse (symbols z))) (sym st) v
-  viable_step (detects d h k st re mo) v = subst (λ z. Viable g (reverse (symbols z))) (sym st) v
-  viable_step (discards t rest r h e k st re mo) v =
-      subst (λ z. Viable g (reverse (symbols z))) (sym st) v
-  viable_step {n = n} (pops t p k st re mo) v =
-      let u : Viable g (t ∷ prefix_of n) =
-      subst (Viable g) (ap reverse st ∙ reverse_push (symbols n.stack) t) v in
-      viable (expects_last u.valid).valid
-  viable_step {c = c} (shifts_error p h k st re mo) v =
-      subst (Viable g) (sym (ap reverse st ∙ reverse_push (symbols c.stack) error_token))
-      (viable_expected (s.shift (symbols c.stack) error_token h))
-  viable_step (inserts t d i k st re mo) v = subst (λ z. Viable g (reverse (symbols z))) (sym st) v
-  viable_step (drops t rest d e k st re mo) v =
-      subst (λ z. Viable g (reverse (symbols z))) (sym st) v
-
-  -- in every history, error steps or not, the core of the stack is not empty
-  pub viable_history : (first now : Configuration) (earlier : List (StepKind × Configuration))
-      → first.stack ≡ [] → LeadsTo (next m) (edited m) first now earlier → Viable g (prefix_of now)
-  viable_history first now [] f h =
-      subst (λ z. Viable g (reverse (symbols z))) (sym (ap (λ (c : Configuration). c.stack) h ∙ f))
-      (viable start)
-  viable_history first now (step ∷ earlier) f h =
-      viable_step (came m step.1 step.0 now h.0) (viable_history first step.1 earlier f h.1)
 
   -- the stack and the kind of a step that leaves the stack as it is
   unmoved : (c n : Configuration) (k : StepKind) (later : List ℕ) → n.stack ≡ c.stack

@@ -170,17 +170,6 @@ lines-push m xs x = flat_map-append (form_line m) xs (x ∷ [])
 
 -- ---- the symbols of a form
 
--- how many there are
-pub form-length : (trees : List Tree) (stack : List StackEntry) (later : List ℕ)
-    → length (symbols (map (entry_view trees) stack) ++ reverse later)
-    ≡ length stack + length later
-form-length trees stack later =
-    let a = length-append (symbols (map (entry_view trees) stack)) (reverse later) in
-    let b = length-map (λ (e : Entry). e.symbol) (map (entry_view trees) stack) in
-    let c = length-map (entry_view trees) stack in
-    let d = length-reverse later in
-    omega (arith, a, b, c, d)
-
 -- ---- error steps
 
 abbrev kind_quiet : StepKind → Type 0

@@ -60,14 +60,6 @@ module _ {T : Type 0} where
     room = l;
   }
 
-  pub same_both : (c c' c'' : List (Option T)) (o o' o'' : List ℕ) → SameCells c c' o o' →
-      c'' ≡ c' ++ None ∷ [] → o'' ≡ o' ++ 0 ∷ [] → length o'' ≤ length c'' → SameCells c c'' o o''
-  same_both c c' c'' o o' o'' s e f l = record {
-    cells_same = λ k. ap (λ xs. get_or xs k None) e ∙ pushed_same c' None k ∙ s.cells_same k;
-    owners_same = λ k. ap (λ xs. get_or xs k 0) f ∙ pushed_same o' 0 k ∙ s.owners_same k;
-    room = l;
-  }
-
   held_same : (c c' : List (Option T)) (o o' : List ℕ) → SameCells c c' o o' →
       (q k : ℕ) → held_at c' o' q k ≡ held_at c o q k
   held_same c c' o o' s q k =
@@ -78,15 +70,6 @@ module _ {T : Type 0} where
       held_at c o q k ≡ None
   held_free c o q k n = ap (λ b. if b then get_or c k None else None)
       (same_no (slice_index o k) (q + 1) n)
-
-  pub written_none : (c : List (Option T)) (o : List ℕ) (n d : ℕ) (row : List (Option T)) →
-      AreOwners o n → IsWritten 0 c c o o n d row
-  written_none c o n d row a = record {
-    old = λ q k h. refl;
-    new = λ s. held_free c o n (d + s) (λ e. let l = a (d + s) in omega (arith, l, e)) ∙ sym
-        (ap (λ b. if b then get_or row s None else None) (less_no s 0 (omega arith)));
-    owners_in = λ k. let l = a k in omega (arith, l);
-  }
 
   module _ (t : ℕ) (c0 c : List (Option T)) (o0 o : List ℕ) (n d : ℕ) (row : List (Option T))
       (w : IsWritten t c0 c o0 o n d row) where

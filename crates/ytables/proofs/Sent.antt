@@ -9,9 +9,6 @@ use Rattle.ytables.specs.declared.link.Link.{Link}
 use Rattle.ytables.specs.Link.{device_of, has_failed}
 use Rattle.ytables.specs.Sends.{Sends, Begins}
 
-pub Appends-keep : (a b : Option (List ℕ)) → Keeps a b → Appends a b []
-Appends-keep a b k = Appends-kept a a b [] (Appends-nil a) k
-
 pub Begins-then : (a b c : Option (List ℕ)) (s t : List ℕ) → Appends a b s → Begins b c t →
     Begins a c (s ++ t)
 Begins-then a b c s t p q = record {
@@ -28,9 +25,6 @@ Begins-more a b s t p = record {
   parts = ap (λ l. l ++ t) p.parts ∙ append_assoc p.front p.back t;
   written = p.written;
 }
-
-pub Begins-whole : (a b : Option (List ℕ)) (s t : List ℕ) → Appends a b s → Begins a b (s ++ t)
-Begins-whole a b s t p = record { front = s; back = t; parts = refl; written = p }
 
 module _ {W : Type 0} (contents : W → Option (List ℕ)) where
   -- a whole text, and then another
@@ -73,11 +67,6 @@ module _ {W : Type 0} (contents : W → Option (List ℕ)) where
       Sends contents a b false t → Sends contents a b (is_some o) t
   Sends-none {X} a b None t e p = p
   Sends-none {X} a b (Some x) t e p = cc
-
-  pub Sends-some : {X : Type 0} (a b : Link W) (o : Option X) (x : X) (t : List ℕ) → o ≡ Some x →
-      Sends contents a b (is_some o) t → Sends contents a b true t
-  Sends-some {X} a b None x t e p = cc
-  Sends-some {X} a b (Some y) x t e p = p
 
 pub flat_map-append : {X : Type 0} (f : X → List ℕ) (xs ys : List X) →
     flat_map f (xs ++ ys) ≡ flat_map f xs ++ flat_map f ys

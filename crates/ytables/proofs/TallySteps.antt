@@ -63,17 +63,6 @@ length_push : (xs : List ℕ) (r : ℕ) → length (xs ++ r ∷ []) ≡ length x
 length_push xs r = length-append xs (r ∷ [])
 
 module _ (class : ℕ → Class) where
-  -- no rule, nothing found
-  pub tally_none : IsTally class [] no_tally
-  tally_none = record {
-    banned = refl;
-    beaten = refl;
-    rests = refl;
-    kept = refl;
-    first = refl;
-    all = refl;
-  }
-
   -- the least rule, where one more is kept
   first_more : (rs : List ℕ) (y : Tally) (r : ℕ) → IsTally class rs y →
       not (is_lose (class r)) ≡ true → lesser y r ≡ least_of (kept_of class (rs ++ r ∷ []))

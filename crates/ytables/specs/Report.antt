@@ -20,7 +20,8 @@ rule_head v r words = decimal r ++ (codes " " ++ (name_of v (left_of v.bare r) +
 
 -- the line of a rule
 abbrev pub rule_text : GrammarValue → ℕ → List ℕ
-rule_text v r = rule_head v r (codes ":") ++ (spaced_names (name_of v) (body_of v.bare r) ++ codes "\n")
+rule_text v r =
+    rule_head v r (codes ":") ++ (spaced_names (name_of v) (body_of v.bare r) ++ codes "\n")
 
 -- the line of a rule whose left side can't be reached
 abbrev pub unreachable_line : GrammarValue → ℕ → List ℕ

@@ -1,5 +1,5 @@
-//! Worklists of symbols: each symbol is marked once, and taken once, in the order in which they were
-//! marked.
+//! Worklists of symbols: each symbol is marked once, and taken once, in the order in which they
+//! were marked.
 
 ghost use Rattle.std.specs.Prelude.{◌≡◌, ◌<◌, ◌⊎◌, ℕ, MatchOption, OnOk, length};
 ghost use Rattle.ygrammar.specs.Marking.{Grows, IsMarked, IsWaiting, Takes};

@@ -8,4 +8,5 @@ use Rattle.ycli.proofs.reply.put_stack.Given as goal
 -- the names so far were sent
 abbrev pub invariant-loop-index : goal.invariant-loop-index
 invariant-loop-index g l = Sends g.W.Write.contents l.initial.writer l.writer true
-    (spaced_names (machine_of l.session).name (take l.index (symbols (history_of l.session).now.stack)))
+    (spaced_names (machine_of l.session).name
+    (take l.index (symbols (history_of l.session).now.stack)))

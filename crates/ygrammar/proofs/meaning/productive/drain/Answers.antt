@@ -7,7 +7,8 @@ use Rattle.ygrammar.proofs.meaning.productive.drain.Goals.{After-deref}
 use Rattle.ygrammar.proofs.meaning.productive.drain.Goals as goal
 
 -- what is visited is the list of the symbol that is taken
-visited : (c : After-deref) → c.deref.result.now ≡ list_at (lists_of c.in_ok-places.places) c.in-Some.s
+visited : (c : After-deref)
+    → c.deref.result.now ≡ list_at (lists_of c.in_ok-places.places) c.in-Some.s
 visited c = list_read _ _ _ _ (taken_in _ _ _ c.in-Some.ensures (c.loop-s.invariant.keeps.sized
     ∙ ap (λ (m : List Bool). length m) (sym c.marks.ensures)) c.in_ok-places.ensures.sized)
     c.index.ensures c.deref.ensures.value

@@ -32,5 +32,6 @@ returns-in-None c = λ t o e. no_token_left t (texts c.args.tokens.now)
     c.first_token-2.result e (ap (λ (xs : List NameAt). map name_view xs) c.deref.ensures.value ∙
     o.typed) (ap (λ (xs : List NameAt). map name_view xs) c.deref-2.ensures.value ∙ o.lefts)
     (any_found (is_among (texts c.args.tokens.now)) name_view (λ n. n.at)
-    c.deref.result.now _ c.first_token.ensures) (any_found (is_among (texts c.args.tokens.now)) name_view (λ n. n.at)
+    c.deref.result.now _ c.first_token.ensures)
+    (any_found (is_among (texts c.args.tokens.now)) name_view (λ n. n.at)
     c.deref-2.result.now _ c.first_token-2.ensures) c.in_default.is c.in-None.is

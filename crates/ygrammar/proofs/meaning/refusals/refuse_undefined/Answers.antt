@@ -34,6 +34,7 @@ returns-in-None c = λ t o e. all_defined t (texts c.args.symbols.now)
     (ap (λ (xs : List NameAt). map name_view xs) c.deref.ensures.value ∙ o.typed)
     (ap (λ (xs : List Occurrence). map occurrence_view xs) c.deref-2.ensures.value ∙ o.used)
     (any_found (λ n. not (is_among (texts c.args.symbols.now) n)) name_view (λ n. n.at)
-    c.deref.result.now _ c.first_unknown.ensures) (any_found (λ i. not (is_among (texts c.args.symbols.now) (printed_name i))) occurrence_view
+    c.deref.result.now _ c.first_unknown.ensures)
+    (any_found (λ i. not (is_among (texts c.args.symbols.now) (printed_name i))) occurrence_view
     (λ m. m.at) c.deref-2.result.now _ c.first_undefined.ensures) c.in_default.is
     c.in-None.is

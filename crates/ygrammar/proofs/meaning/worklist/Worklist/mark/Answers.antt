@@ -1,4 +1,5 @@
-use Rattle.std.proofs.Common.{ℕ, List, Bool, true, ◌≡◌, ◌<◌, length, ◌++◌, [], ◌∷◌, sym, subst, rules}
+use Rattle.std.proofs.Common.{ℕ, List, Bool, true, ◌≡◌, ◌<◌, length, ◌++◌, [], ◌∷◌, sym, subst}
+use Rattle.std.proofs.Common.{rules}
 use Rattle.std.proofs.Math.ListN.{set}
 use Rattle.ygrammar.specs.Marking.{WorklistValue, Grows, IsUnmarked, IsWorklist}
 use Rattle.ygrammar.proofs.MarkingSteps.{grows_new, worklist_new, with_mark}
