@@ -103,7 +103,7 @@ begins_front a b (more, h) = (
 pub whole_begins : (ls : List Lexeme) → IsSpec (kinds ls) → BeginsSpec (kinds ls)
 whole_begins ls h = ([], subst IsSpec (sym (append-nil (kinds ls))) h)
 
--- ---- cuttings agree
+-- ---- readings agree
 
 record GoesOn (ps : List Part) (r : List ℕ) (qs : List Part) (s : List ℕ) : Type 0 where
   more : List Part

@@ -16,6 +16,7 @@ use Rattle.std.proofs.lemmas.Int.Digits.{digits_value_push}
 use Rattle.std.proofs.lemmas.Str.Parse.{digits_value-take-le}
 use Rattle.std.proofs.lemmas.List.{drop_more, take_more}
 use Rattle.std.proofs.lemmas.List.Elements.{Contains-append_left, Contains-append_right}
+use Rattle.ygrammar.specs.Grammar.{greatest_number}
 use Rattle.ygrammar.specs.declared.meaning.outline.Listed.{Listed}
 use Rattle.ygrammar.specs.declared.syntax.tree.Digits.{Digits}
 use Rattle.ygrammar.specs.TreeViews.{digits_view, occurrence_view, option_view}
@@ -41,12 +42,12 @@ value_more ds i value digit d h e f = ap (λ v. v * 10 + digit) e ∙ ap
 
 -- digits that are too large already stay so
 pub too_large : (ds : List ℕ) (i value digit d : ℕ) → i < length ds → value ≡ digits_value 10
-    (take i ds) → digit ≡ digit_value (get_or ds i d) → 32767 < value * 10 + digit →
+    (take i ds) → digit ≡ digit_value (get_or ds i d) → greatest_number < value * 10 + digit →
     IsFit (digits_value 10 ds) → ⊥
 too_large ds i value digit d h e f g fit =
     let a : digits_value 10 (take (i + 1) ds) ≤ digits_value 10 ds = digits_value-take-le 10 ds
     (i + 1) (omega arith) in
-    let b : 32767 < digits_value 10 (take (i + 1) ds) = subst (λ n. 32767 < n)
+    let b : greatest_number < digits_value 10 (take (i + 1) ds) = subst (λ n. greatest_number < n)
     (value_more ds i value digit d h e f) g in
     let c = fit.1 in
     absurd (omega arith)
@@ -68,13 +69,14 @@ said_there f d (x ∷ xs) (suc i) v h e = Contains-append_right _
     (said_there f d xs i v (omega arith) e)
 
 -- a number that is not in range
-pub unfit : (n : ℕ) → (IsFit n → ⊥) → (n ≡ 0) ⊎ (32767 < n)
+pub unfit : (n : ℕ) → (IsFit n → ⊥) → (n ≡ 0) ⊎ (greatest_number < n)
 unfit n h = go (small_or n)
   where
-    small_or : (k : ℕ) → ((k ≡ 0) ⊎ (32767 < k)) ⊎ ((1 ≤ k) × (k ≤ 32767))
+    small_or : (k : ℕ) → ((k ≡ 0) ⊎ (greatest_number < k)) ⊎ ((1 ≤ k) × (k ≤ greatest_number))
     small_or k = grind (arith)
 
-    go : ((n ≡ 0) ⊎ (32767 < n)) ⊎ ((1 ≤ n) × (n ≤ 32767)) → (n ≡ 0) ⊎ (32767 < n)
+    go : ((n ≡ 0) ⊎ (greatest_number < n)) ⊎ ((1 ≤ n) × (n ≤ greatest_number)) →
+        (n ≡ 0) ⊎ (greatest_number < n)
     go (inl a) = a
     go (inr b) = absurd (h b)
 

@@ -17,7 +17,7 @@ use Rattle.ygrammar.specs.Elaboration.{tokens}
 use Rattle.ygrammar.specs.Elaboration.{usual_of}
 use Rattle.ygrammar.specs.Mistakes.{Holds}
 use Rattle.ygrammar.specs.Names.{Name, is_among, number_in, printed_name}
-use Rattle.ygrammar.specs.Grammar.{number_bound}
+use Rattle.ygrammar.specs.Grammar.{number_bound, greatest_number}
 use Rattle.ygrammar.specs.Numbers.{Clashes, IsOwn}
 use Rattle.ygrammar.specs.Owned.{AllFit, AllSmall, IsFit, OwnSoFar, Precedes, TellsNumbers, keep}
 use Rattle.ygrammar.specs.Told.{IsTold, SaidTwice, IsTwicePrecedence, TellsPrecedences}
@@ -141,7 +141,7 @@ numbers_sound t table s fit apart (inl p) =
             some_of : ℕ → Option ℕ
             some_of y = Some y
 
-    not_fit : (m : ℕ) → IsFit m → ((m ≡ 0) ⊎ (32767 < m)) → ⊥
+    not_fit : (m : ℕ) → IsFit m → ((m ≡ 0) ⊎ (greatest_number < m)) → ⊥
     not_fit m f (inl e) = let a = f.0 in absurd (omega arith)
     not_fit m f (inr e) = let a = f.1 in absurd (omega arith)
 numbers_sound t table s fit apart (inr (inl p)) = not_twice digits_number t table s p

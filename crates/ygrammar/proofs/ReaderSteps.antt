@@ -38,13 +38,13 @@ lexemes_of d (Err r) = d
 abbrev pub read : List Lexeme → Result (List Lexeme) Refusal
 read ls = Ok ls
 
-not_long : (n : ℕ) → (1048576 < n → ⊥) → n ≤ 1048576
+not_long : (n : ℕ) → (longest_file < n → ⊥) → n ≤ longest_file
 not_long n h = go (long_or n)
   where
-    long_or : (k : ℕ) → (1048576 < k) ⊎ (k ≤ 1048576)
+    long_or : (k : ℕ) → (longest_file < k) ⊎ (k ≤ longest_file)
     long_or k = grind (arith)
 
-    go : (1048576 < n) ⊎ (n ≤ 1048576) → n ≤ 1048576
+    go : (longest_file < n) ⊎ (n ≤ longest_file) → n ≤ longest_file
     go (inl l) = absurd (h l)
     go (inr l) = l
 

@@ -12,7 +12,8 @@ use Rattle.std.proofs.lemmas.List.Elements.{recursion_from_All}
 use Rattle.ygrammar.specs.declared.meaning.mistake.Mistake.TheVariants.{TokenLeft, Undefined}
 use Rattle.ygrammar.specs.declared.meaning.mistake.Mistake.TheVariants.{BadStart}
 use Rattle.ygrammar.specs.declared.meaning.mistake.Mistake.TheVariants.{Limit}
-use Rattle.ygrammar.specs.Grammar.{ContextFree, Production, blank, rule_of}
+use Rattle.ygrammar.specs.Grammar.{ContextFree, Production, blank, rule_of, longest_body}
+use Rattle.ygrammar.specs.Grammar.{most_rules, most_symbols}
 use Rattle.ygrammar.specs.Forms.{Productive}
 use Rattle.ygrammar.specs.WellFormed.{WellFormed}
 use Rattle.ygrammar.specs.Lexemes.{IsName}
@@ -472,9 +473,9 @@ record Known (k : ℕ) (ns : List Name) (first : Name) (rs : List Rule) : Type 0
   start_plain : Ordinary first
   lefts_plain : AllByRecursion (λ r. Ordinary r.left) rs
   bodies_plain : AllByRecursion (λ r. AllByRecursion Ordinary r.body) rs
-  small : length ns ≤ 4096
-  few : length (opening first ∷ rs) ≤ 8192
-  short : AllByRecursion (λ r. length r.body ≤ 255) (opening first ∷ rs)
+  small : length ns ≤ most_symbols
+  few : length (opening first ∷ rs) ≤ most_rules
+  short : AllByRecursion (λ r. length r.body ≤ longest_body) (opening first ∷ rs)
 
 number_other : (ns : List Name) (n m : Name) → Member ns n →
     (n ≡ m → ⊥) → number_in ns n ≢ number_in ns m
@@ -520,10 +521,12 @@ known_well k ns first rs h p = record {
       (λ n m q. number_positive ns n h.zeroth m q.end) i o) rs h.bodies_in.1 h.bodies_plain) r a l;
   productive = p;
   small = h.small;
-  few = subst (λ n. n ≤ 8192) (sym (length-map all (numbered_rule ns))) h.few;
-  short = λ r l. rule_each ns all (λ q. length q.body ≤ 255) (each_weaker (λ x. length x.body ≤ 255)
-      (λ x. length (map (number_in ns) x.body) ≤ 255)
-      (λ x b. subst (λ n. n ≤ 255) (sym (length-map x.body (number_in ns))) b) all h.short) r l;
+  few = subst (λ n. n ≤ most_rules) (sym (length-map all (numbered_rule ns))) h.few;
+  short = λ r l. rule_each ns all (λ q. length q.body ≤ longest_body)
+      (each_weaker (λ x. length x.body ≤ longest_body)
+      (λ x. length (map (number_in ns) x.body) ≤ longest_body)
+      (λ x b. subst (λ n. n ≤ longest_body) (sym (length-map x.body (number_in ns))) b) all
+      h.short) r l;
 }
   where
     all : List Rule
@@ -588,9 +591,9 @@ well_formed_of t s n h p = known_well (length (tokens t)) (symbols t)
       start_plain = start_ordinary t s n;
       lefts_plain = lefts_ordinary t s n;
       bodies_plain = bodies_ordinary t s n;
-      small = at_most 4096 (length (symbols t)) (λ q. limit (inl q));
-      few = at_most 8192 (length (rules t)) (λ q. limit (inr (inl q)));
-      short = each_weaker (Contains (rules t)) (λ r. length r.body ≤ 255)
-          (λ r c. at_most 255 (length r.body) (λ q. limit (inr (inr (r, c, q))))) (rules t)
+      small = at_most most_symbols (length (symbols t)) (λ q. limit (inl q));
+      few = at_most most_rules (length (rules t)) (λ q. limit (inr (inl q)));
+      short = each_weaker (Contains (rules t)) (λ r. length r.body ≤ longest_body)
+          (λ r c. at_most longest_body (length r.body) (λ q. limit (inr (inr (r, c, q))))) (rules t)
           (itself (rules t));
     }

@@ -2,7 +2,7 @@ use Rattle.std.proofs.Common.{ap, sym, ◌∙◌, ◌≡◌, ◌≤◌, length, 
 use Rattle.std.proofs.lemmas.List.{length-map}
 use Rattle.ygrammar.specs.Elaboration.{rules as rules_of_tree, symbols as symbols_of_tree}
 use Rattle.ygrammar.specs.Elaboration.{token_precedences}
-use Rattle.ygrammar.specs.Grammar.{RuleValue}
+use Rattle.ygrammar.specs.Grammar.{RuleValue, most_rules, most_symbols}
 use Rattle.ygrammar.specs.NameTexts.{texts}
 use Rattle.ygrammar.specs.Numbered.{rule_numbers}
 use Rattle.ygrammar.proofs.MistakeSteps.{long_found, no_limit}
@@ -23,8 +23,9 @@ returns c = λ t e f.
     let b : length c.args.rules.now ≡ length (rules_of_tree t) =
     ap (λ (x : List RuleValue). length x) f ∙ length-map (rules_of_tree t)
     (rule_numbers (symbols_of_tree t) (token_precedences t)) in
-    let l : length c.args.symbols.now.keys ≤ 4096 = subst (λ n. n ≤ 4096) c.len.ensures.len
+    let l : length c.args.symbols.now.keys ≤ most_symbols =
+    subst (λ n. n ≤ most_symbols) c.len.ensures.len
     c.if-len-gt-MOST_SYMBOLS.false in
-    let m : length c.args.rules.now ≤ 8192 = c.if-rules-gt-MOST_RULES.false in
+    let m : length c.args.rules.now ≤ most_rules = c.if-rules-gt-MOST_RULES.false in
     no_limit t (length c.args.symbols.now.keys) (length c.args.rules.now) c.args.rules.now a b f l m
     (sym c.any_long.ensures ∙ c.if-any_long.false)
