@@ -1,7 +1,7 @@
-mod Lines
-mod Plain
-mod Replying
-mod Transcripts
-mod Required
-mod Running
-mod Words
+pub mod Lines
+pub mod Plain
+pub mod Replying
+pub mod Transcripts
+pub mod Required
+pub mod Running
+pub mod Words

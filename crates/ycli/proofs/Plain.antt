@@ -6,27 +6,27 @@ use Rattle.std.proofs.Common.{Err}
 use Rattle.std.proofs.Common.{arith, codes, refl, sym, ap, ◌∙◌, subst}
 use Rattle.std.proofs.lemmas.Bool.{cases_lt}
 use Rattle.std.proofs.lemmas.List.Elements.{All-nil, All-cons, All-head, All-tail}
-use Rattle.yparse.specs.declared.machine.StepKind.{StepKind}
-use Rattle.yparse.specs.declared.machine.StepFault.{StepFault}
-use Rattle.yparse.specs.declared.machine.StepFault.TheVariants.{Halted, NoToken, Limit, Memory}
-use Rattle.yparse.specs.declared.machine.Mode.{Mode}
-use Rattle.yparse.specs.declared.machine.Mode.TheVariants.{Running, Popping, Accepted, Failed}
-use Rattle.yparse.specs.Machine.{Machine, Configuration, next, edited}
-use Rattle.yparse.specs.Past.{position, most_steps, back_by, to_first}
-use Rattle.yparse.specs.History.{History}
-use Rattle.yparse.specs.Unwinding.{NoErrors, is_error_step, tree_lines, forms_text}
+use Rattle.ymachine.specs.declared.machine.StepKind.{StepKind}
+use Rattle.ymachine.specs.declared.machine.StepFault.{StepFault}
+use Rattle.ymachine.specs.declared.machine.StepFault.TheVariants.{Halted, NoToken, Limit, Memory}
+use Rattle.ymachine.specs.declared.machine.Mode.{Mode}
+use Rattle.ymachine.specs.declared.machine.Mode.TheVariants.{Running, Popping, Accepted, Failed}
+use Rattle.ymachine.specs.Machine.{Machine, Configuration, next, edited}
+use Rattle.ymachine.specs.Past.{position, most_steps, back_by, to_first}
+use Rattle.ymachine.specs.History.{History}
+use Rattle.ymachine.specs.Unwinding.{NoErrors, is_error_step, tree_lines, forms_text}
 use Rattle.ycli.specs.Command.{Command}
 use Rattle.ycli.specs.Command.{Run, Back, To, Show, Tree, Unwind, Insert, Drop, Unknown}
 use Rattle.ycli.specs.Line.{Line}
 use Rattle.ycli.specs.Line as words
 use Rattle.ycli.specs.Line.{line_in}
 use Rattle.std.proofs.Common.{ap₂}
-use Rattle.yparse.specs.declared.machine.Edit.{Edit}
-use Rattle.yparse.specs.declared.machine.Edit.TheVariants as edits
-use Rattle.yparse.specs.Machine.{next_in, edited_in}
-use Rattle.yparse.specs.Past.{Changes, Steps}
-use Rattle.yparse.specs.Spelling.{Spells}
-use Rattle.yparse.proofs.Spellings.{spells_some, one_spelled}
+use Rattle.ymachine.specs.declared.machine.Edit.{Edit}
+use Rattle.ymachine.specs.declared.machine.Edit.TheVariants as edits
+use Rattle.ymachine.specs.Machine.{next_in, edited_in}
+use Rattle.ymachine.specs.Past.{Changes, Steps}
+use Rattle.ymachine.specs.Spelling.{Spells}
+use Rattle.ymachine.proofs.Spellings.{spells_some, one_spelled}
 use Rattle.ycli.specs.Reply.{Edits, EditsBy, InsertsBy, edit_text}
 use Rattle.ycli.specs.Reply.{GoesOn, RunsBy, GoesToBy, Runs, GoesTo, Reply, Unwinds, refusal}
 use Rattle.ycli.specs.Reply.{configuration_text, step_line, undo_text}

@@ -5,21 +5,21 @@ use Rattle.std.proofs.Common.{sym, ap, subst, ◌∙◌, append-nil, append_asso
 use Rattle.std.proofs.Common.{length, get_or}
 use Rattle.std.proofs.lemmas.List.{length-map}
 use Rattle.std.proofs.Math.ListN.{get_or-map}
-use Rattle.yparse.specs.Unwinding.{tokens_left}
+use Rattle.ymachine.specs.Unwinding.{tokens_left}
 use Rattle.std.proofs.lemmas.Bool.{lt-ltb, false_from_ne_true, ltb-true}
-use Rattle.yparse.specs.declared.machine.StepKind.{StepKind}
-use Rattle.yparse.specs.declared.machine.StepFault.{StepFault}
+use Rattle.ymachine.specs.declared.machine.StepKind.{StepKind}
+use Rattle.ymachine.specs.declared.machine.StepFault.{StepFault}
 use Rattle.ycli.specs.Command.{Command}
 use Rattle.ycli.specs.Command.{To, Show, Unknown}
-use Rattle.ytables.specs.declared.link.Link.{Link}
+use Rattle.ylink.specs.declared.link.Link.{Link}
 use Rattle.std.specs.Io.KnownBytes.{Appends, Keeps}
 use Rattle.std.proofs.KnownBytes.{Appends-nil, Appends-kept}
-use Rattle.ytables.specs.Link.{device_of, has_failed}
-use Rattle.ytables.specs.Sends.{Sends}
-use Rattle.ytables.proofs.Sent.{Sends-then, Sends-stop, Sends-none, Sends-nothing}
-use Rattle.yparse.specs.Machine.{Machine, Configuration, next}
-use Rattle.yparse.specs.Past.{Steps, position, back_by, back_from}
-use Rattle.yparse.specs.History.{History}
+use Rattle.ylink.specs.Link.{device_of, has_failed}
+use Rattle.ylink.specs.Sends.{Sends}
+use Rattle.ylink.proofs.Sent.{Sends-then, Sends-stop, Sends-none, Sends-nothing}
+use Rattle.ymachine.specs.Machine.{Machine, Configuration, next}
+use Rattle.ymachine.specs.Past.{Steps, position, back_by, back_from}
+use Rattle.ymachine.specs.History.{History}
 use Rattle.ycli.specs.Reply.{configuration_text, Reply, Answers, Runs, GoesBack, GoesTo, refusal}
 use Rattle.ycli.specs.Reply.{undo_text}
 use Rattle.ycli.specs.Reply.{step_line}

@@ -6,17 +6,17 @@ use Rattle.std.specs.Io.KnownBytes.{Keeps, Appends}
 use Rattle.std.specs.declared.io.ErrorKind.{ErrorKind as IoKind}
 use Rattle.std.specs.declared.io.ErrorKind.TheVariants as errors
 use Rattle.std.proofs.KnownBytes.{Appends-nil, Appends-kept}
-use Rattle.ygrammar.specs.declared.fault.GrammarFault.{GrammarFault}
-use Rattle.ygrammar.specs.declared.fault.GrammarFault.TheVariants as grammars
+use Rattle.ysyntax.specs.declared.fault.GrammarFault.{GrammarFault}
+use Rattle.ysyntax.specs.declared.fault.GrammarFault.TheVariants as grammars
 use Rattle.ygrammar.specs.GrammarOf.{IsFaultOf}
 use Rattle.ylalr.specs.declared.fault.BuildFault.TheVariants as building
-use Rattle.ytables.specs.declared.link.Link.{Link}
+use Rattle.ylink.specs.declared.link.Link.{Link}
 use Rattle.ytables.specs.Tables.{TablesValue as Tables}
-use Rattle.yparse.specs.declared.tokens.TokenFault.{TokenFault}
-use Rattle.yparse.specs.declared.tokens.TokenFault.TheVariants as faults
-use Rattle.ytables.specs.Link.{device_of, has_failed}
-use Rattle.ytables.specs.Sends.{Sends}
-use Rattle.yparse.specs.Reading.{Gives}
+use Rattle.ytokens.specs.declared.tokens.TokenFault.{TokenFault}
+use Rattle.ytokens.specs.declared.tokens.TokenFault.TheVariants as faults
+use Rattle.ylink.specs.Link.{device_of, has_failed}
+use Rattle.ylink.specs.Sends.{Sends}
+use Rattle.ytokens.specs.Reading.{Gives}
 use Rattle.ycli.specs.Programs.{GrammarFails, TokensFail, Says, of_grammar, of_start, of_tokens}
 use Rattle.ycli.specs.Programs.{of_unread}
 use Rattle.ycli.specs.Halves.{AreTablesOf, NoTables}

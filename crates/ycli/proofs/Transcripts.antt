@@ -8,14 +8,14 @@ use Rattle.ycli.specs.Line.{Line}
 use Rattle.ycli.specs.Line as words
 use Rattle.ycli.specs.declared.run.Flow.{Flow}
 use Rattle.ycli.specs.declared.run.Flow.TheVariants.{GoesOn, Quit}
-use Rattle.ytables.specs.declared.link.Link.{Link}
+use Rattle.ylink.specs.declared.link.Link.{Link}
 use Rattle.ycli.specs.declared.fault.SessionFault.{SessionFault}
 use Rattle.ycli.specs.declared.fault.SessionFault.TheVariants as faults
 use Rattle.std.specs.Io.KnownBytes.{Consumes, IsAtEnd}
-use Rattle.ytables.specs.Link.{device_of}
-use Rattle.ytables.specs.Sends.{Sends}
-use Rattle.yparse.specs.Machine.{Machine}
-use Rattle.yparse.specs.History.{History}
+use Rattle.ylink.specs.Link.{device_of}
+use Rattle.ylink.specs.Sends.{Sends}
+use Rattle.ymachine.specs.Machine.{Machine}
+use Rattle.ymachine.specs.History.{History}
 use Rattle.ycli.specs.Line.{line_in, line_view, line_room, longest_line}
 use Rattle.ycli.specs.declared.command.Line.{Line as CodeLine}
 use Rattle.ycli.specs.Lines.{last_line}
@@ -23,7 +23,7 @@ use Rattle.ycli.specs.Reply.{Reply, Answers}
 use Rattle.ycli.specs.Transcript.{Continues, Transcript, Tells}
 use Rattle.ycli.specs.Serving.{whole_after, rest_after, whole_lines, rest_line, lines_of, Replies}
 use Rattle.ycli.specs.Serving.{Breaks, ChunkTells, ReadTells, Ends}
-use Rattle.ytables.proofs.Sent.{Sends-then, Sends-stop, Sends-nothing}
+use Rattle.ylink.proofs.Sent.{Sends-then, Sends-stop, Sends-nothing}
 use Rattle.ycli.proofs.Plain.{Transcript-some}
 use Rattle.ycli.proofs.Lines.{whole_after-append, rest_after-append, whole_after-newline}
 use Rattle.ycli.proofs.Lines.{rest_after-newline, whole_after-byte, rest_after-byte, take-front}

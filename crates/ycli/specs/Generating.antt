@@ -1,9 +1,9 @@
 -- What `yacc` does but for its exit: what became of a run, its message and its exit status.
 use Rattle.std.specs.Prelude.{ℕ, ◌≡◌, ◌⊎◌, List, [], Option, Result, Ok, Err}
 use Rattle.ylalr.specs.Collection.{Guide}
-use Rattle.ytables.specs.declared.link.Link.{Link}
+use Rattle.ylink.specs.declared.link.Link.{Link}
 use Rattle.ytables.specs.declared.tables.Counts.{Counts}
-use Rattle.ytables.specs.Link.{device_of}
+use Rattle.ylink.specs.Link.{device_of}
 use Rattle.ytables.specs.Tables.{TablesValue as Tables}
 use Rattle.ytables.specs.Table.{table_of}
 use Rattle.ytables.specs.Report.{report_of}

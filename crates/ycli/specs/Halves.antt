@@ -1,14 +1,14 @@
 -- The two halves of a start: tables of a grammar file, and a session over them.
 use Rattle.std.specs.Prelude.{ℕ, ◌≡◌, List, Ok}
-use Rattle.ygrammar.specs.Grammar.{GrammarValue}
+use Rattle.ysymbols.specs.Grammar.{GrammarValue}
 use Rattle.ygrammar.specs.GrammarOf.{IsGrammarOf, IsFaultOf}
 use Rattle.ylalr.specs.Collection.{HasStates, IsFault}
 use Rattle.ytables.specs.Tables.{TablesValue, AreTables}
-use Rattle.yparse.specs.Reading.{TokensOf}
-use Rattle.yparse.specs.Machine.{Machine}
-use Rattle.yparse.specs.History.{History, first_history}
-use Rattle.yparse.specs.Headline.{IsMachineOf}
-use Rattle.yparse.specs.Rightmost.{UnwindsRight}
+use Rattle.ytokens.specs.Reading.{TokensOf}
+use Rattle.ymachine.specs.Machine.{Machine}
+use Rattle.ymachine.specs.History.{History, first_history}
+use Rattle.ymachine.specs.Headline.{IsMachineOf}
+use Rattle.ymachine.specs.Rightmost.{UnwindsRight}
 use Rattle.ycli.specs.declared.stepper.StepperFault.{StepperFault}
 use Rattle.ycli.specs.declared.stepper.StepperFault.TheVariants.{Grammar, Build, Tables, Tokens}
 use Rattle.ycli.specs.declared.stepper.StepperFault.TheVariants.{Session}

@@ -1,13 +1,13 @@
 -- What the stepper promises from bytes to bytes: the headline.
 use Rattle.std.specs.Prelude.{ℕ, ◌≡◌, ◌<◌, ◌^◌, Bool, true, false, List, length, Option, IfSome}
 use Rattle.std.specs.Prelude.{Result, Ok, Err}
-use Rattle.ytables.specs.declared.link.Link.{Link}
-use Rattle.ytables.specs.Link.{device_of}
-use Rattle.ygrammar.specs.Grammar.{GrammarValue}
+use Rattle.ylink.specs.declared.link.Link.{Link}
+use Rattle.ylink.specs.Link.{device_of}
+use Rattle.ysymbols.specs.Grammar.{GrammarValue}
 use Rattle.ygrammar.specs.GrammarOf.{IsGrammarOf}
-use Rattle.yparse.specs.Reading.{Gives}
-use Rattle.yparse.specs.Machine.{Machine}
-use Rattle.yparse.specs.History.{History}
+use Rattle.ytokens.specs.Reading.{Gives}
+use Rattle.ymachine.specs.Machine.{Machine}
+use Rattle.ymachine.specs.History.{History}
 use Rattle.ycli.specs.declared.fault.SessionFault.{SessionFault}
 use Rattle.ycli.specs.declared.fault.SessionFault.TheVariants as streams
 use Rattle.ycli.specs.declared.stepper.StepperFault.{StepperFault}

@@ -1,3 +1,4 @@
+pub mod Headline
 pub mod Messages
 pub mod Command
 pub mod Line
@@ -10,4 +11,3 @@ pub mod Arguments
 pub mod Programs
 pub mod Generating
 pub mod Halves
-pub mod Headline

@@ -1,10 +1,10 @@
 -- The line that a program writes to standard error.
 use Rattle.std.specs.Prelude.{ℕ, ◌++◌, ◌==◌, ◌&&◌, [], List, decimal, codes, Option, Some, None}
 use Rattle.std.specs.Prelude.{if◌then◌else◌}
-use Rattle.ygrammar.specs.declared.fault.GrammarFault.{GrammarFault}
-use Rattle.ygrammar.specs.declared.fault.GrammarFault.TheVariants as grammars
-use Rattle.yparse.specs.declared.tokens.TokenFault.{TokenFault}
-use Rattle.yparse.specs.declared.tokens.TokenFault.TheVariants as tokens
+use Rattle.ysyntax.specs.declared.fault.GrammarFault.{GrammarFault}
+use Rattle.ysyntax.specs.declared.fault.GrammarFault.TheVariants as grammars
+use Rattle.ytokens.specs.declared.tokens.TokenFault.{TokenFault}
+use Rattle.ytokens.specs.declared.tokens.TokenFault.TheVariants as tokens
 use Rattle.ycli.specs.declared.fault.SessionFault.{SessionFault}
 use Rattle.ycli.specs.declared.fault.SessionFault.TheVariants as streams
 use Rattle.ytables.specs.declared.tables.Counts.{Counts}

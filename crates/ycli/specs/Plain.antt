@@ -1,13 +1,13 @@
 -- Sessions in which no step or edit is refused for want of memory: their text is a function of the
 -- lines.
 use Rattle.std.specs.Prelude.{ℕ, ◌≡◌, ◌≢◌, List, Result, Err}
-use Rattle.yparse.specs.declared.machine.StepKind.{StepKind}
-use Rattle.yparse.specs.declared.machine.StepFault.{StepFault}
-use Rattle.yparse.specs.declared.machine.StepFault.TheVariants.{Memory}
-use Rattle.yparse.specs.Machine.{Machine, next}
-use Rattle.yparse.specs.Past.{Steps}
-use Rattle.yparse.specs.History.{History}
-use Rattle.yparse.specs.declared.machine.Edit.{Edit}
+use Rattle.ymachine.specs.declared.machine.StepKind.{StepKind}
+use Rattle.ymachine.specs.declared.machine.StepFault.{StepFault}
+use Rattle.ymachine.specs.declared.machine.StepFault.TheVariants.{Memory}
+use Rattle.ymachine.specs.Machine.{Machine, next}
+use Rattle.ymachine.specs.Past.{Steps}
+use Rattle.ymachine.specs.History.{History}
+use Rattle.ymachine.specs.declared.machine.Edit.{Edit}
 use Rattle.ycli.specs.Command.{Command}
 use Rattle.ycli.specs.Reply.{ReplyBy, Edits}
 use Rattle.ycli.specs.Transcript.{Transcript, TranscriptBy}

@@ -8,17 +8,17 @@ use Rattle.std.specs.declared.io.ErrorKind.TheVariants as errors
 use Rattle.clap.specs.Words.{App, IsAmong, fault_of}
 use Rattle.clap.specs.declared.error.kind.ErrorKind.{ErrorKind}
 use Rattle.clap.specs.declared.error.kind.ErrorKind.TheVariants as kinds
-use Rattle.ytables.specs.declared.link.Link.{Link}
+use Rattle.ylink.specs.declared.link.Link.{Link}
 use Rattle.ytables.specs.Tables.{TablesValue as Tables}
-use Rattle.ygrammar.specs.declared.fault.GrammarFault.{GrammarFault}
-use Rattle.ygrammar.specs.declared.fault.GrammarFault.TheVariants as grammars
-use Rattle.ygrammar.specs.Grammar.{GrammarValue}
+use Rattle.ysyntax.specs.declared.fault.GrammarFault.{GrammarFault}
+use Rattle.ysyntax.specs.declared.fault.GrammarFault.TheVariants as grammars
+use Rattle.ysymbols.specs.Grammar.{GrammarValue}
 use Rattle.ygrammar.specs.GrammarOf.{IsFaultOf, IsGrammarOf}
 use Rattle.ylalr.specs.Collection.{TooMany}
 use Rattle.ylalr.specs.declared.fault.BuildFault.{BuildFault}
 use Rattle.ylalr.specs.declared.fault.BuildFault.TheVariants as building
-use Rattle.yparse.specs.declared.tokens.TokenFault.{TokenFault}
-use Rattle.yparse.specs.declared.tokens.TokenFault.TheVariants as tokens
+use Rattle.ytokens.specs.declared.tokens.TokenFault.{TokenFault}
+use Rattle.ytokens.specs.declared.tokens.TokenFault.TheVariants as tokens
 use Rattle.ycli.specs.declared.fault.SessionFault.{SessionFault}
 use Rattle.ycli.specs.declared.arguments.YstepWords.{YstepWords}
 use Rattle.ycli.specs.declared.message.Program.{Program}
@@ -29,13 +29,13 @@ use Rattle.ycli.specs.declared.message.Trouble.TheVariants.{NoMemory, CannotRead
 use Rattle.ycli.specs.declared.message.Trouble.TheVariants.{Session}
 use Rattle.ycli.specs.declared.programs.Request.{Request}
 use Rattle.ycli.specs.declared.programs.Request.TheVariants as requests
-use Rattle.ytables.specs.Link.{device_of, has_failed}
+use Rattle.ylink.specs.Link.{device_of, has_failed}
 use Rattle.ycli.specs.Messages.{message}
-use Rattle.ytables.specs.Sends.{Begins}
-use Rattle.yparse.specs.Reading.{TokensOf}
-use Rattle.yparse.specs.Machine.{Machine}
-use Rattle.yparse.specs.MachineOver.{machine_over}
-use Rattle.yparse.specs.History.{History}
+use Rattle.ylink.specs.Sends.{Begins}
+use Rattle.ytokens.specs.Reading.{TokensOf}
+use Rattle.ymachine.specs.Machine.{Machine}
+use Rattle.ymachine.specs.MachineOver.{machine_over}
+use Rattle.ymachine.specs.History.{History}
 use Rattle.ycli.specs.declared.stepper.StepperFault.{StepperFault}
 use Rattle.ycli.specs.declared.stepper.StepperFault.TheVariants as starts
 use Rattle.ycli.specs.Halves.{AreTablesOf, Parses}

@@ -3,23 +3,23 @@ use Rattle.std.specs.Prelude.{ℕ, suc, ◌≡◌, ◌≢◌, ◌⊎◌, ◌-◌
 use Rattle.std.specs.Prelude.{◌++◌, length, decimal, codes, if◌then◌else◌, Result, Ok}
 use Rattle.std.specs.Prelude.{Err, Option}
 use Prim.Native.Nat.{zero}
-use Rattle.yparse.specs.declared.machine.Mode.{Mode}
-use Rattle.yparse.specs.declared.machine.Mode.TheVariants.{Running, Popping, Accepted, Failed}
-use Rattle.yparse.specs.declared.machine.StepKind.{StepKind}
-use Rattle.yparse.specs.declared.machine.StepKind.TheVariants as kinds
-use Rattle.yparse.specs.declared.machine.StepFault.{StepFault}
-use Rattle.yparse.specs.declared.machine.StepFault.TheVariants.{Halted, NoToken, Limit, Memory}
-use Rattle.yparse.specs.declared.machine.Edit.{Edit}
-use Rattle.yparse.specs.declared.machine.Edit.TheVariants as edit
+use Rattle.ymachine.specs.declared.machine.Mode.{Mode}
+use Rattle.ymachine.specs.declared.machine.Mode.TheVariants.{Running, Popping, Accepted, Failed}
+use Rattle.ymachine.specs.declared.machine.StepKind.{StepKind}
+use Rattle.ymachine.specs.declared.machine.StepKind.TheVariants as kinds
+use Rattle.ymachine.specs.declared.machine.StepFault.{StepFault}
+use Rattle.ymachine.specs.declared.machine.StepFault.TheVariants.{Halted, NoToken, Limit, Memory}
+use Rattle.ymachine.specs.declared.machine.Edit.{Edit}
+use Rattle.ymachine.specs.declared.machine.Edit.TheVariants as edit
 use Rattle.ycli.specs.Command.{Command, Run, Back, To, Show, Tree, Unwind, Insert, Drop, Unknown}
-use Rattle.ytables.specs.declared.link.Link.{Link}
-use Rattle.ytables.specs.Sends.{Sends}
+use Rattle.ylink.specs.declared.link.Link.{Link}
+use Rattle.ylink.specs.Sends.{Sends}
 use Rattle.ytables.specs.Text.{spaced_names}
-use Rattle.yparse.specs.Machine.{Machine, Configuration, symbols, next, edited}
-use Rattle.yparse.specs.Past.{Steps, Changes, position, back_by, to_first}
-use Rattle.yparse.specs.History.{History}
-use Rattle.yparse.specs.Spelling.{IsSpelled}
-use Rattle.yparse.specs.Unwinding.{NoErrors, tokens_left, tree_lines, forms_text}
+use Rattle.ymachine.specs.Machine.{Machine, Configuration, symbols, next, edited}
+use Rattle.ymachine.specs.Past.{Steps, Changes, position, back_by, to_first}
+use Rattle.ymachine.specs.History.{History}
+use Rattle.ymachine.specs.Spelling.{IsSpelled}
+use Rattle.ymachine.specs.Unwinding.{NoErrors, tokens_left, tree_lines, forms_text}
 
 -- the words of a step or an edit
 abbrev pub kind_word : StepKind → List ℕ

@@ -3,14 +3,14 @@ use Rattle.std.specs.Prelude.{ℕ, ◌≡◌, ◌==◌, ◌≤◌, ◌^◌, ◌-
 use Rattle.std.specs.Prelude.{◌++◌, length, take, Option, Some, None, Result, Ok, Err}
 use Rattle.std.specs.Prelude.{if◌then◌else◌}
 use Rattle.std.specs.Io.KnownBytes.{Consumes, IsAtEnd}
-use Rattle.ytables.specs.declared.link.Link.{Link}
+use Rattle.ylink.specs.declared.link.Link.{Link}
 use Rattle.ycli.specs.declared.run.Flow.{Flow}
 use Rattle.ycli.specs.declared.run.Flow.TheVariants.{GoesOn, Quit}
 use Rattle.ycli.specs.declared.fault.SessionFault.{SessionFault}
 use Rattle.ycli.specs.declared.fault.SessionFault.TheVariants as faults
-use Rattle.ytables.specs.Sends.{Sends}
-use Rattle.yparse.specs.Machine.{Machine}
-use Rattle.yparse.specs.History.{History}
+use Rattle.ylink.specs.Sends.{Sends}
+use Rattle.ymachine.specs.Machine.{Machine}
+use Rattle.ymachine.specs.History.{History}
 use Rattle.ycli.specs.Line.{line_room}
 use Rattle.ycli.specs.Lines.{last_line}
 use Rattle.ycli.specs.Transcript.{Transcript}

@@ -7,9 +7,9 @@ use Rattle.ycli.specs.declared.fault.SessionFault.TheVariants as faults
 use Rattle.ycli.specs.Line.{Line}
 use Rattle.ycli.specs.Line as lines
 use Rattle.ycli.specs.Command.{Command}
-use Rattle.ytables.specs.Sends.{Begins}
-use Rattle.yparse.specs.Machine.{Machine}
-use Rattle.yparse.specs.History.{History}
+use Rattle.ylink.specs.Sends.{Begins}
+use Rattle.ymachine.specs.Machine.{Machine}
+use Rattle.ymachine.specs.History.{History}
 use Rattle.ycli.specs.Line.{line_in}
 use Rattle.ycli.specs.Lines.{IsCut, AreLines}
 use Rattle.ycli.specs.Reply.{Reply}

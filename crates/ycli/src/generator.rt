@@ -2,8 +2,8 @@
 
 ghost use Rattle.std.specs.Prelude.{◌≡◌, IfOk, IfErr, map, is_some};
 ghost use Rattle.ylalr.specs.Collection.{Guide, IsGuide};
-ghost use Rattle.ytables.specs.Link.{device_of};
-ghost use Rattle.ytables.specs.Sends.{Grows, Sends};
+ghost use Rattle.ylink.specs.Link.{device_of};
+ghost use Rattle.ylink.specs.Sends.{Grows, Sends};
 ghost use Rattle.ycli.specs.Generating.{Asks, EndsIn, FilesFail, Generates, Runs, WriteFails};
 ghost use Rattle.ycli.specs.Generating.{said_of, text_of};
 
@@ -15,7 +15,7 @@ use std::alloc::Global;
 use std::fs;
 use std::io::{self, BufWriter, Write};
 use std::rt::Files;
-use ytables::put::put;
+use ylink::put::put;
 use ytables::{Counts, Link, Tables};
 
 /// What the words of `yacc` ask for.

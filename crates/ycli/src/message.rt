@@ -1,7 +1,7 @@
 //! What the programs write to standard error, and the status that goes with it.
 
 ghost use Rattle.std.specs.Prelude.{◌≡◌, ◌++◌, ◌==◌, ◌&&◌, is_some, codes};
-ghost use Rattle.ytables.specs.Sends.{Sends};
+ghost use Rattle.ylink.specs.Sends.{Sends};
 ghost use Rattle.ycli.specs.Messages.{conflicts_line, grammar_code, grammar_line, message, name_of};
 ghost use Rattle.ycli.specs.Messages.{message_line, session_word, token_code};
 ghost use Rattle.ycli.specs.Messages.{token_place, usage_of};
@@ -13,7 +13,7 @@ use std::io::{self, Write};
 use ygrammar::GrammarFault;
 use ylalr::BuildFault;
 use yparse::TokenFault;
-use ytables::put::{put, put_all};
+use ylink::put::{put, put_all};
 use ytables::{Counts, Link};
 
 /// One of the programs.

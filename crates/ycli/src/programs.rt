@@ -1,9 +1,9 @@
 //! What the programs do but for their exit.
 
 ghost use Rattle.std.specs.Prelude.{ℕ, ◌≡◌, List, IfOk, IfErr, map};
-ghost use Rattle.ytables.specs.Link.{device_of};
+ghost use Rattle.ylink.specs.Link.{device_of};
 ghost use Rattle.yparse.specs.Session.{machine_of, history_of};
-ghost use Rattle.yparse.specs.MachineOver.{machine_over};
+ghost use Rattle.ymachine.specs.MachineOver.{machine_over};
 ghost use Rattle.ycli.specs.Halves.{AreTablesOf, Parses};
 ghost use Rattle.ycli.specs.Programs.{Asks, Starts, FilesFail, TokensFail, EndsIn, Runs};
 
@@ -17,7 +17,7 @@ use std::alloc::Global;
 use std::io::{Read, Write};
 use std::rt::Files;
 use yparse::Session;
-use ytables::put::put;
+use ylink::put::put;
 use ytables::{Link, Tables};
 
 /// What the words of a program ask for.

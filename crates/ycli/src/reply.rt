@@ -3,9 +3,9 @@
 ghost use Rattle.std.specs.Prelude.{◌≡◌, true, false, if◌then◌else◌, is_some};
 ghost use Rattle.std.specs.Prelude.{Some, drop, ◌∷◌, ◌++◌, codes};
 ghost use Rattle.ycli.specs.Command as commands;
-ghost use Rattle.ytables.specs.Link.{has_failed};
-ghost use Rattle.ytables.specs.Sends.{Sends};
-ghost use Rattle.yparse.specs.Past.{position};
+ghost use Rattle.ylink.specs.Link.{has_failed};
+ghost use Rattle.ylink.specs.Sends.{Sends};
+ghost use Rattle.ymachine.specs.Past.{position};
 ghost use Rattle.yparse.specs.Session.{machine_of, history_of};
 ghost use Rattle.ycli.specs.Reply.{step_line, refusal, kind_word, kind_tail};
 ghost use Rattle.ycli.specs.Reply.{mode_word, configuration_text};
@@ -19,7 +19,7 @@ use ygrammar::Sym;
 use yparse::Session;
 use yparse::machine::{AtStart, Mode, StepFault, StepKind, UnwindFault};
 use ytables::Link;
-use ytables::put::{put, put_all};
+use ylink::put::{put, put_all};
 
 /// The words of a step or an edit.
 fn kind_word(kind: StepKind) -> &'static [u8]

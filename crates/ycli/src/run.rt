@@ -2,7 +2,7 @@
 
 ghost use Rattle.std.specs.Prelude.{◌≡◌, ◌<◌, ◌^◌, List, [], ℕ, length, take, ◌||◌, true, false};
 ghost use Rattle.std.specs.Prelude.{is_some, IfSome, if◌then◌else◌};
-ghost use Rattle.ytables.specs.Link.{device_of, has_failed};
+ghost use Rattle.ylink.specs.Link.{device_of, has_failed};
 ghost use Rattle.yparse.specs.Session.{machine_of, history_of};
 ghost use Rattle.ycli.specs.Transcript.{Tells, failed_read, failed_write};
 ghost use Rattle.ycli.specs.Plain.{HasOneText};

@@ -2,10 +2,10 @@
 //! out.
 
 ghost use Rattle.std.specs.Prelude.{IfOk, IfErr, ◌≡◌, Err};
-ghost use Rattle.ytables.specs.Link.{device_of, has_failed};
+ghost use Rattle.ylink.specs.Link.{device_of, has_failed};
 ghost use Rattle.yparse.specs.Session.{machine_of, history_of};
-ghost use Rattle.yparse.specs.MachineOver.{machine_over};
-ghost use Rattle.yparse.specs.Reading.{Gives};
+ghost use Rattle.ymachine.specs.MachineOver.{machine_over};
+ghost use Rattle.ytokens.specs.Reading.{Gives};
 ghost use Rattle.ycli.specs.Halves.{AreTablesOf, NoTables, Parses};
 ghost use Rattle.ycli.specs.Headline.{Ends, reader_failed, writer_failed};
 

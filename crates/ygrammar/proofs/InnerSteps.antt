@@ -3,18 +3,18 @@ use Rattle.std.proofs.Common.{ℕ, suc, ◌≡◌, ◌<◌, ◌≤◌, ◌+◌, 
 use Rattle.std.proofs.Common.{Some, None, ◌∙◌, ap, map, arith, drop, get_or, refl, length-append}
 use Rattle.std.specs.List.{flat_map}
 use Rattle.std.proofs.lemmas.List.{drop_more, length-map}
-use Rattle.ygrammar.specs.declared.syntax.kind.Sign.TheVariants.{Mark}
-use Rattle.ygrammar.specs.declared.syntax.tree.BodyPart.{BodyPart as CodeBodyPart}
-use Rattle.ygrammar.specs.declared.syntax.tree.BodyPart.TheVariants as items
-use Rattle.ygrammar.specs.declared.syntax.tree.BracedText.{BracedText}
-use Rattle.ygrammar.specs.declared.syntax.tree.RuleText.{RuleText as CodeRuleText}
-use Rattle.ygrammar.specs.TreeViews.{body_part_view, rule_text_view}
+use Rattle.ylexemes.specs.declared.kind.Sign.TheVariants.{Mark}
+use Rattle.ysyntax.specs.declared.tree.BodyPart.{BodyPart as CodeBodyPart}
+use Rattle.ysyntax.specs.declared.tree.BodyPart.TheVariants as items
+use Rattle.ysyntax.specs.declared.tree.BracedText.{BracedText}
+use Rattle.ysyntax.specs.declared.tree.RuleText.{RuleText as CodeRuleText}
+use Rattle.ysyntax.specs.TreeViews.{body_part_view, rule_text_view}
 use Rattle.ygrammar.specs.Elaboration.{body_from, final_of, split_last}
-use Rattle.ygrammar.specs.Lexemes.{Lexeme, fixed}
+use Rattle.ylexemes.specs.Lexemes.{Lexeme, fixed}
 use Rattle.ygrammar.specs.Numbered.{inner_after}
-use Rattle.ygrammar.specs.Tree.{RuleText, BodyPart, symbol, action, Tree, rule_text_yield}
-use Rattle.ygrammar.specs.Tree.{definition_yield}
-use Rattle.ygrammar.specs.Tree.{end_yield, body_part_yield, mark_yield, yield}
+use Rattle.ysyntax.specs.Tree.{RuleText, BodyPart, symbol, action, Tree, rule_text_yield}
+use Rattle.ysyntax.specs.Tree.{definition_yield}
+use Rattle.ysyntax.specs.Tree.{end_yield, body_part_yield, mark_yield, yield}
 
 -- ---- numbers grow
 

@@ -6,12 +6,12 @@ use Rattle.std.specs.List.{AllByRecursion}
 use Rattle.std.proofs.lemmas.Bool.Decides.{nat_tests}
 use Rattle.std.proofs.lemmas.List.Elements.{All-from_recursion, recursion_from_All}
 use Rattle.std.proofs.lemmas.List.Sums.{fold-append}
-use Rattle.ygrammar.specs.declared.precedence.Precedence.{Precedence}
+use Rattle.ysymbols.specs.declared.precedence.Precedence.{Precedence}
 use Rattle.ygrammar.specs.Elaboration.{HavePrecedences, IsChosenToken, IsLastToken, Rule}
 use Rattle.ygrammar.specs.Elaboration.{precedence_at}
-use Rattle.ygrammar.specs.Names.{Name, number_in}
+use Rattle.ysymbols.specs.Names.{Name, number_in}
 use Rattle.ygrammar.specs.Numbered.{chosen_token, last_token, rule_precedence}
-use Rattle.ygrammar.specs.Tree.{Identifier}
+use Rattle.ysyntax.specs.Tree.{Identifier}
 
 -- ---- the last token of a body
 

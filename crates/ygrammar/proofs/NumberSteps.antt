@@ -7,12 +7,12 @@ use Rattle.std.proofs.Math.ListN.{set}
 use Rattle.std.specs.List.{slice_get}
 use Rattle.std.proofs.lemmas.Bool.Decides.{nat_tests}
 use Rattle.std.proofs.lemmas.Option.{slice_get_within, slice_get-get_or}
-use Rattle.ygrammar.specs.declared.meaning.holders.Holders.{Holders}
-use Rattle.ygrammar.specs.declared.meaning.holders.Holders.TheVariants.{Nobody, One, Several}
-use Rattle.ygrammar.specs.Grammar.{number_bound}
+use Rattle.ygrammar.specs.declared.holders.Holders.{Holders}
+use Rattle.ygrammar.specs.declared.holders.Holders.TheVariants.{Nobody, One, Several}
+use Rattle.ysymbols.specs.Grammar.{number_bound}
 use Rattle.ygrammar.specs.Numbers.{AreHolders, AreNumbers, Clashes, IsHolders, IsLeast, IsOwn}
 use Rattle.ygrammar.specs.Numbers.{is_held, with_holder}
-use Rattle.ygrammar.proofs.TellingSteps.{false_true}
+use Rattle.ysymbols.proofs.NameSteps.{false_true}
 
 -- Of each number the holders among the first i tokens.
 pub record Holding (count : ℕ) (own : List (Option ℕ)) (table : List Holders) (i : ℕ) : Type 0 where

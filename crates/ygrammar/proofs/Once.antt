@@ -4,14 +4,15 @@ use Rattle.std.proofs.Common.{Some, None, codes, refl, sym, ◌∙◌, ap, subst
 use Rattle.std.specs.List.{slice_get}
 use Rattle.std.proofs.lemmas.Bool.{cases_order}
 use Rattle.std.proofs.lemmas.Option.{get_or_from_slice_get, slice_get-get_or, slice_get_within}
-use Rattle.ygrammar.specs.declared.meaning.mistake.Mistake.TheVariants.{BadNumber}
+use Rattle.ygrammar.specs.declared.mistake.Mistake.TheVariants.{BadNumber}
 use Rattle.ygrammar.specs.Elaboration.{appearances, listings, own_numbers, rule_left, rules}
 use Rattle.ygrammar.specs.Elaboration.{symbols, token_names_of, tokens}
 use Rattle.ygrammar.specs.Mistakes.{HasNone, Holds, order}
-use Rattle.ygrammar.specs.Names.{Name, is_among, with_names, number_in, printed_name}
+use Rattle.ysymbols.specs.Names.{Name, is_among, with_names, number_in}
+use Rattle.ygrammar.specs.Printed.{printed_name}
 use Rattle.ygrammar.specs.Numbers.{AreNumbers, Clashes}
-use Rattle.ygrammar.specs.Tree.{Tree}
-use Rattle.ygrammar.specs.WellFormed.{StandOnce}
+use Rattle.ysyntax.specs.Tree.{Tree}
+use Rattle.ysymbols.specs.WellFormed.{StandOnce}
 use Rattle.ygrammar.proofs.NumberSteps.{some_one}
 use Rattle.ygrammar.proofs.OwnTables.{distinct_tokens}
 use Rattle.ygrammar.proofs.TokenSteps.{Distinct, distinct_all, noted_behind}

@@ -4,15 +4,15 @@ use Rattle.std.proofs.Common.{List, [], ◌∷◌, length, Option, Some, None, r
 use Rattle.std.proofs.Common.{arith, get_or}
 use Rattle.std.specs.List.{slice_get}
 use Rattle.std.proofs.lemmas.Bool.{cases_order}
-use Rattle.ygrammar.specs.declared.meaning.mistake.Mistake.{Mistake}
-use Rattle.ygrammar.specs.declared.precedence.Precedence.{Precedence}
+use Rattle.ygrammar.specs.declared.mistake.Mistake.{Mistake}
+use Rattle.ysymbols.specs.declared.precedence.Precedence.{Precedence}
 use Rattle.ygrammar.specs.Elaboration.{bare_of, own_numbers, rules, symbols, token_precedences}
-use Rattle.ygrammar.specs.Forms.{IsReachable}
-use Rattle.ygrammar.specs.Grammar.{ContextFree, GrammarValue}
+use Rattle.ysymbols.specs.Forms.{IsReachable}
+use Rattle.ysymbols.specs.Grammar.{ContextFree, GrammarValue}
 use Rattle.ygrammar.specs.Meaning.{IsMeaning}
 use Rattle.ygrammar.specs.Mistakes.{HasNone, Holds, IsFirst}
 use Rattle.ygrammar.specs.Numbers.{AreNumbers, IsLeast, IsOwn}
-use Rattle.ygrammar.specs.Tree.{Tree}
+use Rattle.ysyntax.specs.Tree.{Tree}
 use Rattle.ygrammar.proofs.LastTokens.{one_precedences}
 
 -- ---- lists

@@ -16,19 +16,21 @@ use Rattle.std.proofs.lemmas.Int.Digits.{digits_value_push}
 use Rattle.std.proofs.lemmas.Str.Parse.{digits_value-take-le}
 use Rattle.std.proofs.lemmas.List.{drop_more, take_more}
 use Rattle.std.proofs.lemmas.List.Elements.{Contains-append_left, Contains-append_right}
-use Rattle.ygrammar.specs.Grammar.{greatest_number}
-use Rattle.ygrammar.specs.declared.meaning.outline.Listed.{Listed}
-use Rattle.ygrammar.specs.declared.syntax.tree.Digits.{Digits}
-use Rattle.ygrammar.specs.TreeViews.{digits_view, occurrence_view, option_view}
+use Rattle.ysymbols.specs.Grammar.{greatest_number}
+use Rattle.ygrammar.specs.declared.outline.Listed.{Listed}
+use Rattle.ysyntax.specs.declared.tree.Digits.{Digits}
+use Rattle.ysyntax.specs.TreeViews.{digits_view, occurrence_view}
+use Rattle.ysymbols.specs.Sources.{option_view}
 use Rattle.ygrammar.specs.Elaboration.{Listing, digits_number, listed_name, literal_value}
 use Rattle.ygrammar.specs.Elaboration.{option_list, said_of, usual_of}
-use Rattle.ygrammar.specs.Names.{Name, number_in, printed_literal}
+use Rattle.ysymbols.specs.Names.{Name, number_in, printed_literal}
 use Rattle.ygrammar.specs.Outline.{listed_view}
 use Rattle.ygrammar.specs.Owned.{AllFit, GivesUnfit, IsFit, OwnSoFar, TellsNumbers, keep}
 use Rattle.ygrammar.specs.Owned.{with_number}
-use Rattle.ygrammar.specs.Tree.{Identifier, quoted}
-use Rattle.ygrammar.proofs.NameSteps.{eq_self}
-use Rattle.ygrammar.proofs.TellingSteps.{false_true, is_none, passes, same_number, says, skips_at}
+use Rattle.ysyntax.specs.Tree.{Identifier, quoted}
+use Rattle.ysymbols.proofs.NameSteps.{eq_self}
+use Rattle.ygrammar.proofs.TellingSteps.{is_none, passes, same_number, says, skips_at}
+use Rattle.ysymbols.proofs.NameSteps.{false_true}
 use Rattle.ygrammar.proofs.TellingSteps.{twice}
 
 -- one more digit

@@ -5,25 +5,27 @@ use Rattle.std.proofs.Common.{subst, arith, get_or, codes, false, is_some, true}
 use Rattle.std.specs.List.{Contains, flat_map}
 use Rattle.std.specs.Global.{Global}
 use Rattle.std.proofs.lemmas.Option.{get_or_from_slice_get}
-use Rattle.ygrammar.specs.declared.meaning.mistake.Mistake.{Mistake}
-use Rattle.ygrammar.specs.declared.meaning.mistake.Mistake.TheVariants as mistakes
-use Rattle.ygrammar.specs.declared.meaning.mistake.Refused.{Refused}
-use Rattle.ygrammar.specs.declared.meaning.mistake.Refused.TheVariants as refused
-use Rattle.ygrammar.specs.declared.precedence.Precedence.{Precedence}
+use Rattle.ygrammar.specs.declared.mistake.Mistake.{Mistake}
+use Rattle.ygrammar.specs.declared.mistake.Mistake.TheVariants as mistakes
+use Rattle.ygrammar.specs.declared.mistake.Refused.{Refused}
+use Rattle.ygrammar.specs.declared.mistake.Refused.TheVariants as refused
+use Rattle.ysymbols.specs.declared.precedence.Precedence.{Precedence}
 use Rattle.ygrammar.specs.Elaboration.{Listing, appearances, identifiers_of, uses, digits_number}
 use Rattle.ygrammar.specs.Elaboration.{first_or, gives_of, listings, option_list, own_number}
 use Rattle.ygrammar.specs.Elaboration.{own_numbers, token_precedence, said_of, token_names_of}
 use Rattle.ygrammar.specs.Elaboration.{tokens}
 use Rattle.ygrammar.specs.Elaboration.{usual_of}
 use Rattle.ygrammar.specs.Mistakes.{Holds}
-use Rattle.ygrammar.specs.Names.{Name, is_among, number_in, printed_name}
-use Rattle.ygrammar.specs.Grammar.{number_bound, greatest_number}
+use Rattle.ysymbols.specs.Names.{Name, is_among, number_in}
+use Rattle.ygrammar.specs.Printed.{printed_name}
+use Rattle.ysymbols.specs.Grammar.{number_bound, greatest_number}
 use Rattle.ygrammar.specs.Numbers.{Clashes, IsOwn}
 use Rattle.ygrammar.specs.Owned.{AllFit, AllSmall, IsFit, OwnSoFar, Precedes, TellsNumbers, keep}
 use Rattle.ygrammar.specs.Told.{IsTold, SaidTwice, IsTwicePrecedence, TellsPrecedences}
-use Rattle.ygrammar.specs.Tree.{Identifier, Tree}
-use Rattle.ygrammar.proofs.TellingSteps.{false_true}
-use Rattle.ygrammar.proofs.TokenSteps.{Distinct, among_number, by_numbers, distinct_all}
+use Rattle.ysyntax.specs.Tree.{Identifier, Tree}
+use Rattle.ysymbols.proofs.NameSteps.{false_true}
+use Rattle.ygrammar.proofs.TokenSteps.{Distinct, by_numbers, distinct_all}
+use Rattle.ysymbols.proofs.NameSteps.{among_number}
 use Rattle.ygrammar.proofs.TokenSteps.{distinct_none, listed_token, said_listed}
 
 pub distinct_tokens : (t : Tree) → Distinct (tokens t)

@@ -2,31 +2,31 @@
 use Rattle.std.proofs.Common.{ℕ, ◌≡◌, ◌<◌, ◌≤◌, ◌⊎◌, inl, inr, List, Result, Ok, Err, refl, sym, ap}
 use Rattle.std.proofs.Common.{subst, arith, true, false, length, ◌∙◌}
 use Rattle.std.specs.Result.{IsErrOf}
-use Rattle.ygrammar.specs.Answers.{Answers, views}
-use Rattle.ygrammar.specs.declared.fault.GrammarFault.{GrammarFault}
-use Rattle.ygrammar.specs.declared.fault.GrammarFault.TheVariants as faults
-use Rattle.ygrammar.specs.declared.meaning.mistake.Mistake.{Mistake}
-use Rattle.ygrammar.specs.declared.meaning.mistake.Mistake.TheVariants.{TokenLeft, Undefined}
-use Rattle.ygrammar.specs.declared.meaning.mistake.Mistake.TheVariants.{TwicePrecedence, BadNumber}
-use Rattle.ygrammar.specs.declared.meaning.mistake.Mistake.TheVariants.{BadStart, Unproductive}
-use Rattle.ygrammar.specs.declared.meaning.mistake.Mistake.TheVariants.{BadPrec}
-use Rattle.ygrammar.specs.declared.meaning.mistake.Mistake.TheVariants.{Limit}
-use Rattle.ygrammar.specs.declared.meaning.mistake.Refused.{Refused}
-use Rattle.ygrammar.specs.declared.meaning.mistake.Refused.TheVariants as refused
-use Rattle.ygrammar.specs.declared.lexer.Placed.{Placed}
-use Rattle.ygrammar.specs.Lexer.{Refusal, SpellsSyntax}
+use Rattle.ysyntax.specs.Answers.{Answers, views}
+use Rattle.ysyntax.specs.declared.fault.GrammarFault.{GrammarFault}
+use Rattle.ysyntax.specs.declared.fault.GrammarFault.TheVariants as faults
+use Rattle.ygrammar.specs.declared.mistake.Mistake.{Mistake}
+use Rattle.ygrammar.specs.declared.mistake.Mistake.TheVariants.{TokenLeft, Undefined}
+use Rattle.ygrammar.specs.declared.mistake.Mistake.TheVariants.{TwicePrecedence, BadNumber}
+use Rattle.ygrammar.specs.declared.mistake.Mistake.TheVariants.{BadStart, Unproductive}
+use Rattle.ygrammar.specs.declared.mistake.Mistake.TheVariants.{BadPrec}
+use Rattle.ygrammar.specs.declared.mistake.Mistake.TheVariants.{Limit}
+use Rattle.ygrammar.specs.declared.mistake.Refused.{Refused}
+use Rattle.ygrammar.specs.declared.mistake.Refused.TheVariants as refused
+use Rattle.ysyntax.specs.declared.lexer.Placed.{Placed}
+use Rattle.ysyntax.specs.Lexer.{Refusal, SpellsSyntax}
 use Rattle.ygrammar.specs.Elaborated.{IsFirstRefused}
 use Rattle.ygrammar.specs.Faults.{IsRefusal, line_of}
-use Rattle.ygrammar.specs.Grammar.{GrammarValue, longest_file}
+use Rattle.ysymbols.specs.Grammar.{GrammarValue, longest_file}
 use Rattle.ygrammar.specs.GrammarOf.{AnswersGrammar, AnswersMistake, AnswersRefusal, HasTree}
 use Rattle.ygrammar.specs.GrammarOf.{IsFaultOf, IsMistaken, mistake_at}
-use Rattle.ygrammar.specs.Lexemes.{Lexeme}
+use Rattle.ylexemes.specs.Lexemes.{Lexeme}
 use Rattle.ygrammar.specs.Meaning.{IsMeaning}
 use Rattle.ygrammar.specs.Mistakes.{IsFirst, order}
-use Rattle.ygrammar.specs.Tree.{IsTree, Tree, yield}
+use Rattle.ysyntax.specs.Tree.{IsTree, Tree, yield}
 use Rattle.ygrammar.proofs.OneMeaning.{none_first, one_first, one_meaning}
-use Rattle.ygrammar.proofs.OneTree.{one_tree}
-use Rattle.ygrammar.proofs.TellingSteps.{false_true}
+use Rattle.ysyntax.proofs.OneTree.{one_tree}
+use Rattle.ysymbols.proofs.NameSteps.{false_true}
 
 abbrev pub ok_of : {E T : Type 0} → T → Result T E
 ok_of x = Ok x

@@ -2,18 +2,19 @@
 use Rattle.std.proofs.Common.{ℕ, suc, ◌≡◌, List, [], ◌∷◌, ◌++◌, map, Option, Some, None, refl, sym}
 use Rattle.std.proofs.Common.{◌∙◌, ap, append_assoc, length}
 use Rattle.std.proofs.lemmas.List.{map-append}
-use Rattle.ygrammar.specs.declared.syntax.tree.BodyPart.{BodyPart as CodeBodyPart}
-use Rattle.ygrammar.specs.declared.syntax.tree.BracedText.{BracedText}
-use Rattle.ygrammar.specs.declared.syntax.tree.BodyPart.TheVariants as items
-use Rattle.ygrammar.specs.declared.syntax.tree.Occurrence.{Occurrence}
-use Rattle.ygrammar.specs.Tree.{BodyPart, symbol, action, Identifier, RuleText}
-use Rattle.ygrammar.specs.TreeViews.{braced_view, body_part_view, occurrence_view, option_view}
+use Rattle.ysyntax.specs.declared.tree.BodyPart.{BodyPart as CodeBodyPart}
+use Rattle.ysyntax.specs.declared.tree.BracedText.{BracedText}
+use Rattle.ysyntax.specs.declared.tree.BodyPart.TheVariants as items
+use Rattle.ysyntax.specs.declared.tree.Occurrence.{Occurrence}
+use Rattle.ysyntax.specs.Tree.{BodyPart, symbol, action, Identifier, RuleText}
+use Rattle.ysyntax.specs.TreeViews.{braced_view, body_part_view, occurrence_view}
+use Rattle.ysymbols.specs.Sources.{option_view}
 use Rattle.ygrammar.specs.Elaboration.{split_last, final_of, Body, Rule, body_from, inner_rule}
 use Rattle.ygrammar.specs.Elaboration.{or_else, precedence_at, rules_from}
-use Rattle.ygrammar.specs.declared.precedence.Precedence.{Precedence}
-use Rattle.ygrammar.specs.Names.{Name, number_in}
+use Rattle.ysymbols.specs.declared.precedence.Precedence.{Precedence}
+use Rattle.ysymbols.specs.Names.{Name, number_in}
 use Rattle.ygrammar.specs.Numbered.{chosen_token, inner_numbers, rule_numbers, rule_precedence}
-use Rattle.ygrammar.specs.Grammar.{RuleValue}
+use Rattle.ysymbols.specs.Grammar.{RuleValue}
 
 last_action : (xs : List BodyPart) (t : List ℕ) → split_last (xs ++ action t ∷ []) ≡ (xs, Some t)
 last_action [] t = refl

@@ -4,21 +4,23 @@ use Rattle.std.proofs.Common.{◌++◌, map, Option, Some, None, refl, sym, ◌�
 use Rattle.std.proofs.Common.{codes, get_or}
 use Rattle.std.specs.List.{flat_map, AllByRecursion}
 use Rattle.std.proofs.lemmas.Bool.Decides.{nat_tests}
-use Rattle.ygrammar.specs.declared.precedence.Precedence.{Precedence}
-use Rattle.ygrammar.specs.declared.syntax.kind.Sign.TheVariants as sign
-use Rattle.ygrammar.specs.Bytes.{begins, is_name_start}
-use Rattle.ygrammar.specs.Lexemes.{Lexeme, name, c_identifier, literal, number, braced, code, fixed}
-use Rattle.ygrammar.specs.Lexemes.{IsName}
-use Rattle.ygrammar.specs.Lexemes.{Spells}
-use Rattle.ygrammar.specs.Lexer.{Part, blank, comment, lexeme, Cuts, ComesTo, IsCut, at_end}
-use Rattle.ygrammar.specs.Lexer.{at_mark, SpellsSyntax, lexemes}
-use Rattle.ygrammar.specs.Tree.{Identifier, named, quoted, Entry, Definition, start, union, block}
-use Rattle.ygrammar.specs.Tree.{listing, types, BodyPart, symbol, action, RuleText, Tree}
-use Rattle.ygrammar.specs.Tree.{identifier_yield, option_yield, entry_yield, tag_yield}
-use Rattle.ygrammar.specs.Tree.{definition_yield, body_part_yield, left_yield, end_yield}
-use Rattle.ygrammar.specs.Tree.{rule_text_yield}
-use Rattle.ygrammar.specs.Tree.{mark_yield, yield}
-use Rattle.ygrammar.specs.Names.{Name, is_among, printed_name, printed_literal}
+use Rattle.ysymbols.specs.declared.precedence.Precedence.{Precedence}
+use Rattle.ylexemes.specs.declared.kind.Sign.TheVariants as sign
+use Rattle.ylexemes.specs.Bytes.{begins, is_name_start}
+use Rattle.ylexemes.specs.Lexemes.{Lexeme, name, c_identifier, literal, number, braced, code, fixed}
+use Rattle.ylexemes.specs.Lexemes.{IsName}
+use Rattle.ylexemes.specs.Lexemes.{Spells}
+use Rattle.ysyntax.specs.Lexer.{Cuts, ComesTo, IsCut, at_end}
+use Rattle.ylexemes.specs.Front.{Part, blank, comment, lexeme}
+use Rattle.ysyntax.specs.Lexer.{at_mark, SpellsSyntax, lexemes}
+use Rattle.ysyntax.specs.Tree.{Identifier, named, quoted, Entry, Definition, start, union, block}
+use Rattle.ysyntax.specs.Tree.{listing, types, BodyPart, symbol, action, RuleText, Tree}
+use Rattle.ysyntax.specs.Tree.{identifier_yield, option_yield, entry_yield, tag_yield}
+use Rattle.ysyntax.specs.Tree.{definition_yield, body_part_yield, left_yield, end_yield}
+use Rattle.ysyntax.specs.Tree.{rule_text_yield}
+use Rattle.ysyntax.specs.Tree.{mark_yield, yield}
+use Rattle.ysymbols.specs.Names.{Name, is_among, printed_literal}
+use Rattle.ygrammar.specs.Printed.{printed_name}
 use Rattle.ygrammar.specs.Elaboration.{appearances, identifiers_of, inner_name, is_literal}
 use Rattle.ygrammar.specs.Elaboration.{is_token}
 use Rattle.ygrammar.specs.Elaboration.{body_part_identifier, lefts, level_at, given_by}
@@ -26,7 +28,8 @@ use Rattle.ygrammar.specs.Elaboration.{left_of_rule}
 use Rattle.ygrammar.specs.Elaboration.{listed_name, listing_of, listings, listings_from}
 use Rattle.ygrammar.specs.Elaboration.{option_list, prec_of, type_names, types_of, uses_of, uses}
 use Rattle.ygrammar.specs.Elaboration.{who_of}
-use Rattle.ygrammar.proofs.TellingSteps.{false_true, other_name}
+use Rattle.ygrammar.proofs.TellingSteps.{other_name}
+use Rattle.ysymbols.proofs.NameSteps.{false_true}
 
 -- ---- what holds of each element
 

@@ -4,15 +4,16 @@ use Rattle.std.proofs.Common.{◌++◌, length, Option, Some, None, refl, sym, �
 use Rattle.std.proofs.Common.{get_or, get_or-set_other, get_or-set_same, length-set, replicate}
 use Rattle.std.proofs.Common.{is_some, map, drop, ◌+◌}
 use Rattle.std.proofs.lemmas.List.{drop_more, get_or_read}
-use Rattle.ygrammar.specs.declared.meaning.outline.Listed.{Listed}
+use Rattle.ygrammar.specs.declared.outline.Listed.{Listed}
 use Rattle.ygrammar.specs.Outline.{listed_view}
 use Rattle.std.proofs.Math.ListN.{set}
 use Rattle.std.specs.Str.{bytes_eq}
 use Rattle.std.specs.Cmp.Lexicographic.{same_text, other_text}
 use Rattle.ygrammar.specs.Elaboration.{Listing, listed_name, option_list, said_of}
-use Rattle.ygrammar.specs.Names.{Name, number_in, printed_name}
+use Rattle.ysymbols.specs.Names.{Name, number_in}
+use Rattle.ygrammar.specs.Printed.{printed_name}
 use Rattle.ygrammar.specs.Told.{SoFar, SaidTwice}
-use Rattle.ygrammar.proofs.NameSteps.{eq_self}
+use Rattle.ysymbols.proofs.NameSteps.{eq_self, false_true}
 
 -- a name stands at its number
 pub number_at : (ns : List Name) (n d : Name) → number_in ns n < length ns →
@@ -38,9 +39,6 @@ other_name n m h = go (bytes_eq n m) refl
     go : (b : Bool) → bytes_eq n m ≡ b → bytes_eq n m ≡ false
     go true e = absurd (h (same_text n m (sym e)))
     go false e = e
-
-pub false_true : false ≡ true → ⊥
-false_true h = grind (arith)
 
 module _ {A : Type 0} (f : Listing → Option A) where
   -- nothing more is said

@@ -3,13 +3,15 @@ use Rattle.std.proofs.Common.{ℕ, suc, ◌≡◌, List, [], ◌∷◌, ◌++◌
 use Rattle.std.proofs.Common.{sym, ◌∙◌, ap, append_assoc, subst}
 use Rattle.std.specs.List.{flat_map, AllByRecursion}
 use Rattle.std.proofs.lemmas.List.{map-append}
-use Rattle.ygrammar.specs.declared.syntax.tree.BodyPart.{BodyPart as CodeBodyPart}
+use Rattle.ysyntax.specs.declared.tree.BodyPart.{BodyPart as CodeBodyPart}
 use Rattle.ygrammar.specs.Elaboration.{Rule, body_from, final_of, or_else, rules_from}
-use Rattle.ygrammar.specs.Names.{Name}
-use Rattle.ygrammar.specs.Texts.{BodyPartStands, TextsValue, texts_of_rule, body_part_texts}
+use Rattle.ysymbols.specs.Names.{Name}
+use Rattle.ygrammar.specs.Texts.{texts_of_rule, body_part_texts}
+use Rattle.ysyntax.specs.TreeTexts.{BodyPartStands}
+use Rattle.ysymbols.specs.Sources.{TextsValue}
 use Rattle.ygrammar.specs.Texts.{kept_text}
-use Rattle.ygrammar.specs.Tree.{RuleText, BodyPart, symbol, action}
-use Rattle.ygrammar.specs.TreeViews.{body_part_view}
+use Rattle.ysyntax.specs.Tree.{RuleText, BodyPart, symbol, action}
+use Rattle.ysyntax.specs.TreeViews.{body_part_view}
 
 inner_texts : (k : ℕ) (is : List BodyPart) → flat_map body_part_texts is ≡ map kept_text
     (body_from k is).inner

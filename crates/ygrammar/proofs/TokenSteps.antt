@@ -11,22 +11,14 @@ use Rattle.ygrammar.specs.Elaboration.{Listing, appearances, identifiers_of, is_
 use Rattle.ygrammar.specs.Elaboration.{level_at, given_by, listed_name, listing_of, listings}
 use Rattle.ygrammar.specs.Elaboration.{listings_from, option_list, said_of, token_names_of, tokens}
 use Rattle.ygrammar.specs.Elaboration.{uses, who_of}
-use Rattle.ygrammar.specs.Names.{Name, find_in, is_among, with_name, with_names, number_in}
-use Rattle.ygrammar.specs.Names.{printed_name}
-use Rattle.ygrammar.specs.Tree.{Definition, Entry, Identifier, Tree, start, union, block, listing}
-use Rattle.ygrammar.specs.Tree.{types}
-use Rattle.ygrammar.proofs.NameSteps.{among_all, eq_self}
-use Rattle.ygrammar.proofs.TellingSteps.{false_true}
+use Rattle.ysymbols.specs.Names.{Name, find_in, is_among, with_name, with_names, number_in}
+use Rattle.ygrammar.specs.Printed.{printed_name}
+use Rattle.ysyntax.specs.Tree.{Definition, Entry, Identifier, Tree, start, union, block, listing}
+use Rattle.ysyntax.specs.Tree.{types}
+use Rattle.ysymbols.proofs.NameSteps.{among_all, eq_self}
+use Rattle.ysymbols.proofs.NameSteps.{among_number, false_true, number_among, or_left, or_right}
 
 -- ---- names among names
-
-pub or_left : (a b : Bool) → a ≡ true → (a || b) ≡ true
-or_left true b h = refl
-or_left false b h = absurd (false_true h)
-
-pub or_right : (a b : Bool) → b ≡ true → (a || b) ≡ true
-or_right true b h = refl
-or_right false b h = h
 
 or_cases : (a b : Bool) → (a || b) ≡ true → (a ≡ true) ⊎ (b ≡ true)
 or_cases true b h = inl refl
@@ -233,30 +225,6 @@ said_listed f (l ∷ ls) n h = go (bytes_eq n (printed_name l.who)) refl h (said
 
 -- ---- numbers of names
 
-pub among_number : (ns : List Name) (n : Name) → is_among ns n ≡ true → number_in ns n < length ns
-among_number [] n h = absurd (false_true h)
-among_number (m ∷ ns) n h = go (bytes_eq n m) refl (among_number ns n) h
-  where
-    go : (b : Bool) → bytes_eq n m ≡ b → (is_among ns n ≡ true → number_in ns n < length ns) →
-        (bytes_eq n m || is_among ns n) ≡ true → cond (bytes_eq n m) 0 (suc (number_in ns n)) < suc
-        (length ns)
-    go true q again k = rw q (omega arith)
-    go false q again k =
-        let r : number_in ns n < length ns = again (subst (λ c. (c || is_among ns n) ≡ true) q k) in
-        rw q (omega arith)
-
-pub number_among : (ns : List Name) (n : Name) → number_in ns n < length ns → is_among ns n ≡ true
-number_among [] n h = absurd (omega arith)
-number_among (m ∷ ns) n h = go (bytes_eq n m) refl (number_among ns n) h
-  where
-    go : (b : Bool) → bytes_eq n m ≡ b → (number_in ns n < length ns → is_among ns n ≡ true) →
-        cond (bytes_eq n m) 0 (suc (number_in ns n)) < suc (length ns) →
-        (bytes_eq n m || is_among ns n) ≡ true
-    go true q again k = or_left (bytes_eq n m) (is_among ns n) q
-    go false q again k = or_right (bytes_eq n m) (is_among ns n)
-        (again (let r : suc (number_in ns n) < suc (length ns) =
-        subst (λ c. cond c 0 (suc (number_in ns n)) < suc (length ns)) q k in omega arith))
-
 -- the number stays when names are put behind
 pub number_stays : (ns more : List Name) (n : Name) → is_among ns n ≡ true →
     number_in (ns ++ more) n ≡ number_in ns n
@@ -387,24 +355,3 @@ by_numbers f ns table d u e h = same_lists table (map f ns) d (e ∙ sym (length
         let k : number_in ns n ≡ i = u i l in
         ap (λ j. get_or table j d) (sym k) ∙ h n (subst (λ j. j < length ns) (sym k) l) ∙ sym
         (get_map ns i l)
-
-abbrev pub some_number : ℕ → Option ℕ
-some_number n = Some n
-
--- a name is found by its number
-pub found_number : (ns : List Name) (n : Name) (r k : ℕ) → r ≡ number_in ns n → k ≡ length ns →
-    r < k → some_number r ≡ find_in ns n
-found_number ns n r k e f h = ap some_number e ∙ sym
-    (ap (λ b. cond b (some_number (number_in ns n)) None)
-    (number_among ns n (subst (λ a. a < length ns) e (subst (λ a. r < a) f h))))
-
-pub missed_number : (ns : List Name) (n : Name) (r k : ℕ) → r ≡ number_in ns n → k ≡ length ns →
-    k ≤ r → None ≡ find_in ns n
-missed_number ns n r k e f h = sym (ap (λ b. cond b (some_number (number_in ns n)) None)
-    (absent (is_among ns n) refl))
-  where
-    absent : (b : Bool) → is_among ns n ≡ b → is_among ns n ≡ false
-    absent true q = let l : number_in ns n < length ns = among_number ns n q in
-        let m : length ns ≤ number_in ns n = subst (λ a. length ns ≤ a) e
-        (subst (λ a. a ≤ r) f h) in absurd (omega arith)
-    absent false q = q

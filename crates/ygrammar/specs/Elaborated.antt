@@ -1,23 +1,23 @@
 -- What elaboration gives: the grammar that a tree means, or its first mistake.
 use Rattle.std.specs.Prelude.{ℕ, ◌≡◌, ◌<◌, ◌≤◌, List, length, map, Option, Result, Ok, Err}
-use Rattle.ygrammar.specs.declared.meaning.elaboration.Named.{Named}
-use Rattle.ygrammar.specs.declared.meaning.mistake.Mistake.TheVariants.{TokenLeft, Undefined}
-use Rattle.ygrammar.specs.declared.meaning.mistake.Mistake.TheVariants.{TwicePrecedence}
-use Rattle.ygrammar.specs.declared.meaning.mistake.Mistake.TheVariants.{Unproductive}
-use Rattle.ygrammar.specs.declared.meaning.mistake.Refused.{Refused}
-use Rattle.ygrammar.specs.declared.meaning.mistake.Refused.TheVariants as refused
+use Rattle.ygrammar.specs.declared.elaboration.Named.{Named}
+use Rattle.ygrammar.specs.declared.mistake.Mistake.TheVariants.{TokenLeft, Undefined}
+use Rattle.ygrammar.specs.declared.mistake.Mistake.TheVariants.{TwicePrecedence}
+use Rattle.ygrammar.specs.declared.mistake.Mistake.TheVariants.{Unproductive}
+use Rattle.ygrammar.specs.declared.mistake.Refused.{Refused}
+use Rattle.ygrammar.specs.declared.mistake.Refused.TheVariants as refused
 use Rattle.ygrammar.specs.Elaboration.{bare_of, rules, symbols, token_precedences, tokens}
-use Rattle.ygrammar.specs.Forms.{Productive}
-use Rattle.ygrammar.specs.Grammar.{ContextFree, GrammarValue, RuleValue}
-use Rattle.ygrammar.specs.Marking.{AreIn}
+use Rattle.ysymbols.specs.Forms.{Productive}
+use Rattle.ysymbols.specs.Grammar.{ContextFree, GrammarValue, RuleValue}
+use Rattle.ysymbols.specs.Marking.{AreIn}
 use Rattle.ygrammar.specs.Meaning.{IsMeaning}
 use Rattle.ygrammar.specs.Mistakes.{HasNone, Holds, IsFirst, order}
-use Rattle.ygrammar.specs.NameTexts.{texts}
+use Rattle.ysymbols.specs.NameTexts.{texts}
 use Rattle.ygrammar.specs.Numbered.{rule_numbers}
 use Rattle.ygrammar.specs.Owned.{IsOwnTable}
 use Rattle.ygrammar.specs.Texts.{kept_text}
-use Rattle.ygrammar.specs.Tree.{Tree}
-use Rattle.ygrammar.specs.WellFormed.{WellFormed}
+use Rattle.ysyntax.specs.Tree.{Tree}
+use Rattle.ysymbols.specs.WellFormed.{WellFormed}
 
 -- the first mistake of the tree, or want of memory
 abbrev pub IsFirstRefused : Tree → Refused → Type 0

@@ -7,14 +7,15 @@ use Rattle.std.specs.List.{All, flat_map}
 use Rattle.std.specs.Str.{bytes_eq}
 use Rattle.std.specs.Str.Parse.{digits_value}
 use Rattle.std.specs.Fmt.{decimal}
-use Rattle.ygrammar.specs.declared.precedence.Associativity.TheVariants as associativity
-use Rattle.ygrammar.specs.declared.precedence.Precedence.{Precedence}
-use Rattle.ygrammar.specs.Tree.{Identifier, named, quoted, Word, token, left, right, nonassoc}
-use Rattle.ygrammar.specs.Tree.{Entry, Definition, start, union, block, listing, types, BodyPart}
-use Rattle.ygrammar.specs.Tree.{symbol, action, RuleText, Tree}
-use Rattle.ygrammar.specs.Names.{Name, printed_name, printed_literal, is_among, with_names}
-use Rattle.ygrammar.specs.Names.{number_in}
-use Rattle.ygrammar.specs.Grammar.{ContextFree, Production}
+use Rattle.ysymbols.specs.declared.precedence.Associativity.TheVariants as associativity
+use Rattle.ysymbols.specs.declared.precedence.Precedence.{Precedence}
+use Rattle.ysyntax.specs.Tree.{Identifier, named, quoted, Word, token, left, right, nonassoc}
+use Rattle.ysyntax.specs.Tree.{Entry, Definition, start, union, block, listing, types, BodyPart}
+use Rattle.ysyntax.specs.Tree.{symbol, action, RuleText, Tree}
+use Rattle.ysymbols.specs.Names.{Name, printed_literal, is_among, with_names}
+use Rattle.ygrammar.specs.Printed.{printed_name}
+use Rattle.ysymbols.specs.Names.{number_in}
+use Rattle.ysymbols.specs.Grammar.{ContextFree, Production}
 
 abbrev pub option_list : {A : Type 0} → Option A → List A
 option_list None = []

@@ -1,10 +1,10 @@
 -- The faults of a grammar file that has a syntax.
 use Rattle.std.specs.Prelude.{ℕ, ◌≡◌, ◌+◌, List, take}
-use Rattle.ygrammar.specs.declared.fault.GrammarFault.{GrammarFault}
-use Rattle.ygrammar.specs.declared.fault.GrammarFault.TheVariants as faults
-use Rattle.ygrammar.specs.declared.meaning.mistake.Refused.{Refused}
-use Rattle.ygrammar.specs.declared.meaning.mistake.Refused.TheVariants as refused
-use Rattle.ygrammar.specs.Lexer.{newlines}
+use Rattle.ysyntax.specs.declared.fault.GrammarFault.{GrammarFault}
+use Rattle.ysyntax.specs.declared.fault.GrammarFault.TheVariants as faults
+use Rattle.ygrammar.specs.declared.mistake.Refused.{Refused}
+use Rattle.ygrammar.specs.declared.mistake.Refused.TheVariants as refused
+use Rattle.ysyntax.specs.Lexer.{newlines}
 use Rattle.ygrammar.specs.GrammarOf.{mistake_at}
 
 -- the line of the place with so many bytes before it

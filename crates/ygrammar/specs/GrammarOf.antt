@@ -1,19 +1,20 @@
 -- The grammar of a file, or its fault (POSIX yacc, "Input Files" and "Extended Description").
 use Rattle.std.specs.Prelude.{ℕ, ◌≡◌, ◌<◌, ◌≤◌, List, length, Result, Ok, Err}
-use Rattle.ygrammar.specs.declared.fault.GrammarFault.{GrammarFault}
-use Rattle.ygrammar.specs.declared.fault.GrammarFault.TheVariants as faults
-use Rattle.ygrammar.specs.declared.meaning.mistake.Mistake.{Mistake}
-use Rattle.ygrammar.specs.declared.meaning.mistake.Mistake.TheVariants.{TokenLeft, Undefined}
-use Rattle.ygrammar.specs.declared.meaning.mistake.Mistake.TheVariants.{TwicePrecedence, BadNumber}
-use Rattle.ygrammar.specs.declared.meaning.mistake.Mistake.TheVariants.{BadStart, Unproductive}
-use Rattle.ygrammar.specs.declared.meaning.mistake.Mistake.TheVariants.{BadPrec}
-use Rattle.ygrammar.specs.declared.meaning.mistake.Mistake.TheVariants.{Limit}
-use Rattle.ygrammar.specs.Lexer.{Fault, Refusal, Outcome, SpellsSyntax, refusal, unfinished}
-use Rattle.ygrammar.specs.Lexer.{bad_literal, foreign, syntax}
-use Rattle.ygrammar.specs.Grammar.{GrammarValue, longest_file}
+use Rattle.ysyntax.specs.declared.fault.GrammarFault.{GrammarFault}
+use Rattle.ysyntax.specs.declared.fault.GrammarFault.TheVariants as faults
+use Rattle.ygrammar.specs.declared.mistake.Mistake.{Mistake}
+use Rattle.ygrammar.specs.declared.mistake.Mistake.TheVariants.{TokenLeft, Undefined}
+use Rattle.ygrammar.specs.declared.mistake.Mistake.TheVariants.{TwicePrecedence, BadNumber}
+use Rattle.ygrammar.specs.declared.mistake.Mistake.TheVariants.{BadStart, Unproductive}
+use Rattle.ygrammar.specs.declared.mistake.Mistake.TheVariants.{BadPrec}
+use Rattle.ygrammar.specs.declared.mistake.Mistake.TheVariants.{Limit}
+use Rattle.ysyntax.specs.Lexer.{Refusal, Outcome, SpellsSyntax, refusal}
+use Rattle.ylexemes.specs.Front.{Fault, unfinished}
+use Rattle.ylexemes.specs.Front.{bad_literal, foreign, syntax}
+use Rattle.ysymbols.specs.Grammar.{GrammarValue, longest_file}
 use Rattle.ygrammar.specs.Meaning.{IsMeaning}
 use Rattle.ygrammar.specs.Mistakes.{IsFirst, order}
-use Rattle.ygrammar.specs.Tree.{IsTree, Tree, yield}
+use Rattle.ysyntax.specs.Tree.{IsTree, Tree, yield}
 
 -- the file is not too long, and spells the syntax of this tree
 pub record HasTree (source : List ℕ) (t : Tree) : Type 0 where

@@ -3,11 +3,11 @@ use Rattle.std.specs.Prelude.{ℕ, ◌≡◌, ◌<◌, ◌↔◌, Bool, true, fa
 use Rattle.std.specs.Prelude.{slice_index_or}
 use Rattle.ygrammar.specs.Elaboration.{HavePrecedences, bare_of, own_numbers, rules, symbols}
 use Rattle.ygrammar.specs.Elaboration.{token_precedences}
-use Rattle.ygrammar.specs.Forms.{IsReachable}
-use Rattle.ygrammar.specs.Grammar.{GrammarValue}
+use Rattle.ysymbols.specs.Forms.{IsReachable}
+use Rattle.ysymbols.specs.Grammar.{GrammarValue}
 use Rattle.ygrammar.specs.Mistakes.{HasNone, order}
 use Rattle.ygrammar.specs.Numbers.{AreNumbers}
-use Rattle.ygrammar.specs.Tree.{Tree}
+use Rattle.ysyntax.specs.Tree.{Tree}
 
 -- which symbols are marked as those that can be reached
 pub record MarksReachable (t : Tree) (marks : List Bool) : Type 0 where

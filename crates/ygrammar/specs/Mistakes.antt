@@ -1,20 +1,21 @@
 -- What is wrong with a file whose syntax is right, and which mistake is answered.
 use Rattle.std.specs.Prelude.{ℕ, ◌≡◌, ◌≢◌, ◌<◌, ◌≤◌, ◌⊎◌, true, false, List, [], ◌∷◌, length, map}
 use Rattle.std.specs.Prelude.{Contains}
-use Rattle.ygrammar.specs.declared.meaning.mistake.Mistake.{Mistake}
-use Rattle.ygrammar.specs.declared.meaning.mistake.Mistake.TheVariants.{TokenLeft, Undefined}
-use Rattle.ygrammar.specs.declared.meaning.mistake.Mistake.TheVariants.{TwicePrecedence, BadNumber}
-use Rattle.ygrammar.specs.declared.meaning.mistake.Mistake.TheVariants.{BadStart, Unproductive}
-use Rattle.ygrammar.specs.declared.meaning.mistake.Mistake.TheVariants.{BadPrec}
-use Rattle.ygrammar.specs.declared.meaning.mistake.Mistake.TheVariants.{Limit}
+use Rattle.ygrammar.specs.declared.mistake.Mistake.{Mistake}
+use Rattle.ygrammar.specs.declared.mistake.Mistake.TheVariants.{TokenLeft, Undefined}
+use Rattle.ygrammar.specs.declared.mistake.Mistake.TheVariants.{TwicePrecedence, BadNumber}
+use Rattle.ygrammar.specs.declared.mistake.Mistake.TheVariants.{BadStart, Unproductive}
+use Rattle.ygrammar.specs.declared.mistake.Mistake.TheVariants.{BadPrec}
+use Rattle.ygrammar.specs.declared.mistake.Mistake.TheVariants.{Limit}
 use Rattle.ygrammar.specs.Elaboration.{Rule, bare_of, is_nonterminal, is_token, lefts}
 use Rattle.ygrammar.specs.Elaboration.{numbers_given, own_numbers, precedences_given, precs, rules}
 use Rattle.ygrammar.specs.Elaboration.{starts, symbols, tokens, types_of, uses}
-use Rattle.ygrammar.specs.Forms.{Productive}
-use Rattle.ygrammar.specs.Grammar.{greatest_number, longest_body, most_rules, most_symbols}
-use Rattle.ygrammar.specs.Names.{Name, is_among, printed_name}
+use Rattle.ysymbols.specs.Forms.{Productive}
+use Rattle.ysymbols.specs.Grammar.{greatest_number, longest_body, most_rules, most_symbols}
+use Rattle.ysymbols.specs.Names.{Name, is_among}
+use Rattle.ygrammar.specs.Printed.{printed_name}
 use Rattle.ygrammar.specs.Numbers.{Clashes}
-use Rattle.ygrammar.specs.Tree.{Identifier, Tree}
+use Rattle.ysyntax.specs.Tree.{Identifier, Tree}
 
 abbrev pub Holds : Tree → Mistake → Type 0
 -- a token is a left side, or is named by `%type`

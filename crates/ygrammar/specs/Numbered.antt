@@ -1,11 +1,12 @@
 -- Rules by number.
 use Rattle.std.specs.Prelude.{ℕ, ◌&&◌, nat_le, nat_lt, fold, Bool, List, [], ◌∷◌, length, map}
 use Rattle.std.specs.Prelude.{Option, Some, None, if◌then◌else◌}
-use Rattle.ygrammar.specs.declared.precedence.Precedence.{Precedence}
+use Rattle.ysymbols.specs.declared.precedence.Precedence.{Precedence}
 use Rattle.ygrammar.specs.Elaboration.{Rule, body_from, final_of, numbered_rule, precedence_at}
-use Rattle.ygrammar.specs.Grammar.{RuleValue, longest_body}
-use Rattle.ygrammar.specs.Names.{Name, number_in, printed_name}
-use Rattle.ygrammar.specs.Tree.{RuleText, Identifier}
+use Rattle.ysymbols.specs.Grammar.{RuleValue, longest_body}
+use Rattle.ysymbols.specs.Names.{Name, number_in}
+use Rattle.ygrammar.specs.Printed.{printed_name}
+use Rattle.ysyntax.specs.Tree.{RuleText, Identifier}
 
 -- the next number of an inner action behind rules of the file, from k on
 abbrev pub inner_after : ℕ → List RuleText → ℕ

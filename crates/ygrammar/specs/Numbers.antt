@@ -1,8 +1,8 @@
 -- Numbers for those tokens that have none of their own: in order, the least unused from 257 on.
 use Rattle.std.specs.Prelude.{ℕ, ◌≡◌, ◌≢◌, ◌<◌, ◌≤◌, ◌⊎◌, Bool, true, false, List, length, Option}
 use Rattle.std.specs.Prelude.{Some, None, slice_get, slice_index_or, if◌then◌else◌, ◌==◌}
-use Rattle.ygrammar.specs.declared.meaning.holders.Holders.{Holders}
-use Rattle.ygrammar.specs.declared.meaning.holders.Holders.TheVariants.{Nobody, One, Several}
+use Rattle.ygrammar.specs.declared.holders.Holders.{Holders}
+use Rattle.ygrammar.specs.declared.holders.Holders.TheVariants.{Nobody, One, Several}
 
 -- a number that some token has by itself
 abbrev pub IsOwn : List (Option ℕ) → ℕ → Type 0

@@ -1,11 +1,12 @@
 -- What stands in a file, list by list, as the code keeps it.
 use Rattle.std.specs.Prelude.{◌≡◌, map}
 use Rattle.std.specs.List.{flat_map}
-use Rattle.ygrammar.specs.declared.meaning.outline.Listed.{Listed}
-use Rattle.ygrammar.specs.declared.meaning.outline.Started.{Started}
-use Rattle.ygrammar.specs.declared.meaning.outline.Outline.{Outline}
-use Rattle.ygrammar.specs.Tree.{Identifier, Tree}
-use Rattle.ygrammar.specs.TreeViews.{digits_view, occurrence_view, name_view, option_view}
+use Rattle.ygrammar.specs.declared.outline.Listed.{Listed}
+use Rattle.ygrammar.specs.declared.outline.Started.{Started}
+use Rattle.ygrammar.specs.declared.outline.Outline.{Outline}
+use Rattle.ysyntax.specs.Tree.{Identifier, Tree}
+use Rattle.ysyntax.specs.TreeViews.{digits_view, occurrence_view, name_view}
+use Rattle.ysymbols.specs.Sources.{option_view}
 use Rattle.ygrammar.specs.Elaboration.{Listing, identifiers_of, lefts, listings, precs, starts}
 use Rattle.ygrammar.specs.Elaboration.{types_of}
 use Rattle.ygrammar.specs.Elaboration.{uses}

@@ -3,19 +3,19 @@ use Rattle.std.specs.Prelude.{ℕ, ◌≡◌, ◌<◌, ◌≤◌, ◌⊎◌, ◌
 use Rattle.std.specs.Prelude.{length, Contains, Option, Some, None, Result, Ok, Err}
 use Rattle.std.specs.Prelude.{slice_index_or, slice_set}
 use Rattle.std.specs.Global.{Vec}
-use Rattle.ygrammar.specs.declared.meaning.mistake.Mistake.{Mistake}
-use Rattle.ygrammar.specs.declared.meaning.mistake.Mistake.TheVariants as mistakes
-use Rattle.ygrammar.specs.declared.meaning.mistake.Refused.{Refused}
-use Rattle.ygrammar.specs.declared.meaning.mistake.Refused.TheVariants as refused
-use Rattle.ygrammar.specs.declared.meaning.holders.OwnTable.{OwnTable}
-use Rattle.ygrammar.specs.declared.precedence.Precedence.{Precedence}
+use Rattle.ygrammar.specs.declared.mistake.Mistake.{Mistake}
+use Rattle.ygrammar.specs.declared.mistake.Mistake.TheVariants as mistakes
+use Rattle.ygrammar.specs.declared.mistake.Refused.{Refused}
+use Rattle.ygrammar.specs.declared.mistake.Refused.TheVariants as refused
+use Rattle.ygrammar.specs.declared.holders.OwnTable.{OwnTable}
+use Rattle.ysymbols.specs.declared.precedence.Precedence.{Precedence}
 use Rattle.ygrammar.specs.Elaboration.{Listing, said_of, digits_number, own_numbers}
 use Rattle.ygrammar.specs.Elaboration.{token_precedences}
 use Rattle.ygrammar.specs.Mistakes.{Holds}
 use Rattle.ygrammar.specs.Numbers.{AreHolders}
-use Rattle.ygrammar.specs.Tree.{Tree}
-use Rattle.ygrammar.specs.Grammar.{greatest_number, number_bound}
-use Rattle.ygrammar.specs.Names.{Name, number_in}
+use Rattle.ysyntax.specs.Tree.{Tree}
+use Rattle.ysymbols.specs.Grammar.{greatest_number, number_bound}
+use Rattle.ysymbols.specs.Names.{Name, number_in}
 use Rattle.ygrammar.specs.Told.{SaidTwice, SoFar}
 
 -- numbers that may be given

@@ -1,19 +1,22 @@
-//! The reader of grammar files: bytes to lexemes, lexemes to a tree, the tree to a grammar; and
-//! grammars as the layers above see them.
+//! The reader of grammar files: bytes to the grammar that they mean, or the first fault. The value of
+//! a grammar is that of `ysymbols`, handed on.
 #![tactic(auto)]
 
-mod fault;
-mod grammar;
-mod lexer;
-mod limits;
-mod meaning;
-mod precedence;
+mod checks;
+mod elaboration;
+mod given;
+mod holders;
+mod identifiers;
+mod lines;
+mod mistake;
+mod numbers;
+mod outline;
 mod reader;
-mod syntax;
+mod refusals;
+mod rules;
+mod tokens;
 
-pub use fault::GrammarFault;
-pub use grammar::{Grammar, Rule, Sym};
-pub use lexer::literal::literal_at;
-pub use limits::LONGEST_FILE;
-pub use precedence::{Associativity, Precedence};
 pub use reader::read_grammar;
+pub use ysymbols::limits::LONGEST_FILE;
+pub use ysymbols::{Associativity, Grammar, Precedence, Rule, Sym};
+pub use ysyntax::fault::GrammarFault;

@@ -1,18 +1,18 @@
 //! The reader of grammar files.
 
 ghost use Rattle.std.specs.Prelude.{◌<◌, ◌↔◌, IfErr, IfOk, IsErrOf, length};
-ghost use Rattle.ygrammar.specs.Grammar.{GrammarValue, longest_file};
-ghost use Rattle.ygrammar.specs.Lexer.{Refusal};
+ghost use Rattle.ysymbols.specs.Grammar.{GrammarValue, longest_file};
+ghost use Rattle.ysyntax.specs.Lexer.{Refusal};
 ghost use Rattle.ygrammar.specs.GrammarOf.{AnswersGrammar, AnswersMistake, AnswersRefusal};
 ghost use Rattle.ygrammar.specs.GrammarOf.{GivesGrammar, IsFaultOf, IsGrammarOf, IsMistaken};
 ghost use Rattle.ygrammar.specs.GrammarOf.{IsRefused};
-ghost use Rattle.ygrammar.specs.declared.meaning.mistake.Mistake.{Mistake};
+ghost use Rattle.ygrammar.specs.declared.mistake.Mistake.{Mistake};
 
-use crate::fault::GrammarFault;
-use crate::grammar::Grammar;
-use crate::lexer::read_syntax;
-use crate::meaning::elaboration::elaborate;
-use crate::syntax::tree_builder::build_tree;
+use ysyntax::fault::GrammarFault;
+use ysymbols::Grammar;
+use ysyntax::lexer::read_syntax;
+use crate::elaboration::elaborate;
+use ysyntax::tree_builder::build_tree;
 use std::alloc::Global;
 
 /// The grammar of a grammar file, or the file's first fault (POSIX yacc, "Input Files" and

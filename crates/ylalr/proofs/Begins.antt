@@ -1,10 +1,10 @@
 -- The first tokens of a form, by recursion on the form: the other reading of `First`.
 use Rattle.std.proofs.Common.{ℕ, ◌≡◌, ◌<◌, List, [], ◌∷◌, ◌++◌, length, inl, inr, ◌⊎◌}
-use Rattle.ygrammar.specs.Derivation.{Replaces, Derives, done, step}
-use Rattle.ygrammar.specs.Grammar.{ContextFree, left_of, body_of, IsToken}
-use Rattle.ygrammar.specs.Forms.{IsRule, First}
+use Rattle.ysymbols.specs.Derivation.{Replaces, Derives, done, step}
+use Rattle.ysymbols.specs.Grammar.{ContextFree, left_of, body_of, IsToken}
+use Rattle.ysymbols.specs.Forms.{IsRule, First}
 use Rattle.ylalr.proofs.Vanish.{Vanishes, none, more, vanishes_append, nullable_from_vanishes}
-use Rattle.ygrammar.proofs.Derivations.{trans, replaced, beside, rule_is}
+use Rattle.ysymbols.proofs.Derivations.{trans, replaced, beside, rule_is}
 
 pub data Begins (g : ContextFree) (t : ℕ) : List ℕ → Type 0 where
   here : {x : List ℕ} → Begins g t (t ∷ x)

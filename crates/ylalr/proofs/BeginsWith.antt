@@ -3,17 +3,17 @@ use Rattle.std.proofs.Common.{ℕ, suc, Bool, ◌≡◌, ◌<◌, List, [], ◌�
 use Rattle.std.proofs.Common.{drop, refl, sym, ap, subst, inl, inr, ◌⊎◌, arith}
 use Rattle.std.specs.List.{All}
 use Rattle.std.proofs.lemmas.List.Elements.{All-nil, All-cons}
-use Rattle.ygrammar.specs.Grammar.{ContextFree, IsToken}
-use Rattle.ygrammar.specs.Forms.{First}
-use Rattle.ygrammar.specs.WellFormed.{WellFormed}
+use Rattle.ysymbols.specs.Grammar.{ContextFree, IsToken}
+use Rattle.ysymbols.specs.Forms.{First}
+use Rattle.ysymbols.specs.WellFormed.{WellFormed}
 use Rattle.ylalr.specs.Looks.{FormHas}
-use Rattle.ylalr.specs.Marks.{Has}
-use Rattle.ylalr.specs.Rows.{BitRows, Holds}
+use Rattle.yrows.specs.Marks.{Has}
+use Rattle.yrows.specs.Rows.{BitRows, Holds}
 use Rattle.ylalr.specs.First.{IsNullable, IsFirst}
 use Rattle.ylalr.proofs.Vanish.{more, nullable_from_vanishes}
 use Rattle.ylalr.proofs.Begins.{Begins, here, over, into, begins_append, begins_past, begins_split}
 use Rattle.ylalr.proofs.Begins.{begins_from_first, first_is}
-use Rattle.ylalr.proofs.FirstSteps.{marked_form, form_marked, parts, token_first}
+use Rattle.ylalr.proofs.FirstSteps.{marked_form, form_marked, lr0, token_first}
 
 has : {g : ContextFree} {t : ℕ} (n : List Bool) (m : BitRows) {x : List ℕ} → IsNullable g n →
     IsFirst g m → IsToken g t → Begins g t x → FormHas n m x t
@@ -55,7 +55,7 @@ module _ (g : ContextFree) (w : WellFormed g) (n : List Bool) (m : BitRows) (h :
       let z : Begins g b (take k x ++ get_or x k 0 ∷ drop (suc k) x) =
       begins_past (marked_form g n h (take k x) p) (get_or x k 0 ∷ drop (suc k) x)
       (begins_append (begins_from_first ((f (get_or x k 0) b).0 v)) (drop (suc k) x)) in
-      first_is g b (x ++ a ∷ []) kb (begins_append (subst (Begins g b) (sym (parts x k l)) z)
+      first_is g b (x ++ a ∷ []) kb (begins_append (subst (Begins g b) (sym (lr0 x k l)) z)
       (a ∷ []))
 
   pub cases : First g (x ++ a ∷ []) b → FormHas n m x b ⊎ (All (Has n) x × (b ≡ a))

@@ -1,7 +1,7 @@
 -- Which rules a closure opens.
 use Rattle.std.proofs.Common.{ℕ, ◌≡◌, ◌<◌, ◌⊎◌, ◌∷◌, List, length, drop, refl, ◌∙◌, ap, subst, inl}
 use Rattle.std.proofs.Common.{inr}
-use Rattle.ygrammar.specs.Grammar.{ContextFree, left_of, body_of}
+use Rattle.ysymbols.specs.Grammar.{ContextFree, left_of, body_of}
 use Rattle.ylalr.specs.Sets.{Closure, given, opened, FirstRule, itself, through, LeadsTo}
 
 -- an item with its dot before a symbol leads to all first rules of the symbol

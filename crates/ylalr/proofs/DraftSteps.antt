@@ -5,28 +5,28 @@ use Rattle.std.proofs.Common.{length, drop, get_or, refl, sym, ◌∙◌, ap, su
 use Rattle.std.proofs.Common.{Option, Some, None, MatchOption}
 use Rattle.std.proofs.Math.ListN.{set}
 use Rattle.std.specs.List.{All}
-use Rattle.ygrammar.specs.Grammar.{ContextFree, left_of, body_of, IsToken, end_token}
-use Rattle.ygrammar.specs.Forms.{First}
-use Rattle.ygrammar.specs.WellFormed.{WellFormed}
+use Rattle.ysymbols.specs.Grammar.{ContextFree, left_of, body_of, IsToken, end_token}
+use Rattle.ysymbols.specs.Forms.{First}
+use Rattle.ysymbols.specs.WellFormed.{WellFormed}
 use Rattle.ylalr.specs.declared.items.Item.{Item}
-use Rattle.ylalr.specs.declared.looks.Parts.{Parts}
+use Rattle.ylalr.specs.declared.looks.Lr0.{Lr0}
 use Rattle.ylalr.specs.declared.looks.Here.{Here}
 use Rattle.ylalr.specs.Gotos.{goto_of}
-use Rattle.ylalr.specs.Marks.{Has}
-use Rattle.ylalr.specs.Rows.{BitRows, Holds, IsSized}
-use Rattle.ylalr.specs.Links.{Link, Reaches, given, passed, IsSpread}
-use Rattle.ylalr.specs.Places.{At, Starts, Shares, rows_at}
+use Rattle.yrows.specs.Marks.{Has}
+use Rattle.yrows.specs.Rows.{BitRows, Holds, IsSized}
+use Rattle.yrows.specs.Links.{Link, Reaches, given, passed, IsSpread}
+use Rattle.ylalr.specs.ItemRows.{At, Starts, Shares, rows_at}
 use Rattle.ylalr.specs.Sets.{step_of, Moves, IsAscending, Before}
 use Rattle.ylalr.specs.States.{GotoIs, set_at, start_item}
 use Rattle.ylalr.specs.Looks.{Spread, starts, closes, moves, SoundLooks, StartLooks, ClosedLooks}
 use Rattle.ylalr.specs.Looks.{ClosesAt, MovesAt, FormHas}
-use Rattle.ylalr.specs.Draft.{DraftValue, PlaceIn, IsHere, LeftsIn, SpreadIn, Carries, SoundDraft}
+use Rattle.ylalr.specs.Draft.{DraftValue, RowIn, IsHere, LeftsIn, SpreadIn, Carries, SoundDraft}
 use Rattle.ylalr.specs.Draft.{Further, GivesForm, OpensAt, ShiftsAt, ServesAt, ServesState, IsMoved}
 use Rattle.ylalr.specs.Draft.{StartsDraft}
-use Rattle.ylalr.specs.Parts.{FitParts}
+use Rattle.ylalr.specs.Lr0.{FitLr0}
 use Rattle.ylalr.proofs.BeginsWith.{found_first, last_first, cases}
-use Rattle.ylalr.proofs.ListSteps.{same_default}
-use Rattle.ylalr.proofs.LinkSteps.{link_cases, links_push, no_link, are_links_none}
+use Rattle.yrows.proofs.Turn.{same_default}
+use Rattle.yrows.proofs.LinkSteps.{link_cases, links_push, no_link, are_links_none}
 use Rattle.ylalr.proofs.LookSteps.{some_spread, spread_token}
 
 order : (j k : ℕ) → (j < k) ⊎ ((j ≡ k) ⊎ (k < j))
@@ -83,12 +83,12 @@ further_then d e f a b = record {
       λ p t h. b.links p t (a.links p t h);
 }
 
-pub opens_kept : (P : Parts) (d e : DraftValue) (q p : ℕ) (i : Item) → Further d e →
+pub opens_kept : (P : Lr0) (d e : DraftValue) (q p : ℕ) (i : Item) → Further d e →
     OpensAt P d q i p → OpensAt P e q i p
 opens_kept P d e q p i m o n t y z pt = let w = o n t y z pt in
     record { begun = λ b h. m.looks t b (w.begun b h); linked = λ a. m.links p t (w.linked a) }
 
-pub serves_kept : (P : Parts) (d e : DraftValue) (q p : ℕ) (i : Item) → Further d e →
+pub serves_kept : (P : Lr0) (d e : DraftValue) (q p : ℕ) (i : Item) → Further d e →
     ServesAt P d q i p → ServesAt P e q i p
 serves_kept P d e q p i m s = record {
   opens = opens_kept P d e q p i m s.opens;
@@ -96,7 +96,7 @@ serves_kept P d e q p i m s = record {
       λ x n t y z ne to pt. m.links p t (s.shifts x n t y z ne to pt);
 }
 
-module _ (P : Parts) (f : WellFormed P.grammar.bare) (fit : FitParts P) where
+module _ (P : Lr0) (f : WellFormed P.grammar.bare) (fit : FitLr0 P) where
   g : ContextFree
   g = P.grammar.bare
 
@@ -105,23 +105,23 @@ module _ (P : Parts) (f : WellFormed P.grammar.bare) (fit : FitParts P) where
   gotos q x h k = fit.gotos.gotos q h x k
 
   -- the items of one row
-  pub same_row : (q n : ℕ) (i k : Item) (p : ℕ) → PlaceIn P q i p → PlaceIn P n k p →
+  pub same_row : (q n : ℕ) (i k : Item) (p : ℕ) → RowIn P q i p → RowIn P n k p →
       (q ≡ n) × Shares P.grammar.bare i k
   same_row q n i k p x y =
-      let e = fit.places.apart q n i k p x y in (
+      let e = fit.item_rows.apart q n i k p x y in (
         e,
-        (fit.places.rows q x.state).apart i k p x.at
-            (subst (λ m. At (set_at P.states.closures m) (rows_at P.places m) k p) (sym e) y.at),
+        (fit.item_rows.rows q x.state).apart i k p x.at
+            (subst (λ m. At (set_at P.states.closures m) (rows_at P.item_rows m) k p) (sym e) y.at),
       )
 
-  pub place_below : (q : ℕ) (i : Item) (p : ℕ) → PlaceIn P q i p → p < P.places.total
-  place_below q i p x = fit.places.below q i p x
+  pub row_below : (q : ℕ) (i : Item) (p : ℕ) → RowIn P q i p → p < P.item_rows.total
+  row_below q i p x = fit.item_rows.below q i p x
 
-  pub place_once : (q : ℕ) (i : Item) (p t : ℕ) → PlaceIn P q i p → PlaceIn P q i t → p ≡ t
-  place_once q i p t x y = row_once (set_at P.states.closures q) (rows_at P.places q) i p t
+  pub row_is_once : (q : ℕ) (i : Item) (p t : ℕ) → RowIn P q i p → RowIn P q i t → p ≡ t
+  row_is_once q i p t x y = row_once (set_at P.states.closures q) (rows_at P.item_rows q) i p t
       (fit.states.each q x.state).order x.at y.at
 
-  pub rule_below : (q : ℕ) (i : Item) (p : ℕ) → PlaceIn P q i p →
+  pub rule_below : (q : ℕ) (i : Item) (p : ℕ) → RowIn P q i p →
       i.rule < length P.grammar.bare.rules
   rule_below q i p x = subst (λ (v : Item). v.rule < length P.grammar.bare.rules) x.at.here
       ((fit.states.each q x.state).range x.at.index i x.at.within).0
@@ -129,7 +129,7 @@ module _ (P : Parts) (f : WellFormed P.grammar.bare) (fit : FitParts P) where
   -- what the closure rule gives to one item, it gives to all that share its row
   opened_on : (q n t a : ℕ) (i k j : Item) (s : ℕ) (y : List ℕ) (b : ℕ) → SpreadIn P q i a →
       drop i.dot (body_of P.grammar.bare i.rule) ≡ s ∷ y → First P.grammar.bare (y ++ a ∷ []) b →
-      PlaceIn P q k t → Starts P.grammar.bare s k → PlaceIn P n j t → SpreadIn P n j b
+      RowIn P q k t → Starts P.grammar.bare s k → RowIn P n j t → SpreadIn P n j b
   opened_on q n t a i k j s y b sp e w pk o pj =
       let z = same_row q n k j t pk pj in
       let oj : Starts P.grammar.bare s j = both z.1 in
@@ -148,15 +148,15 @@ module _ (P : Parts) (f : WellFormed P.grammar.bare) (fit : FitParts P) where
     pub symbol : ℕ
     pub dotted : drop h.item.dot (body_of P.grammar.bare h.item.rule) ≡ symbol ∷ y
     pub opened : Item
-    pub place : PlaceIn P h.state opened to
+    pub place : RowIn P h.state opened to
     pub starts : Starts P.grammar.bare symbol opened
 
   -- what begins the form after the dot goes to the row of the left side
   pub sound_begun : (d : DraftValue) (m : BitRows) (h : Here) (to : ℕ) (y : List ℕ) →
-      SoundLooks P.grammar.bare (goto_of P.gotos) P.states P.places d.looks → IsHere P h →
+      SoundLooks P.grammar.bare (goto_of P.gotos) P.states P.item_rows d.looks → IsHere P h →
       Opening h to y → ((r b : ℕ) → Holds m r b → Holds d.looks r b ⊎
       ((r ≡ to) × FormHas P.nullable P.first y b)) → SoundLooks P.grammar.bare (goto_of P.gotos)
-      P.states P.places m
+      P.states P.item_rows m
   sound_begun d m h to y sound ih u a q i p b ip z = go (a p b z)
     where
       go : Holds d.looks p b ⊎ ((p ≡ to) × FormHas P.nullable P.first y b) → SpreadIn P q i b
@@ -171,7 +171,7 @@ module _ (P : Parts) (f : WellFormed P.grammar.bare) (fit : FitParts P) where
           opened_on h.state q to c.0 h.item u.opened i u.symbol y b c.1 u.dotted
           (found_first P.grammar.bare f P.nullable P.first fit.nullable_exact fit.first_exact y
           c.0 b ta tb w.place w.within w.before w.there) u.place u.starts
-          (subst (PlaceIn P q i) ep ip)
+          (subst (RowIn P q i) ep ip)
 
   -- a form that vanishes passes on all that the item has
   pub carries_open : (h : Here) (to : ℕ) (y : List ℕ) → IsHere P h → Opening h to y →
@@ -195,7 +195,7 @@ module _ (P : Parts) (f : WellFormed P.grammar.bare) (fit : FitParts P) where
       same k (inl e) = e
       same k (inr e) = absurd (let z = e.0 in omega arith)
 
-      on : (n : ℕ) (k : Item) (a : ℕ) → PlaceIn P n k t → SpreadIn P h.state h.item a →
+      on : (n : ℕ) (k : Item) (a : ℕ) → RowIn P n k t → SpreadIn P h.state h.item a →
           SpreadIn P n k a
       on n k a pk sp =
           let z = same_row m.target n (step_of h.item) k t m.place pk in
@@ -211,7 +211,7 @@ module _ (P : Parts) (f : WellFormed P.grammar.bare) (fit : FitParts P) where
       (drop h.item.dot (body_of P.grammar.bare h.item.rule)) ez u.dotted in
       let ey : z ≡ y = tails (left_of P.grammar.bare n) u.symbol z y
       (drop h.item.dot (body_of P.grammar.bare h.item.rule)) ez u.dotted in
-      let et : to ≡ t = (fit.places.rows h.state u.place.state).shared u.opened
+      let et : to ≡ t = (fit.item_rows.rows h.state u.place.state).shared u.opened
       (record { rule = n; dot = 0 }) to t u.place.at pt.at u.starts.0 (refl, es ∙ sym u.starts.1) in
       subst (λ v. GivesForm P d v h.row t) (sym ey) (subst (λ v. GivesForm P d y h.row v) et gives)
 
@@ -238,8 +238,8 @@ module _ (P : Parts) (f : WellFormed P.grammar.bare) (fit : FitParts P) where
       (drop h.item.dot (body_of P.grammar.bare h.item.rule)) m.moves.1 e in
       let en : m.target ≡ n = some_same m.target n (goto_of P.gotos h.state m.symbol) m.leads
       (ap (λ v. goto_of P.gotos h.state v) ex ∙ to) in
-      let et : t ≡ u = place_once n (step_of h.item) t u
-      (subst (λ v. PlaceIn P v (step_of h.item) t) en m.place) pu in
+      let et : t ≡ u = row_is_once n (step_of h.item) t u
+      (subst (λ v. RowIn P v (step_of h.item) t) en m.place) pu in
       subst (λ v. Link d.links h.row v) et l
 
   pub shifts_none : (d : DraftValue) (h : Here) → ((t : ℕ) → IsMoved P h t → ⊥) →
@@ -256,10 +256,10 @@ module _ (P : Parts) (f : WellFormed P.grammar.bare) (fit : FitParts P) where
 
   -- the rows with all that is passed on are sound
   pub spread_sound : (d : DraftValue) (m : BitRows) → SoundDraft P d → IsSpread d.links d.looks m →
-      SoundLooks P.grammar.bare (goto_of P.gotos) P.states P.places m
+      SoundLooks P.grammar.bare (goto_of P.gotos) P.states P.item_rows m
   spread_sound d m s x q i p a ip h = go ((x p a).0 h) q i ip
     where
-      go : {p a : ℕ} → Reaches d.links d.looks p a → (q : ℕ) (i : Item) → PlaceIn P q i p →
+      go : {p a : ℕ} → Reaches d.links d.looks p a → (q : ℕ) (i : Item) → RowIn P q i p →
           SpreadIn P q i a
       go (given {p = p} {c = c} h) q i ip = s.looks q i p c ip h
       go (passed {p = p} {t = t} {c = c} z l) q i ip =
@@ -269,7 +269,7 @@ module _ (P : Parts) (f : WellFormed P.grammar.bare) (fit : FitParts P) where
   -- and closed
   pub spread_closed : (d : DraftValue) (m : BitRows) → SoundDraft P d → IsSpread d.links d.looks m →
       StartsDraft P d → ((q : ℕ) → q < length P.states.closures → ServesState P d q) →
-      ClosedLooks P.grammar.bare (goto_of P.gotos) P.states P.places m
+      ClosedLooks P.grammar.bare (goto_of P.gotos) P.states P.item_rows m
   spread_closed d m s x st serves = record {
     start = λ p ip. (x p end_token).1 (given (st p ip));
     states = λ q h i p ip. record {
@@ -283,8 +283,8 @@ module _ (P : Parts) (f : WellFormed P.grammar.bare) (fit : FitParts P) where
       columns p a (given h) = subst (λ v. a < v) s.sized.columns h.column
       columns p a (passed {p = r} z l) = columns r a z
 
-      closed : (q : ℕ) (i : Item) (p : ℕ) → PlaceIn P q i p → ServesAt P d q i p →
-          ClosesAt P.grammar.bare P.states P.places m q i p
+      closed : (q : ℕ) (i : Item) (p : ℕ) → RowIn P q i p → ServesAt P d q i p →
+          ClosesAt P.grammar.bare P.states P.item_rows m q i p
       closed q i p ip v n hn y a b t z e w pt =
           let r = (x p a).0 z in
           let o = v.opens n t y e pt in
@@ -298,15 +298,15 @@ module _ (P : Parts) (f : WellFormed P.grammar.bare) (fit : FitParts P) where
               (passed r (o.linked k.0)))
 
       moved : (q : ℕ) (i : Item) (p : ℕ) → ServesAt P d q i p → MovesAt P.grammar.bare
-          (goto_of P.gotos) P.states P.places m q i p
+          (goto_of P.gotos) P.states P.item_rows m q i p
       moved q i p v y n z a t h e ne to pt =
           (x t a).1 (passed ((x p a).0 h) (v.shifts y n t z e ne to pt))
 
   -- a mark for the first item
   pub sound_start : (m o : BitRows) (t : ℕ) → ((r c : ℕ) → Holds m r c → ⊥) →
-      PlaceIn P 0 start_item t →
+      RowIn P 0 start_item t →
       ((r c : ℕ) → Holds o r c ↔ (Holds m r c ⊎ ((r ≡ t) × (c ≡ end_token)))) →
-      SoundLooks P.grammar.bare (goto_of P.gotos) P.states P.places o
+      SoundLooks P.grammar.bare (goto_of P.gotos) P.states P.item_rows o
   sound_start m o t none it x q i p b ip z = go ((x p b).0 z)
     where
       first_rule : (r : ℕ) → r < length P.grammar.bare.rules → left_of P.grammar.bare r ≡ left_of
@@ -327,15 +327,15 @@ module _ (P : Parts) (f : WellFormed P.grammar.bare) (fit : FitParts P) where
       go : Holds m p b ⊎ ((p ≡ t) × (b ≡ end_token)) → SpreadIn P q i b
       go (inl w) = absurd (none p b w)
       go (inr w) =
-          let s = same_row 0 q start_item i t it (subst (PlaceIn P q i) w.0 ip) in
+          let s = same_row 0 q start_item i t it (subst (RowIn P q i) w.0 ip) in
           subst (λ v. SpreadIn P v i b) s.0
           (subst (λ v. Spread P.grammar.bare (goto_of P.gotos) 0 i.rule i.dot v) (sym w.1)
           (on s.1 (rule_below q i p ip)))
 
-  pub start_marked : (m o : BitRows) (t : ℕ) → PlaceIn P 0 start_item t →
+  pub start_marked : (m o : BitRows) (t : ℕ) → RowIn P 0 start_item t →
       ((r c : ℕ) → Holds o r c ↔ (Holds m r c ⊎ ((r ≡ t) × (c ≡ end_token)))) →
-      StartLooks P.states P.places o
-  start_marked m o t it x p ip = (x p end_token).1 (inr (place_once 0 start_item p t ip it, refl))
+      StartLooks P.states P.item_rows o
+  start_marked m o t it x p ip = (x p end_token).1 (inr (row_is_once 0 start_item p t ip it, refl))
 
   pub goto_within : (q x n : ℕ) → q < length P.states.closures → x < P.grammar.bare.symbols →
       goto_of P.gotos q x ≡ Some n → n < length P.states.closures
@@ -344,40 +344,40 @@ module _ (P : Parts) (f : WellFormed P.grammar.bare) (fit : FitParts P) where
 
   -- the symbol after the dot leads to one state
   one_target : (h : Here) (t x n : ℕ) → IsMoved P h t → Moves P.grammar.bare h.item x →
-      goto_of P.gotos h.state x ≡ Some n → PlaceIn P n (step_of h.item) t
+      goto_of P.gotos h.state x ≡ Some n → RowIn P n (step_of h.item) t
   one_target h t x n m mv e =
       let ex : m.symbol ≡ x = heads m.symbol x m.moves.0 mv.0
       (drop h.item.dot (body_of P.grammar.bare h.item.rule)) m.moves.1 mv.1 in
       let en : m.target ≡ n = some_same m.target n (goto_of P.gotos h.state m.symbol) m.leads
       (ap (λ v. goto_of P.gotos h.state v) ex ∙ e) in
-      subst (λ v. PlaceIn P v (step_of h.item) t) en m.place
+      subst (λ v. RowIn P v (step_of h.item) t) en m.place
 
   pub moved_match : (h : Here) (x n : ℕ) (o : Option ℕ) → Moves P.grammar.bare h.item x →
       goto_of P.gotos h.state x ≡ Some n →
-      MatchOption o ((p : ℕ) → PlaceIn P n (record { rule = h.item.rule; dot = h.item.dot + 1 }) p →
-      ⊥) (λ p. PlaceIn P n (record { rule = h.item.rule; dot = h.item.dot + 1 }) p) →
+      MatchOption o ((p : ℕ) → RowIn P n (record { rule = h.item.rule; dot = h.item.dot + 1 }) p →
+      ⊥) (λ p. RowIn P n (record { rule = h.item.rule; dot = h.item.dot + 1 }) p) →
       MatchOption o ((t : ℕ) → IsMoved P h t → ⊥) (IsMoved P h)
   moved_match h x n None mv e z =
-      λ t m. z t (subst (λ (v : Item). PlaceIn P n v t) (sym (step_is h.item))
+      λ t m. z t (subst (λ (v : Item). RowIn P n v t) (sym (step_is h.item))
       (one_target h t x n m mv e))
   moved_match h x n (Some p) mv e z = record {
     symbol = x;
     target = n;
     moves = mv;
     leads = e;
-    place = subst (λ (v : Item). PlaceIn P n v p) (step_is h.item) z;
+    place = subst (λ (v : Item). RowIn P n v p) (step_is h.item) z;
   }
 
 -- rows with more, and one more link along which lookaheads are carried
-pub sound_linked : (P : Parts) (d : DraftValue) (m : BitRows) (more : List (List ℕ)) (from to : ℕ) →
-    SoundDraft P d → IsSized P.places.total P.grammar.bare.tokens m → SoundLooks P.grammar.bare
-    (goto_of P.gotos) P.states P.places m → from < P.places.total → to < P.places.total →
+pub sound_linked : (P : Lr0) (d : DraftValue) (m : BitRows) (more : List (List ℕ)) (from to : ℕ) →
+    SoundDraft P d → IsSized P.item_rows.total P.grammar.bare.tokens m → SoundLooks P.grammar.bare
+    (goto_of P.gotos) P.states P.item_rows m → from < P.item_rows.total → to < P.item_rows.total →
     more ≡ set d.links from (get_or d.links from [] ++ to ∷ []) → Carries P from to →
     SoundDraft P (record { looks = m; links = more })
 sound_linked P d m more from to s z w hf ht e c = record {
   sized = z;
   links = links_push d.links more from to (subst (λ k. from < k) (sym s.links.sized) hf) e
-      P.places.total s.links ht;
+      P.item_rows.total s.links ht;
   looks = w;
   carried = λ p t h. go p t
       (link_cases d.links more from to (subst (λ k. from < k) (sym s.links.sized) hf) e p t h);
@@ -389,24 +389,24 @@ sound_linked P d m more from to s z w hf ht e c = record {
         (subst (λ k. Carries P from k) (sym h.1) c)
 
 -- rows with more
-pub sound_rows : (P : Parts) (d : DraftValue) (m : BitRows) → SoundDraft P d →
-    IsSized P.places.total P.grammar.bare.tokens m → SoundLooks P.grammar.bare (goto_of P.gotos)
-    P.states P.places m → SoundDraft P (record { looks = m; links = d.links })
+pub sound_rows : (P : Lr0) (d : DraftValue) (m : BitRows) → SoundDraft P d →
+    IsSized P.item_rows.total P.grammar.bare.tokens m → SoundLooks P.grammar.bare (goto_of P.gotos)
+    P.states P.item_rows m → SoundDraft P (record { looks = m; links = d.links })
 sound_rows P d m s z w = record { sized = z; links = s.links; looks = w; carried = s.carried }
 
 -- the row of an item has a list of links
-pub row_linked : (P : Parts) → WellFormed P.grammar.bare → FitParts P → (d : DraftValue) →
+pub row_linked : (P : Lr0) → WellFormed P.grammar.bare → FitLr0 P → (d : DraftValue) →
     SoundDraft P d → (h : Here) → IsHere P h → h.row < length d.links
 row_linked P f fit d s h ih = subst (λ k. h.row < k) (sym s.links.sized)
-    (place_below P f fit h.state h.item h.row ih)
+    (row_below P f fit h.state h.item h.row ih)
 
 -- no links yet
-pub no_links : (P : Parts) (m : BitRows) (l : List (List ℕ)) → length l ≡ P.places.total →
-    All (λ r. r ≡ []) l → IsSized P.places.total P.grammar.bare.tokens m → SoundLooks P.grammar.bare
-    (goto_of P.gotos) P.states P.places m → SoundDraft P (record { looks = m; links = l })
+pub no_links : (P : Lr0) (m : BitRows) (l : List (List ℕ)) → length l ≡ P.item_rows.total →
+    All (λ r. r ≡ []) l → IsSized P.item_rows.total P.grammar.bare.tokens m → SoundLooks P.grammar.bare
+    (goto_of P.gotos) P.states P.item_rows m → SoundDraft P (record { looks = m; links = l })
 no_links P m l e none z w = record {
   sized = z;
-  links = are_links_none P.places.total l e none;
+  links = are_links_none P.item_rows.total l e none;
   looks = w;
   carried = λ p t h. absurd (no_link l none p t h);
 }
@@ -415,10 +415,10 @@ below_or : (k i : ℕ) → k < i + 1 → (k < i) ⊎ (k ≡ i)
 below_or k i h = grind arith
 
 -- one more item of a state is served
-pub served_more : (P : Parts) (d e : DraftValue) (q k : ℕ) (xs : List Item) (rows : List ℕ)
-    (v : Item) → xs ≡ set_at P.states.closures q → rows ≡ rows_at P.places q → k < length xs →
-    Further d e → ((i : Item) (p : ℕ) (z : PlaceIn P q i p) → z.at.index < k → ServesAt P d q i p) →
-    ServesAt P e q (get_or xs k v) (get_or rows k 0) → (i : Item) (p : ℕ) (z : PlaceIn P q i p) →
+pub served_more : (P : Lr0) (d e : DraftValue) (q k : ℕ) (xs : List Item) (rows : List ℕ)
+    (v : Item) → xs ≡ set_at P.states.closures q → rows ≡ rows_at P.item_rows q → k < length xs →
+    Further d e → ((i : Item) (p : ℕ) (z : RowIn P q i p) → z.at.index < k → ServesAt P d q i p) →
+    ServesAt P e q (get_or xs k v) (get_or rows k 0) → (i : Item) (p : ℕ) (z : RowIn P q i p) →
     z.at.index < k + 1 → ServesAt P e q i p
 served_more P d e q k xs rows v ex er h m s last i p z l = go (below_or z.at.index k l)
   where
@@ -428,6 +428,6 @@ served_more P d e q k xs rows v ex er h m s last i p z l = go (below_or z.at.ind
         let ei : get_or xs k v ≡ i = same_default xs k v i h ∙ ap (λ (u : List Item). get_or u k i)
         ex ∙ ap (λ j. get_or (set_at P.states.closures q) j i) (sym w) ∙ z.at.here in
         let ep : get_or rows k 0 ≡ p = ap (λ (u : List ℕ). get_or u k 0) er ∙ ap
-        (λ j. get_or (rows_at P.places q) j 0) (sym w) ∙ sym z.at.row in
+        (λ j. get_or (rows_at P.item_rows q) j 0) (sym w) ∙ sym z.at.row in
         subst (λ u. ServesAt P e q i u) ep (subst (λ (u : Item). ServesAt P e q u (get_or rows k 0))
         ei last)

@@ -4,15 +4,15 @@ use Rattle.std.proofs.Common.{length, get_or, take, drop, refl, sym, ap, subst}
 use Rattle.std.proofs.Common.{arith}
 use Rattle.std.specs.List.{All}
 use Rattle.std.proofs.lemmas.List.Elements.{All-nil, All-cons, All-head, All-tail}
-use Rattle.ygrammar.specs.Grammar.{ContextFree, left_of, body_of, IsToken}
-use Rattle.ygrammar.specs.Derivation.{done}
-use Rattle.ygrammar.specs.Forms.{First, MarksNullable, Nullable}
-use Rattle.ygrammar.specs.WellFormed.{WellFormed}
-use Rattle.ygrammar.proofs.DrainSteps.{marked_below}
+use Rattle.ysymbols.specs.Grammar.{ContextFree, left_of, body_of, IsToken}
+use Rattle.ysymbols.specs.Derivation.{done}
+use Rattle.ysymbols.specs.Forms.{First, MarksNullable, Nullable}
+use Rattle.ysymbols.specs.WellFormed.{WellFormed}
+use Rattle.ysymbols.proofs.DrainSteps.{marked_below}
 use Rattle.ylalr.specs.Looks.{FormHas}
-use Rattle.ylalr.specs.Marks.{Has}
-use Rattle.ylalr.specs.Rows.{BitRows, Holds}
-use Rattle.ylalr.specs.Links.{Reaches, given, passed, IsSpread}
+use Rattle.yrows.specs.Marks.{Has}
+use Rattle.yrows.specs.Rows.{BitRows, Holds}
+use Rattle.yrows.specs.Links.{Reaches, given, passed, IsSpread}
 use Rattle.ylalr.specs.First.{IsNullable, IsFirst}
 use Rattle.ylalr.specs.Fronts.{AreFrontLinks, HasEach}
 use Rattle.ylalr.proofs.Vanish.{Vanishes, none, more, nullable_from_vanishes, vanishes_append}
@@ -49,22 +49,22 @@ form_marked n h none = All-nil (Has n)
 form_marked n h (more {s = s} {x = x} r k e b v) = All-cons (Has n) s x
     ((h s).1 (nullable_from_vanishes (more r k e b none))) (form_marked n h v)
 
-pub parts : (x : List ℕ) (k : ℕ) → k < length x → x ≡ take k x ++ get_or x k 0 ∷ drop (suc k) x
-parts [] k h = absurd (omega arith)
-parts (s ∷ x) zero h = refl
-parts (s ∷ x) (suc k) h = ap (λ y. s ∷ y) (parts x k (omega arith))
+pub lr0 : (x : List ℕ) (k : ℕ) → k < length x → x ≡ take k x ++ get_or x k 0 ∷ drop (suc k) x
+lr0 [] k h = absurd (omega arith)
+lr0 (s ∷ x) zero h = refl
+lr0 (s ∷ x) (suc k) h = ap (λ y. s ∷ y) (lr0 x k (omega arith))
 
 -- what a symbol of a body begins with, where all before it vanish, the left side begins with
-pub first_of_place : (g : ContextFree) (n : List Bool) (r k t : ℕ) → IsNullable g n →
+pub first_of_row : (g : ContextFree) (n : List Bool) (r k t : ℕ) → IsNullable g n →
     r < length g.rules → k < length (body_of g r) → All (Has n) (take k (body_of g r)) →
     First g (get_or (body_of g r) k 0 ∷ []) t → First g (left_of g r ∷ []) t
-first_of_place g n r k t h w l a f =
+first_of_row g n r k t h w l a f =
     let x = body_of g r in
     let z : Begins g t (take k x ++ get_or x k 0 ∷ drop (suc k) x) =
     begins_past (marked_form g n h (take k x) a) (get_or x k 0 ∷ drop (suc k) x)
     (begins_append (begins_from_first f) (drop (suc k) x)) in
     first_is g t (left_of g r ∷ []) f.token
-    (into r w refl (subst (Begins g t) (sym (parts x k l)) z))
+    (into r w refl (subst (Begins g t) (sym (lr0 x k l)) z))
 
 pub token_first : (g : ContextFree) (t : ℕ) → t < g.tokens → First g (t ∷ []) t
 token_first g t h = record { token = h; rest = []; derives = done }
@@ -79,7 +79,7 @@ module _ (g : ContextFree) (n : List Bool) (l : List (List ℕ)) (m o : BitRows)
   sound (passed {p = p} {t = s} {c = t} z y) =
       let w = (a.exact p s).0 y in
       let f = w.front in
-      subst (λ u. First g (u ∷ []) t) (sym w.left) (first_of_place g n w.rule f.place t h w.below
+      subst (λ u. First g (u ∷ []) t) (sym w.left) (first_of_row g n w.rule f.place t h w.below
       f.within f.before (subst (λ u. First g (u ∷ []) t) (sym f.here) (sound z)))
 
   has : {t : ℕ} {y : List ℕ} → IsToken g t → Begins g t y → FormHas n o y t

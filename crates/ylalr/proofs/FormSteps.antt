@@ -2,8 +2,8 @@
 use Rattle.std.proofs.Common.{ℕ, Bool, ◌≡◌, ◌<◌, ◌+◌, ◌⊎◌, List, length, take, get_or, refl, sym}
 use Rattle.std.proofs.Common.{◌∙◌, ap, subst, inl, inr, arith}
 use Rattle.std.specs.List.{All}
-use Rattle.ylalr.specs.Marks.{Has}
-use Rattle.ylalr.specs.Rows.{BitRows, Holds, AddsFrom}
+use Rattle.yrows.specs.Marks.{Has}
+use Rattle.yrows.specs.Rows.{BitRows, Holds, AddsFrom}
 use Rattle.ylalr.specs.Looks.{FormHas}
 use Rattle.ylalr.proofs.FrontSteps.{unmarked_end}
 

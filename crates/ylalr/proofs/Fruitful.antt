@@ -4,12 +4,12 @@ use Rattle.std.proofs.Common.{ℕ, ◌≡◌, ◌<◌, ◌≤◌, List, [], ◌�
 use Rattle.std.proofs.Common.{◌⊎◌, arith}
 use Rattle.std.specs.List.{All}
 use Rattle.std.proofs.lemmas.List.Elements.{All-head, All-tail, All-drop, All-weaker}
-use Rattle.ygrammar.specs.Derivation.{Derives}
-use Rattle.ygrammar.specs.Grammar.{ContextFree, left_of, body_of, IsToken, end_token}
-use Rattle.ygrammar.specs.Forms.{IsRule, First, Productive}
+use Rattle.ysymbols.specs.Derivation.{Derives}
+use Rattle.ysymbols.specs.Grammar.{ContextFree, left_of, body_of, IsToken, end_token}
+use Rattle.ysymbols.specs.Forms.{IsRule, First, Productive}
 use Rattle.ylalr.specs.Items.{Valid, start, closure, move}
-use Rattle.ygrammar.specs.WellFormed.{WellFormed}
-use Rattle.ygrammar.proofs.Derivations.{within, token_productive, words}
+use Rattle.ysymbols.specs.WellFormed.{WellFormed}
+use Rattle.ysymbols.proofs.Derivations.{within, token_productive, words}
 use Rattle.ylalr.specs.Sets.{Closure, given, opened, Kernel, moved, Begin, begin}
 use Rattle.ylalr.proofs.Live.{Live}
 

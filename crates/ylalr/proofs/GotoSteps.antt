@@ -6,8 +6,8 @@ use Rattle.std.specs.List.{All}
 use Rattle.std.proofs.lemmas.Bool.Decides.{nat_tests}
 use Rattle.std.proofs.lemmas.List.Elements.{All-push, All-nil, All-head, All-tail}
 use Rattle.std.proofs.lemmas.List.Quantifiers.{all_pairs_push}
-use Rattle.ygrammar.specs.Grammar.{ContextFree}
-use Rattle.ygrammar.specs.WellFormed.{WellFormed}
+use Rattle.ysymbols.specs.Grammar.{ContextFree}
+use Rattle.ysymbols.specs.WellFormed.{WellFormed}
 use Rattle.ylalr.specs.declared.items.Item.{Item}
 use Rattle.ylalr.specs.declared.gotos.Goto.{Goto}
 use Rattle.ylalr.specs.Sets.{Kernel, ItemsOf, IsAdvanced}

@@ -3,10 +3,10 @@ use Rattle.std.proofs.Common.{ℕ, ◌≡◌, ◌≢◌, ◌<◌, ◌+◌, ◌�
 use Rattle.std.proofs.Common.{inl, inr, arith, Option, Some, None, get_or-set_same}
 use Rattle.std.proofs.Common.{get_or-set_other}
 use Rattle.std.proofs.Math.ListN.{set, length-set}
-use Rattle.ygrammar.specs.Grammar.{ContextFree, left_of}
+use Rattle.ysymbols.specs.Grammar.{ContextFree, left_of}
 use Rattle.ylalr.specs.declared.items.Item.{Item}
-use Rattle.ylalr.specs.Places.{At, Starts, AreRows, AreLefts}
-use Rattle.ylalr.proofs.ListSteps.{same_default}
+use Rattle.ylalr.specs.ItemRows.{At, Starts, AreRows, AreLefts}
+use Rattle.yrows.proofs.Turn.{same_default}
 
 same_or : (a b : ℕ) → (a ≡ b) ⊎ (a ≢ b)
 same_or a b = grind arith

@@ -6,9 +6,9 @@ use Rattle.std.proofs.lemmas.List.{get_or_read}
 use Rattle.std.proofs.lemmas.List.Elements.{All-push, All-contains, Contains-get_or, Contains-push}
 use Rattle.std.proofs.lemmas.List.Elements.{Contains-push_cases, Contains-append_left}
 use Rattle.std.proofs.lemmas.List.Quantifiers.{all_pairs_push}
-use Rattle.ygrammar.specs.Grammar.{ContextFree, body_of}
+use Rattle.ysymbols.specs.Grammar.{ContextFree, body_of}
 use Rattle.ylalr.specs.declared.items.Item.{Item}
-use Rattle.ylalr.specs.Rows.{BitRows, Holds, AddsFrom}
+use Rattle.yrows.specs.Rows.{BitRows, Holds, AddsFrom}
 use Rattle.ylalr.specs.Sets.{Before, IsAscending, InRange, ItemsOf, Closure, given, IsClosure}
 use Rattle.ylalr.specs.Sets.{LeadsTo, FirstRule}
 use Rattle.ylalr.proofs.ClosureSteps.{closed_cases, closed_from_opened}
@@ -398,10 +398,3 @@ wanting_more g kernel n w o opens p t x io h e q a v = record { sound = sound; e
             let es : t ≡ s = heads t s x y (drop p.dot (body_of g p.rule)) q
             (subst (λ (u : Item). drop u.dot (body_of g u.rule) ≡ s ∷ y) ep f) in
             (a 0 r).1 (inr (refl, (io t r).1 (subst (λ u. FirstRule g u r) (sym es) b)))
-
--- an element doesn't depend on the default
-pub same_default : {X : Type 0} (xs : List X) (k : ℕ) (d e : X) → k < length xs →
-    get_or xs k d ≡ get_or xs k e
-same_default [] k d e h = absurd (omega arith)
-same_default (x ∷ xs) zero d e h = refl
-same_default (x ∷ xs) (suc k) d e h = same_default xs k d e (omega arith)

@@ -1,6 +1,6 @@
 -- Items valid for a prefix, without their lookaheads.
 use Rattle.std.proofs.Common.{ℕ, List, [], ◌∷◌}
-use Rattle.ygrammar.specs.Grammar.{ContextFree}
+use Rattle.ysymbols.specs.Grammar.{ContextFree}
 use Rattle.ylalr.specs.Items.{Valid, start, closure, move}
 use Rattle.ylalr.specs.Sets.{Closure, given, opened, Kernel, moved, Begin, begin}
 

@@ -3,15 +3,15 @@ use Rattle.std.proofs.Common.{ℕ, suc, ◌≡◌, ◌≢◌, ◌<◌, ◌↔◌
 use Rattle.std.proofs.Common.{subst, Option, Some, None}
 use Rattle.std.specs.List.{Contains, All}
 use Rattle.std.proofs.lemmas.List.Elements.{All-head, All-drop}
-use Rattle.ygrammar.specs.Grammar.{ContextFree, body_of, IsToken, end_token}
-use Rattle.ygrammar.specs.WellFormed.{WellFormed}
+use Rattle.ysymbols.specs.Grammar.{ContextFree, body_of, IsToken, end_token}
+use Rattle.ysymbols.specs.WellFormed.{WellFormed}
 use Rattle.ylalr.specs.declared.items.Item.{Item}
-use Rattle.ylalr.specs.Rows.{BitRows, Holds}
+use Rattle.yrows.specs.Rows.{BitRows, Holds}
 use Rattle.ylalr.specs.Items.{Valid, start, closure, move, IsCore, Lookahead}
 use Rattle.ylalr.specs.Sets.{moved, IsClosure}
 use Rattle.ylalr.specs.States.{StateLists, set_at, AreStates, GotoIs}
 use Rattle.ylalr.specs.Looks.{Spread, starts, closes, moves, SoundLooks, ClosedLooks}
-use Rattle.ylalr.specs.Places.{Places, IsPlace, rows_at}
+use Rattle.ylalr.specs.ItemRows.{ItemRows, IsRowOf, rows_at}
 use Rattle.ylalr.proofs.Cores.{every, once, core_start, core_goto}
 use Rattle.ylalr.proofs.Fruitful.{valid_rule, valid_token}
 
@@ -86,10 +86,10 @@ module _ (g : ContextFree) (f : WellFormed g) (t : StateLists) (to : ℕ → ℕ
       Lookahead g (set_at t.closures q) i a → Spread g to q i.rule i.dot a
   spread_from_lookahead q i a k l = spreads l.valid q k l.core
 
-  module _ (l : Places) (m : BitRows) (shut : ClosedLooks g to t l m) where
-    place_from : {q r d a : ℕ} → Spread g to q r d a →
-        (p : ℕ) × IsPlace t l q (record { rule = r; dot = d }) p
-    place_from {q = q} {r = r} {d = d} {a = a} s =
+  module _ (l : ItemRows) (m : BitRows) (shut : ClosedLooks g to t l m) where
+    row_is_from : {q r d a : ℕ} → Spread g to q r d a →
+        (p : ℕ) × IsRowOf t l q (record { rule = r; dot = d }) p
+    row_is_from {q = q} {r = r} {d = d} {a = a} s =
         let z = found s in
         let c = (z.core (record { rule = r; dot = d })).1 (a, z.valid) in (
           get_or (rows_at l q) c.0 0,
@@ -106,20 +106,20 @@ module _ (g : ContextFree) (f : WellFormed g) (t : StateLists) (to : ℕ → ℕ
         )
 
     pub spread_holds : {q r d a : ℕ} → Spread g to q r d a →
-        (p : ℕ) → IsPlace t l q (record { rule = r; dot = d }) p → Holds m p a
+        (p : ℕ) → IsRowOf t l q (record { rule = r; dot = d }) p → Holds m p a
     spread_holds starts p h = shut.start p h
     spread_holds (closes {q = q} {r = r} {d = d} {a = a} {s = s} {b = b} {y = y} z e h w) p i =
-        let from = place_from z in
+        let from = row_is_from z in
         let o = from.1 in
         (shut.states q o.state (record { rule = r; dot = d }) from.0 o).closes s h y a b p
         (spread_holds z from.0 o) e w i
     spread_holds (moves {q = q} {n = n} {r = r} {d = d} {a = a} {x = x} {y = y} z e h w) p i =
-        let from = place_from z in
+        let from = row_is_from z in
         let o = from.1 in
         (shut.states q o.state (record { rule = r; dot = d }) from.0 o).moves x n y a p
         (spread_holds z from.0 o) e h w i
 
-    pub looks_exact : SoundLooks g to t l m → (q : ℕ) (i : Item) (p a : ℕ) → IsPlace t l q i p →
+    pub looks_exact : SoundLooks g to t l m → (q : ℕ) (i : Item) (p a : ℕ) → IsRowOf t l q i p →
         Holds m p a ↔ Lookahead g (set_at t.closures q) i a
     looks_exact s q i p a h = (
       (λ v. lookahead_from_spread q i a (s q i p a h v)),

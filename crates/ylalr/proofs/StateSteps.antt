@@ -2,10 +2,10 @@
 use Rattle.std.proofs.Common.{ℕ, zero, suc, ◌≡◌, ◌<◌, ◌≤◌, ◌+◌, ◌⊎◌, List, [], ◌∷◌, ◌++◌, length}
 use Rattle.std.proofs.Common.{get_or, refl, sym, ◌∙◌, ap, subst, inl, inr, arith}
 use Rattle.std.specs.List.{Contains}
-use Rattle.ygrammar.specs.Grammar.{ContextFree}
-use Rattle.ygrammar.specs.WellFormed.{WellFormed}
+use Rattle.ysymbols.specs.Grammar.{ContextFree}
+use Rattle.ysymbols.specs.WellFormed.{WellFormed}
 use Rattle.ylalr.specs.declared.items.Item.{Item}
-use Rattle.ylalr.specs.Limits.{most_states}
+use Rattle.yrows.specs.Limits.{most_states}
 use Rattle.ylalr.specs.Sets.{IsClosure, IsAscending, InRange}
 use Rattle.ylalr.specs.States.{StateLists, set_at, start_item, IsState, AreStates, Extends, MayJoin}
 use Rattle.ylalr.specs.States.{with_state, IsFresh, Overflows}

@@ -1,9 +1,9 @@
 -- A form that vanishes, by recursion on the form: the other reading of `Nullable`.
 use Rattle.std.proofs.Common.{ℕ, ◌≡◌, ◌<◌, List, [], ◌∷◌, ◌++◌, length}
-use Rattle.ygrammar.specs.Derivation.{Replaces, Derives, done, step}
-use Rattle.ygrammar.specs.Grammar.{ContextFree, left_of, body_of}
-use Rattle.ygrammar.specs.Forms.{IsRule, Nullable}
-use Rattle.ygrammar.proofs.Derivations.{trans, replaced, beside, rule_is}
+use Rattle.ysymbols.specs.Derivation.{Replaces, Derives, done, step}
+use Rattle.ysymbols.specs.Grammar.{ContextFree, left_of, body_of}
+use Rattle.ysymbols.specs.Forms.{IsRule, Nullable}
+use Rattle.ysymbols.proofs.Derivations.{trans, replaced, beside, rule_is}
 
 pub data Vanishes (g : ContextFree) : List ℕ → Type 0 where
   none : Vanishes g []

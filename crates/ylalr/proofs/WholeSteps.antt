@@ -6,20 +6,20 @@ use Rattle.std.specs.List.{Contains}
 use Rattle.std.specs.Int.{bit_at}
 use Rattle.std.proofs.lemmas.Bool.Decides.{nat_tests}
 use Rattle.std.proofs.lemmas.List.Elements.{Contains-get_or}
-use Rattle.ygrammar.specs.Grammar.{ContextFree, GrammarValue}
-use Rattle.ygrammar.specs.WellFormed.{WellFormed}
+use Rattle.ysymbols.specs.Grammar.{ContextFree, GrammarValue}
+use Rattle.ysymbols.specs.WellFormed.{WellFormed}
 use Rattle.ylalr.specs.declared.items.Item.{Item}
 use Rattle.ylalr.specs.declared.gotos.Goto.{Goto}
 use Rattle.ylalr.specs.Gotos.{goto_of}
-use Rattle.ylalr.specs.Rows.{BitRows, Holds, word_of}
+use Rattle.yrows.specs.Rows.{BitRows, Holds, word_of}
 use Rattle.ylalr.specs.Items.{Lookahead}
 use Rattle.ylalr.specs.Sets.{given, IsClosure}
 use Rattle.ylalr.specs.States.{StateLists, set_at, start_item, AreStates, IsState, GotoIs}
 use Rattle.ylalr.specs.States.{Overflows}
 use Rattle.ylalr.specs.Looks.{SoundLooks, ClosedLooks}
-use Rattle.ylalr.specs.Places.{Places, IsPlace, rows_at}
+use Rattle.ylalr.specs.ItemRows.{ItemRows, IsRowOf, rows_at}
 use Rattle.ylalr.specs.Collection.{HasStates, IsGoto, Guide, IsGuide, TooMany}
-use Rattle.ylalr.specs.Limits.{most_states}
+use Rattle.yrows.specs.Limits.{most_states}
 use Rattle.ylalr.proofs.Cores.{every, once, core_start, core_goto, source_item}
 use Rattle.ylalr.proofs.LookSteps.{looks_exact, looks_none}
 
@@ -168,12 +168,12 @@ in_to m f (j ∷ xs) p i t (suc k) h e z = or_right (item_test j i && row_test m
     (looks_in m f xs (p + 1) i t) (in_to m f xs (p + 1) i t k (omega arith) e
     (let e0 : p + suc k ≡ p + 1 + k = omega arith in subst (λ r. Holds m (f r) t) e0 z))
 
-looks_of : StateLists → Places → BitRows → ℕ → Item → ℕ → Bool
+looks_of : StateLists → ItemRows → BitRows → ℕ → Item → ℕ → Bool
 looks_of s l m q i t = looks_in m (λ k. get_or (rows_at l q) k 0) (set_at s.closures q) 0 i t
 
 -- where the item stands in its state, its row
-placed : (s : StateLists) (l : Places) (q : ℕ) (i : Item) → q < length s.closures →
-    (c : Contains (set_at s.closures q) i) → IsPlace s l q i (get_or (rows_at l q) c.0 0)
+placed : (s : StateLists) (l : ItemRows) (q : ℕ) (i : Item) → q < length s.closures →
+    (c : Contains (set_at s.closures q) i) → IsRowOf s l q i (get_or (rows_at l q) c.0 0)
 placed s l q i h c = record {
   state = h;
   at = record {
@@ -187,7 +187,7 @@ placed s l q i h c = record {
 
 module _ (v : GrammarValue) (f : WellFormed v.bare) (t : StateLists) (rows : List (List Goto))
     (are : AreStates v.bare t) (gotos : (q x : ℕ) → q < length t.closures → x < v.bare.symbols →
-    GotoIs v.bare t q x (goto_of rows q x)) (l : Places) (m : BitRows)
+    GotoIs v.bare t q x (goto_of rows q x)) (l : ItemRows) (m : BitRows)
     (sound : SoundLooks v.bare (goto_of rows) t l m)
     (shut : ClosedLooks v.bare (goto_of rows) t l m) where
   looks_test : (q : ℕ) (i : Item) (a : ℕ) → q < length t.closures → IsTrue (looks_of t l m q i a) ↔
@@ -218,11 +218,11 @@ module _ (v : GrammarValue) (f : WellFormed v.bare) (t : StateLists) (rows : Lis
     },
   )
 
-  pub looks_at : (q : ℕ) (i : Item) (p a : ℕ) → IsPlace t l q i p → Holds m p a ↔ Lookahead v.bare
+  pub looks_at : (q : ℕ) (i : Item) (p a : ℕ) → IsRowOf t l q i p → Holds m p a ↔ Lookahead v.bare
       (set_at t.closures q) i a
   looks_at q i p a ip = looks_exact v.bare f t (goto_of rows) are gotos l m shut sound q i p a ip
 
   pub looks_absent : (q : ℕ) (i : Item) (a : ℕ) → q < length t.closures →
-      ((p : ℕ) → IsPlace t l q i p → ⊥) → Lookahead v.bare (set_at t.closures q) i a → ⊥
+      ((p : ℕ) → IsRowOf t l q i p → ⊥) → Lookahead v.bare (set_at t.closures q) i a → ⊥
   looks_absent q i a h none = looks_none v.bare (set_at t.closures q) i a
       (λ c. none (get_or (rows_at l q) c.0 0) (placed t l q i h c))

@@ -2,11 +2,11 @@
 -- Ullman, section 4.7).
 use Rattle.std.specs.Prelude.{ℕ, ◌≡◌, ◌<◌, ◌≤◌, ◌↔◌, Bool, List, [], ◌∷◌, length, slice_index_or}
 use Rattle.std.specs.Prelude.{Option, MatchOption, IsTrue}
-use Rattle.ygrammar.specs.Grammar.{ContextFree, GrammarValue}
+use Rattle.ysymbols.specs.Grammar.{ContextFree, GrammarValue}
 use Rattle.ylalr.specs.declared.items.Item.{Item}
 use Rattle.ylalr.specs.declared.gotos.Goto.{Goto}
 use Rattle.ylalr.specs.Gotos.{goto_of}
-use Rattle.ylalr.specs.Limits.{most_states}
+use Rattle.yrows.specs.Limits.{most_states}
 use Rattle.ylalr.specs.declared.fault.BuildFault.{BuildFault}
 use Rattle.ylalr.specs.Items.{InCore, IsCore, Lookahead}
 use Rattle.ylalr.specs.Sets.{IsAscending, InRange}

@@ -1,5 +1,5 @@
 -- The states found so far, with what finds more.
-use Rattle.ygrammar.specs.Grammar.{ContextFree}
+use Rattle.ysymbols.specs.Grammar.{ContextFree}
 use Rattle.ylalr.specs.declared.collection.Finder.{Finder}
 use Rattle.ylalr.specs.Sets.{AreFirstRules, HasRules}
 use Rattle.ylalr.specs.States.{FewStates}

@@ -1,9 +1,9 @@
 -- Marks of nullable symbols, and rows of first tokens.
 use Rattle.std.specs.Prelude.{ℕ, Bool, List, [], ◌∷◌, ◌↔◌}
-use Rattle.ygrammar.specs.Grammar.{ContextFree}
-use Rattle.ygrammar.specs.Forms.{Nullable, First}
-use Rattle.ylalr.specs.Marks.{Has}
-use Rattle.ylalr.specs.Rows.{BitRows, Holds}
+use Rattle.ysymbols.specs.Grammar.{ContextFree}
+use Rattle.ysymbols.specs.Forms.{Nullable, First}
+use Rattle.yrows.specs.Marks.{Has}
+use Rattle.yrows.specs.Rows.{BitRows, Holds}
 
 -- the marked symbols are those that derive the empty form
 abbrev pub IsNullable : ContextFree → List Bool → Type 0

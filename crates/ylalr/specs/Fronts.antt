@@ -1,10 +1,10 @@
 -- The symbols that a body can begin with where marked ones may be passed over, and links from them
 -- to left sides.
 use Rattle.std.specs.Prelude.{ℕ, Bool, List, ◌≡◌, ◌<◌, ◌⊎◌, ◌↔◌, length, All, take, slice_index}
-use Rattle.ygrammar.specs.Grammar.{ContextFree, left_of, body_of}
-use Rattle.ylalr.specs.Links.{AreLinks, Link}
-use Rattle.ylalr.specs.Marks.{Has}
-use Rattle.ylalr.specs.Rows.{BitRows, Holds}
+use Rattle.ysymbols.specs.Grammar.{ContextFree, left_of, body_of}
+use Rattle.yrows.specs.Links.{AreLinks, Link}
+use Rattle.yrows.specs.Marks.{Has}
+use Rattle.yrows.specs.Rows.{BitRows, Holds}
 
 -- s stands in the form, and all symbols before it are marked
 pub record InFront (n : List Bool) (x : List ℕ) (s : ℕ) : Type 0 where

@@ -3,8 +3,8 @@
 use Rattle.std.specs.Prelude.{ℕ, suc, ◌≡◌, ◌≢◌, ◌<◌, ◌↔◌, List, [], ◌∷◌, ◌++◌, length, drop}
 use Rattle.std.specs.List.{Contains}
 use Rattle.ylalr.specs.declared.items.Item.{Item}
-use Rattle.ygrammar.specs.Grammar.{ContextFree, left_of, body_of, end_token}
-use Rattle.ygrammar.specs.Forms.{First}
+use Rattle.ysymbols.specs.Grammar.{ContextFree, left_of, body_of, end_token}
+use Rattle.ysymbols.specs.Forms.{First}
 
 -- The item (rule r, dot d) is valid for a prefix with the lookahead a.
 pub data Valid (g : ContextFree) : List ℕ → ℕ → ℕ → ℕ → Type 0 where

@@ -5,15 +5,8 @@ pub mod First
 pub mod Fronts
 pub mod Gotos
 pub mod Items
-pub mod Limits
-pub mod Links
 pub mod Looks
-pub mod Marks
-pub mod Order
-pub mod Parts
-pub mod Places
-pub mod Rows
+pub mod Lr0
+pub mod ItemRows
 pub mod Sets
-pub mod Spread
 pub mod States
-pub mod Waiting

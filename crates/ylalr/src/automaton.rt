@@ -1,61 +1,61 @@
 //! The automaton of a grammar: its states, their gotos, and the lookaheads of their items.
 
 ghost use Rattle.std.specs.Prelude.{◌≡◌, ◌<◌, ◌≤◌, ◌↔◌, [], ◌∷◌, length, IsTrue, IfOk, IfErr};
-ghost use Rattle.ygrammar.specs.Forms.{Nullable, First};
+ghost use Rattle.ysymbols.specs.Forms.{Nullable, First};
 ghost use Rattle.ylalr.specs.Items.{Lookahead};
 ghost use Rattle.ylalr.specs.Collection.{Collection, HasStates, IsGoto, goto_in, Guide, IsGuide};
 ghost use Rattle.ylalr.specs.Collection.{TooMany, bare_of, state_of};
-ghost use Rattle.ylalr.specs.Limits.{most_states};
-ghost use Rattle.ylalr.specs.Parts.{FitParts};
+ghost use Rattle.yrows.specs.Limits.{most_states};
+ghost use Rattle.ylalr.specs.Lr0.{FitLr0};
 ghost use Rattle.ylalr.specs.declared.fault.BuildFault.{BuildFault};
 
 use crate::collection::all_states;
 use crate::fault::BuildFault;
 use crate::first::{first_tokens, nullable_symbols};
 use crate::items::Item;
-use crate::looks::{Parts, all_looks, has_look};
-use crate::places::Places;
-use crate::rows::Rows;
+use crate::looks::{Lr0, all_looks, has_look};
+use crate::item_rows::ItemRows;
+use yrows::rows::Rows;
 use std::alloc::Global;
 use std::marker::Model;
-use ygrammar::{Grammar, Sym};
+use ysymbols::{Grammar, Sym};
 
 /// A grammar with its canonical collection of sets of items and their merged lookaheads.
 #[derive(Drop)]
 pub struct Automaton {
-    parts: Parts,
+    lr0: Lr0,
     looks: Rows,
 }
 
 impl Model for Automaton {
     ghost use Rattle.ylalr.specs.Collection.{Collection};
-    ghost use Rattle.ylalr.specs.Parts.{Whole, collection_of};
+    ghost use Rattle.ylalr.specs.Lr0.{Whole, collection_of};
 
     ghost Value = { Collection };
 
-    ghost view = { λ a. collection_of a.parts };
+    ghost view = { λ a. collection_of a.lr0 };
 
-    ghost invariant = { λ a. Whole a.parts a.looks };
+    ghost invariant = { λ a. Whole a.lr0 a.looks };
 }
 
 /// What the lookaheads are made from, for a grammar.
-fn prepare(alloc: Global, grammar: Grammar) -> Result<Parts, BuildFault>
+fn prepare(alloc: Global, grammar: Grammar) -> Result<Lr0, BuildFault>
     ensures grammar { IfOk result (λ p. p.grammar ≡ grammar) }
-    ensures fit { IfOk result (λ p. FitParts p) }
+    ensures fit { IfOk result (λ p. FitLr0 p) }
     ensures too_many { IfErr result (λ e. e ≡ BuildFault.TooManySets → TooMany grammar.bare) }
 {
     let _well_formed = grammar.symbols();
     let nullable = nullable_symbols(alloc, &grammar)?;
     let first = first_tokens(alloc, &grammar, &nullable)?;
     let (states, gotos) = all_states(alloc, &grammar)?;
-    let places = Places::of(alloc, &grammar, &states)?;
-    Ok(Parts {
+    let item_rows = ItemRows::of(alloc, &grammar, &states)?;
+    Ok(Lr0 {
         grammar,
         nullable,
         first,
         states,
         gotos,
-        places,
+        item_rows,
     })
 }
 
@@ -69,9 +69,9 @@ pub fn build(alloc: Global, grammar: Grammar) -> Result<Automaton, BuildFault>
     ensures few { IfOk result (λ a. length a.states ≤ most_states) }
     ensures too_many { IfErr result (λ e. e ≡ BuildFault.TooManySets → TooMany grammar.bare) }
 {
-    let parts = prepare(alloc, grammar)?;
-    let looks = all_looks(alloc, &parts)?;
-    Ok(Automaton { parts, looks })
+    let lr0 = prepare(alloc, grammar)?;
+    let looks = all_looks(alloc, &lr0)?;
+    Ok(Automaton { lr0, looks })
 }
 
 impl Automaton {
@@ -79,7 +79,7 @@ impl Automaton {
     pub fn grammar(&self) -> &Grammar
         ensures { result.now ≡ self.now.grammar }
     {
-        &self.parts.grammar
+        &self.lr0.grammar
     }
 
     /// How many states there are, from 1 to 16,384. They are the numbers below this, and state 0
@@ -91,7 +91,7 @@ impl Automaton {
         ensures states { HasStates self.now }
         ensures guide { (u : Guide) × IsGuide self.now u }
     {
-        self.parts.states.count()
+        self.lr0.states.count()
     }
 
     /// All items of a state, each once, by rule and then dot; `q` is below the number of states
@@ -100,7 +100,7 @@ impl Automaton {
         requires { q < length self.now.states }
         ensures { result.now ≡ state_of self.now q }
     {
-        self.parts.states.items(q)
+        self.lr0.states.items(q)
     }
 
     /// The state of a prefix of state `q` followed by `x`, or `None` where no item moves over
@@ -112,7 +112,7 @@ impl Automaton {
         ensures value { result ≡ goto_in self.now q x }
         ensures exact { IsGoto self.now q x result }
     {
-        self.parts.gotos.get(q, x)
+        self.lr0.gotos.get(q, x)
     }
 
     /// Whether the symbol is a lookahead of the item in the state: a token for which the item is
@@ -124,7 +124,7 @@ impl Automaton {
         requires symbol { t < (bare_of self.now).symbols }
         ensures { IsTrue result ↔ Lookahead (bare_of self.now) (state_of self.now q) item t }
     {
-        has_look(&self.parts, &self.looks, q, item, t)
+        has_look(&self.lr0, &self.looks, q, item, t)
     }
 
     /// Whether the symbol derives the empty form; `s` is any symbol of the grammar, and no token
@@ -133,7 +133,7 @@ impl Automaton {
         requires { s < (bare_of self.now).symbols }
         ensures { IsTrue result ↔ Nullable (bare_of self.now) (s ∷ []) }
     {
-        self.parts.nullable.has(s)
+        self.lr0.nullable.has(s)
     }
 
     /// Whether the symbol `s` derives a form that begins with the token `t`; false where `t` is a
@@ -143,6 +143,6 @@ impl Automaton {
         requires token { t < (bare_of self.now).symbols }
         ensures { IsTrue result ↔ First (bare_of self.now) (s ∷ []) t }
     {
-        self.parts.grammar.is_token(t) && self.parts.first.has(s, t)
+        self.lr0.grammar.is_token(t) && self.lr0.first.has(s, t)
     }
 }

@@ -1,16 +1,16 @@
 //! The closure of a kernel: its items and the first items of the rules that they lead to.
 
 ghost use Rattle.std.specs.Prelude.{◌≡◌, ◌<◌, ◌≤◌, ◌+◌, ◌^◌, All, OnOk, IfOk};
-ghost use Rattle.ygrammar.specs.Grammar.{most_rules};
-ghost use Rattle.ylalr.specs.Rows.{IsSized};
+ghost use Rattle.ysymbols.specs.Grammar.{most_rules};
+ghost use Rattle.yrows.specs.Rows.{IsSized};
 ghost use Rattle.ylalr.specs.Sets.{AreFirstRules, HasRules, Wants, IsClosure, IsAscending, InRange};
 ghost use Rattle.ylalr.specs.Sets.{AddsFirst, IsMerged};
 
 use crate::items::{Item, symbol_after};
-use crate::list::Sequence;
-use crate::rows::Rows;
+use yrows::list::Sequence;
+use yrows::rows::Rows;
 use std::alloc::{AllocError, Global};
-use ygrammar::Grammar;
+use ysymbols::Grammar;
 
 /// Sets the row of rules that the kernel's items lead to.
 fn want(grammar: &Grammar, first_rules: &Rows, kernel: &[Item], wanted: &mut Rows)

@@ -4,15 +4,15 @@
 ghost use Rattle.std.specs.Prelude.{◌≡◌, length, IfOk};
 ghost use Rattle.ylalr.specs.First.{IsNullable, IsFirst};
 ghost use Rattle.ylalr.specs.Fronts.{HasEach};
-ghost use Rattle.ylalr.specs.Rows.{IsSized};
+ghost use Rattle.yrows.specs.Rows.{IsSized};
 
 use crate::fronts::front_links;
-use crate::marks::Marks;
-use crate::rows::Rows;
-use crate::spread::spread;
+use yrows::marks::Marks;
+use yrows::rows::Rows;
+use yrows::spread::spread;
 use crate::tokens::token_count;
 use std::alloc::{AllocError, Global};
-use ygrammar::Grammar;
+use ysymbols::Grammar;
 
 /// The symbols that derive the empty form.
 pub fn nullable_symbols(alloc: Global, grammar: &Grammar) -> Result<Marks, AllocError>
@@ -20,8 +20,8 @@ pub fn nullable_symbols(alloc: Global, grammar: &Grammar) -> Result<Marks, Alloc
     ensures exact { IfOk result (λ marks. IsNullable grammar.now.bare marks) }
 {
     let _well_formed = grammar.symbols();
-    let places = grammar.nullable(alloc)?;
-    Ok(Marks::of(places))
+    let item_rows = grammar.nullable(alloc)?;
+    Ok(Marks::of(item_rows))
 }
 
 /// Rows in which each token has itself.

@@ -2,16 +2,16 @@
 //! with. They are found as first tokens are, but no symbol is passed over.
 
 ghost use Rattle.std.specs.Prelude.{IfOk, length};
-ghost use Rattle.ygrammar.specs.Grammar.{left_of};
+ghost use Rattle.ysymbols.specs.Grammar.{left_of};
 ghost use Rattle.ylalr.specs.Fronts.{HasEach};
 ghost use Rattle.ylalr.specs.Sets.{AreFirstRules, HasRules};
 
 use crate::fronts::front_links;
-use crate::marks::Marks;
-use crate::rows::Rows;
-use crate::spread::spread;
+use yrows::marks::Marks;
+use yrows::rows::Rows;
+use yrows::spread::spread;
 use std::alloc::{AllocError, Global};
-use ygrammar::Grammar;
+use ysymbols::Grammar;
 
 /// Rows in which each left side has its own rules.
 fn own_rules(alloc: Global, grammar: &Grammar) -> Result<Rows, AllocError>

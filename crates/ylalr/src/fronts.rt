@@ -3,10 +3,10 @@
 ghost use Rattle.std.specs.Prelude.{◌≡◌, ◌<◌, length, All, IfOk, OnOk};
 ghost use Rattle.ylalr.specs.Fronts.{AddsFront, AreFrontLinks};
 
-use crate::links::Links;
-use crate::marks::Marks;
+use yrows::links::Links;
+use yrows::marks::Marks;
 use std::alloc::{AllocError, Global};
-use ygrammar::{Grammar, Sym};
+use ysymbols::{Grammar, Sym};
 
 /// Links to `to` from each symbol of a form, up to the first one that isn't marked.
 pub fn link_front(

@@ -3,10 +3,10 @@
 ghost use Rattle.std.specs.Prelude.{◌≡◌, ◌<◌, ◌++◌, [], ◌∷◌, length, slice_index_or, OnOk};
 ghost use Rattle.ylalr.specs.Gotos.{lookup, goto_of, IsAscendingRow};
 
-use crate::list::Sequence;
+use yrows::list::Sequence;
 use std::alloc::{AllocError, Global};
 use std::marker::Model;
-use ygrammar::Sym;
+use ysymbols::Sym;
 
 /// Over this symbol to this state.
 #[derive(Clone, Copy, Debug, Drop, PartialEq, Eq)]

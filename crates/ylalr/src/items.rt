@@ -2,12 +2,12 @@
 
 ghost use Rattle.std.specs.Prelude.{ℕ, ◌≡◌, ◌<◌, ◌≤◌, suc, drop, length};
 ghost use Rattle.std.specs.Prelude.{MatchOption, All};
-ghost use Rattle.ygrammar.specs.Grammar.{body_of};
+ghost use Rattle.ysymbols.specs.Grammar.{body_of};
 ghost use Rattle.std.specs.List.{Contains};
 ghost use Rattle.ylalr.specs.Sets.{Moves, IsAscending, IsNext, IsMove, IsAt};
 
 use crate::tokens::END;
-use ygrammar::{Grammar, Sym};
+use ysymbols::{Grammar, Sym};
 
 /// A rule and how many symbols of its body stand before the dot.
 #[derive(Clone, Copy, Debug, Default, Drop, PartialEq, Eq, Hash)]

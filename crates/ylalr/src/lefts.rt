@@ -3,15 +3,15 @@
 
 ghost use Rattle.std.specs.Prelude.{ℕ, ◌≡◌, ◌<◌, ◌≤◌, Some, None, length, slice_index_or};
 ghost use Rattle.std.specs.Prelude.{slice_set, IfOk};
-ghost use Rattle.ygrammar.specs.Grammar.{left_of, most_symbols};
-ghost use Rattle.ylalr.specs.Places.{AreLefts, AreRows, TakesRow};
+ghost use Rattle.ysymbols.specs.Grammar.{left_of, most_symbols};
+ghost use Rattle.ylalr.specs.ItemRows.{AreLefts, AreRows, TakesRow};
 ghost use Rattle.ylalr.specs.Sets.{InRange};
 
 use crate::items::Item;
-use crate::rows::Rows;
+use yrows::rows::Rows;
 use std::alloc::{AllocError, Global};
 use std::marker::Model;
-use ygrammar::{Grammar, Sym};
+use ysymbols::{Grammar, Sym};
 
 /// For each symbol the row of the items that it is the left side of, and a row of bits with all
 /// symbols that have one: there are many more symbols than left sides in a state.
@@ -23,7 +23,7 @@ pub struct Lefts {
 
 impl Model for Lefts {
     ghost use Rattle.std.specs.Prelude.{ℕ, List, Option};
-    ghost use Rattle.ylalr.specs.Places.{HasUsed};
+    ghost use Rattle.ylalr.specs.ItemRows.{HasUsed};
 
     ghost Value = { List (Option ℕ) };
 

@@ -8,15 +8,15 @@
 //! (`buckets`) are the kernels of its gotos, and each state has a list of those by symbol
 //! (`gotos`).
 //!
-//! What is passed on from one to another stands in rows of bits (`rows`), with links between the
-//! rows (`links`): rows give along their links until none grows (`spread`). A row that grew waits
-//! in a queue, at most once, until it is taken from the front (`waiting`); at first all wait, most
-//! in front of those to which they lead (`order`). So left sides get the first tokens and the
-//! first rules of what their bodies can begin with (`fronts`).
+//! What is passed on from one to another stands in rows of bits with links between the rows, which
+//! `yrows` has: rows give along their links until none grows. A row that grew waits in a queue, at
+//! most once, until it is taken from the front; at first all wait, most in front of those to which
+//! they lead. So left sides get the first tokens and the first rules of what their bodies can
+//! begin with (`fronts`).
 //!
 //! Lookaheads go the same way, one bit for each token. In each state every item of the kernel has
 //! a row of its own, and the items of one left side with the dot at 0, whose lookaheads are the
-//! same, share one (`places`, `lefts`). One pass over the items (`looks`) puts into the row of the
+//! same, share one (`item_rows`, `lefts`). One pass over the items (`looks`) puts into the row of the
 //! left side after a dot what the form behind it begins with, and links an item's row to that of
 //! the item with its dot moved, in the goto's state, and to that of the left side after its dot,
 //! where the form behind vanishes.
@@ -38,17 +38,10 @@ mod fronts;
 mod gotos;
 mod items;
 mod lefts;
-mod links;
-mod list;
 mod looks;
-mod marks;
-mod order;
-mod places;
-mod rows;
-mod spread;
+mod item_rows;
 mod states;
 mod tokens;
-mod waiting;
 
 pub use automaton::{Automaton, build};
 pub use fault::BuildFault;

@@ -6,34 +6,34 @@ ghost use Rattle.ylalr.specs.Draft.{IsHere, LeftsIn, SoundDraft, Further, IsMove
 ghost use Rattle.ylalr.specs.Draft.{ShiftsAt, ServesAt, ServesState, ServesAll, StartsDraft};
 ghost use Rattle.ylalr.specs.Draft.{FirstSized, AddsAtMost, HasForm};
 ghost use Rattle.ylalr.specs.Items.{Lookahead};
-ghost use Rattle.ylalr.specs.Marks.{Has};
-ghost use Rattle.ylalr.specs.Parts.{FitParts, Whole};
-ghost use Rattle.ylalr.specs.Rows.{Grows, IsSized};
+ghost use Rattle.yrows.specs.Marks.{Has};
+ghost use Rattle.ylalr.specs.Lr0.{FitLr0, Whole};
+ghost use Rattle.yrows.specs.Rows.{Grows, IsSized};
 ghost use Rattle.ylalr.specs.States.{set_at};
 
 use crate::gotos::Gotos;
 use crate::items::{Item, form_after, moves_over, symbol_after};
 use crate::lefts::Lefts;
-use crate::links::Links;
-use crate::marks::Marks;
-use crate::places::{Places, place_of};
-use crate::rows::Rows;
-use crate::spread::spread;
+use yrows::links::Links;
+use yrows::marks::Marks;
+use crate::item_rows::{ItemRows, item_row};
+use yrows::rows::Rows;
+use yrows::spread::spread;
 use crate::states::States;
 use crate::tokens::{END, token_count};
 use std::alloc::{AllocError, Global};
 use std::marker::Model;
-use ygrammar::{Grammar, Sym};
+use ysymbols::{Grammar, Sym};
 
-/// What the lookaheads are made from.
+/// The LR(0) automaton of a grammar, and what its lookaheads are made from beside it.
 #[derive(Drop)]
-pub struct Parts {
+pub struct Lr0 {
     pub grammar: Grammar,
     pub nullable: Marks,
     pub first: Rows,
     pub states: States,
     pub gotos: Gotos,
-    pub places: Places,
+    pub item_rows: ItemRows,
 }
 
 /// An item of a state, and its row.
@@ -60,21 +60,21 @@ impl Model for Draft {
 }
 
 /// Adds to row `to` what the form begins with, and says whether the form vanishes.
-fn add_form(parts: &Parts, form: &[Sym], looks: &mut Rows, to: usize) -> bool
-    requires marks { length parts.now.nullable ≡ parts.now.grammar.bare.symbols }
-    requires first { FirstSized parts.now }
-    requires form { All (λ s. s < parts.now.grammar.bare.symbols) form.now }
-    requires columns { looks.old.width ≡ parts.now.grammar.bare.tokens }
+fn add_form(lr0: &Lr0, form: &[Sym], looks: &mut Rows, to: usize) -> bool
+    requires marks { length lr0.now.nullable ≡ lr0.now.grammar.bare.symbols }
+    requires first { FirstSized lr0.now }
+    requires form { All (λ s. s < lr0.now.grammar.bare.symbols) form.now }
+    requires columns { looks.old.width ≡ lr0.now.grammar.bare.tokens }
     requires to_in { to < looks.old.height }
     ensures sized { IsSized looks.old.height looks.old.width looks.new }
     ensures grows { Grows looks.old looks.new }
-    ensures sound { AddsAtMost parts.now form.now to looks.old looks.new }
-    ensures every { HasForm parts.now form.now to looks.new }
-    ensures vanishes { IsTrue result ↔ All (Has parts.now.nullable) form.now }
+    ensures sound { AddsAtMost lr0.now form.now to looks.old looks.new }
+    ensures every { HasForm lr0.now form.now to looks.new }
+    ensures vanishes { IsTrue result ↔ All (Has lr0.now.nullable) form.now }
 {
     for s in form {
-        looks.add_from(to, &parts.first, *s);
-        if !parts.nullable.has(*s) {
+        looks.add_from(to, &lr0.first, *s);
+        if !lr0.nullable.has(*s) {
             return false;
         }
     }
@@ -83,154 +83,154 @@ fn add_form(parts: &Parts, form: &[Sym], looks: &mut Rows, to: usize) -> bool
 
 /// The closure rule from one item: the row of the left side after the dot gets what the form
 /// after it begins with, and a link from the item's row where that form vanishes.
-fn open(parts: &Parts, lefts: &Lefts, here: Here, draft: &mut Draft) -> Result<(), AllocError>
-    requires fit { FitParts parts.now }
-    requires here { IsHere parts.now here }
-    requires lefts { LeftsIn parts.now here.state lefts.now }
-    requires sound { SoundDraft parts.now draft.old }
-    ensures sound { OnOk result (SoundDraft parts.now draft.new) }
+fn open(lr0: &Lr0, lefts: &Lefts, here: Here, draft: &mut Draft) -> Result<(), AllocError>
+    requires fit { FitLr0 lr0.now }
+    requires here { IsHere lr0.now here }
+    requires lefts { LeftsIn lr0.now here.state lefts.now }
+    requires sound { SoundDraft lr0.now draft.old }
+    ensures sound { OnOk result (SoundDraft lr0.now draft.new) }
     ensures further { OnOk result (Further draft.old draft.new) }
-    ensures opens { OnOk result (OpensAt parts.now draft.new here.state here.item here.row) }
+    ensures opens { OnOk result (OpensAt lr0.now draft.new here.state here.item here.row) }
 {
-    let Some(next) = symbol_after(&parts.grammar, here.item) else {
+    let Some(next) = symbol_after(&lr0.grammar, here.item) else {
         return Ok(());
     };
     let Some(to) = lefts.get(next) else {
         return Ok(());
     };
-    let form = form_after(&parts.grammar, here.item);
-    if add_form(parts, form, &mut draft.looks, to) {
+    let form = form_after(&lr0.grammar, here.item);
+    if add_form(lr0, form, &mut draft.looks, to) {
         draft.links.push(here.row, to)?;
     }
     Ok(())
 }
 
 /// The row of the item with its dot moved, in the state to which the symbol after the dot leads.
-fn moved(parts: &Parts, here: Here) -> Option<usize>
-    requires fit { FitParts parts.now }
-    requires here { IsHere parts.now here }
-    ensures { MatchOption result ((t : ℕ) → IsMoved parts.now here t → ⊥) (IsMoved parts.now here) }
+fn moved(lr0: &Lr0, here: Here) -> Option<usize>
+    requires fit { FitLr0 lr0.now }
+    requires here { IsHere lr0.now here }
+    ensures { MatchOption result ((t : ℕ) → IsMoved lr0.now here t → ⊥) (IsMoved lr0.now here) }
 {
-    let x = moves_over(&parts.grammar, here.item)?;
-    let n = parts.gotos.get(here.state, x)?;
+    let x = moves_over(&lr0.grammar, here.item)?;
+    let n = lr0.gotos.get(here.state, x)?;
     let item = Item {
         rule: here.item.rule,
         dot: here.item.dot + 1,
     };
-    place_of(&parts.states, &parts.places, n, item)
+    item_row(&lr0.states, &lr0.item_rows, n, item)
 }
 
 /// The goto rule from one item: a link to the item with its dot moved.
-fn shift(parts: &Parts, here: Here, draft: &mut Draft) -> Result<(), AllocError>
-    requires fit { FitParts parts.now }
-    requires here { IsHere parts.now here }
-    requires sound { SoundDraft parts.now draft.old }
-    ensures sound { OnOk result (SoundDraft parts.now draft.new) }
+fn shift(lr0: &Lr0, here: Here, draft: &mut Draft) -> Result<(), AllocError>
+    requires fit { FitLr0 lr0.now }
+    requires here { IsHere lr0.now here }
+    requires sound { SoundDraft lr0.now draft.old }
+    ensures sound { OnOk result (SoundDraft lr0.now draft.new) }
     ensures further { OnOk result (Further draft.old draft.new) }
-    ensures shifts { OnOk result (ShiftsAt parts.now draft.new here.state here.item here.row) }
+    ensures shifts { OnOk result (ShiftsAt lr0.now draft.new here.state here.item here.row) }
 {
-    if let Some(to) = moved(parts, here) {
+    if let Some(to) = moved(lr0, here) {
         draft.links.push(here.row, to)?;
     }
     Ok(())
 }
 
 /// Both rules from one item.
-fn visit(parts: &Parts, lefts: &Lefts, here: Here, draft: &mut Draft) -> Result<(), AllocError>
-    requires fit { FitParts parts.now }
-    requires here { IsHere parts.now here }
-    requires lefts { LeftsIn parts.now here.state lefts.now }
-    requires sound { SoundDraft parts.now draft.old }
-    ensures sound { OnOk result (SoundDraft parts.now draft.new) }
+fn visit(lr0: &Lr0, lefts: &Lefts, here: Here, draft: &mut Draft) -> Result<(), AllocError>
+    requires fit { FitLr0 lr0.now }
+    requires here { IsHere lr0.now here }
+    requires lefts { LeftsIn lr0.now here.state lefts.now }
+    requires sound { SoundDraft lr0.now draft.old }
+    ensures sound { OnOk result (SoundDraft lr0.now draft.new) }
     ensures further { OnOk result (Further draft.old draft.new) }
-    ensures serves { OnOk result (ServesAt parts.now draft.new here.state here.item here.row) }
+    ensures serves { OnOk result (ServesAt lr0.now draft.new here.state here.item here.row) }
 {
-    open(parts, lefts, here, draft)?;
-    shift(parts, here, draft)?;
+    open(lr0, lefts, here, draft)?;
+    shift(lr0, here, draft)?;
     Ok(())
 }
 
 /// Both rules from each item of a state.
 fn visit_state(
-    parts: &Parts,
+    lr0: &Lr0,
     lefts: &mut Lefts,
     q: usize,
     draft: &mut Draft,
 ) -> Result<(), AllocError>
-    requires fit { FitParts parts.now }
-    requires state { q < length parts.now.states.closures }
-    requires lefts { length lefts.old ≡ parts.now.grammar.bare.symbols }
-    requires sound { SoundDraft parts.now draft.old }
-    ensures lefts { OnOk result (length lefts.new ≡ parts.now.grammar.bare.symbols) }
-    ensures sound { OnOk result (SoundDraft parts.now draft.new) }
+    requires fit { FitLr0 lr0.now }
+    requires state { q < length lr0.now.states.closures }
+    requires lefts { length lefts.old ≡ lr0.now.grammar.bare.symbols }
+    requires sound { SoundDraft lr0.now draft.old }
+    ensures lefts { OnOk result (length lefts.new ≡ lr0.now.grammar.bare.symbols) }
+    ensures sound { OnOk result (SoundDraft lr0.now draft.new) }
     ensures further { OnOk result (Further draft.old draft.new) }
-    ensures serves { OnOk result (ServesState parts.now draft.new q) }
+    ensures serves { OnOk result (ServesState lr0.now draft.new q) }
 {
-    let items = parts.states.items(q);
-    let rows = parts.places.rows(q);
-    lefts.fill(&parts.grammar, items, rows);
+    let items = lr0.states.items(q);
+    let rows = lr0.item_rows.rows(q);
+    lefts.fill(&lr0.grammar, items, rows);
     for k in 0..items.len() {
         let here = Here {
             state: q,
             item: items[k],
             row: rows[k],
         };
-        visit(parts, lefts, here, draft)?;
+        visit(lr0, lefts, here, draft)?;
     }
     Ok(())
 }
 
 /// A draft without links, in which the first item alone has a lookahead, the end token.
-fn start(alloc: Global, parts: &Parts) -> Result<Draft, AllocError>
-    requires { FitParts parts.now }
-    ensures sound { IfOk result (λ d. SoundDraft parts.now d) }
-    ensures start { IfOk result (λ d. StartsDraft parts.now d) }
+fn start(alloc: Global, lr0: &Lr0) -> Result<Draft, AllocError>
+    requires { FitLr0 lr0.now }
+    ensures sound { IfOk result (λ d. SoundDraft lr0.now d) }
+    ensures start { IfOk result (λ d. StartsDraft lr0.now d) }
 {
-    let mut looks = Rows::new(alloc, parts.places.total(), token_count(&parts.grammar))?;
-    if let Some(p) = place_of(&parts.states, &parts.places, 0, Item { rule: 0, dot: 0 }) {
+    let mut looks = Rows::new(alloc, lr0.item_rows.total(), token_count(&lr0.grammar))?;
+    if let Some(p) = item_row(&lr0.states, &lr0.item_rows, 0, Item { rule: 0, dot: 0 }) {
         looks.mark(p, END);
     }
-    let links = Links::new(alloc, parts.places.total())?;
+    let links = Links::new(alloc, lr0.item_rows.total())?;
     Ok(Draft { looks, links })
 }
 
 /// Both rules from each item of each state.
-fn draft_of(alloc: Global, parts: &Parts) -> Result<Draft, AllocError>
-    requires { FitParts parts.now }
-    ensures sound { IfOk result (λ d. SoundDraft parts.now d) }
-    ensures start { IfOk result (λ d. StartsDraft parts.now d) }
-    ensures serves { IfOk result (λ d. ServesAll parts.now d) }
+fn draft_of(alloc: Global, lr0: &Lr0) -> Result<Draft, AllocError>
+    requires { FitLr0 lr0.now }
+    ensures sound { IfOk result (λ d. SoundDraft lr0.now d) }
+    ensures start { IfOk result (λ d. StartsDraft lr0.now d) }
+    ensures serves { IfOk result (λ d. ServesAll lr0.now d) }
 {
-    let mut draft = start(alloc, parts)?;
-    let mut lefts = Lefts::new(alloc, parts.grammar.symbols())?;
-    for q in 0..parts.states.count() {
-        visit_state(parts, &mut lefts, q, &mut draft)?;
+    let mut draft = start(alloc, lr0)?;
+    let mut lefts = Lefts::new(alloc, lr0.grammar.symbols())?;
+    for q in 0..lr0.states.count() {
+        visit_state(lr0, &mut lefts, q, &mut draft)?;
     }
     Ok(draft)
 }
 
 /// The lookaheads of all items of all states.
-pub fn all_looks(alloc: Global, parts: &Parts) -> Result<Rows, AllocError>
-    requires { FitParts parts.now }
-    ensures { IfOk result (λ m. Whole parts.now m) }
+pub fn all_looks(alloc: Global, lr0: &Lr0) -> Result<Rows, AllocError>
+    requires { FitLr0 lr0.now }
+    ensures { IfOk result (λ m. Whole lr0.now m) }
 {
-    let Draft { mut looks, links } = draft_of(alloc, parts)?;
+    let Draft { mut looks, links } = draft_of(alloc, lr0)?;
     spread(alloc, &links, &mut looks)?;
     Ok(looks)
 }
 
 /// Whether the symbol is a lookahead of the item in state `q`, by its row; false for a
 /// nonterminal, and where the state doesn't have the item.
-pub fn has_look(parts: &Parts, looks: &Rows, q: usize, item: Item, t: Sym) -> bool
-    requires whole { Whole parts.now looks.now }
-    requires state { q < length parts.now.states.closures }
+pub fn has_look(lr0: &Lr0, looks: &Rows, q: usize, item: Item, t: Sym) -> bool
+    requires whole { Whole lr0.now looks.now }
+    requires state { q < length lr0.now.states.closures }
     ensures { IsTrue result ↔
-        Lookahead parts.now.grammar.bare (set_at parts.now.states.closures q) item t }
+        Lookahead lr0.now.grammar.bare (set_at lr0.now.states.closures q) item t }
 {
-    if !parts.grammar.is_token(t) {
+    if !lr0.grammar.is_token(t) {
         return false;
     }
-    match place_of(&parts.states, &parts.places, q, item) {
+    match item_row(&lr0.states, &lr0.item_rows, q, item) {
         Some(p) => looks.has(p, t),
         None => false,
     }

@@ -4,7 +4,7 @@ ghost use Rattle.std.specs.Prelude.{◌≡◌, ◌<◌, length, IfOk, OnOk, IfSo
 ghost use Rattle.ylalr.specs.States.{IsFresh, HasKernel, set_at, with_state};
 
 use crate::items::Item;
-use crate::list::Sequence;
+use yrows::list::Sequence;
 use indexmap::IndexSet;
 use smallvec::SmallVec;
 use std::alloc::{AllocError, Global};

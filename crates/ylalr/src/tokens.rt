@@ -2,7 +2,7 @@
 
 ghost use Rattle.std.specs.Prelude.{◌≡◌};
 
-use ygrammar::{Grammar, Sym};
+use ysymbols::{Grammar, Sym};
 
 /// The number of `$end`.
 pub const END: Sym = 0;

@@ -8,25 +8,25 @@ use Rattle.std.specs.List.{All}
 use Rattle.std.proofs.lemmas.List.Elements.{All-cons}
 use Rattle.std.proofs.Math.Logic.{∥∥₁_map}
 use Rattle.ytables.specs.Tables.{TablesValue as Tables}
-use Rattle.yparse.specs.declared.machine.StepKind.{StepKind}
-use Rattle.yparse.specs.declared.machine.StepFault.{StepFault}
-use Rattle.yparse.specs.declared.machine.StepFault.TheVariants.{Halted, NoToken, Limit, Memory}
-use Rattle.yparse.specs.declared.machine.AtStart.{AtStart}
-use Rattle.yparse.specs.declared.machine.Deed.{Deed}
-use Rattle.yparse.specs.declared.machine.Deed.TheVariants as deeds
-use Rattle.yparse.specs.declared.machine.Edit.{Edit}
-use Rattle.yparse.specs.Machine.{Configuration, next, edited, deed_by}
-use Rattle.yparse.specs.MachineOver.{machine_over}
-use Rattle.yparse.specs.Past.{Past, LeadsTo, Comes, Changes, most_steps}
-use Rattle.yparse.specs.History.{IsHistory, first_configuration}
-use Rattle.yparse.specs.Reversible.{StepsOn, StepsBack}
+use Rattle.ymachine.specs.declared.machine.StepKind.{StepKind}
+use Rattle.ymachine.specs.declared.machine.StepFault.{StepFault}
+use Rattle.ymachine.specs.declared.machine.StepFault.TheVariants.{Halted, NoToken, Limit, Memory}
+use Rattle.ymachine.specs.declared.machine.AtStart.{AtStart}
+use Rattle.ymachine.specs.declared.machine.Deed.{Deed}
+use Rattle.ymachine.specs.declared.machine.Deed.TheVariants as deeds
+use Rattle.ymachine.specs.declared.machine.Edit.{Edit}
+use Rattle.ymachine.specs.Machine.{Configuration, next, edited, deed_by}
+use Rattle.ymachine.specs.MachineOver.{machine_over}
+use Rattle.ymachine.specs.Past.{Past, LeadsTo, Comes, Changes, most_steps}
+use Rattle.ymachine.specs.History.{IsHistory, first_configuration}
+use Rattle.ymachine.specs.Reversible.{StepsOn, StepsBack}
 use Rattle.yparse.specs.Session.{setting_at}
-use Rattle.yparse.specs.Sound.{Sound}
-use Rattle.yparse.specs.Content.{Place, place_after, place_next, place_edited, place_deed}
-use Rattle.yparse.specs.Content.{configuration_of, valid}
-use Rattle.yparse.specs.Shown.{KeepsGround, step_view, past_view}
-use Rattle.yparse.proofs.Places.{onward, step_reaches, edit_reaches}
-use Rattle.yparse.proofs.Shown.{length-map}
+use Rattle.ymachine.specs.Sound.{Sound}
+use Rattle.ymachine.specs.Content.{Place, place_after, place_next, place_edited, place_deed}
+use Rattle.ymachine.specs.Content.{configuration_of, valid}
+use Rattle.ymachine.specs.Shown.{KeepsGround, step_view, past_view}
+use Rattle.ymachine.proofs.Places.{onward, step_reaches, edit_reaches}
+use Rattle.ymachine.proofs.Shown.{length-map}
 
 -- the history that is shown begins with the first configuration, and goes by the machine of the
 -- tables

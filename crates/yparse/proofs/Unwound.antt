@@ -6,27 +6,27 @@ use Rattle.std.proofs.Common.{None, is_some}
 use Rattle.std.specs.List.{All}
 use Rattle.std.specs.Io.KnownBytes.{Appends}
 use Rattle.std.proofs.KnownBytes.{Appends-trans}
-use Rattle.ytables.specs.declared.link.Link.{Link}
-use Rattle.ytables.specs.Sends.{Begins, Sends}
-use Rattle.ytables.proofs.Sent.{Begins-more, flat_map-append, Sends-none, Sends-stop, Sends-then}
-use Rattle.yparse.specs.declared.machine.StepKind.{StepKind}
-use Rattle.yparse.specs.declared.parts.PlaceChange.{PlaceChange}
-use Rattle.yparse.specs.Machine.{Machine, Configuration}
-use Rattle.yparse.specs.Past.{Past, back_by, back_from, LeadsTo, first_past}
-use Rattle.yparse.specs.History.{History}
-use Rattle.yparse.specs.Content.{Place}
-use Rattle.yparse.specs.Shown.{step_view}
-use Rattle.yparse.specs.Unwinding.{is_reduction, is_error_step, NoErrors, form_of, shifts_from}
-use Rattle.yparse.specs.Unwinding.{forms_before, forms_from, forms_of, names_text, form_line}
-use Rattle.yparse.specs.Unwinding.{forms_text}
+use Rattle.ylink.specs.declared.link.Link.{Link}
+use Rattle.ylink.specs.Sends.{Begins, Sends}
+use Rattle.ylink.proofs.Sent.{Begins-more, flat_map-append, Sends-none, Sends-stop, Sends-then}
+use Rattle.ymachine.specs.declared.machine.StepKind.{StepKind}
+use Rattle.ymachine.specs.declared.parts.PlaceChange.{PlaceChange}
+use Rattle.ymachine.specs.Machine.{Machine, Configuration}
+use Rattle.ymachine.specs.Past.{Past, back_by, back_from, LeadsTo, first_past}
+use Rattle.ymachine.specs.History.{History}
+use Rattle.ymachine.specs.Content.{Place}
+use Rattle.ymachine.specs.Shown.{step_view}
+use Rattle.ymachine.specs.Unwinding.{is_reduction, is_error_step, NoErrors, form_of, shifts_from}
+use Rattle.ymachine.specs.Unwinding.{forms_before, forms_from, forms_of, names_text, form_line}
+use Rattle.ymachine.specs.Unwinding.{forms_text}
 use Rattle.std.proofs.lemmas.List.Elements.{All-append, All-cons, All-map, All-nil}
 use Rattle.std.proofs.lemmas.List.{get_or-map, reverse-reverse, reverse-append}
 use Rattle.std.proofs.lemmas.List.{length-append, length-reverse}
-use Rattle.yparse.specs.declared.parts.StackEntry.{StackEntry}
-use Rattle.yparse.specs.Tree.{Tree}
-use Rattle.yparse.specs.Content.{entry_view}
-use Rattle.yparse.specs.Machine.{Entry, symbols}
-use Rattle.yparse.proofs.Shown.{length-map}
+use Rattle.ymachine.specs.declared.parts.StackEntry.{StackEntry}
+use Rattle.ymachine.specs.Tree.{Tree}
+use Rattle.ymachine.specs.Content.{entry_view}
+use Rattle.ymachine.specs.Machine.{Entry, symbols}
+use Rattle.ymachine.proofs.Shown.{length-map}
 use Rattle.yparse.specs.Unwound.{gap, Stops, GoesBack}
 
 -- ---- names with one space between

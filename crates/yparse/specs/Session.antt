@@ -1,14 +1,14 @@
 -- What a session is: a machine, the tokens first read, and a history.
 use Rattle.std.specs.Prelude.{ℕ, List, reverse}
-use Rattle.ygrammar.specs.Grammar.{GrammarValue}
-use Rattle.yparse.specs.declared.machine.StepKind.{StepKind}
+use Rattle.ysymbols.specs.Grammar.{GrammarValue}
+use Rattle.ymachine.specs.declared.machine.StepKind.{StepKind}
 use Rattle.yparse.specs.declared.session.Session.{Session}
-use Rattle.yparse.specs.Machine.{Machine}
-use Rattle.yparse.specs.Past.{Past}
-use Rattle.yparse.specs.History.{History}
-use Rattle.yparse.specs.MachineOver.{machine_over}
-use Rattle.yparse.specs.Content.{Place}
-use Rattle.yparse.specs.Shown.{past_view}
+use Rattle.ymachine.specs.Machine.{Machine}
+use Rattle.ymachine.specs.Past.{Past}
+use Rattle.ymachine.specs.History.{History}
+use Rattle.ymachine.specs.MachineOver.{machine_over}
+use Rattle.ymachine.specs.Content.{Place}
+use Rattle.ymachine.specs.Shown.{past_view}
 
 -- the contents of a parse, now and before
 abbrev pub past_of : Session → Past StepKind Place

@@ -3,14 +3,14 @@ use Rattle.std.specs.Prelude.{ℕ, suc, ◌≡◌, ◌≢◌, ◌++◌, Bool, tr
 use Rattle.std.specs.Prelude.{Option, Result, Ok, Err}
 use Prim.Native.Nat.{zero}
 use Rattle.std.specs.Io.KnownBytes.{Appends}
-use Rattle.ytables.specs.Sends.{Begins}
-use Rattle.yparse.specs.declared.machine.Mode.TheVariants.{Accepted}
-use Rattle.yparse.specs.declared.machine.UnwindFault.{UnwindFault}
-use Rattle.yparse.specs.declared.machine.UnwindFault.TheVariants.{NotAccepted, HadError, Write}
-use Rattle.yparse.specs.Machine.{Machine}
-use Rattle.yparse.specs.Past.{position, back_by, to_first}
-use Rattle.yparse.specs.History.{History}
-use Rattle.yparse.specs.Unwinding.{NoErrors, form_of, forms_from, forms_of, form_line, forms_text}
+use Rattle.ylink.specs.Sends.{Begins}
+use Rattle.ymachine.specs.declared.machine.Mode.TheVariants.{Accepted}
+use Rattle.ymachine.specs.declared.machine.UnwindFault.{UnwindFault}
+use Rattle.ymachine.specs.declared.machine.UnwindFault.TheVariants.{NotAccepted, HadError, Write}
+use Rattle.ymachine.specs.Machine.{Machine}
+use Rattle.ymachine.specs.Past.{position, back_by, to_first}
+use Rattle.ymachine.specs.History.{History}
+use Rattle.ymachine.specs.Unwinding.{NoErrors, form_of, forms_from, forms_of, form_line, forms_text}
 
 -- the space before a name that isn't the first
 abbrev pub gap : ℕ → List ℕ

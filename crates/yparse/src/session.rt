@@ -2,20 +2,20 @@
 
 ghost use Rattle.std.specs.Prelude.{◌≡◌, ◌+◌, ◌≤◌, ◌<◌, All, Some, Ok, IfSome, is_some, false};
 ghost use Rattle.std.specs.Prelude.{length, vec_len, vec_capacity, option_map, slice_get};
-ghost use Rattle.yparse.specs.declared.machine.AtStart.{AtStart};
-ghost use Rattle.yparse.specs.Content.{place_next, place_deed};
-ghost use Rattle.yparse.specs.Reversible.{StepsOn, StepsBack};
-ghost use Rattle.yparse.specs.History.{IsHistory};
-ghost use Rattle.yparse.specs.MachineOver.{machine_over};
-ghost use Rattle.yparse.specs.Shown.{KeepsGround, past_view};
+ghost use Rattle.ymachine.specs.declared.machine.AtStart.{AtStart};
+ghost use Rattle.ymachine.specs.Content.{place_next, place_deed};
+ghost use Rattle.ymachine.specs.Reversible.{StepsOn, StepsBack};
+ghost use Rattle.ymachine.specs.History.{IsHistory};
+ghost use Rattle.ymachine.specs.MachineOver.{machine_over};
+ghost use Rattle.ymachine.specs.Shown.{KeepsGround, past_view};
 
-use crate::journal::Journal;
-use crate::machine::{AtStart, Deed, Edit, StepFault, StepKind};
-use crate::place::PlaceParser;
-use crate::tables::known;
-use crate::tokens::Tokens;
+use ymachine::Journal;
+use ymachine::machine::{AtStart, Deed, Edit, StepFault, StepKind};
+use ymachine::PlaceParser;
+use ymachine::tables::known;
+use ytokens::tokens::Tokens;
 use std::alloc::Global;
-use ygrammar::Sym;
+use ysymbols::Sym;
 use ytables::Tables;
 
 /// The configuration of a parse now, and each one before it.
@@ -70,17 +70,17 @@ fn settle(journal: &mut Journal<PlaceParser>, later: &mut Vec<Sym>) -> Option<St
 #[tactic(auto, unfolding(crate::specs::Session::setting_of, crate::specs::Session::history_of))]
 impl Session {
     ghost use Rattle.std.specs.Prelude.{◌≤◌, IsTrue, slice_get, option_map};
-    ghost use Rattle.yparse.specs.declared.machine.Edit.TheVariants as edits;
-    ghost use Rattle.yparse.specs.Tables.{is_input};
-    ghost use Rattle.yparse.specs.Spelling.{Spells};
+    ghost use Rattle.ymachine.specs.declared.machine.Edit.TheVariants as edits;
+    ghost use Rattle.ytokens.specs.Symbols.{is_input};
+    ghost use Rattle.ymachine.specs.Spelling.{Spells};
     ghost use Rattle.std.specs.Prelude.{IfSome};
-    ghost use Rattle.yparse.specs.Machine.{next, edited, deed_by};
-    ghost use Rattle.yparse.specs.Past.{Steps, Changes, Undoes, position, most_steps};
-    ghost use Rattle.yparse.specs.History.{first_history};
-    ghost use Rattle.yparse.specs.Headline.{IsMachineOf};
-    ghost use Rattle.yparse.specs.History.{History};
-    ghost use Rattle.yparse.specs.Rightmost.{UnwindsRight};
-    ghost use Rattle.yparse.specs.Tokens.{Fits, symbols_of};
+    ghost use Rattle.ymachine.specs.Machine.{next, edited, deed_by};
+    ghost use Rattle.ymachine.specs.Past.{Steps, Changes, Undoes, position, most_steps};
+    ghost use Rattle.ymachine.specs.History.{first_history};
+    ghost use Rattle.ymachine.specs.Headline.{IsMachineOf};
+    ghost use Rattle.ymachine.specs.History.{History};
+    ghost use Rattle.ymachine.specs.Rightmost.{UnwindsRight};
+    ghost use Rattle.ytokens.specs.Tokens.{Fits, symbols_of};
     ghost use Rattle.yparse.specs.Session.{setting_of, machine_of, history_of, tokens_of};
     ghost use Rattle.yparse.specs.Session.{grammar_of};
     ghost use Rattle.yparse.specs.Session.{past_of};

@@ -4,23 +4,23 @@ ghost use Rattle.std.specs.Prelude.{◌≡◌, ◌↔◌, ◌++◌, ◌+◌, ◌
 ghost use Rattle.std.specs.Prelude.{true};
 ghost use Rattle.std.specs.Prelude.{length, slice_index, vec_len, vec_capacity};
 ghost use Rattle.std.specs.Prelude.{is_some, if◌then◌else◌};
-ghost use Rattle.ytables.specs.Link.{device_of, has_failed};
-ghost use Rattle.ytables.specs.Sends.{Sends};
+ghost use Rattle.ylink.specs.Link.{device_of, has_failed};
+ghost use Rattle.ylink.specs.Sends.{Sends};
 ghost use Rattle.yparse.specs.Session.{setting_of, machine_of, history_of, tokens_of, grammar_of};
 ghost use Rattle.yparse.specs.Session.{later_of};
-ghost use Rattle.yparse.specs.Unwinding.{NoErrors, form_line, form_of, forms_of, shifts_from};
-ghost use Rattle.yparse.specs.Unwinding.{is_error_step, whole_input};
-ghost use Rattle.yparse.specs.Past.{position};
-ghost use Rattle.yparse.specs.Unwinding.{is_reduction, names_text};
+ghost use Rattle.ymachine.specs.Unwinding.{NoErrors, form_line, form_of, forms_of, shifts_from};
+ghost use Rattle.ymachine.specs.Unwinding.{is_error_step, whole_input};
+ghost use Rattle.ymachine.specs.Past.{position};
+ghost use Rattle.ymachine.specs.Unwinding.{is_reduction, names_text};
 ghost use Rattle.yparse.specs.Unwound.{GoesBack, Unwinds, gap, is_write};
 
-use crate::machine::{AtStart, Mode, StepKind, UnwindFault};
-use crate::parts::PlaceChange;
+use ymachine::machine::{AtStart, Mode, StepKind, UnwindFault};
+use ymachine::PlaceChange;
 use crate::session::Session;
 use std::io::Write;
-use ygrammar::Sym;
+use ysymbols::Sym;
 use ytables::Link;
-use ytables::put::put;
+use ylink::put::put;
 
 /// Whether a step of this kind is one of recovery.
 fn is_error_step(kind: StepKind) -> bool
@@ -127,19 +127,19 @@ fn write_forms<W: Write>(session: &mut Session, link: &mut Link<W>) -> Option<()
 }
 
 impl Session {
-    ghost use Rattle.ygrammar.specs.Grammar.{start_of};
+    ghost use Rattle.ysymbols.specs.Grammar.{start_of};
     ghost use Rattle.std.specs.Prelude.{[], ◌∷◌};
-    ghost use Rattle.yparse.specs.History.{first_history};
-    ghost use Rattle.yparse.specs.Past.{to_first, Undoes};
-    ghost use Rattle.yparse.specs.Rightmost.{IsRightmostDerivation};
-    ghost use Rattle.yparse.specs.declared.machine.Mode.TheVariants.{Accepted};
+    ghost use Rattle.ymachine.specs.History.{first_history};
+    ghost use Rattle.ymachine.specs.Past.{to_first, Undoes};
+    ghost use Rattle.ymachine.specs.Rightmost.{IsRightmostDerivation};
+    ghost use Rattle.ymachine.specs.declared.machine.Mode.TheVariants.{Accepted};
 
     /// How many symbols the form has: those of the stack, and the tokens that were shifted later.
     #[tactic(auto, unfolding(crate::specs::Session::history_of))]
     fn form_len(&self) -> usize
         ensures { result ≡ length (form_of (history_of self.now).now (later_of self.now)) }
     {
-        self.journal.machine().parts().stack.len() + self.later.len()
+        self.view().stack_len() + self.later.len()
     }
 
     /// A symbol of the form.

@@ -6,8 +6,8 @@ use Rattle.std.proofs.Common.{Some, None, if◌then◌else◌}
 use Rattle.std.specs.List.{All, Contains, filter, list_any, list_all, count_by, fold}
 use Rattle.std.proofs.lemmas.Bool.Decides.{eqb_tells}
 use Rattle.std.proofs.lemmas.List.Elements.{All-head, All-drop}
-use Rattle.ygrammar.specs.Grammar.{ContextFree, GrammarValue, body_of, start_of, end_token}
-use Rattle.ygrammar.specs.WellFormed.{WellFormed}
+use Rattle.ysymbols.specs.Grammar.{ContextFree, GrammarValue, body_of, start_of, end_token}
+use Rattle.ysymbols.specs.WellFormed.{WellFormed}
 use Rattle.ylalr.specs.declared.items.Item.{Item}
 use Rattle.ylalr.specs.Sets.{InRange}
 use Rattle.ylalr.specs.Collection.{Collection, HasStates, Guide, bare_of, state_of, goto_in}

@@ -7,13 +7,13 @@ use Rattle.std.proofs.lemmas.Bool.Decides.{eqb_tells}
 use Rattle.std.proofs.lemmas.List.{get_or-set_same, get_or-set_other, length-set, take_all}
 use Rattle.std.proofs.lemmas.List.Elements.{All-head, All-drop, Contains-get_or}
 use Rattle.std.proofs.lemmas.List.Folds.{list_any_at, list_any_more}
-use Rattle.ygrammar.specs.Grammar.{ContextFree, GrammarValue, body_of}
-use Rattle.ygrammar.specs.WellFormed.{WellFormed}
+use Rattle.ysymbols.specs.Grammar.{ContextFree, GrammarValue, body_of}
+use Rattle.ysymbols.specs.WellFormed.{WellFormed}
 use Rattle.ylalr.specs.declared.items.Item.{Item}
 use Rattle.ylalr.specs.Sets.{InRange}
 use Rattle.ylalr.specs.Items.{Valid, start, closure, move, InCore}
 use Rattle.ylalr.specs.Collection.{Collection, HasStates, IsGoto, bare_of, state_of, goto_in}
-use Rattle.ytables.specs.Packed.{PackedRows, entry_of, IsPushed}
+use Rattle.yrows.specs.Packed.{PackedRows, entry_of, IsPushed}
 use Rattle.ytables.specs.Tables.{after_dot, begins_with, is_before, has_before, AreGotosTo}
 use Rattle.ytables.specs.Tables.{AreGotos}
 

@@ -1,10 +1,8 @@
-pub mod AllowedSteps
 pub mod GotoSteps
+pub mod AllowedSteps
 pub mod GuideSteps
 pub mod LineSteps
-pub mod PackedSteps
 pub mod RangeSteps
 pub mod RowSteps
-pub mod Sent
 pub mod TableSteps
 pub mod TallySteps

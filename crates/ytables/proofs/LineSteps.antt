@@ -5,10 +5,10 @@ use Rattle.std.proofs.Common.{sym, ap}
 use Rattle.std.proofs.Common.{◌∙◌, subst, arith, append-nil}
 use Rattle.std.specs.List.{range_with_len}
 use Rattle.std.proofs.lemmas.List.FromFn.{length-range_with_len, get_or-range_with_len}
-use Rattle.ytables.specs.declared.link.Link.{Link}
-use Rattle.ytables.specs.Sends.{Sends}
+use Rattle.ylink.specs.declared.link.Link.{Link}
+use Rattle.ylink.specs.Sends.{Sends}
 use Rattle.ytables.proofs.RangeSteps.{range_more}
-use Rattle.ytables.proofs.Sent.{Sends-then, Sends-stop, Sends-none, Sends-part, flat_map-append}
+use Rattle.ylink.proofs.Sent.{Sends-then, Sends-stop, Sends-none, Sends-part, flat_map-append}
 
 take_range : (a n k : ℕ) → k < n → take k (range_with_len a n) ≡ range_with_len a k
 take_range a n zero h = refl

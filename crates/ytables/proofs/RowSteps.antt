@@ -11,7 +11,7 @@ use Rattle.std.proofs.lemmas.List.Elements.{All-filter, filter_more, filter_pass
 use Rattle.std.proofs.lemmas.List.Kept.{AllPairs-filter}
 use Rattle.std.proofs.lemmas.List.FromFn.{fill_by_all}
 use Rattle.std.proofs.Math.Seq.{drop-cons}
-use Rattle.ygrammar.specs.Grammar.{ContextFree, body_of}
+use Rattle.ysymbols.specs.Grammar.{ContextFree, body_of}
 use Rattle.ylalr.specs.declared.items.Item.{Item}
 use Rattle.ylalr.specs.Sets.{Before, IsAscending, InRange}
 use Rattle.ylalr.specs.Collection.{Collection, Guide, state_of, goto_in}

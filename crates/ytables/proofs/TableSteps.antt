@@ -8,7 +8,7 @@ use Rattle.ylalr.specs.Collection.{Collection, Guide}
 use Rattle.ytables.specs.declared.cell.Action.{Action}
 use Rattle.ytables.specs.declared.cell.Action.TheVariants.{Error}
 use Rattle.ytables.specs.Cell.{by_default}
-use Rattle.ytables.specs.Packed.{PackedRows, entry_of, IsPushed}
+use Rattle.yrows.specs.Packed.{PackedRows, entry_of, IsPushed}
 use Rattle.ytables.specs.Rows.{IsRow}
 use Rattle.ytables.specs.Tables.{AreRowsTo, AreSumsTo, act_at, rule_at, action_in, default_in}
 use Rattle.ytables.specs.Tables.{cell_in, row_shift_reduce, row_reduce_reduce, row_choice}

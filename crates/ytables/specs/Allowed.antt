@@ -1,7 +1,7 @@
 -- What an action of a state needs of its items.
 use Rattle.std.specs.Prelude.{ℕ, ◌≡◌, ◌≢◌, ◌<◌, List, ◌∷◌, length}
 use Rattle.std.specs.List.{Contains}
-use Rattle.ygrammar.specs.Grammar.{ContextFree, body_of, end_token}
+use Rattle.ysymbols.specs.Grammar.{ContextFree, body_of, end_token}
 use Rattle.ylalr.specs.declared.items.Item.{Item}
 use Rattle.ylalr.specs.Collection.{bare_of, state_of}
 use Rattle.ytables.specs.declared.cell.Action.{Action}

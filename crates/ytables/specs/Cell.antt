@@ -3,9 +3,9 @@
 use Rattle.std.specs.Prelude.{ℕ, Bool, true, false, not, List, [], ◌∷◌, length, min, Option, Some}
 use Rattle.std.specs.Prelude.{None, if◌then◌else◌, nat_lt, nat_eq}
 use Rattle.std.specs.List.{filter, list_any, list_all, count_by, fold}
-use Rattle.ygrammar.specs.declared.precedence.Precedence.{Precedence}
-use Rattle.ygrammar.specs.declared.precedence.Associativity.{Associativity}
-use Rattle.ygrammar.specs.declared.precedence.Associativity.TheVariants.{Left, Right, Nonassoc}
+use Rattle.ysymbols.specs.declared.precedence.Precedence.{Precedence}
+use Rattle.ysymbols.specs.declared.precedence.Associativity.{Associativity}
+use Rattle.ysymbols.specs.declared.precedence.Associativity.TheVariants.{Left, Right, Nonassoc}
 use Rattle.ytables.specs.declared.class.Class.{Class}
 use Rattle.ytables.specs.declared.class.Class.TheVariants.{Beat, Lose, Ban, Rest}
 use Rattle.ytables.specs.declared.cell.Action.{Action}

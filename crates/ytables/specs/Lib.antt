@@ -1,11 +1,10 @@
+pub mod Rows
 pub mod Allowed
 pub mod Cell
-pub mod Link
-pub mod Packed
 pub mod Report
-pub mod Rows
-pub mod Sends
 pub mod Table
 pub mod Tables
 pub mod Tally
 pub mod Text
+pub use Rattle.ylink.specs.Link
+pub use Rattle.ylink.specs.Sends

@@ -3,7 +3,7 @@
 use Rattle.std.specs.Prelude.{ℕ, ◌&&◌, ◌++◌, List, [], length, codes, decimal, take, Option, Some}
 use Rattle.std.specs.Prelude.{None, false, if◌then◌else◌, nat_eq, slice_get, slice_index_or}
 use Rattle.std.specs.Prelude.{unwrap_or, flat_map}
-use Rattle.ygrammar.specs.Grammar.{GrammarValue, left_of, body_of}
+use Rattle.ysymbols.specs.Grammar.{GrammarValue, left_of, body_of}
 use Rattle.ylalr.specs.declared.items.Item.{Item}
 use Rattle.ylalr.specs.Collection.{Guide, state_of, goto_in}
 use Rattle.ytables.specs.declared.cell.Action.{Action}

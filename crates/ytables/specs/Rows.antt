@@ -1,7 +1,7 @@
 -- The row of one state: what the code has found of its cells.
 use Rattle.std.specs.Prelude.{ℕ, ◌≡◌, ◌<◌, ◌*◌, Bool, true, List, ◌∷◌, length, map, Option}
 use Rattle.std.specs.List.{All, list_any, list_all, sum_by, range_with_len}
-use Rattle.ygrammar.specs.Grammar.{ContextFree, most_symbols, most_rules}
+use Rattle.ysymbols.specs.Grammar.{ContextFree, most_symbols, most_rules}
 use Rattle.ylalr.specs.declared.items.Item.{Item}
 use Rattle.ylalr.specs.Collection.{Collection, Guide}
 use Rattle.ytables.specs.declared.cell.Action.{Action}

@@ -3,7 +3,7 @@
 use Rattle.std.specs.Prelude.{ℕ, ◌++◌, List, [], length, codes, decimal, Option, Some, None}
 use Rattle.std.specs.Prelude.{slice_get, flat_map}
 use Rattle.std.specs.List.{range_with_len}
-use Rattle.ygrammar.specs.Grammar.{GrammarValue, left_of, body_of}
+use Rattle.ysymbols.specs.Grammar.{GrammarValue, left_of, body_of}
 use Rattle.ylalr.specs.Collection.{goto_in}
 use Rattle.ytables.specs.declared.cell.Action.{Action}
 use Rattle.ytables.specs.declared.cell.Action.TheVariants.{Shift, Reduce, Accept, Error}

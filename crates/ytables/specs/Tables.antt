@@ -3,15 +3,15 @@ use Rattle.std.specs.Prelude.{ℕ, ◌≡◌, ◌+◌, ◌-◌, ◌<◌, ◌≤�
 use Rattle.std.specs.Prelude.{◌∷◌, length, map, drop, Option, Some, None, if◌then◌else◌, nat_eq}
 use Rattle.std.specs.Prelude.{slice_index_or, unwrap_or}
 use Rattle.std.specs.List.{filter, list_any, sum_by, range_with_len}
-use Rattle.ygrammar.specs.declared.precedence.Precedence.{Precedence}
-use Rattle.ygrammar.specs.Grammar.{ContextFree, GrammarValue, body_of, end_token}
+use Rattle.ysymbols.specs.declared.precedence.Precedence.{Precedence}
+use Rattle.ysymbols.specs.Grammar.{ContextFree, GrammarValue, body_of, end_token}
 use Rattle.ylalr.specs.declared.items.Item.{Item}
 use Rattle.ylalr.specs.Collection.{Collection, Guide, IsGuide, state_of, goto_in}
 use Rattle.ytables.specs.declared.class.Class.{Class}
 use Rattle.ytables.specs.declared.cell.Action.{Action}
 use Rattle.ytables.specs.declared.cell.Action.TheVariants.{Shift, Accept, Error}
 use Rattle.ytables.specs.declared.cell.Cell.{Cell}
-use Rattle.ytables.specs.Packed.{PackedRows, entry_of}
+use Rattle.yrows.specs.Packed.{PackedRows, entry_of}
 use Rattle.ytables.specs.Cell.{class_of, cell_of, is_filled, common, by_default}
 
 -- the symbols from the dot on

@@ -3,7 +3,7 @@
 ghost use Rattle.std.specs.Prelude.{◌≡◌};
 ghost use Rattle.ytables.specs.Cell.{class_of, class_of_kind};
 
-use ygrammar::{Associativity, Precedence};
+use ysymbols::{Associativity, Precedence};
 
 /// How a rule stands against the shift of a token.
 #[derive(Clone, Copy, Debug, Drop, PartialEq, Eq)]

@@ -6,18 +6,15 @@
 
 mod cell;
 mod class;
+mod count;
 mod fault;
 mod gotos;
-pub mod link;
-mod packed;
-pub mod put;
 mod report;
 mod row;
-mod slots;
 mod table;
 mod tables;
 
 pub use cell::Action;
 pub use fault::TableFault;
-pub use link::Link;
 pub use tables::{Counts, Tables, resolve};
+pub use ylink::Link;

@@ -2,11 +2,11 @@
 
 ghost use Rattle.std.specs.Prelude.{ℕ, ◌≡◌, ◌<◌, ◌≤◌, ◌++◌, All, codes, flat_map, is_some};
 ghost use Rattle.std.specs.Prelude.{is_ok, is_err, length, IfErr};
-ghost use Rattle.ygrammar.specs.Grammar.{body_of};
+ghost use Rattle.ysymbols.specs.Grammar.{body_of};
 ghost use Rattle.ylalr.specs.Collection.{Guide, IsGuide};
 ghost use Rattle.ytables.specs.declared.fault.TableFault.{TableFault};
-ghost use Rattle.ytables.specs.Link.{device_of, has_failed};
-ghost use Rattle.ytables.specs.Sends.{Sends, Grows};
+ghost use Rattle.ylink.specs.Link.{device_of, has_failed};
+ghost use Rattle.ylink.specs.Sends.{Sends, Grows};
 ghost use Rattle.ytables.specs.Tables.{default_at, tokens_of};
 ghost use Rattle.ytables.specs.Text.{name_of, pair_line, rules_of, spaced_names};
 ghost use Rattle.ytables.specs.Report.{rule_head, rule_text, unreachable_line};
@@ -18,13 +18,14 @@ ghost use Rattle.ytables.specs.Report.{state_text, states_text, counts_text, tok
 ghost use Rattle.ytables.specs.Report.{unreachable_part, report_of};
 
 use crate::cell::{Action, Cell};
+use crate::count::put_count;
 use crate::fault::TableFault;
-use crate::link::Link;
-use crate::put::{put, put_all, put_count};
+use ylink::link::Link;
+use ylink::put::{put, put_all};
 use crate::row::{cell_of, has_ready};
 use crate::tables::Tables;
 use std::io::Write;
-use ygrammar::{Grammar, Sym};
+use ysymbols::{Grammar, Sym};
 use ylalr::{Item, token_count};
 
 /// A name after a space.

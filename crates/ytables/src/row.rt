@@ -4,7 +4,7 @@ ghost use Rattle.std.specs.Prelude.{ℕ, ◌≡◌, ◌<◌, ◌≤◌, ◌+◌,
 ghost use Rattle.std.specs.Prelude.{false, None, slice_index_or, IfOk, MatchOption};
 ghost use Rattle.std.specs.Prelude.{if◌then◌else◌};
 ghost use Rattle.std.specs.List.{filter, list_any};
-ghost use Rattle.ygrammar.specs.Grammar.{body_of};
+ghost use Rattle.ysymbols.specs.Grammar.{body_of};
 ghost use Rattle.ylalr.specs.Collection.{Guide, IsGuide, bare_of, state_of, goto_in};
 ghost use Rattle.ytables.specs.Cell.{common, is_filled};
 ghost use Rattle.ytables.specs.Rows.{InGrammar, IsRowTo, IsRow, most_in_row};
@@ -15,7 +15,7 @@ ghost use Rattle.ytables.specs.Tally.{IsTally};
 use crate::cell::{Action, Cell, Tally};
 use crate::class::class_between;
 use std::alloc::{AllocError, Global};
-use ygrammar::{Grammar, Precedence, Sym};
+use ysymbols::{Grammar, Precedence, Sym};
 use ylalr::{Automaton, END, Item};
 
 /// The symbol after the dot.

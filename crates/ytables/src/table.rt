@@ -1,8 +1,8 @@
 //! The text of the table.
 
 ghost use Rattle.std.specs.Prelude.{◌≡◌, ◌<◌, length, is_some, is_ok, is_err, IfErr};
-ghost use Rattle.ytables.specs.Link.{device_of, has_failed};
-ghost use Rattle.ytables.specs.Sends.{Sends, Grows};
+ghost use Rattle.ylink.specs.Link.{device_of, has_failed};
+ghost use Rattle.ylink.specs.Sends.{Sends, Grows};
 ghost use Rattle.ytables.specs.Table.{symbol_line, symbol_lines, rule_line, rule_lines};
 ghost use Rattle.ytables.specs.Table.{action_line, goto_line, actions_text, gotos_text};
 ghost use Rattle.ytables.specs.Table.{rule_or_actions, state_lines, all_states, states_part};
@@ -11,12 +11,13 @@ ghost use Rattle.ytables.specs.Tables.{default_at};
 ghost use Rattle.ytables.specs.declared.fault.TableFault.{TableFault};
 
 use crate::cell::Action;
+use crate::count::put_count;
 use crate::fault::TableFault;
-use crate::link::Link;
-use crate::put::{put, put_all, put_count};
+use ylink::link::Link;
+use ylink::put::{put, put_all};
 use crate::tables::Tables;
 use std::io::Write;
-use ygrammar::{Grammar, Sym};
+use ysymbols::{Grammar, Sym};
 use ylalr::token_count;
 
 /// The line of a symbol.

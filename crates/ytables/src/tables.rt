@@ -13,11 +13,11 @@ ghost use Rattle.ytables.specs.Tables.{action_in, default_in, act_at, rule_at};
 use crate::cell::Action;
 use crate::fault::TableFault;
 use crate::gotos::all_gotos;
-use crate::packed::Packed;
+use yrows::packed::Packed;
 use crate::row::row_of;
 use std::alloc::{AllocError, Global};
 use std::marker::Model;
-use ygrammar::{Grammar, Sym};
+use ysymbols::{Grammar, Sym};
 use ylalr::{Automaton, token_count};
 
 /// How many conflicts the cells count.
@@ -237,45 +237,5 @@ impl Tables {
         ensures { IsTrue result ↔ (self.now.choice ≡ false) }
     {
         !self.chosen
-    }
-}
-
-#[cfg(test)]
-mod tests {
-    use super::*;
-    use std::test::Fail;
-    use ygrammar::read_grammar;
-    use ylalr::build;
-
-    /// Whether the rows of actions and those of gotos begin there.
-    fn begin_at(
-        alloc: Global,
-        file: &[u8],
-        actions: &[usize],
-        gotos: &[usize],
-    ) -> Result<bool, Fail> {
-        let tables = resolve(alloc, build(alloc, read_grammar(alloc, file)?)?)?;
-        Ok(tables.actions.displacements() == actions && tables.gotos.displacements() == gotos)
-    }
-
-    #[test]
-    fn rows_that_do_not_meet_begin_at_the_front(rt: HostRuntime) -> Result<(), Fail> {
-        assert!(rt; begin_at(rt.alloc(), b"%% s : 'x' ;", &[0, 0, 0], &[0, 0, 0])?);
-        Ok(())
-    }
-
-    #[test]
-    fn a_row_that_meets_another_begins_behind(rt: HostRuntime) -> Result<(), Fail> {
-        let file = b"%% s : s 'x' | 'x' ;";
-        assert!(rt; begin_at(rt.alloc(), file, &[0, 0, 1, 0], &[0, 0, 0, 0])?);
-        Ok(())
-    }
-
-    #[test]
-    fn rows_of_gotos_that_meet(rt: HostRuntime) -> Result<(), Fail> {
-        let file = b"%% s : 'i' s | 'i' s 'e' s | 'x' ;";
-        let actions = [0, 1, 0, 0, 6, 6, 0];
-        assert!(rt; begin_at(rt.alloc(), file, &actions, &[0, 1, 0, 0, 0, 2, 0])?);
-        Ok(())
     }
 }

@@ -1,7 +1,7 @@
 use Rattle.std.proofs.Common.{◌≡◌, ◌++◌, ◌==◌, ◌&&◌, ◌∙◌, ap, sym, Bool, List, ℕ, false, codes}
 use Rattle.std.proofs.Common.{decimal, is_some, subst, if◌then◌else◌, []}
 use Rattle.ycli.specs.Messages.{conflicts_line}
-use Rattle.ytables.specs.Sends.{Sends}
+use Rattle.ylink.specs.Sends.{Sends}
 use Rattle.ycli.proofs.message.put_conflicts.Goals as goal
 
 pub returns : goal.returns

@@ -1,5 +1,5 @@
 use Rattle.std.proofs.Common.{List, ℕ, Bor, Ok, Err, is_some, map, refl, subst}
-use Rattle.ytables.specs.Link.{device_of}
+use Rattle.ylink.specs.Link.{device_of}
 use Rattle.ycli.specs.declared.message.Program.TheVariants.{Ystep}
 use Rattle.ycli.specs.Messages.{message}
 use Rattle.ycli.specs.Programs.{EndsIn, Says}

@@ -1,5 +1,5 @@
 use Rattle.std.proofs.Common.{Bool, true, ap, ◌∙◌, if◌then◌else◌}
-use Rattle.ytables.specs.Link.{has_failed}
+use Rattle.ylink.specs.Link.{has_failed}
 use Rattle.yparse.specs.Session.{machine_of, history_of}
 use Rattle.ycli.specs.Command.{command_view}
 use Rattle.ycli.proofs.Replying.{answered-unflushed}

@@ -1,8 +1,8 @@
 use Rattle.std.proofs.Common.{◌+◌, ◌-◌, ℕ, List, refl, arith, ◌∙◌, codes, true, false}
-use Rattle.yparse.proofs.OneMachine.{same_machine}
-use Rattle.yparse.specs.Machine.{Machine}
-use Rattle.yparse.specs.Past.{back_by}
-use Rattle.yparse.specs.History.{History}
+use Rattle.ymachine.proofs.OneMachine.{same_machine}
+use Rattle.ymachine.specs.Machine.{Machine}
+use Rattle.ymachine.specs.Past.{back_by}
+use Rattle.ymachine.specs.History.{History}
 use Rattle.yparse.specs.Session.{machine_of, history_of}
 use Rattle.ycli.specs.Reply.{undo_text}
 use Rattle.ycli.specs.Command as commands

@@ -1,11 +1,11 @@
 use Rattle.std.proofs.Common.{codes, refl, inl, inr, subst, is_some}
-use Rattle.yparse.proofs.OneMachine.{same_machine}
-use Rattle.yparse.specs.Machine.{Machine}
-use Rattle.yparse.specs.History.{History}
+use Rattle.ymachine.proofs.OneMachine.{same_machine}
+use Rattle.ymachine.specs.Machine.{Machine}
+use Rattle.ymachine.specs.History.{History}
 use Rattle.yparse.specs.Session.{machine_of, history_of}
 use Rattle.ycli.specs.Command as commands
 use Rattle.ycli.specs.Reply.{edit_text}
-use Rattle.ytables.specs.Sends.{Sends}
+use Rattle.ylink.specs.Sends.{Sends}
 use Rattle.ycli.proofs.Replying.{answered}
 use Rattle.ycli.proofs.reply.insert.Goals as goal
 

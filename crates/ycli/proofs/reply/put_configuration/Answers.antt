@@ -1,4 +1,4 @@
-use Rattle.ytables.proofs.Sent.{Sends-then}
+use Rattle.ylink.proofs.Sent.{Sends-then}
 use Rattle.yparse.specs.Session.{machine_of, history_of}
 use Rattle.ycli.specs.Reply.{configuration_text}
 use Rattle.ycli.proofs.Replying.{front_none, front_then, front_cut}

@@ -1,11 +1,11 @@
 use Rattle.std.proofs.Common.{ap, is_some, ◌≡◌, ◌+◌, suc, take, subst, ◌∷◌, ℕ, List, true, false}
 use Rattle.std.proofs.Common.{arith}
-use Rattle.ytables.specs.Sends.{Sends}
+use Rattle.ylink.specs.Sends.{Sends}
 use Rattle.ytables.specs.Text.{spaced_names}
-use Rattle.yparse.specs.Machine.{Configuration, Machine}
+use Rattle.ymachine.specs.Machine.{Configuration, Machine}
 use Rattle.yparse.specs.Session.{machine_of, history_of}
-use Rattle.yparse.specs.Unwinding.{tokens_left}
-use Rattle.ytables.proofs.Sent.{Sends-part, Sends-next}
+use Rattle.ymachine.specs.Unwinding.{tokens_left}
+use Rattle.ylink.proofs.Sent.{Sends-part, Sends-next}
 use Rattle.ycli.proofs.Replying.{rest_at, rest_count}
 use Rattle.ycli.proofs.reply.put_rest.Goals as goal
 

@@ -1,5 +1,5 @@
 use Rattle.std.proofs.Common.{true, take, map}
-use Rattle.ytables.specs.Sends.{Sends}
+use Rattle.ylink.specs.Sends.{Sends}
 use Rattle.ytables.specs.Text.{spaced_names}
 use Rattle.yparse.specs.Session.{machine_of, history_of}
 use Rattle.ycli.proofs.reply.put_rest.Given as goal

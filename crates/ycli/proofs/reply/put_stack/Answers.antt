@@ -1,10 +1,10 @@
 use Rattle.std.proofs.Common.{ap, sym, is_some, ◌≡◌, length, get_or, subst, List, ◌∷◌, ℕ, false}
 use Rattle.std.proofs.Common.{◌∙◌, arith}
 use Rattle.std.proofs.lemmas.List.{length-map}
-use Rattle.ytables.specs.Sends.{Sends}
-use Rattle.yparse.specs.Machine.{Configuration, Entry, symbols}
+use Rattle.ylink.specs.Sends.{Sends}
+use Rattle.ymachine.specs.Machine.{Configuration, Entry, symbols}
 use Rattle.yparse.specs.Session.{machine_of, history_of}
-use Rattle.ytables.proofs.Sent.{Sends-part}
+use Rattle.ylink.proofs.Sent.{Sends-part}
 use Rattle.ycli.proofs.reply.put_stack.Goals as goal
 
 pub returns-in_err-put_name : goal.returns-in_err-put_name

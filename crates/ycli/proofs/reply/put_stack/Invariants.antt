@@ -1,8 +1,8 @@
 use Rattle.std.proofs.Common.{true, take}
-use Rattle.ytables.specs.Sends.{Sends}
+use Rattle.ylink.specs.Sends.{Sends}
 use Rattle.ytables.specs.Text.{spaced_names}
 use Rattle.yparse.specs.Session.{machine_of, history_of}
-use Rattle.yparse.specs.Machine.{symbols}
+use Rattle.ymachine.specs.Machine.{symbols}
 use Rattle.ycli.proofs.reply.put_stack.Given as goal
 
 -- the names so far were sent

@@ -1,11 +1,11 @@
 use Rattle.std.proofs.Common.{◌+◌, ◌-◌, ℕ, List, refl, arith, subst, ◌∙◌, codes, is_some, true}
 use Rattle.std.proofs.Common.{false}
-use Rattle.yparse.proofs.OneMachine.{same_machine}
-use Rattle.yparse.specs.Machine.{Machine}
-use Rattle.yparse.specs.History.{History}
+use Rattle.ymachine.proofs.OneMachine.{same_machine}
+use Rattle.ymachine.specs.Machine.{Machine}
+use Rattle.ymachine.specs.History.{History}
 use Rattle.yparse.specs.Session.{machine_of, history_of}
 use Rattle.ycli.specs.Reply.{refusal, Runs}
-use Rattle.ytables.specs.Sends.{Sends}
+use Rattle.ylink.specs.Sends.{Sends}
 use Rattle.ycli.specs.Command as commands
 use Rattle.ycli.proofs.Plain.{runs_some}
 use Rattle.ycli.proofs.Replying.{replied_none, replied_line, replied_cut, replied_last, replied_all}

@@ -1,6 +1,6 @@
 use Rattle.std.proofs.Common.{refl, inl, inr, is_some, codes}
-use Rattle.yparse.specs.Past.{to_first}
-use Rattle.yparse.specs.Unwinding.{forms_text}
+use Rattle.ymachine.specs.Past.{to_first}
+use Rattle.ymachine.specs.Unwinding.{forms_text}
 use Rattle.yparse.specs.Session.{machine_of, history_of}
 use Rattle.ycli.specs.Command as commands
 use Rattle.ycli.proofs.Replying.{answered-later}

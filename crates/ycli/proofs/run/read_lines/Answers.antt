@@ -1,7 +1,7 @@
 use Rattle.std.proofs.Common.{◌≡◌, ◌++◌, ℕ, List, [], length, take, arith, ◌∙◌}
 use Rattle.std.proofs.Common.{refl, length-append, length-take-le}
 use Rattle.std.proofs.KnownBytes.{Consumes-nil, Consumes-trans}
-use Rattle.ytables.proofs.Sent.{Sends-nothing}
+use Rattle.ylink.proofs.Sent.{Sends-nothing}
 use Rattle.yparse.specs.Session.{machine_of, history_of}
 use Rattle.ycli.specs.declared.run.Flow.TheVariants.{GoesOn, Quit}
 use Rattle.ycli.proofs.Transcripts.{Replies_none, read_on, read_fault, quit_ends}

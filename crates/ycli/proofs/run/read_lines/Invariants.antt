@@ -1,7 +1,7 @@
 use Rattle.std.proofs.Common.{ℕ, List, ◌≡◌, ◌≤◌, length, take, true}
 use Rattle.std.specs.Io.KnownBytes.{Consumes}
-use Rattle.ytables.specs.Link.{device_of, has_failed}
-use Rattle.ytables.specs.Sends.{Sends}
+use Rattle.ylink.specs.Link.{device_of, has_failed}
+use Rattle.ylink.specs.Sends.{Sends}
 use Rattle.yparse.specs.Session.{machine_of, history_of}
 use Rattle.ycli.specs.declared.run.Flow.TheVariants.{GoesOn}
 use Rattle.ycli.specs.Line.{line_room}

@@ -1,7 +1,7 @@
 use Rattle.std.proofs.Common.{true, false, Result, Err, ap, sym, ◌∙◌, subst}
 use Rattle.std.proofs.lemmas.Result.{err_from_is_err_and}
 use Rattle.ycli.specs.declared.fault.SessionFault.{SessionFault}
-use Rattle.ytables.specs.Link.{device_of}
+use Rattle.ylink.specs.Link.{device_of}
 use Rattle.yparse.specs.Session.{machine_of, history_of}
 use Rattle.ycli.proofs.Transcripts.{Told, told_err, told_quit, told_last}
 use Rattle.ycli.proofs.run.serve.Goals as goal

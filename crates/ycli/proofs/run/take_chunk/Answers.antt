@@ -2,8 +2,8 @@ use Rattle.std.proofs.Common.{rules, ◌≡◌, ◌==◌, ℕ, suc, List, true, 
 use Rattle.std.proofs.Common.{Option}
 use Rattle.std.proofs.Common.{Some, take, drop, get_or, sym, ◌∙◌, subst}
 use Rattle.std.proofs.lemmas.List.{take_more, take_all}
-use Rattle.yparse.specs.Machine.{Machine}
-use Rattle.yparse.specs.History.{History}
+use Rattle.ymachine.specs.Machine.{Machine}
+use Rattle.ymachine.specs.History.{History}
 use Rattle.yparse.specs.Session.{machine_of, history_of}
 use Rattle.ycli.specs.Command.{command_view}
 use Rattle.ycli.specs.declared.run.Flow.{Flow}

@@ -1,5 +1,5 @@
 use Rattle.std.proofs.Common.{ℕ, List, ◌≡◌, take, Some}
-use Rattle.ytables.specs.Link.{has_failed}
+use Rattle.ylink.specs.Link.{has_failed}
 use Rattle.yparse.specs.Session.{machine_of, history_of}
 use Rattle.ycli.specs.declared.run.Flow.TheVariants.{GoesOn}
 use Rattle.ycli.specs.Line.{line_room}

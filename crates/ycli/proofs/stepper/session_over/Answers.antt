@@ -1,9 +1,9 @@
 use Rattle.std.proofs.Common.{sym, subst}
-use Rattle.yparse.specs.Machine.{Machine}
-use Rattle.yparse.specs.History.{History}
-use Rattle.yparse.specs.Headline.{IsMachineOf}
-use Rattle.yparse.specs.Rightmost.{UnwindsRight}
-use Rattle.yparse.specs.Tokens.{symbols_of}
+use Rattle.ymachine.specs.Machine.{Machine}
+use Rattle.ymachine.specs.History.{History}
+use Rattle.ymachine.specs.Headline.{IsMachineOf}
+use Rattle.ymachine.specs.Rightmost.{UnwindsRight}
+use Rattle.ytokens.specs.Tokens.{symbols_of}
 use Rattle.ycli.proofs.stepper.session_over.Goals as goal
 
 pub returns-in-Ok-clause-parses : goal.returns-in-Ok-clause-parses

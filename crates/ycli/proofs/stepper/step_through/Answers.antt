@@ -1,11 +1,11 @@
 use Rattle.std.proofs.Common.{ℕ, ◌≡◌, ◌<◌, ◌^◌, List, Option, Result, Ok, Err, length, IfSome}
 use Rattle.std.proofs.Common.{subst}
-use Rattle.ytables.specs.Link.{device_of}
-use Rattle.yparse.specs.Machine.{Machine}
-use Rattle.yparse.specs.History.{History}
+use Rattle.ylink.specs.Link.{device_of}
+use Rattle.ymachine.specs.Machine.{Machine}
+use Rattle.ymachine.specs.History.{History}
 use Rattle.yparse.specs.Session.{machine_of, history_of}
 use Rattle.ycli.specs.declared.fault.SessionFault.{SessionFault}
-use Rattle.ytables.specs.declared.link.Link.{Link}
+use Rattle.ylink.specs.declared.link.Link.{Link}
 use Rattle.ytables.specs.Tables.{TablesValue as Tables}
 use Rattle.ycli.specs.Halves.{AreTablesOf, Parses}
 use Rattle.ycli.specs.Headline.{Served}

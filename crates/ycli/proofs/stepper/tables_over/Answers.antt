@@ -1,5 +1,5 @@
 use Rattle.std.proofs.Common.{sym, subst, ap, ◌∙◌}
-use Rattle.ygrammar.specs.Grammar.{GrammarValue}
+use Rattle.ysymbols.specs.Grammar.{GrammarValue}
 use Rattle.ygrammar.specs.GrammarOf.{IsGrammarOf}
 use Rattle.ylalr.specs.Collection.{Collection, HasStates}
 use Rattle.ycli.proofs.stepper.tables_over.Goals as goal

@@ -1,16 +1,16 @@
 use Rattle.std.proofs.Common.{◌≡◌, ◌∙◌, List, length, Err, ap, subst, sym, arith}
 use Rattle.std.proofs.lemmas.List.{length-map}
 use Rattle.std.proofs.lemmas.Result.{err_from_is_err_and}
-use Rattle.ygrammar.specs.declared.lexer.Placed.{Placed}
-use Rattle.ygrammar.specs.declared.fault.GrammarFault.{GrammarFault}
-use Rattle.ygrammar.specs.declared.fault.GrammarFault.TheVariants.{TooLong}
-use Rattle.ygrammar.specs.Answers.{StandIn, views}
+use Rattle.ysyntax.specs.declared.lexer.Placed.{Placed}
+use Rattle.ysyntax.specs.declared.fault.GrammarFault.{GrammarFault}
+use Rattle.ysyntax.specs.declared.fault.GrammarFault.TheVariants.{TooLong}
+use Rattle.ysyntax.specs.Answers.{StandIn, views}
 use Rattle.ygrammar.specs.GrammarOf.{AnswersRefusal}
-use Rattle.ygrammar.specs.Lexemes.{Lexeme}
+use Rattle.ylexemes.specs.Lexemes.{Lexeme}
 use Rattle.ygrammar.specs.Mistakes.{IsFirst, order}
-use Rattle.ygrammar.specs.TreeViews.{tree_view}
-use Rattle.ygrammar.specs.Tree.{yield}
-use Rattle.ygrammar.specs.Views.{lexeme_view}
+use Rattle.ysyntax.specs.TreeViews.{tree_view}
+use Rattle.ysyntax.specs.Tree.{yield}
+use Rattle.ylexemes.specs.Views.{lexeme_view}
 use Rattle.ygrammar.proofs.InnerSteps.{few_inner}
 use Rattle.ygrammar.proofs.OneMeaning.{none_first}
 use Rattle.ygrammar.proofs.ReaderSteps.{fault_of, has_tree, no_grammar, ok_err, read_no_fault}

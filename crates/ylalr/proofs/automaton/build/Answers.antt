@@ -8,8 +8,8 @@ use Rattle.ylalr.proofs.automaton.build.Goals as goal
 
 pub returns-clause-states : goal.returns-clause-states
 returns-clause-states c =
-    let P = c.in_ok-parts.parts in
-    let fit = c.in_ok-parts.ensures.fit in
+    let P = c.in_ok-lr0.lr0 in
+    let fit = c.in_ok-lr0.ensures.fit in
     has_states P.grammar fit.well_formed P.states P.gotos fit.states
     (λ q x h l. fit.gotos.gotos q h x l) fit.few
 

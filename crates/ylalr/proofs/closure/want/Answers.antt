@@ -1,8 +1,9 @@
 use Rattle.std.proofs.Common.{◌≡◌, ◌<◌, ◌+◌, length, get_or, subst, sym, arith}
 use Rattle.ylalr.specs.declared.items.Item.{Item}
-use Rattle.ylalr.specs.Rows.{IsSized}
-use Rattle.ylalr.proofs.Growth.{sized_grown}
-use Rattle.ylalr.proofs.ListSteps.{Wanting, wanting_end, wanting_more, same_default}
+use Rattle.yrows.specs.Rows.{IsSized}
+use Rattle.yrows.proofs.Growth.{sized_grown}
+use Rattle.ylalr.proofs.ListSteps.{Wanting, wanting_end, wanting_more}
+use Rattle.yrows.proofs.Turn.{same_default}
 use Rattle.ylalr.proofs.closure.want.Goals as goal
 use Rattle.ylalr.proofs.closure.want.Goals.{in-Some, in_default}
 

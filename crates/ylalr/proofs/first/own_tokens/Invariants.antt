@@ -1,5 +1,5 @@
 use Rattle.ylalr.specs.Fronts.{HasEach}
-use Rattle.ylalr.specs.Rows.{IsSized}
+use Rattle.yrows.specs.Rows.{IsSized}
 use Rattle.ylalr.proofs.first.own_tokens.Given as goal
 
 abbrev pub invariant-loop-t : goal.invariant-loop-t

@@ -1,7 +1,7 @@
 use Rattle.std.proofs.Common.{◌≡◌, ◌∙◌, ap, length}
-use Rattle.ygrammar.specs.Grammar.{Production, left_of}
+use Rattle.ysymbols.specs.Grammar.{Production, left_of}
 use Rattle.ylalr.proofs.FrontSteps.{each_more}
-use Rattle.ylalr.proofs.Growth.{sized_grown}
+use Rattle.yrows.proofs.Growth.{sized_grown}
 use Rattle.ylalr.proofs.first_rules.own_rules.Goals as goal
 
 pub loop-r-preserved : goal.loop-r-preserved

@@ -1,7 +1,7 @@
 use Rattle.std.proofs.Common.{length}
-use Rattle.ygrammar.specs.Grammar.{left_of}
+use Rattle.ysymbols.specs.Grammar.{left_of}
 use Rattle.ylalr.specs.Fronts.{HasEach}
-use Rattle.ylalr.specs.Rows.{IsSized}
+use Rattle.yrows.specs.Rows.{IsSized}
 use Rattle.ylalr.proofs.first_rules.own_rules.Given as goal
 
 abbrev pub invariant-loop-r : goal.invariant-loop-r

@@ -1,5 +1,5 @@
 use Rattle.std.proofs.Common.{◌≡◌, ◌<◌, ◌∙◌, ap, subst, sym, length, arith}
-use Rattle.ygrammar.specs.Grammar.{Production, left_of}
+use Rattle.ysymbols.specs.Grammar.{Production, left_of}
 use Rattle.ylalr.specs.Fronts.{AreFrontLinks}
 use Rattle.ylalr.proofs.FrontSteps.{leads_none, leads_more}
 use Rattle.ylalr.proofs.fronts.front_links.Goals as goal

@@ -1,7 +1,7 @@
 use Rattle.std.proofs.Common.{ℕ, ◌≡◌, ◌<◌, ◌∙◌, ap, subst, sym, List, ◌∷◌, suc, length, get_or}
 use Rattle.std.proofs.Common.{drop}
 use Rattle.std.proofs.Math.Seq.{drop-cons}
-use Rattle.ygrammar.specs.Grammar.{Production, body_of}
+use Rattle.ysymbols.specs.Grammar.{Production, body_of}
 use Rattle.ylalr.proofs.items.symbol_after.Goals as goal
 
 pub returns-then-item-body : goal.returns-then-item-body

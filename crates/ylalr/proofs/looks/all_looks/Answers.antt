@@ -5,7 +5,7 @@ use Rattle.ylalr.proofs.looks.all_looks.Goals as goal
 
 pub returns : goal.returns
 returns c =
-    let P = c.args.parts.now in
+    let P = c.args.lr0.now in
     let f = c.requires.well_formed in
     let d : DraftValue = record { looks = c.looks.inside.looks; links = c.looks.inside.links } in
     let sound = subst (SoundDraft P) (sym c.looks.view_is) c.in_ok-looks.ensures.sound in

@@ -1,12 +1,12 @@
 use Rattle.std.proofs.Common.{inl, inr, sym, subst, arith}
 use Rattle.ylalr.specs.Draft.{ServesState}
-use Rattle.ylalr.proofs.Turn.{below_or_is}
+use Rattle.yrows.proofs.Turn.{below_or_is}
 use Rattle.ylalr.proofs.DraftSteps.{serves_kept}
 use Rattle.ylalr.proofs.looks.draft_of.Goals as goal
 
 pub loop-q-preserved : goal.loop-q-preserved
 loop-q-preserved c =
-    let P = c.args.parts.now in
+    let P = c.args.lr0.now in
     let i = c.loop-q.invariant in
     let e = c.in_ok-visit_state.ensures in
     record {

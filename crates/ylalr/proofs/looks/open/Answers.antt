@@ -1,54 +1,54 @@
 use Rattle.std.proofs.Common.{ℕ, ◌<◌, ◌∷◌, ◌∙◌, List, drop, suc, refl, sym, ap, subst}
-use Rattle.ygrammar.specs.Grammar.{body_of}
+use Rattle.ysymbols.specs.Grammar.{body_of}
 use Rattle.ylalr.specs.Draft.{DraftValue, SoundDraft, Further}
-use Rattle.ylalr.specs.Rows.{IsSized}
-use Rattle.ylalr.proofs.DraftSteps.{rule_below, place_below, opens_none, opens_nowhere, opens_by}
+use Rattle.yrows.specs.Rows.{IsSized}
+use Rattle.ylalr.proofs.DraftSteps.{rule_below, row_below, opens_none, opens_nowhere, opens_by}
 use Rattle.ylalr.proofs.DraftSteps.{Opening, row_linked, sound_begun, carries_open, sound_linked}
 use Rattle.ylalr.proofs.DraftSteps.{sound_rows}
-use Rattle.ylalr.proofs.Growth.{sized_then}
-use Rattle.ylalr.proofs.LinkSteps.{link_there, link_kept}
+use Rattle.yrows.proofs.Growth.{sized_then}
+use Rattle.yrows.proofs.LinkSteps.{link_there, link_kept}
 use Rattle.ylalr.proofs.looks.open.Goals.{After-add_form}
 use Rattle.ylalr.proofs.looks.open.Goals as goal
 
 pub symbol_after-requires : goal.symbol_after-requires
 symbol_after-requires c = let h = c.args.here in
-    rule_below c.args.parts.now c.requires.fit.well_formed c.requires.fit h.state h.item
+    rule_below c.args.lr0.now c.requires.fit.well_formed c.requires.fit h.state h.item
     h.row c.requires.here
 
 pub returns-in_default-clause-opens : goal.returns-in_default-clause-opens
-returns-in_default-clause-opens c = opens_nowhere c.args.parts.now
+returns-in_default-clause-opens c = opens_nowhere c.args.lr0.now
     c.requires.fit.well_formed c.requires.fit c.args.draft.now c.args.here
     c.in_default.ensures
 
 pub returns-in_default-get-clause-opens : goal.returns-in_default-get-clause-opens
 returns-in_default-get-clause-opens c =
     let h = c.args.here in
-    opens_none c.args.parts.now c.requires.fit.well_formed c.requires.fit
+    opens_none c.args.lr0.now c.requires.fit.well_formed c.requires.fit
     c.args.draft.now h c.in-Some.next
-    (drop (suc h.item.dot) (body_of c.args.parts.now.grammar.bare h.item.rule)) c.args.lefts.now
+    (drop (suc h.item.dot) (body_of c.args.lr0.now.grammar.bare h.item.rule)) c.args.lefts.now
     c.requires.lefts c.in-Some.ensures.1 (sym c.get.ensures ∙ c.in_default-get.is)
 
 pub add_form-requires-clause-to_in : goal.add_form-requires-clause-to_in
 add_form-requires-clause-to_in c =
-    let P = c.args.parts.now in
+    let P = c.args.lr0.now in
     let h = c.args.here in
     let z = c.requires.lefts.found c.in-Some.next c.in-Some-get.to
     (sym c.get.ensures ∙ c.in-Some-get.is) in
-    let s : IsSized P.places.total P.grammar.bare.tokens c.draft.inside.looks =
-    subst (λ (d : DraftValue). IsSized P.places.total P.grammar.bare.tokens d.looks)
+    let s : IsSized P.item_rows.total P.grammar.bare.tokens c.draft.inside.looks =
+    subst (λ (d : DraftValue). IsSized P.item_rows.total P.grammar.bare.tokens d.looks)
     (sym c.draft.view_is) c.requires.sound.sized in
     subst (λ k. c.in-Some-get.to < k) (sym s.rows)
-    (place_below P c.requires.fit.well_formed c.requires.fit h.state z.0
+    (row_below P c.requires.fit.well_formed c.requires.fit h.state z.0
     c.in-Some-get.to (record { state = c.requires.here.state; at = z.1 }))
 
 pub push-requires : goal.push-requires
 push-requires c =
-    let P = c.args.parts.now in
+    let P = c.args.lr0.now in
     row_linked P c.requires.fit.well_formed c.requires.fit _
     (subst (SoundDraft P) (sym c.draft.view_is) c.requires.sound) c.args.here c.requires.here
 
 -- what is opened
-opening : (c : After-add_form) → Opening c.args.parts.now c.requires.fit.well_formed c.requires.fit
+opening : (c : After-add_form) → Opening c.args.lr0.now c.requires.fit.well_formed c.requires.fit
     c.args.here c.in-Some-get.to c.form_after-form.result.now
 opening c =
     let z = c.requires.lefts.found c.in-Some.next c.in-Some-get.to
@@ -66,13 +66,13 @@ opening c =
 abbrev drafted : After-add_form → DraftValue
 drafted c = record { looks = c.draft.inside.looks; links = c.draft.inside.links }
 
-sound_before : (c : After-add_form) → SoundDraft c.args.parts.now (drafted c)
-sound_before c = subst (SoundDraft c.args.parts.now) (sym c.draft.view_is) c.requires.sound
+sound_before : (c : After-add_form) → SoundDraft c.args.lr0.now (drafted c)
+sound_before c = subst (SoundDraft c.args.lr0.now) (sym c.draft.view_is) c.requires.sound
 
 pub returns-in_ok-push : goal.returns-in_ok-push
 returns-in_ok-push c =
     let at = (goal.at.returns-in_ok-push c).After-add_form in
-    let P = c.args.parts.now in
+    let P = c.args.lr0.now in
     let f = c.requires.fit.well_formed in
     let fit = c.requires.fit in
     let h = c.args.here in
@@ -88,8 +88,8 @@ returns-in_ok-push c =
     record {
       sound = sound_linked P d n.looks n.links h.row to sd (sized_then sd.sized a.sized)
           (sound_begun P f fit d n.looks h to y sd.looks here u a.sound)
-          (place_below P f fit h.state h.item h.row here)
-          (place_below P f fit h.state u.opened to u.place) c.in_ok-push.ensures
+          (row_below P f fit h.state h.item h.row here)
+          (row_below P f fit h.state u.opened to u.place) c.in_ok-push.ensures
           (carries_open P f fit h to y here u (c.if-add_form.ensures.vanishes.0 refl));
       further = subst (λ (v : DraftValue). Further v n) c.draft.view_is (record {
         looks = a.grows;
@@ -105,7 +105,7 @@ returns-in_ok-push c =
 pub returns-else-add_form : goal.returns-else-add_form
 returns-else-add_form c =
     let at = (goal.at.returns-else-add_form c).After-add_form in
-    let P = c.args.parts.now in
+    let P = c.args.lr0.now in
     let f = c.requires.fit.well_formed in
     let fit = c.requires.fit in
     let h = c.args.here in

@@ -1,20 +1,20 @@
 use Rattle.std.proofs.Common.{sym, subst}
 use Rattle.ylalr.specs.Sets.{step_of}
 use Rattle.ylalr.specs.Draft.{DraftValue, SoundDraft, Further}
-use Rattle.ylalr.proofs.DraftSteps.{place_below, carries_shift, shifts_by, shifts_none}
+use Rattle.ylalr.proofs.DraftSteps.{row_below, carries_shift, shifts_by, shifts_none}
 use Rattle.ylalr.proofs.DraftSteps.{row_linked, sound_linked}
-use Rattle.ylalr.proofs.LinkSteps.{link_there, link_kept}
+use Rattle.yrows.proofs.LinkSteps.{link_there, link_kept}
 use Rattle.ylalr.proofs.looks.shift.Goals as goal
 
 pub push-requires : goal.push-requires
 push-requires c =
-    let P = c.args.parts.now in
+    let P = c.args.lr0.now in
     row_linked P c.requires.fit.well_formed c.requires.fit _
     (subst (SoundDraft P) (sym c.draft.view_is) c.requires.sound) c.args.here c.requires.here
 
 pub returns-in_ok-push : goal.returns-in_ok-push
 returns-in_ok-push c =
-    let P = c.args.parts.now in
+    let P = c.args.lr0.now in
     let f = c.requires.fit.well_formed in
     let fit = c.requires.fit in
     let h = c.args.here in
@@ -26,8 +26,8 @@ returns-in_ok-push c =
     let hl = row_linked P f fit d sd h c.requires.here in
     record {
       sound = sound_linked P d d.looks n.links h.row to sd sd.sized sd.looks
-          (place_below P f fit h.state h.item h.row c.requires.here)
-          (place_below P f fit moved.target (step_of h.item) to moved.place) c.in_ok-push.ensures
+          (row_below P f fit h.state h.item h.row c.requires.here)
+          (row_below P f fit moved.target (step_of h.item) to moved.place) c.in_ok-push.ensures
           (carries_shift P f fit h to c.requires.here moved);
       further = subst (λ (v : DraftValue). Further v n) c.draft.view_is (record {
         looks = λ r k l. l;
@@ -38,6 +38,6 @@ returns-in_ok-push c =
     }
 
 pub returns-in_default-clause-shifts : goal.returns-in_default-clause-shifts
-returns-in_default-clause-shifts c = shifts_none c.args.parts.now
+returns-in_default-clause-shifts c = shifts_none c.args.lr0.now
     c.requires.fit.well_formed c.requires.fit c.args.draft.now c.args.here
     c.in_default.ensures

@@ -5,12 +5,12 @@ use Rattle.ylalr.proofs.DraftSteps.{further_then, served_more}
 use Rattle.ylalr.proofs.looks.visit_state.Goals as goal
 
 pub fill-requires-clause-range : goal.fill-requires-clause-range
-fill-requires-clause-range c = subst (InRange c.args.parts.now.grammar.bare)
+fill-requires-clause-range c = subst (InRange c.args.lr0.now.grammar.bare)
     (sym c.items-items.ensures) (c.requires.fit.states.each c.args.q c.requires.state).range
 
 pub loop-k-preserved : goal.loop-k-preserved
 loop-k-preserved c =
-    let P = c.args.parts.now in
+    let P = c.args.lr0.now in
     let i = c.loop-k.invariant in
     let e = c.in_ok-visit.ensures in
     let xs = c.items-items.result.now in

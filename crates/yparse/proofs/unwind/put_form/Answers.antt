@@ -1,4 +1,4 @@
-use Rattle.ytables.proofs.Sent.{Sends-stop, Sends-none, Sends-then}
+use Rattle.ylink.proofs.Sent.{Sends-stop, Sends-none, Sends-then}
 use Rattle.yparse.proofs.unwind.put_form.Goals as goal
 
 pub returns-in_err-put_names : goal.returns-in_err-put_names

@@ -2,15 +2,15 @@ use Rattle.std.proofs.Common.{ℕ, suc, ◌≡◌, ◌+◌, ◌++◌, ◌∷◌,
 use Rattle.std.proofs.Common.{refl, ap, sym, subst, ◌∙◌, append_assoc, append-nil, arith, Option}
 use Rattle.std.specs.Io.KnownBytes.{Appends}
 use Rattle.std.proofs.KnownBytes.{Appends-nil}
-use Rattle.ytables.specs.Link.{device_of}
-use Rattle.ytables.specs.Sends.{Sends, Begins}
-use Rattle.ytables.proofs.Sent.{Sends-then}
-use Rattle.yparse.specs.Machine.{Machine}
-use Rattle.yparse.specs.Past.{position, back_by}
-use Rattle.yparse.specs.History.{History}
+use Rattle.ylink.specs.Link.{device_of}
+use Rattle.ylink.specs.Sends.{Sends, Begins}
+use Rattle.ylink.proofs.Sent.{Sends-then}
+use Rattle.ymachine.specs.Machine.{Machine}
+use Rattle.ymachine.specs.Past.{position, back_by}
+use Rattle.ymachine.specs.History.{History}
 use Rattle.yparse.specs.Session.{Setting, setting_of, machine_of, history_of, later_of}
-use Rattle.yparse.specs.Unwinding.{form_of, forms_from, forms_of, forms_before}
-use Rattle.yparse.specs.Unwinding.{form_line, is_reduction}
+use Rattle.ymachine.specs.Unwinding.{form_of, forms_from, forms_of, forms_before}
+use Rattle.ymachine.specs.Unwinding.{form_line, is_reduction}
 use Rattle.yparse.proofs.Unwound.{undone-next, forms-reduction, forms-other, stops, goes_back-none}
 use Rattle.yparse.proofs.Unwound.{lines-push}
 use Rattle.yparse.proofs.unwind.put_forms.Given.{Over}

@@ -1,8 +1,8 @@
 use Rattle.std.proofs.Common.{ℕ, ◌≡◌, ◌+◌, ◌++◌, List, length, flat_map, true}
-use Rattle.ytables.specs.Sends.{Sends}
-use Rattle.yparse.specs.Past.{position, back_by}
+use Rattle.ylink.specs.Sends.{Sends}
+use Rattle.ymachine.specs.Past.{position, back_by}
 use Rattle.yparse.specs.Session.{setting_of, machine_of, history_of, later_of}
-use Rattle.yparse.specs.Unwinding.{forms_of, forms_before, form_line}
+use Rattle.ymachine.specs.Unwinding.{forms_of, forms_before, form_line}
 use Rattle.yparse.proofs.unwind.put_forms.Given as goal
 
 -- the lines of the forms so far were sent, and what is left are those of the steps that stand

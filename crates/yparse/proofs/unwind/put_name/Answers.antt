@@ -1,6 +1,6 @@
 use Rattle.std.proofs.Common.{ℕ, List, true, false, is_some, subst}
-use Rattle.ytables.specs.Sends.{Sends}
-use Rattle.ytables.proofs.Sent.{Sends-then, Sends-stop, Sends-none}
+use Rattle.ylink.specs.Sends.{Sends}
+use Rattle.ylink.proofs.Sent.{Sends-then, Sends-stop, Sends-none}
 use Rattle.yparse.specs.Session.{machine_of}
 use Rattle.yparse.specs.Unwound.{gap}
 use Rattle.yparse.proofs.unwind.put_name.Goals as goal

@@ -1,6 +1,6 @@
 use Rattle.std.proofs.Common.{◌<◌, length}
 use Rattle.yparse.specs.Session.{machine_of, history_of, later_of}
-use Rattle.yparse.specs.Unwinding.{form_of}
+use Rattle.ymachine.specs.Unwinding.{form_of}
 use Rattle.yparse.proofs.Unwound.{names_sent, names_cut}
 use Rattle.yparse.proofs.unwind.put_names.Goals as goal
 

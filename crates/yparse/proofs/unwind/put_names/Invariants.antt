@@ -1,7 +1,7 @@
 use Rattle.std.proofs.Common.{true, take}
-use Rattle.ytables.specs.Sends.{Sends}
+use Rattle.ylink.specs.Sends.{Sends}
 use Rattle.yparse.specs.Session.{machine_of, history_of, later_of}
-use Rattle.yparse.specs.Unwinding.{names_text, form_of}
+use Rattle.ymachine.specs.Unwinding.{names_text, form_of}
 use Rattle.yparse.proofs.unwind.put_names.Given as goal
 
 -- the names so far were sent

@@ -1,6 +1,6 @@
 use Rattle.std.proofs.Common.{List, ℕ, Option, subst, is_some}
-use Rattle.ytables.specs.Link.{device_of}
-use Rattle.yparse.specs.History.{History}
+use Rattle.ylink.specs.Link.{device_of}
+use Rattle.ymachine.specs.History.{History}
 use Rattle.yparse.specs.Session.{Setting, machine_of, history_of}
 use Rattle.yparse.specs.Unwound.{GoesBack}
 use Rattle.yparse.proofs.unwind.write_forms.Goals as goal

@@ -1,8 +1,8 @@
 use Rattle.std.proofs.Common.{ℕ, ◌≡◌, ◌<◌, ◌+◌, List, length, get_or, Option, None, ap, ◌∙◌, subst}
 use Rattle.std.proofs.Common.{arith}
-use Rattle.ygrammar.specs.Grammar.{GrammarValue}
+use Rattle.ysymbols.specs.Grammar.{GrammarValue}
 use Rattle.ylalr.specs.Collection.{goto_in}
-use Rattle.ytables.specs.Packed.{IsPushed}
+use Rattle.yrows.specs.Packed.{IsPushed}
 use Rattle.ytables.proofs.GotoSteps.{gotos_step}
 use Rattle.ytables.proofs.gotos.all_gotos.Goals as goal
 

@@ -1,6 +1,6 @@
 use Rattle.std.proofs.Common.{◌≡◌, ◌<◌, ◌+◌, ◌-◌, [], ◌∷◌, length, get_or, set, drop, sym, ap, ◌∙◌}
 use Rattle.std.proofs.Common.{subst, arith, length-set}
-use Rattle.ygrammar.specs.Grammar.{GrammarValue, body_of}
+use Rattle.ysymbols.specs.Grammar.{GrammarValue, body_of}
 use Rattle.ylalr.specs.declared.items.Item.{Item}
 use Rattle.ylalr.specs.Collection.{goto_in}
 use Rattle.ytables.specs.Tables.{after_dot}

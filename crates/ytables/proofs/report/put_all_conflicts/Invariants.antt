@@ -1,7 +1,7 @@
 use Rattle.std.proofs.Common.{true, flat_map}
 use Rattle.std.specs.List.{range_with_len}
 use Rattle.ylalr.specs.Collection.{Guide, IsGuide}
-use Rattle.ytables.specs.Sends.{Sends}
+use Rattle.ylink.specs.Sends.{Sends}
 use Rattle.ytables.specs.Report.{conflict_line}
 use Rattle.ytables.specs.Tables.{cell_in}
 use Rattle.ytables.proofs.report.put_all_conflicts.Given as goal

@@ -1,9 +1,9 @@
 use Rattle.std.proofs.Common.{◌≡◌, [], sym, subst, List, ℕ, true}
 use Rattle.ylalr.specs.Collection.{state_of}
-use Rattle.ytables.specs.Sends.{Sends}
+use Rattle.ylink.specs.Sends.{Sends}
 use Rattle.ytables.specs.Tables.{ready_in}
 use Rattle.ytables.proofs.RowSteps.{no_conflicts}
-use Rattle.ytables.proofs.Sent.{Sends-nothing}
+use Rattle.ylink.proofs.Sent.{Sends-nothing}
 use Rattle.ytables.proofs.report.put_conflicts.Goals as goal
 
 pub returns-else-has_ready : goal.returns-else-has_ready

@@ -1,5 +1,5 @@
 use Rattle.std.proofs.Common.{ap, ◌∙◌}
-use Rattle.ygrammar.specs.Grammar.{GrammarValue}
+use Rattle.ysymbols.specs.Grammar.{GrammarValue}
 use Rattle.ylalr.specs.Collection.{goto_in}
 use Rattle.ytables.specs.Report.{goto_line}
 use Rattle.ytables.proofs.LineSteps.{span_cut, span_sent}

@@ -1,9 +1,9 @@
 use Rattle.std.proofs.Common.{◌≡◌, List, flat_map, is_some, ap, ◌∙◌, subst}
 use Rattle.ylalr.specs.declared.items.Item.{Item}
 use Rattle.ylalr.specs.Collection.{Collection, state_of}
-use Rattle.ytables.specs.Sends.{Sends}
+use Rattle.ylink.specs.Sends.{Sends}
 use Rattle.ytables.specs.Report.{item_line}
-use Rattle.ytables.proofs.Sent.{Sends-part}
+use Rattle.ylink.proofs.Sent.{Sends-part}
 use Rattle.ytables.proofs.report.put_items.Goals as goal
 
 pub returns-in_err-put_item : goal.returns-in_err-put_item

@@ -1,6 +1,6 @@
 use Rattle.std.proofs.Common.{true, flat_map, take}
 use Rattle.ylalr.specs.Collection.{Guide, IsGuide}
-use Rattle.ytables.specs.Sends.{Sends}
+use Rattle.ylink.specs.Sends.{Sends}
 use Rattle.ytables.specs.Report.{item_line}
 use Rattle.ytables.proofs.report.put_items.Given as goal
 

@@ -1,5 +1,5 @@
 use Rattle.std.proofs.Common.{◌≡◌, ap, ◌∙◌, arith}
-use Rattle.ygrammar.specs.Grammar.{GrammarValue}
+use Rattle.ysymbols.specs.Grammar.{GrammarValue}
 use Rattle.ytables.specs.Report.{look_text}
 use Rattle.ytables.proofs.LineSteps.{range_cut, range_sent}
 use Rattle.ytables.proofs.report.put_looks.Goals as goal

@@ -1,6 +1,6 @@
 use Rattle.std.proofs.Common.{◌++◌, ap, is_some, codes}
 use Rattle.ytables.specs.Text.{name_of}
-use Rattle.ytables.proofs.Sent.{Sends-part}
+use Rattle.ylink.proofs.Sent.{Sends-part}
 use Rattle.ytables.proofs.report.put_names.Goals as goal
 
 pub returns-in_err-put_name : goal.returns-in_err-put_name

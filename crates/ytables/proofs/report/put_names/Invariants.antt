@@ -1,5 +1,5 @@
 use Rattle.std.proofs.Common.{true, flat_map, take}
-use Rattle.ytables.specs.Sends.{Sends}
+use Rattle.ylink.specs.Sends.{Sends}
 use Rattle.std.proofs.Common.{codes, ◌++◌}
 use Rattle.ytables.specs.Text.{name_of}
 use Rattle.ytables.proofs.report.put_names.Given as goal

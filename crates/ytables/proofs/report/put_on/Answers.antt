@@ -1,15 +1,15 @@
 use Rattle.std.proofs.Common.{ℕ, ◌≡◌, ◌<◌, ◌≤◌, ◌++◌, Bool, true, false, List, [], codes, length}
 use Rattle.std.proofs.Common.{Option, sym, subst, if◌then◌else◌}
-use Rattle.ygrammar.specs.Grammar.{body_of}
+use Rattle.ysymbols.specs.Grammar.{body_of}
 use Rattle.ylalr.specs.declared.items.Item.{Item}
 use Rattle.ylalr.specs.Collection.{Guide}
-use Rattle.ytables.specs.declared.link.Link.{Link}
-use Rattle.ytables.specs.Sends.{Sends}
+use Rattle.ylink.specs.declared.link.Link.{Link}
+use Rattle.ylink.specs.Sends.{Sends}
 use Rattle.ytables.specs.Report.{looks_text, on_text}
 use Rattle.ytables.specs.Tables.{TablesValue, after_dot, is_empty}
 use Rattle.ytables.proofs.LineSteps.{first_cut, two}
 use Rattle.ytables.proofs.RowSteps.{empty_no, empty_yes}
-use Rattle.ytables.proofs.Sent.{Sends-nothing}
+use Rattle.ylink.proofs.Sent.{Sends-nothing}
 use Rattle.ytables.proofs.report.put_on.Goals as goal
 
 -- what follows an item that is complete or not

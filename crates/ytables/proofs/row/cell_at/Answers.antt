@@ -1,6 +1,6 @@
 use Rattle.std.proofs.Common.{◌≡◌, Some, None, sym, ap, ◌∙◌, subst, if◌then◌else◌, get_or}
 use Rattle.ylalr.specs.declared.items.Item.{Item}
-use Rattle.ygrammar.specs.Grammar.{GrammarValue}
+use Rattle.ysymbols.specs.Grammar.{GrammarValue}
 use Rattle.ytables.specs.Cell.{cell_of}
 use Rattle.ytables.specs.Tables.{class_in, class_at, rules_by, ready_in, has_before, shift_of}
 use Rattle.ytables.specs.Tally.{IsTally}

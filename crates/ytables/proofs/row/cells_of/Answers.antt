@@ -1,7 +1,7 @@
 use Rattle.std.proofs.Common.{◌≤◌, ◌+◌, List, ◌∷◌, ◌||◌, [], length, sym, ap, ◌∙◌, subst, arith}
 use Rattle.std.proofs.Common.{length-append}
 use Rattle.ylalr.specs.declared.items.Item.{Item}
-use Rattle.ygrammar.specs.Grammar.{GrammarValue, most_rules}
+use Rattle.ysymbols.specs.Grammar.{GrammarValue, most_rules}
 use Rattle.ylalr.specs.Collection.{state_of}
 use Rattle.ytables.specs.declared.cell.Action.{Action}
 use Rattle.ytables.specs.Rows.{InGrammar, IsRowTo}

@@ -1,5 +1,5 @@
 use Rattle.std.proofs.Common.{◌≡◌, ◌≤◌, ◌*◌, length}
-use Rattle.ygrammar.specs.Grammar.{most_rules}
+use Rattle.ysymbols.specs.Grammar.{most_rules}
 use Rattle.ylalr.specs.Collection.{Guide, IsGuide}
 use Rattle.ytables.specs.Rows.{IsRowTo}
 use Rattle.ytables.proofs.row.cells_of.Given as goal

@@ -1,6 +1,6 @@
 use Rattle.std.proofs.Common.{◌≡◌, ◌+◌, ◌≤◌, take, get_or, ◌&&◌, None, sym, ap, ◌∙◌}
 use Rattle.std.proofs.Common.{subst, arith}
-use Rattle.ygrammar.specs.Grammar.{GrammarValue}
+use Rattle.ysymbols.specs.Grammar.{GrammarValue}
 use Rattle.ylalr.specs.declared.items.Item.{Item}
 use Rattle.ytables.specs.declared.cell.Tally.{Tally}
 use Rattle.ytables.specs.Cell.{class_of}

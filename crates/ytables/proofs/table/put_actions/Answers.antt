@@ -1,5 +1,5 @@
 use Rattle.std.proofs.Common.{◌≡◌, ap, ◌∙◌, arith}
-use Rattle.ygrammar.specs.Grammar.{GrammarValue}
+use Rattle.ysymbols.specs.Grammar.{GrammarValue}
 use Rattle.ytables.specs.Tables.{action_at}
 use Rattle.ytables.specs.Table.{action_line}
 use Rattle.ytables.proofs.LineSteps.{range_cut, range_sent}

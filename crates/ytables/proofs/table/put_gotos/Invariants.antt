@@ -1,6 +1,6 @@
 use Rattle.std.proofs.Common.{true, flat_map, ◌-◌}
 use Rattle.std.specs.List.{range_with_len}
-use Rattle.ytables.specs.Sends.{Sends}
+use Rattle.ylink.specs.Sends.{Sends}
 use Rattle.ylalr.specs.Collection.{goto_in}
 use Rattle.ytables.specs.Table.{goto_line}
 use Rattle.ytables.proofs.table.put_gotos.Given as goal

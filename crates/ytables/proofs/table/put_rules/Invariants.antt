@@ -1,6 +1,6 @@
 use Rattle.std.proofs.Common.{true, flat_map}
 use Rattle.std.specs.List.{range_with_len}
-use Rattle.ytables.specs.Sends.{Sends}
+use Rattle.ylink.specs.Sends.{Sends}
 use Rattle.ytables.specs.Table.{rule_line}
 use Rattle.ytables.proofs.table.put_rules.Given as goal
 

@@ -1,10 +1,10 @@
 use Rattle.std.proofs.Common.{ℕ, ◌≡◌, ◌<◌, ◌+◌, [], ◌∷◌, List, length, get_or, Option, None, ap}
 use Rattle.std.proofs.Common.{◌∙◌, subst, arith, unwrap_or, length-append}
-use Rattle.ygrammar.specs.Grammar.{GrammarValue}
+use Rattle.ysymbols.specs.Grammar.{GrammarValue}
 use Rattle.ytables.specs.declared.cell.Action.{Action}
 use Rattle.ytables.specs.declared.cell.Action.TheVariants.{Error}
 use Rattle.ytables.specs.Cell.{by_default}
-use Rattle.ytables.specs.Packed.{IsPushed}
+use Rattle.yrows.specs.Packed.{IsPushed}
 use Rattle.ytables.proofs.TableSteps.{rows_step, sums_step}
 use Rattle.ytables.proofs.tables.all_rows.Goals as goal
 

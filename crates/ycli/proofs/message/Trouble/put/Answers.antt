@@ -1,6 +1,6 @@
 use Rattle.std.proofs.Common.{◌≡◌, ◌++◌, List, ℕ, codes, is_some, refl, subst}
 use Rattle.ycli.specs.Messages.{message}
-use Rattle.ytables.specs.Sends.{Sends}
+use Rattle.ylink.specs.Sends.{Sends}
 use Rattle.ycli.proofs.message.Trouble.put.Goals as goal
 
 pub returns-in-NoMemory : goal.returns-in-NoMemory

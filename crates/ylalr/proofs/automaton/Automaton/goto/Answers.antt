@@ -1,12 +1,12 @@
 use Rattle.std.proofs.Common.{◌<◌, length, subst, sym}
-use Rattle.ylalr.specs.Parts.{collection_of}
+use Rattle.ylalr.specs.Lr0.{collection_of}
 use Rattle.ylalr.specs.Collection.{Collection, IsGoto, bare_of}
 use Rattle.ylalr.proofs.WholeSteps.{goto_is}
 use Rattle.ylalr.proofs.automaton.Automaton.goto.Goals as goal
 
 pub returns-clause-exact : goal.returns-clause-exact
 returns-clause-exact c =
-    let P = c.self.inside.parts in
+    let P = c.self.inside.lr0 in
     let fit = c.self.invariant.fit in
     let h : c.args.q < length P.states.closures =
     subst (λ (m : Collection). c.args.q < length m.states) (sym c.self.view_is)

@@ -1,11 +1,11 @@
 use Rattle.std.proofs.Common.{IsTrue, length, ◌≤◌, ◌+◌, refl, sym, subst}
 use Rattle.std.specs.Prelude.{vec_len, vec_capacity}
-use Rattle.yparse.specs.declared.machine.StepKind.{StepKind}
-use Rattle.yparse.specs.Sound.{Sound}
-use Rattle.yparse.specs.Machine.{deed_by}
-use Rattle.yparse.specs.MachineOver.{machine_over}
-use Rattle.yparse.specs.Past.{Past}
-use Rattle.yparse.specs.Content.{Place, valid, place_deed, configuration_of}
+use Rattle.ymachine.specs.declared.machine.StepKind.{StepKind}
+use Rattle.ymachine.specs.Sound.{Sound}
+use Rattle.ymachine.specs.Machine.{deed_by}
+use Rattle.ymachine.specs.MachineOver.{machine_over}
+use Rattle.ymachine.specs.Past.{Past}
+use Rattle.ymachine.specs.Content.{Place, valid, place_deed, configuration_of}
 use Rattle.yparse.specs.Session.{setting_of, history_of}
 use Rattle.yparse.proofs.Sessions.{IsDeed, a_deed, stays_shown, stays_ground, settled, deed_shown}
 use Rattle.yparse.proofs.session.Session.change.Goals.{After-kept}

@@ -1,11 +1,11 @@
 use Rattle.std.proofs.Common.{subst}
 use Rattle.std.proofs.Math.Logic.{∥∥₁_map}
-use Rattle.yparse.specs.Content.{Place}
-use Rattle.yparse.specs.MachineOver.{machine_over}
-use Rattle.yparse.specs.Rightmost.{UnwindsRight}
+use Rattle.ymachine.specs.Content.{Place}
+use Rattle.ymachine.specs.MachineOver.{machine_over}
+use Rattle.ymachine.specs.Rightmost.{UnwindsRight}
 use Rattle.yparse.specs.Session.{setting_of, history_of}
-use Rattle.yparse.specs.History.{first_configuration}
-use Rattle.yparse.specs.Machine.{next, edited}
+use Rattle.ymachine.specs.History.{first_configuration}
+use Rattle.ymachine.specs.Machine.{next, edited}
 use Rattle.yparse.proofs.Unwound.{undone-all}
 use Rattle.yparse.proofs.session.Session.derivation.Goals as goal
 

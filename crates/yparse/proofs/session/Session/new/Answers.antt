@@ -2,14 +2,14 @@ use Rattle.std.proofs.Common.{length, arith, ◌≡◌, refl, sym, ◌∙◌, ap
 use Rattle.std.proofs.lemmas.Grind.{common_steps}
 use Rattle.std.specs.List.{All}
 use Rattle.std.proofs.lemmas.List.Elements.{All-nil}
-use Rattle.yparse.specs.Past.{Past, first_past}
-use Rattle.yparse.specs.declared.machine.StepKind.{StepKind}
-use Rattle.yparse.specs.History.{History}
-use Rattle.yparse.specs.MachineOver.{machine_over}
-use Rattle.yparse.specs.Rightmost.{UnwindsRight}
-use Rattle.yparse.specs.Tokens.{symbols_of}
-use Rattle.yparse.specs.Content.{Place, first_place}
-use Rattle.yparse.specs.Shown.{KeepsGround}
+use Rattle.ymachine.specs.Past.{Past, first_past}
+use Rattle.ymachine.specs.declared.machine.StepKind.{StepKind}
+use Rattle.ymachine.specs.History.{History}
+use Rattle.ymachine.specs.MachineOver.{machine_over}
+use Rattle.ymachine.specs.Rightmost.{UnwindsRight}
+use Rattle.ytokens.specs.Tokens.{symbols_of}
+use Rattle.ymachine.specs.Content.{Place, first_place}
+use Rattle.ymachine.specs.Shown.{KeepsGround}
 use Rattle.yparse.proofs.Sessions.{IsShown}
 use Rattle.yparse.proofs.session.Session.new.Goals as goal
 

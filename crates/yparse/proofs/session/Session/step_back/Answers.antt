@@ -1,11 +1,11 @@
 use Rattle.std.proofs.Common.{ℕ, suc, ◌≡◌, ◌<◌, ◌+◌, length, ap, sym, subst, ◌∙◌, arith, Vec}
 use Rattle.std.proofs.Common.{Global}
 use Rattle.std.specs.Prelude.{vec_len, vec_capacity, reverse}
-use Rattle.yparse.specs.Past.{position}
+use Rattle.ymachine.specs.Past.{position}
 use Rattle.yparse.specs.Session.{history_of}
-use Rattle.yparse.specs.Shown.{step_view}
-use Rattle.yparse.specs.Unwinding.{shifts_from}
-use Rattle.yparse.proofs.Shown.{length-map}
+use Rattle.ymachine.specs.Shown.{step_view}
+use Rattle.ymachine.specs.Unwinding.{shifts_from}
+use Rattle.ymachine.proofs.Shown.{length-map}
 use Rattle.yparse.proofs.session.Session.step_back.Goals as goal
 
 pub keep_later-requires : goal.keep_later-requires

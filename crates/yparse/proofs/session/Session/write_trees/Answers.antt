@@ -1,10 +1,10 @@
 use Rattle.std.proofs.Common.{sym, subst, length, ◌+◌, ◌≤◌}
 use Rattle.std.specs.Prelude.{vec_len, vec_capacity}
 use Rattle.std.specs.List.{All}
-use Rattle.yparse.specs.declared.machine.StepKind.{StepKind}
-use Rattle.yparse.specs.Content.{Place}
-use Rattle.yparse.specs.Past.{Past}
-use Rattle.yparse.specs.Shown.{KeepsGround}
+use Rattle.ymachine.specs.declared.machine.StepKind.{StepKind}
+use Rattle.ymachine.specs.Content.{Place}
+use Rattle.ymachine.specs.Past.{Past}
+use Rattle.ymachine.specs.Shown.{KeepsGround}
 use Rattle.yparse.proofs.Sessions.{IsShown}
 use Rattle.yparse.proofs.session.Session.write_trees.Goals as goal
 

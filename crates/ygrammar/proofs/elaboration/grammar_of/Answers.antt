@@ -1,0 +1,41 @@
+use Rattle.std.proofs.Common.{◌≡◌, ◌∙◌, ap, sym, subst, length, List, Option, ℕ, rules}
+use Rattle.ygrammar.specs.Elaboration.{symbols}
+use Rattle.ysymbols.specs.Grammar.{GrammarValue, RuleValue}
+use Rattle.ysymbols.specs.Marking.{AreIn}
+use Rattle.ygrammar.specs.Meaning.{IsMeaning}
+use Rattle.ygrammar.specs.Numbers.{AreNumbers}
+use Rattle.ygrammar.proofs.MeaningSteps.{meaning_of, whole_of}
+use Rattle.ysymbols.proofs.NameSteps.{length_texts}
+use Rattle.ygrammar.proofs.elaboration.grammar_of.Goals as goal
+
+pub of-requires : goal.of-requires
+of-requires c =
+    let (t, r) = c.requires in
+    let n : AreNumbers c.args.named.own.numbers.items c.in_ok-numbers.numbers.items =
+    subst (λ (x : List (Option ℕ)). AreNumbers x c.in_ok-numbers.numbers.items)
+    c.deref.ensures.value c.in_ok-numbers.ensures in
+    let m : length c.in_ok-reachable.reachable.items ≡ c.len.result = search rules in
+    whole_of t c.args.named c.args.rules.items c.args.texts.texts c.in_ok-numbers.numbers.items
+    c.in_ok-reachable.reachable.items r n
+    (m ∙ c.len.ensures.len ∙ sym (length_texts c.args.named.names.keys))
+
+pub reachable-requires-clause-in_range : goal.reachable-requires-clause-in_range
+reachable-requires-clause-in_range c =
+    let (t, r) = c.requires in
+    let n : c.len.result ≡ length (symbols t) = c.len.ensures.len ∙ sym
+    (length_texts c.args.named.names.keys) ∙ ap (λ (x : List (List ℕ)). length x)
+    r.named.names in
+    subst (λ (vs : List RuleValue). AreIn c.len.result vs) (sym c.deref-3.ensures.value)
+    (subst (λ k. AreIn k c.args.rules.items) (sym n) r.in_range)
+
+pub returns : goal.returns
+returns c = λ t r.
+    let n : AreNumbers c.args.named.own.numbers.items c.in_ok-numbers.numbers.items =
+    subst (λ (x : List (Option ℕ)). AreNumbers x c.in_ok-numbers.numbers.items)
+    c.deref.ensures.value c.in_ok-numbers.ensures in
+    let m : length c.in_ok-reachable.reachable.items ≡ c.len.result = search rules in
+    subst (λ (g : GrammarValue). IsMeaning t g) (sym c.of.ensures)
+    (meaning_of t c.args.named c.args.rules.items c.deref-3.result.now c.args.texts.texts
+    c.in_ok-numbers.numbers.items c.in_ok-reachable.reachable.items c.len.result r n m
+    (c.len.ensures.len ∙ sym (length_texts c.args.named.names.keys)) c.deref-3.ensures.value
+    (λ s l. c.in_ok-reachable.ensures.exact c.args.named.tokens s l))

@@ -1,6 +1,0 @@
-use Rattle.ygrammar.proofs.Fronts.{comment_answer}
-use Rattle.ygrammar.proofs.lexer.bytes.after_comment.Goals as goal
-
-pub returns-in-Some : goal.returns-in-Some
-returns-in-Some c = comment_answer c.args.bytes.now c.in-Some.more.now c.after_pair.result
-    c.in-Some.ensures c.after_pair.ensures

@@ -1,9 +1,0 @@
-use Rattle.std.proofs.Common.{◌≡◌, ◌≤◌, ◌-◌, true, length, take}
-use Rattle.ygrammar.specs.Bytes.{all_pass, is_name_byte}
-use Rattle.ygrammar.proofs.lexer.bytes.name_run.Given as goal
-
-abbrev pub invariant-loop-n : goal.invariant-loop-n
-invariant-loop-n l = (l.n ≤ length l.bytes) × (all_pass is_name_byte (take l.n l.bytes) ≡ true)
-
-abbrev pub decreases-loop-n : goal.decreases-loop-n
-decreases-loop-n l = length l.bytes - l.n

@@ -1,7 +1,0 @@
-use Rattle.std.proofs.Common.{ℕ, ◌≡◌, ◌<◌, get_or}
-use Rattle.ygrammar.specs.declared.meaning.holders.Holders.TheVariants.{Nobody, Several}
-use Rattle.ygrammar.proofs.meaning.holders.has_shared.Given as goal
-
-abbrev pub invariant-loop-one : goal.invariant-loop-one
-invariant-loop-one l =
-    (m : ℕ) → m < l.one-index → get_or l.holders m Nobody ≡ Several → ⊥

@@ -1,5 +1,0 @@
-use Rattle.ygrammar.proofs.NumberSteps.{SoFar}
-use Rattle.ygrammar.proofs.meaning.numbers.numbers.Given as goal
-
-abbrev pub invariant-loop-one : goal.invariant-loop-one
-invariant-loop-one l = SoFar l.own l.given.items l.one-index l.cursor

@@ -1,9 +1,0 @@
-use Rattle.std.proofs.Common.{◌≡◌, length}
-use Rattle.ygrammar.specs.Marking.{AreOccurrences, lists_of}
-use Rattle.ygrammar.proofs.meaning.occurrences.occurrences.Given as goal
-
-abbrev pub invariant-loop-r : goal.invariant-loop-r
-invariant-loop-r l = record {
-  sized : length l.lists.items ≡ l.symbols;
-  filed : AreOccurrences l.rules l.r l.symbols (lists_of l.lists);
-}

@@ -1,0 +1,31 @@
+use Rattle.std.proofs.Common.{ap, sym, ◌∙◌, ◌≡◌, ◌≤◌, length, refl, subst, List, ℕ}
+use Rattle.std.proofs.lemmas.List.{length-map}
+use Rattle.ygrammar.specs.Elaboration.{rules as rules_of_tree, symbols as symbols_of_tree}
+use Rattle.ygrammar.specs.Elaboration.{token_precedences}
+use Rattle.ysymbols.specs.Grammar.{RuleValue, most_rules, most_symbols}
+use Rattle.ysymbols.specs.NameTexts.{texts}
+use Rattle.ygrammar.specs.Numbered.{rule_numbers}
+use Rattle.ygrammar.proofs.MistakeSteps.{long_found, no_limit}
+use Rattle.ysymbols.proofs.NameSteps.{length_texts}
+use Rattle.ygrammar.proofs.refusals.refuse_limit.Goals as goal
+
+pub returns-then-any_long : goal.returns-then-any_long
+returns-then-any_long c = λ t e f. (
+  refl,
+  long_found t (texts c.args.symbols.now) c.args.rules.now f
+      (sym c.any_long.ensures ∙ c.if-any_long.true),
+)
+
+pub returns : goal.returns
+returns c = λ t e f.
+    let a : length c.args.symbols.now.keys ≡ length (symbols_of_tree t) =
+    sym (length_texts c.args.symbols.now.keys) ∙ ap (λ (x : List (List ℕ)). length x) e in
+    let b : length c.args.rules.now ≡ length (rules_of_tree t) =
+    ap (λ (x : List RuleValue). length x) f ∙ length-map (rules_of_tree t)
+    (rule_numbers (symbols_of_tree t) (token_precedences t)) in
+    let l : length c.args.symbols.now.keys ≤ most_symbols =
+    subst (λ n. n ≤ most_symbols) c.len.ensures.len
+    c.if-len-gt-MOST_SYMBOLS.false in
+    let m : length c.args.rules.now ≤ most_rules = c.if-rules-gt-MOST_RULES.false in
+    no_limit t (length c.args.symbols.now.keys) (length c.args.rules.now) c.args.rules.now a b f l m
+    (sym c.any_long.ensures ∙ c.if-any_long.false)

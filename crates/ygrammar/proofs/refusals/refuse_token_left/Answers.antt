@@ -1,0 +1,37 @@
+use Rattle.std.proofs.Common.{ap, ◌∙◌, map, refl, List}
+use Rattle.ysyntax.specs.declared.tree.NameAt.{NameAt}
+use Rattle.ysymbols.specs.NameTexts.{texts}
+use Rattle.ysymbols.specs.Names.{is_among}
+use Rattle.ysyntax.specs.TreeViews.{name_view}
+use Rattle.ygrammar.proofs.MistakeSteps.{any_found, no_token_left, token_left, token_typed}
+use Rattle.ygrammar.proofs.refusals.refuse_token_left.Goals as goal
+
+pub returns-in-Some : goal.returns-in-Some
+returns-in-Some c = λ t o e. (
+  refl,
+  token_typed t (texts c.args.tokens.now) (map name_view c.deref.result.now)
+      c.first_token.result c.in-Some.at e
+      (ap (λ (xs : List NameAt). map name_view xs) c.deref.ensures.value ∙ o.typed)
+      (any_found (is_among (texts c.args.tokens.now)) name_view (λ n. n.at)
+      c.deref.result.now _ c.first_token.ensures) c.in-Some.is,
+)
+
+pub returns-in-Some-first_token : goal.returns-in-Some-first_token
+returns-in-Some-first_token c = λ t o e. (
+  refl,
+  token_left t (texts c.args.tokens.now) (map name_view c.deref-2.result.now)
+      c.first_token-2.result c.in-Some-first_token.at e
+      (ap (λ (xs : List NameAt). map name_view xs) c.deref-2.ensures.value ∙ o.lefts)
+      (any_found (is_among (texts c.args.tokens.now)) name_view (λ n. n.at)
+      c.deref-2.result.now _ c.first_token-2.ensures) c.in-Some-first_token.is,
+)
+
+pub returns-in-None : goal.returns-in-None
+returns-in-None c = λ t o e. no_token_left t (texts c.args.tokens.now)
+    (map name_view c.deref.result.now) (map name_view c.deref-2.result.now) c.first_token.result
+    c.first_token-2.result e (ap (λ (xs : List NameAt). map name_view xs) c.deref.ensures.value ∙
+    o.typed) (ap (λ (xs : List NameAt). map name_view xs) c.deref-2.ensures.value ∙ o.lefts)
+    (any_found (is_among (texts c.args.tokens.now)) name_view (λ n. n.at)
+    c.deref.result.now _ c.first_token.ensures)
+    (any_found (is_among (texts c.args.tokens.now)) name_view (λ n. n.at)
+    c.deref-2.result.now _ c.first_token-2.ensures) c.in_default.is c.in-None.is

@@ -1,0 +1,41 @@
+use Rattle.std.proofs.Common.{ap, ◌∙◌, map, refl, List, not}
+use Rattle.ysyntax.specs.declared.tree.Occurrence.{Occurrence}
+use Rattle.ysyntax.specs.declared.tree.NameAt.{NameAt}
+use Rattle.ysymbols.specs.NameTexts.{texts}
+use Rattle.ysymbols.specs.Names.{is_among}
+use Rattle.ygrammar.specs.Printed.{printed_name}
+use Rattle.ysyntax.specs.TreeViews.{occurrence_view, name_view}
+use Rattle.ygrammar.proofs.MistakeSteps.{all_defined, any_found, undefined_used, unknown_typed}
+use Rattle.ygrammar.proofs.refusals.refuse_undefined.Goals as goal
+
+pub returns-in-Some : goal.returns-in-Some
+returns-in-Some c = λ t o e. (
+  refl,
+  unknown_typed t (texts c.args.symbols.now) (map name_view c.deref.result.now)
+      c.first_unknown.result c.in-Some.at e
+      (ap (λ (xs : List NameAt). map name_view xs) c.deref.ensures.value ∙ o.typed)
+      (any_found (λ n. not (is_among (texts c.args.symbols.now) n)) name_view (λ n. n.at)
+      c.deref.result.now _ c.first_unknown.ensures) c.in-Some.is,
+)
+
+pub returns-in-Some-first_undefined : goal.returns-in-Some-first_undefined
+returns-in-Some-first_undefined c = λ t o e. (
+  refl,
+  undefined_used t (texts c.args.symbols.now) (map occurrence_view c.deref-2.result.now)
+      c.first_undefined.result c.in-Some-first_undefined.at e
+      (ap (λ (xs : List Occurrence). map occurrence_view xs) c.deref-2.ensures.value ∙ o.used)
+      (any_found (λ i. not (is_among (texts c.args.symbols.now) (printed_name i))) occurrence_view
+      (λ m. m.at) c.deref-2.result.now _ c.first_undefined.ensures) c.in-Some-first_undefined.is,
+)
+
+pub returns-in-None : goal.returns-in-None
+returns-in-None c = λ t o e. all_defined t (texts c.args.symbols.now)
+    (map name_view c.deref.result.now) (map occurrence_view c.deref-2.result.now)
+    c.first_unknown.result c.first_undefined.result e
+    (ap (λ (xs : List NameAt). map name_view xs) c.deref.ensures.value ∙ o.typed)
+    (ap (λ (xs : List Occurrence). map occurrence_view xs) c.deref-2.ensures.value ∙ o.used)
+    (any_found (λ n. not (is_among (texts c.args.symbols.now) n)) name_view (λ n. n.at)
+    c.deref.result.now _ c.first_unknown.ensures)
+    (any_found (λ i. not (is_among (texts c.args.symbols.now) (printed_name i))) occurrence_view
+    (λ m. m.at) c.deref-2.result.now _ c.first_undefined.ensures) c.in_default.is
+    c.in-None.is

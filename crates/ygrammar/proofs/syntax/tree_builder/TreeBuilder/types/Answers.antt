@@ -1,6 +1,0 @@
-use Rattle.ygrammar.specs.Answers.{views}
-use Rattle.ygrammar.proofs.TreeSteps.{types_tagged}
-use Rattle.ygrammar.proofs.syntax.tree_builder.TreeBuilder.types.Goals as goal
-
-pub returns-in_default : goal.returns-in_default
-returns-in_default c = types_tagged (views c.args.self.now) c.requires c.in_default.ensures.0

@@ -1,7 +1,0 @@
-use Rattle.ygrammar.specs.Answers.{views}
-use Rattle.ygrammar.proofs.TreeSteps.{union_there}
-use Rattle.ygrammar.proofs.syntax.tree_builder.TreeBuilder.union_text.Goals as goal
-
-pub returns-in_err-text : goal.returns-in_err-text
-returns-in_err-text c =
-    absurd (union_there (views c.args.self.now) c.requires c.in_err-text.ensures.taken.0)

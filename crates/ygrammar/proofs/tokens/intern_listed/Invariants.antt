@@ -1,0 +1,11 @@
+use Rattle.std.proofs.Common.{◌≡◌, map, drop}
+use Rattle.ysymbols.specs.NameTexts.{texts}
+use Rattle.ysymbols.specs.Names.{with_names}
+use Rattle.ygrammar.specs.Elaboration.{listed_name}
+use Rattle.ygrammar.specs.Outline.{listed_view}
+use Rattle.ygrammar.proofs.tokens.intern_listed.Given as goal
+
+abbrev pub invariant-loop-one : goal.invariant-loop-one
+invariant-loop-one l = with_names (texts l.names)
+    (map listed_name (map listed_view (drop l.one-index l.listed))) ≡ with_names (texts l.fn.names)
+    (map listed_name (map listed_view l.listed))

@@ -1,0 +1,16 @@
+use Rattle.std.proofs.Common.{◌≡◌, map, drop}
+use Rattle.ysymbols.specs.NameTexts.{texts}
+use Rattle.ysyntax.specs.TreeViews.{occurrence_view}
+use Rattle.std.specs.Prelude.{filter}
+use Rattle.ysymbols.specs.Names.{with_names}
+use Rattle.ygrammar.specs.Printed.{printed_name}
+use Rattle.ygrammar.specs.Elaboration.{is_literal}
+use Rattle.ygrammar.proofs.tokens.intern_literals.Given as goal
+
+abbrev pub invariant-loop-occurrence : goal.invariant-loop-occurrence
+invariant-loop-occurrence l = with_names (texts l.names)
+    (map printed_name (filter is_literal (map occurrence_view (drop l.occurrence-index
+    l.occurrences))))
+    ≡
+    with_names (texts l.fn.names)
+    (map printed_name (filter is_literal (map occurrence_view l.occurrences)))

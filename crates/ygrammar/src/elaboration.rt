@@ -1,0 +1,157 @@
+//! What a syntax tree means: the grammar, or the first mistake.
+
+ghost use Rattle.std.specs.Prelude.{◌≡◌, ◌<◌, ◌≤◌, ◌^◌, ℕ, true, IfOk, List, map, not};
+ghost use Rattle.std.specs.Prelude.{slice_index_or, unwrap_or};
+ghost use Rattle.std.specs.List.{find, AllByRecursion};
+ghost use Rattle.ysyntax.specs.Lexer.{SpellsSyntax};
+ghost use Rattle.ygrammar.specs.Elaborated.{Elaborates, Fruitful, GivesNamed, IsReady};
+ghost use Rattle.ysymbols.specs.Marking.{AreIn, numbered_grammar};
+ghost use Rattle.ygrammar.specs.Meaning.{IsMeaning};
+ghost use Rattle.ysymbols.specs.NameTexts.{texts};
+ghost use Rattle.ysymbols.specs.Names.{number_in};
+ghost use Rattle.ygrammar.specs.Numbered.{inner_after};
+ghost use Rattle.ysyntax.specs.TreeTexts.{RuleTextStands};
+ghost use Rattle.ysyntax.specs.Tree.{IsTree, Tree as TreeOf, yield};
+ghost use Rattle.ygrammar.specs.Outline.{Outlines};
+ghost use Rattle.ysyntax.specs.TreeViews.{name_view, tree_view};
+ghost use Rattle.ysymbols.specs.Sources.{option_view};
+
+use ysymbols::{Grammar, Rule};
+use crate::given::precedences;
+use crate::holders::{OwnTable, own_table};
+use crate::mistake::{Mistake, Refused};
+use ysymbols::names::{SymbolTable, number_in};
+use crate::numbers::numbers;
+use crate::outline::Outline;
+use ysymbols::productive::productive;
+use ysymbols::reachable::reachable;
+use crate::refusals::{
+    refuse_limit, refuse_prec, refuse_start, refuse_token_left, refuse_undefined,
+};
+use crate::rules::{intern_nonterminals, kept_texts, number_rules};
+use ysymbols::texts::Texts;
+use crate::tokens::tokens;
+use ysymbols::Precedence;
+use ysyntax::tree::{NameAt, Tree};
+use std::alloc::{AllocError, Global};
+
+/// The symbols by number, the tokens first, and what is given to the tokens.
+#[derive(Drop)]
+pub struct Named {
+    pub names: SymbolTable,
+    pub tokens: usize,
+    pub given: Vec<Option<Precedence>>,
+    pub own: OwnTable,
+}
+
+/// The symbols of a tree, or the first of the mistakes that can stand in them.
+fn name_symbols(alloc: Global, tree: &Tree, outline: &Outline) -> Result<Named, Refused>
+    requires outline { Outlines outline.now (tree_view tree.now) }
+    requires counted { inner_after 1 (tree_view tree.now).rule_texts < 2 ^ 64 }
+    ensures { GivesNamed (tree_view tree.now) result }
+{
+    let mut names = tokens(alloc, outline)?;
+    let count = names.len();
+    refuse_token_left(outline, &names)?;
+    let given = precedences(alloc, &names, outline);
+    let own = own_table(alloc, &names, outline);
+    intern_nonterminals(alloc, &mut names, &tree.rule_texts)?;
+    refuse_undefined(outline, &names)?;
+    let given = given?;
+    let own = own?;
+    Ok(Named {
+        names,
+        tokens: count,
+        given,
+        own,
+    })
+}
+
+/// The place of the first left side that isn't marked.
+fn unmarked_left(lefts: &[NameAt], names: &SymbolTable, marks: &[bool]) -> usize
+    ensures { result
+        ≡ unwrap_or (option_view (λ l. l.at)
+        (find (λ l. not (slice_index_or marks.now (number_in (texts names.now) (name_view l))
+        true)) lefts.now)) 0 }
+{
+    for left in lefts {
+        let s = number_in(names, left.name);
+        if s < marks.len() && !marks[s] {
+            return left.at;
+        }
+    }
+    0
+}
+
+/// A nonterminal that derives no list of tokens, where there are so many tokens and symbols.
+fn refuse_unproductive(
+    alloc: Global,
+    outline: &Outline,
+    names: &SymbolTable,
+    rules: &[Rule],
+    tokens: usize,
+    symbols: usize,
+) -> Result<(), Refused>
+    requires within { tokens ≤ symbols }
+    requires in_range { AreIn symbols rules.now }
+    ensures { Fruitful (numbered_grammar tokens symbols rules.now) result }
+{
+    let marks = productive(alloc, rules, tokens, symbols)?;
+    for s in tokens..symbols {
+        if !marks[s] {
+            return Err(Refused::Mistake {
+                what: Mistake::Unproductive,
+                at: unmarked_left(&outline.lefts, names, &marks),
+            });
+        }
+    }
+    Ok(())
+}
+
+/// The grammar of symbols and rules in which no mistake stands.
+fn grammar_of(
+    alloc: Global,
+    named: Named,
+    rules: Vec<Rule>,
+    texts: Texts,
+) -> Result<Grammar, AllocError>
+    requires { (t : TreeOf) × IsReady t named rules.items texts.texts }
+    ensures { IfOk result (λ g. (t : TreeOf) → IsReady t named rules.items texts.texts →
+        IsMeaning t g) }
+{
+    let Named {
+        names,
+        tokens,
+        given,
+        own,
+    } = named;
+    let numbers = numbers(alloc, &own.numbers, &own.holders)?;
+    let reachable = reachable(alloc, &rules, names.len())?;
+    Ok(Grammar::of(names, tokens, numbers, given, rules, texts, reachable))
+}
+
+/// What the tree of a source means: the grammar, or the first mistake.
+pub fn elaborate(alloc: Global, source: &[u8], tree: &Tree) -> Result<Grammar, Refused>
+    requires spelled { (bytes : List ℕ) × SpellsSyntax bytes (yield (tree_view tree.now)) }
+    requires shaped { IsTree (tree_view tree.now) }
+    requires stands { AllByRecursion (RuleTextStands source.now) tree.now.rule_texts.items }
+    requires counted { inner_after 1 (tree_view tree.now).rule_texts < 2 ^ 64 }
+    ensures { Elaborates (tree_view tree.now) result }
+{
+    let outline = Outline::new(alloc, tree)?;
+    let named = name_symbols(alloc, tree, &outline)?;
+    refuse_start(&outline, &named.names, named.tokens)?;
+    let rules = number_rules(
+        alloc,
+        &named.names,
+        &named.given,
+        &outline,
+        &tree.rule_texts,
+    )?;
+    let symbols = named.names.len();
+    refuse_unproductive(alloc, &outline, &named.names, &rules, named.tokens, symbols)?;
+    refuse_prec(&outline, &named.names, named.tokens)?;
+    refuse_limit(&named.names, &rules)?;
+    let texts = kept_texts(alloc, source, tree)?;
+    Ok(grammar_of(alloc, named, rules, texts)?)
+}

@@ -1,0 +1,179 @@
+//! Which tokens hold each number, and the first number of the file that is at fault.
+
+ghost use Rattle.std.specs.Prelude.{◌≡◌, ◌<◌, ◌≤◌, ℕ, IfOk, MatchBool, length, slice_index_or};
+ghost use Rattle.std.specs.Prelude.{slice_set};
+ghost use Rattle.ygrammar.specs.Elaboration.{tokens as tokens_of_tree};
+ghost use Rattle.ysymbols.specs.Grammar.{number_bound};
+ghost use Rattle.ysymbols.specs.NameTexts.{texts};
+ghost use Rattle.ygrammar.specs.Numbers.{AreHolders, IsOwn, is_held, with_holder};
+ghost use Rattle.ygrammar.specs.Outline.{Outlines};
+ghost use Rattle.ygrammar.specs.Owned.{AllSmall, Owns};
+ghost use Rattle.ysyntax.specs.Tree.{Tree as TreeOf};
+ghost use Rattle.ygrammar.specs.declared.holders.Holders.TheVariants.{Nobody, Several};
+
+use ysymbols::limits::NUMBERS;
+use crate::given::{fit_number, given_numbers, own_numbers};
+use crate::mistake::{Mistake, Refused};
+use crate::identifiers::number_of;
+use ysymbols::names::SymbolTable;
+use crate::outline::{Listed, Outline};
+use std::alloc::{AllocError, Global};
+
+/// The tokens that hold a number.
+#[derive(Clone, Copy, Debug, Drop)]
+pub enum Holders {
+    Nobody,
+    One(usize),
+    Several,
+}
+
+impl Holders {
+    /// Whether some token holds it.
+    pub fn is_held(self) -> bool
+        ensures { result ≡ is_held self }
+    {
+        !matches!(self, Holders::Nobody)
+    }
+
+    /// Whether several tokens hold it.
+    fn is_shared(self) -> bool
+        ensures { MatchBool result (self ≡ Several) (self ≡ Several → ⊥) }
+    {
+        matches!(self, Holders::Several)
+    }
+
+    /// These, and a token.
+    fn with(self, token: usize) -> Holders
+        ensures { result ≡ with_holder self token }
+    {
+        match self {
+            Holders::Nobody => Holders::One(token),
+            Holders::One(other) => {
+                if other == token {
+                    Holders::One(other)
+                } else {
+                    Holders::Several
+                }
+            }
+            Holders::Several => Holders::Several,
+        }
+    }
+}
+
+/// Adds a token to those that hold a number.
+fn hold(holders: &mut Vec<Holders>, token: usize, number: u32)
+    requires { number < length holders.old.items }
+    ensures { holders.new.items ≡ slice_set holders.old.items number
+        (with_holder (slice_index_or holders.old.items number Nobody) token) }
+{
+    let place = number as usize;
+    holders[place] = holders[place].with(token);
+}
+
+/// One more than the greatest number that a token has by itself, 0 where none has one.
+fn bound_of(own: &[Option<u32>]) -> usize
+    requires { AllSmall own.now }
+    ensures few { result ≤ number_bound }
+    ensures above { (m : ℕ) → IsOwn own.now m → m < result }
+{
+    let mut bound = 0;
+    for one in own {
+        if let Some(number) = one {
+            bound = bound.max(*number as usize + 1);
+        }
+    }
+    bound
+}
+
+/// Of each number below `count` the tokens that have it by themselves.
+fn own_holders(alloc: Global, own: &[Option<u32>], count: usize) -> Result<Vec<Holders>, AllocError>
+    requires { (m : ℕ) → IsOwn own.now m → m < count }
+    ensures { IfOk result (λ v. AreHolders count own.now v.items) }
+{
+    let mut holders = vec![in alloc; Holders::Nobody; count]?;
+    for token in 0..own.len() {
+        if let Some(number) = own[token] {
+            hold(&mut holders, token, number);
+        }
+    }
+    Ok(holders)
+}
+
+/// Whether several tokens hold one number.
+fn has_shared(holders: &[Holders]) -> bool
+    ensures { MatchBool result
+        ((m : ℕ) × (slice_index_or holders.now m Nobody ≡ Several))
+        ((m : ℕ) → slice_index_or holders.now m Nobody ≡ Several → ⊥) }
+{
+    for one in holders {
+        if one.is_shared() {
+            return true;
+        }
+    }
+    false
+}
+
+/// Adds the numbers that are given: a token given two holds both.
+fn hold_given(holders: &mut Vec<Holders>, tokens: &SymbolTable, listed: &[Listed])
+    requires { length holders.old.items ≡ number_bound }
+    ensures { length holders.new.items ≡ number_bound }
+{
+    for one in listed {
+        if let Some(digits) = one.digits {
+            if let Some(number) = fit_number(digits.digits) {
+                hold(holders, number_of(tokens, one.who.who), number);
+            }
+        }
+    }
+}
+
+/// How many bytes stand before the first number that is at fault: that of the listing behind
+/// `fault` others, or one before it that several tokens hold; 0 where there is none.
+fn first_at_fault(listed: &[Listed], fault: Option<usize>, holders: &[Holders]) -> usize
+    requires { length holders.now ≡ number_bound }
+{
+    let end = fault.unwrap_or(listed.len());
+    for i in 0..listed.len() {
+        if let Some(digits) = listed[i].digits {
+            if let Some(number) = fit_number(digits.digits) {
+                if i < end && !holders[number as usize].is_shared() {
+                    continue;
+                }
+            }
+            return digits.at;
+        }
+    }
+    0
+}
+
+/// The numbers that tokens have by themselves, and who holds each number.
+#[derive(Drop)]
+pub struct OwnTable {
+    pub numbers: Vec<Option<u32>>,
+    pub holders: Vec<Holders>,
+}
+
+/// The numbers that the tokens have by themselves; a mistake in them stands at the first number
+/// that is out of range, a second one for its token, or held by another token too.
+pub fn own_table(
+    alloc: Global,
+    tokens: &SymbolTable,
+    outline: &Outline,
+) -> Result<OwnTable, Refused>
+    ensures { (t : TreeOf) → Outlines outline.now t → texts tokens.now ≡ tokens_of_tree t →
+        Owns t result }
+{
+    let given = given_numbers(alloc, tokens, &outline.listed)?;
+    let fault = given.fault;
+    let numbers = own_numbers(tokens, given.first, &outline.declared, &outline.used);
+    let holders = own_holders(alloc, &numbers, bound_of(&numbers))?;
+    if fault.is_none() && !has_shared(&holders) {
+        return Ok(OwnTable { numbers, holders });
+    }
+    let mut holders = own_holders(alloc, &numbers, NUMBERS)?;
+    hold_given(&mut holders, tokens, &outline.listed);
+    Err(Refused::Mistake {
+        what: Mistake::BadNumber,
+        at: first_at_fault(&outline.listed, fault, &holders),
+    })
+}

@@ -1,0 +1,103 @@
+//! The mistakes of a file, one by one: each call answers its own, or says that there is none.
+
+ghost use Rattle.std.specs.Prelude.{◌≡◌, ◌∷◌, length, map};
+ghost use Rattle.ygrammar.specs.Elaboration.{rules as rules_of_tree, symbols as symbols_of_tree};
+ghost use Rattle.ygrammar.specs.Elaboration.{token_precedences, tokens as tokens_of_tree};
+ghost use Rattle.ysymbols.specs.NameTexts.{texts};
+ghost use Rattle.ygrammar.specs.Numbered.{rule_numbers};
+ghost use Rattle.ygrammar.specs.Outline.{Outlines};
+ghost use Rattle.ygrammar.specs.Owned.{Clears};
+ghost use Rattle.ysyntax.specs.Tree.{Tree as TreeOf};
+ghost use Rattle.ygrammar.specs.declared.mistake.Mistake.TheVariants.{BadPrec, BadStart};
+ghost use Rattle.ygrammar.specs.declared.mistake.Mistake.TheVariants.{Limit};
+ghost use Rattle.ygrammar.specs.declared.mistake.Mistake.TheVariants.{TokenLeft, Undefined};
+
+use ysymbols::Rule;
+use ysymbols::limits::{MOST_RULES, MOST_SYMBOLS};
+use crate::checks::{
+    any_long, bad_start, first_nonterminal, first_token, first_undefined, first_unknown,
+};
+use crate::mistake::{Mistake, Refused};
+use ysymbols::names::SymbolTable;
+use crate::outline::Outline;
+
+/// A token that is a left side, or is named by `%type`.
+pub fn refuse_token_left(outline: &Outline, tokens: &SymbolTable) -> Result<(), Refused>
+    ensures { (t : TreeOf) → Outlines outline.now t → texts tokens.now ≡ tokens_of_tree t →
+        Clears t TokenLeft result }
+{
+    let what = Mistake::TokenLeft;
+    if let Some(at) = first_token(&outline.typed, tokens) {
+        return Err(Refused::Mistake { what, at });
+    }
+    match first_token(&outline.lefts, tokens) {
+        Some(at) => Err(Refused::Mistake { what, at }),
+        None => Ok(()),
+    }
+}
+
+/// A name in a body, a `%prec` or a `%type` that is no symbol.
+pub fn refuse_undefined(outline: &Outline, symbols: &SymbolTable) -> Result<(), Refused>
+    ensures { (t : TreeOf) → Outlines outline.now t → texts symbols.now ≡ symbols_of_tree t →
+        Clears t Undefined result }
+{
+    let what = Mistake::Undefined;
+    if let Some(at) = first_unknown(&outline.typed, symbols) {
+        return Err(Refused::Mistake { what, at });
+    }
+    match first_undefined(&outline.used, symbols) {
+        Some(at) => Err(Refused::Mistake { what, at }),
+        None => Ok(()),
+    }
+}
+
+/// A `%start` that stands twice or names no nonterminal.
+pub fn refuse_start(outline: &Outline, symbols: &SymbolTable, tokens: usize) -> Result<(), Refused>
+    ensures { (t : TreeOf) → Outlines outline.now t → texts symbols.now ≡ symbols_of_tree t →
+        tokens ≡ length (tokens_of_tree t) → Clears t BadStart result }
+{
+    match bad_start(&outline.starts, symbols, tokens) {
+        Some(at) => Err(Refused::Mistake {
+            what: Mistake::BadStart,
+            at,
+        }),
+        None => Ok(()),
+    }
+}
+
+/// A `%prec` that names a nonterminal.
+pub fn refuse_prec(outline: &Outline, symbols: &SymbolTable, tokens: usize) -> Result<(), Refused>
+    ensures { (t : TreeOf) → Outlines outline.now t → texts symbols.now ≡ symbols_of_tree t →
+        tokens ≡ length (tokens_of_tree t) → Clears t BadPrec result }
+{
+    match first_nonterminal(&outline.precs, symbols, tokens) {
+        Some(at) => Err(Refused::Mistake {
+            what: Mistake::BadPrec,
+            at,
+        }),
+        None => Ok(()),
+    }
+}
+
+/// More symbols, rules or symbols in a body than the limits.
+pub fn refuse_limit(symbols: &SymbolTable, rules: &[Rule]) -> Result<(), Refused>
+    ensures { (t : TreeOf) → texts symbols.now ≡ symbols_of_tree t →
+        rules.now
+        ≡ map (rule_numbers (symbols_of_tree t) (token_precedences t)) (rules_of_tree t) →
+        Clears t Limit result }
+{
+    let refused = Err(Refused::Mistake {
+        what: Mistake::Limit,
+        at: 0,
+    });
+    if symbols.len() > MOST_SYMBOLS {
+        return refused;
+    }
+    if rules.len() > MOST_RULES {
+        return refused;
+    }
+    if any_long(rules) {
+        return refused;
+    }
+    Ok(())
+}

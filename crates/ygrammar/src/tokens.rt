@@ -1,0 +1,105 @@
+//! The tokens of a file by number.
+
+ghost use Rattle.std.specs.Prelude.{◌≡◌, ◌++◌, ◌∷◌, [], filter, map, codes, IfOk, OnOk};
+ghost use Rattle.ygrammar.specs.Elaboration.{is_literal, listed_name, token_names_of, tokens_of};
+ghost use Rattle.ysymbols.specs.NameTexts.{texts};
+ghost use Rattle.ysymbols.specs.Names.{is_among, with_names};
+ghost use Rattle.ygrammar.specs.Printed.{printed_name};
+ghost use Rattle.ygrammar.specs.Outline.{listed_view};
+ghost use Rattle.ysyntax.specs.TreeViews.{occurrence_view};
+
+use crate::identifiers::{intern_identifier, is_named};
+use ysymbols::names::{SymbolTable, intern};
+use crate::outline::{Listed, Outline};
+use ysyntax::tree::{Identifier, Occurrence};
+use indexmap::IndexSet;
+use std::alloc::{AllocError, Global};
+
+/// The end and `error`, which every grammar has.
+fn first_tokens(alloc: Global) -> Result<SymbolTable, AllocError>
+    ensures { IfOk result (λ v. texts v ≡ codes "$end" ∷ codes "error" ∷ []) }
+{
+    let mut names = IndexSet::new(alloc);
+    intern(alloc, &mut names, b"$end")?;
+    intern(alloc, &mut names, b"error")?;
+    Ok(names)
+}
+
+fn intern_listed(
+    alloc: Global,
+    names: &mut SymbolTable,
+    listed: &[Listed],
+) -> Result<(), AllocError>
+    ensures { OnOk result (texts names.new
+        ≡ with_names (texts names.old) (map listed_name (map listed_view listed.now))) }
+{
+    for one in listed {
+        intern_identifier(alloc, names, one.who.who)?;
+    }
+    Ok(())
+}
+
+fn intern_literals(
+    alloc: Global,
+    names: &mut SymbolTable,
+    occurrences: &[Occurrence],
+) -> Result<(), AllocError>
+    ensures { OnOk result (texts names.new
+        ≡ with_names (texts names.old)
+        (map printed_name (filter is_literal (map occurrence_view occurrences.now)))) }
+{
+    for occurrence in occurrences {
+        if let Identifier::Quoted(_) = occurrence.who {
+            intern_identifier(alloc, names, occurrence.who)?;
+        }
+    }
+    Ok(())
+}
+
+/// The names of the tokens, in any order.
+fn token_names(alloc: Global, outline: &Outline) -> Result<SymbolTable, AllocError>
+    ensures { IfOk result (λ v. texts v
+        ≡ with_names [] (token_names_of (map listed_view outline.now.listed.items)
+        (map occurrence_view outline.now.declared.items
+        ++ map occurrence_view outline.now.used.items))) }
+{
+    let mut names = first_tokens(alloc)?;
+    intern_listed(alloc, &mut names, &outline.listed)?;
+    intern_literals(alloc, &mut names, &outline.declared)?;
+    intern_literals(alloc, &mut names, &outline.used)?;
+    Ok(names)
+}
+
+/// Interns those names and literals that are among some names.
+fn intern_those(
+    alloc: Global,
+    tokens: &mut SymbolTable,
+    names: &SymbolTable,
+    occurrences: &[Occurrence],
+) -> Result<(), AllocError>
+    ensures { OnOk result (texts tokens.new
+        ≡ with_names (texts tokens.old)
+        (filter (is_among (texts names.now)) (map printed_name (map occurrence_view
+        occurrences.now)))) }
+{
+    for occurrence in occurrences {
+        if is_named(names, occurrence.who) {
+            intern_identifier(alloc, tokens, occurrence.who)?;
+        }
+    }
+    Ok(())
+}
+
+/// The tokens by number: the end, `error`, and the others in the order of their first appearance.
+pub fn tokens(alloc: Global, outline: &Outline) -> Result<SymbolTable, AllocError>
+    ensures { IfOk result (λ v. texts v
+        ≡ tokens_of (map listed_view outline.now.listed.items)
+        (map occurrence_view outline.now.declared.items ++ map occurrence_view
+        outline.now.used.items)) }
+{
+    let names = token_names(alloc, outline)?;
+    let mut tokens = first_tokens(alloc)?;
+    intern_those(alloc, &mut tokens, &names, &outline.declared)?;
+    intern_those(alloc, &mut tokens, &names, &outline.used)?;
+    Ok(tokens)
+}

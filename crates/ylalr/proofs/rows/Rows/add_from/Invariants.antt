@@ -1,6 +1,0 @@
-use Rattle.ylalr.specs.Rows.{Holds}
-use Rattle.ylalr.proofs.RowLemmas.{Uniting}
-use Rattle.ylalr.proofs.rows.Rows.add_from.Given as goal
-
-abbrev pub invariant-loop-k : goal.invariant-loop-k
-invariant-loop-k l = Uniting l.initial.self l.self l.to (Holds l.other l.from) l.k l.grew

@@ -1,0 +1,106 @@
+//! A link: a reader or a writer, and whether a call of it failed.
+
+ghost use Rattle.std.specs.Prelude.{◌≡◌, true, false, is_some, if◌then◌else◌};
+ghost use Rattle.std.specs.Io.KnownBytes.{Keeps};
+ghost use Rattle.ylink.specs.Link.{device_of, has_failed, LinkReads, LinkWrites};
+
+use std::io::{Read, Write};
+
+/// A reader or a writer, and whether a call of it failed since the flag was cleared.
+///
+/// Every byte that the product reads or writes goes through `read`, `write` and `flush`, one call
+/// of the device each. Nothing else sets the flag.
+#[derive(Drop)]
+pub struct Link<D> {
+    device: D,
+    failed: bool,
+}
+
+impl<D> Link<D> {
+    /// A link to this device, of which no call has failed.
+    pub fn new(device: D) -> Self
+        ensures device { device_of result ≡ device }
+        ensures failed { has_failed result ≡ false }
+    {
+        Link {
+            device,
+            failed: false,
+        }
+    }
+
+    /// The device.
+    pub fn into_inner(self) -> D
+        ensures { result ≡ device_of self }
+    {
+        let Link { device, failed: _ } = self;
+        device
+    }
+
+    /// Whether a call failed since the flag was cleared.
+    pub fn failed(&self) -> bool
+        ensures { result ≡ has_failed self.now }
+    {
+        let Link { device: _, failed } = self;
+        *failed
+    }
+
+    /// Unsets the flag.
+    pub fn clear(&mut self)
+        ensures device { device_of self.new ≡ device_of self.old }
+        ensures failed { has_failed self.new ≡ false }
+    {
+        self.failed = false;
+    }
+}
+
+impl<R: Read> Link<R> {
+    /// One read of the device: how many bytes it gave, none only at its end or where there is no
+    /// room. `None` where it refuses.
+    pub fn read(&mut self, buf: &mut [u8]) -> Option<usize>
+        ensures bytes { LinkReads (R.remaining (device_of self.old)) (R.remaining
+            (device_of self.new)) result buf.new }
+        ensures failed { has_failed self.new ≡
+            (if is_some result then has_failed self.old else true) }
+    {
+        match self.device.read(buf) {
+            Ok(n) => Some(n),
+            Err(_) => {
+                self.failed = true;
+                None
+            }
+        }
+    }
+}
+
+impl<W: Write> Link<W> {
+    /// One write of the device: how many bytes it took. `None` where it refuses, or takes nothing
+    /// of some bytes.
+    pub fn write(&mut self, bytes: &[u8]) -> Option<usize>
+        ensures bytes { LinkWrites (W.contents (device_of self.old)) (W.contents
+            (device_of self.new)) result bytes.now }
+        ensures failed { has_failed self.new ≡
+            (if is_some result then has_failed self.old else true) }
+    {
+        match self.device.write(bytes) {
+            Ok(n) if n > 0 || bytes.is_empty() => Some(n),
+            _ => {
+                self.failed = true;
+                None
+            }
+        }
+    }
+
+    /// One flush of the device. `false` where it refuses.
+    pub fn flush(&mut self) -> bool
+        ensures bytes { Keeps (W.contents (device_of self.old)) (W.contents (device_of self.new)) }
+        ensures failed { has_failed self.new ≡ (if result then has_failed self.old else true) }
+    {
+        match self.device.flush() {
+            Ok(()) => true,
+            Err(_) => {
+                self.failed = true;
+                false
+            }
+        }
+    }
+}

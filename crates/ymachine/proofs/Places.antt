@@ -1,0 +1,107 @@
+-- What a step of a parse in place rests on, and what it shows.
+use Rattle.std.proofs.Common.{ℕ, ◌≡◌, ◌≤◌, ◌+◌, ◌-◌, ◌==◌, Bool, true, false, if◌then◌else◌, []}
+use Rattle.std.proofs.Common.{◌∷◌, ◌++◌, length, IsTrue, Option, Some, None, refl, sym, ◌∙◌, ap}
+use Rattle.std.proofs.Common.{subst, arith}
+use Rattle.std.specs.Prelude.{is_some, unwrap_or}
+use Rattle.std.specs.Option.{option_map}
+use Rattle.ymachine.specs.declared.machine.Edit.{Edit}
+use Rattle.ymachine.specs.declared.machine.StepKind.{StepKind}
+use Rattle.ymachine.specs.Machine.{Configuration, next, edited}
+use Rattle.ymachine.specs.MachineOver.{machine_over}
+use Rattle.ymachine.specs.Sound.{Sound}
+use Rattle.ytables.specs.Tables.{TablesValue as Tables}
+use Rattle.ymachine.specs.declared.machine.StepKind.TheVariants as kinds
+use Rattle.ymachine.specs.Content.{Content, Place, kind_in, place_after, content_after}
+use Rattle.ymachine.specs.Content.{content_before}
+use Rattle.ymachine.specs.Content.{place_next, place_edited, edit_kind}
+use Rattle.ymachine.specs.Content.{configuration_of, valid}
+use Rattle.ymachine.specs.Ahead.{LeadsOn}
+use Rattle.ymachine.specs.declared.parts.PlaceChange.{PlaceChange}
+use Rattle.ymachine.specs.Rest.{Rest, without_first, with_first_back}
+use Rattle.ymachine.specs.Machine.{without_last}
+use Rattle.ymachine.proofs.Facts.{facts, is_valid}
+use Rattle.ymachine.proofs.Moves.{Leads, moves, halts, changes, unchanged, unmoving}
+
+abbrev pub KindIs : Place → Option StepKind → Type 0
+KindIs p kind = kind_in p.tables p.tokens p.content p.content.mode ≡ kind
+
+-- what the machine leads to, as a content
+abbrev pub onward : Place → Option (StepKind × Configuration) → Option (StepKind × Place)
+onward p found = option_map (λ (step : StepKind × Configuration). let pair : StepKind × Place =
+    (step.0, place_after step.0 p) in pair) found
+
+pub halted : (p : Place) → Sound p.tables → IsTrue (valid p) → KindIs p None → place_next p ≡ None
+halted p s v e = ap (onward p) (halts p s (facts p v) e)
+
+reached : (p : Place) (found : Option (StepKind × Configuration)) (kind : StepKind)
+    → IsTrue (valid p) → Leads p found kind → LeadsOn p (onward p found) kind
+reached p found kind v m = record {
+  next = ap (onward p) m.follows;
+  back = m.back;
+  fits = subst (λ (q : Place). IsTrue (valid q)) (sym m.back) v;
+  valid = is_valid (place_after kind p) m.facts;
+}
+
+pub advanced : (p : Place) (kind : StepKind) → Sound p.tables → IsTrue (valid p)
+    → KindIs p (Some kind) → LeadsOn p (place_next p) kind
+advanced p kind s v e =
+    reached p (next (machine_over p.tables) (configuration_of p)) kind v
+    (moves p s (facts p v) kind e)
+
+-- the same of an edit, which has a kind where a step follows
+pub changed : (p : Place) (edit : Edit) (kind found : StepKind) → Sound p.tables → IsTrue (valid p)
+    → KindIs p (Some kind) → edit_kind p.tables p.tokens p.content edit ≡ Some found
+    → LeadsOn p (place_edited edit p) found
+changed p edit kind found s v e h =
+    reached p (edited (machine_over p.tables) edit (configuration_of p)) found v
+    (changes p s (facts p v) kind e edit found h)
+
+pub refused : (p : Place) (edit : Edit) (kind : StepKind) → Sound p.tables → IsTrue (valid p)
+    → KindIs p (Some kind) → edit_kind p.tables p.tokens p.content edit ≡ None
+    → place_edited edit p ≡ None
+refused p edit kind s v e h = ap (onward p) (unchanged p s (facts p v) kind e edit h)
+
+-- two accounts of one step
+same_step : (p : Place) (kind j : StepKind) (after : Configuration)
+    (found : Option (StepKind × Configuration)) → found ≡ Some (kind, after)
+    → found ≡ Some (j, configuration_of (place_after j p)) → after ≡ configuration_of
+    (place_after kind p)
+same_step p kind j after found e f =
+    let x : (kind, after) ≡ (j, configuration_of (place_after j p)) =
+    ap (λ (o : Option (StepKind × Configuration)). unwrap_or o (kind, after)) (sym e ∙ f) in
+    ap (λ (step : StepKind × Configuration). step.1) x
+    ∙ ap (λ (k : StepKind). configuration_of (place_after k p))
+    (sym (ap (λ (step : StepKind × Configuration). step.0) x))
+
+-- a step of a content shows the machine's step
+pub step_reaches : (p : Place) (kind : StepKind) (after : Configuration) → Sound p.tables
+    → IsTrue (valid p) → next (machine_over p.tables) (configuration_of p) ≡ Some (kind, after)
+    → after ≡ configuration_of (place_after kind p)
+step_reaches p kind after s v e = by (kind_in p.tables p.tokens p.content p.content.mode) refl
+  where
+    by : (k : Option StepKind) → KindIs p k → after ≡ configuration_of (place_after kind p)
+    by None h = let bad : false ≡ true =
+        sym (ap is_some (halts p s (facts p v) h)) ∙ ap is_some e in cc
+    by (Some j) h = same_step p kind j after _ e (moves p s (facts p v) j h).follows
+
+-- an edit of a content shows the machine's edit
+pub edit_reaches : (p : Place) (edit : Edit) (kind : StepKind) (after : Configuration)
+    → Sound p.tables → IsTrue (valid p)
+    → edited (machine_over p.tables) edit (configuration_of p) ≡ Some (kind, after)
+    → after ≡ configuration_of (place_after kind p)
+edit_reaches p edit kind after s v e = by (kind_in p.tables p.tokens p.content p.content.mode) refl
+  where
+    found : (j : StepKind) → KindIs p (Some j) → (k : Option StepKind)
+        → edit_kind p.tables p.tokens p.content edit ≡ k → after ≡ configuration_of
+        (place_after kind p)
+    found j h None i = let bad : false ≡ true =
+        sym (ap is_some (unchanged p s (facts p v) j h edit i)) ∙ ap is_some e in cc
+    found j h (Some k) i =
+        same_step p kind k after _ e (changes p s (facts p v) j h edit k i).follows
+
+    by : (k : Option StepKind) → KindIs p k → after ≡ configuration_of (place_after kind p)
+    by None h = let bad : false ≡ true =
+        sym (ap is_some (unmoving p s (facts p v) edit h)) ∙ ap is_some e in cc
+    by (Some j) h = found j h (edit_kind p.tables p.tokens p.content edit) refl
+
+-- ---- how many insertions stand

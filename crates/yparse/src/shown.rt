@@ -1,0 +1,54 @@
+//! What a session shows of its configuration: a view of it, and its trees.
+
+ghost use Rattle.std.specs.Prelude.{◌≡◌, ◌<◌, length, slice_index_or, IfErr, is_ok, is_err};
+ghost use Rattle.ylink.specs.Link.{device_of, has_failed};
+ghost use Rattle.ylink.specs.Sends.{Grows};
+ghost use Rattle.yparse.specs.Session.{history_of, machine_of, setting_of};
+ghost use Rattle.ymachine.specs.Tree.{error_leaf};
+ghost use Rattle.ymachine.specs.Unwinding.{tree_lines};
+ghost use Rattle.ymachine.specs.View.{configuration_by, tree_by, trees_in};
+ghost use Rattle.ymachine.specs.declared.machine.UnwindFault.TheVariants as faults;
+
+use ymachine::machine::UnwindFault;
+use crate::session::Session;
+use ymachine::TreeView;
+use ymachine::View;
+use std::io::Write;
+use ytables::Link;
+
+impl Session {
+    /// The configuration now. It takes no memory.
+    #[tactic(auto, unfolding(crate::specs::Session::history_of))]
+    pub fn view(&self) -> View<'_>
+        ensures { configuration_by result ≡ (history_of self.now).now }
+    {
+        self.journal.machine().view()
+    }
+
+    /// The tree of an entry of the stack, counted from the bottom. It takes no memory.
+    #[tactic(auto, unfolding(crate::specs::Session::history_of))]
+    pub fn tree_at(&self, index: usize) -> TreeView<'_>
+        requires { index < length (history_of self.now).now.stack }
+        ensures { tree_by result
+            ≡ slice_index_or (trees_in (history_of self.now).now.stack) index error_leaf }
+    {
+        self.journal.machine().tree_at(index)
+    }
+
+    /// Writes a line for each entry of the stack, from the bottom: its tree. A leaf is its token's
+    /// name, `@` and its place; a rule is its number and its children, each after a space, in
+    /// parentheses; an error is `error`. U3 exactly where the link failed. The configuration
+    /// stays. It takes no memory.
+    #[tactic(auto, unfolding(crate::specs::Session::setting_of, crate::specs::Session::history_of))]
+    pub fn write_trees<W: Write>(&mut self, link: &mut Link<W>) -> Result<(), UnwindFault>
+        ensures text { Grows (W.contents (device_of link.old)) (W.contents (device_of link.new))
+            (is_ok result) (tree_lines (machine_of self.old) (history_of self.old).now.stack) }
+        ensures failed { has_failed link.new ≡ is_err result }
+        ensures fault { IfErr result (λ e. e ≡ faults.Write) }
+        ensures history { history_of self.new ≡ history_of self.old }
+        ensures setting { setting_of self.new ≡ setting_of self.old }
+    {
+        link.clear();
+        self.journal.write_trees(link).ok_or(UnwindFault::Write)
+    }
+}

@@ -1,0 +1,9 @@
+pub mod Accepted
+pub mod Shapes
+pub mod Viable
+pub mod Outcomes
+pub mod Coming
+pub mod Answering
+pub mod Trees
+pub mod OneTree
+pub mod TreeSteps

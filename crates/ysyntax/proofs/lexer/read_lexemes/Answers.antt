@@ -1,0 +1,103 @@
+use Rattle.std.proofs.Common.{refl, sym, ap, ◌∙◌, ◌-◌, length, subst}
+use Rattle.ysyntax.specs.Answers.{Fails}
+use Rattle.ylexemes.specs.Front.{blank, comment}
+use Rattle.ylexemes.specs.Views.{lexeme_view}
+use Rattle.ysyntax.specs.Recogniser.{next_state}
+use Rattle.ysyntax.proofs.Coming.{comes_shorter, empty_is, goes_gap, goes_lexeme, place}
+use Rattle.ysyntax.proofs.Coming.{stops_early, stops_ended, placed_more, stops_lexical}
+use Rattle.ysyntax.proofs.Coming.{stops_marked, stops_stray}
+use Rattle.ysyntax.proofs.lexer.read_lexemes.Goals as goal
+
+pub line_of-requires : goal.line_of-requires
+line_of-requires c = place c.args.bytes.now c.parts.rest.now c.parts.lexemes.items c.parts.state
+    c.parts.invariant
+
+pub returns-in-Err-clause-outcome : goal.returns-in-Err-clause-outcome
+returns-in-Err-clause-outcome c =
+    subst (λ e. Fails e c.args.bytes.now) (sym c.at_line.ensures)
+    (stops_lexical c.args.bytes.now c.parts.rest.now c.parts.lexemes.items c.parts.state
+    c.in-Err.fault c.line_of.result c.parts.invariant c.in-Err.ensures c.line_of.ensures)
+
+pub line_of-requires-in-None : goal.line_of-requires-in-None
+line_of-requires-in-None c = place c.args.bytes.now c.parts.rest.now c.parts.lexemes.items
+    c.parts.state c.parts.invariant
+
+pub returns-in-None-clause-outcome : goal.returns-in-None-clause-outcome
+returns-in-None-clause-outcome c =
+    let part = rw c.in-Lexeme.is at c.in-Ok.ensures in
+    stops_stray c.args.bytes.now c.parts.rest.now c.in-Ok.found.1.now c.parts.lexemes.items
+    c.parts.state (lexeme_view c.in-Lexeme.lexeme) c.line_of-in-None.result c.parts.invariant
+    part
+    (ap (next_state c.parts.state) (sym c.kind.ensures) ∙ sym c.in-None.ensures)
+    c.line_of-in-None.ensures
+
+pub overflow_sub-at : goal.overflow_sub-at
+overflow_sub-at c = comes_shorter c.args.bytes.now c.parts.rest.now c.parts.lexemes.items
+    c.parts.state c.parts.invariant
+
+pub returns-then-is_end-clause-outcome : goal.returns-then-is_end-clause-outcome
+returns-then-is_end-clause-outcome c =
+    let part = rw c.in-Lexeme.is at c.in-Ok.ensures in
+    stops_marked c.args.bytes.now c.parts.rest.now c.in-Ok.found.1.now c.parts.lexemes.items
+    c.push.new.self.items c.parts.state c.in-Some.next
+    (record {
+      lexeme = c.in-Lexeme.lexeme;
+      at = length c.args.bytes.now - length
+          c.parts.rest.now;
+    }) c.parts.invariant part
+    (ap (next_state c.parts.state) (sym c.kind.ensures) ∙ sym c.in-Some.ensures)
+    (sym c.is_end.ensures ∙ c.if-is_end.true) c.in_ok-push-in-Lexeme.ensures.items
+
+pub parts-preserved-in-Blank : goal.parts-preserved-in-Blank
+parts-preserved-in-Blank c =
+    let part = rw c.in-Blank.is at c.in-Ok.ensures in
+    goes_gap c.args.bytes.now c.parts.rest.now c.in-Ok.found.1.now c.parts.lexemes.items
+    c.parts.state blank c.parts.invariant refl part
+
+pub parts-preserved-in-Comment : goal.parts-preserved-in-Comment
+parts-preserved-in-Comment c =
+    let part = rw c.in-Comment.is at c.in-Ok.ensures in
+    goes_gap c.args.bytes.now c.parts.rest.now c.in-Ok.found.1.now c.parts.lexemes.items
+    c.parts.state comment c.parts.invariant refl part
+
+pub parts-preserved : goal.parts-preserved
+parts-preserved c =
+    let part = rw c.in-Lexeme.is at c.in-Ok.ensures in
+    goes_lexeme c.args.bytes.now c.parts.rest.now c.in-Ok.found.1.now c.parts.lexemes.items
+    c.push.new.self.items c.parts.state c.in-Some.next
+    (record {
+      lexeme = c.in-Lexeme.lexeme;
+      at = length c.args.bytes.now - length
+          c.parts.rest.now;
+    }) c.parts.invariant part refl
+    (ap (next_state c.parts.state) (sym c.kind.ensures) ∙ sym c.in-Some.ensures)
+    (sym c.is_end.ensures ∙ c.if-is_end.false) c.in_ok-push-in-Lexeme.ensures.items
+
+pub returns-then-is_final-clause-outcome : goal.returns-then-is_final-clause-outcome
+returns-then-is_final-clause-outcome c =
+    stops_ended c.args.bytes.now c.parts.rest.now c.parts.lexemes.items c.parts.state
+    c.parts.invariant
+    (empty_is c.parts.rest.now c.is_empty.result c.is_empty.ensures c.parts-test.false)
+    (sym c.is_final.ensures ∙ c.if-is_final.true)
+
+pub line_of-requires-else-is_final : goal.line_of-requires-else-is_final
+line_of-requires-else-is_final c = place c.args.bytes.now c.parts.rest.now c.parts.lexemes.items
+    c.parts.state c.parts.invariant
+
+pub returns-clause-outcome : goal.returns-clause-outcome
+returns-clause-outcome c =
+    stops_early c.args.bytes.now c.parts.rest.now c.parts.lexemes.items c.parts.state
+    c.line_of-else-is_final.result c.parts.invariant
+    (empty_is c.parts.rest.now c.is_empty.result c.is_empty.ensures c.parts-test.false)
+    (sym c.is_final.ensures ∙ c.if-is_final.false) c.line_of-else-is_final.ensures
+
+pub returns-then-is_end-clause-placed : goal.returns-then-is_end-clause-placed
+returns-then-is_end-clause-placed c =
+    let part = rw c.in-Lexeme.is at c.in-Ok.ensures in
+    placed_more c.args.bytes.now c.parts.rest.now c.in-Ok.found.1.now c.parts.lexemes.items
+    c.push.new.self.items c.parts.state
+    (record {
+      lexeme = c.in-Lexeme.lexeme;
+      at = length c.args.bytes.now - length
+          c.parts.rest.now;
+    }) c.parts.invariant part refl c.in_ok-push-in-Lexeme.ensures.items

@@ -1,0 +1,20 @@
+use Rattle.std.proofs.Common.{◌≡◌, ◌++◌, map, length, ℕ, List}
+use Rattle.ysyntax.specs.declared.recogniser.State.TheVariants.{Body}
+use Rattle.std.specs.List.{AllByRecursion}
+use Rattle.ysyntax.specs.Answers.{StandIn, views}
+use Rattle.ysyntax.specs.TreeBuilder.{GoesOn}
+use Rattle.ysyntax.specs.Tree.{body_part_yield}
+use Rattle.ysyntax.specs.TreeTexts.{BodyPartStands}
+use Rattle.ysyntax.specs.TreeViews.{body_part_view}
+use Rattle.ysyntax.proofs.tree_builder.TreeBuilder.body.Given as goal
+
+abbrev pub invariant-items : goal.invariant-items
+invariant-items l = record {
+  whole : views l.fn.self ≡ map body_part_yield (map body_part_view l.body.items) ++ views l.self;
+  goes_on : GoesOn Body l.self;
+  stands : (source : List ℕ) → StandIn source l.fn.self →
+      AllByRecursion (BodyPartStands source) l.body.items × StandIn source l.self;
+}
+
+abbrev pub decreases-items : goal.decreases-items
+decreases-items l = length l.self

@@ -1,0 +1,111 @@
+//! A grammar file cut into lexemes, up to its first fault.
+
+ghost use Rattle.std.specs.Prelude.{◌≡◌, ◌++◌, ◌<◌, ◌≤◌, ◌↔◌, ℕ, List, length, Ok, Err, IfOk};
+ghost use Rattle.std.specs.Prelude.{IsErrOf};
+ghost use Rattle.ysyntax.specs.Answers.{Gives, Answers, StandIn, fault_at, views};
+ghost use Rattle.ysyntax.specs.Lexer.{IsLine, SpellsSyntax, Outcome, Refusal};
+ghost use Rattle.ysymbols.specs.Grammar.{longest_file};
+ghost use Rattle.ylexemes.specs.Lexemes.{Lexeme as LexemeOf};
+ghost use Rattle.ysyntax.specs.Tree.{HasOneTree};
+
+use crate::fault::GrammarFault;
+use ylexemes::part::{Lexeme, LexicalFault, Part};
+use ylexemes::front::part_at;
+use ysymbols::limits::LONGEST_FILE;
+use crate::recogniser::State;
+use std::alloc::Global;
+
+/// A lexeme, and how many bytes stand before it.
+#[derive(Clone, Copy, Debug)]
+pub struct Placed<'a> {
+    pub lexeme: Lexeme<'a>,
+    pub at: usize,
+}
+
+/// The line of the place where the rest of some bytes begins.
+fn line_of(bytes: &[u8], rest: &[u8]) -> usize
+    requires { (before : List ℕ) × (bytes.now ≡ before ++ rest.now) }
+    ensures { IsLine bytes.now rest.now result }
+{
+    let before = bytes.split_at(bytes.len() - rest.len()).0;
+    before.iter().filter(|b| **b == b'\n').count() + 1
+}
+
+/// The fault of a file where no part begins, on a line.
+fn at_line(fault: LexicalFault, line: usize) -> GrammarFault
+    ensures { result ≡ fault_at fault line }
+{
+    match fault {
+        LexicalFault::Unfinished => GrammarFault::Unfinished { line },
+        LexicalFault::BadLiteral => GrammarFault::BadLiteral { line },
+        LexicalFault::Foreign => GrammarFault::Foreign { line },
+    }
+}
+
+/// The lexemes of a grammar file.
+pub fn read_lexemes<'a>(alloc: Global, bytes: &'a [u8]) -> Result<Vec<Placed<'a>>, GrammarFault>
+    ensures outcome { Gives bytes.now result }
+    ensures placed { IfOk result (λ v. StandIn bytes.now v.items) }
+{
+    let mut lexemes = Vec::new(alloc);
+    let mut state = State::Declarations;
+    let mut rest = bytes;
+    'parts: while !rest.is_empty() {
+        let (part, after) = match part_at(rest) {
+            Ok(found) => found,
+            Err(fault) => return Err(at_line(fault, line_of(bytes, rest))),
+        };
+        match part {
+            Part::Blank => {}
+            Part::Comment => {}
+            Part::Lexeme(lexeme) => {
+                match state.next(lexeme.kind()) {
+                    None => return Err(GrammarFault::Syntax {
+                        line: line_of(bytes, rest),
+                    }),
+                    Some(next) => state = next,
+                }
+                let at = bytes.len() - rest.len();
+                lexemes.push(Placed { lexeme, at })?;
+                if state.is_end() {
+                    return Ok(lexemes);
+                }
+            }
+        }
+        rest = after;
+    }
+    if state.is_final() {
+        Ok(lexemes)
+    } else {
+        Err(GrammarFault::Syntax {
+            line: line_of(bytes, rest),
+        })
+    }
+}
+
+/// The lexemes of a grammar file, or its first fault.
+///
+/// Want of memory may come in place of any answer but `TooLong`.
+pub fn read_syntax<'a>(alloc: Global, bytes: &'a [u8]) -> Result<Vec<Placed<'a>>, GrammarFault>
+    // It comes before every other answer.
+    ensures too_long { IsErrOf result GrammarFault.TooLong ↔ (longest_file < length bytes.now) }
+    // What is read is spelled.
+    ensures found { IfOk result (λ v. SpellsSyntax bytes.now (views v.items)) }
+    // Its lexemes are those of exactly one syntax tree.
+    ensures tree { IfOk result (λ v. HasOneTree (views v.items)) }
+    // What is spelled is read.
+    ensures only { (ls : List LexemeOf) → length bytes.now ≤ longest_file →
+        SpellsSyntax bytes.now ls → Answers result (Ok ls) }
+    // The first fault of the file is answered, with its line.
+    ensures fault { (r : Refusal) → length bytes.now ≤ longest_file → Outcome bytes.now (Err r) →
+        Answers result (Err r) }
+    // There is no other answer.
+    ensures exact { length bytes.now ≤ longest_file → Gives bytes.now result }
+    // Each lexeme stands at its place.
+    ensures placed { IfOk result (λ v. StandIn bytes.now v.items) }
+{
+    if bytes.len() > LONGEST_FILE {
+        return Err(GrammarFault::TooLong);
+    }
+    read_lexemes(alloc, bytes)
+}

@@ -1,0 +1,4 @@
+pub mod Symbols
+pub mod Tokens
+pub mod TokensFile
+pub mod Reading
