@@ -58,9 +58,7 @@ const WORKED: [&[u8]; 28] = [
     b"%% s : 'p' a 'q' ; a : 'r' b ; b : 't' c ; c : 'y' ;",
     b"%% s : p '+' | q '+' | 'n' '+' ; p : 'n' ; q : 'n' ;",
     b"%left '+' %left HI %% s : p '+' | q '+' | 'n' '+' ; p : 'n' %prec HI ; q : 'n' ;",
-    b"\
-        %left LO %left '+' %left HI %% s : p '+' | q '+' | 'n' '+' ; p : 'n' %prec HI ; q : 'n' \
-        %prec LO ;",
+    b"%left L %left '+' %left H %% s: p '+' | q '+' | 'n' '+'; p: 'n' %prec H; q: 'n' %prec L;",
     b"%nonassoc '+' %% s : p '+' | q '+' | 'n' '+' ; p : 'n' %prec '+' ; q : 'n' ;",
     b"%% s : 'x' ; t : 'y' ;",
     b"%% s : 'a' | error ;",
@@ -120,21 +118,13 @@ fn one_state_more(rt: HostRuntime) -> Result<(), Fail> {
 }
 
 /// The largest files of one kind: as many bars, as many names, as long a body as there may be.
-fn largest(alloc: Global) -> Result<[Vec<u8>; 4], AllocError> {
+fn largest(alloc: Global) -> Result<[Vec<u8>; 4], Fail> {
     let mut bars = Vec::from_slice(alloc, b"%% s :")?;
     push_times(&mut bars, b" |", 8_190)?;
     let mut names = Vec::from_slice(alloc, b"%token")?;
-    for first in b'a'..=b'z' {
-        for second in b'a'..=b'z' {
-            for third in b'a'..b'g' {
-                names.extend_from_slice(&[b' ', first, second, third])?;
-            }
-        }
-    }
-    for first in b'a'..=b'f' {
-        for second in b'0'..=b'5' {
-            names.extend_from_slice(&[b' ', first, second])?;
-        }
+    for n in 0..4_092 {
+        let name = format!(in alloc; " t{n}")?;
+        names.extend_from_slice(name.as_bytes())?;
     }
     names.extend_from_slice(b"%% s : ;")?;
     let mut body = Vec::from_slice(alloc, b"%% s :")?;

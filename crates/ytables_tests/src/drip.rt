@@ -3,30 +3,21 @@
 use std::alloc::Global;
 use std::io::{self, ErrorKind, Write};
 
-/// What comes after the bytes that a writer takes.
-#[derive(Clone, Copy, Debug)]
-pub enum End {
-    /// It refuses.
-    Refuses,
-    /// It takes nothing.
-    TakesNone,
-}
-
-/// A writer that takes a byte a call, so many times.
+/// A writer that takes a byte a call, so many times, and then refuses or takes nothing.
 #[derive(Drop)]
 pub struct Drip {
     taken: Vec<u8>,
     left: usize,
-    end: End,
+    refuses: bool,
 }
 
 impl Drip {
     /// A writer that takes so many bytes.
-    pub fn new(alloc: Global, left: usize, end: End) -> Drip {
+    pub fn new(alloc: Global, left: usize, refuses: bool) -> Drip {
         Drip {
             taken: Vec::new(alloc),
             left,
-            end,
+            refuses,
         }
     }
 
@@ -41,11 +32,11 @@ impl Write for Drip {
         let Some(byte) = buf.first() else {
             return Ok(0);
         };
+        if self.left == 0 && self.refuses {
+            return Err(io::Error::from(ErrorKind::Other));
+        }
         if self.left == 0 {
-            return match self.end {
-                End::Refuses => Err(io::Error::from(ErrorKind::Other)),
-                End::TakesNone => Ok(0),
-            };
+            return Ok(0);
         }
         self.left -= 1;
         self.taken.push(*byte)?;

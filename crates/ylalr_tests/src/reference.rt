@@ -188,30 +188,18 @@ fn agrees_in(automaton: &Automaton, q: usize, item: Item, facts: &Facts) -> bool
     let Some(j) = index_of(automaton, q, item) else {
         return false;
     };
-    for t in 0..token_count(automaton.grammar()) {
-        if has_look(automaton, q, item, t) != facts.has(q, j, t) {
-            return false;
-        }
-    }
-    true
+    (0..token_count(automaton.grammar())).all(|t| has_look(automaton, q, item, t)
+        == facts.has(q, j, t))
 }
 
 /// Whether the lookaheads of the items of a state are those of the reference.
 fn agrees_at(automaton: &Automaton, q: usize, facts: &Facts) -> bool {
-    for item in items_of(automaton, q) {
-        if !agrees_in(automaton, q, *item, facts) {
-            return false;
-        }
-    }
-    true
+    items_of(automaton, q)
+        .iter()
+        .all(|item| agrees_in(automaton, q, *item, facts))
 }
 
 /// Whether the lookaheads of the items of each state are those of the reference.
 pub fn agrees(automaton: &Automaton, facts: &Facts) -> bool {
-    for q in 0..automaton.states() {
-        if !agrees_at(automaton, q, facts) {
-            return false;
-        }
-    }
-    true
+    (0..automaton.states()).all(|q| agrees_at(automaton, q, facts))
 }

@@ -1,6 +1,5 @@
 //! Files that are cut off.
 
-use crate::shown::shows;
 use std::alloc::Global;
 use std::test::Fail;
 use ygrammar::{GrammarFault, read_grammar};
@@ -38,24 +37,5 @@ fn beginnings_of_two_files(rt: HostRuntime) -> Result<(), Fail> {
         alloc,
         b"%left 'a' %% s : 'a' { x } ;",
         "5444455225545555..22..2222...",
-    )
-}
-
-#[test]
-fn what_a_beginning_means(rt: HostRuntime) -> Result<(), Fail> {
-    let alloc = rt.alloc();
-    shows(
-        alloc,
-        b"%% s :",
-        "$end=0 error=256- $accept s \n\
-         $accept: s $end\n\
-         s:\n",
-    )?;
-    shows(
-        alloc,
-        b"%% s : 'x'",
-        "$end=0 error=256- 'x'=120 $accept s \n\
-         $accept: s $end\n\
-         s: 'x'\n",
     )
 }

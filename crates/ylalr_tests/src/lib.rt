@@ -1,0 +1,10 @@
+//! Tests of automata that need code: one by each public call, lookaheads beside the plain
+//! saturation, and the limit of states.
+#![tactic(auto)]
+
+pub mod asked;
+#[cfg(test)]
+mod compared;
+pub mod reference;
+#[cfg(test)]
+mod worked;
