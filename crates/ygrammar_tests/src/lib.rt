@@ -6,7 +6,8 @@
 mod beginnings;
 #[cfg(test)]
 mod limits;
-pub mod marks;
+#[cfg(test)]
+mod marks;
 #[cfg(test)]
 mod symbols;
 #[cfg(test)]

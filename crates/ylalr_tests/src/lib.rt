@@ -2,9 +2,11 @@
 //! saturation, and the limit of states.
 #![tactic(auto)]
 
-pub mod asked;
+#[cfg(test)]
+mod asked;
 #[cfg(test)]
 mod compared;
-pub mod reference;
+#[cfg(test)]
+mod reference;
 #[cfg(test)]
 mod worked;

@@ -4,10 +4,13 @@
 
 #[cfg(test)]
 mod answers;
-pub mod asked;
+#[cfg(test)]
+mod asked;
 #[cfg(test)]
 mod choices;
-pub mod drip;
-pub mod grammars;
+#[cfg(test)]
+mod drip;
+#[cfg(test)]
+mod grammars;
 #[cfg(test)]
 mod writers;
