@@ -1,0 +1,87 @@
+//! Files at the limits, and one step above them.
+
+use std::alloc::Global;
+use std::test::Fail;
+use ygrammar::{GrammarFault, read_grammar};
+
+/// The fault of a file that is refused.
+fn fault_of(alloc: Global, file: &[u8]) -> Option<GrammarFault> {
+    read_grammar(alloc, file).err()
+}
+
+/// The fault of a file that is above a limit of symbols and rules.
+const ABOVE: Option<GrammarFault> = Some(GrammarFault::Limit { line: 1 });
+
+/// A file whose one rule has so many literals, and what stands behind them.
+fn long_body(alloc: Global, literals: usize, behind: &[u8]) -> Result<Vec<u8>, Fail> {
+    let mut file = Vec::from_slice(alloc, b"\n%%\ns :")?;
+    for _ in 0..literals {
+        file.extend_from_slice(b" 'a'")?;
+    }
+    file.extend_from_slice(behind)?;
+    Ok(file)
+}
+
+#[test]
+fn the_longest_body(rt: HostRuntime) -> Result<(), Fail> {
+    let bodies: [(usize, &[u8], Option<GrammarFault>); 6] = [
+        (255, b" ;", None),
+        (256, b" ;", ABOVE),
+        (253, b" { x } 'a' ;", None),
+        (254, b" { x } 'a' ;", ABOVE),
+        (255, b" { x } ;", None),
+        (256, b" %prec s ;", Some(GrammarFault::BadPrec { line: 3 })),
+    ];
+    for (literals, behind, fault) in bodies {
+        let file = long_body(rt.alloc(), literals, behind)?;
+        assert_eq!(rt; fault_of(rt.alloc(), &file), fault);
+    }
+    Ok(())
+}
+
+/// A file that lists so many tokens.
+fn many_tokens(alloc: Global, count: usize) -> Result<Vec<u8>, Fail> {
+    let mut file = Vec::from_slice(alloc, b"%token")?;
+    for n in 0..count {
+        let name = format!(in alloc; "\nt{n}")?;
+        file.extend_from_slice(name.as_bytes())?;
+    }
+    file.extend_from_slice(b" %% s : ;")?;
+    Ok(file)
+}
+
+/// A file with so many bars.
+fn many_bars(alloc: Global, count: usize) -> Result<Vec<u8>, Fail> {
+    let mut file = Vec::from_slice(alloc, b"%%\ns :")?;
+    for _ in 0..count {
+        file.push(b'|')?;
+    }
+    Ok(file)
+}
+
+#[test]
+fn the_most_symbols_and_rules(rt: HostRuntime) -> Result<(), Fail> {
+    let alloc = rt.alloc();
+    assert_eq!(rt; fault_of(alloc, &many_tokens(alloc, 4_092)?), None);
+    assert_eq!(rt; fault_of(alloc, &many_tokens(alloc, 4_093)?), ABOVE);
+    assert_eq!(rt; fault_of(alloc, &many_bars(alloc, 8_190)?), None);
+    assert_eq!(rt; fault_of(alloc, &many_bars(alloc, 8_191)?), ABOVE);
+    Ok(())
+}
+
+/// The bytes that a file may have.
+const MOST: usize = 1_048_576;
+
+#[test]
+fn the_longest_file(rt: HostRuntime) -> Result<(), Fail> {
+    let alloc = rt.alloc();
+    let mut file = Vec::with_capacity(alloc, MOST + 1)?;
+    file.extend_from_slice(b"%% s : 'x' ;")?;
+    for _ in 12..MOST {
+        file.push(b' ')?;
+    }
+    assert_eq!(rt; fault_of(alloc, &file), None);
+    file.push(b' ')?;
+    assert_eq!(rt; fault_of(alloc, &file), Some(GrammarFault::TooLong));
+    Ok(())
+}

@@ -1,0 +1,5 @@
+%start t
+%%
+s : ;
+t : s t ;
+t : 'x' t ;

@@ -1,0 +1,3 @@
+%start A
+%token A 0
+%% s : A ;

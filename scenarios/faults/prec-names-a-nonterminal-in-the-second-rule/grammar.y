@@ -1,0 +1,4 @@
+%%
+s : %prec 'a'
+| t %prec t ;
+t : ;

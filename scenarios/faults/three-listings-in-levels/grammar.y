@@ -1,0 +1,4 @@
+%left A
+
+A
+%left A %% s : A ;

@@ -1,0 +1,3 @@
+%start 'a'
+%start s
+%start s %% s : 'a' ;

@@ -1,0 +1,7 @@
+%token A
+%type <A>
+s
+A
+%%
+s : A ;
+A : ;

@@ -1,0 +1,2 @@
+%token A 0
+%left A A %% s : A ;

@@ -1,0 +1,1 @@
+%union { int i; } %{ } %} %token <i> A %type <i> s %% s : A ; %% @ '

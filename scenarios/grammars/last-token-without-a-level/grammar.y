@@ -1,0 +1,1 @@
+%left A %token B %% s : A B | A B %prec A | B { x } A s ;

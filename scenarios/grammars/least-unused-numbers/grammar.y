@@ -1,0 +1,1 @@
+%token A B 257 C 259 D %% s : A B C D ;

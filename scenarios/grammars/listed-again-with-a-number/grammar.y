@@ -1,0 +1,1 @@
+%left A %token U A 300 %right B C %nonassoc D %% s : A B C | U D ;

@@ -1,0 +1,1 @@
+%token error 300 A 256 'a' 97 'b' 301 C 98 %% s : A ;

@@ -1,0 +1,1 @@
+%start t %% s : 'a' ; t : u ; u : error ;

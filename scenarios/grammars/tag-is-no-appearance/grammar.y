@@ -1,0 +1,1 @@
+%token <B> A %token B error 400 %% s : A B ;

@@ -1,0 +1,6 @@
+%token NUM
+%%
+list :
+     | list NUM ';'
+     | list error ';'
+     ;

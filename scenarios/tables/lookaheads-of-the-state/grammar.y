@@ -1,0 +1,9 @@
+%token ID
+%%
+s : l '=' r
+  | r
+  ;
+l : '*' r
+  | ID
+  ;
+r : l ;

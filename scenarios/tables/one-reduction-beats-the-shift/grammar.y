@@ -1,0 +1,9 @@
+%left '+'
+%left HI
+%%
+s : p '+'
+  | q '+'
+  | 'n' '+'
+  ;
+p : 'n' %prec HI ;
+q : 'n' ;

@@ -1,0 +1,6 @@
+%token NUM
+%right '^'
+%%
+e : e '^' e
+  | NUM
+  ;
