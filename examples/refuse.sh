@@ -50,7 +50,7 @@ for example in "$top"/examples/*/; do
     run "$example" "$n"
     if [ "$status" = 3 ] && [ ! -s "$work/replies" ] && [ "$(cat "$work/messages")" = "ystep: no memory" ]; then
       refusals=$((refusals + 1))
-    elif [ "$status" = 0 ] && [ ! -s "$work/messages" ] && cmp -s "$work/replies" "$example/replies"; then
+    elif [ "$status" = 0 ] && [ ! -s "$work/messages" ] && cmp -s "$work/replies" "$example/session/stdout"; then
       usual=$((usual + 1))
     elif [ "$status" = 0 ] && [ ! -s "$work/messages" ] && grep -q '^no memory$' "$work/replies"; then
       steps=$((steps + 1))

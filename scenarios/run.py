@@ -32,7 +32,7 @@ def asked():
     parser.add_argument("--accept", action="store_true")
     parser.add_argument("--at", action="append", type=Path, default=[])
     parser.add_argument("words", nargs="*")
-    return parser.parse_args()
+    return parser.parse_intermixed_args()
 
 
 def newest_source(top):
