@@ -37,7 +37,7 @@ cc -shared -fPIC -o "$work/refuse.so" "$work/refuse.c" -ldl
 # One run, with the Nth call refused (0: none).
 run() {
   status=0
-  REFUSE=$2 LD_PRELOAD="$work/refuse.so" "$top/bin/ystep" "$1/grammar.y" "$1/tokens" < "$1/commands" \
+  REFUSE=$2 LD_PRELOAD="$work/refuse.so" "$top/bin/ystep" "$1/grammar.y" "$1/tokens" < "$1/session/stdin" \
     > "$work/replies" 2> "$work/messages" || status=$?
 }
 

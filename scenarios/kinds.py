@@ -19,7 +19,7 @@ PASS = {
     "silent": GOOD,
     "streams": {**ECHO, **BACK},
     "leaves": {**LEAVES, **LEFT},
-    "reads": {**GOOD, "stdin": "cat given in/given\n", "given": "1", "in/given": "2", "stdout": "12"},
+    "reads": {**GOOD, "stdin": "cat one in/two\n", "one": "1", "in/two": "2", "stdout": "12"},
     "group/shares": {**GOOD, "stdin": "cat shared\n", "stdout": "of both\n"},
     "overwrites": {**GOOD, "stdin": "echo new > given\n", "given": "old\n", "left/given": "new\n"},
 }

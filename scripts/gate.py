@@ -3,9 +3,9 @@
 
     gate.py QUICK.. -- RUNNER..
 
-Each QUICK is a script that ends with status 0 where all is well; the first other one ends the gate.
-RUNNER is the command of the scenarios. The last line, `N passed, M failed`, is the sum of `rt ci`
-and the runner.
+Each QUICK is a script that ends with status 0 where all is well; the first that doesn't ends the
+gate. RUNNER is the command of the scenarios. The last line, `N passed, M failed`, is the sum of
+`rt ci` and the runner.
 """
 import re
 import subprocess

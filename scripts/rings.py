@@ -144,7 +144,8 @@ def shown(module):
 def show(crate, names, ring):
     print(f"{crate}: a ring: {', '.join(map(shown, ring))}")
     for module in ring:
-        print(f"    {shown(module)} names {', '.join(sorted(map(shown, names[module] & {*ring})))}")
+        inside = sorted(map(shown, names[module] & {*ring}))
+        print(f"    {shown(module)} names {', '.join(inside)}")
 
 
 def main():
