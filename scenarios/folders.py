@@ -100,7 +100,8 @@ def read(folder, root, accepting):
 
 
 def lay(files, room):
-    """Writes files, by their paths, into a folder."""
+    """Writes files, by their paths, into a folder, which is made where it isn't there."""
+    Path(room).mkdir(parents=True, exist_ok=True)
     for path, text in files.items():
         file = Path(room) / path
         file.parent.mkdir(parents=True, exist_ok=True)
