@@ -1,10 +1,10 @@
 //! Sessions whose reader takes memory.
 
-use crate::devices::{Fixed, Memory, Script};
-use conformance_setting::setting::session_of;
+use crate::devices::{Memory, Script};
 use std::alloc::Global;
 use std::test::Fail;
-use ycli::run::run_session;
+use testkit::devices::{Refusal, Sink};
+use ycli::stepper::step_through;
 use ytables::Link;
 
 /// Lines of a session, and what happens to memory before each.
@@ -17,11 +17,10 @@ pub fn told(
     grammar: &[u8],
     tokens: &[u8],
     lines: Lines<'_>,
-) -> Result<(Fixed, bool), Fail> {
+) -> Result<(Sink, bool), Fail> {
     let mut reader = Link::new(Script::new(alloc, lines)?);
-    let mut writer = Link::new(Fixed::plain(alloc)?);
-    let session = session_of(alloc, grammar, tokens)?;
-    let answer = run_session(session, &mut reader, &mut writer);
+    let mut writer = Link::new(Sink::new(4096, Refusal::Never));
+    let answer = step_through(alloc, grammar, tokens, &mut reader, &mut writer);
     let refused = reader.into_inner().plain_refused();
     answer?;
     Ok((writer.into_inner(), refused))

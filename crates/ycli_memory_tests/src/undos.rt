@@ -2,10 +2,9 @@
 
 use crate::devices::Memory::{Goes, Stays};
 use crate::told::{Lines, told};
-use conformance_setting::setting::ONE;
-use conformance_setting::worked::{LIST, SPOILED, SUM, SUMS};
 use std::alloc::Global;
 use std::test::Fail;
+use testkit::worked::{LIST, ONE, SPOILED, SUMS};
 
 /// Whether memory was refused, and the session wrote this all the same.
 fn writes(
@@ -45,36 +44,6 @@ fn a_recovered_list_is_undone(rt: HostRuntime) -> Result<(), Fail> {
         4 undo shift error\n3 undo pop NUM\n2 undo detect\n1 undo shift NUM\n0 undo reduce 1\n\
         0 running\nstack:\nrest: NUM NUM ';' NUM ';'\ncounter: 0\nerrors: 0\n";
     assert!(rt; writes(rt.alloc(), LIST, SPOILED.tokens, &lines, want)?);
-    Ok(())
-}
-
-#[test]
-fn a_list_recovered_twice_is_undone(rt: HostRuntime) -> Result<(), Fail> {
-    let lines: [(_, &[u8]); 3] = [
-        (Stays, b"run 20\n"),
-        (Goes, b"back 16\n"),
-        (Stays, b"show\n"),
-    ];
-    let want = b"\
-        1 reduce 1\n2 shift NUM\n3 detect\n4 pop NUM\n5 shift error\n6 discard NUM\n7 shift ';'\n\
-        8 reduce 3\n9 shift NUM\n10 detect\n11 pop NUM\n12 shift error\n13 discard NUM\n\
-        14 shift ';'\n15 reduce 3\n16 accept\n15 undo accept\n14 undo reduce 3\n\
-        13 undo shift ';'\n12 undo discard NUM\n11 undo shift error\n10 undo pop NUM\n\
-        9 undo detect\n8 undo shift NUM\n7 undo reduce 3\n6 undo shift ';'\n5 undo discard NUM\n\
-        4 undo shift error\n3 undo pop NUM\n2 undo detect\n1 undo shift NUM\n0 undo reduce 1\n\
-        0 running\nstack:\nrest: NUM NUM ';' NUM NUM ';'\ncounter: 0\nerrors: 0\n";
-    assert!(rt; writes(rt.alloc(), LIST, b"NUM NUM ';' NUM NUM ';'", &lines, want)?);
-    Ok(())
-}
-
-#[test]
-fn a_sum_is_shown_and_unwound(rt: HostRuntime) -> Result<(), Fail> {
-    let lines: [(_, &[u8]); 3] = [
-        (Stays, b"run 20\n"),
-        (Goes, b"tree\n"),
-        (Stays, b"unwind\n"),
-    ];
-    assert!(rt; writes(rt.alloc(), SUM.grammar, SUM.tokens, &lines, SUM.text)?);
     Ok(())
 }
 

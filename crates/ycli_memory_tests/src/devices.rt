@@ -4,9 +4,7 @@
 use crate::hoard::Hoard;
 use std::alloc::{AllocError, Global};
 use std::io::{self, Read, Write};
-
-/// How many bytes a writer holds.
-const ROOM: usize = 4096;
+use testkit::devices::{Refusal, Sink};
 
 /// What happens to memory before a line is given.
 #[derive(Clone, Copy)]
@@ -61,39 +59,28 @@ impl Read for Script<'_> {
     }
 }
 
-/// A writer over an array. It takes all memory behind so many lines, and gives it back for good
-/// at its first flush.
+/// A writer that takes all memory behind so many lines, at least behind one, and gives it back for
+/// good at its first flush.
 #[derive(Drop)]
-pub struct Fixed {
-    bytes: [u8; ROOM],
-    len: usize,
+pub struct Taking {
+    sink: Sink,
     /// How many lines are left before memory is taken, where it will be.
     left: Option<usize>,
     hoard: Hoard,
 }
 
-impl Fixed {
-    /// A writer that takes no memory.
-    pub fn plain(alloc: Global) -> Result<Fixed, AllocError> {
-        Ok(Fixed {
-            bytes: [0; ROOM],
-            len: 0,
-            left: None,
+impl Taking {
+    pub fn new(alloc: Global, lines: usize) -> Result<Taking, AllocError> {
+        Ok(Taking {
+            sink: Sink::new(4096, Refusal::Never),
+            left: Some(lines),
             hoard: Hoard::new(alloc)?,
         })
     }
 
-    /// A writer that takes all memory behind so many lines; behind none at once.
-    pub fn taking(alloc: Global, lines: usize) -> Result<Fixed, AllocError> {
-        let mut fixed = Fixed::plain(alloc)?;
-        fixed.left = Some(lines);
-        fixed.come(0);
-        Ok(fixed)
-    }
-
     /// What was written.
     pub fn text(&self) -> &[u8] {
-        self.bytes.get(..self.len).unwrap_or(&[])
+        self.sink.text()
     }
 
     /// Whether plain blocks were refused when memory was taken.
@@ -101,27 +88,26 @@ impl Fixed {
         self.hoard.plain_refused()
     }
 
-    /// Counts lines that came, and takes memory where they were the last ones before.
-    fn come(&mut self, lines: usize) {
+    /// Counts a line that came, and takes memory where it was the last one before.
+    fn come(&mut self) {
         match self.left {
-            Some(left) if left <= lines => {
+            Some(left) if left <= 1 => {
                 self.hoard.take();
                 self.left = None;
             }
-            Some(left) => self.left = Some(left.saturating_sub(lines)),
+            Some(left) => self.left = Some(left - 1),
             None => {}
         }
     }
 }
 
-impl Write for Fixed {
+impl Write for Taking {
     fn write(&mut self, buf: &[u8]) -> io::Result<usize> {
-        let start = self.len.min(ROOM);
-        let n = buf.len().min(ROOM - start);
-        self.bytes[start..start + n].copy_from_slice(&buf[..n]);
-        self.len = start + n;
-        self.come(usize::from(buf.ends_with(b"\n")));
-        Ok(n)
+        let taken = self.sink.write(buf)?;
+        if buf.ends_with(b"\n") {
+            self.come();
+        }
+        Ok(taken)
     }
 
     fn flush(&mut self) -> io::Result<()> {
