@@ -3,7 +3,7 @@
 # make scenarios  runs every scenario and example with proved programs; proves what isn't up to date
 # make accept NAME..   keeps what comes back of these scenarios as what is wanted, and marks them unread
 # make build      proves the programs and leaves them in bin/
-# make bench      times runs of the programs on growing grammars, and of steps and undos; FILES="a.y b.y" adds grammar files to them
+# make bench      times whole runs of the programs, on growing grammars and over long parses; FILES="a.y b.y" adds grammar files to them
 # make refuse     refuses each allocation of the stepper in turn, on every example
 # make compare    compares the programs that make build left with plain machines in Python, on grammars drawn at random, for a minute
 # make test       the gate: every proof from nothing, the must-fail edits, the tests, the stored runs, the scenarios
@@ -26,9 +26,8 @@ scenarios: build
 build:
 	@sh examples/build.sh
 
-bench:
-	@sh bench/run.sh $(FILES)
-	@sh bench/steps.sh $(FILES)
+bench: build
+	@python3 bench/bench.py bin/yacc bin/ystep $(FILES)
 
 refuse:
 	@sh examples/refuse.sh

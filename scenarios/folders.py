@@ -65,7 +65,8 @@ def shared_with(folder, root):
 
 def words_of(text):
     """The words of a file, one a line."""
-    return text.decode(errors="surrogateescape").removesuffix("\n").split("\n")
+    words = text.decode(errors="surrogateescape").split("\n")
+    return words if words[-1] else words[:-1]
 
 
 def look_at_about(text):
@@ -82,7 +83,7 @@ def wanted_of(held, inputs):
     wanted = {"stdout": b"", "message": b"", "status": b"0\n"}
     wanted.update((f"left/{path}", text) for path, text in inputs.items())
     back = {path: it for path, it in held.items() if path in BACK or path.startswith("left/")}
-    return wanted | back
+    return {**wanted, **back}
 
 
 def read(folder, root, accepting):
@@ -94,7 +95,7 @@ def read(folder, root, accepting):
     if not accepting:
         look_at_about(held["about"])
     own = {path: it for path, it in held.items() if path.split("/")[0] not in OWN}
-    inputs = shared_with(folder, root) | own
+    inputs = {**shared_with(folder, root), **own}
     words = words_of(held["words"])
     return Scenario(folder, words, held.get("stdin", b""), inputs, wanted_of(held, inputs))
 

@@ -38,6 +38,7 @@ FAIL = {
     "blank-about": {**GOOD, "about": "\n"},
     "no-words": {"about": "One sentence.\n", "stdout": ""},
     "unknown-program": {**GOOD, "words": "q\n"},
+    "empty-words": {**GOOD, "words": ""},
     "absent-program": {**GOOD, "words": "absent\n"},
     "signal": {**GOOD, "stdin": "kill -9 $$\n"},
 }
@@ -70,7 +71,7 @@ def look(room):
     """Whether runs over the scenarios, over one, none, and an unknown one end as they should."""
     root, bare = room / "root", room / "bare"
     bare.mkdir()
-    lay(root, PASS | FAIL)
+    lay(root, {**PASS, **FAIL})
     (root / "group" / "shared").write_text("of both\n")
     (root / "linked").mkdir()
     (root / "linked" / "words").symlink_to(root / "silent" / "words")

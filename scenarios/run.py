@@ -81,8 +81,9 @@ class Run:
         """The scenario of a folder, where nothing is wrong with it."""
         try:
             scenario = read(folder, root, self.accepting)
-            if scenario.words[0] not in self.programs:
-                raise Fault(f"no program {scenario.words[0]} was given")
+            program = scenario.words[0] if scenario.words else ""
+            if program not in self.programs:
+                raise Fault(f"no program {program} was given")
             return scenario
         except Fault as fault:
             self.fail(folder, [f"{fault}\n"])
