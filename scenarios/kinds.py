@@ -73,8 +73,8 @@ def look(room):
     bare.mkdir()
     lay(root, {**PASS, **FAIL})
     (root / "group" / "shared").write_text("of both\n")
-    (root / "linked").mkdir()
-    (root / "linked" / "words").symlink_to(root / "silent" / "words")
+    lay(root, {"linked": GOOD})
+    (root / "linked" / "given").symlink_to(root / "silent" / "words")
     bad = sorted([*FAIL, "linked", "absent"])
     last = f"{len(PASS)} passed, {len(bad)} failed"
     ended = [tell("all", (bad, last), failed(root, f"absent={room}/absent"))]
