@@ -1,24 +1,33 @@
-# make demo      steps through one session, built without proving
-# make examples  runs every example: its session, its table and its report, compared with what is kept
-# make build     proves the programs and leaves them in bin/
-# make bench     times the phases of a run on growing grammars, then steps and undos; FILES="a.y b.y" adds grammar files to them
-# make refuse    refuses each allocation of the stepper in turn, on every example
-# make compare   compares the programs that make build left with plain machines in Python, on grammars drawn at random, for a minute
-# make test      the gate: every proof from nothing, the must-fail edits, the tests, the stored runs
-.PHONY: demo examples build bench refuse compare test
+# make demo       steps through one session, built without proving
+# make examples   runs every example, with the proved programs where they are up to date, and else built without proving
+# make scenarios  runs every scenario and example with proved programs; proves what isn't up to date
+# make accept NAME..   keeps what comes back of these scenarios as what is wanted, and marks them unread
+# make build      proves the programs and leaves them in bin/
+# make bench      times whole runs of the programs, on growing grammars and over long parses; FILES="a.y b.y" adds grammar files to them
+# make refuse     refuses each allocation of the stepper in turn, on every example
+# make compare    compares the programs that make build left with plain machines in Python, on grammars drawn at random, for a minute
+# make test       the gate: every proof from nothing, the must-fail edits, the tests, the stored runs, the scenarios
+.PHONY: demo examples scenarios accept build bench refuse compare test
+
+programs := $(foreach file,$(wildcard crates/*/src/main.rt),$(notdir $(file:/src/main.rt=)))
+run := python3 scenarios/run.py $(foreach name,$(programs),$(name)=crates/$(name)/out/$(name))
+both := --at scenarios --at examples
 
 demo:
-	@sh examples/run.sh statements
+	@sh examples/demo.sh statements
 
 examples:
-	@sh examples/run.sh
+	@python3 examples/trace.py
+	@$(run) --or-try --at examples
+
+scenarios: build
+	@$(run) $(both)
 
 build:
 	@sh examples/build.sh
 
-bench:
-	@sh bench/run.sh $(FILES)
-	@sh bench/steps.sh $(FILES)
+bench: build
+	@python3 bench/bench.py bin/yacc bin/ystep $(FILES)
 
 refuse:
 	@sh examples/refuse.sh
@@ -27,4 +36,13 @@ compare:
 	@python3 compare/compare.py bin/yacc bin/ystep
 
 test:
-	@rt ci
+	@python3 scripts/gate.py scripts/rings.py scenarios/kinds.py examples/trace.py -- $(run) $(both)
+
+# The names of scenarios stand behind `accept` as goals of their own.
+ifeq (accept,$(firstword $(MAKECMDGOALS)))
+names := $(wordlist 2,99,$(MAKECMDGOALS))
+.PHONY: $(names)
+$(names): ;
+accept:
+	@$(run) --or-try --accept $(both) $(names)
+endif

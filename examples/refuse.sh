@@ -37,7 +37,7 @@ cc -shared -fPIC -o "$work/refuse.so" "$work/refuse.c" -ldl
 # One run, with the Nth call refused (0: none).
 run() {
   status=0
-  REFUSE=$2 LD_PRELOAD="$work/refuse.so" "$top/bin/ystep" "$1/grammar.y" "$1/tokens" < "$1/commands" \
+  REFUSE=$2 LD_PRELOAD="$work/refuse.so" "$top/bin/ystep" "$1/grammar.y" "$1/tokens" < "$1/session/stdin" \
     > "$work/replies" 2> "$work/messages" || status=$?
 }
 
@@ -50,7 +50,7 @@ for example in "$top"/examples/*/; do
     run "$example" "$n"
     if [ "$status" = 3 ] && [ ! -s "$work/replies" ] && [ "$(cat "$work/messages")" = "ystep: no memory" ]; then
       refusals=$((refusals + 1))
-    elif [ "$status" = 0 ] && [ ! -s "$work/messages" ] && cmp -s "$work/replies" "$example/replies"; then
+    elif [ "$status" = 0 ] && [ ! -s "$work/messages" ] && cmp -s "$work/replies" "$example/session/stdout"; then
       usual=$((usual + 1))
     elif [ "$status" = 0 ] && [ ! -s "$work/messages" ] && grep -q '^no memory$' "$work/replies"; then
       steps=$((steps + 1))

@@ -1,0 +1,116 @@
+#!/usr/bin/env python3
+"""Times whole runs of `yacc` and `ystep`, and of byacc and bison beside them where they are there.
+
+    bench.py YACC YSTEP [FILE..]
+
+The grammars are those of bench/grammars, each at two sizes, and the files that are named. Each
+time is the least of three runs by the clock, each peak the most of them. A peak that this script's
+own memory hides is given as `under` that.
+"""
+import os
+import resource
+import shutil
+import subprocess
+import sys
+import tempfile
+import time
+from pathlib import Path
+
+HERE = Path(__file__).resolve().parent
+ENDLESS = "%left 'x' %left HI %% s : e s | 'x' ; e : %prec HI ;\n"
+STEPS = (2_000, 10_000, 100_000, 1_000_000)
+
+
+def run(words, room, commands, out, errors):
+    """The seconds and the peak, in kilobytes, of one run in a folder."""
+    files = {"stdin": open(commands), "stdout": open(out, "wb"), "stderr": open(errors, "wb")}
+    start = time.perf_counter()
+    process = subprocess.Popen(words, cwd=room, **files)
+    _, status, usage = os.wait4(process.pid, 0)
+    taken = time.perf_counter() - start
+    process.returncode = os.waitstatus_to_exitcode(status)
+    for file in files.values():
+        file.close()
+    if process.returncode:
+        sys.exit(f"{words}: status {process.returncode}")
+    return taken, usage.ru_maxrss
+
+
+def timed(words, room, commands=os.devnull, out=os.devnull, errors=os.devnull):
+    """The least time and the peak of three runs, as text."""
+    runs = [run(words, room, commands, out, errors) for _ in range(3)]
+    own = resource.getrusage(resource.RUSAGE_SELF).ru_maxrss
+    peak = max(peak for _, peak in runs)
+    shown = f"at most {peak / 1024:.1f} MB" if peak > own else f"under {own / 1024:.0f} MB"
+    return f"{min(taken for taken, _ in runs) * 1000:.1f} ms, {shown}"
+
+
+def tell_tables(yacc, file, room):
+    """Times what makes the tables of a grammar file."""
+    print(f"yacc: {timed([yacc, file], room)}")
+    print(f"yacc -v: {timed([yacc, '-v', file], room)}")
+    for words in (["byacc", "-v"], ["bison", "-y", "-v"]):
+        if shutil.which(words[0]):
+            print(f"{' '.join(words)}: {timed([*words, file], room)}")
+
+
+def tell_all_tables(yacc, files, room):
+    for line in (HERE / "grammars").read_text().splitlines():
+        kind, *sizes = line.split()
+        for size in sizes:
+            words = [sys.executable, HERE / "grammar.py", kind, size]
+            (room / "grammar.y").write_bytes(subprocess.check_output(words))
+            print(f"--- {kind} {size}", flush=True)
+            tell_tables(yacc, "grammar.y", room)
+    for file in files:
+        print(f"--- {file.name}", flush=True)
+        tell_tables(yacc, file, room)
+
+
+def tell_steps(ystep, grammar, tokens, steps, room):
+    """Times steps forward, and forward and back, with the replies written to a file."""
+    for what, commands in (("forward", "run {0}\n"), ("forward and back", "run {0}\nback {0}\n")):
+        (room / "commands").write_text(commands.format(steps))
+        words = [ystep, grammar, tokens]
+        told = timed(words, room, room / "commands", room / "replies")
+        print(f"ystep, {steps} steps {what}: {told}", flush=True)
+
+
+def tell_byacc(grammar, tokens, room):
+    """Times the parser that byacc makes of the grammar, over the same tokens."""
+    made = ["byacc", "-t", "-d", "-b", "byacc", grammar]
+    subprocess.run(made, cwd=room, check=True, stderr=subprocess.DEVNULL)
+    traced = [sys.executable, HERE / "traced.py", tokens, "byacc.tab.h", "numbers"]
+    subprocess.run(traced, cwd=room, check=True)
+    parser = ["cc", "-O2", "-w", "-DYYMAXDEPTH=1000000", '-DPARSER="byacc.tab.c"', "-I."]
+    subprocess.run([*parser, "-o", "parser", HERE / "traced.c"], cwd=room, check=True)
+    for what, trace in (("trace to a file", "1"), ("no trace", "0")):
+        told = timed(["./parser", "numbers", trace], room, errors=room / "trace")
+        print(f"byacc, {what}: {told}", flush=True)
+
+
+def tell_all_steps(ystep, files, room):
+    (room / "endless.y").write_text(ENDLESS)
+    (room / "endless.tokens").write_text("'x'\n")
+    cases = [(room / "endless.y", room / "endless.tokens")]
+    for file in files:
+        words = [sys.executable, HERE / "tokens.py", file, "330000"]
+        (room / f"{file.name}.tokens").write_bytes(subprocess.check_output(words))
+        cases.append((file, room / f"{file.name}.tokens"))
+    for grammar, tokens in cases:
+        print(f"--- {grammar.name}, a parse", flush=True)
+        for steps in STEPS:
+            tell_steps(ystep, grammar, tokens, steps, room)
+        if shutil.which("byacc") and shutil.which("cc"):
+            tell_byacc(grammar, tokens, room)
+
+
+def main():
+    yacc, ystep, *files = (Path(word).resolve() for word in sys.argv[1:])
+    with tempfile.TemporaryDirectory() as room:
+        tell_all_tables(yacc, files, Path(room))
+        tell_all_steps(ystep, files, Path(room))
+
+
+if __name__ == "__main__":
+    main()

@@ -1,0 +1,1 @@
+%token NUM %left '+' %left '*' %% e : e '+' e | e '*' e | NUM ;
