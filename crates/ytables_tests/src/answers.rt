@@ -2,18 +2,17 @@
 //! is 1, and the tokens of a file follow from 2.
 
 use crate::asked::{action, default};
-use crate::grammars::{DANGLING, ENDLESS, ITSELF, LINES, MERGED, ONE, RECOVERS};
+use crate::grammars::{ENDLESS, ITSELF, LINES, MERGED, ONE, RECOVERS};
 use std::test::Fail;
 use ytables::Action::{self, Accept, Error, Reduce, Shift};
 
 #[test]
 fn cells(rt: HostRuntime) -> Result<(), Fail> {
-    let cells: [(&[u8], usize, usize, Action); 12] = [
+    let cells: [(&[u8], usize, usize, Action); 10] = [
         (ONE, 0, 2, Shift(1)),
         (ONE, 0, 0, Error),
         (ONE, 0, 1, Error),
         (ONE, 2, 0, Accept),
-        (ONE, 2, 2, Error),
         // a state with a default rule reduces at every token, `error` and the end among them
         (ONE, 1, 0, Reduce(1)),
         (ONE, 1, 1, Reduce(1)),
@@ -21,7 +20,6 @@ fn cells(rt: HostRuntime) -> Result<(), Fail> {
         (MERGED, 4, 2, Reduce(5)),
         (RECOVERS, 1, 2, Reduce(2)),
         (RECOVERS, 0, 1, Shift(1)),
-        (DANGLING, 4, 3, Shift(5)),
     ];
     for (grammar, q, t, wanted) in cells {
         assert_eq!(rt; action(rt.alloc(), grammar, q, t)?, Some(wanted));

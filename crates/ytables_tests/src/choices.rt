@@ -46,8 +46,7 @@ fn choices(rt: HostRuntime) -> Result<(), Fail> {
 
 /// A symbol with so many empty rules and one more.
 fn bars(alloc: Global, count: usize) -> Result<Vec<u8>, AllocError> {
-    let mut text = Vec::with_capacity(alloc, 10_000)?;
-    text.extend_from_slice(b"%% s :")?;
+    let mut text = Vec::from_slice(alloc, b"%% s :")?;
     for _ in 0..count {
         text.push(b'|')?;
     }
