@@ -9,8 +9,6 @@ mod asked;
 #[cfg(test)]
 mod choices;
 #[cfg(test)]
-mod drip;
-#[cfg(test)]
 mod grammars;
 #[cfg(test)]
 mod writers;
