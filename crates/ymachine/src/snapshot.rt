@@ -26,7 +26,7 @@ use ytables::Tables;
 /// What a step has changed: its kind, and all that the parse held before it.
 #[derive(Drop)]
 pub struct SnapshotChange {
-    pub(crate) kind: StepKind,
+    pub kind: StepKind,
     pub(crate) earlier: Parts,
 }
 
