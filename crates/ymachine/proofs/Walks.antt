@@ -11,7 +11,7 @@ use Rattle.ylink.proofs.Sent.{Sends-then, Sends-stop, Sends-none}
 use Rattle.ymachine.specs.declared.parts.StackEntry.{StackEntry}
 use Rattle.ymachine.specs.declared.parts.Node.{Node}
 use Rattle.ymachine.specs.declared.parts.Node.TheVariants as nodes
-use Rattle.ymachine.specs.declared.walk.Frame.{Frame}
+use Rattle.ymachine.specs.declared.parts.Frame.{Frame}
 use Rattle.ymachine.specs.Tree.{Tree, error_leaf}
 use Rattle.ymachine.specs.Machine.{Machine}
 use Rattle.ymachine.specs.Content.{entry, all_below, node_fits, nodes_fit, node_tree, tree_over}

@@ -4,7 +4,7 @@ use Rattle.std.specs.Prelude.{take, drop, map, decimal, codes}
 use Rattle.ymachine.specs.declared.parts.StackEntry.{StackEntry}
 use Rattle.ymachine.specs.declared.parts.Node.{Node}
 use Rattle.ymachine.specs.declared.parts.Node.TheVariants as nodes
-use Rattle.ymachine.specs.declared.walk.Frame.{Frame}
+use Rattle.ymachine.specs.declared.parts.Frame.{Frame}
 use Rattle.ymachine.specs.Tree.{Tree, trees_of}
 use Rattle.ymachine.specs.Machine.{Machine}
 use Rattle.ymachine.specs.Content.{node_tree, all_below}

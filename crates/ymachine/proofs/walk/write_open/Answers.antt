@@ -3,7 +3,7 @@ use Rattle.std.proofs.Common.{sym}
 use Rattle.std.proofs.Common.{subst, ◌∙◌, append_assoc, arith}
 use Rattle.std.proofs.lemmas.Grind.{common_steps}
 use Rattle.ylink.proofs.Sent.{Sends-then}
-use Rattle.ymachine.specs.declared.walk.Frame.{Frame}
+use Rattle.ymachine.specs.declared.parts.Frame.{Frame}
 use Rattle.ymachine.specs.MachineOver.{machine_over}
 use Rattle.ymachine.specs.Content.{trees_over}
 use Rattle.ymachine.specs.Walk.{frame, head_text, frames_of, open_text, frames_fit}

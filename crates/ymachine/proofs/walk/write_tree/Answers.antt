@@ -4,7 +4,7 @@ use Rattle.ylink.specs.Sends.{Sends}
 use Rattle.ylink.proofs.Sent.{Sends-then, Sends-stop, Sends-none}
 use Rattle.ymachine.specs.declared.parts.Node.{Node}
 use Rattle.ymachine.specs.declared.parts.Node.TheVariants as nodes
-use Rattle.ymachine.specs.declared.walk.Frame.{Frame}
+use Rattle.ymachine.specs.declared.parts.Frame.{Frame}
 use Rattle.ymachine.specs.MachineOver.{machine_over}
 use Rattle.ymachine.specs.Content.{trees_over}
 use Rattle.ymachine.specs.Walk.{frames_of, open_text, frames_fit}
