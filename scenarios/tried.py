@@ -89,7 +89,10 @@ def try_in(room, scenarios, crate):
 def try_all(scenarios, program):
     """What comes back of the scenarios of one program, CRATE/out/NAME."""
     with tempfile.TemporaryDirectory() as room:
-        return try_in(room, scenarios, Path(program).parent.parent)
+        try:
+            return try_in(room, scenarios, Path(program).parent.parent)
+        except OSError as error:
+            return [Fault(f"rt try does not start: {error}") for _ in scenarios]
 
 
 def run_all(scenarios, programs):

@@ -95,7 +95,7 @@ impl Taking {
                 self.hoard.take();
                 self.left = None;
             }
-            Some(left) => self.left = Some(left - 1),
+            Some(left) => self.left = Some(left.saturating_sub(1)),
             None => {}
         }
     }
