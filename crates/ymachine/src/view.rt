@@ -1,6 +1,6 @@
 //! A configuration as callers see it.
 
-ghost use Rattle.std.specs.Prelude.{◌≡◌, ◌<◌, length, slice_index, slice_index_or};
+ghost use Rattle.std.specs.Prelude.{◌≡◌, ◌<◌, ◌^◌, length, slice_index, slice_index_or};
 ghost use Rattle.ymachine.specs.Content.{configuration_in};
 ghost use Rattle.ymachine.specs.Machine.{symbols};
 ghost use Rattle.ymachine.specs.Parts.{content_of};
@@ -31,7 +31,8 @@ impl<'a> View<'a> {
     /// How many symbols the stack has.
     #[tactic(auto, unfolding(crate::specs::View::configuration_by))]
     pub fn stack_len(&self) -> usize
-        ensures { result ≡ length (configuration_by self.now).stack }
+        ensures value { result ≡ length (configuration_by self.now).stack }
+        ensures few { result < 2 ^ 63 }
     {
         self.parts.stack.len()
     }

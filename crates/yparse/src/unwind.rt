@@ -135,7 +135,6 @@ impl Session {
     ghost use Rattle.ymachine.specs.declared.machine.Mode.TheVariants.{Accepted};
 
     /// How many symbols the form has: those of the stack, and the tokens that were shifted later.
-    #[tactic(auto, unfolding(crate::specs::Session::history_of))]
     fn form_len(&self) -> usize
         ensures { result ≡ length (form_of (history_of self.now).now (later_of self.now)) }
     {

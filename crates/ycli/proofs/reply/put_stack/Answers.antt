@@ -15,7 +15,7 @@ returns-in_err-put_name g c =
     let symbol : c.stack.result ≡ get_or stack c.loop-index.index 0 = c.stack.ensures
     ∙ ap (λ (d : Configuration). get_or (symbols d.stack) c.loop-index.index 0) c.view-view.ensures
     in
-    let count : c.stack_len-index-end.result ≡ length stack = c.stack_len-index-end.ensures
+    let count : c.stack_len-index-end.result ≡ length stack = c.stack_len-index-end.ensures.value
     ∙ ap (λ (d : Configuration). length d.stack) c.view-view.ensures
     ∙ sym (length-map (history_of c.args.session.now).now.stack (λ (e : Entry). e.symbol)) in
     let cut : Sends w c.loop-index.writer c.put_name.new.writer false
