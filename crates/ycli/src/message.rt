@@ -12,8 +12,8 @@ use crate::stepper::StepperFault;
 use std::io::{self, Write};
 use ygrammar::GrammarFault;
 use ylalr::BuildFault;
-use yparse::TokenFault;
 use ylink::put::{put, put_all};
+use yparse::TokenFault;
 use ytables::{Counts, Link};
 
 /// One of the programs.

@@ -16,8 +16,8 @@ use clap::error::ErrorKind;
 use std::alloc::Global;
 use std::io::{Read, Write};
 use std::rt::Files;
-use yparse::Session;
 use ylink::put::put;
+use yparse::Session;
 use ytables::{Link, Tables};
 
 /// What the words of a program ask for.

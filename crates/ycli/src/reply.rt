@@ -16,10 +16,10 @@ ghost use Rattle.ycli.specs.Reply.{Answers, edit_text};
 use crate::command::Command;
 use std::io::Write;
 use ygrammar::Sym;
+use ylink::put::{put, put_all};
 use yparse::Session;
 use yparse::machine::{AtStart, Mode, StepFault, StepKind, UnwindFault};
 use ytables::Link;
-use ylink::put::{put, put_all};
 
 /// The words of a step or an edit.
 fn kind_word(kind: StepKind) -> &'static [u8]

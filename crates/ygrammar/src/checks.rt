@@ -12,11 +12,11 @@ ghost use Rattle.ygrammar.specs.Outline.{start_view};
 ghost use Rattle.ysyntax.specs.TreeViews.{identifier_view, occurrence_view, name_view};
 ghost use Rattle.ysymbols.specs.Sources.{option_view};
 
+use crate::identifiers::{is_named, number_of};
+use crate::outline::Started;
 use ysymbols::Rule;
 use ysymbols::limits::LONGEST_BODY;
-use crate::identifiers::{is_named, number_of};
 use ysymbols::names::{SymbolTable, is_among};
-use crate::outline::Started;
 use ysyntax::tree::{Identifier, NameAt, Occurrence};
 
 /// The first of some names that is a token.

@@ -16,24 +16,23 @@ ghost use Rattle.ygrammar.specs.Outline.{Outlines};
 ghost use Rattle.ysyntax.specs.TreeViews.{name_view, tree_view};
 ghost use Rattle.ysymbols.specs.Sources.{option_view};
 
-use ysymbols::{Grammar, Rule};
 use crate::given::precedences;
 use crate::holders::{OwnTable, own_table};
 use crate::mistake::{Mistake, Refused};
-use ysymbols::names::{SymbolTable, number_in};
 use crate::numbers::numbers;
 use crate::outline::Outline;
-use ysymbols::productive::productive;
-use ysymbols::reachable::reachable;
 use crate::refusals::{
     refuse_limit, refuse_prec, refuse_start, refuse_token_left, refuse_undefined,
 };
 use crate::rules::{intern_nonterminals, kept_texts, number_rules};
-use ysymbols::texts::Texts;
 use crate::tokens::tokens;
-use ysymbols::Precedence;
-use ysyntax::tree::{NameAt, Tree};
 use std::alloc::{AllocError, Global};
+use ysymbols::names::{SymbolTable, number_in};
+use ysymbols::productive::productive;
+use ysymbols::reachable::reachable;
+use ysymbols::texts::Texts;
+use ysymbols::{Grammar, Precedence, Rule};
+use ysyntax::tree::{NameAt, Tree};
 
 /// The symbols by number, the tokens first, and what is given to the tokens.
 #[derive(Drop)]

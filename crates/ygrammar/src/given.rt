@@ -16,14 +16,14 @@ ghost use Rattle.ysymbols.specs.NameTexts.{texts};
 ghost use Rattle.ygrammar.specs.Outline.{Outlines, listed_view};
 ghost use Rattle.ygrammar.specs.Told.{TellsPrecedences};
 
-use ysymbols::limits::GREATEST_NUMBER;
-use crate::mistake::{Mistake, Refused};
 use crate::identifiers::number_of;
-use ysymbols::names::{SymbolTable, number_in};
+use crate::mistake::{Mistake, Refused};
 use crate::outline::{Listed, Outline};
-use ysymbols::Precedence;
-use ysyntax::tree::{Identifier, Occurrence};
 use std::alloc::{AllocError, Global};
+use ysymbols::Precedence;
+use ysymbols::limits::GREATEST_NUMBER;
+use ysymbols::names::{SymbolTable, number_in};
+use ysyntax::tree::{Identifier, Occurrence};
 
 /// The precedences of the tokens by number.
 fn told_precedences(

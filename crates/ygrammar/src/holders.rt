@@ -11,13 +11,13 @@ ghost use Rattle.ygrammar.specs.Owned.{AllSmall, Owns};
 ghost use Rattle.ysyntax.specs.Tree.{Tree as TreeOf};
 ghost use Rattle.ygrammar.specs.declared.holders.Holders.TheVariants.{Nobody, Several};
 
-use ysymbols::limits::NUMBERS;
 use crate::given::{fit_number, given_numbers, own_numbers};
-use crate::mistake::{Mistake, Refused};
 use crate::identifiers::number_of;
-use ysymbols::names::SymbolTable;
+use crate::mistake::{Mistake, Refused};
 use crate::outline::{Listed, Outline};
 use std::alloc::{AllocError, Global};
+use ysymbols::limits::NUMBERS;
+use ysymbols::names::SymbolTable;
 
 /// The tokens that hold a number.
 #[derive(Clone, Copy, Debug, Drop)]

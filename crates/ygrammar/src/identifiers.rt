@@ -6,9 +6,9 @@ ghost use Rattle.ysymbols.specs.NameTexts.{texts};
 ghost use Rattle.ygrammar.specs.Printed.{printed_name};
 ghost use Rattle.ysyntax.specs.TreeViews.{identifier_view};
 
+use std::alloc::{AllocError, Global};
 use ysymbols::names::{Printed, SymbolTable, intern, is_among, number_in};
 use ysyntax::tree::Identifier;
-use std::alloc::{AllocError, Global};
 
 /// The number of a name or literal, or how many names there are, where it isn't there.
 pub fn number_of(names: &SymbolTable, who: Identifier) -> usize

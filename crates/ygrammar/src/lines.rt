@@ -4,8 +4,8 @@ ghost use Rattle.std.specs.Prelude.{◌≡◌};
 ghost use Rattle.ygrammar.specs.Faults.{IsRefusal, line_of};
 ghost use Rattle.ygrammar.specs.GrammarOf.{mistake_at};
 
-use ysyntax::fault::GrammarFault;
 use crate::mistake::{Mistake, Refused};
+use ysyntax::fault::GrammarFault;
 
 impl Mistake {
     /// The fault of a file, on a line.

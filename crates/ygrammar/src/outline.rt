@@ -14,11 +14,11 @@ ghost use Rattle.ysyntax.specs.TreeViews.{occurrence_view, name_view, tree_view}
 ghost use Rattle.ysymbols.specs.Sources.{option_view};
 ghost use Rattle.ysyntax.specs.TreeViews.{word_view};
 
+use std::alloc::{AllocError, Global};
 use ysymbols::{Associativity, Precedence};
 use ysyntax::tree::{
     BodyPart, Definition, Digits, Entry, NameAt, Occurrence, RuleText, Tree, Word,
 };
-use std::alloc::{AllocError, Global};
 
 /// A token that a line lists: the precedence that the line gives, and the digits behind the token.
 #[derive(Clone, Copy, Debug, Drop)]

@@ -8,12 +8,12 @@ ghost use Rattle.ygrammar.specs.GrammarOf.{GivesGrammar, IsFaultOf, IsGrammarOf,
 ghost use Rattle.ygrammar.specs.GrammarOf.{IsRefused};
 ghost use Rattle.ygrammar.specs.declared.mistake.Mistake.{Mistake};
 
-use ysyntax::fault::GrammarFault;
-use ysymbols::Grammar;
-use ysyntax::lexer::read_syntax;
 use crate::elaboration::elaborate;
-use ysyntax::tree_builder::build_tree;
 use std::alloc::Global;
+use ysymbols::Grammar;
+use ysyntax::fault::GrammarFault;
+use ysyntax::lexer::read_syntax;
+use ysyntax::tree_builder::build_tree;
 
 /// The grammar of a grammar file, or the file's first fault (POSIX yacc, "Input Files" and
 /// "Extended Description").

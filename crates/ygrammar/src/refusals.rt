@@ -12,14 +12,14 @@ ghost use Rattle.ygrammar.specs.declared.mistake.Mistake.TheVariants.{BadPrec, B
 ghost use Rattle.ygrammar.specs.declared.mistake.Mistake.TheVariants.{Limit};
 ghost use Rattle.ygrammar.specs.declared.mistake.Mistake.TheVariants.{TokenLeft, Undefined};
 
-use ysymbols::Rule;
-use ysymbols::limits::{MOST_RULES, MOST_SYMBOLS};
 use crate::checks::{
     any_long, bad_start, first_nonterminal, first_token, first_undefined, first_unknown,
 };
 use crate::mistake::{Mistake, Refused};
-use ysymbols::names::SymbolTable;
 use crate::outline::Outline;
+use ysymbols::Rule;
+use ysymbols::limits::{MOST_RULES, MOST_SYMBOLS};
+use ysymbols::names::SymbolTable;
 
 /// A token that is a left side, or is named by `%type`.
 pub fn refuse_token_left(outline: &Outline, tokens: &SymbolTable) -> Result<(), Refused>

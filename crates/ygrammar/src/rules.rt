@@ -20,15 +20,14 @@ ghost use Rattle.ysyntax.specs.TreeViews.{occurrence_view};
 ghost use Rattle.ysyntax.specs.TreeViews.{name_view, tree_view};
 ghost use Rattle.ysymbols.specs.Sources.{option_view};
 
-use ysymbols::{Rule, Sym};
 use crate::identifiers::number_of;
-use ysymbols::names::{SymbolTable, intern, number_in};
 use crate::outline::{Outline, Started};
-use ysymbols::texts::{Span, Texts};
-use ysymbols::Precedence;
-use ysyntax::tree::{BodyPart, BracedText, NameAt, Occurrence, RuleText, Tree};
 use itoa::Buffer;
 use std::alloc::{AllocError, Global};
+use ysymbols::names::{SymbolTable, intern, number_in};
+use ysymbols::texts::{Span, Texts};
+use ysymbols::{Precedence, Rule, Sym};
+use ysyntax::tree::{BodyPart, BracedText, NameAt, Occurrence, RuleText, Tree};
 
 /// The name of the nonterminal of the k-th inner action.
 fn inner_name(alloc: Global, k: usize) -> Result<Vec<u8>, AllocError>

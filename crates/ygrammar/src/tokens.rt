@@ -9,11 +9,11 @@ ghost use Rattle.ygrammar.specs.Outline.{listed_view};
 ghost use Rattle.ysyntax.specs.TreeViews.{occurrence_view};
 
 use crate::identifiers::{intern_identifier, is_named};
-use ysymbols::names::{SymbolTable, intern};
 use crate::outline::{Listed, Outline};
-use ysyntax::tree::{Identifier, Occurrence};
 use indexmap::IndexSet;
 use std::alloc::{AllocError, Global};
+use ysymbols::names::{SymbolTable, intern};
+use ysyntax::tree::{Identifier, Occurrence};
 
 /// The end and `error`, which every grammar has.
 fn first_tokens(alloc: Global) -> Result<SymbolTable, AllocError>

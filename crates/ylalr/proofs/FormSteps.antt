@@ -5,7 +5,6 @@ use Rattle.std.specs.List.{All}
 use Rattle.yrows.specs.Marks.{Has}
 use Rattle.yrows.specs.Rows.{BitRows, Holds, AddsFrom}
 use Rattle.ylalr.specs.Looks.{FormHas}
-use Rattle.ylalr.proofs.FrontSteps.{unmarked_end}
 
 order : (j k : ℕ) → (j < k) ⊎ ((j ≡ k) ⊎ (k < j))
 order j k = grind arith

@@ -12,12 +12,12 @@ ghost use Rattle.ylalr.specs.declared.fault.BuildFault.{BuildFault};
 use crate::collection::all_states;
 use crate::fault::BuildFault;
 use crate::first::{first_tokens, nullable_symbols};
+use crate::item_rows::ItemRows;
 use crate::items::Item;
 use crate::looks::{Lr0, all_looks, has_look};
-use crate::item_rows::ItemRows;
-use yrows::rows::Rows;
 use std::alloc::Global;
 use std::marker::Model;
+use yrows::rows::Rows;
 use ysymbols::{Grammar, Sym};
 
 /// A grammar with its canonical collection of sets of items and their merged lookaheads.

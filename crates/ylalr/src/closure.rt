@@ -7,9 +7,9 @@ ghost use Rattle.ylalr.specs.Sets.{AreFirstRules, HasRules, Wants, IsClosure, Is
 ghost use Rattle.ylalr.specs.Sets.{AddsFirst, IsMerged};
 
 use crate::items::{Item, symbol_after};
+use std::alloc::{AllocError, Global};
 use yrows::list::Sequence;
 use yrows::rows::Rows;
-use std::alloc::{AllocError, Global};
 use ysymbols::Grammar;
 
 /// Sets the row of rules that the kernel's items lead to.

@@ -14,10 +14,10 @@ use crate::fault::BuildFault;
 use crate::first_rules::first_rules;
 use crate::gotos::{Goto, Gotos};
 use crate::items::Item;
-use yrows::list::Sequence;
-use yrows::rows::Rows;
 use crate::states::{Kernel, MOST_STATES, States};
 use std::alloc::{AllocError, Global};
+use yrows::list::Sequence;
+use yrows::rows::Rows;
 use ysymbols::Grammar;
 
 /// The states so far, and what finds more: the rules that each symbol leads to, and a row of

@@ -7,11 +7,11 @@ ghost use Rattle.ylalr.specs.Fronts.{HasEach};
 ghost use Rattle.yrows.specs.Rows.{IsSized};
 
 use crate::fronts::front_links;
+use crate::tokens::token_count;
+use std::alloc::{AllocError, Global};
 use yrows::marks::Marks;
 use yrows::rows::Rows;
 use yrows::spread::spread;
-use crate::tokens::token_count;
-use std::alloc::{AllocError, Global};
 use ysymbols::Grammar;
 
 /// The symbols that derive the empty form.

@@ -7,10 +7,10 @@ ghost use Rattle.ylalr.specs.Fronts.{HasEach};
 ghost use Rattle.ylalr.specs.Sets.{AreFirstRules, HasRules};
 
 use crate::fronts::front_links;
+use std::alloc::{AllocError, Global};
 use yrows::marks::Marks;
 use yrows::rows::Rows;
 use yrows::spread::spread;
-use std::alloc::{AllocError, Global};
 use ysymbols::Grammar;
 
 /// Rows in which each left side has its own rules.

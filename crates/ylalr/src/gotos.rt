@@ -3,9 +3,9 @@
 ghost use Rattle.std.specs.Prelude.{◌≡◌, ◌<◌, ◌++◌, [], ◌∷◌, length, slice_index_or, OnOk};
 ghost use Rattle.ylalr.specs.Gotos.{lookup, goto_of, IsAscendingRow};
 
-use yrows::list::Sequence;
 use std::alloc::{AllocError, Global};
 use std::marker::Model;
+use yrows::list::Sequence;
 use ysymbols::Sym;
 
 /// Over this symbol to this state.

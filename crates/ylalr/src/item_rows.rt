@@ -9,10 +9,10 @@ ghost use Rattle.ylalr.specs.States.{AreStates, set_at};
 
 use crate::items::{Item, find};
 use crate::lefts::Lefts;
-use yrows::list::Sequence;
 use crate::states::States;
 use std::alloc::{AllocError, Global};
 use std::marker::Model;
+use yrows::list::Sequence;
 use ysymbols::Grammar;
 
 /// The rows of the items of each state, and how many rows there are.

@@ -8,9 +8,9 @@ ghost use Rattle.ylalr.specs.ItemRows.{AreLefts, AreRows, TakesRow};
 ghost use Rattle.ylalr.specs.Sets.{InRange};
 
 use crate::items::Item;
-use yrows::rows::Rows;
 use std::alloc::{AllocError, Global};
 use std::marker::Model;
+use yrows::rows::Rows;
 use ysymbols::{Grammar, Sym};
 
 /// For each symbol the row of the items that it is the left side of, and a row of bits with all

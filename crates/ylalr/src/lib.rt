@@ -36,10 +36,10 @@ mod first;
 mod first_rules;
 mod fronts;
 mod gotos;
+mod item_rows;
 mod items;
 mod lefts;
 mod looks;
-mod item_rows;
 mod states;
 mod tokens;
 

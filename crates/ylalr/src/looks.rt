@@ -12,17 +12,17 @@ ghost use Rattle.yrows.specs.Rows.{Grows, IsSized};
 ghost use Rattle.ylalr.specs.States.{set_at};
 
 use crate::gotos::Gotos;
+use crate::item_rows::{ItemRows, item_row};
 use crate::items::{Item, form_after, moves_over, symbol_after};
 use crate::lefts::Lefts;
-use yrows::links::Links;
-use yrows::marks::Marks;
-use crate::item_rows::{ItemRows, item_row};
-use yrows::rows::Rows;
-use yrows::spread::spread;
 use crate::states::States;
 use crate::tokens::{END, token_count};
 use std::alloc::{AllocError, Global};
 use std::marker::Model;
+use yrows::links::Links;
+use yrows::marks::Marks;
+use yrows::rows::Rows;
+use yrows::spread::spread;
 use ysymbols::{Grammar, Sym};
 
 /// The LR(0) automaton of a grammar, and what its lookaheads are made from beside it.
@@ -151,12 +151,7 @@ fn visit(lr0: &Lr0, lefts: &Lefts, here: Here, draft: &mut Draft) -> Result<(), 
 }
 
 /// Both rules from each item of a state.
-fn visit_state(
-    lr0: &Lr0,
-    lefts: &mut Lefts,
-    q: usize,
-    draft: &mut Draft,
-) -> Result<(), AllocError>
+fn visit_state(lr0: &Lr0, lefts: &mut Lefts, q: usize, draft: &mut Draft) -> Result<(), AllocError>
     requires fit { FitLr0 lr0.now }
     requires state { q < length lr0.now.states.closures }
     requires lefts { length lefts.old ≡ lr0.now.grammar.bare.symbols }

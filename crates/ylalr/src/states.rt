@@ -4,11 +4,11 @@ ghost use Rattle.std.specs.Prelude.{◌≡◌, ◌<◌, length, IfOk, OnOk, IfSo
 ghost use Rattle.ylalr.specs.States.{IsFresh, HasKernel, set_at, with_state};
 
 use crate::items::Item;
-use yrows::list::Sequence;
 use indexmap::IndexSet;
 use smallvec::SmallVec;
 use std::alloc::{AllocError, Global};
 use std::marker::Model;
+use yrows::list::Sequence;
 
 /// How many states there may be.
 pub const MOST_STATES: usize = 16_384;

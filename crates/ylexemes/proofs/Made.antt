@@ -31,7 +31,7 @@ use Rattle.ylexemes.proofs.Literals.{short_begins}
 use Rattle.ylexemes.proofs.KeptTexts.{braced_found, braced_spelled}
 use Rattle.ylexemes.proofs.Parts.{Class, blanks, digits, slashes, letters, quotes, percents, braces}
 use Rattle.ylexemes.proofs.Parts.{signs, others, class, is_sign, is_word, lexeme_class, class_of}
-use Rattle.ylexemes.proofs.Parts.{one_class, class_at, no_blank_lexeme, no_slash_lexeme}
+use Rattle.ylexemes.proofs.Parts.{one_class, class_at, no_slash_lexeme}
 
 -- ---- lexemes by class
 

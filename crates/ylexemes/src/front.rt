@@ -10,10 +10,10 @@ use crate::bytes::{
     after_gap, after_pair, after_text, digit_run, is_blank, is_digit, is_name_start, name_run,
 };
 use crate::kept::braced_at;
+use crate::kind::Sign;
 use crate::literal::read_literal;
 use crate::part::{Lexeme, LexicalFault, Part};
 use crate::percent::percent_at;
-use crate::kind::Sign;
 
 fn number_at<'a>(bytes: &'a [u8]) -> Result<(Part<'a>, &'a [u8]), LexicalFault>
     requires { begins_digit bytes.now ≡ true }

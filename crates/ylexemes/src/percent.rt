@@ -4,8 +4,8 @@ ghost use Rattle.std.specs.Prelude.{◌≡◌, ◌++◌, true, codes, List, ℕ}
 ghost use Rattle.ylexemes.specs.Views.{Reads, begins_percent, word_of};
 
 use crate::bytes::{after_pair, after_text, name_run};
-use crate::part::{Lexeme, LexicalFault, Part};
 use crate::kind::Sign;
+use crate::part::{Lexeme, LexicalFault, Part};
 
 /// The lexeme that a word behind a percent sign is.
 fn keyword(word: &[u8]) -> Option<Sign>

@@ -12,10 +12,10 @@ use crate::machine::{Edit, Mode, StepFault, StepKind};
 use crate::parts::{Parts, state_below};
 use crate::rest::{is_left, token_ahead};
 use crate::tables::{cell, grammar_of, known};
-use ytokens::tokens::{Tokens, is_input};
-use ysymbols::Sym;
 use ylalr::ERROR;
+use ysymbols::Sym;
 use ytables::{Action, Tables};
+use ytokens::tokens::{Tokens, is_input};
 
 /// The kind of the step of a running parse.
 fn kind_running(tables: &Tables, tokens: &[Sym], parts: &Parts, state: usize) -> StepKind

@@ -14,8 +14,8 @@ use crate::machine::{Mode, StepKind};
 use crate::rest::{self, Remaining};
 use crate::tables::{goto, rule_of};
 use std::alloc::{AllocError, Global};
-use ysymbols::Sym;
 use ylalr::ERROR;
+use ysymbols::Sym;
 use ytables::Tables;
 
 /// A symbol of the stack, the state to which the stack up to it leads, and its node.

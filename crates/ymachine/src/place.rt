@@ -25,7 +25,6 @@ use crate::machine::{Edit, StepFault, StepKind};
 use crate::parts::{Frame, Parts, PlaceChange, children_of, make, make_room, unmake};
 use crate::reversible::Reversible;
 use crate::tables::{grammar_of, known, name_of};
-use ytokens::tokens::{Tokens, has_blank_end, only_token};
 use crate::tree_view::TreeView;
 use crate::view::View;
 use crate::walk::write_lines;
@@ -34,6 +33,7 @@ use std::io::Write;
 use std::marker::Model;
 use ysymbols::Sym;
 use ytables::{Link, Tables};
+use ytokens::tokens::{Tokens, has_blank_end, only_token};
 
 /// A parse of some tokens by some tables, as it is now. Trees lie in flat lists, and a step back
 /// cuts their ends off. The walk has room for all nodes that a tree may have open; a step reserves

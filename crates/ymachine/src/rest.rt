@@ -7,8 +7,8 @@ ghost use Rattle.ymachine.specs.Rest.{with_first_back};
 ghost use Rattle.ymachine.specs.Rest.{with_insertion, without_insertion, first_rest};
 
 use std::alloc::{AllocError, Global};
-use ysymbols::Sym;
 use ylalr::END;
+use ysymbols::Sym;
 
 /// The tokens inserted and not taken, the next one last; how many of those first read were taken;
 /// and how many insertions stand, for which there is room.

@@ -17,11 +17,11 @@ use crate::parts::{Parts, children_of, make};
 use crate::rest;
 use crate::reversible::Reversible;
 use crate::view::View;
-use ytokens::tokens::Tokens;
 use std::alloc::{AllocError, Global};
 use std::marker::Model;
 use std::mem;
 use ytables::Tables;
+use ytokens::tokens::Tokens;
 
 /// What a step has changed: its kind, and all that the parse held before it.
 #[derive(Drop)]

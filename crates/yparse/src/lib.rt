@@ -7,9 +7,8 @@ mod shown;
 mod unwind;
 
 pub use session::Session;
-pub use ymachine::machine;
 pub use ymachine::{
     Journal, PlaceChange, PlaceParser, Reversible, SnapshotChange, SnapshotParser, TreeNode,
-    TreeView, View,
+    TreeView, View, machine,
 };
 pub use ytokens::{TokenFault, Tokens, read_tokens};

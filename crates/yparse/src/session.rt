@@ -9,14 +9,13 @@ ghost use Rattle.ymachine.specs.History.{IsHistory};
 ghost use Rattle.ymachine.specs.MachineOver.{machine_over};
 ghost use Rattle.ymachine.specs.Shown.{KeepsGround, past_view};
 
-use ymachine::Journal;
-use ymachine::machine::{AtStart, Deed, Edit, StepFault, StepKind};
-use ymachine::PlaceParser;
-use ymachine::tables::known;
-use ytokens::tokens::Tokens;
 use std::alloc::Global;
+use ymachine::machine::{AtStart, Deed, Edit, StepFault, StepKind};
+use ymachine::tables::known;
+use ymachine::{Journal, PlaceParser};
 use ysymbols::Sym;
 use ytables::Tables;
+use ytokens::tokens::Tokens;
 
 /// The configuration of a parse now, and each one before it.
 #[derive(Drop)]

@@ -9,11 +9,10 @@ ghost use Rattle.ymachine.specs.Unwinding.{tree_lines};
 ghost use Rattle.ymachine.specs.View.{configuration_by, tree_by, trees_in};
 ghost use Rattle.ymachine.specs.declared.machine.UnwindFault.TheVariants as faults;
 
-use ymachine::machine::UnwindFault;
 use crate::session::Session;
-use ymachine::TreeView;
-use ymachine::View;
 use std::io::Write;
+use ymachine::machine::UnwindFault;
+use ymachine::{TreeView, View};
 use ytables::Link;
 
 impl Session {

@@ -14,13 +14,13 @@ ghost use Rattle.ymachine.specs.Past.{position};
 ghost use Rattle.ymachine.specs.Unwinding.{is_reduction, names_text};
 ghost use Rattle.yparse.specs.Unwound.{GoesBack, Unwinds, gap, is_write};
 
-use ymachine::machine::{AtStart, Mode, StepKind, UnwindFault};
-use ymachine::PlaceChange;
 use crate::session::Session;
 use std::io::Write;
+use ylink::put::put;
+use ymachine::PlaceChange;
+use ymachine::machine::{AtStart, Mode, StepKind, UnwindFault};
 use ysymbols::Sym;
 use ytables::Link;
-use ylink::put::put;
 
 /// Whether a step of this kind is one of recovery.
 fn is_error_step(kind: StepKind) -> bool

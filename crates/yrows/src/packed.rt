@@ -66,7 +66,12 @@ fn columns_of<T: Copy>(alloc: Global, row: &[Option<T>]) -> Result<Vec<usize>, A
 
 /// The least displacement, not below one where the search may start, at which the row meets no
 /// other: 64 at a time.
-fn displacement_for<T: Copy>(slots: &Slots, owners: &[usize], row: &[Option<T>], columns: &[usize]) -> usize
+fn displacement_for<T: Copy>(
+    slots: &Slots,
+    owners: &[usize],
+    row: &[Option<T>],
+    columns: &[usize],
+) -> usize
     requires { All (λ t. t < 2 ^ 63) columns.now }
     ensures fits { FitsAt owners.now row.now result }
     ensures near { result ≤ length owners.now }
@@ -196,25 +201,29 @@ mod tests {
     use super::*;
     use std::test::Fail;
 
-    /// Whether rows that are filled at these columns, and free at all others, begin there.
-    fn begin_at(alloc: Global, rows: &[&[bool]], begins: &[usize]) -> Result<bool, Fail> {
+    /// The entry of a column that is filled, or free.
+    fn entry(filled: bool) -> Option<bool> {
+        if filled { Some(true) } else { None }
+    }
+
+    /// Whether rows that are filled at these columns begin there.
+    fn begin_at(alloc: Global, rows: &[[bool; 3]], begins: &[usize]) -> Result<bool, Fail> {
         let mut packed: Packed<bool> = Packed::new(alloc, 3);
         for row in rows {
-            let mut cells = Vec::new(alloc);
-            for filled in *row {
-                cells.push(if *filled { Some(true) } else { None })?;
+            if packed.width() != 3 {
+                return Ok(false);
             }
-            packed.push(alloc, &cells)?;
+            packed.push(alloc, &[entry(row[0]), entry(row[1]), entry(row[2])])?;
         }
         Ok(packed.displacements() == begins)
     }
 
     #[test]
     fn rows_that_do_not_meet_begin_at_the_front(rt: HostRuntime) -> Result<(), Fail> {
-        let rows: [&[bool]; 3] = [
-            &[false, false, true],
-            &[false, false, false],
-            &[true, false, false],
+        let rows = [
+            [false, false, true],
+            [false, false, false],
+            [true, false, false],
         ];
         assert!(rt; begin_at(rt.alloc(), &rows, &[0, 0, 0])?);
         Ok(())
@@ -222,11 +231,11 @@ mod tests {
 
     #[test]
     fn a_row_that_meets_another_begins_behind(rt: HostRuntime) -> Result<(), Fail> {
-        let rows: [&[bool]; 4] = [
-            &[false, false, true],
-            &[false, false, false],
-            &[true, false, true],
-            &[false, false, false],
+        let rows = [
+            [false, false, true],
+            [false, false, false],
+            [true, false, true],
+            [false, false, false],
         ];
         assert!(rt; begin_at(rt.alloc(), &rows, &[0, 0, 1, 0])?);
         Ok(())
@@ -234,10 +243,10 @@ mod tests {
 
     #[test]
     fn a_row_fills_the_gap_of_another(rt: HostRuntime) -> Result<(), Fail> {
-        let rows: [&[bool]; 3] = [
-            &[true, false, true],
-            &[true, false, true],
-            &[false, true, false],
+        let rows = [
+            [true, false, true],
+            [true, false, true],
+            [false, true, false],
         ];
         assert!(rt; begin_at(rt.alloc(), &rows, &[0, 1, 3])?);
         Ok(())

@@ -1,9 +1,9 @@
 -- The rules of the symbol that is taken, and the lists that a worklist reads.
-use Rattle.std.proofs.Common.{ℕ, zero, suc, Bool, true, false, ◌≡◌, ◌<◌, ◌≤◌, ◌+◌, ◌⊎◌, List, []}
+use Rattle.std.proofs.Common.{ℕ, zero, suc, Bool, ◌≡◌, ◌<◌, ◌⊎◌, List, []}
 use Rattle.std.proofs.Common.{◌∷◌, length, map, get_or, slice_index, Vec, Global, sym, ◌∙◌, ap}
 use Rattle.std.proofs.Common.{subst, inl, inr, arith, rules}
 use Rattle.std.specs.List.{Contains}
-use Rattle.std.proofs.lemmas.List.{get_or-map, get_or_read, length-map}
+use Rattle.std.proofs.lemmas.List.{get_or-map, length-map}
 use Rattle.std.proofs.lemmas.List.Elements.{All-contains, All-from_get_or, Contains-get_or}
 use Rattle.ysymbols.specs.Grammar.{Production, RuleValue}
 use Rattle.ysymbols.specs.Marking.{WorklistValue, IsMarked, IsClosed, Grows, Takes, AreListed}

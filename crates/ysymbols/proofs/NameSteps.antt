@@ -1,6 +1,6 @@
 -- Names in a set of texts.
-use Rattle.std.proofs.Common.{ℕ, suc, filter, ◌⊎◌, inl, inr, Bool, true, false, ◌≡◌, ◌≤◌, ◌<◌, ◌+◌}
-use Rattle.std.proofs.Common.{subst, arith, ◌||◌, cond, List, [], ◌∷◌, ◌++◌, map, length, Option}
+use Rattle.std.proofs.Common.{ℕ, suc, ◌⊎◌, inl, inr, Bool, true, false, ◌≡◌, ◌≤◌, ◌<◌, ◌+◌}
+use Rattle.std.proofs.Common.{subst, arith, ◌||◌, cond, List, [], ◌∷◌, ◌++◌, length, Option}
 use Rattle.std.proofs.Common.{Some, None, refl, sym, ◌∙◌, ap, nat_eq, nat_lt, unwrap_or}
 use Rattle.std.specs.List.{list_any, position, position_or_len}
 use Rattle.std.specs.Str.{bytes_eq}
@@ -8,8 +8,6 @@ use Rattle.std.proofs.lemmas.Bool.Decides.{nat_tests}
 use Rattle.std.proofs.lemmas.List.Recursion.{is_position_or_len}
 use Rattle.std.specs.Cmp.Lexicographic.{pointwise, same_text, other_text}
 use Rattle.std.proofs.lemmas.List.Folds.{list_any-append}
-use Rattle.std.proofs.lemmas.List.Elements.{filter-append}
-use Rattle.std.proofs.lemmas.List.{map-append}
 use Rattle.std.specs.Global.{Vec}
 use Rattle.indexmap.specs.IndexSet.{insert_key}
 use Rattle.ysymbols.specs.Names.{Name, find_in, is_among, with_name, with_names, number_in}

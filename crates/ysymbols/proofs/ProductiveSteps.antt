@@ -1,5 +1,5 @@
 -- Marks that a worklist leaves, and the symbols that derive a list of tokens.
-use Rattle.std.proofs.Common.{ℕ, zero, suc, Bool, ◌≡◌, ◌<◌, ◌≤◌, ◌⊎◌, List, [], ◌∷◌, ◌++◌}
+use Rattle.std.proofs.Common.{ℕ, zero, suc, Bool, ◌≡◌, ◌<◌, ◌⊎◌, List, [], ◌∷◌, ◌++◌}
 use Rattle.std.proofs.Common.{length, get_or, slice_index, sym, subst}
 use Rattle.std.proofs.Common.{append-nil, inl, inr, arith, refl, ◌↔◌}
 use Rattle.std.specs.List.{All, AllByRecursion}

@@ -10,10 +10,10 @@ ghost use Rattle.ysymbols.specs.Sources.{text_view};
 ghost use Rattle.ysymbols.specs.WellFormed.{IsWhole, WellFormed};
 
 use crate::names::{Printed, SymbolTable, number_in};
-use crate::productive::productive;
-use crate::texts::Texts;
 use crate::precedence::Precedence;
+use crate::productive::productive;
 use crate::rule::{Rule, Sym};
+use crate::texts::Texts;
 use std::alloc::{AllocError, Global};
 use std::marker::Model;
 

@@ -7,8 +7,8 @@ ghost use Rattle.ysymbols.specs.Marking.{AreDots, AreIn, DotFits, Grows, IsMarke
 ghost use Rattle.ysymbols.specs.Marking.{IsUnmarked, IsWaiting, Keeps, OnlyProductive};
 ghost use Rattle.ysymbols.specs.Marking.{numbered_grammar, rule_at};
 
-use crate::rule::{Rule, Sym};
 use crate::occurrences::{body_at, left_at, occurrences};
+use crate::rule::{Rule, Sym};
 use crate::worklist::Worklist;
 use std::alloc::{AllocError, Global};
 

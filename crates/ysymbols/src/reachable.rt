@@ -6,8 +6,8 @@ ghost use Rattle.ysymbols.specs.Forms.{IsReachable};
 ghost use Rattle.ysymbols.specs.Marking.{AreIn, Grows, IsMarked, IsSpread, IsWaiting, Keeps};
 ghost use Rattle.ysymbols.specs.Marking.{OnlyReachable, numbered_grammar, rule_at};
 
-use crate::rule::{Rule, Sym};
 use crate::occurrences::{body_at, left_at, rules_by_left};
+use crate::rule::{Rule, Sym};
 use crate::worklist::Worklist;
 use std::alloc::{AllocError, Global};
 

@@ -1,7 +1,7 @@
 -- A file cut into blanks, comments and lexemes (Aho, Sethi and Ullman, section 3.5), and its first
 -- fault.
-use Rattle.std.specs.Prelude.{ℕ, suc, count_by, ◌≡◌, ◌≤◌, ◌<◌, Result, Ok, Err, ◌+◌, Bool, true}
-use Rattle.std.specs.Prelude.{false, cond, ◌==◌, List, [], ◌∷◌, ◌++◌, length, map, ◌⊎◌, codes}
+use Rattle.std.specs.Prelude.{ℕ, suc, count_by, ◌≡◌, ◌≤◌, Result, Ok, Err, ◌+◌, Bool, true}
+use Rattle.std.specs.Prelude.{false, cond, ◌==◌, List, [], ◌∷◌, ◌++◌, map}
 use Rattle.ylexemes.specs.declared.kind.Kind.{Kind}
 use Rattle.ylexemes.specs.declared.kind.Kind.TheVariants as kind
 use Rattle.ylexemes.specs.declared.kind.Sign.TheVariants as sign

@@ -1,6 +1,5 @@
 -- The code's syntax trees as trees of the definitions: without places.
-use Rattle.std.specs.Prelude.{ℕ, List, map, Option, Some, None}
-use Rattle.std.specs.Borrow.{Bor}
+use Rattle.std.specs.Prelude.{ℕ, List, map}
 use Rattle.ysyntax.specs.declared.tree.Identifier.{Identifier as CodeIdentifier}
 use Rattle.ysyntax.specs.declared.tree.Identifier.TheVariants as identifiers
 use Rattle.ysyntax.specs.declared.tree.Occurrence.{Occurrence}

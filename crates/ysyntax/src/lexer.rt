@@ -9,11 +9,11 @@ ghost use Rattle.ylexemes.specs.Lexemes.{Lexeme as LexemeOf};
 ghost use Rattle.ysyntax.specs.Tree.{HasOneTree};
 
 use crate::fault::GrammarFault;
-use ylexemes::part::{Lexeme, LexicalFault, Part};
-use ylexemes::front::part_at;
-use ysymbols::limits::LONGEST_FILE;
 use crate::recogniser::State;
 use std::alloc::Global;
+use ylexemes::front::part_at;
+use ylexemes::part::{Lexeme, LexicalFault, Part};
+use ysymbols::limits::LONGEST_FILE;
 
 /// A lexeme, and how many bytes stand before it.
 #[derive(Clone, Copy, Debug)]

@@ -38,14 +38,14 @@ ghost use Rattle.ysyntax.specs.TreeViews.{body_part_view, rule_text_view, tree_v
 ghost use Rattle.ysymbols.specs.Sources.{option_view};
 
 use crate::lexer::Placed;
-use ylexemes::part::Lexeme;
-use ylexemes::kind::Sign;
 use crate::tree::{
     BodyPart, BracedText, Definition, Digits, Entry, Identifier, Listing, NameAt, Occurrence,
     RuleText, Tree, Types, Word,
 };
 use std::alloc::{AllocError, Global};
 use std::marker::Model;
+use ylexemes::kind::Sign;
+use ylexemes::part::Lexeme;
 
 /// The lexemes that are not in the tree yet.
 #[derive(Drop)]

@@ -13,7 +13,7 @@ use Rattle.ytables.specs.declared.cell.Action.TheVariants.{Reduce, Error}
 use Rattle.ytables.specs.declared.cell.Cell.{Cell}
 use Rattle.ytables.specs.declared.cell.Tally.{Tally}
 use Rattle.ytables.specs.Cell.{lone, reduce, cell_of, is_beat, is_lose, is_ban, is_rest}
-use Rattle.ytables.specs.Tally.{IsTally, no_tally, tally_more, lesser, least_of, kept_of}
+use Rattle.ytables.specs.Tally.{IsTally, tally_more, lesser, least_of, kept_of}
 use Rattle.ytables.specs.Tally.{reduce_of, settle}
 
 or_true : (b : Bool) → (b || true) ≡ true

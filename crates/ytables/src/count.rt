@@ -4,9 +4,9 @@ ghost use Rattle.std.specs.Prelude.{is_some};
 ghost use Rattle.ylink.specs.Sends.{Sends};
 ghost use Rattle.ytables.specs.Text.{count_line};
 
+use std::io::Write;
 use ylink::link::Link;
 use ylink::put::put_all;
-use std::io::Write;
 
 /// Writes words, a number and a newline.
 pub fn put_count<W: Write>(link: &mut Link<W>, words: &[u8], number: usize) -> Option<()>

@@ -4,10 +4,10 @@ ghost use Rattle.std.specs.Prelude.{ℕ, ◌≡◌, ◌<◌, ◌+◌, length, sl
 ghost use Rattle.ylalr.specs.Collection.{goto_in};
 ghost use Rattle.ytables.specs.Tables.{AreGotos};
 
-use yrows::packed::Packed;
 use crate::row::next_symbol;
 use std::alloc::{AllocError, Global};
 use ylalr::{Automaton, token_count};
+use yrows::packed::Packed;
 
 /// The gotos of a state over nonterminals, that of the first one in the first column. A symbol
 /// has none where no item has the dot before it.

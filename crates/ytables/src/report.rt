@@ -20,13 +20,13 @@ ghost use Rattle.ytables.specs.Report.{unreachable_part, report_of};
 use crate::cell::{Action, Cell};
 use crate::count::put_count;
 use crate::fault::TableFault;
-use ylink::link::Link;
-use ylink::put::{put, put_all};
 use crate::row::{cell_of, has_ready};
 use crate::tables::Tables;
 use std::io::Write;
-use ysymbols::{Grammar, Sym};
 use ylalr::{Item, token_count};
+use ylink::link::Link;
+use ylink::put::{put, put_all};
+use ysymbols::{Grammar, Sym};
 
 /// A name after a space.
 fn put_name<W: Write>(link: &mut Link<W>, grammar: &Grammar, s: Sym) -> Option<()>

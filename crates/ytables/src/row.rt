@@ -15,8 +15,8 @@ ghost use Rattle.ytables.specs.Tally.{IsTally};
 use crate::cell::{Action, Cell, Tally};
 use crate::class::class_between;
 use std::alloc::{AllocError, Global};
-use ysymbols::{Grammar, Precedence, Sym};
 use ylalr::{Automaton, END, Item};
+use ysymbols::{Grammar, Precedence, Sym};
 
 /// The symbol after the dot.
 pub fn next_symbol(grammar: &Grammar, item: Item) -> Option<Sym>

@@ -13,12 +13,12 @@ ghost use Rattle.ytables.specs.declared.fault.TableFault.{TableFault};
 use crate::cell::Action;
 use crate::count::put_count;
 use crate::fault::TableFault;
-use ylink::link::Link;
-use ylink::put::{put, put_all};
 use crate::tables::Tables;
 use std::io::Write;
-use ysymbols::{Grammar, Sym};
 use ylalr::token_count;
+use ylink::link::Link;
+use ylink::put::{put, put_all};
+use ysymbols::{Grammar, Sym};
 
 /// The line of a symbol.
 fn put_symbol<W: Write>(link: &mut Link<W>, grammar: &Grammar, s: Sym) -> Option<()>

@@ -13,12 +13,12 @@ ghost use Rattle.ytables.specs.Tables.{action_in, default_in, act_at, rule_at};
 use crate::cell::Action;
 use crate::fault::TableFault;
 use crate::gotos::all_gotos;
-use yrows::packed::Packed;
 use crate::row::row_of;
 use std::alloc::{AllocError, Global};
 use std::marker::Model;
-use ysymbols::{Grammar, Sym};
 use ylalr::{Automaton, token_count};
+use yrows::packed::Packed;
+use ysymbols::{Grammar, Sym};
 
 /// How many conflicts the cells count.
 #[derive(Clone, Copy, Debug, Drop, PartialEq, Eq)]

@@ -1,9 +1,9 @@
 -- The words of a tokens file: one answer for each file, and the steps of reading it.
-use Rattle.std.proofs.Common.{ℕ, zero, suc, ◌≡◌, ◌+◌, ◌<◌, ◌++◌, nat_lt, ◌==◌, ◌&&◌, Bool, true}
+use Rattle.std.proofs.Common.{ℕ, zero, suc, ◌≡◌, ◌<◌, ◌++◌, nat_lt, ◌==◌, ◌&&◌, Bool, true}
 use Rattle.std.proofs.Common.{false, List, [], ◌∷◌, Option, Some, None, Result, Ok, Err, length}
 use Rattle.std.proofs.Common.{refl, sym, ap, ◌∙◌, subst, arith, append_assoc, append-nil}
 use Rattle.std.proofs.Common.{length-append, true≢false, if◌then◌else◌}
-use Rattle.std.proofs.lemmas.Bool.{eqb-true, lt-ltb, ltb-true}
+use Rattle.std.proofs.lemmas.Bool.{eqb-true, ltb-true}
 use Rattle.ylexemes.specs.Lexemes.{LiteralAt}
 use Rattle.ysymbols.specs.Names.{printed_literal}
 use Rattle.ylexemes.proofs.Literals.{literal_shorter, one_literal, quote_first}

@@ -13,9 +13,9 @@ ghost use Rattle.ytokens.specs.Reading.{Gives, Agrees, TokensOf, next_view};
 use crate::token_words::{Front, front_of};
 use std::alloc::{AllocFailed, Global};
 use thiserror::Error;
+use ylalr::ERROR;
 use ylexemes::bytes::is_blank;
 use ysymbols::{Grammar, Sym};
-use ylalr::ERROR;
 use ytables::Tables;
 
 /// The most tokens of an input.

@@ -1,4 +1,4 @@
-use Rattle.std.proofs.Common.{List, Bool, ◌≡◌, ◌<◌, ◌∙◌, length, ap, sym, subst}
+use Rattle.std.proofs.Common.{List, Bool, ◌≡◌, ◌∙◌, length, ap, sym, subst}
 use Rattle.ysymbols.specs.Marking.{WorklistValue, IsSettled, Keeps, OnlyProductive, left_side}
 use Rattle.ysymbols.specs.Marking.{list_at, lists_of, numbered_grammar, rule_at}
 use Rattle.ysymbols.proofs.MarkingSteps.{keeps_then}

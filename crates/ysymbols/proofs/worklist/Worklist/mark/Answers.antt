@@ -1,8 +1,8 @@
-use Rattle.std.proofs.Common.{ℕ, List, Bool, true, ◌≡◌, ◌<◌, length, ◌++◌, [], ◌∷◌, sym, subst}
+use Rattle.std.proofs.Common.{ℕ, List, true, ◌<◌, length, sym, subst}
 use Rattle.std.proofs.Common.{rules}
 use Rattle.std.proofs.Math.ListN.{set}
 use Rattle.ysymbols.specs.Marking.{WorklistValue, Grows, IsUnmarked, IsWorklist}
-use Rattle.ysymbols.proofs.MarkingSteps.{grows_new, worklist_new, with_mark}
+use Rattle.ysymbols.proofs.MarkingSteps.{grows_new, worklist_new}
 use Rattle.ysymbols.proofs.worklist.Worklist.mark.Goals as goal
 use Rattle.ysymbols.proofs.worklist.Worklist.mark.Goals.{In_ok-push}
 

@@ -1,4 +1,4 @@
-use Rattle.std.proofs.Common.{ℕ, List, [], subst, sym}
+use Rattle.std.proofs.Common.{ℕ, List, subst, sym}
 use Rattle.ysymbols.specs.Marking.{IsWorklist}
 use Rattle.ysymbols.proofs.MarkingSteps.{worklist_none}
 use Rattle.ysymbols.proofs.worklist.Worklist.new.Goals as goal
