@@ -1,7 +1,7 @@
 -- What the listings say of a token, listing by listing.
-use Rattle.std.proofs.Common.{ℕ, zero, suc, Bool, true, false, cond, ◌≡◌, ◌<◌, ◌≤◌, List, [], ◌∷◌}
+use Rattle.std.proofs.Common.{ℕ, suc, Bool, true, false, cond, ◌≡◌, ◌<◌, ◌≤◌, List, [], ◌∷◌}
 use Rattle.std.proofs.Common.{◌++◌, length, Option, Some, None, refl, sym, ◌∙◌, ap, subst, arith}
-use Rattle.std.proofs.Common.{get_or, get_or-set_other, get_or-set_same, length-set, replicate}
+use Rattle.std.proofs.Common.{get_or, get_or-set_other, get_or-set_same, length-set}
 use Rattle.std.proofs.Common.{is_some, map, drop, ◌+◌}
 use Rattle.std.proofs.lemmas.List.{drop_more, get_or_read}
 use Rattle.ygrammar.specs.declared.outline.Listed.{Listed}

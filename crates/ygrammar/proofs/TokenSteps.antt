@@ -1,7 +1,7 @@
 -- Which names are tokens, and tables by the numbers of names.
 use Rattle.std.proofs.Common.{ℕ, zero, suc, Bool, true, false, ◌||◌, cond, ◌≡◌, ◌<◌, ◌≤◌, ◌+◌, ◌⊎◌}
-use Rattle.std.proofs.Common.{inl, inr, List, [], ◌∷◌, ◌++◌, map, filter, length, Option, Some}
-use Rattle.std.proofs.Common.{None, refl, sym, ◌∙◌, ap, subst, arith, get_or, length-append, codes}
+use Rattle.std.proofs.Common.{inl, inr, List, [], ◌∷◌, ◌++◌, map, filter, length, Option}
+use Rattle.std.proofs.Common.{refl, sym, ◌∙◌, ap, subst, arith, get_or, length-append, codes}
 use Rattle.std.specs.List.{flat_map}
 use Rattle.std.specs.Str.{bytes_eq}
 use Rattle.std.specs.Cmp.Lexicographic.{same_text}
@@ -11,7 +11,7 @@ use Rattle.ygrammar.specs.Elaboration.{Listing, appearances, identifiers_of, is_
 use Rattle.ygrammar.specs.Elaboration.{level_at, given_by, listed_name, listing_of, listings}
 use Rattle.ygrammar.specs.Elaboration.{listings_from, option_list, said_of, token_names_of, tokens}
 use Rattle.ygrammar.specs.Elaboration.{uses, who_of}
-use Rattle.ysymbols.specs.Names.{Name, find_in, is_among, with_name, with_names, number_in}
+use Rattle.ysymbols.specs.Names.{Name, is_among, with_name, with_names, number_in}
 use Rattle.ygrammar.specs.Printed.{printed_name}
 use Rattle.ysyntax.specs.Tree.{Definition, Entry, Identifier, Tree, start, union, block, listing}
 use Rattle.ysyntax.specs.Tree.{types}

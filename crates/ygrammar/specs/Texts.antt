@@ -1,10 +1,6 @@
 -- The braced texts of a file, by their places in the source.
-use Rattle.std.specs.Prelude.{ℕ, ◌≡◌, List, [], ◌∷◌, ◌++◌, take, drop, length, Option, Some, IfSome}
-use Rattle.std.specs.List.{flat_map, AllByRecursion}
-use Rattle.ysyntax.specs.declared.tree.BracedText.{BracedText}
-use Rattle.ysyntax.specs.declared.tree.RuleText.{RuleText as CodeRuleText}
-use Rattle.ysyntax.specs.declared.tree.BodyPart.{BodyPart as CodeBodyPart}
-use Rattle.ysyntax.specs.declared.tree.BodyPart.TheVariants as items
+use Rattle.std.specs.Prelude.{ℕ, List, [], ◌∷◌, ◌++◌, Option, Some}
+use Rattle.std.specs.List.{flat_map}
 use Rattle.ygrammar.specs.Elaboration.{Rule, final_of}
 use Rattle.ysyntax.specs.Tree.{RuleText, BodyPart, symbol, action}
 

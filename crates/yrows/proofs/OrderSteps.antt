@@ -1,6 +1,6 @@
 -- One turn more: a row that is entered, or left.
 use Rattle.std.proofs.Common.{ℕ, suc, Bool, true, false, ◌≡◌, ◌≢◌, ◌<◌, ◌⊎◌, List, [], ◌∷◌, ◌++◌}
-use Rattle.std.proofs.Common.{length, map, replicate, sym, ◌∙◌, ap, subst, inl, inr, arith}
+use Rattle.std.proofs.Common.{length, map, sym, ◌∙◌, ap, subst, inl, inr, arith}
 use Rattle.std.proofs.Common.{get_or-set_same, get_or-set_other}
 use Rattle.std.proofs.Math.ListN.{set, length-set}
 use Rattle.std.specs.List.{All, Contains}
@@ -12,7 +12,7 @@ use Rattle.yrows.specs.declared.order.Turn.{Turn}
 use Rattle.yrows.specs.declared.order.Turn.TheVariants.{Enter, Leave}
 use Rattle.yrows.specs.Marks.{Has}
 use Rattle.yrows.specs.Order.{AreTurns, row_of}
-use Rattle.yrows.proofs.MarkSteps.{marked_cases, none_marked}
+use Rattle.yrows.proofs.MarkSteps.{marked_cases}
 
 last_turn : (P : Turn → Type 0) (t : List Turn) (x : Turn) → All P (t ++ x ∷ []) → P x
 last_turn P [] x a = a 0 x (omega arith)

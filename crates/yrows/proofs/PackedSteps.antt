@@ -8,7 +8,7 @@ use Rattle.std.proofs.lemmas.Bool.Decides.{eqb_tells, leb_tells}
 use Rattle.std.proofs.lemmas.List.{get_or-set_same, get_or-set_other, get_or_past}
 use Rattle.std.proofs.lemmas.List.{get_or_append_left, take-append-le, take_all}
 use Rattle.std.proofs.lemmas.List.FromFn.{get_or-map-range_with_len, length-map-range_with_len}
-use Rattle.yrows.specs.Packed.{entry_of, held_at, unpacked_row, unpack, AreOwners, FitsFrom}
+use Rattle.yrows.specs.Packed.{entry_of, held_at, unpacked_row, unpack, FitsFrom}
 use Rattle.yrows.specs.Packed.{SameCells, IsWritten, IsPushed}
 
 same_yes : (a b : ℕ) → a ≡ b → nat_eq a b ≡ true
