@@ -37,7 +37,8 @@ impl Marks {
         if !grammar.reachable(s) {
             self.text.push(b'-')?;
         }
-        self.text.push(b' ')
+        self.text.push(b' ')?;
+        Ok(())
     }
 
     /// The number, the precedence and the kept text.
@@ -52,7 +53,8 @@ impl Marks {
             self.text.push(b' ')?;
             self.text.extend_from_slice(text)?;
         }
-        self.text.push(b'\n')
+        self.text.push(b'\n')?;
+        Ok(())
     }
 
     fn grammar(&mut self, grammar: &Grammar) -> Result<(), AllocError> {
