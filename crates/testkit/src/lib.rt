@@ -1,8 +1,9 @@
-//! What tests share: readers and writers that fail where a test says, worked sessions, and the
-//! tables of a grammar text.
+//! What tests share: readers and writers that fail where a test says, worked sessions, long texts,
+//! and the tables of a grammar text.
 #![tactic(auto)]
 
 pub mod bytes;
 pub mod devices;
 pub mod tables;
+pub mod texts;
 pub mod worked;

@@ -9,6 +9,12 @@ pub const LIST: &[u8] = b"%token NUM %% list : | list NUM ';' | list error ';' ;
 /// Sums and products, by precedence.
 pub const SUMS: &[u8] = b"%token NUM %left '+' %left '*' %% e : e '+' e | e '*' e | NUM ;";
 
+/// The dangling `ELSE`.
+pub const DANGLING: &[u8] = b"%token IF ELSE X %% s : IF s | IF s ELSE s | X ;";
+
+/// An empty rule that goes before the only token, without end.
+pub const ENDLESS: &[u8] = b"%left 'x' %left HI %% s : e s | 'x' ; e : %prec HI ;";
+
 /// Texts of a session, its commands, and what they reply.
 #[derive(Clone, Copy)]
 pub struct Worked {
@@ -72,4 +78,9 @@ pub fn first_lines(text: &[u8], lines: usize) -> &[u8] {
         }
     }
     text
+}
+
+/// The part of a text behind so many lines.
+pub fn behind(text: &[u8], lines: usize) -> &[u8] {
+    text.strip_prefix(first_lines(text, lines)).unwrap_or(b"")
 }

@@ -6,7 +6,7 @@ use crate::told::told;
 use std::alloc::Global;
 use std::test::Fail;
 use testkit::devices::Source;
-use testkit::worked::{LIST, ONE, SPOILED, first_lines};
+use testkit::worked::{LIST, ONE, SPOILED, behind, first_lines};
 use ycli::stepper::step_through;
 use ytables::Link;
 
@@ -96,11 +96,6 @@ fn resumed(alloc: Global, steps: usize) -> Result<(Taking, bool), Fail> {
     let refused = writer.plain_refused();
     answer?;
     Ok((writer, refused))
-}
-
-/// The part of a text behind so many lines.
-fn behind(text: &[u8], lines: usize) -> &[u8] {
-    text.strip_prefix(first_lines(text, lines)).unwrap_or(b"")
 }
 
 /// Behind how many steps this text of the spoiled list says `no memory`, where all else is as it

@@ -4,7 +4,7 @@ use std::alloc::Global;
 use std::test::Fail;
 use testkit::devices::{Refusal, Sink, Source};
 use testkit::tables::tables_of;
-use testkit::worked::{SPOILED, STORED, SUM, Worked, first_lines};
+use testkit::worked::{SPOILED, STORED, SUM, Worked, behind, first_lines};
 use ycli::run::run_session;
 use yparse::machine::UnwindFault;
 use yparse::{Session, read_tokens};
@@ -71,11 +71,6 @@ fn resume(
         position,
         after: after.into_inner(),
     })
-}
-
-/// The part of a text behind so many lines.
-fn behind(text: &[u8], lines: usize) -> &[u8] {
-    text.strip_prefix(first_lines(text, lines)).unwrap_or(b"")
 }
 
 #[test]

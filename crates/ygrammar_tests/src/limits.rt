@@ -2,6 +2,7 @@
 
 use std::alloc::Global;
 use std::test::Fail;
+use testkit::texts::repeated;
 use ygrammar::{GrammarFault, read_grammar};
 
 /// The fault of a file that is refused.
@@ -11,16 +12,6 @@ fn fault_of(alloc: Global, file: &[u8]) -> Option<GrammarFault> {
 
 /// The fault of a file that is above a limit of symbols and rules.
 const ABOVE: Option<GrammarFault> = Some(GrammarFault::Limit { line: 1 });
-
-/// A file whose one rule has so many literals, and what stands behind them.
-fn long_body(alloc: Global, literals: usize, behind: &[u8]) -> Result<Vec<u8>, Fail> {
-    let mut file = Vec::from_slice(alloc, b"\n%%\ns :")?;
-    for _ in 0..literals {
-        file.extend_from_slice(b" 'a'")?;
-    }
-    file.extend_from_slice(behind)?;
-    Ok(file)
-}
 
 #[test]
 fn the_longest_body(rt: HostRuntime) -> Result<(), Fail> {
@@ -33,7 +24,7 @@ fn the_longest_body(rt: HostRuntime) -> Result<(), Fail> {
         (256, b" %prec s ;", Some(GrammarFault::BadPrec { line: 3 })),
     ];
     for (literals, behind, fault) in bodies {
-        let file = long_body(rt.alloc(), literals, behind)?;
+        let file = repeated(rt.alloc(), b"\n%%\ns :", b" 'a'", literals, behind)?;
         assert_eq!(rt; fault_of(rt.alloc(), &file), fault);
     }
     Ok(())
@@ -50,36 +41,23 @@ fn many_tokens(alloc: Global, count: usize) -> Result<Vec<u8>, Fail> {
     Ok(file)
 }
 
-/// A file with so many bars.
-fn many_bars(alloc: Global, count: usize) -> Result<Vec<u8>, Fail> {
-    let mut file = Vec::from_slice(alloc, b"%%\ns :")?;
-    for _ in 0..count {
-        file.push(b'|')?;
-    }
-    Ok(file)
-}
-
 #[test]
 fn the_most_symbols_and_rules(rt: HostRuntime) -> Result<(), Fail> {
     let alloc = rt.alloc();
     assert_eq!(rt; fault_of(alloc, &many_tokens(alloc, 4_092)?), None);
     assert_eq!(rt; fault_of(alloc, &many_tokens(alloc, 4_093)?), ABOVE);
-    assert_eq!(rt; fault_of(alloc, &many_bars(alloc, 8_190)?), None);
-    assert_eq!(rt; fault_of(alloc, &many_bars(alloc, 8_191)?), ABOVE);
+    for (bars, fault) in [(8_190, None), (8_191, ABOVE)] {
+        let file = repeated(alloc, b"%%\ns :", b"|", bars, b"")?;
+        assert_eq!(rt; fault_of(alloc, &file), fault);
+    }
     Ok(())
 }
-
-/// The bytes that a file may have.
-const MOST: usize = 1_048_576;
 
 #[test]
 fn the_longest_file(rt: HostRuntime) -> Result<(), Fail> {
     let alloc = rt.alloc();
-    let mut file = Vec::with_capacity(alloc, MOST + 1)?;
-    file.extend_from_slice(b"%% s : 'x' ;")?;
-    for _ in 12..MOST {
-        file.push(b' ')?;
-    }
+    // The rule has 12 bytes.
+    let mut file = repeated(alloc, b"%% s : 'x' ;", b" ", 1_048_576 - 12, b"")?;
     assert_eq!(rt; fault_of(alloc, &file), None);
     file.push(b' ')?;
     assert_eq!(rt; fault_of(alloc, &file), Some(GrammarFault::TooLong));

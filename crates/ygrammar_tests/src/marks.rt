@@ -1,7 +1,7 @@
 //! Grammars by what their tables don't show: precedences, symbols that can't be reached, and kept
 //! texts.
 
-use std::alloc::Global;
+use std::alloc::{AllocError, Global};
 use std::test::Fail;
 use ygrammar::{Associativity, Grammar, Precedence, Sym, read_grammar};
 
@@ -9,67 +9,59 @@ use ygrammar::{Associativity, Grammar, Precedence, Sym, read_grammar};
 #[derive(Drop)]
 struct Marks {
     alloc: Global,
-    text: String,
+    text: Vec<u8>,
 }
 
 impl Marks {
-    fn bytes(&mut self, bytes: &[u8]) -> Result<(), Fail> {
-        for byte in bytes {
-            self.text.push(char::from(*byte))?;
-        }
-        Ok(())
-    }
-
-    fn number(&mut self, number: usize) -> Result<(), Fail> {
-        let digits = format!(in self.alloc; "{number}")?;
-        self.bytes(digits.as_bytes())
-    }
-
     /// A slash, the first letter of the kind, and the level.
-    fn precedence(&mut self, precedence: Option<Precedence>) -> Result<(), Fail> {
-        let Some(precedence) = precedence else {
+    fn precedence(&mut self, precedence: Option<Precedence>) -> Result<(), AllocError> {
+        let Some(Precedence { level, kind }) = precedence else {
             return Ok(());
         };
-        self.bytes(match precedence.kind {
-            Associativity::Left => b"/l",
-            Associativity::Right => b"/r",
-            Associativity::Nonassoc => b"/n",
-        })?;
-        self.number(precedence.level)
+        let letter = match kind {
+            Associativity::Left => 'l',
+            Associativity::Right => 'r',
+            Associativity::Nonassoc => 'n',
+        };
+        let mark = format!(in self.alloc; "/{letter}{level}")?;
+        self.text.extend_from_slice(mark.as_bytes())
     }
 
     /// The name, the precedence, and a minus sign where the symbol can't be reached.
-    fn symbol(&mut self, grammar: &Grammar, s: Sym) -> Result<(), Fail> {
+    fn symbol(&mut self, grammar: &Grammar, s: Sym) -> Result<(), AllocError> {
         if s >= grammar.symbols() {
             return Ok(());
         }
-        self.bytes(grammar.name(s))?;
+        self.text.extend_from_slice(grammar.name(s))?;
         self.precedence(grammar.precedence(s))?;
         if !grammar.reachable(s) {
-            self.bytes(b"-")?;
+            self.text.push(b'-')?;
         }
-        self.bytes(b" ")
+        self.text.push(b' ')?;
+        Ok(())
     }
 
     /// The number, the precedence and the kept text.
-    fn rule(&mut self, grammar: &Grammar, r: usize) -> Result<(), Fail> {
+    fn rule(&mut self, grammar: &Grammar, r: usize) -> Result<(), AllocError> {
         if r >= grammar.rules() {
             return Ok(());
         }
-        self.number(r)?;
+        let number = format!(in self.alloc; "{r}")?;
+        self.text.extend_from_slice(number.as_bytes())?;
         self.precedence(grammar.rule(r).precedence())?;
         if let Some(text) = grammar.action_text(r) {
-            self.bytes(b" ")?;
-            self.bytes(text)?;
+            self.text.push(b' ')?;
+            self.text.extend_from_slice(text)?;
         }
-        self.bytes(b"\n")
+        self.text.push(b'\n')?;
+        Ok(())
     }
 
-    fn grammar(&mut self, grammar: &Grammar) -> Result<(), Fail> {
+    fn grammar(&mut self, grammar: &Grammar) -> Result<(), AllocError> {
         for s in 0..grammar.symbols() {
             self.symbol(grammar, s)?;
         }
-        self.bytes(b"\n")?;
+        self.text.push(b'\n')?;
         for r in 0..grammar.rules() {
             self.rule(grammar, r)?;
         }
@@ -77,22 +69,10 @@ impl Marks {
     }
 }
 
-/// The symbols of a grammar on a line, and its rules on a line each, with their marks.
-fn marks_of(alloc: Global, grammar: &Grammar) -> Result<String, Fail> {
-    let mut marks = Marks {
-        alloc,
-        text: String::new(alloc),
-    };
-    marks.grammar(grammar)?;
+/// The symbols of a file's grammar on a line, and its rules on a line each, with their marks.
+pub fn marks_of(alloc: Global, file: &[u8]) -> Result<Vec<u8>, Fail> {
+    let text = Vec::new(alloc);
+    let mut marks = Marks { alloc, text };
+    marks.grammar(&read_grammar(alloc, file)?)?;
     Ok(marks.text)
-}
-
-/// The grammar of a file has these marks.
-pub fn has_marks(alloc: Global, file: &[u8], text: &str) -> Result<(), Fail> {
-    let found = marks_of(alloc, &read_grammar(alloc, file)?)?;
-    if found.as_str() == text {
-        Ok(())
-    } else {
-        Err(Fail::from(found))
-    }
 }

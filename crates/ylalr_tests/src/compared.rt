@@ -1,12 +1,17 @@
 //! The lookaheads of whole grammars, against plain saturation over the public calls; and the
 //! limit of states.
 
-use crate::asked::automaton;
 use crate::reference::{agrees, lookaheads};
 use std::alloc::{AllocError, Global};
 use std::test::Fail;
+use testkit::texts::repeated;
 use ygrammar::read_grammar;
 use ylalr::{Automaton, BuildFault, build};
+
+/// The automaton of a grammar file.
+pub fn automaton(alloc: Global, source: &[u8]) -> Result<Automaton, Fail> {
+    Ok(build(alloc, read_grammar(alloc, source)?)?)
+}
 
 /// The number of states, where the lookaheads are those of the reference.
 fn checked_of(alloc: Global, m: &Automaton) -> Result<Option<usize>, AllocError> {
@@ -76,27 +81,17 @@ fn lookaheads_of_the_worked_grammars(rt: HostRuntime) -> Result<(), Fail> {
     Ok(())
 }
 
-/// Adds a text so many times.
-fn push_times(file: &mut Vec<u8>, text: &[u8], times: usize) -> Result<(), AllocError> {
-    for _ in 0..times {
-        file.extend_from_slice(text)?;
-    }
-    Ok(())
-}
-
 /// A grammar of 65 bodies that begin with 65 literals: 64 of 255 symbols, and one of `last`.
 fn rows_of_literals(alloc: Global, last: usize) -> Result<Vec<u8>, AllocError> {
     let mut file = Vec::from_slice(alloc, b"%% s : ")?;
     for byte in b'('..b'h' {
         // from the bracket on, the 63 literals below 'h' without the backslash, and 'y'
         let literal = if byte == b'\\' { b'y' } else { byte };
-        file.extend_from_slice(&[b'\'', literal, b'\''])?;
-        push_times(&mut file, b" 'x'", 254)?;
-        file.extend_from_slice(b"\n | ")?;
+        let body = repeated(alloc, &[b'\'', literal, b'\''], b" 'x'", 254, b"\n | ")?;
+        file.extend_from_slice(&body)?;
     }
-    file.extend_from_slice(b"'z'")?;
-    push_times(&mut file, b" 'x'", last.saturating_sub(1))?;
-    file.extend_from_slice(b" ;\n")?;
+    let body = repeated(alloc, b"'z'", b" 'x'", last.saturating_sub(1), b" ;\n")?;
+    file.extend_from_slice(&body)?;
     Ok(file)
 }
 
@@ -117,34 +112,26 @@ fn one_state_more(rt: HostRuntime) -> Result<(), Fail> {
     Ok(())
 }
 
-/// The largest files of one kind: as many bars, as many names, as long a body as there may be.
-fn largest(alloc: Global) -> Result<[Vec<u8>; 4], Fail> {
-    let mut bars = Vec::from_slice(alloc, b"%% s :")?;
-    push_times(&mut bars, b" |", 8_190)?;
-    let mut names = Vec::from_slice(alloc, b"%token")?;
+/// A file of as many names as there may be.
+fn most_names(alloc: Global) -> Result<Vec<u8>, AllocError> {
+    let mut file = Vec::from_slice(alloc, b"%token")?;
     for n in 0..4_092 {
         let name = format!(in alloc; " t{n}")?;
-        names.extend_from_slice(name.as_bytes())?;
+        file.extend_from_slice(name.as_bytes())?;
     }
-    names.extend_from_slice(b"%% s : ;")?;
-    let mut body = Vec::from_slice(alloc, b"%% s :")?;
-    push_times(&mut body, b" 'a'", 255)?;
-    let mut action = Vec::from_slice(alloc, b"%% s :")?;
-    push_times(&mut action, b" 'a'", 253)?;
-    action.extend_from_slice(b" { x } 'a'")?;
-    Ok([bars, names, body, action])
+    file.extend_from_slice(b"%% s : ;")?;
+    Ok(file)
 }
 
+// As many bars, as many names, as long a body as there may be.
 #[test]
 fn the_largest_files(rt: HostRuntime) -> Result<(), Fail> {
-    let [bars, names, body, action] = largest(rt.alloc())?;
-    let sources = [
-        bars.as_slice(),
-        names.as_slice(),
-        body.as_slice(),
-        action.as_slice(),
-    ];
-    let states = checked_each(rt.alloc(), &sources)?;
+    let alloc = rt.alloc();
+    let bars = repeated(alloc, b"%% s :", b" |", 8_190, b"")?;
+    let names = most_names(alloc)?;
+    let body = repeated(alloc, b"%% s :", b" 'a'", 255, b"")?;
+    let action = repeated(alloc, b"%% s :", b" 'a'", 253, b" { x } 'a'")?;
+    let states = checked_each(alloc, &[&bars, &names, &body, &action])?;
     assert!(rt; states.as_slice() == [2, 2, 257, 257].as_slice());
     Ok(())
 }

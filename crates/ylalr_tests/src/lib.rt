@@ -1,9 +1,7 @@
-//! Tests of automata that need code: one by each public call, lookaheads beside the plain
-//! saturation, and the limit of states.
+//! Tests of automata that need code: the symbols that vanish and the FIRST sets of one,
+//! lookaheads beside the plain saturation, and the limit of states.
 #![tactic(auto)]
 
-#[cfg(test)]
-mod asked;
 #[cfg(test)]
 mod compared;
 #[cfg(test)]

@@ -2,12 +2,9 @@
 //! state and token. It goes by the states and gotos that callers see and by nothing of how rows
 //! are kept.
 
-use crate::asked::{has_look, token_count};
 use std::alloc::{AllocError, Global};
 use ygrammar::Sym;
-use ylalr::{Automaton, Item};
-
-const END: Sym = 0;
+use ylalr::{Automaton, END, Item, token_count};
 
 /// For each state, for each of its items, for each token, whether that is a lookahead.
 #[derive(Drop)]
@@ -29,15 +26,13 @@ impl Facts {
         Ok(Facts { flags })
     }
 
+    fn flag(&self, q: usize, j: usize, t: Sym) -> Option<&bool> {
+        self.flags.get(q)?.get(j)?.get(t)
+    }
+
     /// Whether token `t` is a lookahead of item `j` of state `q`.
-    pub fn has(&self, q: usize, j: usize, t: Sym) -> bool {
-        let Some(rows) = self.flags.get(q) else {
-            return false;
-        };
-        let Some(row) = rows.get(j) else {
-            return false;
-        };
-        row.get(t) == Some(&true)
+    fn has(&self, q: usize, j: usize, t: Sym) -> bool {
+        self.flag(q, j, t) == Some(&true)
     }
 
     /// Sets a fact, and says whether it is new.
@@ -58,7 +53,7 @@ impl Facts {
 }
 
 /// The items of a state.
-pub fn items_of(automaton: &Automaton, q: usize) -> &[Item] {
+fn items_of(automaton: &Automaton, q: usize) -> &[Item] {
     if q < automaton.states() {
         automaton.items(q)
     } else {
@@ -67,7 +62,7 @@ pub fn items_of(automaton: &Automaton, q: usize) -> &[Item] {
 }
 
 /// The body of a rule.
-pub fn body_of(automaton: &Automaton, rule: usize) -> &[Sym] {
+fn body_of(automaton: &Automaton, rule: usize) -> &[Sym] {
     if rule < automaton.grammar().rules() {
         automaton.grammar().rule(rule).body()
     } else {
@@ -76,7 +71,7 @@ pub fn body_of(automaton: &Automaton, rule: usize) -> &[Sym] {
 }
 
 /// Where the item stands in its state.
-pub fn index_of(automaton: &Automaton, q: usize, item: Item) -> Option<usize> {
+fn index_of(automaton: &Automaton, q: usize, item: Item) -> Option<usize> {
     items_of(automaton, q).iter().position(|i| *i == item)
 }
 
@@ -181,6 +176,11 @@ pub fn lookaheads(alloc: Global, automaton: &Automaton) -> Result<Option<Facts>,
         }
     }
     Ok(None)
+}
+
+/// Whether the token is a lookahead of the item in the state.
+fn has_look(automaton: &Automaton, q: usize, item: Item, t: Sym) -> bool {
+    q < automaton.states() && t < automaton.grammar().symbols() && automaton.looks(q, item, t)
 }
 
 /// Whether the item's lookaheads in the state are those of the reference.

@@ -1,16 +1,22 @@
 //! Grammars with cells that have a choice and without, and as many conflicts as there may be.
 
-use crate::asked::{choice_free, conflicts};
-use crate::grammars::{DANGLING, ENDLESS, ITSELF, LINES, MERGED, ONE};
-use std::alloc::{AllocError, Global};
+use std::alloc::Global;
 use std::test::Fail;
+use testkit::tables::tables_of;
+use testkit::texts::repeated;
+use testkit::worked::{DANGLING, ENDLESS, LIST, ONE, SUMS};
 use ytables::Counts;
+
+/// Whether no cell has a choice.
+fn choice_free(alloc: Global, grammar: &[u8]) -> Result<bool, Fail> {
+    Ok(tables_of(alloc, grammar)?.choice_free())
+}
 
 #[test]
 fn no_choices(rt: HostRuntime) -> Result<(), Fail> {
     let grammars: [&[u8]; 7] = [
         ONE,
-        LINES,
+        LIST,
         b"%% s : ;",
         b"%% s : 'a' { x } 'b' { y } ;",
         b"%% s : p q 'x' ; p : 'y' ; q : ;",
@@ -28,10 +34,10 @@ fn no_choices(rt: HostRuntime) -> Result<(), Fail> {
 fn choices(rt: HostRuntime) -> Result<(), Fail> {
     let grammars: [&[u8]; 10] = [
         DANGLING,
-        MERGED,
-        ITSELF,
         ENDLESS,
-        b"%token NUM %left '+' %left '*' %% e : e '+' e | e '*' e | NUM ;",
+        SUMS,
+        b"%% s : 'a' p 'd' | 'b' q 'd' | 'a' q 'e' | 'b' p 'e' ; p : 'c' ; q : 'c' ;",
+        b"%% s : s | 'x' ;",
         b"%token NUM %nonassoc '<' %% e : e '<' e | NUM ;",
         b"%% s : p '+' | q '+' | 'n' '+' ; p : 'n' ; q : 'n' ;",
         b"%left '+' %left HI %% s : p '+' | q '+' | 'n' '+' ; p : 'n' %prec HI ; q : 'n' ;",
@@ -44,22 +50,14 @@ fn choices(rt: HostRuntime) -> Result<(), Fail> {
     Ok(())
 }
 
-/// A symbol with so many empty rules and one more.
-fn bars(alloc: Global, count: usize) -> Result<Vec<u8>, AllocError> {
-    let mut text = Vec::from_slice(alloc, b"%% s :")?;
-    for _ in 0..count {
-        text.push(b'|')?;
-    }
-    Ok(text)
-}
-
 #[test]
 fn as_many_empty_rules_as_there_may_be(rt: HostRuntime) -> Result<(), Fail> {
-    let most = bars(rt.alloc(), 8190)?;
+    let most = repeated(rt.alloc(), b"%% s :", b"|", 8190, b"")?;
     let wanted = Counts {
         shift_reduce: 0,
         reduce_reduce: 8190,
     };
-    assert_eq!(rt; conflicts(rt.alloc(), most.as_slice())?, wanted);
+    let conflicts = tables_of(rt.alloc(), &most)?.conflicts();
+    assert_eq!(rt; conflicts, wanted);
     Ok(())
 }

@@ -1,0 +1,19 @@
+//! Long texts of a piece that repeats.
+
+use std::alloc::{AllocError, Global};
+
+/// A text, a piece so many times, and what stands behind them.
+pub fn repeated(
+    alloc: Global,
+    head: &[u8],
+    piece: &[u8],
+    times: usize,
+    end: &[u8],
+) -> Result<Vec<u8>, AllocError> {
+    let mut text = Vec::from_slice(alloc, head)?;
+    for _ in 0..times {
+        text.extend_from_slice(piece)?;
+    }
+    text.extend_from_slice(end)?;
+    Ok(text)
+}
