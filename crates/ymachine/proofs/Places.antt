@@ -1,7 +1,7 @@
 -- What a step of a parse in place rests on, and what it shows.
-use Rattle.std.proofs.Common.{ℕ, ◌≡◌, ◌≤◌, ◌+◌, ◌-◌, ◌==◌, Bool, true, false, if◌then◌else◌, []}
-use Rattle.std.proofs.Common.{◌∷◌, ◌++◌, length, IsTrue, Option, Some, None, refl, sym, ◌∙◌, ap}
-use Rattle.std.proofs.Common.{subst, arith}
+use Rattle.std.proofs.Common.{◌≡◌, true, false}
+use Rattle.std.proofs.Common.{IsTrue, Option, Some, None, refl, sym, ◌∙◌, ap}
+use Rattle.std.proofs.Common.{subst}
 use Rattle.std.specs.Prelude.{is_some, unwrap_or}
 use Rattle.std.specs.Option.{option_map}
 use Rattle.ymachine.specs.declared.machine.Edit.{Edit}
@@ -9,16 +9,10 @@ use Rattle.ymachine.specs.declared.machine.StepKind.{StepKind}
 use Rattle.ymachine.specs.Machine.{Configuration, next, edited}
 use Rattle.ymachine.specs.MachineOver.{machine_over}
 use Rattle.ymachine.specs.Sound.{Sound}
-use Rattle.ytables.specs.Tables.{TablesValue as Tables}
-use Rattle.ymachine.specs.declared.machine.StepKind.TheVariants as kinds
-use Rattle.ymachine.specs.Content.{Content, Place, kind_in, place_after, content_after}
-use Rattle.ymachine.specs.Content.{content_before}
+use Rattle.ymachine.specs.Content.{Place, kind_in, place_after}
 use Rattle.ymachine.specs.Content.{place_next, place_edited, edit_kind}
 use Rattle.ymachine.specs.Content.{configuration_of, valid}
 use Rattle.ymachine.specs.Ahead.{LeadsOn}
-use Rattle.ymachine.specs.declared.parts.PlaceChange.{PlaceChange}
-use Rattle.ymachine.specs.Rest.{Rest, without_first, with_first_back}
-use Rattle.ymachine.specs.Machine.{without_last}
 use Rattle.ymachine.proofs.Facts.{facts, is_valid}
 use Rattle.ymachine.proofs.Moves.{Leads, moves, halts, changes, unchanged, unmoving}
 

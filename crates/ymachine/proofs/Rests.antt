@@ -5,8 +5,7 @@ use Rattle.std.proofs.Common.{get_or, refl, sym, ap, ap₂, ◌∙◌, arith, le
 use Rattle.std.specs.Prelude.{◌||◌, nat_lt}
 use Rattle.std.proofs.lemmas.Bool.{eqb-true, ltb-true, ltb-false, lt-ltb, leb-true, le-leb}
 use Rattle.std.proofs.lemmas.List.{reverse-append, length-append, length-map, length-reverse}
-use Rattle.std.proofs.lemmas.List.{get_or_append_left, get_or-append_right, get_or-map}
-use Rattle.std.proofs.lemmas.List.{get_or-reverse}
+use Rattle.std.proofs.lemmas.List.{get_or-append_right}
 use Rattle.ymachine.specs.Machine.{lookahead, without_last}
 use Rattle.ymachine.specs.History.{places_from}
 use Rattle.ymachine.specs.Rest.{Rest, at_no_place, rest_left, ahead, is_left, place_left}

@@ -9,14 +9,13 @@ use Rattle.ylalr.specs.Collection.{HasStates, bare_of}
 use Rattle.ytables.specs.declared.cell.Action.TheVariants as actions
 use Rattle.ytables.specs.Allowed.{CellsAllow}
 use Rattle.ytables.specs.Tables.{TablesValue as Tables}
-use Rattle.ymachine.specs.Machine.{symbols, without_last}
-use Rattle.ymachine.specs.MachineOver.{move_of, machine_over}
-use Rattle.ymachine.specs.History.{History, IsHistory, first_configuration}
-use Rattle.ymachine.specs.Tables.{rule_of, goto_at, goto_from, cell_at, state_after}
+use Rattle.ymachine.specs.Machine.{without_last}
+use Rattle.ymachine.specs.MachineOver.{move_of}
+use Rattle.ymachine.specs.Tables.{rule_of, goto_at, cell_at, state_after}
 use Rattle.ymachine.specs.Sound.{Sound}
 use Rattle.ymachine.proofs.Prefixes.{reverse_push, Viable, viable_expected, handle}
 use Rattle.ymachine.proofs.StepKinds.{without_last_append}
-use Rattle.ymachine.proofs.Machines.{LeadsIn, Licensed, sound_machine, leads, leads_on}
+use Rattle.ymachine.proofs.Machines.{LeadsIn, Licensed, leads, leads_on}
 use Rattle.ymachine.proofs.Machines.{leads_some, licensed_state}
 
 pub sound : (t : Tables) → WellFormed (bare_of t.built) → HasStates t.built → CellsAllow t → Sound t

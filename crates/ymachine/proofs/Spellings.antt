@@ -1,12 +1,9 @@
 -- Bytes that name exactly one token.
-use Rattle.std.proofs.Common.{ℕ, zero, suc, ◌≡◌, nat_lt, Bool, true, false, if◌then◌else◌}
-use Rattle.std.proofs.Common.{List, [], ◌∷◌, Option, Some, None, Result, Ok, Err}
-use Rattle.std.proofs.Common.{refl, sym, ◌∙◌, subst}
-use Rattle.ytokens.specs.TokensFile.{most_tokens}
-use Rattle.ytokens.specs.declared.tokens.TokenFault.{TokenFault}
-use Rattle.ytokens.specs.declared.tokens.TokenFault.TheVariants as faults
+use Rattle.std.proofs.Common.{ℕ, ◌≡◌, Bool, true, false}
+use Rattle.std.proofs.Common.{List, [], ◌∷◌, Option, Some, None, Ok, Err}
+use Rattle.std.proofs.Common.{refl, sym, ◌∙◌}
 use Rattle.ytokens.specs.TokensFile.{Front, nothing, word, broken, Says, token, answer}
-use Rattle.ytokens.specs.TokensFile.{by_name, says, with_token, Comes, Reads, Outcome}
+use Rattle.ytokens.specs.TokensFile.{says, Comes, Outcome}
 use Rattle.std.specs.Prelude.{IfSome, is_some}
 use Rattle.ytokens.specs.Symbols.{is_input}
 use Rattle.ymachine.specs.Machine.{Machine}

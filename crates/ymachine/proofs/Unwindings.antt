@@ -6,11 +6,10 @@ use Rattle.std.specs.List.{All}
 use Rattle.std.proofs.lemmas.List.Elements.{All-head, All-tail, All-cons, All-nil}
 use Rattle.std.proofs.lemmas.List.{reverse-reverse}
 use Rattle.ysymbols.specs.Derivation.{Replaces}
-use Rattle.ysymbols.specs.Grammar.{ContextFree, left_of, body_of, IsToken, end_token, error_token}
+use Rattle.ysymbols.specs.Grammar.{ContextFree, left_of, body_of, IsToken, end_token}
 use Rattle.ysymbols.specs.Grammar.{start_of}
 use Rattle.ysymbols.specs.Forms.{IsRule, IsRightmostRun, last_of}
 use Rattle.ysymbols.specs.WellFormed.{WellFormed}
-use Rattle.ylalr.specs.Items.{start}
 use Rattle.ymachine.specs.declared.machine.Mode.{Mode}
 use Rattle.ymachine.specs.declared.machine.Mode.TheVariants.{Running, Popping, Accepted, Failed}
 use Rattle.ymachine.specs.declared.machine.StepKind.{StepKind}
@@ -27,7 +26,6 @@ use Rattle.std.proofs.lemmas.Bool.{ltb-true}
 use Rattle.ytokens.specs.Symbols.{is_input}
 use Rattle.ysymbols.proofs.Derivations.{rule_is}
 use Rattle.ymachine.proofs.Ends.{first, second}
-use Rattle.ymachine.proofs.Prefixes.{reverse_push, Viable, viable, viable_expected, expects_last}
 use Rattle.ymachine.proofs.Prefixes.{handle, at_accept}
 use Rattle.ymachine.proofs.StepKinds.{without_last_append, Stepped, shifts, reduces, accepts, fails}
 use Rattle.ymachine.proofs.StepKinds.{detects, discards, pops, shifts_error, inserts, drops, came}

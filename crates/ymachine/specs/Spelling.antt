@@ -1,5 +1,5 @@
 -- The input token that some bytes spell.
-use Rattle.std.specs.Prelude.{ℕ, ◌≡◌, ◌-◌, ◌||◌, Bool, false, List, [], ◌∷◌, length, slice_index_or}
+use Rattle.std.specs.Prelude.{ℕ, ◌≡◌, false, List, [], ◌∷◌}
 use Rattle.std.specs.Prelude.{Option, Some, None, Ok}
 use Rattle.ytokens.specs.TokensFile.{Outcome, has_blank_end}
 use Rattle.ymachine.specs.Machine.{Machine}

@@ -1,5 +1,5 @@
 -- What the tables say: cells and gotos by state, rules by number.
-use Rattle.std.specs.Prelude.{ℕ, ◌&&◌, Bool, nat_lt, List, [], ◌∷◌, length, Option}
+use Rattle.std.specs.Prelude.{ℕ, ◌&&◌, nat_lt, List, [], ◌∷◌, length, Option}
 use Rattle.std.specs.Prelude.{Some, None, if◌then◌else◌}
 use Rattle.ysymbols.specs.Grammar.{Production}
 use Rattle.ysymbols.specs.Grammar as grammar

@@ -1,2 +1,3 @@
 pub mod Unwound
 pub mod Sessions
+pub mod Settings

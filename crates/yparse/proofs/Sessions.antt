@@ -10,7 +10,7 @@ use Rattle.std.proofs.Math.Logic.{∥∥₁_map}
 use Rattle.ytables.specs.Tables.{TablesValue as Tables}
 use Rattle.ymachine.specs.declared.machine.StepKind.{StepKind}
 use Rattle.ymachine.specs.declared.machine.StepFault.{StepFault}
-use Rattle.ymachine.specs.declared.machine.StepFault.TheVariants.{Halted, NoToken, Limit, Memory}
+use Rattle.ymachine.specs.declared.machine.StepFault.TheVariants.{Memory}
 use Rattle.ymachine.specs.declared.machine.AtStart.{AtStart}
 use Rattle.ymachine.specs.declared.machine.Deed.{Deed}
 use Rattle.ymachine.specs.declared.machine.Deed.TheVariants as deeds

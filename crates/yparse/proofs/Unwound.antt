@@ -21,11 +21,6 @@ use Rattle.ymachine.specs.Unwinding.{forms_before, forms_from, forms_of, names_t
 use Rattle.ymachine.specs.Unwinding.{forms_text}
 use Rattle.std.proofs.lemmas.List.Elements.{All-append, All-cons, All-map, All-nil}
 use Rattle.std.proofs.lemmas.List.{get_or-map, reverse-reverse, reverse-append}
-use Rattle.std.proofs.lemmas.List.{length-append, length-reverse}
-use Rattle.ymachine.specs.declared.parts.StackEntry.{StackEntry}
-use Rattle.ymachine.specs.Tree.{Tree}
-use Rattle.ymachine.specs.Content.{entry_view}
-use Rattle.ymachine.specs.Machine.{Entry, symbols}
 use Rattle.ymachine.proofs.Shown.{length-map}
 use Rattle.yparse.specs.Unwound.{gap, Stops, GoesBack}
 
