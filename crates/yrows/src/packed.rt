@@ -163,9 +163,10 @@ impl<T: Copy> Packed<T> {
         self.width
     }
 
-    /// Where the columns of each row begin.
-    #[cfg(test)]
-    pub fn displacements(&self) -> &[usize] {
+    /// Where the columns of each row begin. Which displacement a row gets is no part of a promise.
+    pub fn displacements(&self) -> &[usize]
+        ensures { length result.now ≡ length self.now.rows }
+    {
         self.displacements.as_slice()
     }
 
@@ -192,63 +193,6 @@ impl<T: Copy> Packed<T> {
         self.slots.take(&columns, d)?;
         self.displacements.push(d)?;
         write(&mut self.cells, &mut self.owners, n, d, row);
-        Ok(())
-    }
-}
-
-#[cfg(test)]
-mod tests {
-    use super::*;
-    use std::test::Fail;
-
-    /// The entry of a column that is filled, or free.
-    fn entry(filled: bool) -> Option<bool> {
-        if filled { Some(true) } else { None }
-    }
-
-    /// Whether rows that are filled at these columns begin there.
-    fn begin_at(alloc: Global, rows: &[[bool; 3]], begins: &[usize]) -> Result<bool, Fail> {
-        let mut packed: Packed<bool> = Packed::new(alloc, 3);
-        for row in rows {
-            if packed.width() != 3 {
-                return Ok(false);
-            }
-            packed.push(alloc, &[entry(row[0]), entry(row[1]), entry(row[2])])?;
-        }
-        Ok(packed.displacements() == begins)
-    }
-
-    #[test]
-    fn rows_that_do_not_meet_begin_at_the_front(rt: HostRuntime) -> Result<(), Fail> {
-        let rows = [
-            [false, false, true],
-            [false, false, false],
-            [true, false, false],
-        ];
-        assert!(rt; begin_at(rt.alloc(), &rows, &[0, 0, 0])?);
-        Ok(())
-    }
-
-    #[test]
-    fn a_row_that_meets_another_begins_behind(rt: HostRuntime) -> Result<(), Fail> {
-        let rows = [
-            [false, false, true],
-            [false, false, false],
-            [true, false, true],
-            [false, false, false],
-        ];
-        assert!(rt; begin_at(rt.alloc(), &rows, &[0, 0, 1, 0])?);
-        Ok(())
-    }
-
-    #[test]
-    fn a_row_fills_the_gap_of_another(rt: HostRuntime) -> Result<(), Fail> {
-        let rows = [
-            [true, false, true],
-            [true, false, true],
-            [false, true, false],
-        ];
-        assert!(rt; begin_at(rt.alloc(), &rows, &[0, 1, 3])?);
         Ok(())
     }
 }

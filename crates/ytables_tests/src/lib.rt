@@ -1,10 +1,12 @@
 //! Tests of tables that need code: cells and choices by the public calls, as many conflicts as
-//! there may be, and writers that take a byte a call or fail.
+//! there may be, where packed rows go, and writers that take a byte a call or fail.
 #![tactic(auto)]
 
 #[cfg(test)]
 mod cells;
 #[cfg(test)]
 mod choices;
+#[cfg(test)]
+mod displacements;
 #[cfg(test)]
 mod writers;
