@@ -1,8 +1,9 @@
-//! Steps and edits that are refused since memory has run out: they change nothing, and can be made later.
+//! Steps and edits that are refused since memory has run out: they change nothing, and can be made
+//! later.
 
 use crate::devices::Memory::{Goes, Returns, Stays};
 use crate::devices::Taking;
-use crate::told::told;
+use crate::told::{told, writes};
 use std::alloc::Global;
 use std::test::Fail;
 use testkit::devices::Source;
@@ -50,20 +51,15 @@ fn a_refused_step_changes_nothing(rt: HostRuntime) -> Result<(), Fail> {
 /// Whether this first edit, which is refused, changes nothing, and where memory is given again
 /// is made and undone with these words.
 fn is_edited_later(alloc: Global, edit: &[u8], want: &[u8]) -> Result<bool, Fail> {
-    let (writer, refused) = told(
-        alloc,
-        ONE,
-        b"'x'",
-        &[
-            (Goes, edit),
-            (Stays, b"insert q\n"),
-            (Stays, b"show\n"),
-            (Returns, edit),
-            (Goes, b"back 9\n"),
-            (Stays, b"show\n"),
-        ],
-    )?;
-    Ok(refused && writer.text() == want)
+    let lines: [(_, &[u8]); 6] = [
+        (Goes, edit),
+        (Stays, b"insert q\n"),
+        (Stays, b"show\n"),
+        (Returns, edit),
+        (Goes, b"back 9\n"),
+        (Stays, b"show\n"),
+    ];
+    writes(alloc, ONE, b"'x'", &lines, want)
 }
 
 #[test]

@@ -25,3 +25,15 @@ pub fn told(
     answer?;
     Ok((writer.into_inner(), refused))
 }
+
+/// Whether memory was refused, and the session wrote this all the same.
+pub fn writes(
+    alloc: Global,
+    grammar: &[u8],
+    tokens: &[u8],
+    lines: Lines<'_>,
+    want: &[u8],
+) -> Result<bool, Fail> {
+    let (writer, refused) = told(alloc, grammar, tokens, lines)?;
+    Ok(refused && writer.text() == want)
+}

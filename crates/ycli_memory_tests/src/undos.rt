@@ -1,22 +1,9 @@
 //! Every allocation is refused from the reading of a line on: undos, trees and forms need none.
 
 use crate::devices::Memory::{Goes, Stays};
-use crate::told::{Lines, told};
-use std::alloc::Global;
+use crate::told::writes;
 use std::test::Fail;
 use testkit::worked::{LIST, ONE, SPOILED, SUMS};
-
-/// Whether memory was refused, and the session wrote this all the same.
-fn writes(
-    alloc: Global,
-    grammar: &[u8],
-    tokens: &[u8],
-    lines: Lines<'_>,
-    want: &[u8],
-) -> Result<bool, Fail> {
-    let (writer, refused) = told(alloc, grammar, tokens, lines)?;
-    Ok(refused && writer.text() == want)
-}
 
 #[test]
 fn one_rule_is_undone(rt: HostRuntime) -> Result<(), Fail> {

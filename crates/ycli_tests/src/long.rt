@@ -1,9 +1,11 @@
 //! Sessions as long as they may be, and trees as deep.
 
-use std::alloc::{AllocError, Global};
+use std::alloc::Global;
 use std::test::Fail;
 use testkit::bytes::Bytes;
 use testkit::devices::Source;
+use testkit::texts::repeated;
+use testkit::worked::ENDLESS;
 use ycli::stepper::step_through;
 use ytables::Link;
 
@@ -14,9 +16,6 @@ fn replied(alloc: Global, grammar: &[u8], tokens: &[u8], commands: &[u8]) -> Res
     step_through(alloc, grammar, tokens, &mut reader, &mut writer)?;
     Ok(writer.into_inner())
 }
-
-/// An empty rule that goes before the only token, without end.
-const ENDLESS: &[u8] = b"%left 'x' %left HI %% s : e s | 'x' ; e : %prec HI ;";
 
 /// As many steps as there may be, one more, two edits, one back, all others back, and one more.
 const UP_AND_DOWN: &[u8] = b"run 1000000\nstep\ninsert 'x'\ndrop\nback 1\nback 1000000\nback 1\n";
@@ -46,19 +45,10 @@ fn a_million_steps_and_back(rt: HostRuntime) -> Result<(), Fail> {
 /// How many tokens there are, each a level of the tree.
 const LEVELS: usize = 400_000;
 
-/// So many tokens.
-fn tokens(alloc: Global) -> Result<Vec<u8>, AllocError> {
-    let mut text = Vec::with_capacity(alloc, 3 * LEVELS)?;
-    for _ in 0..LEVELS {
-        text.extend_from_slice(b"'x'")?;
-    }
-    Ok(text)
-}
-
 // Writing a tree takes no stack for a level, whether it is nested to the left or to the right.
 #[test]
 fn a_tree_of_many_levels(rt: HostRuntime) -> Result<(), Fail> {
-    let tokens = tokens(rt.alloc())?;
+    let tokens = repeated(rt.alloc(), b"", b"'x'", LEVELS, b"")?;
     for grammar in [b"%% s : | s 'x' ;", b"%% s : | 'x' s ;"] {
         let replies = replied(rt.alloc(), grammar, &tokens, b"run 1000000\ntree\n")?;
         // The acceptance, the steps, and the line of the tree.

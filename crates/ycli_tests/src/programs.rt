@@ -1,10 +1,10 @@
 //! The programs' calls, where streams and devices fail or a file is too long to be kept.
 
-use std::alloc::{AllocError, Global};
 use std::os::unix::fs::symlink;
 use std::test::Fail;
 use std::{fs, io};
 use testkit::devices::{Refusal, Sink, Source};
+use testkit::texts::repeated;
 use testkit::worked::STORED;
 use ycli::generator::yacc_run;
 use ycli::programs::ystep_run;
@@ -42,20 +42,12 @@ fn step(rt: &HostRuntime, tokens: &str, refused_read: usize, refusal: Refusal) -
     }
 }
 
-/// One token more than there may be.
-fn many_tokens(alloc: Global) -> Result<Vec<u8>, AllocError> {
-    let mut text = Vec::with_capacity(alloc, 3_000_003)?;
-    for _ in 0..1_000_001 {
-        text.extend_from_slice(b"'x'")?;
-    }
-    Ok(text)
-}
-
 #[test]
 fn streams_fail_and_tokens_are_too_many(rt: HostRuntime) -> Result<(), Fail> {
     fs::write(&rt, "step.y", GRAMMAR)?;
     fs::write(&rt, "few.tokens", "'x'\n")?;
-    fs::write(&rt, "many.tokens", many_tokens(rt.alloc())?.as_slice())?;
+    let tokens = repeated(rt.alloc(), b"", b"'x'", 1_000_001, b"")?;
+    fs::write(&rt, "many.tokens", tokens.as_slice())?;
     let unread = step(&rt, "few.tokens", 1, Refusal::Never);
     let unwritten = step(&rt, "few.tokens", 0, Refusal::Refuses(1));
     let many = step(&rt, "many.tokens", 0, Refusal::Never);

@@ -7,23 +7,21 @@ use ycli::fault::SessionFault;
 use ycli::stepper::{StepperFault, step_through};
 use ytables::Link;
 
-/// How a session ended.
-#[derive(Clone, Copy, Debug, PartialEq, Eq)]
-enum End {
-    Served,
-    Unread,
-    Unwritten,
-    /// There was no session.
-    Never,
-}
+/// How a session ended; `None` where there was none.
+type End = Option<Result<(), SessionFault>>;
+
+const SERVED: End = Some(Ok(()));
+
+const UNREAD: End = Some(Err(SessionFault::Read));
+
+const UNWRITTEN: End = Some(Err(SessionFault::Write));
 
 /// How the stepper's answer says that a session ended.
 fn end_of(answer: &Result<(), StepperFault>) -> End {
     match answer {
-        Ok(()) => End::Served,
-        Err(StepperFault::Session(SessionFault::Read)) => End::Unread,
-        Err(StepperFault::Session(SessionFault::Write)) => End::Unwritten,
-        Err(_) => End::Never,
+        Ok(()) => SERVED,
+        Err(StepperFault::Session(fault)) => Some(Err(*fault)),
+        Err(_) => None,
     }
 }
 
@@ -61,16 +59,8 @@ fn few_bytes_a_call_give_the_same_text(rt: HostRuntime) {
     for worked in [STORED, SPOILED, SUM, last] {
         for most in [1usize, 3, 7, 4096] {
             let (end, sink) = cut(rt.alloc(), worked, most, Refusal::Never);
-            assert_eq!(rt; (end, sink.text()), (End::Served, worked.text));
+            assert_eq!(rt; (end, sink.text()), (SERVED, worked.text));
         }
-    }
-}
-
-#[test]
-fn each_reply_is_flushed(rt: HostRuntime) {
-    for (worked, replies) in WORKED.into_iter().zip([7usize, 3, 3]) {
-        let (_, sink) = cut(rt.alloc(), worked, 4096, Refusal::Never);
-        assert_eq!(rt; sink.flushes(), replies);
     }
 }
 
@@ -78,7 +68,7 @@ fn each_reply_is_flushed(rt: HostRuntime) {
 /// no call after it.
 fn ends_there(alloc: Global, worked: Worked, most: usize, call: usize) -> bool {
     let (end, sink) = cut(alloc, worked, most, Refusal::Refuses(call));
-    end == End::Unwritten && worked.text.starts_with(sink.text()) && sink.calls() == call
+    end == UNWRITTEN && worked.text.starts_with(sink.text()) && sink.calls() == call
 }
 
 /// Whether every refused call of the writer ends the session there, and one more call would never
@@ -97,7 +87,7 @@ fn ends_at_each_call(alloc: Global, worked: Worked, most: usize) -> bool {
         most,
         Refusal::Refuses(calls.saturating_add(1)),
     );
-    calls > 0 && end == End::Served && sink.text() == worked.text
+    calls > 0 && end == SERVED && sink.text() == worked.text
 }
 
 #[test]
@@ -117,9 +107,9 @@ fn goes_on(alloc: Global, worked: Worked, most: usize) -> Option<usize> {
     let mut unharmed: usize = 0;
     for call in 1..=whole.calls().min(2000) {
         let (end, sink) = cut(alloc, worked, most, Refusal::TakesNone(call));
-        if end == End::Served && sink.text() == worked.text {
+        if end == SERVED && sink.text() == worked.text {
             unharmed = unharmed.wrapping_add(1);
-        } else if end != End::Unwritten || !worked.text.starts_with(sink.text()) {
+        } else if end != UNWRITTEN || !worked.text.starts_with(sink.text()) {
             return None;
         }
     }
@@ -152,7 +142,7 @@ fn answers_what_was_read(alloc: Global, worked: Worked, most: usize, call: usize
     let (end, sink) = served(alloc, worked, source, Sink::new(4096, Refusal::Never));
     let read = lines_before(worked.commands, most, call);
     let lines = worked.lines.get(read).copied().unwrap_or(0);
-    end == End::Unread && sink.text() == first_lines(worked.text, lines) && sink.flushes() == read
+    end == UNREAD && sink.text() == first_lines(worked.text, lines) && sink.flushes() == read
 }
 
 #[test]

@@ -1,35 +1,23 @@
 //! Tokens files of as many tokens as there may be, and tokens that fit other tables.
 
-use std::alloc::{AllocError, Global};
+use std::alloc::Global;
 use std::test::Fail;
 use testkit::tables::tables_of;
+use testkit::texts::repeated;
 use testkit::worked::{ONE, SUMS};
 use yparse::{TokenFault, read_tokens};
 use ytables::Tables;
 
-/// How a tokens text is refused, where it is; else how many tokens it has.
+/// How many tokens a text has, or how it is refused.
 fn count(alloc: Global, tables: &Tables, text: &[u8]) -> Result<usize, TokenFault> {
     let tokens = read_tokens(alloc, tables, text)?;
     Ok(tokens.len())
 }
 
-/// A million tokens, and what follows them.
-fn a_million(alloc: Global, end: &[u8]) -> Result<Vec<u8>, AllocError> {
-    let mut text = Vec::with_capacity(alloc, 3_000_010)?;
-    for _ in 0..1_000_000 {
-        text.extend_from_slice(b"'x'")?;
-    }
-    text.extend_from_slice(end)?;
-    Ok(text)
-}
-
 /// How a million tokens and this are read.
 fn counted(alloc: Global, end: &[u8]) -> Result<Result<usize, TokenFault>, Fail> {
-    let text = a_million(alloc, end)?;
-    let tables = tables_of(alloc, ONE)?;
-    let answer = count(alloc, &tables, &text);
-    drop(tables);
-    Ok(answer)
+    let text = repeated(alloc, b"", b"'x'", 1_000_000, end)?;
+    Ok(count(alloc, &tables_of(alloc, ONE)?, &text))
 }
 
 #[test]
