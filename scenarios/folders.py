@@ -1,10 +1,15 @@
 """Scenarios as folders: what one holds, and which stand below a root."""
+import re
 from dataclasses import dataclass
+from hashlib import sha256
 from pathlib import Path
 
-BACK = ("stdout", "message", "status")
-OWN = {"words", "stdin", "about", "left", *BACK}
+SUM = "stdout.sum"
+BACK = ("stdout", SUM, "message", "status")
+OWN = {"words", "stdin", "about", "links", "streams", "left", *BACK}
 UNREAD = "unread"
+TIMES = ".times"
+REPEATED = re.compile(rb"\*(\d+) (.*)\n?")
 
 
 class Fault(Exception):
@@ -19,6 +24,8 @@ class Scenario:
     words: list
     stdin: bytes
     inputs: dict
+    links: dict
+    streams: dict
     wanted: dict
 
 
@@ -69,6 +76,32 @@ def words_of(text):
     return words if words[-1] else words[:-1]
 
 
+def pairs_of(text):
+    """What a file of two words a line says of the first ones."""
+    pairs = [line.split() for line in text.decode().splitlines()]
+    if any(len(pair) != 2 for pair in pairs):
+        raise Fault("a line of links or streams has other than two words")
+    return dict(pairs)
+
+
+def repeated(line):
+    """What a line `*COUNT PIECE` stands for: the piece so often, with its number for each `#`."""
+    found = REPEATED.fullmatch(line)
+    if not found:
+        return line
+    return b"".join(found[2].replace(b"#", b"%d" % n) for n in range(1, int(found[1]) + 1))
+
+
+def spelled_out(files):
+    """The files, where one that is to be repeated stands for what it says."""
+    return {
+        path.removesuffix(TIMES): b"".join(map(repeated, text.splitlines(keepends=True)))
+        if path.endswith(TIMES)
+        else text
+        for path, text in files.items()
+    }
+
+
 def look_at_about(text):
     """Raises a fault where nothing is said of a scenario, or nobody has read it yet."""
     lines = text.decode(errors="replace").split("\n")
@@ -83,7 +116,17 @@ def wanted_of(held, inputs):
     wanted = {"stdout": b"", "message": b"", "status": b"0\n"}
     wanted.update((f"left/{path}", text) for path, text in inputs.items())
     back = {path: it for path, it in held.items() if path in BACK or path.startswith("left/")}
+    if SUM in back:
+        del wanted["stdout"]
     return {**wanted, **back}
+
+
+def summed(made, wanted):
+    """What came back, with the sum of standard output in its place where that is wanted."""
+    if SUM not in wanted:
+        return made
+    others = {path: it for path, it in made.items() if path != "stdout"}
+    return {**others, SUM: f"{sha256(made['stdout']).hexdigest()}\n".encode()}
 
 
 def read(folder, root, accepting):
@@ -95,9 +138,11 @@ def read(folder, root, accepting):
     if not accepting:
         look_at_about(held["about"])
     own = {path: it for path, it in held.items() if path.split("/")[0] not in OWN}
-    inputs = {**shared_with(folder, root), **own}
+    inputs = spelled_out({**shared_with(folder, root), **own})
     words = words_of(held["words"])
-    return Scenario(folder, words, held.get("stdin", b""), inputs, wanted_of(held, inputs))
+    links, streams = (pairs_of(held.get(name, b"")) for name in ("links", "streams"))
+    wanted = wanted_of(held, inputs)
+    return Scenario(folder, words, held.get("stdin", b""), inputs, links, streams, wanted)
 
 
 def lay(files, room):
@@ -118,7 +163,7 @@ def came_back(stdout, message, status, room):
 def fill_in(scenario, made):
     """Keeps what came back as what is wanted, to be read by someone."""
     folder, plain = scenario.folder, wanted_of({}, scenario.inputs)
-    lost = plain.keys() - made.keys()
+    lost = plain.keys() - made.keys() - {"stdout"}
     if lost:
         raise Fault(f"it takes {min(lost)} away, which no scenario can want")
     for path in files_below(folder):

@@ -15,12 +15,19 @@ ECHO = {**GOOD, "stdin": "echo out; echo told >&2; exit 3\n"}
 BACK = {"stdout": "out\n", "message": "told\n", "status": "3\n"}
 LEAVES = {**GOOD, "stdin": "echo a > made; mkdir in; echo b > in/made\n"}
 LEFT = {"left/made": "a\n", "left/in/made": "b\n"}
+# What sha256sum says of an x and a newline.
+SUM_OF_X = "73cb3858a687a8494ca3323053016282f3dad39d42cf62ca4e79dda2aac7d9ac\n"
 PASS = {
     "silent": GOOD,
     "streams": {**ECHO, **BACK},
     "leaves": {**LEAVES, **LEFT},
     "reads": {**GOOD, "stdin": "cat one in/two\n", "one": "1", "in/two": "2", "stdout": "12"},
     "group/shares": {**GOOD, "stdin": "cat shared\n", "stdout": "of both\n"},
+    "repeats": {**GOOD, "stdin": "cat some\n", "some.times": "of\n*3 #b\nend", "stdout": "of\n1b2b3bend"},
+    "sums": {**GOOD, "stdin": "echo x\n", "stdout.sum": SUM_OF_X},
+    "links": {**GOOD, "stdin": "cat null >&2\n", "links": "null /dev/null\n"},
+    "reads-no-file": {**GOOD, "streams": "stdin /dev/null\n"},
+    "writes-nowhere": {**ECHO, "streams": "stdout /dev/null\n", "message": "told\n", "status": "3\n"},
     "overwrites": {**GOOD, "stdin": "echo new > given\n", "given": "old\n", "left/given": "new\n"},
 }
 FAIL = {
@@ -31,6 +38,11 @@ FAIL = {
     "a-file-too-many": {**LEAVES, "left/made": "a\n"},
     "a-file-too-few": {**LEAVES, **LEFT, "left/other": ""},
     "another-file": {**LEAVES, **LEFT, "left/made": "b\n"},
+    "another-sum": {**GOOD, "stdin": "echo y\n", "stdout.sum": SUM_OF_X},
+    "other-repeats": {**GOOD, "stdin": "cat some\n", "some.times": "*3 ab\n", "stdout": "abab"},
+    "a-link-replaced": {**GOOD, "stdin": "rm it; echo > it\n", "links": "it /dev/null\n"},
+    "a-link-of-one-word": {**GOOD, "links": "it\n"},
+    "stream-of-no-file": {**GOOD, "streams": "stdin absent\n"},
     "changed-input": {**GOOD, "stdin": "echo new > given\n", "given": "old\n"},
     "vanished-input": {**GOOD, "stdin": "rm given\n", "given": "old\n"},
     "unread": {**GOOD, "about": "unread\nOne sentence.\n"},

@@ -3,6 +3,7 @@ import os
 import subprocess
 import tempfile
 from concurrent.futures import ThreadPoolExecutor
+from contextlib import ExitStack, contextmanager
 
 from folders import Fault, came_back, lay
 
@@ -14,12 +15,43 @@ def status_of(returned):
     return f"{returned}\n".encode() if returned >= 0 else f"signal {-returned}\n".encode()
 
 
+def lay_links(links, room):
+    for path, target in links.items():
+        os.symlink(target, f"{room}/{path}")
+
+
+def take_links(links, room):
+    """Takes the links away, which have to stand as they were laid."""
+    for path, target in links.items():
+        file = f"{room}/{path}"
+        if not os.path.islink(file) or os.readlink(file) != target:
+            raise Fault(f"{path} is no link to {target} any more")
+        os.unlink(file)
+
+
+@contextmanager
+def streams_of(scenario, room):
+    """The streams of a run: pipes, and what the scenario names in their place."""
+    how = {"input": scenario.stdin, "stdout": subprocess.PIPE, "stderr": subprocess.PIPE}
+    with ExitStack() as stack:
+        for name, path in scenario.streams.items():
+            flag = os.O_RDONLY if name == "stdin" else os.O_WRONLY
+            how[name] = os.open(os.path.join(room, path), flag)
+            stack.callback(os.close, how[name])
+        if "stdin" in how:
+            del how["input"]
+        yield how
+
+
 def run_in(room, scenario, program):
     lay(scenario.inputs, room)
-    how = {"cwd": room, "env": {}, "input": scenario.stdin, "timeout": SECONDS}
+    lay_links(scenario.links, room)
     words = [word.encode(errors="surrogateescape") for word in scenario.words]
-    ran = subprocess.run(words, executable=program, capture_output=True, **how)
-    return came_back(ran.stdout, ran.stderr, status_of(ran.returncode), room)
+    with streams_of(scenario, room) as streams:
+        how = {"cwd": room, "env": {}, "timeout": SECONDS, **streams}
+        ran = subprocess.run(words, executable=program, **how)
+    take_links(scenario.links, room)
+    return came_back(ran.stdout or b"", ran.stderr or b"", status_of(ran.returncode), room)
 
 
 def run(scenario, program):

@@ -19,7 +19,7 @@ sys.dont_write_bytecode = True
 import proved
 import tried
 from difference import differences
-from folders import Fault, fill_in, found_below, read
+from folders import Fault, fill_in, found_below, read, summed
 
 HERE = Path(__file__).resolve().parent
 
@@ -112,6 +112,7 @@ class Run:
         """Compares what came back with what is wanted, or keeps it."""
         if isinstance(made, Fault):
             return self.fail(scenario.folder, [f"{made}\n"])
+        made = summed(made, scenario.wanted)
         lines = list(differences(scenario.wanted, made))
         if lines and not self.accepting:
             return self.fail(scenario.folder, lines)

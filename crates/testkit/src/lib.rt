@@ -2,7 +2,6 @@
 //! and the tables of a grammar text.
 #![tactic(auto)]
 
-pub mod bytes;
 pub mod devices;
 pub mod tables;
 pub mod texts;

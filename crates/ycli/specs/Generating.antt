@@ -7,7 +7,7 @@ use Rattle.ylink.specs.Link.{device_of}
 use Rattle.ytables.specs.Tables.{TablesValue as Tables}
 use Rattle.ytables.specs.Table.{table_of}
 use Rattle.ytables.specs.Report.{report_of}
-use Rattle.ycli.specs.declared.arguments.YaccWords.{YaccWords}
+use Rattle.ywords.specs.declared.arguments.YaccWords.{YaccWords}
 use Rattle.ycli.specs.declared.message.Program.TheVariants.{Yacc}
 use Rattle.ycli.specs.declared.message.Trouble.{Trouble}
 use Rattle.ycli.specs.declared.message.Trouble.TheVariants.{Usage, Grammar, Tokens, TooManySets}
@@ -20,7 +20,7 @@ use Rattle.ycli.specs.declared.generator.Text.TheVariants as texts
 use Rattle.ycli.specs.declared.generator.Request.{Request}
 use Rattle.ycli.specs.declared.generator.Request.TheVariants as requests
 use Rattle.ycli.specs.Halves.{AreTablesOf}
-use Rattle.ycli.specs.Arguments.{yacc_app, AreYaccWordsIn}
+use Rattle.ywords.specs.Arguments.{yacc_app, AreYaccWordsIn}
 use Rattle.ycli.specs.Messages.{message, conflicts_line}
 use Rattle.ycli.specs.Programs.{AreMistaken, AreTaken, AskHelp, GrammarFails, Says, WordsFail}
 use Rattle.ycli.specs.Programs.{status_after}

@@ -7,7 +7,6 @@ pub mod Reply
 pub mod Transcript
 pub mod Plain
 pub mod Serving
-pub mod Arguments
 pub mod Programs
 pub mod Generating
 pub mod Halves

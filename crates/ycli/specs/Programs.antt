@@ -20,7 +20,7 @@ use Rattle.ylalr.specs.declared.fault.BuildFault.TheVariants as building
 use Rattle.ytokens.specs.declared.tokens.TokenFault.{TokenFault}
 use Rattle.ytokens.specs.declared.tokens.TokenFault.TheVariants as tokens
 use Rattle.ycli.specs.declared.fault.SessionFault.{SessionFault}
-use Rattle.ycli.specs.declared.arguments.YstepWords.{YstepWords}
+use Rattle.ywords.specs.declared.arguments.YstepWords.{YstepWords}
 use Rattle.ycli.specs.declared.message.Program.{Program}
 use Rattle.ycli.specs.declared.message.Program.TheVariants.{Ystep}
 use Rattle.ycli.specs.declared.message.Trouble.{Trouble}
@@ -42,7 +42,7 @@ use Rattle.ycli.specs.Halves.{AreTablesOf, Parses}
 use Rattle.ycli.specs.Headline.{Rests}
 use Rattle.ycli.specs.Plain.{HasOneText}
 use Rattle.ycli.specs.Transcript.{Tells, failed_read, failed_write}
-use Rattle.ycli.specs.Arguments.{ystep_app, ArePathsIn}
+use Rattle.ywords.specs.Arguments.{ystep_app, ArePathsIn}
 
 -- ---- statuses, and what a fault is to a program
 

@@ -7,7 +7,7 @@ ghost use Rattle.ylink.specs.Sends.{Grows, Sends};
 ghost use Rattle.ycli.specs.Generating.{Asks, EndsIn, FilesFail, Generates, Runs, WriteFails};
 ghost use Rattle.ycli.specs.Generating.{said_of, text_of};
 
-use crate::arguments::{YaccWords, yacc_words};
+use ywords::arguments::{YaccWords, yacc_words};
 use crate::files::tables_of;
 use crate::message::{Program, Trouble, put_conflicts};
 use clap::error::ErrorKind;
@@ -129,17 +129,32 @@ fn write_named<'a, F: Files + AllocGlobal>(
     }
 }
 
-/// Writes the files of a grammar, the table first, and counts its conflicts.
+/// Writes the files that the words ask for, the table first.
+fn write_files<'a, F: Files + AllocGlobal>(
+    rt: &F,
+    words: YaccWords<'a>,
+    tables: &Tables,
+) -> Result<(), Trouble<'a>>
+    ensures { IfErr result (WriteFails words.entry) }
+{
+    write_named(rt, words, tables, Text::Table)?;
+    if words.verbose() {
+        write_named(rt, words, tables, Text::Report)?;
+    }
+    Ok(())
+}
+
+/// Writes the files of a grammar and counts its conflicts.
 fn generate<'a, F: Files + AllocGlobal>(rt: &F, words: YaccWords<'a>) -> Result<Counts, Trouble<'a>>
     ensures wrote { IfOk result Generates }
     ensures fails { IfErr result (FilesFail words.entry) }
 {
     let tables = tables_of(rt, words.grammar())?;
-    write_named(rt, words, &tables, Text::Table)?;
-    if words.verbose() {
-        write_named(rt, words, &tables, Text::Report)?;
-    }
-    Ok(tables.conflicts())
+    let written = write_files(rt, words, &tables);
+    let counts = tables.conflicts();
+    drop(tables);
+    written?;
+    Ok(counts)
 }
 
 /// Does what the words ask for.

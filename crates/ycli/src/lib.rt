@@ -1,7 +1,7 @@
-//! The session engine of the parse stepper, and what a program does but for its exit.
+//! The session engine of the parse stepper, and what a program does but for its exit. The words of
+//! the programs are handed on.
 #![tactic(auto)]
 
-pub mod arguments;
 mod command;
 pub mod fault;
 mod files;
@@ -12,3 +12,5 @@ pub mod programs;
 mod reply;
 pub mod run;
 pub mod stepper;
+
+pub use ywords::arguments;

@@ -7,7 +7,7 @@ ghost use Rattle.ymachine.specs.MachineOver.{machine_over};
 ghost use Rattle.ycli.specs.Halves.{AreTablesOf, Parses};
 ghost use Rattle.ycli.specs.Programs.{Asks, Starts, FilesFail, TokensFail, EndsIn, Runs};
 
-use crate::arguments::{YstepWords, ystep_words};
+use ywords::arguments::{YstepWords, ystep_words};
 use crate::files::{bytes_of, tables_of};
 use crate::message::{Program, Trouble};
 use crate::run::run_session;

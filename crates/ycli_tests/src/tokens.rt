@@ -1,33 +1,11 @@
-//! Tokens files of as many tokens as there may be, and tokens that fit other tables.
+//! Tokens that fit the tables that they were read for, and others.
 
 use std::alloc::Global;
 use std::test::Fail;
 use testkit::tables::tables_of;
-use testkit::texts::repeated;
 use testkit::worked::{ONE, SUMS};
-use yparse::{TokenFault, read_tokens};
+use yparse::read_tokens;
 use ytables::Tables;
-
-/// How many tokens a text has, or how it is refused.
-fn count(alloc: Global, tables: &Tables, text: &[u8]) -> Result<usize, TokenFault> {
-    let tokens = read_tokens(alloc, tables, text)?;
-    Ok(tokens.len())
-}
-
-/// How a million tokens and this are read.
-fn counted(alloc: Global, end: &[u8]) -> Result<Result<usize, TokenFault>, Fail> {
-    let text = repeated(alloc, b"", b"'x'", 1_000_000, end)?;
-    Ok(count(alloc, &tables_of(alloc, ONE)?, &text))
-}
-
-#[test]
-fn a_million_tokens_are_the_most(rt: HostRuntime) -> Result<(), Fail> {
-    let alloc = rt.alloc();
-    assert_eq!(rt; counted(alloc, b"")?, Ok(1_000_000));
-    assert_eq!(rt; counted(alloc, b" \n")?, Ok(1_000_000));
-    assert_eq!(rt; counted(alloc, b" \n'")?, Err(TokenFault::TooMany));
-    Ok(())
-}
 
 /// Whether the tokens of a text for tables fit these, and fit others; nothing where it has none.
 fn fit(alloc: Global, tables: &Tables, others: &Tables, text: &[u8]) -> Option<(bool, bool)> {

@@ -2,7 +2,7 @@ use Rattle.std.proofs.Common.{ℕ, ◌≡◌, List, map, Bor, Err, inl, inr, ref
 use Rattle.std.proofs.lemmas.Result.{err_from_is_err_and}
 use Rattle.ylink.specs.declared.link.Link.{Link}
 use Rattle.ylink.specs.Link.{device_of}
-use Rattle.ycli.specs.declared.arguments.YaccWords.{YaccWords}
+use Rattle.ywords.specs.declared.arguments.YaccWords.{YaccWords}
 use Rattle.ycli.specs.declared.message.Trouble.{Trouble}
 use Rattle.ycli.specs.declared.message.Trouble.TheVariants.{Usage, Grammar, Tokens, TooManySets}
 use Rattle.ycli.specs.declared.message.Trouble.TheVariants.{NoMemory, CannotRead, CannotWrite}

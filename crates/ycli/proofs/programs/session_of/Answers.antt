@@ -3,7 +3,7 @@ use Rattle.ytables.specs.Tables.{TablesValue as Tables}
 use Rattle.yparse.specs.declared.session.Session.{Session}
 use Rattle.yparse.specs.Session.{machine_of, history_of}
 use Rattle.ymachine.specs.MachineOver.{machine_over}
-use Rattle.ycli.specs.declared.arguments.YstepWords.{YstepWords}
+use Rattle.ywords.specs.declared.arguments.YstepWords.{YstepWords}
 use Rattle.ycli.specs.declared.message.Trouble.{Trouble}
 use Rattle.ycli.specs.Halves.{AreTablesOf, Parses}
 use Rattle.ycli.specs.Programs.{FilesFail, Starts, TokensFail}

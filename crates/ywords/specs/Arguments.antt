@@ -1,0 +1,58 @@
+-- The command lines of the programs, as `clap` sees them.
+use Rattle.std.specs.Prelude.{ℕ, ◌≡◌, List, Some, codes, is_some, true, false, unwrap_or}
+use Rattle.std.specs.Option.{option_map_or}
+use Rattle.std.specs.Str.{bytes_eq}
+use Rattle.clap.specs.Words.{App, Rule, new_app, new_rule, with_rule, matches_of, first_of}
+use Rattle.clap.specs.Words.{first_value, found_of}
+use Rattle.clap.specs.declared.parser.matches.ArgMatches.{ArgMatches}
+use Rattle.clap.specs.declared.builder.action.ArgAction.TheVariants.{Set, SetTrue}
+use Rattle.ywords.specs.declared.arguments.YstepWords.{YstepWords}
+use Rattle.ywords.specs.declared.arguments.YaccWords.{YaccWords}
+
+-- a required argument, by its place, of one value
+abbrev pub required_argument : List ℕ → Rule
+required_argument id = record (new_rule id) { action = Some Set; required = true }
+
+-- `ystep grammar tokens`
+unfoldable pub ystep_app : App
+ystep_app =
+    with_rule (with_rule (new_app (codes "ystep")) (required_argument (codes "grammar")))
+    (required_argument (codes "tokens"))
+
+-- the paths are the values that these words give the two arguments
+abbrev pub ArePathsIn : List (List ℕ) → YstepWords → Type 0
+ArePathsIn words paths =
+    (first_of (codes "grammar") (matches_of ystep_app words) ≡ Some paths.grammar.now)
+    × (first_of (codes "tokens") (matches_of ystep_app words) ≡ Some paths.tokens.now)
+
+-- a value was found for each of the two
+abbrev pub HasBoth : ArgMatches → Type 0
+HasBoth found =
+    (is_some (first_value (found_of found) (codes "grammar")) ≡ true)
+    × (is_some (first_value (found_of found) (codes "tokens")) ≡ true)
+
+-- a flag of one letter with a value
+abbrev pub short_option : List ℕ → ℕ → Rule
+short_option id letter = record (new_rule id) { action = Some Set; short = Some letter }
+
+-- a flag of one letter without a value
+abbrev pub short_flag : List ℕ → ℕ → Rule
+short_flag id letter = record (new_rule id) { action = Some SetTrue; short = Some letter }
+
+-- `yacc [-v] [-b prefix] grammar`: 118 is `v`, 98 is `b`
+unfoldable pub yacc_app : App
+yacc_app =
+    with_rule (with_rule (with_rule (new_app (codes "yacc")) (short_flag (codes "verbose") 118))
+    (short_option (codes "prefix") 98)) (required_argument (codes "grammar"))
+
+-- what these words give: a grammar, a prefix or else `y`, and whether the flag stands among them
+pub record AreYaccWordsIn (words : List (List ℕ)) (said : YaccWords) : Type 0 where
+  pub grammar : first_of (codes "grammar") (matches_of yacc_app words) ≡ Some said.grammar.now
+  pub prefix : said.prefix.now ≡ unwrap_or (first_of (codes "prefix") (matches_of yacc_app words))
+      (codes "y")
+  pub verbose : said.verbose ≡ option_map_or (λ word. bytes_eq word (codes "true"))
+      (first_of (codes "verbose") (matches_of yacc_app words)) false
+
+-- a value was found for the grammar
+abbrev pub HasGrammar : ArgMatches → Type 0
+HasGrammar found = is_some (first_value (found_of found) (codes "grammar")) ≡ true

@@ -1,0 +1,172 @@
+//! The words of the programs.
+
+ghost use Rattle.std.specs.Prelude.{◌≡◌, IfOk, IfErr, map, true, false, codes, List, ℕ};
+ghost use Rattle.std.specs.Option.{option_map_or};
+ghost use Rattle.std.specs.Borrow.{Bor};
+ghost use Rattle.std.specs.Str.{bytes_eq};
+ghost use Rattle.clap.specs.Words.{FailsBy, IsParsedFrom, app_of, fault_of, kind_of, takes};
+ghost use Rattle.clap.specs.declared.error.kind.ErrorKind.TheVariants.{OutOfMemory};
+ghost use Rattle.clap.specs.declared.parser.matches.ArgMatches.{ArgMatches};
+ghost use Rattle.ywords.specs.Arguments.{ystep_app, yacc_app, ArePathsIn, AreYaccWordsIn, HasBoth};
+ghost use Rattle.ywords.specs.Arguments.{HasGrammar};
+
+use clap::{Arg, ArgAction, Command, Error};
+use std::alloc::{AllocError, Global};
+
+/// The words of `ystep`: the paths of a grammar file and of a tokens file.
+#[derive(Clone, Copy, Debug)]
+pub struct YstepWords<'a> {
+    grammar: &'a str,
+    tokens: &'a str,
+}
+
+impl<'a> YstepWords<'a> {
+    /// The path of the grammar file.
+    pub fn grammar(&self) -> &'a str
+        ensures { result ≡ self.now.grammar }
+    {
+        self.grammar
+    }
+
+    /// The path of the tokens file.
+    pub fn tokens(&self) -> &'a str
+        ensures { result ≡ self.now.tokens }
+    {
+        self.tokens
+    }
+}
+
+/// The command line of `ystep`. A parse of it gives both of its arguments.
+#[tactic(auto, unfolding(crate::specs::Arguments::ystep_app))]
+fn ystep_command<'a>(alloc: Global) -> Result<Command<'a>, AllocError>
+    ensures app { IfOk result (λ command. app_of command ≡ ystep_app) }
+    ensures both { IfOk result (λ command. (found : ArgMatches) → IsParsedFrom command found
+        → HasBoth found) }
+{
+    let grammar = Arg::new(alloc, "grammar")
+        .required(true)
+        .action(ArgAction::Set)
+        .help("The grammar file");
+    let tokens = Arg::new(alloc, "tokens")
+        .required(true)
+        .action(ArgAction::Set)
+        .help("The tokens file");
+    Command::new(alloc, "ystep")
+        .about("Steps a parse forward and back by the command lines of standard input")
+        .arg(grammar)?
+        .arg(tokens)
+}
+
+/// Reads the words of `ystep`, the program's name first among them.
+///
+/// The error is that of the command line's own crate: a request for help, a mistake in the words,
+/// or want of memory.
+pub fn ystep_words<'a>(alloc: Global, words: &'a [&'a str]) -> Result<YstepWords<'a>, Error>
+    // The paths are the values that the words give the two arguments.
+    ensures paths { IfOk result (ArePathsIn (map (λ word. word.now) words.entry.now)) }
+    // An error is the first fault of the words or want of memory, and words with a fault are
+    // refused.
+    ensures faults { FailsBy (fault_of ystep_app (map (λ word. word.now) words.entry.now)) result }
+    // Where the command line takes the words, want of memory is the one error.
+    ensures taken { IfErr result (λ e.
+        takes ystep_app (map (λ word. word.now) words.entry.now) ≡ true → kind_of e ≡ OutOfMemory) }
+{
+    let matches = ystep_command(alloc)?.try_get_matches_from(words)?;
+    let grammar = matches.get_str("grammar").unwrap();
+    let tokens = matches.get_str("tokens").unwrap();
+    Ok(YstepWords { grammar, tokens })
+}
+
+/// The words of `yacc`: the path of a grammar file, the prefix of the files to write, and whether a
+/// report is wanted.
+#[derive(Clone, Copy, Debug)]
+pub struct YaccWords<'a> {
+    grammar: &'a str,
+    prefix: &'a str,
+    verbose: bool,
+}
+
+impl<'a> YaccWords<'a> {
+    /// The path of the grammar file.
+    pub fn grammar(&self) -> &'a str
+        ensures { result ≡ self.now.grammar }
+    {
+        self.grammar
+    }
+
+    /// What the names of the files to write begin with; `y` unless it was given.
+    pub fn prefix(&self) -> &'a str
+        ensures { result ≡ self.now.prefix }
+    {
+        self.prefix
+    }
+
+    /// Whether the report is wanted beside the table.
+    pub fn verbose(&self) -> bool
+        ensures { result ≡ self.now.verbose }
+    {
+        self.verbose
+    }
+}
+
+/// The command line of `yacc`. A parse of it gives a grammar.
+#[tactic(auto, unfolding(crate::specs::Arguments::yacc_app))]
+fn yacc_command<'a>(alloc: Global) -> Result<Command<'a>, AllocError>
+    ensures app { IfOk result (λ command. app_of command ≡ yacc_app) }
+    ensures given { IfOk result (λ command. (found : ArgMatches) → IsParsedFrom command found
+        → HasGrammar found) }
+{
+    let verbose = Arg::new(alloc, "verbose")
+        .short('v')
+        .action(ArgAction::SetTrue)
+        .help("Writes the report PREFIX.output beside the table");
+    let prefix = Arg::new(alloc, "prefix")
+        .short('b')
+        .action(ArgAction::Set)
+        .help("The prefix of the files to write, y unless given");
+    let grammar = Arg::new(alloc, "grammar")
+        .required(true)
+        .action(ArgAction::Set)
+        .help("The grammar file");
+    Command::new(alloc, "yacc")
+        .about("Writes the LALR(1) table of a grammar file to PREFIX.tab")
+        .arg(verbose)?
+        .arg(prefix)?
+        .arg(grammar)
+}
+
+/// Whether the value of a flag says that it was given.
+fn is_set(value: Option<&str>) -> bool
+    ensures { result ≡ option_map_or (λ (word : Bor (List ℕ)). bytes_eq word.now (codes "true"))
+        value.entry false }
+{
+    match value {
+        Some(word) => word == "true",
+        None => false,
+    }
+}
+
+/// Reads the words of `yacc`, the program's name first among them.
+///
+/// The error is that of the command line's own crate: a request for help, a mistake in the words,
+/// or want of memory.
+pub fn yacc_words<'a>(alloc: Global, words: &'a [&'a str]) -> Result<YaccWords<'a>, Error>
+    // The values are those that the words give.
+    ensures values { IfOk result (AreYaccWordsIn (map (λ word. word.now) words.entry.now)) }
+    // An error is the first fault of the words or want of memory, and words with a fault are
+    // refused.
+    ensures faults { FailsBy (fault_of yacc_app (map (λ word. word.now) words.entry.now)) result }
+    // Where the command line takes the words, want of memory is the one error.
+    ensures taken { IfErr result (λ e.
+        takes yacc_app (map (λ word. word.now) words.entry.now) ≡ true → kind_of e ≡ OutOfMemory) }
+{
+    let matches = yacc_command(alloc)?.try_get_matches_from(words)?;
+    let grammar = matches.get_str("grammar").unwrap();
+    let prefix = matches.get_str("prefix").unwrap_or("y");
+    let verbose = is_set(matches.get_str("verbose"));
+    Ok(YaccWords {
+        grammar,
+        prefix,
+        verbose,
+    })
+}

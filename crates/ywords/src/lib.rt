@@ -1,0 +1,4 @@
+//! The words of the programs: what a command line asks of `yacc` and of `ystep`.
+#![tactic(auto)]
+
+pub mod arguments;
