@@ -1,0 +1,4 @@
+pub mod Verdict
+pub mod Sentences
+pub mod Laws
+pub mod Complete
