@@ -1,6 +1,6 @@
 -- Quiet histories: up to the first error that is detected each step is one of four kinds.
-use Rattle.std.proofs.Common.{inl, inr, ◌⊎◌, ℕ, ◌≡◌, ◌-◌, ◌==◌, Bool, true, false, List, [], ◌∷◌}
-use Rattle.std.proofs.Common.{◌++◌, if◌then◌else◌, refl, sym, ◌∙◌, ap, subst, arith}
+use Rattle.std.proofs.Common.{inl, inr, ◌⊎◌, ℕ, ◌≡◌, ◌≢◌, ◌-◌, ◌==◌, Bool, true, false, List, []}
+use Rattle.std.proofs.Common.{◌∷◌, ◌++◌, if◌then◌else◌, refl, sym, ◌∙◌, ap, subst, arith}
 use Rattle.std.proofs.Common.{Option, Some, None}
 use Rattle.std.specs.List.{All}
 use Rattle.std.proofs.lemmas.List.Elements.{All-nil, All-cons, All-head, All-tail}
@@ -28,6 +28,16 @@ truth false = ⊥
 
 pub true_false : true ≡ false → ⊥
 true_false e = subst truth e tt
+
+abbrev mode_number : Mode → ℕ
+mode_number Running = 0
+mode_number Popping = 1
+mode_number Accepted = 2
+mode_number Failed = 3
+
+-- one mode is not two
+pub apart : {a b c : Mode} → a ≡ b → a ≡ c → mode_number b ≢ mode_number c → ⊥
+apart e f h = h (ap mode_number (sym e ∙ f))
 
 abbrev clean : StepKind × Configuration → Type 0
 clean step = is_error_step step.0 ≡ false
@@ -179,12 +189,13 @@ no_detect (last ∷ earlier) x =
 pub data Plain (m : Machine) (c : Configuration) (k : StepKind) (n : Configuration) : Type 0 where
   plain_shift : (token : ℕ × ℕ) (rest : List (ℕ × ℕ)) → c.mode ≡ Running
       → m.cell (symbols c.stack) token.0 ≡ Shift → c.rest ≡ token ∷ rest → k ≡ kinds.Shift token.0
-      → symbols n.stack ≡ symbols c.stack ++ token.0 ∷ [] → n.rest ≡ rest → Plain m c k n
+      → symbols n.stack ≡ symbols c.stack ++ token.0 ∷ [] → n.rest ≡ rest → n.mode ≡ Running
+      → Plain m c k n
   plain_reduce : (r : ℕ) → c.mode ≡ Running
       → m.cell (symbols c.stack) (lookahead c.rest) ≡ Reduce r → k ≡ kinds.Reduce r
       → symbols n.stack
       ≡ without_last (width m r) (symbols c.stack) ++ (m.rule r).left ∷ [] → n.rest ≡ c.rest
-      → Plain m c k n
+      → n.mode ≡ Running → Plain m c k n
   plain_accept : c.mode ≡ Running → k ≡ kinds.Accept → n.stack ≡ c.stack → n.rest ≡ c.rest
       → n.mode ≡ Accepted → Plain m c k n
   plain_fail : k ≡ kinds.Fail → n.stack ≡ c.stack → n.rest ≡ c.rest → n.mode ≡ Failed
@@ -192,8 +203,8 @@ pub data Plain (m : Machine) (c : Configuration) (k : StepKind) (n : Configurati
 
 plain_step : {m : Machine} {c n : Configuration} {k : StepKind} → Stepped m c k n
     → is_error_step k ≡ false → is_edit k ≡ false → Plain m c k n
-plain_step (shifts t rest r h e k st re mo) x y = plain_shift t rest r h e k st re
-plain_step (reduces r d h k st re mo) x y = plain_reduce r d h k st re
+plain_step (shifts t rest r h e k st re mo) x y = plain_shift t rest r h e k st re mo
+plain_step (reduces r d h k st re mo) x y = plain_reduce r d h k st re mo
 plain_step (accepts d h k st re mo) x y = plain_accept d k st re mo
 plain_step (fails k st re mo) x y = plain_fail k st re mo
 plain_step (detects d h k st re mo) x y = absurd (true_false (sym (ap is_error_step k) ∙ x))

@@ -1,3 +1,4 @@
+use Rattle.yjudge.proofs.Soundness.{sound}
 use Rattle.yjudge.proofs.OneVerdict.{one_history, says_only, limit_says}
 use Rattle.yjudge.proofs.laws.verdict_laws.Goals as goal
 
@@ -9,3 +10,6 @@ returns-clause-one_verdict c = says_only
 
 pub returns-clause-limit : goal.returns-clause-limit
 returns-clause-limit c = limit_says
+
+pub returns-clause-sound : goal.returns-clause-sound
+returns-clause-sound c = sound
