@@ -4,3 +4,7 @@ pub mod Yields
 pub mod Shifted
 pub mod Beginnings
 pub mod Soundness
+pub mod Sentential
+pub mod Way
+pub mod Completeness
+pub mod Exactness

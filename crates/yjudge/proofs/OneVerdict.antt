@@ -130,13 +130,35 @@ no_further m first a b p q h k d l = by (beyond m first a b p q h k l)
             anything [] = All-nil (λ y. Unit {0})
             anything (y ∷ ys) = All-cons (λ y. Unit {0}) y ys tt (anything ys)
 
+same_history : (h other : History) → h.now ≡ other.now → h.earlier ≡ other.earlier → h ≡ other
+same_history h other e f =
+    ap (λ (c : Configuration). history c h.earlier) e
+    ∙ ap (λ (z : Steps). history other.now z) f
+
+-- two histories of one length that detect no error are equal
+pub one_history : OneHistoryLaw
+one_history m w h other q k e =
+    let r = same_length m (first_configuration w) h.now other.now h.earlier other.earlier
+    (quiet_steps m w h q) (quiet_steps m w other k) e in
+    same_history h other r.0 r.1
+
 module _ (m : Machine) (w : List ℕ) where
   -- a history that detects no error goes not beyond where one is accepted
-  accepted_last : {p : ℕ} (h : History) (a : AcceptedAt m w p) → IsQuiet m w h
-      → position a.h ≤ position h → (h.now ≡ a.h.now) × (h.earlier ≡ a.h.earlier)
-  accepted_last h a q l =
-      no_further m (first_configuration w) h.now a.h.now h.earlier a.h.earlier (quiet_steps m w h q)
-      (quiet_steps m w a.h a.run) a.accepted l
+  accepted_last : (h a : History) → IsQuiet m w h → IsQuiet m w a → a.now.mode ≡ modes.Accepted
+      → position a ≤ position h → h ≡ a
+  accepted_last h a q k d l =
+      let e = no_further m (first_configuration w) h.now a.now h.earlier a.earlier
+      (quiet_steps m w h q) (quiet_steps m w a k) d l in
+      same_history h a e.0 e.1
+
+  -- two accepted histories are equal
+  pub one_accepted : (h other : History) → IsQuiet m w h → IsQuiet m w other
+      → h.now.mode ≡ modes.Accepted → other.now.mode ≡ modes.Accepted → h ≡ other
+  one_accepted h other q k d e = by (either (position other) (position h))
+    where
+      by : (position other ≤ position h) ⊎ (position h < position other) → h ≡ other
+      by (inl l) = accepted_last h other q k e l
+      by (inr l) = sym (accepted_last other h k q d (omega (arith, l)))
 
   -- nor beyond where an error is detected
   rejected_last : {place : ℕ} (h : History) (r : RejectedAt m w place) → IsQuiet m w h
@@ -146,20 +168,16 @@ module _ (m : Machine) (w : List ℕ) where
       (quiet_steps m w h q) (quiet_steps m w r.h r.run) q.quiet r.detects l
 
   one_position : {p q : ℕ} → AcceptedAt m w p → AcceptedAt m w q → p ≡ q
-  one_position {p = p} {q = q} a b = by (either (position b.h) (position a.h))
-    where
-      by : (position b.h ≤ position a.h) ⊎ (position a.h < position b.h) → p ≡ q
-      by (inl l) = sym a.at ∙ (ap length (accepted_last a.h b a.run l).1 ∙ b.at)
-      by (inr l) =
-          sym a.at ∙ (sym (ap length (accepted_last b.h a b.run (omega (arith, l))).1) ∙ b.at)
+  one_position a b =
+      sym a.at ∙ (ap position (one_accepted a.h b.h a.run b.run a.accepted b.accepted) ∙ b.at)
 
   not_both : {p place : ℕ} → AcceptedAt m w p → RejectedAt m w place → ⊥
   not_both a r = by (either (position a.h) (position r.h))
     where
       by : (position a.h ≤ position r.h) ⊎ (position r.h < position a.h) → ⊥
       by (inl l) =
-          let e = (accepted_last r.h a r.run l).0 in
-          none_some (sym (halted m r.h.now (ap (λ (c : Configuration). c.mode) e ∙ a.accepted))
+          let e = accepted_last r.h a.h r.run a.run a.accepted l in
+          none_some (sym (halted m r.h.now (ap (λ (h : History). h.now.mode) e ∙ a.accepted))
           ∙ r.detects)
       by (inr l) = rejected_last a.h r a.run l
 
@@ -173,17 +191,8 @@ module _ (m : Machine) (w : List ℕ) where
           at : (position b.h ≤ position a.h) ⊎ (position a.h < position b.h) → p ≡ q
           at (inr k) = absurd (rejected_last b.h a b.run k)
           at (inl k) =
-              let e = same_length m (first_configuration w) a.h.now b.h.now a.h.earlier b.h.earlier
-              (quiet_steps m w a.h a.run) (quiet_steps m w b.h b.run) (omega (arith, l, k)) in
-              sym a.at ∙ (ap (λ (c : Configuration). place_ahead w c.rest) e.0 ∙ b.at)
-
--- two histories of one length that detect no error are equal
-pub one_history : OneHistoryLaw
-one_history m w h other q k e =
-    let r = same_length m (first_configuration w) h.now other.now h.earlier other.earlier
-    (quiet_steps m w h q) (quiet_steps m w other k) e in
-    ap (λ (c : Configuration). history c h.earlier) r.0
-    ∙ ap (λ (z : Steps). history other.now z) r.1
+              let e = one_history m w a.h b.h a.run b.run (omega (arith, l, k)) in
+              sym a.at ∙ (ap (λ (h : History). place_ahead w h.now.rest) e ∙ b.at)
 
 -- the steps come to one verdict
 pub says_only : OneVerdictLaw
@@ -209,8 +218,8 @@ limit_says m w h q e n = (λ p a. no_accept a, λ place r. no_reject r)
     no_accept a =
         let s = a.small in
         let i = a.at in
-        n (ap (λ (c : Configuration). c.mode)
-        (accepted_last m w h a q (omega (arith, s, i, e))).0 ∙ a.accepted)
+        n (ap (λ (h : History). h.now.mode)
+        (accepted_last m w h a.h q a.run a.accepted (omega (arith, s, i, e))) ∙ a.accepted)
 
     no_reject : {place : ℕ} → RejectedAt m w place → ⊥
     no_reject r = let s = r.below in rejected_last m w h r q (omega (arith, s, e))

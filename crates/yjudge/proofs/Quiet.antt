@@ -174,17 +174,6 @@ no_errors m tokens h q =
     (no_errors_to m (first_configuration tokens) h.now h.earlier refl refl (quiet_steps m tokens h q)
     q.quiet).0
 
--- where no step is an error step none detects one
-pub no_detect : (earlier : List (StepKind × Configuration)) → NoErrors earlier → NoDetect earlier
-no_detect [] x = All-nil undetected
-no_detect (last ∷ earlier) x =
-    All-cons undetected last earlier (by last.0 (All-head clean last earlier x))
-    (no_detect earlier (All-tail clean last earlier x))
-  where
-    by : (k : StepKind) → is_error_step k ≡ false → is_detect k ≡ false
-    by kinds.Detect e = absurd (true_false e)
-    by _ e = refl
-
 -- What a step that is no error step makes, and what it leaves.
 pub data Plain (m : Machine) (c : Configuration) (k : StepKind) (n : Configuration) : Type 0 where
   plain_shift : (token : ℕ × ℕ) (rest : List (ℕ × ℕ)) → c.mode ≡ Running

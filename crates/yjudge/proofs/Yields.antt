@@ -31,7 +31,7 @@ head_is x y xs ys e = ap (λ z. get_or z 0 0) e
 pub tail_is : (x y : ℕ) (xs ys : List ℕ) → x ∷ xs ≡ y ∷ ys → xs ≡ ys
 tail_is x y xs ys e = ap (drop 1) e
 
-cons_is : (x y : ℕ) (xs ys : List ℕ) → x ≡ y → xs ≡ ys → x ∷ xs ≡ y ∷ ys
+pub cons_is : {X : Type 0} (x y : X) (xs ys : List X) → x ≡ y → xs ≡ ys → x ∷ xs ≡ y ∷ ys
 cons_is x y xs ys e f = ap (λ z. z ∷ xs) e ∙ ap (λ z. y ∷ z) f
 
 pub no_cons : (x : ℕ) (xs : List ℕ) → [] ≡ x ∷ xs → ⊥
@@ -72,7 +72,7 @@ pub record Uses (g : ContextFree) (x y : List ℕ) : Type 0 where
   pub from : x ≡ before ++ left_of g rule ∷ after
   pub to : y ≡ before ++ (body_of g rule ++ after)
 
-pub uses : {g : ContextFree} {x y : List ℕ} → Replaces (IsRule g) x y → Uses g x y
+abbrev pub uses : {g : ContextFree} {x y : List ℕ} → Replaces (IsRule g) x y → Uses g x y
 uses s = record {
   before = s.before;
   rule = s.rule.number;

@@ -1,3 +1,5 @@
+use Rattle.yjudge.proofs.Completeness.{sentence, answered}
+use Rattle.yjudge.proofs.Exactness.{exact}
 use Rattle.yjudge.proofs.Soundness.{sound}
 use Rattle.yjudge.proofs.OneVerdict.{one_history, says_only, limit_says}
 use Rattle.yjudge.proofs.laws.verdict_laws.Goals as goal
@@ -13,3 +15,12 @@ returns-clause-limit c = limit_says
 
 pub returns-clause-sound : goal.returns-clause-sound
 returns-clause-sound c = sound
+
+pub returns-clause-exact : goal.returns-clause-exact
+returns-clause-exact c = exact
+
+pub returns-clause-sentence : goal.returns-clause-sentence
+returns-clause-sentence c = sentence
+
+pub returns-clause-answered : goal.returns-clause-answered
+returns-clause-answered c = answered
