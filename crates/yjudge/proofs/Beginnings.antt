@@ -1,6 +1,6 @@
 -- What was shifted before an error begins a sentence (Aho, Sethi and Ullman, 4.7, the viable prefix
 -- property).
-use Rattle.std.proofs.Common.{ℕ, suc, ◌≡◌, ◌≢◌, ◌<◌, ◌≤◌, List, [], ◌∷◌, ◌++◌, length, drop, reverse}
+use Rattle.std.proofs.Common.{ℕ, suc, ◌≡◌, ◌≢◌, ◌<◌, ◌≤◌, List, [], ◌∷◌, ◌++◌, drop, reverse}
 use Rattle.std.proofs.Common.{refl, sym, ◌∙◌, ap, subst, append_assoc, append-nil, inl, inr, ◌⊎◌}
 use Rattle.std.proofs.Common.{arith}
 use Rattle.std.specs.List.{All}
@@ -14,9 +14,8 @@ use Rattle.ysymbols.proofs.Derivations.{trans, replaced, rule_is}
 use Rattle.ylalr.specs.Items.{Valid, start, closure, move}
 use Rattle.ymachine.specs.declared.machine.StepKind.{StepKind}
 use Rattle.ymachine.specs.Machine.{Machine, Configuration, symbols, lookahead}
-use Rattle.ymachine.specs.History.{places_from, first_configuration}
+use Rattle.ymachine.specs.History.{first_configuration}
 use Rattle.ymachine.specs.Cells.{IsSound}
-use Rattle.ymachine.specs.Rightmost.{AreInput}
 use Rattle.ymachine.proofs.Prefixes.{reverse_cons, reverse_push, rule_within, after, Viable, viable}
 use Rattle.ymachine.proofs.Prefixes.{viable_expected}
 use Rattle.ymachine.proofs.Unwindings.{found}
@@ -104,18 +103,22 @@ begins_sentence {g = g} {p = p} {word = word} w v y k =
     (subst (Derives (IsRule g) (body_of g 0)) (append_assoc (reverse p) d x.rest) x.derives) in
     let z : Yields g (start_of g ∷ end_token ∷ []) (word ++ b.0) =
     yields_derived f (yields_append y (d ++ x.rest) b.0 b.1) in
-    let q : Split g (start_of g ∷ []) (end_token ∷ []) (word ++ b.0) =
-    yields_split (start_of g ∷ []) (end_token ∷ []) z in
-    by b.0 q.front q.left (cut word b.0 q.front end_token []
-    (q.parts ∙ ap (λ z. q.front ++ z) (yields_token end_token w w.ends q.back q.right)))
+    by b.0 (yields_split (start_of g ∷ []) (end_token ∷ []) z)
   where
-    by : (back front : List ℕ) → Yields g (start_of g ∷ []) front
+    at : (back front : List ℕ) → Yields g (start_of g ∷ []) front
         → Cut word back front end_token [] → BeginsSentence g word
-    by back front l (inl c) =
+    at back front l (inl c) =
         absurd (all_middle (λ t. t ≢ end_token) front end_token c.0
         (subst (All (λ t. t ≢ end_token)) c.1 k) refl)
-    by back front l (inr c) =
+    at back front l (inr c) =
         (c.0, subst (IsSentence g) c.1 (yields_tokens l, derives_from_yields l))
+
+    by : (back : List ℕ) → Split g (start_of g ∷ []) (end_token ∷ []) (word ++ back)
+        → BeginsSentence g word
+    by back q =
+        let e : q.back ≡ end_token ∷ [] = yields_token end_token w w.ends q.back q.right in
+        at back q.front q.left (cut word back q.front end_token []
+        (q.parts ∙ ap (λ z. q.front ++ z) e))
 
 -- the stack's symbols, the newest first
 abbrev pub prefix_of : Configuration → List ℕ

@@ -1,10 +1,10 @@
 -- Where no cell has a choice, each rightmost derivation is found (Aho, Sethi and Ullman, 4.7).
-use Rattle.std.proofs.Common.{ℕ, zero, suc, ◌≡◌, ◌<◌, ◌≤◌, ◌+◌, ◌-◌, false, List, [], ◌∷◌, ◌++◌}
+use Rattle.std.proofs.Common.{ℕ, zero, suc, ◌≡◌, ◌<◌, ◌+◌, false, List, [], ◌∷◌, ◌++◌}
 use Rattle.std.proofs.Common.{length, drop, reverse, get_or, refl, sym, ◌∙◌, ap, subst, append_assoc}
 use Rattle.std.proofs.Common.{arith, Some, inl}
 use Rattle.std.specs.List.{All}
-use Rattle.std.proofs.lemmas.List.Elements.{All-nil, All-cons, All-head, All-tail}
-use Rattle.std.proofs.lemmas.List.{append-nil, reverse-reverse, map-append}
+use Rattle.std.proofs.lemmas.List.Elements.{All-nil, All-cons, All-tail}
+use Rattle.std.proofs.lemmas.List.{reverse-reverse, map-append}
 use Rattle.ysymbols.specs.Grammar.{ContextFree, left_of, body_of, IsToken, end_token, start_of}
 use Rattle.ysymbols.specs.Forms.{last_of, IsRightmostRun}
 use Rattle.ysymbols.specs.WellFormed.{WellFormed}
@@ -14,7 +14,6 @@ use Rattle.ymachine.specs.declared.machine.StepKind.TheVariants as kinds
 use Rattle.ymachine.specs.Machine.{Machine, Move, Shift, Reduce, Accept, Entry, Configuration}
 use Rattle.ymachine.specs.Machine.{symbols, lookahead, without_last, width, next, next_in, step_by}
 use Rattle.ymachine.specs.Machine.{shift_step, reduce_step}
-use Rattle.ymachine.specs.Past.{most_steps, position}
 use Rattle.ymachine.specs.History.{History, first_configuration}
 use Rattle.ymachine.specs.Unwinding.{tokens_left, form_of, forms_of, forms_before, is_edit}
 use Rattle.ymachine.specs.Cells.{Expects, IsSound}
@@ -24,8 +23,8 @@ use Rattle.ymachine.proofs.StepKinds.{symbols_without, without_last_append}
 use Rattle.ymachine.proofs.Unwindings.{left_of_places, accepted_form}
 use Rattle.yjudge.specs.Complete.{IsComplete}
 use Rattle.yjudge.specs.declared.judge.Verdict.TheVariants.{Accepted}
-use Rattle.yjudge.specs.Verdict.{is_detect, IsQuiet, AcceptedAt}
-use Rattle.yjudge.specs.Sentences.{IsSentence, Derivations, steps_of}
+use Rattle.yjudge.specs.Verdict.{is_detect, IsQuiet}
+use Rattle.yjudge.specs.Sentences.{Derivations, steps_of}
 use Rattle.yjudge.specs.Laws.{SentenceLaw, AnsweredLaw}
 use Rattle.yjudge.proofs.Yields.{cons_is}
 use Rattle.yjudge.proofs.Beginnings.{prefix_of}

@@ -2,7 +2,7 @@
 -- 4.7, the viable prefix property).
 use Rattle.std.proofs.Common.{ℕ, suc, ◌≡◌, ◌≢◌, ◌≤◌, ◌+◌, false, List, [], ◌∷◌, ◌++◌, length, take}
 use Rattle.std.proofs.Common.{drop, reverse, get_or, refl, sym, ◌∙◌, ap, subst, append_assoc, arith}
-use Rattle.std.proofs.Common.{append-nil, true, Some}
+use Rattle.std.proofs.Common.{Some}
 use Rattle.std.specs.List.{All}
 use Rattle.std.proofs.lemmas.List.{reverse-reverse, append_cancel_right, length-append, take_at}
 use Rattle.ysymbols.specs.Grammar.{ContextFree, left_of, body_of, IsToken, end_token}
@@ -29,7 +29,7 @@ use Rattle.yjudge.proofs.Yields.{all_back}
 use Rattle.yjudge.proofs.Quiet.{true_false, apart, quiet_plain, Plain, plain_shift, plain_reduce}
 use Rattle.yjudge.proofs.Quiet.{plain_accept, plain_fail, PlainTo}
 use Rattle.yjudge.proofs.Shifted.{Shifted, shifted_all, shifted_left, place_is}
-use Rattle.yjudge.proofs.Beginnings.{prefix_of, Taken, taken}
+use Rattle.yjudge.proofs.Beginnings.{prefix_of, taken}
 use Rattle.yjudge.proofs.Sentential.{Sent, sent_from_sentence, ahead, token_ahead}
 use Rattle.yjudge.proofs.Way.{Ready, ready_first, Wants, wants_shift, wants_reduce, wants_accept}
 use Rattle.yjudge.proofs.Way.{wants}

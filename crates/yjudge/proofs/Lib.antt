@@ -1,6 +1,6 @@
+pub mod Yields
 pub mod Quiet
 pub mod OneVerdict
-pub mod Yields
 pub mod Shifted
 pub mod Beginnings
 pub mod Soundness

@@ -8,7 +8,7 @@ use Rattle.ymachine.specs.declared.machine.Mode.TheVariants as modes
 use Rattle.ymachine.specs.declared.machine.StepKind.{StepKind}
 use Rattle.ymachine.specs.declared.machine.StepKind.TheVariants as kinds
 use Rattle.ymachine.specs.Machine.{Machine, Configuration, next}
-use Rattle.ymachine.specs.Past.{most_steps, position}
+use Rattle.ymachine.specs.Past.{position}
 use Rattle.ymachine.specs.History.{History, first_configuration}
 use Rattle.ymachine.proofs.StepKinds.{some_is, none_some}
 use Rattle.yjudge.specs.declared.judge.Verdict.{Verdict}
@@ -16,6 +16,7 @@ use Rattle.yjudge.specs.declared.judge.Verdict.TheVariants.{Accepted, Rejected, 
 use Rattle.yjudge.specs.Verdict.{is_detect, NoDetect, IsQuiet, place_ahead, AcceptedAt, RejectedAt}
 use Rattle.yjudge.specs.Verdict.{Says, IsVerdict}
 use Rattle.yjudge.specs.Laws.{OneHistoryLaw, OneVerdictLaw, LimitLaw}
+use Rattle.yjudge.proofs.Yields.{all_front}
 use Rattle.yjudge.proofs.Quiet.{true_false, StepsTo, halted, quiet_steps}
 
 abbrev Steps : Type 0
@@ -93,24 +94,23 @@ onward m b a P (s ∷ (t ∷ extra)) h x l =
 abbrev undetected : StepKind × Configuration → Type 0
 undetected step = is_detect step.0 ≡ false
 
-front_all : {X : Type 0} (P : X → Type 0) (xs ys : List X) → All P (xs ++ ys) → All P xs
-front_all P [] ys h = All-nil P
-front_all P (x ∷ xs) ys h =
-    All-cons P x xs (All-head P x (xs ++ ys) h) (front_all P xs ys (All-tail P x (xs ++ ys) h))
-
 -- a run that detects no error goes not beyond where one is detected
 not_beyond : (m : Machine) (first a b after : Configuration) (p q : Steps) → StepsTo m first a p
     → StepsTo m first b q → NoDetect p → next m b ≡ Some (kinds.Detect, after) → length q < length p
     → ⊥
-not_beyond m first a b after p q h k x d l =
-    let z = beyond m first a b p q h k (omega (arith, l)) in
-    let i : length p ≡ length z.extra + length q =
-    ap length z.parts ∙ length-append z.extra q in
-    let n : 0 < length z.extra = omega (arith, i, l) in
-    let y : NoDetect z.extra = front_all undetected z.extra q (subst NoDetect z.parts x) in
-    let t = onward m b a undetected z.extra z.leads y n in
-    let e : (kinds.Detect, after) ≡ (t.kind, t.after) = some_is (sym d ∙ t.makes) in
-    true_false (ap (λ (z : StepKind × Configuration). is_detect z.0) e ∙ t.has)
+not_beyond m first a b after p q h k x d l = by (beyond m first a b p q h k (omega (arith, l)))
+  where
+    at : Onward m b undetected → ⊥
+    at t =
+        let e : (kinds.Detect, after) ≡ (t.kind, t.after) = some_is (sym d ∙ t.makes) in
+        true_false (ap (λ (z : StepKind × Configuration). is_detect z.0) e ∙ t.has)
+
+    by : Beyond m a b p q → ⊥
+    by z =
+        let i : length p ≡ length z.extra + length q =
+        ap length z.parts ∙ length-append z.extra q in
+        at (onward m b a undetected z.extra z.leads
+        (all_front undetected z.extra q (subst NoDetect z.parts x)) (omega (arith, i, l)))
 
 -- nor does any run go beyond where it is accepted
 no_further : (m : Machine) (first a b : Configuration) (p q : Steps) → StepsTo m first a p
@@ -144,7 +144,7 @@ one_history m w h other q k e =
 
 module _ (m : Machine) (w : List ℕ) where
   -- a history that detects no error goes not beyond where one is accepted
-  accepted_last : (h a : History) → IsQuiet m w h → IsQuiet m w a → a.now.mode ≡ modes.Accepted
+  pub accepted_last : (h a : History) → IsQuiet m w h → IsQuiet m w a → a.now.mode ≡ modes.Accepted
       → position a ≤ position h → h ≡ a
   accepted_last h a q k d l =
       let e = no_further m (first_configuration w) h.now a.now h.earlier a.earlier
@@ -161,17 +161,17 @@ module _ (m : Machine) (w : List ℕ) where
       by (inr l) = sym (accepted_last other h k q d (omega (arith, l)))
 
   -- nor beyond where an error is detected
-  rejected_last : {place : ℕ} (h : History) (r : RejectedAt m w place) → IsQuiet m w h
+  pub rejected_last : {place : ℕ} (h : History) (r : RejectedAt m w place) → IsQuiet m w h
       → position r.h < position h → ⊥
   rejected_last h r q l =
       not_beyond m (first_configuration w) h.now r.h.now r.after h.earlier r.h.earlier
       (quiet_steps m w h q) (quiet_steps m w r.h r.run) q.quiet r.detects l
 
-  one_position : {p q : ℕ} → AcceptedAt m w p → AcceptedAt m w q → p ≡ q
+  pub one_position : {p q : ℕ} → AcceptedAt m w p → AcceptedAt m w q → p ≡ q
   one_position a b =
       sym a.at ∙ (ap position (one_accepted a.h b.h a.run b.run a.accepted b.accepted) ∙ b.at)
 
-  not_both : {p place : ℕ} → AcceptedAt m w p → RejectedAt m w place → ⊥
+  pub not_both : {p place : ℕ} → AcceptedAt m w p → RejectedAt m w place → ⊥
   not_both a r = by (either (position a.h) (position r.h))
     where
       by : (position a.h ≤ position r.h) ⊎ (position r.h < position a.h) → ⊥
@@ -181,7 +181,7 @@ module _ (m : Machine) (w : List ℕ) where
           ∙ r.detects)
       by (inr l) = rejected_last a.h r a.run l
 
-  one_place : {p q : ℕ} → RejectedAt m w p → RejectedAt m w q → p ≡ q
+  pub one_place : {p q : ℕ} → RejectedAt m w p → RejectedAt m w q → p ≡ q
   one_place {p = p} {q = q} a b = by (either (position a.h) (position b.h))
     where
       by : (position a.h ≤ position b.h) ⊎ (position b.h < position a.h) → p ≡ q

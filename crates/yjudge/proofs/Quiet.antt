@@ -2,7 +2,6 @@
 use Rattle.std.proofs.Common.{inl, inr, ◌⊎◌, ℕ, ◌≡◌, ◌≢◌, ◌-◌, ◌==◌, Bool, true, false, List, []}
 use Rattle.std.proofs.Common.{◌∷◌, ◌++◌, if◌then◌else◌, refl, sym, ◌∙◌, ap, subst, arith}
 use Rattle.std.proofs.Common.{Option, Some, None}
-use Rattle.std.specs.List.{All}
 use Rattle.std.proofs.lemmas.List.Elements.{All-nil, All-cons, All-head, All-tail}
 use Rattle.ytokens.specs.Symbols.{is_input}
 use Rattle.ymachine.specs.declared.machine.Mode.{Mode}
@@ -13,7 +12,7 @@ use Rattle.ymachine.specs.declared.machine.StepKind.{StepKind}
 use Rattle.ymachine.specs.declared.machine.StepKind.TheVariants as kinds
 use Rattle.ymachine.specs.Machine.{Machine, Move, Shift, Reduce, Accept, Error, Configuration}
 use Rattle.ymachine.specs.Machine.{symbols, lookahead, without_last, width, next, next_in, step_by}
-use Rattle.ymachine.specs.Machine.{shift_step, discard_step, detect_step, error_step, edited}
+use Rattle.ymachine.specs.Machine.{shift_step, discard_step, detect_step, edited}
 use Rattle.ymachine.specs.Machine.{edited_in, edited_rest}
 use Rattle.ymachine.specs.Past.{LeadsTo, Comes}
 use Rattle.ymachine.specs.History.{History, first_configuration}

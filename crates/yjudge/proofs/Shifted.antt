@@ -1,14 +1,13 @@
 -- How far a quiet history has come in its tokens, and how many steps that took.
-use Rattle.std.proofs.Common.{ℕ, suc, ◌≡◌, ◌+◌, ◌-◌, Bool, true, false, if◌then◌else◌, List, []}
-use Rattle.std.proofs.Common.{◌∷◌, ◌++◌, length, take, drop, refl, sym, ◌∙◌, ap, subst, append_assoc}
+use Rattle.std.proofs.Common.{ℕ, suc, ◌≡◌, ◌+◌, ◌-◌, List, []}
+use Rattle.std.proofs.Common.{◌∷◌, ◌++◌, length, take, drop, sym, ◌∙◌, ap, append_assoc}
 use Rattle.std.proofs.Common.{append-nil, arith}
 use Rattle.std.proofs.lemmas.List.{length-append, take_at}
-use Rattle.ymachine.specs.declared.machine.Mode.TheVariants.{Running, Accepted, Failed}
+use Rattle.ymachine.specs.declared.machine.Mode.TheVariants.{Running, Accepted}
 use Rattle.ymachine.specs.declared.machine.StepKind.{StepKind}
-use Rattle.ymachine.specs.declared.machine.StepKind.TheVariants as kinds
-use Rattle.ymachine.specs.Machine.{Machine, Configuration, symbols}
-use Rattle.ymachine.specs.History.{places_from, first_configuration}
-use Rattle.ymachine.specs.Unwinding.{tokens_left, is_reduction, shifts_from, form_of, forms_before}
+use Rattle.ymachine.specs.Machine.{Machine, Configuration}
+use Rattle.ymachine.specs.History.{places_from}
+use Rattle.ymachine.specs.Unwinding.{tokens_left, forms_before}
 use Rattle.ymachine.proofs.Unwindings.{left_of_places}
 use Rattle.yjudge.specs.Verdict.{place_ahead}
 use Rattle.yjudge.proofs.Quiet.{Plain, plain_shift, plain_reduce, plain_accept, plain_fail, PlainTo}

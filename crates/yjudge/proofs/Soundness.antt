@@ -1,5 +1,5 @@
 -- What any tables promise of a verdict.
-use Rattle.std.proofs.Common.{ℕ, suc, ◌≡◌, ◌+◌, ◌-◌, List, [], ◌∷◌, length, refl, sym, ◌∙◌, ap}
+use Rattle.std.proofs.Common.{ℕ, ◌≡◌, ◌-◌, List, [], ◌∷◌, length, refl, sym, ◌∙◌, ap}
 use Rattle.std.proofs.Common.{subst, arith, take}
 use Rattle.ysymbols.specs.Grammar.{ContextFree, start_of}
 use Rattle.ysymbols.specs.Derivation.{Derives}
@@ -8,7 +8,7 @@ use Rattle.ysymbols.specs.WellFormed.{WellFormed}
 use Rattle.ymachine.specs.Machine.{Machine}
 use Rattle.ymachine.specs.Past.{position}
 use Rattle.ymachine.specs.History.{History, first_configuration}
-use Rattle.ymachine.specs.Unwinding.{forms_of, forms_before, tokens_left}
+use Rattle.ymachine.specs.Unwinding.{forms_of, tokens_left}
 use Rattle.ymachine.specs.Cells.{IsSound}
 use Rattle.ymachine.specs.Rightmost.{AreInput, IsRightmostDerivation}
 use Rattle.ymachine.specs.declared.machine.Mode.TheVariants as modes

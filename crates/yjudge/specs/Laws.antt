@@ -1,5 +1,5 @@
 -- What is proved of verdicts: the laws that contracts name.
-use Rattle.std.specs.Prelude.{ℕ, ◌≡◌, ◌≤◌, List, length}
+use Rattle.std.specs.Prelude.{ℕ, ◌≡◌, ◌≤◌, List}
 use Rattle.ysymbols.specs.Grammar.{ContextFree}
 use Rattle.ysymbols.specs.WellFormed.{WellFormed}
 use Rattle.ymachine.specs.declared.machine.Mode.TheVariants as modes
