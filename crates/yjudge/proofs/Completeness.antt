@@ -28,6 +28,7 @@ use Rattle.yjudge.specs.Sentences.{Derivations, steps_of}
 use Rattle.yjudge.specs.Laws.{SentenceLaw, AnsweredLaw}
 use Rattle.yjudge.proofs.Yields.{cons_is}
 use Rattle.yjudge.proofs.Beginnings.{prefix_of}
+use Rattle.yjudge.proofs.Quiet.{history, quiet_first, quiet_on}
 use Rattle.yjudge.proofs.OneVerdict.{one_accepted}
 use Rattle.yjudge.proofs.Sentential.{Sent, begins, listed, replacements, sent_from_run}
 use Rattle.yjudge.proofs.Sentential.{sent_from_sentence, ahead, token_ahead}
@@ -39,31 +40,11 @@ pub lookahead_is : (rest : List (ℕ × ℕ)) → lookahead rest ≡ ahead (toke
 lookahead_is [] = refl
 lookahead_is (t ∷ rest) = refl
 
-abbrev unedited : StepKind × Configuration → Type 0
-unedited step = is_edit step.0 ≡ false
-
-abbrev undetected : StepKind × Configuration → Type 0
-undetected step = is_detect step.0 ≡ false
-
-abbrev history : Configuration → List (StepKind × Configuration) → History
-history now earlier = record { now = now; earlier = earlier }
-
 -- the step that a cell says
 next_at : (m : Machine) (c : Configuration) (a : Move) → c.mode ≡ modes.Running
     → m.cell (symbols c.stack) (lookahead c.rest) ≡ a → next m c ≡ Some (step_by m c a)
 unfolding next
 next_at m c a r h = ap (next_in m c) r ∙ ap (λ z. Some (step_by m c z)) h
-
--- one quiet step more
-quiet_on : {m : Machine} {w : List ℕ} {c : Configuration}
-    {earlier : List (StepKind × Configuration)} (k : StepKind) (n : Configuration)
-    → next m c ≡ Some (k, n) → is_edit k ≡ false → is_detect k ≡ false
-    → IsQuiet m w (history c earlier) → IsQuiet m w (history n ((k, c) ∷ earlier))
-quiet_on {c = c} {earlier = earlier} k n e u d q = record {
-  history = (inl e, q.history);
-  steps = All-cons unedited (k, c) earlier u q.steps;
-  quiet = All-cons undetected (k, c) earlier d q.quiet;
-}
 
 module _ (g : ContextFree) (m : Machine) (w : WellFormed g) (s : IsSound g m)
     (f : IsComplete g m) where
@@ -188,10 +169,10 @@ module _ (g : ContextFree) (m : Machine) (w : WellFormed g) (s : IsSound g m)
             → Reached (listed d (forms_before (tokens_left c.rest) earlier))
         by (goes_on k n z b e u x oo li le) rec =
             subst Reached (sym (li earlier)) (rec n z b ((k, c) ∷ earlier) oo (omega (arith, le, l))
-            (quiet_on k n e u x q))
+            (quiet_on c earlier k n e u x q))
         by (goes_out n e a none li) rec = record {
           h = history n ((kinds.Accept, c) ∷ earlier);
-          run = quiet_on kinds.Accept n e refl refl q;
+          run = quiet_on c earlier kinds.Accept n e refl refl q;
           accepted = a;
           forms = ap (λ z. forms_before z earlier) (sym none)
               ∙ sym (li (forms_before (tokens_left c.rest) earlier));
@@ -211,8 +192,7 @@ module _ (g : ContextFree) (m : Machine) (w : WellFormed g) (s : IsSound g m)
     from_sent : (d : Sent g tokens) → Reached (listed d [])
     from_sent d =
         reaches (suc (replacements d + length (first_configuration tokens).rest)) d
-        (first_configuration tokens) [] (on_way_first d) (omega arith)
-        (record { history = refl; steps = All-nil unedited; quiet = All-nil undetected })
+        (first_configuration tokens) [] (on_way_first d) (omega arith) (quiet_first m tokens)
 
     -- each rightmost derivation is that of an accepted history
     finds : (more : List (List ℕ)) → IsRightmostRun g (start_of g ∷ []) more

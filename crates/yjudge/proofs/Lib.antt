@@ -4,6 +4,7 @@ pub mod OneVerdict
 pub mod Shifted
 pub mod Beginnings
 pub mod Soundness
+pub mod NoFailure
 pub mod Sentential
 pub mod Way
 pub mod Completeness

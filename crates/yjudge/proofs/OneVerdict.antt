@@ -1,6 +1,6 @@
 -- The steps of a machine from one first configuration: two runs of them, and the one verdict.
 use Rattle.std.proofs.Common.{ℕ, suc, ◌≡◌, ◌<◌, ◌≤◌, ◌+◌, ◌⊎◌, inl, inr, false, List, [], ◌∷◌, ◌++◌}
-use Rattle.std.proofs.Common.{length, refl, sym, ◌∙◌, ap, subst, arith, Some}
+use Rattle.std.proofs.Common.{length, refl, sym, ◌∙◌, ap, subst, arith, Some, None}
 use Rattle.std.specs.List.{All}
 use Rattle.std.proofs.lemmas.List.{length-append}
 use Rattle.std.proofs.lemmas.List.Elements.{All-nil, All-cons, All-head, All-tail}
@@ -15,15 +15,13 @@ use Rattle.yjudge.specs.declared.judge.Verdict.{Verdict}
 use Rattle.yjudge.specs.declared.judge.Verdict.TheVariants.{Accepted, Rejected, Limit}
 use Rattle.yjudge.specs.Verdict.{is_detect, NoDetect, IsQuiet, place_ahead, AcceptedAt, RejectedAt}
 use Rattle.yjudge.specs.Verdict.{Says, IsVerdict}
-use Rattle.yjudge.specs.Laws.{OneHistoryLaw, OneVerdictLaw, LimitLaw}
+use Rattle.yjudge.specs.Laws.{OneHistoryLaw, OneVerdictLaw, VerdictLaw, LimitLaw}
+use Rattle.yjudge.specs.Laws.{HaltedLaw}
 use Rattle.yjudge.proofs.Yields.{all_front}
-use Rattle.yjudge.proofs.Quiet.{true_false, StepsTo, halted, quiet_steps}
+use Rattle.yjudge.proofs.Quiet.{undetected, history, true_false, StepsTo, halted, quiet_steps}
 
 abbrev Steps : Type 0
 Steps = List (StepKind × Configuration)
-
-abbrev history : Configuration → Steps → History
-history now earlier = record { now = now; earlier = earlier }
 
 -- two runs of one length are equal
 same_length : (m : Machine) (first a b : Configuration) (p q : Steps) → StepsTo m first a p
@@ -91,9 +89,6 @@ onward m b a P (s ∷ []) h x l = record {
 onward m b a P (s ∷ (t ∷ extra)) h x l =
     onward m b s.1 P (t ∷ extra) h.1 (All-tail P s (t ∷ extra) x) (omega arith)
 
-abbrev undetected : StepKind × Configuration → Type 0
-undetected step = is_detect step.0 ≡ false
-
 -- a run that detects no error goes not beyond where one is detected
 not_beyond : (m : Machine) (first a b after : Configuration) (p q : Steps) → StepsTo m first a p
     → StepsTo m first b q → NoDetect p → next m b ≡ Some (kinds.Detect, after) → length q < length p
@@ -112,9 +107,9 @@ not_beyond m first a b after p q h k x d l = by (beyond m first a b p q h k (ome
         at (onward m b a undetected z.extra z.leads
         (all_front undetected z.extra q (subst NoDetect z.parts x)) (omega (arith, i, l)))
 
--- nor does any run go beyond where it is accepted
+-- nor does any run go beyond where there is no step
 no_further : (m : Machine) (first a b : Configuration) (p q : Steps) → StepsTo m first a p
-    → StepsTo m first b q → b.mode ≡ modes.Accepted → length q ≤ length p → (a ≡ b) × (p ≡ q)
+    → StepsTo m first b q → next m b ≡ None → length q ≤ length p → (a ≡ b) × (p ≡ q)
 no_further m first a b p q h k d l = by (beyond m first a b p q h k l)
   where
     by : Beyond m a b p q → (a ≡ b) × (p ≡ q)
@@ -124,7 +119,7 @@ no_further m first a b p q h k d l = by (beyond m first a b p q h k l)
         at [] e s = (s, e)
         at (s ∷ extra) e g =
             let t = onward m b a (λ y. Unit {0}) (s ∷ extra) g (anything (s ∷ extra)) (omega arith)
-            in absurd (none_some (sym (halted m b d) ∙ t.makes))
+            in absurd (none_some (sym d ∙ t.makes))
           where
             anything : (xs : Steps) → All (λ y. Unit {0}) xs
             anything [] = All-nil (λ y. Unit {0})
@@ -148,7 +143,7 @@ module _ (m : Machine) (w : List ℕ) where
       → position a ≤ position h → h ≡ a
   accepted_last h a q k d l =
       let e = no_further m (first_configuration w) h.now a.now h.earlier a.earlier
-      (quiet_steps m w h q) (quiet_steps m w a k) d l in
+      (quiet_steps m w h q) (quiet_steps m w a k) (halted m a.now d) l in
       same_history h a e.0 e.1
 
   -- two accepted histories are equal
@@ -207,7 +202,7 @@ says_only m w Limit (Rejected q) a b = absurd (a.1 q b)
 says_only m w Limit Limit a b = refl
 
 -- what a verdict says of the steps makes it the verdict
-pub verdict : (m : Machine) (w : List ℕ) (v : Verdict) → Says m w v → IsVerdict m w v
+pub verdict : VerdictLaw
 verdict m w v s = record { says = s; only = λ other t. says_only m w v other s t }
 
 -- at the greatest position with no error detected and nothing accepted
@@ -223,3 +218,31 @@ limit_says m w h q e n = (λ p a. no_accept a, λ place r. no_reject r)
 
     no_reject : {place : ℕ} → RejectedAt m w place → ⊥
     no_reject r = let s = r.below in rejected_last m w h r q (omega (arith, s, e))
+
+-- where a quiet history ends and nothing is accepted
+pub halted_says : HaltedLaw
+halted_says m w h q e n = (λ p a. no_accept a, λ place r. no_reject r)
+  where
+    -- no run goes beyond where there is no step
+    ended : (a : History) → IsQuiet m w a → position h ≤ position a → a ≡ h
+    ended a k l =
+        let r = no_further m (first_configuration w) a.now h.now a.earlier h.earlier
+        (quiet_steps m w a k) (quiet_steps m w h q) e l in
+        same_history a h r.0 r.1
+
+    no_accept : {p : ℕ} → AcceptedAt m w p → ⊥
+    no_accept a = by (either (position h) (position a.h))
+      where
+        by : (position h ≤ position a.h) ⊎ (position a.h < position h) → ⊥
+        by (inl l) = n (sym (ap (λ (h : History). h.now.mode) (ended a.h a.run l)) ∙ a.accepted)
+        by (inr l) =
+            n (ap (λ (h : History). h.now.mode)
+            (accepted_last m w h a.h q a.run a.accepted (omega (arith, l))) ∙ a.accepted)
+
+    no_reject : {place : ℕ} → RejectedAt m w place → ⊥
+    no_reject r = by (either (position h) (position r.h))
+      where
+        by : (position h ≤ position r.h) ⊎ (position r.h < position h) → ⊥
+        by (inl l) =
+            none_some (sym (ap (λ (h : History). next m h.now) (ended r.h r.run l) ∙ e) ∙ r.detects)
+        by (inr l) = rejected_last m w h r q l

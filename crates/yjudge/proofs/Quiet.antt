@@ -1,8 +1,9 @@
 -- Quiet histories: up to the first error that is detected each step is one of four kinds.
 use Rattle.std.proofs.Common.{inl, inr, ◌⊎◌, ℕ, ◌≡◌, ◌≢◌, ◌-◌, ◌==◌, Bool, true, false, List, []}
 use Rattle.std.proofs.Common.{◌∷◌, ◌++◌, if◌then◌else◌, refl, sym, ◌∙◌, ap, subst, arith}
-use Rattle.std.proofs.Common.{Option, Some, None}
+use Rattle.std.proofs.Common.{Option, Some, None, reverse}
 use Rattle.std.proofs.lemmas.List.Elements.{All-nil, All-cons, All-head, All-tail}
+use Rattle.ysymbols.specs.Grammar.{error_token}
 use Rattle.ytokens.specs.Symbols.{is_input}
 use Rattle.ymachine.specs.declared.machine.Mode.{Mode}
 use Rattle.ymachine.specs.declared.machine.Mode.TheVariants.{Running, Popping, Accepted, Failed}
@@ -13,9 +14,9 @@ use Rattle.ymachine.specs.declared.machine.StepKind.TheVariants as kinds
 use Rattle.ymachine.specs.Machine.{Machine, Move, Shift, Reduce, Accept, Error, Configuration}
 use Rattle.ymachine.specs.Machine.{symbols, lookahead, without_last, width, next, next_in, step_by}
 use Rattle.ymachine.specs.Machine.{shift_step, discard_step, detect_step, edited}
-use Rattle.ymachine.specs.Machine.{edited_in, edited_rest}
+use Rattle.ymachine.specs.Machine.{edited_in, edited_rest, Entry, pop_step, recover_by}
 use Rattle.ymachine.specs.Past.{LeadsTo, Comes}
-use Rattle.ymachine.specs.History.{History, first_configuration}
+use Rattle.ymachine.specs.History.{History, first_configuration, first_history}
 use Rattle.ymachine.specs.Unwinding.{is_error_step, is_edit, NoErrors, NoEdits}
 use Rattle.ymachine.proofs.StepKinds.{some_is, none_some, Stepped, shifts, reduces, accepts, fails}
 use Rattle.ymachine.proofs.StepKinds.{detects, discards, pops, shifts_error, inserts, drops, stepped}
@@ -41,10 +42,10 @@ apart e f h = h (ap mode_number (sym e ∙ f))
 abbrev clean : StepKind × Configuration → Type 0
 clean step = is_error_step step.0 ≡ false
 
-abbrev unedited : StepKind × Configuration → Type 0
+abbrev pub unedited : StepKind × Configuration → Type 0
 unedited step = is_edit step.0 ≡ false
 
-abbrev undetected : StepKind × Configuration → Type 0
+abbrev pub undetected : StepKind × Configuration → Type 0
 undetected step = is_detect step.0 ≡ false
 
 -- from the first configuration on, each one is the next of the one before
@@ -117,7 +118,7 @@ pub quiet_steps : (m : Machine) (tokens : List ℕ) (h : History) → IsQuiet m 
 quiet_steps m tokens h q = steps_to m (first_configuration tokens) h.now h.earlier q.history q.steps
 
 -- the parse runs with the counter 0, or it has ended
-abbrev QuietAt : Machine → Configuration → Type 0
+abbrev pub QuietAt : Machine → Configuration → Type 0
 QuietAt m c = ((c.mode ≡ Running) × (c.counter ≡ 0)) ⊎ (next m c ≡ None)
 
 abbrev Quiet : Machine → StepKind → Configuration → Type 0
@@ -166,6 +167,13 @@ no_errors_to m first now (last ∷ earlier) r z h x =
         let s = quiet_step m last.1 last.0 now q.0 q.1 (All-head undetected last earlier x) h.0 in
         (All-cons clean last earlier s.0 a, s.1)
     by (a, inr q) = absurd (none_some (sym q ∙ h.0))
+
+-- a quiet history goes on with the counter 0, or it has ended
+pub quiet_at : (m : Machine) (tokens : List ℕ) (h : History) → IsQuiet m tokens h
+    → QuietAt m h.now
+quiet_at m tokens h q =
+    (no_errors_to m (first_configuration tokens) h.now h.earlier refl refl (quiet_steps m tokens h q)
+    q.quiet).1
 
 pub no_errors : (m : Machine) (tokens : List ℕ) (h : History) → IsQuiet m tokens h
     → NoErrors h.earlier
@@ -225,3 +233,70 @@ pub quiet_plain : (m : Machine) (tokens : List ℕ) (h : History) → IsQuiet m 
 quiet_plain m tokens h q =
     plain_to m (first_configuration tokens) h.now h.earlier (quiet_steps m tokens h q)
     (no_errors m tokens h q) q.steps
+
+abbrev pub history : Configuration → List (StepKind × Configuration) → History
+history now earlier = record { now = now; earlier = earlier }
+
+-- the first configuration alone is a quiet history
+pub quiet_first : (m : Machine) (tokens : List ℕ) → IsQuiet m tokens (first_history tokens)
+quiet_first m tokens = record {
+  history = refl;
+  steps = All-nil unedited;
+  quiet = All-nil undetected;
+}
+
+-- and so is one step more that detects no error
+pub quiet_on : {m : Machine} {tokens : List ℕ} (c : Configuration)
+    (earlier : List (StepKind × Configuration)) (k : StepKind) (n : Configuration)
+    → next m c ≡ Some (k, n) → is_edit k ≡ false → is_detect k ≡ false
+    → IsQuiet m tokens (history c earlier) → IsQuiet m tokens (history n ((k, c) ∷ earlier))
+quiet_on c earlier k n e u d q = record {
+  history = (inl e, q.history);
+  steps = All-cons unedited (k, c) earlier u q.steps;
+  quiet = All-cons undetected (k, c) earlier d q.quiet;
+}
+
+-- a step is no edit
+module _ (m : Machine) (c : Configuration) (k : StepKind) (n : Configuration) where
+  told : (x : StepKind × Configuration) → x ≡ (k, n) → is_edit x.0 ≡ false → is_edit k ≡ false
+  told x e f = sym (ap (λ (z : StepKind × Configuration). is_edit z.0) e) ∙ f
+
+  no_edit_shift : (rest : List (ℕ × ℕ)) → shift_step c rest ≡ (k, n) → is_edit k ≡ false
+  no_edit_shift [] e = told _ e refl
+  no_edit_shift (t ∷ rest) e = told _ e refl
+
+  no_edit_discard : (rest : List (ℕ × ℕ)) → discard_step c rest ≡ (k, n) → is_edit k ≡ false
+  no_edit_discard [] e = told _ e refl
+  no_edit_discard (t ∷ rest) e = told _ e refl
+
+  no_edit_error : (b : Bool) → (if b then discard_step c c.rest else detect_step c) ≡ (k, n)
+      → is_edit k ≡ false
+  no_edit_error true e = no_edit_discard c.rest e
+  no_edit_error false e = told _ e refl
+
+  no_edit_running : (a : Move) → step_by m c a ≡ (k, n) → is_edit k ≡ false
+  no_edit_running Shift e = no_edit_shift c.rest e
+  no_edit_running (Reduce q) e = told _ e refl
+  no_edit_running Accept e = told _ e refl
+  no_edit_running Error e = no_edit_error (c.counter == 3) e
+
+  no_edit_pop : (xs : List Entry) → pop_step c xs ≡ (k, n) → is_edit k ≡ false
+  no_edit_pop [] e = told _ e refl
+  no_edit_pop (top ∷ below) e = told _ e refl
+
+  no_edit_popping : (a : Move) → recover_by c a ≡ (k, n) → is_edit k ≡ false
+  no_edit_popping Shift e = told _ e refl
+  no_edit_popping (Reduce q) e = no_edit_pop (reverse c.stack) e
+  no_edit_popping Accept e = no_edit_pop (reverse c.stack) e
+  no_edit_popping Error e = no_edit_pop (reverse c.stack) e
+
+  no_edit_in : (d : Mode) → next_in m c d ≡ Some (k, n) → is_edit k ≡ false
+  no_edit_in Running e =
+      no_edit_running (m.cell (symbols c.stack) (lookahead c.rest)) (some_is e)
+  no_edit_in Popping e = no_edit_popping (m.cell (symbols c.stack) error_token) (some_is e)
+  no_edit_in Accepted e = absurd (none_some e)
+  no_edit_in Failed e = absurd (none_some e)
+
+  pub no_edit : next m c ≡ Some (k, n) → is_edit k ≡ false
+  unfolding next
+  no_edit e = no_edit_in c.mode e

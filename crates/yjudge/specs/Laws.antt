@@ -1,9 +1,9 @@
 -- What is proved of verdicts: the laws that contracts name.
-use Rattle.std.specs.Prelude.{ℕ, ◌≡◌, ◌≤◌, List}
+use Rattle.std.specs.Prelude.{ℕ, ◌≡◌, ◌≤◌, List, None}
 use Rattle.ysymbols.specs.Grammar.{ContextFree}
 use Rattle.ysymbols.specs.WellFormed.{WellFormed}
 use Rattle.ymachine.specs.declared.machine.Mode.TheVariants as modes
-use Rattle.ymachine.specs.Machine.{Machine}
+use Rattle.ymachine.specs.Machine.{Machine, next}
 use Rattle.ymachine.specs.Past.{most_steps, position}
 use Rattle.ymachine.specs.History.{History}
 use Rattle.ymachine.specs.Cells.{IsSound}
@@ -24,11 +24,25 @@ abbrev pub OneVerdictLaw : Type 0
 OneVerdictLaw = (m : Machine) (w : List ℕ) (v other : Verdict) → Says m w v → Says m w other
     → other ≡ v
 
+-- So what a verdict says of the steps makes it their verdict.
+abbrev pub VerdictLaw : Type 0
+VerdictLaw = (m : Machine) (w : List ℕ) (v : Verdict) → Says m w v → IsVerdict m w v
+
 -- Where the greatest position is reached with no error detected and nothing accepted, the steps
 -- come to no verdict within the limit.
 abbrev pub LimitLaw : Type 0
 LimitLaw = (m : Machine) (w : List ℕ) (h : History) → IsQuiet m w h → position h ≡ most_steps
     → (h.now.mode ≡ modes.Accepted → ⊥) → Says m w Limit
+
+-- The same where the steps end with no error detected and nothing accepted.
+abbrev pub HaltedLaw : Type 0
+HaltedLaw = (m : Machine) (w : List ℕ) (h : History) → IsQuiet m w h → next m h.now ≡ None
+    → (h.now.mode ≡ modes.Accepted → ⊥) → Says m w Limit
+
+-- By sound cells that is never so: with no error detected no parse fails.
+abbrev pub NoFailLaw : Type 0
+NoFailLaw = (g : ContextFree) (m : Machine) → IsSound g m → (w : List ℕ) (h : History)
+    → IsQuiet m w h → h.now.mode ≡ modes.Failed → ⊥
 
 -- Any tables: what the verdict says of the steps it says of sentences.
 abbrev pub SoundLaw : Type 0

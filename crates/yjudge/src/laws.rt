@@ -1,13 +1,16 @@
 //! What is proved of verdicts.
 
-ghost use Rattle.yjudge.specs.Laws.{AnsweredLaw, ExactLaw, LimitLaw, OneHistoryLaw, OneVerdictLaw};
-ghost use Rattle.yjudge.specs.Laws.{SentenceLaw, SoundLaw};
+ghost use Rattle.yjudge.specs.Laws.{AnsweredLaw, ExactLaw, HaltedLaw, LimitLaw, NoFailLaw};
+ghost use Rattle.yjudge.specs.Laws.{OneHistoryLaw, OneVerdictLaw, SentenceLaw, SoundLaw, VerdictLaw};
 
 /// The laws of verdicts; it does nothing.
 pub fn verdict_laws()
     ensures one_history { OneHistoryLaw }
     ensures one_verdict { OneVerdictLaw }
+    ensures verdict { VerdictLaw }
     ensures limit { LimitLaw }
+    ensures halted { HaltedLaw }
+    ensures no_fail { NoFailLaw }
     ensures sound { SoundLaw }
     ensures exact { ExactLaw }
     ensures sentence { SentenceLaw }

@@ -1,7 +1,8 @@
 use Rattle.yjudge.proofs.Completeness.{sentence, answered}
 use Rattle.yjudge.proofs.Exactness.{exact}
+use Rattle.yjudge.proofs.NoFailure.{no_fail}
+use Rattle.yjudge.proofs.OneVerdict.{one_history, says_only, verdict, limit_says, halted_says}
 use Rattle.yjudge.proofs.Soundness.{sound}
-use Rattle.yjudge.proofs.OneVerdict.{one_history, says_only, limit_says}
 use Rattle.yjudge.proofs.laws.verdict_laws.Goals as goal
 
 pub returns-clause-one_history : goal.returns-clause-one_history
@@ -10,8 +11,17 @@ returns-clause-one_history c = one_history
 pub returns-clause-one_verdict : goal.returns-clause-one_verdict
 returns-clause-one_verdict c = says_only
 
+pub returns-clause-verdict : goal.returns-clause-verdict
+returns-clause-verdict c = verdict
+
 pub returns-clause-limit : goal.returns-clause-limit
 returns-clause-limit c = limit_says
+
+pub returns-clause-halted : goal.returns-clause-halted
+returns-clause-halted c = halted_says
+
+pub returns-clause-no_fail : goal.returns-clause-no_fail
+returns-clause-no_fail c = no_fail
 
 pub returns-clause-sound : goal.returns-clause-sound
 returns-clause-sound c = sound
