@@ -1,6 +1,6 @@
 -- By sound cells no quiet parse fails: the end is never shifted.
 use Rattle.std.proofs.Common.{inl, inr, ℕ, ◌≡◌, ◌==◌, Bool, true, false, if◌then◌else◌, List, []}
-use Rattle.std.proofs.Common.{◌∷◌, refl, sym, ◌∙◌, ap, arith, Some, None}
+use Rattle.std.proofs.Common.{◌∷◌, refl, sym, ◌∙◌, ap, arith, Some}
 use Rattle.std.proofs.lemmas.List.Elements.{All-head, All-tail}
 use Rattle.ysymbols.specs.Grammar.{ContextFree, end_token}
 use Rattle.ymachine.specs.declared.machine.Mode.TheVariants as modes
@@ -8,7 +8,7 @@ use Rattle.ymachine.specs.declared.machine.StepKind.{StepKind}
 use Rattle.ymachine.specs.Machine.{Machine, Move, Shift, Reduce, Accept, Error, Configuration}
 use Rattle.ymachine.specs.Machine.{symbols, lookahead, next, next_in, step_by, shift_step}
 use Rattle.ymachine.specs.Machine.{discard_step, detect_step}
-use Rattle.ymachine.specs.History.{History, first_configuration}
+use Rattle.ymachine.specs.History.{first_configuration}
 use Rattle.ymachine.specs.Cells.{IsSound}
 use Rattle.ymachine.proofs.StepKinds.{some_is, none_some}
 use Rattle.yjudge.specs.Verdict.{is_detect, IsQuiet}

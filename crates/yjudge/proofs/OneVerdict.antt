@@ -1,5 +1,5 @@
 -- The steps of a machine from one first configuration: two runs of them, and the one verdict.
-use Rattle.std.proofs.Common.{ℕ, suc, ◌≡◌, ◌<◌, ◌≤◌, ◌+◌, ◌⊎◌, inl, inr, false, List, [], ◌∷◌, ◌++◌}
+use Rattle.std.proofs.Common.{ℕ, suc, ◌≡◌, ◌<◌, ◌≤◌, ◌+◌, ◌⊎◌, inl, inr, List, [], ◌∷◌, ◌++◌}
 use Rattle.std.proofs.Common.{length, refl, sym, ◌∙◌, ap, subst, arith, Some, None}
 use Rattle.std.specs.List.{All}
 use Rattle.std.proofs.lemmas.List.{length-append}
@@ -11,10 +11,8 @@ use Rattle.ymachine.specs.Machine.{Machine, Configuration, next}
 use Rattle.ymachine.specs.Past.{position}
 use Rattle.ymachine.specs.History.{History, first_configuration}
 use Rattle.ymachine.proofs.StepKinds.{some_is, none_some}
-use Rattle.yjudge.specs.declared.judge.Verdict.{Verdict}
 use Rattle.yjudge.specs.declared.judge.Verdict.TheVariants.{Accepted, Rejected, Limit}
 use Rattle.yjudge.specs.Verdict.{is_detect, NoDetect, IsQuiet, place_ahead, AcceptedAt, RejectedAt}
-use Rattle.yjudge.specs.Verdict.{Says, IsVerdict}
 use Rattle.yjudge.specs.Laws.{OneHistoryLaw, OneVerdictLaw, VerdictLaw, LimitLaw}
 use Rattle.yjudge.specs.Laws.{HaltedLaw}
 use Rattle.yjudge.proofs.Yields.{all_front}

@@ -49,8 +49,7 @@ module _ (g : ContextFree) (m : Machine) (w : WellFormed g) (s : IsSound g m) (t
   sound_accepted : (p : ℕ) → AcceptedAt m tokens p → IsSentence g tokens
       × ((forms : List (List ℕ)) × Derivations g tokens forms × (p ≡ steps_of tokens forms))
   sound_accepted p v =
-      let f = accepted_forms v.h v.run v.accepted in
-      (
+      let f = accepted_forms v.h v.run v.accepted in (
         (a.0, derives_forms g tokens (forms_of v.h) f.0),
         (forms_of v.h, f.0, sym v.at ∙ f.1),
       )

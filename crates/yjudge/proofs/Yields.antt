@@ -51,8 +51,11 @@ pub cut : (xs ys before : List ℕ) (b : ℕ) (behind : List ℕ) → xs ++ ys �
     → Cut xs ys before b behind
 cut [] ys before b behind e = inr (before, refl, e)
 cut (x ∷ xs) ys [] b behind e =
-    inl (xs, ap (λ z. z ∷ xs) (head_is x b (xs ++ ys) behind e),
-    sym (tail_is x b (xs ++ ys) behind e))
+    inl (
+      xs,
+      ap (λ z. z ∷ xs) (head_is x b (xs ++ ys) behind e),
+      sym (tail_is x b (xs ++ ys) behind e),
+    )
 cut (x ∷ xs) ys (c ∷ before) b behind e =
     by (cut xs ys before b behind (tail_is x c (xs ++ ys) (before ++ b ∷ behind) e))
   where
