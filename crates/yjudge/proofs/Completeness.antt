@@ -21,7 +21,7 @@ use Rattle.ymachine.specs.Rightmost.{AreInput}
 use Rattle.ymachine.proofs.Prefixes.{reverse_push}
 use Rattle.ymachine.proofs.StepKinds.{symbols_without, without_last_append}
 use Rattle.ymachine.proofs.Unwindings.{left_of_places, accepted_form}
-use Rattle.yjudge.specs.Complete.{IsComplete}
+use Rattle.ymachine.specs.Complete.{IsComplete}
 use Rattle.yjudge.specs.declared.judge.Verdict.TheVariants.{Accepted}
 use Rattle.yjudge.specs.Verdict.{is_detect, IsQuiet}
 use Rattle.yjudge.specs.Sentences.{Derivations, steps_of}

@@ -20,7 +20,7 @@ use Rattle.ymachine.proofs.Prefixes.{reverse_cons, reverse_push}
 use Rattle.ymachine.proofs.StepKinds.{Stepped, shifts, reduces, accepts, fails, detects, discards}
 use Rattle.ymachine.proofs.StepKinds.{pops, shifts_error, inserts, drops, stepped}
 use Rattle.ymachine.proofs.Unwindings.{left_of_places, Found, found}
-use Rattle.yjudge.specs.Complete.{IsComplete}
+use Rattle.ymachine.specs.Complete.{IsComplete}
 use Rattle.yjudge.specs.declared.judge.Verdict.TheVariants.{Accepted, Rejected, Limit}
 use Rattle.yjudge.specs.Verdict.{is_detect, RejectedAt}
 use Rattle.yjudge.specs.Sentences.{IsSentence, BeginsSentence}
@@ -224,7 +224,7 @@ module _ (g : ContextFree) (m : Machine) (w : WellFormed g) (s : IsSound g m) (f
   run = quiet_plain m tokens v.h v.run
 
   -- what was shifted begins no sentence with such a token, or the end, ahead
-  no_sentence : (word back : List ℕ) → Shifted tokens word v.h.now.rest
+  pub no_sentence : (word back : List ℕ) → Shifted tokens word v.h.now.rest
       → ahead back ≡ ahead (tokens_left v.h.now.rest) → IsSentence g (word ++ back) → ⊥
   no_sentence word back t h n =
       let d = detection m v.h.now v.after v.detects in

@@ -9,3 +9,4 @@ pub mod Sentential
 pub mod Way
 pub mod Completeness
 pub mod Exactness
+pub mod LongSentences

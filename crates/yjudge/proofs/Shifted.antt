@@ -1,17 +1,18 @@
 -- How far a quiet history has come in its tokens, and how many steps that took.
 use Rattle.std.proofs.Common.{ℕ, suc, ◌≡◌, ◌+◌, ◌-◌, List, []}
 use Rattle.std.proofs.Common.{◌∷◌, ◌++◌, length, take, drop, sym, ◌∙◌, ap, append_assoc}
-use Rattle.std.proofs.Common.{append-nil, arith}
-use Rattle.std.proofs.lemmas.List.{length-append, take_at}
+use Rattle.std.proofs.Common.{append-nil, arith, refl, subst}
+use Rattle.std.proofs.lemmas.List.{length-append, length-map, take_at}
 use Rattle.ymachine.specs.declared.machine.Mode.TheVariants.{Running, Accepted}
 use Rattle.ymachine.specs.declared.machine.StepKind.{StepKind}
 use Rattle.ymachine.specs.Machine.{Machine, Configuration}
-use Rattle.ymachine.specs.History.{places_from}
+use Rattle.ymachine.specs.History.{places_from, first_configuration}
 use Rattle.ymachine.specs.Unwinding.{tokens_left, forms_before}
 use Rattle.ymachine.proofs.Unwindings.{left_of_places}
 use Rattle.yjudge.specs.Verdict.{place_ahead}
+use Rattle.yjudge.specs.Laws.{PlaceLaw}
 use Rattle.yjudge.proofs.Quiet.{Plain, plain_shift, plain_reduce, plain_accept, plain_fail, PlainTo}
-use Rattle.yjudge.proofs.Quiet.{apart}
+use Rattle.yjudge.proofs.Quiet.{apart, quiet_plain}
 
 -- The tokens are those shifted and those left, with their places.
 pub record Shifted (tokens word : List ℕ) (rest : List (ℕ × ℕ)) : Type 0 where
@@ -68,6 +69,37 @@ before_place {word = word} {place = place} s e =
     let l = place_is s in
     let k : length word ≡ place - 1 = omega (arith, l, e) in
     ap (take (place - 1)) s.parts ∙ take_at word s.back (place - 1) k
+
+-- how far a quiet history has come
+pub shifted_to : (m : Machine) (tokens : List ℕ) (now : Configuration)
+    (earlier : List (StepKind × Configuration)) → PlainTo m (first_configuration tokens) now earlier
+    → (word : List ℕ) × Shifted tokens word now.rest
+shifted_to m tokens now [] h = (
+  [],
+  subst (λ (c : Configuration). Shifted tokens [] c.rest) (sym h)
+      (record { back = tokens; parts = refl; left = refl }),
+)
+shifted_to m tokens now (step ∷ earlier) h = by h.0 (shifted_to m tokens step.1 earlier h.1)
+  where
+    by : Plain m step.1 step.0 now → (word : List ℕ) × Shifted tokens word step.1.rest
+        → (word : List ℕ) × Shifted tokens word now.rest
+    by (plain_shift t rest d c e k st re mo) y =
+        let here : Shifted tokens y.0 (t ∷ rest) = subst (Shifted tokens y.0) e y.1 in
+        (y.0 ++ t.0 ∷ [], subst (Shifted tokens (y.0 ++ t.0 ∷ [])) (sym re) (shifted_on t rest here))
+    by (plain_reduce r d c k st re mo) y = (y.0, subst (Shifted tokens y.0) (sym re) y.1)
+    by (plain_accept d k st re mo) y = (y.0, subst (Shifted tokens y.0) (sym re) y.1)
+    by (plain_fail k st re mo) y = (y.0, subst (Shifted tokens y.0) (sym re) y.1)
+
+-- so the place ahead tells how many tokens are left
+pub place_left : PlaceLaw
+place_left m w h q =
+    let t = shifted_to m w h.now h.earlier (quiet_plain m w h q) in
+    let p = place_is t.1 in
+    let l : length h.now.rest ≡ length t.1.back =
+    sym (length-map h.now.rest (λ (token : ℕ × ℕ). token.0)) ∙ ap length (shifted_left t.1) in
+    let i : length w ≡ length t.0 + length t.1.back =
+    ap length t.1.parts ∙ length-append t.0 t.1.back in
+    omega (arith, p, l, i)
 
 -- each step of a running parse takes a token or writes a form
 abbrev Counts : Configuration → Configuration → List (StepKind × Configuration) → Type 0

@@ -1,5 +1,5 @@
 -- What is proved of verdicts: the laws that contracts name.
-use Rattle.std.specs.Prelude.{ℕ, ◌≡◌, ◌≤◌, List, None}
+use Rattle.std.specs.Prelude.{ℕ, ◌≡◌, ◌+◌, ◌<◌, ◌≤◌, List, length, None}
 use Rattle.ysymbols.specs.Grammar.{ContextFree}
 use Rattle.ysymbols.specs.WellFormed.{WellFormed}
 use Rattle.ymachine.specs.declared.machine.Mode.TheVariants as modes
@@ -7,11 +7,11 @@ use Rattle.ymachine.specs.Machine.{Machine, next}
 use Rattle.ymachine.specs.Past.{most_steps, position}
 use Rattle.ymachine.specs.History.{History}
 use Rattle.ymachine.specs.Cells.{IsSound}
-use Rattle.yjudge.specs.Complete.{IsComplete}
+use Rattle.ymachine.specs.Complete.{IsComplete}
 use Rattle.ymachine.specs.Rightmost.{AreInput}
 use Rattle.yjudge.specs.declared.judge.Verdict.{Verdict}
 use Rattle.yjudge.specs.declared.judge.Verdict.TheVariants.{Limit}
-use Rattle.yjudge.specs.Verdict.{IsQuiet, AcceptedAt, Says, IsVerdict}
+use Rattle.yjudge.specs.Verdict.{IsQuiet, place_ahead, AcceptedAt, Says, IsVerdict}
 use Rattle.yjudge.specs.Sentences.{IsSentence, Derivations, steps_of, IsSoundOf, IsExactOf, IsAnswered}
 
 -- Two histories of one length that detect no error are equal.
@@ -44,6 +44,11 @@ abbrev pub NoFailLaw : Type 0
 NoFailLaw = (g : ContextFree) (m : Machine) → IsSound g m → (w : List ℕ) (h : History)
     → IsQuiet m w h → h.now.mode ≡ modes.Failed → ⊥
 
+-- With no error detected, the place ahead tells how many tokens are left.
+abbrev pub PlaceLaw : Type 0
+PlaceLaw = (m : Machine) (w : List ℕ) (h : History) → IsQuiet m w h
+    → place_ahead w h.now.rest + length h.now.rest ≡ length w + 1
+
 -- Any tables: what the verdict says of the steps it says of sentences.
 abbrev pub SoundLaw : Type 0
 SoundLaw = (g : ContextFree) (m : Machine) → WellFormed g → IsSound g m → (w : List ℕ)
@@ -67,3 +72,10 @@ SentenceLaw = (g : ContextFree) (m : Machine) → WellFormed g → IsSound g m �
 abbrev pub AnsweredLaw : Type 0
 AnsweredLaw = (g : ContextFree) (m : Machine) → WellFormed g → IsSound g m → IsComplete g m
     → (w : List ℕ) → AreInput g w → (v : Verdict) → IsVerdict m w v → IsAnswered g w v
+
+-- Where no cell has a choice: a sentence whose parse takes more steps than may stand comes to no
+-- verdict within the limit.
+abbrev pub LongLaw : Type 0
+LongLaw = (g : ContextFree) (m : Machine) → WellFormed g → IsSound g m → IsComplete g m
+    → (w : List ℕ) → AreInput g w → (v : Verdict) → Says m w v → IsSentence g w
+    → (forms : List (List ℕ)) → Derivations g w forms → most_steps < steps_of w forms → v ≡ Limit

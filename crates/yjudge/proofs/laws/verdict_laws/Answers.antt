@@ -1,7 +1,9 @@
 use Rattle.yjudge.proofs.Completeness.{sentence, answered}
 use Rattle.yjudge.proofs.Exactness.{exact}
+use Rattle.yjudge.proofs.LongSentences.{long}
 use Rattle.yjudge.proofs.NoFailure.{no_fail}
 use Rattle.yjudge.proofs.OneVerdict.{one_history, says_only, verdict, limit_says, halted_says}
+use Rattle.yjudge.proofs.Shifted.{place_left}
 use Rattle.yjudge.proofs.Soundness.{sound}
 use Rattle.yjudge.proofs.laws.verdict_laws.Goals as goal
 
@@ -23,6 +25,9 @@ returns-clause-halted c = halted_says
 pub returns-clause-no_fail : goal.returns-clause-no_fail
 returns-clause-no_fail c = no_fail
 
+pub returns-clause-place : goal.returns-clause-place
+returns-clause-place c = place_left
+
 pub returns-clause-sound : goal.returns-clause-sound
 returns-clause-sound c = sound
 
@@ -34,3 +39,6 @@ returns-clause-sentence c = sentence
 
 pub returns-clause-answered : goal.returns-clause-answered
 returns-clause-answered c = answered
+
+pub returns-clause-long : goal.returns-clause-long
+returns-clause-long c = long
