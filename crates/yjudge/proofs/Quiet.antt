@@ -108,11 +108,6 @@ steps_to m first now (step ∷ earlier) h u = (
   steps_to m first step.1 earlier h.1 (All-tail unedited step earlier u),
 )
 
-pub leads_to : (m : Machine) (first now : Configuration) (earlier : List (StepKind × Configuration))
-    → StepsTo m first now earlier → LeadsTo (next m) (edited m) first now earlier
-leads_to m first now [] h = h
-leads_to m first now (step ∷ earlier) h = (inl h.0, leads_to m first step.1 earlier h.1)
-
 pub quiet_steps : (m : Machine) (tokens : List ℕ) (h : History) → IsQuiet m tokens h
     → StepsTo m (first_configuration tokens) h.now h.earlier
 quiet_steps m tokens h q = steps_to m (first_configuration tokens) h.now h.earlier q.history q.steps
