@@ -9,6 +9,7 @@ pub mod MachineOver
 pub mod Cells
 pub mod Sound
 pub mod Rightmost
+pub mod Complete
 pub mod Rest
 pub mod Reversible
 pub mod Spelling

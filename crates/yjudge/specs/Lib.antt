@@ -1,0 +1,3 @@
+pub mod Verdict
+pub mod Sentences
+pub mod Laws
