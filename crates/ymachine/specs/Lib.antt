@@ -7,6 +7,7 @@ pub mod History
 pub mod Unwinding
 pub mod MachineOver
 pub mod Cells
+pub mod Complete
 pub mod Sound
 pub mod Rightmost
 pub mod Rest
