@@ -2,6 +2,7 @@ pub mod Ends
 pub mod Prefixes
 pub mod StepKinds
 pub mod Machines
+pub mod Completes
 pub mod Sounds
 pub mod Unwindings
 pub mod Spellings

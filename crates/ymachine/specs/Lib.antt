@@ -7,9 +7,9 @@ pub mod History
 pub mod Unwinding
 pub mod MachineOver
 pub mod Cells
+pub mod Complete
 pub mod Sound
 pub mod Rightmost
-pub mod Complete
 pub mod Rest
 pub mod Reversible
 pub mod Spelling

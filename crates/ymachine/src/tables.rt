@@ -1,12 +1,14 @@
 //! What a parse reads off tables: names, rules, gotos and cells, and what it rests on.
 
-ghost use Rattle.std.specs.Prelude.{ℕ, ◌≡◌, List};
+ghost use Rattle.std.specs.Prelude.{ℕ, ◌≡◌, false, List};
 ghost use Rattle.ysymbols.specs.WellFormed.{WellFormed};
 ghost use Rattle.ylalr.specs.Collection.{Guide, HasStates, IsGuide};
 ghost use Rattle.ytables.specs.Allowed.{CellsAllow};
+ghost use Rattle.ytables.specs.Had.{CellsHave};
 ghost use Rattle.ytables.specs.Tables.{AreTables};
 ghost use Rattle.ytables.specs.Text.{name_of};
 ghost use Rattle.ymachine.specs.Cells.{IsSound};
+ghost use Rattle.ymachine.specs.Complete.{IsComplete};
 ghost use Rattle.ymachine.specs.Headline.{IsMachineOf};
 ghost use Rattle.ymachine.specs.History.{History};
 ghost use Rattle.ymachine.specs.Machine.{Machine};
@@ -82,7 +84,9 @@ fn promised(tables: &Tables)
     ensures guide { (u : Guide) × IsGuide tables.now.built u }
     ensures tables { AreTables tables.now }
     ensures allowed { CellsAllow tables.now }
+    ensures have { tables.now.choice ≡ false → CellsHave tables.now }
 {
+    let _free = tables.choice_free();
     let automaton = tables.automaton();
     let _states = automaton.states();
     let _symbols = automaton.grammar().symbols();
@@ -90,8 +94,9 @@ fn promised(tables: &Tables)
 
 /// What a parse by tables rests on. The machine of the tables is the one machine of their grammar;
 /// a cell says only what a valid item allows, so each shift has its goto, each reduction its body
-/// on the stack and its goto; what is accepted without error steps unwinds to a rightmost
-/// derivation (Aho, Sethi and Ullman, 4.7). The call does nothing else.
+/// on the stack and its goto; where no cell has a choice, it says whatever a valid item allows;
+/// what is accepted without error steps unwinds to a rightmost derivation (Aho, Sethi and Ullman,
+/// 4.7). The call does nothing else.
 pub fn known(tables: &Tables)
     ensures grammar { WellFormed tables.now.built.grammar.bare }
     ensures machine { IsMachineOf tables.now.built.grammar (machine_over tables.now) }
@@ -99,6 +104,8 @@ pub fn known(tables: &Tables)
         → (stack : List ℕ) (token : ℕ)
         → m.cell stack token ≡ (machine_over tables.now).cell stack token }
     ensures cells { IsSound tables.now.built.grammar.bare (machine_over tables.now) }
+    ensures complete { tables.now.choice ≡ false
+        → IsComplete tables.now.built.grammar.bare (machine_over tables.now) }
     ensures sound { Sound tables.now }
     ensures unwinds { (tokens : List ℕ) (h : History)
         → AreInput tables.now.built.grammar.bare tokens

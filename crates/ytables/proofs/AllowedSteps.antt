@@ -1,6 +1,6 @@
 -- Each action of the tables is allowed by the items of its state.
 use Rattle.std.proofs.Common.{ℕ, zero, suc, ◌≡◌, ◌≢◌, ◌<◌, ◌≤◌, ◌⊎◌, inl, inr, Bool, true, false}
-use Rattle.std.proofs.Common.{not, ◌&&◌, ◌||◌, nat_eq, nat_lt, min, List, [], ◌∷◌, length, map}
+use Rattle.std.proofs.Common.{not, ◌&&◌, nat_eq, nat_lt, min, List, [], ◌∷◌, length}
 use Rattle.std.proofs.Common.{drop, get_or, refl, sym, ap, ◌∙◌, subst, arith, length-drop, Option}
 use Rattle.std.proofs.Common.{Some, None, if◌then◌else◌}
 use Rattle.std.specs.List.{All, Contains, filter, list_any, list_all, count_by, fold}
@@ -20,46 +20,8 @@ use Rattle.ytables.specs.Tables.{after_dot, begins_with, is_empty, is_before, is
 use Rattle.ytables.specs.Tables.{ready_in, shift_to, shift_of, shift_by, rules_by, class_in}
 use Rattle.ytables.specs.Tables.{cell_by, row_by, default_by, tokens_of, action_in}
 use Rattle.ytables.specs.Allowed.{complete_of, accept_item, Allows}
+use Rattle.ytables.proofs.AmongSteps.{Among, among_contains, filter_among, map_among, any_among}
 use Rattle.ytables.proofs.RowSteps.{complete_dot}
-
--- x stands in the list
-abbrev Among : {X : Type 0} → X → List X → Type 0
-Among x [] = ⊥
-Among x (y ∷ ys) = (y ≡ x) ⊎ Among x ys
-
-among_contains : {X : Type 0} (x : X) (xs : List X) → Among x xs → Contains xs x
-among_contains x [] h = absurd h
-among_contains x (y ∷ ys) (inl e) = (0, omega arith, e)
-among_contains x (y ∷ ys) (inr h) = let c = among_contains x ys h in
-    (suc c.0, (let l = c.1 in omega (arith, l)), c.2)
-
-among_filter : {X : Type 0} (p : X → Bool) (x : X) (xs : List X) → Among x (filter p xs) →
-    (p x ≡ true) × Among x xs
-among_filter p x [] h = absurd h
-among_filter {X} p x (y ∷ ys) h = go (p y) refl h (among_filter p x ys)
-  where
-    go : (b : Bool) → p y ≡ b → Among x (if b then y ∷ filter p ys else filter p ys) →
-        (Among x (filter p ys) → (p x ≡ true) × Among x ys) → (p x ≡ true) × Among x (y ∷ ys)
-    go true e (inl s) rec = (ap p (sym s) ∙ e, inl s)
-    go true e (inr s) rec = let r = rec s in (r.0, inr r.1)
-    go false e s rec = let r = rec s in (r.0, inr r.1)
-
-among_map : {X Y : Type 0} (f : X → Y) (y : Y) (xs : List X) → Among y (map f xs) → (x : X) ×
-    (f x ≡ y) × Among x xs
-among_map f y [] h = absurd h
-among_map f y (x ∷ xs) (inl e) = (x, e, inl refl)
-among_map f y (x ∷ xs) (inr h) = let r = among_map f y xs h in (r.0, r.1, inr r.2)
-
-any_among : {X : Type 0} (p : X → Bool) (xs : List X) → list_any p xs ≡ true → (x : X) ×
-    (p x ≡ true) × Among x xs
-any_among p [] h = cc
-any_among {X} p (x ∷ xs) h = go (p x) refl h (any_among p xs)
-  where
-    go : (b : Bool) → p x ≡ b → (b || list_any p xs) ≡ true →
-        (list_any p xs ≡ true → (y : X) × (p y ≡ true) × Among y xs) → (y : X) × (p y ≡ true) ×
-        Among y (x ∷ xs)
-    go true e h rec = (x, e, inl refl)
-    go false e h rec = let r = rec h in (r.0, r.1, inr r.2)
 
 min_is : (a b : ℕ) → (min a b ≡ a) ⊎ (min a b ≡ b)
 min_is a b = go (side a b)
@@ -122,7 +84,7 @@ cell_from class (Some s) rules = go (list_any (λ r. is_ban (class r)) rules)
         })).action
     go true c = tt
     go false true = reduced_from (Some s) rules kept true (λ r h.
-        (among_filter (λ r. not (is_lose (class r))) r rules h).1)
+        (filter_among (λ r. not (is_lose (class r))) r rules h).1)
     go false false = itself_from rules s
 
 begins_is : (t : ℕ) (l : List ℕ) → begins_with t l ≡ true → (y : List ℕ) × (l ≡ t ∷ y)
@@ -203,10 +165,10 @@ module _ (g : ContextFree) (w : WellFormed g) (k : List Item) (range : InRange g
   rule_has : (test : Item → Bool) (r : ℕ) → Among r (rules_by test (ready_in g k)) → (r ≢ 0) ×
       (r < length g.rules) × Contains k (complete_of g r)
   rule_has test r h =
-      let m = among_map (λ (i : Item). i.rule) r (filter test (ready_in g k)) h in
+      let m = map_among (λ (i : Item). i.rule) r (filter test (ready_in g k)) h in
       let i = m.0 in
-      let passed = among_filter test i (ready_in g k) m.2 in
-      let ready = among_filter (is_ready g) i k passed.1 in
+      let passed = filter_among test i (ready_in g k) m.2 in
+      let ready = filter_among (is_ready g) i k passed.1 in
       let here = within i ready.1 in
       let full : length (body_of g i.rule) ≤ i.dot = complete_dot g i ready.0 in
       let inside = here.1 in
@@ -264,9 +226,9 @@ default_from v to looks k r e = go (list_any (has_before v.bare k) (tokens_of v)
         r → (t : ℕ) × ((cell_by v to looks k t).action ≡ Reduce r)
     go true e = cc
     go false e =
-        let f = among_filter is_filled (Reduce r) (row_by v to looks k)
+        let f = filter_among is_filled (Reduce r) (row_by v to looks k)
         (common_among (filter is_filled (row_by v to looks k)) r e) in
-        let m = among_map (λ t. (cell_by v to looks k t).action) (Reduce r) (tokens_of v) f.1 in
+        let m = map_among (λ t. (cell_by v to looks k t).action) (Reduce r) (tokens_of v) f.1 in
         (m.0, m.1)
 
 -- Each action is allowed by the items of its state.

@@ -1,5 +1,7 @@
 pub mod GotoSteps
 pub mod AllowedSteps
+pub mod AmongSteps
+pub mod HadSteps
 pub mod GuideSteps
 pub mod LineSteps
 pub mod RangeSteps

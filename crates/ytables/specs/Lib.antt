@@ -1,6 +1,7 @@
 pub mod Rows
 pub mod Allowed
 pub mod Cell
+pub mod Had
 pub mod Report
 pub mod Table
 pub mod Tables

@@ -2,13 +2,16 @@
 
 ghost use Rattle.std.specs.Prelude.{ℕ, ◌≡◌, ◌<◌, ◌≤◌, ◌↔◌, length, false, slice_index_or, None};
 ghost use Rattle.std.specs.Prelude.{IsTrue, IfOk, IfErr, unwrap_or};
+ghost use Rattle.std.specs.List.{sum_by};
 ghost use Rattle.ylalr.specs.Collection.{Guide, IsGuide, IsGoto, goto_in};
 ghost use Rattle.ytables.specs.declared.cell.Action.TheVariants.{Error};
 ghost use Rattle.ytables.specs.declared.fault.TableFault.{TableFault};
 ghost use Rattle.ytables.specs.Allowed.{CellsAllow};
 ghost use Rattle.ytables.specs.Cell.{by_default};
+ghost use Rattle.ytables.specs.Had.{NoChoice, CellsHave};
 ghost use Rattle.ytables.specs.Tables.{AreRowsTo, AreSumsTo, AreTables, action_at, default_at};
 ghost use Rattle.ytables.specs.Tables.{action_in, default_in, act_at, rule_at};
+ghost use Rattle.ytables.specs.Tables.{row_shift_reduce, row_reduce_reduce, states_of};
 
 use crate::cell::Action;
 use crate::fault::TableFault;
@@ -228,14 +231,26 @@ impl Tables {
     pub fn conflicts(&self) -> Counts
         ensures shift_reduce { result.shift_reduce ≡ self.now.shift_reduce }
         ensures reduce_reduce { result.reduce_reduce ≡ self.now.reduce_reduce }
+        ensures exact { (u : Guide) → IsGuide self.now.built u
+            → (result.shift_reduce
+            ≡ sum_by (row_shift_reduce self.now.built u) (states_of self.now.built))
+            × (result.reduce_reduce
+            ≡ sum_by (row_reduce_reduce self.now.built u) (states_of self.now.built)) }
     {
         self.counts
     }
 
-    /// Whether no cell has a choice between two candidates.
+    /// Whether no cell has a choice between two candidates. Where that is so, each candidate that
+    /// the items of a state and their lookaheads give is what the cell says, and default reductions
+    /// take none away.
     pub fn choice_free(&self) -> bool
-        ensures { IsTrue result ↔ (self.now.choice ≡ false) }
+        ensures value { IsTrue result ↔ (self.now.choice ≡ false) }
+        ensures exact { (u : Guide) → IsGuide self.now.built u
+            → IsTrue result ↔ NoChoice self.now.built u }
+        ensures have { IsTrue result → CellsHave self.now }
     {
+        let _guide = self.automaton.states();
+        let _well_formed = self.automaton.grammar().symbols();
         !self.chosen
     }
 }

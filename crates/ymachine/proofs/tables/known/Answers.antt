@@ -1,4 +1,5 @@
 use Rattle.ymachine.specs.MachineOver.{machine_over}
+use Rattle.ymachine.proofs.Completes.{complete_machine}
 use Rattle.ymachine.proofs.Headlines.{machine_of_grammar}
 use Rattle.ymachine.proofs.Machines.{sound_machine}
 use Rattle.ymachine.proofs.OneMachine.{one_machine}
@@ -9,6 +10,10 @@ use Rattle.ymachine.proofs.tables.known.Goals as goal
 pub returns-clause-cells : goal.returns-clause-cells
 returns-clause-cells c = let p = c.promised.ensures in
     sound_machine c.args.tables.now p.grammar p.states p.allowed
+
+pub returns-clause-complete : goal.returns-clause-complete
+returns-clause-complete c e = let p = c.promised.ensures in
+    complete_machine c.args.tables.now p.grammar p.states (p.have e)
 
 pub returns-clause-machine : goal.returns-clause-machine
 returns-clause-machine c =
