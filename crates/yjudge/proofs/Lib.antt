@@ -1,0 +1,4 @@
+pub mod Quiet
+pub mod OneVerdict
+pub mod RunStates
+pub mod Runs

@@ -1,1 +1,5 @@
 pub mod Verdict
+pub mod Sentences
+pub mod Complete
+pub mod Laws
+pub mod Judge

@@ -1,8 +1,16 @@
 //! The verdict on a list of tokens, by the steps of a parse without its trees and its past.
 
-use std::alloc::{AllocError, AllocFailed, Global};
+ghost use Rattle.std.specs.Prelude.{◌≡◌, ◌<◌, ◌≤◌, length, IfOk, OnOk};
+ghost use Rattle.ytables.specs.Tables.{action_at};
+ghost use Rattle.ymachine.specs.MachineOver.{machine_over};
+ghost use Rattle.ytokens.specs.Tokens.{Fits, symbols_of};
+ghost use Rattle.yjudge.specs.Judge.{Basis, CanReduce, top_of, ahead, reduced};
+ghost use Rattle.yjudge.specs.Verdict.{IsVerdict};
+
+use std::alloc::{AllocFailed, Global};
 use thiserror::Error;
 use ylalr::END;
+use ymachine::tables::known;
 use ysymbols::Sym;
 use ytables::{Action, Tables};
 use ytokens::tokens::Tokens;
@@ -35,18 +43,37 @@ impl<T: Drop> From<AllocFailed<T>> for JudgeFault {
     }
 }
 
+/// What a parse by tables rests on. The call does nothing else.
+fn basis(tables: &Tables)
+    ensures { Basis tables.now }
+{
+    known(tables);
+    let _states = tables.automaton().states();
+}
+
 /// The token ahead, or the end.
-fn token_ahead(tokens: &[Sym], taken: usize) -> Sym {
+fn token_ahead(tokens: &[Sym], taken: usize) -> Sym
+    ensures { result ≡ ahead tokens.now taken }
+{
     tokens.get(taken).copied().unwrap_or(END)
 }
 
 /// What is done in the state on top at this token.
-fn action_at(tables: &Tables, states: &[usize], token: Sym) -> Action {
+fn action_on(tables: &Tables, states: &[usize], token: Sym) -> Action
+    requires some { 0 < length states.now }
+    requires state { top_of states.now < length tables.now.built.states }
+    requires token { token < tables.now.built.grammar.bare.tokens }
+    ensures { result ≡ action_at tables.now (top_of states.now) token }
+{
     tables.action(states[states.len() - 1], token)
 }
 
 /// The left side of a rule takes the place of its body.
-fn reduce(tables: &Tables, states: &mut Vec<usize>, rule: usize) -> Result<(), JudgeFault> {
+fn reduce(tables: &Tables, states: &mut Vec<usize>, rule: usize) -> Result<(), JudgeFault>
+    requires { CanReduce tables.now rule states.old.items }
+    ensures { OnOk result (states.new.items ≡ reduced tables.now rule states.old.items) }
+{
+    basis(tables);
     let rule = tables.automaton().grammar().rule(rule);
     let below = states.len() - rule.body().len();
     states.truncate(below);
@@ -56,12 +83,16 @@ fn reduce(tables: &Tables, states: &mut Vec<usize>, rule: usize) -> Result<(), J
 }
 
 /// The verdict on the tokens.
-pub fn judge(alloc: Global, tables: &Tables, tokens: &Tokens) -> Result<Verdict, JudgeFault> {
+pub fn judge(alloc: Global, tables: &Tables, tokens: &Tokens) -> Result<Verdict, JudgeFault>
+    requires { Fits tables.now.built.grammar (symbols_of tokens.now) }
+    ensures { IfOk result (λ v. IsVerdict (machine_over tables.now) (symbols_of tokens.now) v) }
+{
+    basis(tables);
     let mut states = Vec::new(alloc);
     states.push(0)?;
     let mut taken = 0;
     for steps in 0..MOST_STEPS {
-        match action_at(tables, &states, token_ahead(&tokens.symbols, taken)) {
+        match action_on(tables, &states, token_ahead(&tokens.symbols, taken)) {
             Action::Shift(to) => {
                 states.push(to)?;
                 taken += 1;
