@@ -22,10 +22,9 @@ use Rattle.ymachine.proofs.Prefixes.{reverse_push}
 use Rattle.ymachine.proofs.StepKinds.{symbols_without, without_last_append}
 use Rattle.ymachine.proofs.Unwindings.{left_of_places, accepted_form}
 use Rattle.ymachine.specs.Complete.{IsComplete}
-use Rattle.yjudge.specs.declared.judge.Verdict.TheVariants.{Accepted}
 use Rattle.yjudge.specs.Verdict.{is_detect, IsQuiet}
-use Rattle.yjudge.specs.Sentences.{Derivations, steps_of}
-use Rattle.yjudge.specs.Laws.{SentenceLaw, AnsweredLaw}
+use Rattle.yjudge.specs.Sentences.{Derivations}
+use Rattle.yjudge.proofs.Laws.{SentenceLaw}
 use Rattle.yjudge.proofs.Yields.{cons_is}
 use Rattle.yjudge.proofs.Beginnings.{prefix_of}
 use Rattle.yjudge.proofs.Quiet.{history, quiet_first, quiet_on}
@@ -230,9 +229,3 @@ sentence g m w s f tokens a h =
       one_derivation g m w s f tokens a r,
       λ l. record { h = r.h; run = r.run; accepted = r.accepted; at = z.1; small = l },
     )
-
--- and that is the verdict
-pub answered : AnsweredLaw
-answered g m w s f tokens a v k h =
-    let r = sentence g m w s f tokens a h in
-    (r.0, r.1, r.2, λ l. sym (k.only (Accepted (steps_of tokens r.0)) (r.3 l)))

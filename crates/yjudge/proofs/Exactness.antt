@@ -21,10 +21,10 @@ use Rattle.ymachine.proofs.StepKinds.{Stepped, shifts, reduces, accepts, fails, 
 use Rattle.ymachine.proofs.StepKinds.{pops, shifts_error, inserts, drops, stepped}
 use Rattle.ymachine.proofs.Unwindings.{left_of_places, Found, found}
 use Rattle.ymachine.specs.Complete.{IsComplete}
-use Rattle.yjudge.specs.declared.judge.Verdict.TheVariants.{Accepted, Rejected, Limit}
+use Rattle.yjudge.specs.declared.verdict.Verdict.TheVariants.{Accepted, Rejected, Limit}
 use Rattle.yjudge.specs.Verdict.{is_detect, RejectedAt}
 use Rattle.yjudge.specs.Sentences.{IsSentence, BeginsSentence}
-use Rattle.yjudge.specs.Laws.{ExactLaw}
+use Rattle.yjudge.proofs.Laws.{ExactLaw}
 use Rattle.yjudge.proofs.Yields.{all_back}
 use Rattle.yjudge.proofs.Quiet.{true_false, apart, quiet_plain, Plain, plain_shift, plain_reduce}
 use Rattle.yjudge.proofs.Quiet.{plain_accept, plain_fail, PlainTo}

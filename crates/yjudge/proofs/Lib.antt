@@ -1,12 +1,14 @@
+pub mod Laws
 pub mod Yields
 pub mod Quiet
 pub mod OneVerdict
 pub mod Shifted
 pub mod Beginnings
 pub mod Soundness
-pub mod NoFailure
 pub mod Sentential
 pub mod Way
 pub mod Completeness
 pub mod Exactness
 pub mod LongSentences
+pub mod RunStates
+pub mod Runs

@@ -8,11 +8,11 @@ use Rattle.ymachine.specs.Past.{most_steps}
 use Rattle.ymachine.specs.Cells.{IsSound}
 use Rattle.ymachine.specs.Complete.{IsComplete}
 use Rattle.ymachine.specs.Rightmost.{AreInput}
-use Rattle.yjudge.specs.declared.judge.Verdict.{Verdict}
-use Rattle.yjudge.specs.declared.judge.Verdict.TheVariants.{Accepted, Rejected, Limit}
+use Rattle.yjudge.specs.declared.verdict.Verdict.{Verdict}
+use Rattle.yjudge.specs.declared.verdict.Verdict.TheVariants.{Accepted, Rejected, Limit}
 use Rattle.yjudge.specs.Verdict.{AcceptedAt, RejectedAt, Says}
 use Rattle.yjudge.specs.Sentences.{IsSentence, Derivations, steps_of}
-use Rattle.yjudge.specs.Laws.{LongLaw}
+use Rattle.yjudge.proofs.Laws.{AnsweredLaw, LongLaw}
 use Rattle.yjudge.proofs.Quiet.{quiet_plain}
 use Rattle.yjudge.proofs.Shifted.{shifted_left}
 use Rattle.yjudge.proofs.Beginnings.{taken}
@@ -47,3 +47,14 @@ long g m w s f tokens a v says h forms d l = by v says
     by (Accepted p) q = absurd (not_accepted g m w s f tokens a h forms d l p q)
     by (Rejected place) q = absurd (not_rejected g m w s f tokens a h place q)
     by Limit q = refl
+
+-- and so a sentence has its verdict, whatever its length
+pub answered : AnsweredLaw
+answered g m w s f tokens a v k h =
+    let r = sentence g m w s f tokens a h in (
+      r.0,
+      r.1,
+      r.2,
+      (λ l. sym (k.only (Accepted (steps_of tokens r.0)) (r.3 l))),
+      long g m w s f tokens a v k.says h r.0 r.1,
+    )

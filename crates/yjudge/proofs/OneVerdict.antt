@@ -11,10 +11,10 @@ use Rattle.ymachine.specs.Machine.{Machine, Configuration, next}
 use Rattle.ymachine.specs.Past.{position}
 use Rattle.ymachine.specs.History.{History, first_configuration}
 use Rattle.ymachine.proofs.StepKinds.{some_is, none_some}
-use Rattle.yjudge.specs.declared.judge.Verdict.TheVariants.{Accepted, Rejected, Limit}
+use Rattle.yjudge.specs.declared.verdict.Verdict.TheVariants.{Accepted, Rejected, Limit}
 use Rattle.yjudge.specs.Verdict.{is_detect, NoDetect, IsQuiet, place_ahead, AcceptedAt, RejectedAt}
-use Rattle.yjudge.specs.Laws.{OneHistoryLaw, OneVerdictLaw, VerdictLaw, LimitLaw}
-use Rattle.yjudge.specs.Laws.{HaltedLaw}
+use Rattle.yjudge.proofs.Laws.{OneHistoryLaw, OneVerdictLaw, VerdictLaw, LimitLaw}
+use Rattle.yjudge.proofs.Laws.{HaltedLaw}
 use Rattle.yjudge.proofs.Yields.{all_front}
 use Rattle.yjudge.proofs.Quiet.{undetected, history, true_false, StepsTo, halted, quiet_steps}
 

@@ -10,7 +10,7 @@ use Rattle.ymachine.specs.History.{places_from, first_configuration}
 use Rattle.ymachine.specs.Unwinding.{tokens_left, forms_before}
 use Rattle.ymachine.proofs.Unwindings.{left_of_places}
 use Rattle.yjudge.specs.Verdict.{place_ahead}
-use Rattle.yjudge.specs.Laws.{PlaceLaw}
+use Rattle.yjudge.proofs.Laws.{PlaceLaw}
 use Rattle.yjudge.proofs.Quiet.{Plain, plain_shift, plain_reduce, plain_accept, plain_fail, PlainTo}
 use Rattle.yjudge.proofs.Quiet.{apart, quiet_plain}
 

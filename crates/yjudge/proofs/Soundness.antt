@@ -13,10 +13,10 @@ use Rattle.ymachine.specs.Cells.{IsSound}
 use Rattle.ymachine.specs.Rightmost.{AreInput, IsRightmostDerivation}
 use Rattle.ymachine.specs.declared.machine.Mode.TheVariants as modes
 use Rattle.ymachine.proofs.Unwindings.{left_of_places, unwinds_right, accepted}
-use Rattle.yjudge.specs.declared.judge.Verdict.TheVariants.{Accepted, Rejected, Limit}
+use Rattle.yjudge.specs.declared.verdict.Verdict.TheVariants.{Accepted, Rejected, Limit}
 use Rattle.yjudge.specs.Verdict.{IsQuiet, AcceptedAt, RejectedAt}
 use Rattle.yjudge.specs.Sentences.{IsSentence, BeginsSentence, Derivations, steps_of}
-use Rattle.yjudge.specs.Laws.{SoundLaw}
+use Rattle.yjudge.proofs.Laws.{SoundLaw}
 use Rattle.yjudge.proofs.Quiet.{no_errors, quiet_plain}
 use Rattle.yjudge.proofs.Shifted.{accepted_steps, before_place}
 use Rattle.yjudge.proofs.Beginnings.{taken, taken_begins}

@@ -1,3 +1,3 @@
 pub mod Verdict
 pub mod Sentences
-pub mod Laws
+pub mod Judge

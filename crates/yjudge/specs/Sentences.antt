@@ -1,14 +1,14 @@
 -- Sentences of a grammar, and what a verdict promises of them (Aho, Sethi and Ullman, 4.2 and 4.7:
 -- sentences, rightmost derivations, the viable prefix property).
-use Rattle.std.specs.Prelude.{ℕ, ◌≡◌, ◌+◌, ◌-◌, ◌≤◌, List, [], ◌∷◌, ◌++◌, length, take}
+use Rattle.std.specs.Prelude.{ℕ, ◌≡◌, ◌+◌, ◌-◌, ◌<◌, ◌≤◌, List, [], ◌∷◌, ◌++◌, length, take}
 use Rattle.std.specs.List.{All}
 use Rattle.ysymbols.specs.Grammar.{ContextFree, IsToken, start_of}
 use Rattle.ysymbols.specs.Derivation.{Derives}
 use Rattle.ysymbols.specs.Forms.{IsRule}
 use Rattle.ymachine.specs.Rightmost.{IsRightmostDerivation}
 use Rattle.ymachine.specs.Past.{most_steps}
-use Rattle.yjudge.specs.declared.judge.Verdict.{Verdict}
-use Rattle.yjudge.specs.declared.judge.Verdict.TheVariants.{Accepted, Rejected, Limit}
+use Rattle.yjudge.specs.declared.verdict.Verdict.{Verdict}
+use Rattle.yjudge.specs.declared.verdict.Verdict.TheVariants.{Accepted, Rejected, Limit}
 
 -- a list of tokens that the start symbol derives
 abbrev pub IsSentence : ContextFree → List ℕ → Type 0
@@ -44,8 +44,9 @@ IsExactOf g w (Rejected place) =
 IsExactOf g w _ = Unit {0}
 
 -- Where no cell has a choice: a sentence has one rightmost derivation, and is accepted at the
--- position that it tells, where that is no greater than positions may be.
+-- position that it tells; where that is greater than positions may be, the limit comes first.
 abbrev pub IsAnswered : ContextFree → List ℕ → Verdict → Type 0
 IsAnswered g w v = IsSentence g w → (forms : List (List ℕ)) × Derivations g w forms
     × ((other : List (List ℕ)) → Derivations g w other → other ≡ forms)
     × (steps_of w forms ≤ most_steps → v ≡ Accepted (steps_of w forms))
+    × (most_steps < steps_of w forms → v ≡ Limit)

@@ -1,8 +1,7 @@
-//! Whether a list of tokens is a sentence, and how many steps its parse takes.
+//! Whether a list of tokens is a sentence of the grammar of tables, and how many steps its parse
+//! takes.
 #![tactic(auto)]
 
-pub mod judge;
-mod laws;
+mod verdict;
 
-pub use judge::Verdict;
-pub use laws::verdict_laws;
+pub use verdict::{JudgeFault, Verdict, judge};

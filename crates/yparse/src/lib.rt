@@ -1,5 +1,5 @@
-//! Sessions: a parse that goes forward and backward, what it shows, and its unwinding. The machine
-//! and the tokens below are handed on.
+//! Sessions: a parse that goes forward and backward, what it shows, and its unwinding. The machine,
+//! verdicts and the tokens below are handed on.
 #![tactic(auto)]
 
 pub mod session;
@@ -7,6 +7,7 @@ mod shown;
 mod unwind;
 
 pub use session::Session;
+pub use yjudge::{JudgeFault, Verdict, judge};
 pub use ymachine::{
     Journal, PlaceChange, PlaceParser, Reversible, SnapshotChange, SnapshotParser, TreeNode,
     TreeView, View, machine,

@@ -9,8 +9,8 @@ use Rattle.ymachine.specs.History.{History}
 use Rattle.ymachine.specs.Cells.{IsSound}
 use Rattle.ymachine.specs.Complete.{IsComplete}
 use Rattle.ymachine.specs.Rightmost.{AreInput}
-use Rattle.yjudge.specs.declared.judge.Verdict.{Verdict}
-use Rattle.yjudge.specs.declared.judge.Verdict.TheVariants.{Limit}
+use Rattle.yjudge.specs.declared.verdict.Verdict.{Verdict}
+use Rattle.yjudge.specs.declared.verdict.Verdict.TheVariants.{Limit}
 use Rattle.yjudge.specs.Verdict.{IsQuiet, place_ahead, AcceptedAt, Says, IsVerdict}
 use Rattle.yjudge.specs.Sentences.{IsSentence, Derivations, steps_of, IsSoundOf, IsExactOf, IsAnswered}
 
@@ -38,11 +38,6 @@ LimitLaw = (m : Machine) (w : List ℕ) (h : History) → IsQuiet m w h → posi
 abbrev pub HaltedLaw : Type 0
 HaltedLaw = (m : Machine) (w : List ℕ) (h : History) → IsQuiet m w h → next m h.now ≡ None
     → (h.now.mode ≡ modes.Accepted → ⊥) → Says m w Limit
-
--- By sound cells that is never so: with no error detected no parse fails.
-abbrev pub NoFailLaw : Type 0
-NoFailLaw = (g : ContextFree) (m : Machine) → IsSound g m → (w : List ℕ) (h : History)
-    → IsQuiet m w h → h.now.mode ≡ modes.Failed → ⊥
 
 -- With no error detected, the place ahead tells how many tokens are left.
 abbrev pub PlaceLaw : Type 0
