@@ -8,10 +8,9 @@ use std::process::ExitCode;
 use std::{env, fs};
 use thiserror::Error;
 use ygrammar::{GrammarFault, read_grammar};
-use yjudge::judge::{JudgeFault, Verdict, judge};
+use yparse::{JudgeFault, TokenFault, Verdict, judge, read_tokens};
 use ylalr::{BuildFault, build};
 use ytables::{TableFault, Tables, resolve};
-use ytokens::{TokenFault, read_tokens};
 
 /// Why there is no verdict.
 #[derive(Debug, Drop, Error)]

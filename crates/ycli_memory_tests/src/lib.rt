@@ -10,3 +10,5 @@ mod refused_steps;
 mod told;
 #[cfg(test)]
 mod undos;
+#[cfg(test)]
+mod verdicts;

@@ -4,8 +4,7 @@ use crate::hoard::Hoard;
 use std::test::Fail;
 use testkit::tables::tables_of;
 use testkit::worked::LIST;
-use yjudge::judge::{JudgeFault, Verdict, judge};
-use ytokens::read_tokens;
+use yparse::{JudgeFault, Verdict, judge, read_tokens};
 
 #[test]
 fn a_verdict_is_refused_and_given_later(rt: HostRuntime) -> Result<(), Fail> {

@@ -1,0 +1,1 @@
+%token ID %% s : l '=' r | r ; l : '*' r | ID ; r : l ;

@@ -1,0 +1,1 @@
+%left 'x' %left HI %% s : e s | 'x' ; e : %prec HI ;
