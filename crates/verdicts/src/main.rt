@@ -8,8 +8,8 @@ use std::process::ExitCode;
 use std::{env, fs};
 use thiserror::Error;
 use ygrammar::{GrammarFault, read_grammar};
-use yparse::{JudgeFault, TokenFault, Verdict, judge, read_tokens};
 use ylalr::{BuildFault, build};
+use yparse::{JudgeFault, TokenFault, Verdict, judge, read_tokens};
 use ytables::{TableFault, Tables, resolve};
 
 /// Why there is no verdict.
@@ -60,7 +60,11 @@ fn line_of(
 /// Says whether a cell of the tables has a choice, and then the verdict on each tokens file.
 fn tell(rt: &HostRuntime, tables: &Tables, grammar: &str, files: &[String]) -> io::Result<()> {
     let alloc = rt.alloc();
-    let choices = if tables.choice_free() { "no choices" } else { "choices" };
+    let choices = if tables.choice_free() {
+        "no choices"
+    } else {
+        "choices"
+    };
     let head = format!(in alloc; "{grammar}: {choices}\n")?;
     rt.stdout().write_all(head.as_bytes())?;
     for path in files {
@@ -76,7 +80,8 @@ fn status(rt: &HostRuntime) -> io::Result<u8> {
     let alloc = rt.alloc();
     let words: Vec<String> = env::args(rt)?.collect(alloc)?;
     let Some((grammar, files)) = words.get(1..).and_then(<[String]>::split_first) else {
-        rt.stderr().write_all(b"usage: verdicts grammar tokens..\n")?;
+        rt.stderr()
+            .write_all(b"usage: verdicts grammar tokens..\n")?;
         return Ok(2);
     };
     match tables_of(rt, grammar) {
@@ -96,7 +101,9 @@ fn main(rt: HostRuntime) -> ExitCode {
     match status(&rt) {
         Ok(status) => ExitCode::from(status),
         Err(_) => {
-            let _ = rt.stderr().write_all(b"verdicts: cannot write, or no memory\n");
+            let _ = rt
+                .stderr()
+                .write_all(b"verdicts: cannot write, or no memory\n");
             ExitCode::from(3)
         }
     }

@@ -20,8 +20,7 @@ fn status(rt: &HostRuntime) -> io::Result<u8> {
     Ok(yacc_run(rt, &words, &mut writer, &mut errors))
 }
 
-/// What is written where there is no run, and the status: for want of memory, or for a word that
-/// is no text.
+/// What is written where there is no run, and the status: memory ran out, or a word is no text.
 fn refusal(error: &io::Error) -> (&'static [u8], u8) {
     match error.kind() {
         ErrorKind::OutOfMemory => (b"yacc: no memory\n", 3),

@@ -1,4 +1,4 @@
--- Sessions in which no step or edit is refused for want of memory: there is a text, and only one.
+-- Sessions in which no step or edit is refused when memory runs out: there is a text, and only one.
 use Rattle.std.proofs.Common.{ℕ, zero, suc, ◌≡◌, ◌≢◌, ◌<◌, ◌≤◌, ◌-◌, ◌++◌, ◌⊎◌, inl, inr, nat_lt}
 use Rattle.std.proofs.Common.{Bool}
 use Rattle.std.proofs.Common.{true, false, List, [], ◌∷◌, Option, Some, None, IsSome, Result, Ok}

@@ -8,7 +8,7 @@ use Rattle.ycli.specs.declared.command.Command.{Command as CodeCommand}
 use Rattle.ycli.specs.declared.command.Command.TheVariants as code
 
 -- a command: at most so many steps, or undos; to a position; the configuration, the trees, or the
--- forms; an edit of the tokens left,
+-- forms; an edit of the upcoming tokens,
 -- by the bytes that spell the token to insert; and what is none
 pub data Command : Type 0 where
   Run Back To : (n : ℕ) → Command

@@ -19,7 +19,7 @@ pub record AreTablesOf (source : List ℕ) (t : TablesValue) : Type 0 where
   pub states : HasStates t.built
   pub cells : AreTables t
 
--- why there are none: a fault of the grammar file, too many item sets, want of memory
+-- why there are none: a fault of the grammar file, too many item sets, lack of memory
 abbrev pub NoTables : List ℕ → StepperFault → Type 0
 NoTables source (Grammar fault) = IsFaultOf source fault
 NoTables source (Build fault) = (v : GrammarValue) × IsGrammarOf source v × IsFault v.bare fault

@@ -39,7 +39,7 @@ module _ {R W : Type 0} (remaining : R → Option (List ℕ)) (contents : W → 
     (source tokens : List ℕ) (r : R) (reader : Link R) (w : W) (writer : Link W) where
   -- A session was served from such a beginning: where the reader tells its bytes, what was written
   -- is a text of the machine for them, after a fault a beginning of one. The text is a function of
-  -- the lines, but for want of memory.
+  -- the lines, unless memory runs out.
   pub record Served (ending : Result (Unit {0}) SessionFault) : Type 0 where
     pub machine : Machine
     pub history : History

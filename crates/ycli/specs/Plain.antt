@@ -1,5 +1,5 @@
--- Sessions in which no step or edit is refused for want of memory: their text is a function of the
--- lines.
+-- Sessions in which no step or edit is refused when memory runs out: their text is a function of
+-- the lines.
 use Rattle.std.specs.Prelude.{ℕ, ◌≡◌, ◌≢◌, List, Result, Err}
 use Rattle.ymachine.specs.declared.machine.StepKind.{StepKind}
 use Rattle.ymachine.specs.declared.machine.StepFault.{StepFault}
@@ -12,7 +12,7 @@ use Rattle.ycli.specs.Command.{Command}
 use Rattle.ycli.specs.Reply.{ReplyBy, Edits}
 use Rattle.ycli.specs.Transcript.{Transcript, TranscriptBy}
 
--- what a step answers and leaves, where it isn't refused for want of memory
+-- what a step answers and leaves, where it isn't refused when memory runs out
 abbrev pub PlainSteps : Machine → History → Result StepKind StepFault → History → Type 0
 PlainSteps m h result new = Steps (next m) h result new × (result ≢ Err Memory)
 
@@ -28,7 +28,7 @@ PlainReply m h command text new = ReplyBy (PlainSteps m) (PlainEdits m) m h comm
 abbrev pub PlainTranscript : Machine → History → List (List ℕ) → List ℕ → Type 0
 PlainTranscript m h lines text = TranscriptBy (PlainReply m) h lines text
 
--- Where no step or edit is refused for want of memory, these lines have exactly one text.
+-- Where no step or edit is refused when memory runs out, these lines have exactly one text.
 pub record HasOneText (m : Machine) (h : History) (lines : List (List ℕ)) : Type 0 where
   pub text : List ℕ
   pub plain : PlainTranscript m h lines text

@@ -153,7 +153,7 @@ pub record Starts (m : Machine) (h : History) : Type 0 where
   pub tokens : List ℕ
   pub parses : Parses tables.built.grammar tokens m h
 
--- a session was served from its start; but for want of memory its text is a function of its lines
+-- a session was served from its start; unless memory runs out its text is a function of its lines
 pub record Serves {R W : Type 0} (remaining : R → Option (List ℕ)) (contents : W → Option (List ℕ))
     (r : R) (reader : Link R) (w : W) (writer : Link W)
     (ending : Result (Unit {0}) SessionFault) : Type 0 where

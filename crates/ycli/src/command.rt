@@ -39,9 +39,9 @@ pub enum Command<'a> {
     Tree,
     /// The rightmost derivation of an accepted parse, back to its start.
     Unwind,
-    /// The token that these bytes spell comes before the tokens left.
+    /// The token that these bytes spell comes before the upcoming tokens.
     Insert(&'a [u8]),
-    /// The first of the tokens left is taken out.
+    /// The first of the upcoming tokens is taken out.
     Drop,
     /// Any other line.
     Unknown,

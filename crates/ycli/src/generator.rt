@@ -7,7 +7,6 @@ ghost use Rattle.ylink.specs.Sends.{Grows, Sends};
 ghost use Rattle.ycli.specs.Generating.{Asks, EndsIn, FilesFail, Generates, Runs, WriteFails};
 ghost use Rattle.ycli.specs.Generating.{said_of, text_of};
 
-use ywords::arguments::{YaccWords, yacc_words};
 use crate::files::tables_of;
 use crate::message::{Program, Trouble, put_conflicts};
 use clap::error::ErrorKind;
@@ -17,6 +16,7 @@ use std::io::{self, BufWriter, Write};
 use std::rt::Files;
 use ylink::put::put;
 use ytables::{Counts, Link, Tables};
+use ywords::arguments::{YaccWords, yacc_words};
 
 /// What the words of `yacc` ask for.
 enum Request<'a> {
@@ -180,7 +180,7 @@ fn obey<'a, F: Files + AllocGlobal, W: Write>(
 /// grammar to the file `prefix.tab`, with `-v` its report to `prefix.output`, and a line on
 /// conflicts, where there are some, to the last link, as it does messages. Help goes to the writer.
 /// The answer is the exit status: 0 where it is done, 1 where the grammar file is refused, 2 where
-/// the words are, 3 for what comes from outside, for want of memory and for too many item sets. A
+/// the words are, 3 for what comes from outside, a lack of memory and too many item sets. A
 /// message or a help text that can't be written is passed over.
 pub fn yacc_run<'a, F: Files + AllocGlobal, W: Write, E: Write>(
     rt: &F,

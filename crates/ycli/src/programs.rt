@@ -7,7 +7,6 @@ ghost use Rattle.ymachine.specs.MachineOver.{machine_over};
 ghost use Rattle.ycli.specs.Halves.{AreTablesOf, Parses};
 ghost use Rattle.ycli.specs.Programs.{Asks, Starts, FilesFail, TokensFail, EndsIn, Runs};
 
-use ywords::arguments::{YstepWords, ystep_words};
 use crate::files::{bytes_of, tables_of};
 use crate::message::{Program, Trouble};
 use crate::run::run_session;
@@ -19,6 +18,7 @@ use std::rt::Files;
 use ylink::put::put;
 use yparse::Session;
 use ytables::{Link, Tables};
+use ywords::arguments::{YstepWords, ystep_words};
 
 /// What the words of a program ask for.
 enum Request<'a> {
@@ -99,7 +99,7 @@ fn obey<'a, F: Files + AllocGlobal, R: Read, W: Write>(
 /// All that `ystep` does but for its exit: `ystep grammar tokens` runs a session with command lines
 /// from the reader and replies to the writer. Messages go to the last link. The answer is the exit
 /// status: 0 where the session was served or help was asked for, 1 where a file is refused, 2 where
-/// the words are, 3 for what comes from outside, for want of memory and for too many item sets. A
+/// the words are, 3 for what comes from outside, a lack of memory and too many item sets. A
 /// message or a help text that can't be written is passed over.
 pub fn ystep_run<'a, F: Files + AllocGlobal, R: Read, W: Write, E: Write>(
     rt: &F,

@@ -297,7 +297,7 @@ fn insert<W: Write>(session: &mut Session, writer: &mut Link<W>, bytes: &[u8]) -
     }
 }
 
-/// The first of the tokens left is taken out.
+/// The first of the upcoming tokens is taken out.
 fn drop_next<W: Write>(session: &mut Session, writer: &mut Link<W>) -> Option<()>
     ensures answers { Answers W.contents writer.old writer.new (is_some result)
         (machine_of session.old) (history_of session.old) commands.Drop (history_of session.new) }

@@ -156,7 +156,7 @@ pub fn run_session<R: Read, W: Write>(
     ensures tells { IfSome (R.remaining (device_of reader.old)) (λ input. length input < 2 ^ 63 →
         Tells (machine_of session) (history_of session) input (R.remaining (device_of reader.new))
         (W.contents (device_of writer.old)) (W.contents (device_of writer.new)) result) }
-    // Where no step is refused for want of memory, the text is a function of the lines.
+    // Where no step is refused when memory runs out, the text is a function of the lines.
     ensures plain { (lines : List (List ℕ)) →
         HasOneText (machine_of session) (history_of session) lines }
     // A read fault exactly where the reader's link failed.

@@ -19,7 +19,7 @@ use Rattle.ygrammar.specs.Texts.{kept_text}
 use Rattle.ysyntax.specs.Tree.{Tree}
 use Rattle.ysymbols.specs.WellFormed.{WellFormed}
 
--- the first mistake of the tree, or want of memory
+-- the first mistake of the tree, or no memory
 abbrev pub IsFirstRefused : Tree → Refused → Type 0
 IsFirstRefused t (refused.Mistake what at) = IsFirst t order what
 IsFirstRefused t refused.Memory = Unit {0}
@@ -38,7 +38,7 @@ abbrev pub GivesNamed : Tree → Result Named Refused → Type 0
 GivesNamed t (Ok n) = AreNamed t n
 GivesNamed t (Err e) = IsFirstRefused t e
 
--- the meaning of the tree, or its first mistake, or want of memory
+-- the meaning of the tree, or its first mistake, or no memory
 abbrev pub Elaborates : Tree → Result GrammarValue Refused → Type 0
 Elaborates t (Ok g) = IsMeaning t g
 Elaborates t (Err e) = IsFirstRefused t e

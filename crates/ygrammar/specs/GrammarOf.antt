@@ -34,7 +34,7 @@ IsMistaken source m = (t : Tree) × HasTree source t × IsFirst t order m
 abbrev pub IsRefused : List ℕ → Refusal → Type 0
 IsRefused source r = (length source ≤ longest_file) × Outcome source (Err r)
 
--- the fault is one of the file; only want of memory is no matter of the file
+-- the fault is one of the file; only lack of memory is no matter of the file
 abbrev pub IsFaultOf : List ℕ → GrammarFault → Type 0
 IsFaultOf source faults.TooLong = longest_file < length source
 IsFaultOf source (faults.Unfinished line) = IsRefused source (refusal unfinished line)
@@ -51,12 +51,12 @@ IsFaultOf source (faults.BadPrec line) = IsMistaken source BadPrec
 IsFaultOf source (faults.Limit line) = IsMistaken source Limit
 IsFaultOf source faults.Memory = Unit {0}
 
--- the grammar of the file, or a fault of it, or want of memory
+-- the grammar of the file, or a fault of it, or no memory
 abbrev pub GivesGrammar : List ℕ → Result GrammarValue GrammarFault → Type 0
 GivesGrammar source (Ok g) = IsGrammarOf source g
 GivesGrammar source (Err f) = IsFaultOf source f
 
--- the answer is this grammar, or want of memory
+-- the answer is this grammar, or no memory
 abbrev pub AnswersGrammar : Result GrammarValue GrammarFault → GrammarValue → Type 0
 AnswersGrammar (Ok h) g = h ≡ g
 AnswersGrammar (Err faults.Memory) g = Unit {0}
@@ -73,7 +73,7 @@ mistake_at Unproductive line = faults.Unproductive line
 mistake_at BadPrec line = faults.BadPrec line
 mistake_at Limit line = faults.Limit line
 
--- the answer is this mistake, on some line, or want of memory
+-- the answer is this mistake, on some line, or no memory
 abbrev pub AnswersMistake : Result GrammarValue GrammarFault → Mistake → Type 0
 AnswersMistake (Ok g) m = ⊥
 AnswersMistake (Err faults.Memory) m = Unit {0}
@@ -86,7 +86,7 @@ refusal_at bad_literal line = faults.BadLiteral line
 refusal_at foreign line = faults.Foreign line
 refusal_at syntax line = faults.Syntax line
 
--- the answer is this refusal with its line, or want of memory
+-- the answer is this refusal with its line, or no memory
 abbrev pub AnswersRefusal : Result GrammarValue GrammarFault → Refusal → Type 0
 AnswersRefusal (Ok g) r = ⊥
 AnswersRefusal (Err faults.Memory) r = Unit {0}

@@ -492,7 +492,7 @@ module _ (p : Place) (s : Sound p.tables) (f : FactsOf p) where
   goes_on_by Accepted h kind e edit = let bad : true ≡ false = sym (ap is_some e) in cc
   goes_on_by Failed h kind e edit = let bad : true ≡ false = sym (ap is_some e) in cc
 
-  -- where a step follows, an edit is one of the tokens left
+  -- where a step follows, an edit is one of the upcoming tokens
   goes_on : (kind : StepKind) → kind_in p.tables p.tokens p.content p.content.mode ≡ Some kind
       → (edit : Edit)
       → edited (machine_over p.tables) edit (configuration_of p)
@@ -500,7 +500,7 @@ module _ (p : Place) (s : Sound p.tables) (f : FactsOf p) where
       (rest_of p.tokens p.content)
   goes_on kind e edit = goes_on_by p.content.mode refl kind e edit
 
-  -- what stays but for the tokens left
+  -- what stays but for the upcoming tokens
   abbrev still : Facts p.tables p.tokens p.content.stack p.content.nodes p.content.children
       p.content.rest p.content.errors (p.content.steps + 1)
   still = stay p.tables p.tokens p.content.stack p.content.nodes p.content.children p.content.rest

@@ -1,4 +1,4 @@
--- The tokens left, with their places.
+-- The upcoming tokens, with their places.
 use Rattle.std.proofs.Common.{ℕ, zero, suc, ◌≡◌, ◌+◌, ◌-◌, ◌<◌, ◌≤◌, ◌==◌, Bool, true, false}
 use Rattle.std.proofs.Common.{if◌then◌else◌, List, [], ◌∷◌, ◌++◌, length, drop, map, reverse}
 use Rattle.std.proofs.Common.{get_or, refl, sym, ap, ap₂, ◌∙◌, arith, length-drop}
@@ -119,7 +119,7 @@ newest inserted h =
     ap reverse (sym (top_back inserted 0 h))
     ∙ reverse-append (without_last 1 inserted) (get_or inserted (length inserted - 1) 0 ∷ [])
 
--- the tokens left are the one ahead and those after it
+-- the upcoming tokens are the one ahead and those after it
 left_first : (tokens inserted : List ℕ) (at edits : ℕ)
     → is_left tokens (held inserted at edits) ≡ true
     → rest_left tokens (held inserted at edits)
@@ -232,7 +232,7 @@ fits_inserted tokens token r f =
     join (le-leb (length (r.inserted ++ token ∷ [])) (r.edits + 1) (omega (arith, l, few)))
     (second _ _ f)
 
--- ---- one of the tokens left
+-- ---- one of the upcoming tokens
 
 pub length-left : (tokens : List ℕ) (r : Rest)
     → length (rest_left tokens r) ≡ length r.inserted + (length tokens - r.at)

@@ -156,7 +156,7 @@ module _ (g : ContextFree) (m : Machine) (w : WellFormed g) (s : IsSound g m) wh
   form_replaced later (drops t rest d e k st re mo) y a =
       absurd (true_false (sym y ∙ ap is_reduction k))
 
-  -- what holds of all tokens left, and of each that may be inserted, still does
+  -- what holds of all upcoming tokens, and of each that may be inserted, still does
   rest_kept : (P : ℕ → Type 0) → ((t : ℕ) → is_input m.tokens t ≡ true → P t)
       → {c n : Configuration} {k : StepKind} → Stepped m c k n → All P (tokens_left c.rest)
       → All P (tokens_left n.rest)
@@ -175,8 +175,8 @@ module _ (g : ContextFree) (m : Machine) (w : WellFormed g) (s : IsSound g m) wh
   rest_kept P q (drops t rest d e k st re mo) a =
       rw re (All-tail P t.0 (tokens_left rest) (subst (λ z. All P (tokens_left z)) e a))
 
-  -- what holds of all tokens left and of those shifted later holds of those shifted from before a
-  -- step on
+  -- what holds of all upcoming tokens and of those shifted later holds of those shifted from before
+  -- a step on
   later_kept : (P : ℕ → Type 0) {c n : Configuration} {k : StepKind} (later : List ℕ)
       → Stepped m c k n → All P (tokens_left c.rest) → All P later → All P (shifts_from k later)
   later_kept P later (shifts t rest r h e k st re mo) a l =
@@ -323,7 +323,7 @@ module _ (g : ContextFree) (m : Machine) (w : WellFormed g) (s : IsSound g m) wh
         by (inserts t q i k st re mo) = absurd (q (sym mo ∙ d))
         by (drops t rest q e k st re mo) = absurd (q (sym mo ∙ d))
 
-  -- an accepted history has the start symbol alone on its stack, and no tokens left
+  -- an accepted history has the start symbol alone on its stack, and no upcoming tokens
   pub accepted : (tokens : List ℕ) (h : History) → AreInput g tokens → IsHistory m tokens h
       → h.now.mode ≡ Accepted → Accepting (first_configuration tokens) refl h.now
   accepted tokens h a p d =

@@ -31,7 +31,7 @@ use Rattle.ymachine.specs.Tables.{goto_at, cell_at, rule_of}
 use Rattle.ytokens.specs.Symbols.{is_input, token_count}
 use Rattle.ymachine.specs.MachineOver.{machine_over}
 
--- the stack from the bottom, the nodes, the entries that became children, the tokens left, the
+-- the stack from the bottom, the nodes, the entries that became children, the upcoming tokens, the
 -- counter, the errors reported, the mode, and the steps that stand
 pub record Content : Type 0 where
   pub stack : List StackEntry
@@ -190,7 +190,7 @@ node_tree trees e = slice_index_or trees e.node error_leaf
 abbrev pub entry_view : List Tree → StackEntry → Entry
 entry_view trees e = entry_of e.symbol (node_tree trees e)
 
--- the tokens left, with their places
+-- the upcoming tokens, with their places
 abbrev pub rest_of : List ℕ → Content → List (ℕ × ℕ)
 rest_of tokens c = rest_left tokens c.rest
 
@@ -310,7 +310,7 @@ counts_fit c = nat_le (length c.nodes) c.steps
 abbrev pub rest_fits : List ℕ → Rest → Bool
 rest_fits tokens r = nat_le (length r.inserted) r.edits && nat_le r.at (length tokens)
 
--- whether stack, nodes, counts and tokens left fit together, as those of a parse do
+-- whether stack, nodes, counts and upcoming tokens fit together, as those of a parse do
 abbrev pub valid : Place → Bool
 valid p =
     leads p.tables 0 p.content.stack

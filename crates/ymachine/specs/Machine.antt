@@ -35,8 +35,8 @@ pub record Entry : Type 0 where
   pub symbol : ℕ
   pub tree : Tree
 
--- the stack from the bottom, the tokens left with their places, the recovery counter, the errors
--- reported, the mode
+-- the stack from the bottom, the upcoming tokens with their places, the recovery counter, the
+-- errors reported, the mode
 pub record Configuration : Type 0 where
   pub stack : List Entry
   pub rest : List (ℕ × ℕ)
@@ -155,7 +155,7 @@ next_in m c Failed = None
 unfoldable pub next : Machine → Configuration → Option (StepKind × Configuration)
 next m c = next_in m c c.mode
 
--- what an edit makes of the tokens left: an input token comes first, which has no place in the
+-- what an edit makes of the upcoming tokens: an input token comes first, which has no place in the
 -- file, or the first one goes
 abbrev pub edited_rest : Machine → Edit → Configuration → List (ℕ × ℕ)
     → Option (StepKind × Configuration)
@@ -172,7 +172,7 @@ edited_in m edit c Popping = edited_rest m edit c c.rest
 edited_in m edit c Accepted = None
 edited_in m edit c Failed = None
 
--- the kind of an edit of the tokens left and what it leaves, where it can be made
+-- the kind of an edit of the upcoming tokens and what it leaves, where it can be made
 unfoldable pub edited : Machine → Edit → Configuration → Option (StepKind × Configuration)
 edited m edit c = edited_in m edit c c.mode
 

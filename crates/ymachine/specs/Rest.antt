@@ -1,5 +1,5 @@
--- The tokens left of a parse in place: those inserted, and of those first read the ones that were
--- not taken.
+-- The upcoming tokens of a parse in place: those inserted, and of those first read the ones that
+-- were not taken.
 use Rattle.std.specs.Prelude.{ℕ, ◌+◌, ◌-◌, ◌==◌, ◌||◌, nat_lt, Bool, List, [], ◌∷◌, ◌++◌, length}
 use Rattle.std.specs.Prelude.{drop, map, reverse, slice_index_or, if◌then◌else◌}
 use Rattle.ymachine.specs.declared.rest.Remaining.{Remaining}
@@ -13,7 +13,7 @@ pub record Rest : Type 0 where
   pub at : ℕ
   pub edits : ℕ
 
--- the tokens left that the code holds
+-- the upcoming tokens that the code holds
 abbrev pub rest_in : Remaining → Rest
 rest_in r = record { inserted = r.inserted.items; at = r.at; edits = r.edits }
 
@@ -21,7 +21,7 @@ rest_in r = record { inserted = r.inserted.items; at = r.at; edits = r.edits }
 abbrev pub at_no_place : ℕ → ℕ × ℕ
 at_no_place token = (token, 0)
 
--- the tokens left with their places
+-- the upcoming tokens with their places
 abbrev pub rest_left : List ℕ → Rest → List (ℕ × ℕ)
 rest_left tokens r = map at_no_place (reverse r.inserted) ++ drop r.at (places_from 1 tokens)
 

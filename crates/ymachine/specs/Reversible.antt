@@ -50,7 +50,7 @@ pub record IsJournal {S C : Type 0} (before : C → S → S) (fits : C → S
   pub few : length changes ≤ most_steps
   pub fitting : IsTrue (all_fit before fits now changes)
 
--- why nothing is made where so many stand or not: the limit comes before want of memory
+-- why nothing is made where so many stand or not: the limit comes before lack of memory
 abbrev pub refusal_of : Bool → StepFault → StepFault
 refusal_of full Halted = Halted
 refusal_of full NoToken = NoToken

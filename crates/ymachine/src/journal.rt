@@ -31,7 +31,7 @@ impl<M: Reversible> Model for Journal<M> {
     ghost invariant = { λ j. IsJournal M.before M.fits j.machine j.changes.items };
 }
 
-/// Why nothing is made: where so many stand, the limit comes before want of memory.
+/// Why nothing is made: where so many stand, the limit comes before lack of memory.
 fn refusal(full: bool, fault: StepFault) -> StepFault
     ensures { result ≡ refusal_of full fault }
 {

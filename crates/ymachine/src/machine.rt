@@ -38,13 +38,13 @@ pub enum StepKind {
     Discard(Sym),
     /// The parse gave up.
     Fail,
-    /// This token was put before the tokens left.
+    /// This token was put before the upcoming tokens.
     Insert(Sym),
     /// This token, the first of those left, was taken out.
     Drop(Sym),
 }
 
-/// An edit of the tokens left.
+/// An edit of the upcoming tokens.
 #[derive(Clone, Copy, Debug, PartialEq, Eq)]
 pub enum Edit {
     /// This token comes before those left.
@@ -58,7 +58,7 @@ pub enum Edit {
 pub enum Deed {
     /// Its next step.
     Step,
-    /// An edit of the tokens left.
+    /// An edit of the upcoming tokens.
     Edit(Edit),
 }
 

@@ -36,8 +36,8 @@ pub enum Node {
 }
 
 /// What a parse holds now: the stack from the bottom; the nodes, each behind its children; the
-/// entries that became children; the tokens left; the recovery counter; the errors reported; the
-/// mode; and how many steps stand.
+/// entries that became children; the upcoming tokens; the recovery counter; the errors reported;
+/// the mode; and how many steps stand.
 #[derive(Drop)]
 pub struct Parts {
     pub(crate) stack: Vec<StackEntry>,

@@ -1,4 +1,4 @@
-//! The tokens left of a parse: those inserted, and of those first read the ones not taken.
+//! The upcoming tokens of a parse: those inserted, and of those first read the ones not taken.
 
 ghost use Rattle.std.specs.Prelude.{◌≡◌, ◌<◌, ◌≤◌, ◌^◌, length, slice_index_or};
 ghost use Rattle.std.specs.Prelude.{IfOk, OnOk, vec_len, vec_capacity};

@@ -11,8 +11,8 @@ use crate::parts::Parts;
 use crate::rest::{left_at, left_len};
 use ysymbols::Sym;
 
-/// A configuration: its stack, the tokens left, the recovery counter, the errors reported, and the
-/// mode.
+/// A configuration: its stack, the upcoming tokens, the recovery counter, the errors reported, and
+/// the mode.
 #[derive(Clone, Copy)]
 pub struct View<'a> {
     parts: &'a Parts,

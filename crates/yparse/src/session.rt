@@ -121,7 +121,7 @@ impl Session {
         self.change(Deed::Step)
     }
 
-    /// One step, or one edit of the tokens left, and its kind.
+    /// One step, or one edit of the upcoming tokens, and its kind.
     fn change(&mut self, deed: Deed) -> Result<StepKind, StepFault>
         ensures changes { Changes (next (machine_of self.old)) (deed_by (machine_of self.old) deed)
             (history_of self.old) result (history_of self.new) }
@@ -150,8 +150,8 @@ impl Session {
         self.change(Deed::Edit(Edit::Insert(token)))
     }
 
-    /// The first of the tokens left is taken out: one position more. An `Err` changes nothing: S1
-    /// where the parse has halted, else S4 where no token is left, else S2 where the position is
+    /// The first of the upcoming tokens is taken out: one position more. An `Err` changes nothing:
+    /// S1 where the parse has halted, else S4 where no token is left, else S2 where the position is
     /// 1,000,000, else S3 where a growth is refused.
     pub fn drop_next(&mut self) -> Result<StepKind, StepFault>
         ensures edits { Changes (next (machine_of self.old))

@@ -160,7 +160,7 @@ impl Grammar {
     }
 
     /// For each symbol, by its number, whether it derives the empty form (Aho, Sethi, Ullman,
-    /// section 4.4). It fails only for want of memory.
+    /// section 4.4). It fails only when memory runs out.
     pub fn nullable(&self, alloc: Global) -> Result<Vec<bool>, AllocError>
         ensures { IfOk result (λ v. MarksNullable self.now.bare v.items) }
     {

@@ -27,7 +27,7 @@ fault_at lexical.Foreign line = faults.Foreign line
 abbrev pub views : List Placed → List Lexeme
 views ls = map (λ p. lexeme_view p.lexeme) ls
 
--- the answer is this outcome, or want of memory
+-- the answer is this outcome, or no memory
 abbrev pub Answers : Result (Vec Placed) GrammarFault → Result (List Lexeme) Refusal → Type 0
 Answers (Ok v) o = o ≡ Ok (views v.items)
 Answers (Err (faults.Unfinished line)) o = o ≡ Err (refusal unfinished line)
@@ -37,7 +37,7 @@ Answers (Err (faults.Syntax line)) o = o ≡ Err (refusal syntax line)
 Answers (Err faults.Memory) o = Unit {0}
 Answers (Err _) o = ⊥
 
--- the fault is one of the syntax of the file, or want of memory
+-- the fault is one of the syntax of the file, or no memory
 abbrev pub Fails : GrammarFault → List ℕ → Type 0
 Fails (faults.Unfinished line) bytes = Outcome bytes (Err (refusal unfinished line))
 Fails (faults.BadLiteral line) bytes = Outcome bytes (Err (refusal bad_literal line))
@@ -46,7 +46,7 @@ Fails (faults.Syntax line) bytes = Outcome bytes (Err (refusal syntax line))
 Fails faults.Memory bytes = Unit {0}
 Fails _ bytes = ⊥
 
--- the outcome of the file, or want of memory
+-- the outcome of the file, or no memory
 abbrev pub Gives : List ℕ → Result (Vec Placed) GrammarFault → Type 0
 Gives bytes (Ok v) = Outcome bytes (Ok (views v.items))
 Gives bytes (Err e) = Fails e bytes

@@ -450,7 +450,7 @@ impl<'a> TreeBuilder<'_, 'a> {
     }
 }
 
-/// The syntax tree of a grammar file's lexemes. It fails only for want of memory.
+/// The syntax tree of a grammar file's lexemes. It fails only when memory runs out.
 pub fn build_tree<'a>(alloc: Global, lexemes: &[Placed<'a>]) -> Result<Tree<'a>, AllocError>
     requires { IsSpec (kinds (views lexemes.now)) }
     ensures whole { IfOk result (λ t. views lexemes.now ≡ yield (tree_view t)) }

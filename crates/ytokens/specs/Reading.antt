@@ -17,7 +17,7 @@ use Rattle.ytokens.specs.TokensFile.{Front, nothing, word, broken, Outcome, Says
 abbrev pub TokensOf : GrammarValue → List ℕ → Result (List ℕ) TokenFault → Type 0
 TokensOf v bytes result = Outcome (symbol_named v) (token_count v) 0 bytes result
 
--- the answer is what the file has, or want of memory
+-- the answer is what the file has, or no memory
 abbrev pub Gives : GrammarValue → List ℕ → Result Tokens TokenFault → Type 0
 Gives v bytes (Ok tokens) = TokensOf v bytes (Ok (symbols_of tokens))
 Gives v bytes (Err (faults.Unknown place)) = TokensOf v bytes (Err (faults.Unknown place))

@@ -25,7 +25,7 @@ module _ (app line : App) (same : line ≡ app) (ws : List (List ℕ)) where
       (subst (λ (a : App). HasKind (fault_of a ws) e) same
       (subst (λ (y : Error). HasKind (fault_of line ws) y) (sym f) kind))
 
-  -- words that are taken fail for want of memory alone
+  -- words that are taken fail when memory runs out alone
   pub fails_taken : {X : Type 0} (r : Result X Error) (e x : Error) → r ≡ Err e → e ≡ x
       → (takes line ws ≡ true → kind_of x ≡ OutOfMemory)
       → IfErr r (λ y. takes app ws ≡ true → kind_of y ≡ OutOfMemory)

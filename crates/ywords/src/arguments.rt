@@ -60,14 +60,14 @@ fn ystep_command<'a>(alloc: Global) -> Result<Command<'a>, AllocError>
 /// Reads the words of `ystep`, the program's name first among them.
 ///
 /// The error is that of the command line's own crate: a request for help, a mistake in the words,
-/// or want of memory.
+/// or no memory.
 pub fn ystep_words<'a>(alloc: Global, words: &'a [&'a str]) -> Result<YstepWords<'a>, Error>
     // The paths are the values that the words give the two arguments.
     ensures paths { IfOk result (ArePathsIn (map (λ word. word.now) words.entry.now)) }
-    // An error is the first fault of the words or want of memory, and words with a fault are
+    // An error is the first fault of the words or no memory, and words with a fault are
     // refused.
     ensures faults { FailsBy (fault_of ystep_app (map (λ word. word.now) words.entry.now)) result }
-    // Where the command line takes the words, want of memory is the one error.
+    // Where the command line takes the words, lack of memory is the one error.
     ensures taken { IfErr result (λ e.
         takes ystep_app (map (λ word. word.now) words.entry.now) ≡ true → kind_of e ≡ OutOfMemory) }
 {
@@ -149,14 +149,14 @@ fn is_set(value: Option<&str>) -> bool
 /// Reads the words of `yacc`, the program's name first among them.
 ///
 /// The error is that of the command line's own crate: a request for help, a mistake in the words,
-/// or want of memory.
+/// or no memory.
 pub fn yacc_words<'a>(alloc: Global, words: &'a [&'a str]) -> Result<YaccWords<'a>, Error>
     // The values are those that the words give.
     ensures values { IfOk result (AreYaccWordsIn (map (λ word. word.now) words.entry.now)) }
-    // An error is the first fault of the words or want of memory, and words with a fault are
+    // An error is the first fault of the words or no memory, and words with a fault are
     // refused.
     ensures faults { FailsBy (fault_of yacc_app (map (λ word. word.now) words.entry.now)) result }
-    // Where the command line takes the words, want of memory is the one error.
+    // Where the command line takes the words, lack of memory is the one error.
     ensures taken { IfErr result (λ e.
         takes yacc_app (map (λ word. word.now) words.entry.now) ≡ true → kind_of e ≡ OutOfMemory) }
 {

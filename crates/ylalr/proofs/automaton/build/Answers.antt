@@ -16,7 +16,7 @@ returns-clause-states c =
 false_true : false ≡ true → ⊥
 false_true h = grind (arith)
 
--- want of memory is not the other fault
+-- lack of memory is not the other fault
 other : (b : BuildFault) → b ≡ Memory → b ≡ TooManySets → ⊥
 other b e f = false_true (ap (λ (x : BuildFault). elim x [ Memory ↦ false | TooManySets ↦ true ])
     (sym e ∙ f))
