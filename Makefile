@@ -5,7 +5,7 @@
 # make build      proves the programs and leaves them in bin/
 # make bench      times whole runs of the programs, on growing grammars and over long parses; FILES="a.y b.y" adds grammar files to them
 # make refuse     refuses each allocation of the stepper in turn, on every example
-# make compare    compares the programs that make build left with plain machines in Python, on grammars drawn at random, for a minute
+# make compare    compares the programs that make build left with plain machines in Python, on grammars drawn at random, for a minute, and verdicts with sessions over every scenario
 # make test       the gate: every proof from nothing, the must-fail edits, the tests, the stored runs, the scenarios
 .PHONY: demo examples scenarios accept build bench refuse compare test
 
@@ -34,6 +34,7 @@ refuse:
 
 compare:
 	@python3 compare/compare.py bin/yacc bin/ystep
+	@python3 compare/verdicts.py bin/verdicts bin/ystep
 
 test:
 	@python3 scripts/gate.py scripts/rings.py scenarios/kinds.py examples/trace.py -- $(run) $(both)

@@ -3,9 +3,11 @@
 set -eu
 top=$(cd "$(dirname "$0")/.." && pwd)
 mkdir -p "$top/bin"
-for name in yacc ystep; do
+for name in yacc ystep verdicts; do
   cd "$top/crates/$name"
-  rt run -- --help > /dev/null
+  words=--help
+  [ "$name" != verdicts ] || words=data/one.y
+  rt run -- "$words" > /dev/null
   program=$(find out -type f -perm -u+x ! -name '*.so' ! -name '*.o' | grep "/$name\$" | head -n 1)
   [ -n "$program" ] || { echo "no program was built"; exit 1; }
   cp "$program" "$top/bin/$name"
