@@ -1,42 +1,42 @@
 //! Verdicts while all memory is taken, and when it is given back.
 
+ghost use Rattle.yparse.specs.Tokens.{Fits, symbols_of};
+
 use crate::hoard::Hoard;
-use std::alloc::Global;
+use std::alloc::{AllocError, Global};
 use std::test::Fail;
 use testkit::tables::tables_of;
 use testkit::worked::LIST;
 use yparse::{JudgeFault, Tokens, Verdict, judge, read_tokens};
 use ytables::Tables;
 
-/// What is answered without memory, and then with it.
-fn answers(
+type Answer = Result<Verdict, JudgeFault>;
+
+/// What is answered while all memory is taken, and whether plain blocks were refused then.
+fn without_memory(
     alloc: Global,
     tables: &Tables,
     tokens: &Tokens,
-    hoard: &mut Hoard,
-) -> [Result<Verdict, JudgeFault>; 2] {
+) -> Result<(Answer, bool), AllocError>
+    requires { Fits tables.now.built.grammar (symbols_of tokens.now) }
+{
+    let mut hoard = Hoard::new(alloc)?;
     hoard.take();
-    let refused = judge(alloc, tables, tokens);
-    hoard.free();
-    [refused, judge(alloc, tables, tokens)]
+    let answer = judge(alloc, tables, tokens);
+    Ok((answer, hoard.plain_refused()))
 }
 
-/// Whether a verdict is refused without memory, and given with it.
-fn is_given_later(alloc: Global, tables: &Tables, hoard: &mut Hoard) -> Option<bool> {
-    let tokens = read_tokens(alloc, tables, b"NUM ';'").ok()?;
-    let wanted = [Err(JudgeFault::Memory), Ok(Verdict::Accepted(5))];
-    Some(answers(alloc, tables, &tokens, hoard) == wanted)
+/// The same for a text of tokens, and what is answered afterwards.
+fn answers(alloc: Global, tables: &Tables, text: &[u8]) -> Option<((Answer, bool), Answer)> {
+    let tokens = read_tokens(alloc, tables, text).ok()?;
+    let refused = without_memory(alloc, tables, &tokens).ok()?;
+    Some((refused, judge(alloc, tables, &tokens)))
 }
 
 #[test]
 fn a_verdict_is_refused_and_given_later(rt: HostRuntime) -> Result<(), Fail> {
-    let alloc = rt.alloc();
-    let mut hoard = Hoard::new(alloc)?;
-    let tables = tables_of(alloc, LIST)?;
-    let given = is_given_later(alloc, &tables, &mut hoard);
-    drop(tables);
-    let refused = hoard.plain_refused();
-    drop(hoard);
-    assert_eq!(rt; (given, refused), (Some(true), true));
+    let answers = answers(rt.alloc(), &tables_of(rt.alloc(), LIST)?, b"NUM ';'");
+    let wanted = ((Err(JudgeFault::Memory), true), Ok(Verdict::Accepted(5)));
+    assert_eq!(rt; answers, Some(wanted));
     Ok(())
 }
