@@ -1,5 +1,6 @@
 #!/bin/sh
-# Refuses each allocation of a run of the stepper in turn, on every example: `make refuse`, outside the gate.
+# Refuses each allocation of a run in turn, of the stepper on every example and of verdicts on one: `make refuse`,
+# outside the gate.
 # Each run must end with `ystep: no memory` and status 3, or with the usual replies, or with replies of which a step
 # says `no memory`. The built program is run with an allocator before the C library's that refuses the Nth call;
 # `rt try --fail-alloc N` does the same for one N, but builds the program anew each time.
@@ -62,4 +63,28 @@ for example in "$top"/examples/*/; do
   done
   echo "$(basename "$example"): $calls allocations; refused, $refusals end with no memory, $steps with a step that says so, $usual as usual"
 done
+
+# Verdicts: each line is as usual or says `no memory`, or there are no tables, or no line can be written.
+example="$top/examples/configuration"
+words=$(tail -n +2 "$example/verdicts/words")
+cp "$example/grammar.y" "$example/tokens" "$example"/verdicts/* "$work"
+cd "$work"
+judge() {
+  status=0
+  REFUSE=$1 LD_PRELOAD="$work/refuse.so" "$top/bin/verdicts" $words > replies 2> messages || status=$?
+}
+COUNT=1 judge 0 3> count
+calls=$(cat count)
+n=1
+while [ "$n" -le "$calls" ]; do
+  judge "$n"
+  if ! { [ "$status" = 3 ] && grep -q 'no memory$' messages; } &&
+    ! { [ "$status" = 1 ] && [ "$(cat messages)" = "verdicts: grammar.y: no memory" ]; } &&
+    ! { [ "$status" = 0 ] && paste -d'|' stdout replies | awk -F'|' '$1 != $2 && $2 !~ /: no memory$/ { bad = 1 } END { exit bad }'; }; then
+    echo "verdicts: allocation $n refused: status $status"
+    failed=1
+  fi
+  n=$((n + 1))
+done
+echo "verdicts: $calls allocations, each refused"
 exit $failed

@@ -3,7 +3,7 @@
 #![tactic(auto)]
 
 use std::alloc::{AllocError, Global};
-use std::io::{self, Write};
+use std::io::{self, ErrorKind, Write};
 use std::process::ExitCode;
 use std::{env, fs};
 use thiserror::Error;
@@ -16,7 +16,9 @@ use ytables::{TableFault, Tables, resolve};
 #[derive(Debug, Drop, Error)]
 enum Trouble {
     #[error("cannot read it")]
-    File(#[from] io::Error),
+    Unread,
+    #[error("no memory")]
+    Memory,
     #[error("{0}")]
     Grammar(#[from] GrammarFault),
     #[error("{0}")]
@@ -27,6 +29,15 @@ enum Trouble {
     Tokens(#[from] TokenFault),
     #[error("{0}")]
     Judge(#[from] JudgeFault),
+}
+
+impl From<io::Error> for Trouble {
+    fn from(error: io::Error) -> Trouble {
+        match error.kind() {
+            ErrorKind::OutOfMemory => Trouble::Memory,
+            _ => Trouble::Unread,
+        }
+    }
 }
 
 /// The tables of a grammar file.
