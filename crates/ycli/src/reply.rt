@@ -281,7 +281,7 @@ fn put_edit<W: Write>(
     }
 }
 
-/// The token that these bytes spell becomes the first of those left.
+/// The token that these bytes spell becomes the first of the upcoming ones.
 fn insert<W: Write>(session: &mut Session, writer: &mut Link<W>, bytes: &[u8]) -> Option<()>
     ensures answers { Answers W.contents writer.old writer.new (is_some result)
         (machine_of session.old) (history_of session.old) (commands.Insert bytes.now)

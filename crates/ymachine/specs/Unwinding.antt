@@ -53,7 +53,7 @@ abbrev pub shifts_before : List (StepKind × Configuration) → List ℕ → Lis
 shifts_before [] later = later
 shifts_before (step ∷ earlier) later = shifts_before earlier (shifts_from step.0 later)
 
--- the whole input as it stands: the tokens shifted, and those left
+-- the whole input as it stands: the tokens shifted, and the upcoming ones
 abbrev pub whole_input : History → List ℕ
 whole_input h = shifts_before h.earlier (tokens_left h.now.rest)
 

@@ -40,16 +40,16 @@ pub enum StepKind {
     Fail,
     /// This token was put before the upcoming tokens.
     Insert(Sym),
-    /// This token, the first of those left, was taken out.
+    /// This token, the first of the upcoming ones, was taken out.
     Drop(Sym),
 }
 
 /// An edit of the upcoming tokens.
 #[derive(Clone, Copy, Debug, PartialEq, Eq)]
 pub enum Edit {
-    /// This token comes before those left.
+    /// This token comes before the upcoming ones.
     Insert(Sym),
-    /// The first of those left is taken out.
+    /// The first of the upcoming ones is taken out.
     Drop,
 }
 

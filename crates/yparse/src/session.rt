@@ -137,7 +137,7 @@ impl Session {
         }
     }
 
-    /// This token becomes the first of those left, with place 0: one position more. An `Err`
+    /// This token becomes the first of the upcoming ones, with place 0: one position more. An `Err`
     /// changes nothing: S1 where the parse has halted, else S2 where the position is 1,000,000,
     /// else S3 where a growth is refused.
     pub fn insert(&mut self, token: Sym) -> Result<StepKind, StepFault>
