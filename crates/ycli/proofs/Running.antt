@@ -3,12 +3,9 @@ use Rattle.std.proofs.Common.{ℕ, ◌≡◌, ◌∙◌, Bool, true, false, List
 use Rattle.std.proofs.Common.{append-nil, if◌then◌else◌}
 use Rattle.std.specs.Borrow.{Bor}
 use Rattle.std.specs.Io.KnownBytes.{Keeps, Appends}
-use Rattle.std.specs.declared.io.ErrorKind.{ErrorKind as IoKind}
-use Rattle.std.specs.declared.io.ErrorKind.TheVariants as errors
 use Rattle.std.proofs.KnownBytes.{Appends-nil, Appends-kept}
 use Rattle.ysyntax.specs.declared.fault.GrammarFault.{GrammarFault}
 use Rattle.ysyntax.specs.declared.fault.GrammarFault.TheVariants as grammars
-use Rattle.ygrammar.specs.GrammarOf.{IsFaultOf}
 use Rattle.ylalr.specs.declared.fault.BuildFault.TheVariants as building
 use Rattle.ylink.specs.declared.link.Link.{Link}
 use Rattle.ytables.specs.Tables.{TablesValue as Tables}
@@ -17,11 +14,10 @@ use Rattle.ytokens.specs.declared.tokens.TokenFault.TheVariants as faults
 use Rattle.ylink.specs.Link.{device_of, has_failed}
 use Rattle.ylink.specs.Sends.{Sends}
 use Rattle.ytokens.specs.Reading.{Gives}
-use Rattle.ycli.specs.Programs.{GrammarFails, TokensFail, Says, of_grammar, of_start, of_tokens}
-use Rattle.ycli.specs.Programs.{of_unread}
-use Rattle.ycli.specs.Halves.{AreTablesOf, NoTables}
-use Rattle.ycli.specs.declared.stepper.StepperFault.{StepperFault}
-use Rattle.ycli.specs.declared.stepper.StepperFault.TheVariants as starts
+use Rattle.ycli.specs.Programs.{GrammarFails, TokensFail, Says, of_grammar, of_source, of_tokens}
+use Rattle.ycli.specs.Halves.{AreTablesOf, NoTables, SourceFails}
+use Rattle.ycli.specs.declared.source.SourceFault.{SourceFault}
+use Rattle.ycli.specs.declared.source.SourceFault.TheVariants as sources
 
 -- a refused tokens file
 pub tokens_fail : (path : Bor (List ℕ)) (source : List ℕ) (t : Tables) (bytes : List ℕ)
@@ -34,8 +30,8 @@ tokens_fail path source t bytes faults.Memory are given = tt
 tokens_fail path source t bytes (faults.BadLiteral place) are given = (source, t, bytes, are, given)
 
 -- a refused grammar file
-pub grammar_fails : (path : Bor (List ℕ)) (source : List ℕ) (fault : GrammarFault)
-    → IsFaultOf source fault → GrammarFails path (of_grammar fault)
+grammar_fails : (path : Bor (List ℕ)) (source : List ℕ) (fault : GrammarFault)
+    → NoTables source (sources.Grammar fault) → GrammarFails path (of_grammar fault)
 grammar_fails path source grammars.TooLong is = (source, is)
 grammar_fails path source (grammars.Unfinished line) is = (source, is)
 grammar_fails path source (grammars.BadLiteral line) is = (source, is)
@@ -52,19 +48,16 @@ grammar_fails path source (grammars.Limit line) is = (source, is)
 grammar_fails path source grammars.Memory is = tt
 
 -- a grammar file of which there are no tables
-pub tables_fail : (path : Bor (List ℕ)) (source : List ℕ) (fault : StepperFault)
-    → NoTables source fault → GrammarFails path (of_start fault)
-tables_fail path source (starts.Grammar fault) is = grammar_fails path source fault is
-tables_fail path source (starts.Build building.TooManySets) (v, is, many) =
+pub tables_fail : (told : List ℕ → Type 0) (path : Bor (List ℕ)) (fault : SourceFault)
+    → SourceFails told fault → GrammarFails path (of_source path fault)
+tables_fail told path sources.Unread is = refl
+tables_fail told path sources.NoRoom is = tt
+tables_fail told path (sources.Grammar fault) (source, tells, lacks) =
+    grammar_fails path source fault lacks
+tables_fail told path (sources.Build building.TooManySets) (source, tells, (v, is, many)) =
     (source, v, is, many refl)
-tables_fail path source (starts.Build building.Memory) is = tt
-tables_fail path source starts.Tables is = tt
-tables_fail path source (starts.Tokens fault) is = absurd is
-tables_fail path source (starts.Session fault) is = absurd is
-
-pub tokens_unread : (path : Bor (List ℕ)) (kind : IoKind) → TokensFail path (of_unread kind path)
-tokens_unread path errors.OutOfMemory = tt
-tokens_unread path _ = refl
+tables_fail told path (sources.Build building.Memory) is = tt
+tables_fail told path sources.Tables is = tt
 
 module _ {E : Type 0} (contents : E → Option (List ℕ)) where
   -- nothing was said

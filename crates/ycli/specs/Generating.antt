@@ -1,34 +1,28 @@
 -- What `yacc` does but for its exit: what became of a run, its message and its exit status.
-use Rattle.std.specs.Prelude.{ℕ, ◌≡◌, ◌⊎◌, List, [], Option, Result, Ok, Err}
-use Rattle.ylalr.specs.Collection.{Guide}
+use Rattle.std.specs.Prelude.{ℕ, ◌≡◌, ◌⊎◌, true, List, [], Option, Result, Ok, Err}
 use Rattle.ylink.specs.declared.link.Link.{Link}
 use Rattle.ytables.specs.declared.tables.Counts.{Counts}
-use Rattle.ylink.specs.Link.{device_of}
 use Rattle.ytables.specs.Tables.{TablesValue as Tables}
-use Rattle.ytables.specs.Table.{table_of}
-use Rattle.ytables.specs.Report.{report_of}
 use Rattle.ywords.specs.declared.arguments.YaccWords.{YaccWords}
 use Rattle.ycli.specs.declared.message.Program.TheVariants.{Yacc}
 use Rattle.ycli.specs.declared.message.Trouble.{Trouble}
 use Rattle.ycli.specs.declared.message.Trouble.TheVariants.{Usage, Grammar, Tokens, TooManySets}
 use Rattle.ycli.specs.declared.message.Trouble.TheVariants.{NoMemory, CannotRead, CannotWrite}
 use Rattle.ycli.specs.declared.message.Trouble.TheVariants.{Session}
+use Rattle.ycli.specs.declared.generate.GenerateFault.{GenerateFault}
+use Rattle.ycli.specs.declared.generate.GenerateFault.TheVariants as faults
+use Rattle.ycli.specs.declared.generate.Text.{Text}
+use Rattle.ycli.specs.declared.generate.Text.TheVariants.{Report}
 use Rattle.ycli.specs.declared.generator.Done.{Done}
 use Rattle.ycli.specs.declared.generator.Done.TheVariants.{Helped, Wrote}
-use Rattle.ycli.specs.declared.generator.Text.{Text}
-use Rattle.ycli.specs.declared.generator.Text.TheVariants as texts
 use Rattle.ycli.specs.declared.generator.Request.{Request}
 use Rattle.ycli.specs.declared.generator.Request.TheVariants as requests
 use Rattle.ycli.specs.Halves.{AreTablesOf}
+use Rattle.ycli.specs.Written.{ending_of}
 use Rattle.ywords.specs.Arguments.{yacc_app, AreYaccWordsIn}
 use Rattle.ycli.specs.Messages.{message, conflicts_line}
-use Rattle.ycli.specs.Programs.{AreMistaken, AreTaken, AskHelp, GrammarFails, Says, WordsFail}
-use Rattle.ycli.specs.Programs.{status_after}
-
--- the text of a file that is written
-abbrev pub text_of : Tables → Guide → Text → List ℕ
-text_of t u texts.Table = table_of t
-text_of t u texts.Report = report_of t u
+use Rattle.ycli.specs.Programs.{AreMistaken, AreTaken, AskHelp, GrammarFails, Says, SaysSome}
+use Rattle.ycli.specs.Programs.{IsUntouched, WordsFail, of_source, status_after}
 
 -- what the words ask `yacc` for
 abbrev pub Asks : List (List ℕ) → Result Request Trouble → Type 0
@@ -48,35 +42,49 @@ pub record Generates (counts : Counts) : Type 0 where
 abbrev pub Say : List (List ℕ) → YaccWords → Type 0
 Say words said = AreTaken yacc_app words × AreYaccWordsIn words said
 
--- why a file of this prefix wasn't written
-abbrev pub WriteFails : YaccWords → Trouble → Type 0
-WriteFails said (CannotWrite prefix ending) = prefix ≡ said.prefix
-WriteFails said NoMemory = Unit {0}
-WriteFails said _ = ⊥
+-- the file of this text, beside that prefix, is named as the one that can't be written
+abbrev pub NamesFile : YaccWords → Text → Trouble → Type 0
+NamesFile said text (CannotWrite prefix ending) =
+    (prefix ≡ said.prefix) × (ending.now ≡ ending_of text)
+NamesFile said text _ = ⊥
+
+-- what it means to `yacc` that not all was written
+abbrev pub IsGenerating : YaccWords → GenerateFault → Trouble → Type 0
+IsGenerating said (faults.Source fault) trouble = trouble ≡ of_source said.grammar fault
+IsGenerating said (faults.NoRoom text) trouble = trouble ≡ NoMemory
+IsGenerating said (faults.Unopened text) trouble = NamesFile said text trouble
+IsGenerating said (faults.Unwritten text) trouble = NamesFile said text trouble
+
+-- why a file wasn't written: it is named, the report only where it was wanted; or no memory
+abbrev pub FileFails : YaccWords → Trouble → Type 0
+FileFails said NoMemory = Unit {0}
+FileFails said trouble =
+    (text : Text) × NamesFile said text trouble × (text ≡ Report → said.verbose ≡ true)
 
 -- why not all files were written for these words: there are no tables, or a file of them failed
 abbrev pub FilesFail : YaccWords → Trouble → Type 0
 FilesFail said trouble =
     GrammarFails said.grammar trouble
-    ⊎ ((source : List ℕ) × (t : Tables) × AreTablesOf source t × WriteFails said trouble)
+    ⊎ ((source : List ℕ) × (t : Tables) × AreTablesOf source t × FileFails said trouble)
 
 -- the words are taken, and this is why not all the files were written that they ask for
 abbrev pub Fails : List (List ℕ) → Trouble → Type 0
 Fails words trouble = (said : YaccWords) × Say words said × FilesFail said trouble
 
-module _ {W : Type 0} (words : List (List ℕ)) (w : W) (writer : Link W) where
+module _ {W : Type 0} (contents : W → Option (List ℕ)) (words : List (List ℕ))
+    (w : W) (writer : Link W) where
   -- A run over these words ended so; but for help, nothing went to the writer.
   abbrev pub EndsIn : Result Done Trouble → Type 0
-  EndsIn (Ok Helped) = AskHelp yacc_app words
+  EndsIn (Ok Helped) = AskHelp yacc_app words × SaysSome contents w writer
   EndsIn (Ok (Wrote counts)) = ((said : YaccWords) × Say words said) × Generates counts
-      × (device_of writer ≡ w)
-  EndsIn (Err Usage) = AreMistaken yacc_app words × (device_of writer ≡ w)
-  EndsIn (Err NoMemory) = device_of writer ≡ w
-  EndsIn (Err (Grammar fault)) = Fails words (Grammar fault) × (device_of writer ≡ w)
-  EndsIn (Err TooManySets) = Fails words TooManySets × (device_of writer ≡ w)
-  EndsIn (Err (CannotRead path)) = Fails words (CannotRead path) × (device_of writer ≡ w)
+      × IsUntouched w writer
+  EndsIn (Err Usage) = AreMistaken yacc_app words × IsUntouched w writer
+  EndsIn (Err NoMemory) = IsUntouched w writer
+  EndsIn (Err (Grammar fault)) = Fails words (Grammar fault) × IsUntouched w writer
+  EndsIn (Err TooManySets) = Fails words TooManySets × IsUntouched w writer
+  EndsIn (Err (CannotRead path)) = Fails words (CannotRead path) × IsUntouched w writer
   EndsIn (Err (CannotWrite prefix ending)) =
-      Fails words (CannotWrite prefix ending) × (device_of writer ≡ w)
+      Fails words (CannotWrite prefix ending) × IsUntouched w writer
   EndsIn (Err (Tokens fault)) = ⊥
   EndsIn (Err (Session fault)) = ⊥
 
@@ -91,9 +99,10 @@ message_after (Ok done) = said_of done
 message_after (Err trouble) = message Yacc trouble
 
 -- what a run answers and does: its end, with the status and the message of that end
-pub record Runs {W E : Type 0} (messages : E → Option (List ℕ)) (words : List (List ℕ))
-    (w : W) (writer : Link W) (e : E) (errors : Link E) (answer : ℕ) : Type 0 where
+pub record Runs {W E : Type 0} (contents : W → Option (List ℕ)) (messages : E → Option (List ℕ))
+    (words : List (List ℕ)) (w : W) (writer : Link W) (e : E) (errors : Link E)
+    (answer : ℕ) : Type 0 where
   pub ending : Result Done Trouble
-  pub ends : EndsIn words w writer ending
+  pub ends : EndsIn contents words w writer ending
   pub answers : answer ≡ status_after ending
   pub says : Says messages e errors (message_after ending)

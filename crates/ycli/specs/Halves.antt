@@ -1,31 +1,43 @@
--- The two halves of a start: tables of a grammar file, and a session over them.
-use Rattle.std.specs.Prelude.{ℕ, ◌≡◌, List, Ok}
-use Rattle.ysymbols.specs.Grammar.{GrammarValue}
+-- The two halves of a start: tables of a grammar, and a session over them.
+use Rattle.std.specs.Prelude.{ℕ, ◌≡◌, ◌≤◌, List, length, Ok}
+use Rattle.ysymbols.specs.Grammar.{GrammarValue, longest_file}
+use Rattle.ysyntax.specs.declared.fault.GrammarFault.TheVariants as grammars
 use Rattle.ygrammar.specs.GrammarOf.{IsGrammarOf, IsFaultOf}
-use Rattle.ylalr.specs.Collection.{HasStates, IsFault}
+use Rattle.ylalr.specs.Collection.{HasStates, IsFault, Guide, IsGuide}
 use Rattle.ytables.specs.Tables.{TablesValue, AreTables}
 use Rattle.ytokens.specs.Reading.{TokensOf}
 use Rattle.ymachine.specs.Machine.{Machine}
 use Rattle.ymachine.specs.History.{History, first_history}
 use Rattle.ymachine.specs.Headline.{IsMachineOf}
 use Rattle.ymachine.specs.Rightmost.{UnwindsRight}
-use Rattle.ycli.specs.declared.stepper.StepperFault.{StepperFault}
-use Rattle.ycli.specs.declared.stepper.StepperFault.TheVariants.{Grammar, Build, Tables, Tokens}
-use Rattle.ycli.specs.declared.stepper.StepperFault.TheVariants.{Session}
+use Rattle.ycli.specs.declared.source.SourceFault.{SourceFault}
+use Rattle.ycli.specs.declared.source.SourceFault.TheVariants.{Unread, NoRoom, Grammar, Build}
+use Rattle.ycli.specs.declared.source.SourceFault.TheVariants.{Tables}
 
--- the tables of the grammar that these bytes mean: the states are right, and so are the cells
+-- the tables of the grammar that these bytes mean: the states are right, fewer than 16,385, and so
+-- are the cells; the guide has the gotos and the lookaheads
 pub record AreTablesOf (source : List ℕ) (t : TablesValue) : Type 0 where
   pub grammar : IsGrammarOf source t.built.grammar
   pub states : HasStates t.built
   pub cells : AreTables t
+  pub guide : Guide
+  pub guides : IsGuide t.built guide
 
--- why there are none: a fault of the grammar file, too many item sets, lack of memory
-abbrev pub NoTables : List ℕ → StepperFault → Type 0
+-- why there are none: a fault of the grammar file, too many item sets, or lack of memory, which is
+-- no answer to a file that is too long
+abbrev pub NoTables : List ℕ → SourceFault → Type 0
+NoTables source (Grammar grammars.Memory) = length source ≤ longest_file
 NoTables source (Grammar fault) = IsFaultOf source fault
 NoTables source (Build fault) = (v : GrammarValue) × IsGrammarOf source v × IsFault v.bare fault
-NoTables source Tables = Unit {0}
-NoTables source (Tokens fault) = ⊥
-NoTables source (Session fault) = ⊥
+NoTables source Tables = (v : GrammarValue) × IsGrammarOf source v
+NoTables source Unread = ⊥
+NoTables source NoRoom = ⊥
+
+-- why there are none of what a reader tells: it can't be read, or of the bytes that it tells
+abbrev pub SourceFails : (List ℕ → Type 0) → SourceFault → Type 0
+SourceFails told Unread = Unit {0}
+SourceFails told NoRoom = Unit {0}
+SourceFails told fault = (source : List ℕ) × told source × NoTables source fault
 
 -- The machine is that of the grammar: its cells are those of the merged canonical LR(1) items. The
 -- history is the first configuration of the tokens which the file means. What the machine accepts

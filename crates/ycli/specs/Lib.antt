@@ -10,3 +10,4 @@ pub mod Serving
 pub mod Programs
 pub mod Generating
 pub mod Halves
+pub mod Written

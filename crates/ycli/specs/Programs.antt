@@ -3,8 +3,6 @@ use Rattle.std.specs.Prelude.{ℕ, ◌≡◌, ◌≢◌, ◌<◌, ◌^◌, ◌�
 use Rattle.std.specs.Prelude.{Result, Ok, Err}
 use Rattle.std.specs.Borrow.{Bor}
 use Rattle.std.specs.Io.KnownBytes.{Appends}
-use Rattle.std.specs.declared.io.ErrorKind.{ErrorKind as IoKind}
-use Rattle.std.specs.declared.io.ErrorKind.TheVariants as errors
 use Rattle.clap.specs.Words.{App, IsAmong, fault_of}
 use Rattle.clap.specs.declared.error.kind.ErrorKind.{ErrorKind}
 use Rattle.clap.specs.declared.error.kind.ErrorKind.TheVariants as kinds
@@ -34,12 +32,13 @@ use Rattle.ycli.specs.Messages.{message}
 use Rattle.ylink.specs.Sends.{Begins}
 use Rattle.ytokens.specs.Reading.{TokensOf}
 use Rattle.ymachine.specs.Machine.{Machine}
-use Rattle.ymachine.specs.MachineOver.{machine_over}
 use Rattle.ymachine.specs.History.{History}
+use Rattle.ycli.specs.declared.source.SourceFault.{SourceFault}
+use Rattle.ycli.specs.declared.source.SourceFault.TheVariants as sources
 use Rattle.ycli.specs.declared.stepper.StepperFault.{StepperFault}
 use Rattle.ycli.specs.declared.stepper.StepperFault.TheVariants as starts
-use Rattle.ycli.specs.Halves.{AreTablesOf, Parses}
-use Rattle.ycli.specs.Headline.{Rests}
+use Rattle.ycli.specs.Halves.{AreTablesOf}
+use Rattle.ycli.specs.Headline.{Starts}
 use Rattle.ycli.specs.Plain.{HasOneText}
 use Rattle.ycli.specs.Transcript.{Tells, failed_read, failed_write}
 use Rattle.ywords.specs.Arguments.{ystep_app, ArePathsIn}
@@ -68,11 +67,6 @@ abbrev pub of_grammar : GrammarFault → Trouble
 of_grammar grammars.Memory = NoMemory
 of_grammar fault = Grammar fault
 
--- a file that can't be read at this path, for an error of this kind
-abbrev pub of_unread : IoKind → Bor (List ℕ) → Trouble
-of_unread errors.OutOfMemory path = NoMemory
-of_unread _ path = CannotRead path
-
 -- why tables that were refused end the program
 abbrev pub of_tables : BuildFault → Trouble
 of_tables building.TooManySets = TooManySets
@@ -83,13 +77,21 @@ abbrev pub of_tokens : TokenFault → Trouble
 of_tokens tokens.Memory = NoMemory
 of_tokens fault = Tokens fault
 
--- why a stepper that did not start ends the program
-abbrev pub of_start : StepperFault → Trouble
-of_start (starts.Grammar fault) = of_grammar fault
-of_start (starts.Build fault) = of_tables fault
-of_start starts.Tables = NoMemory
-of_start (starts.Tokens fault) = of_tokens fault
-of_start (starts.Session fault) = Session fault
+-- why the grammar file at this path, of which there are no tables, ends the program
+abbrev pub of_source : Bor (List ℕ) → SourceFault → Trouble
+of_source path sources.Unread = CannotRead path
+of_source path sources.NoRoom = NoMemory
+of_source path (sources.Grammar fault) = of_grammar fault
+of_source path (sources.Build fault) = of_tables fault
+of_source path sources.Tables = NoMemory
+
+-- why a stepper that did not start, or ended early, ends the program
+abbrev pub of_start : YstepWords → StepperFault → Trouble
+of_start paths (starts.Source fault) = of_source paths.grammar fault
+of_start paths starts.Unread = CannotRead paths.tokens
+of_start paths starts.NoRoom = NoMemory
+of_start paths (starts.Tokens fault) = of_tokens fault
+of_start paths (starts.Session fault) = Session fault
 
 -- ---- what was asked for
 
@@ -144,14 +146,9 @@ TokensFail path _ = ⊥
 abbrev pub FilesFail : YstepWords → Trouble → Type 0
 FilesFail paths trouble = GrammarFails paths.grammar trouble ⊎ TokensFail paths.tokens trouble
 
--- a session at its start, over tables of the grammar of some bytes, and the tokens of some bytes
-pub record Starts (m : Machine) (h : History) : Type 0 where
-  pub source : List ℕ
-  pub tables : Tables
-  pub are : AreTablesOf source tables
-  pub machine : m ≡ machine_over tables
-  pub tokens : List ℕ
-  pub parses : Parses tables.built.grammar tokens m h
+-- the files were opened and tell these bytes, which no clause knows
+abbrev pub some_bytes : List ℕ → Type 0
+some_bytes bytes = Unit {0}
 
 -- a session was served from its start; unless memory runs out its text is a function of its lines
 pub record Serves {R W : Type 0} (remaining : R → Option (List ℕ)) (contents : W → Option (List ℕ))
@@ -159,13 +156,37 @@ pub record Serves {R W : Type 0} (remaining : R → Option (List ℕ)) (contents
     (ending : Result (Unit {0}) SessionFault) : Type 0 where
   pub machine : Machine
   pub history : History
-  pub starts : Starts machine history
+  pub starts : Starts some_bytes some_bytes machine history
   pub plain : (lines : List (List ℕ)) → HasOneText machine history lines
   pub tells : IfSome (remaining r) (λ input. length input < 2 ^ 63 →
       Tells machine history input (remaining (device_of reader)) (contents w)
       (contents (device_of writer)) ending)
   pub read_fault : has_failed reader ≡ failed_read ending
   pub write_fault : has_failed writer ≡ failed_write ending
+
+-- a link was not touched, and no call of it failed
+pub record IsUntouched {D : Type 0} (d : D) (link : Link D) : Type 0 where
+  pub stays : device_of link ≡ d
+  pub clear : has_failed link ≡ false
+
+-- a message went to a link: its whole, or a beginning of it where the link failed
+pub record Says {E : Type 0} (contents : E → Option (List ℕ)) (e : E) (errors : Link E)
+    (text : List ℕ) : Type 0 where
+  pub begins : Begins (contents e) (contents (device_of errors)) text
+  pub whole : has_failed errors ≡ false → Appends (contents e) (contents (device_of errors)) text
+
+-- some text went to a link
+abbrev pub SaysSome : {W : Type 0} → (W → Option (List ℕ)) → W → Link W → Type 0
+SaysSome contents w writer = (text : List ℕ) × Says contents w writer text
+
+module _ {R W : Type 0} (remaining : R → Option (List ℕ)) (contents : W → Option (List ℕ))
+    (paths : YstepWords) (r : R) (reader : Link R) (w : W) (writer : Link W) where
+  -- a run over these files ended so
+  abbrev pub FilesEnd : Result (Unit {0}) Trouble → Type 0
+  FilesEnd (Ok done) = Serves remaining contents r reader w writer (Ok done)
+  FilesEnd (Err (Session fault)) = Serves remaining contents r reader w writer (Err fault)
+  FilesEnd (Err trouble) =
+      FilesFail paths trouble × IsUntouched r reader × IsUntouched w writer
 
 -- no session came of the words
 pub record Fails (words : List (List ℕ)) (trouble : Trouble) : Type 0 where
@@ -176,26 +197,24 @@ pub record Fails (words : List (List ℕ)) (trouble : Trouble) : Type 0 where
 
 module _ {R W : Type 0} (remaining : R → Option (List ℕ)) (contents : W → Option (List ℕ))
     (words : List (List ℕ)) (r : R) (reader : Link R) (w : W) (writer : Link W) where
+  -- nothing was read or written
+  abbrev Rest : Type 0
+  Rest = IsUntouched r reader × IsUntouched w writer
+
   -- a run over these words ended so
   abbrev pub EndsIn : Result (Unit {0}) Trouble → Type 0
   EndsIn (Ok done) =
-      AskHelp ystep_app words
+      (AskHelp ystep_app words × IsUntouched r reader × SaysSome contents w writer)
       ⊎ (AreTaken ystep_app words × Serves remaining contents r reader w writer (Ok done))
   EndsIn (Err (Session fault)) =
       AreTaken ystep_app words × Serves remaining contents r reader w writer (Err fault)
-  EndsIn (Err Usage) = AreMistaken ystep_app words × Rests r reader w writer
-  EndsIn (Err NoMemory) = Rests r reader w writer
-  EndsIn (Err (Grammar fault)) = Fails words (Grammar fault) × Rests r reader w writer
-  EndsIn (Err (Tokens fault)) = Fails words (Tokens fault) × Rests r reader w writer
-  EndsIn (Err TooManySets) = Fails words TooManySets × Rests r reader w writer
-  EndsIn (Err (CannotRead path)) = Fails words (CannotRead path) × Rests r reader w writer
+  EndsIn (Err Usage) = AreMistaken ystep_app words × Rest
+  EndsIn (Err NoMemory) = Rest
+  EndsIn (Err (Grammar fault)) = Fails words (Grammar fault) × Rest
+  EndsIn (Err (Tokens fault)) = Fails words (Tokens fault) × Rest
+  EndsIn (Err TooManySets) = Fails words TooManySets × Rest
+  EndsIn (Err (CannotRead path)) = Fails words (CannotRead path) × Rest
   EndsIn (Err (CannotWrite prefix ending)) = ⊥
-
--- a message went to a link: its whole, or a beginning of it where the link failed
-pub record Says {E : Type 0} (contents : E → Option (List ℕ)) (e : E) (errors : Link E)
-    (text : List ℕ) : Type 0 where
-  pub begins : Begins (contents e) (contents (device_of errors)) text
-  pub whole : has_failed errors ≡ false → Appends (contents e) (contents (device_of errors)) text
 
 -- what a run answers and does: its end, with the status and the message of that end
 pub record Runs {R W E : Type 0} (remaining : R → Option (List ℕ)) (contents : W → Option (List ℕ))

@@ -1,21 +1,19 @@
 //! What `yacc` does but for its exit.
 
-ghost use Rattle.std.specs.Prelude.{◌≡◌, IfOk, IfErr, map, is_some};
-ghost use Rattle.ylalr.specs.Collection.{Guide, IsGuide};
-ghost use Rattle.ylink.specs.Link.{device_of};
-ghost use Rattle.ylink.specs.Sends.{Grows, Sends};
-ghost use Rattle.ycli.specs.Generating.{Asks, EndsIn, FilesFail, Generates, Runs, WriteFails};
-ghost use Rattle.ycli.specs.Generating.{said_of, text_of};
+ghost use Rattle.std.specs.Prelude.{◌≡◌, false, IfOk, IfErr, map, is_some};
+ghost use Rattle.ylink.specs.Link.{device_of, has_failed};
+ghost use Rattle.ylink.specs.Sends.{Sends};
+ghost use Rattle.ycli.specs.Generating.{Asks, EndsIn, FilesFail, Generates, Runs, said_of};
 
-use crate::files::tables_of;
-use crate::message::{Program, Trouble, put_conflicts};
+use crate::generate::{Text, generate};
+use crate::message::{Program, Trouble, put_conflicts, put_help};
 use clap::error::ErrorKind;
 use std::alloc::Global;
-use std::fs;
-use std::io::{self, BufWriter, Write};
+use std::io::{Read, Write};
 use std::rt::Files;
-use ylink::put::put;
-use ytables::{Counts, Link, Tables};
+use yopen::Open;
+use yopen::files::{NewFile, OldFile};
+use ytables::{Counts, Link};
 use ywords::arguments::{YaccWords, yacc_words};
 
 /// What the words of `yacc` ask for.
@@ -47,25 +45,6 @@ impl Done {
     }
 }
 
-/// What is written to a file.
-#[derive(Clone, Copy, Debug)]
-enum Text {
-    /// The table.
-    Table,
-    /// The report.
-    Report,
-}
-
-impl Text {
-    /// What follows the prefix in the name of its file.
-    fn ending(self) -> &'static str {
-        match self {
-            Text::Table => ".tab",
-            Text::Report => ".output",
-        }
-    }
-}
-
 /// What the words of `yacc` ask for.
 fn request_of<'a>(alloc: Global, words: &'a [&'a str]) -> Result<Request<'a>, Trouble<'a>>
     ensures { Asks (map (λ word. word.now) words.entry.now) result }
@@ -83,78 +62,39 @@ fn request_of<'a>(alloc: Global, words: &'a [&'a str]) -> Result<Request<'a>, Tr
     }
 }
 
-/// Writes a text whole, or a beginning of it where the link failed.
-fn put_text<W: Write>(tables: &Tables, text: Text, link: &mut Link<W>) -> Option<()>
-    ensures { (u : Guide) → IsGuide tables.now.built u
-        → Grows (W.contents (device_of link.old)) (W.contents (device_of link.new)) (is_some result)
-        (text_of tables.now u text) }
-{
-    match text {
-        Text::Table => tables.write_table(link).ok(),
-        Text::Report => tables.write_report(link).ok(),
-    }
-}
-
-/// Writes a text to the file at this path, through a buffer. What was written of it is left as it
-/// is.
-fn write_file<F: Files + AllocGlobal>(
-    rt: &F,
-    tables: &Tables,
-    text: Text,
-    path: &str,
-) -> io::Result<bool> {
-    let buffer = BufWriter::new(rt.alloc(), fs::create(rt, path)?)?;
-    let mut link = Link::new(buffer);
-    let whole = put_text(tables, text, &mut link).is_some();
-    Ok(whole && link.flush())
-}
-
-/// Writes a text to the file of its name.
-fn write_named<'a, F: Files + AllocGlobal>(
-    rt: &F,
+/// Generates from what one opener opens to what the others do, as the words want it.
+fn generate_as<'a, G: Open, T: Open, P: Open>(
+    alloc: Global,
     words: YaccWords<'a>,
-    tables: &Tables,
-    text: Text,
-) -> Result<(), Trouble<'a>>
-    ensures { IfErr result (WriteFails words.entry) }
-{
-    let ending = text.ending();
-    let Ok(path) = format!(in rt.alloc(); "{}{ending}", words.prefix()) else {
-        return Err(Trouble::NoMemory);
-    };
-    match write_file(rt, tables, text, path.as_str()) {
-        Ok(true) => Ok(()),
-        Err(error) if error.kind() == io::ErrorKind::OutOfMemory => Err(Trouble::NoMemory),
-        _ => Err(Trouble::CannotWrite(words.prefix(), ending)),
-    }
-}
-
-/// Writes the files that the words ask for, the table first.
-fn write_files<'a, F: Files + AllocGlobal>(
-    rt: &F,
-    words: YaccWords<'a>,
-    tables: &Tables,
-) -> Result<(), Trouble<'a>>
-    ensures { IfErr result (WriteFails words.entry) }
-{
-    write_named(rt, words, tables, Text::Table)?;
-    if words.verbose() {
-        write_named(rt, words, tables, Text::Report)?;
-    }
-    Ok(())
-}
-
-/// Writes the files of a grammar and counts its conflicts.
-fn generate<'a, F: Files + AllocGlobal>(rt: &F, words: YaccWords<'a>) -> Result<Counts, Trouble<'a>>
+    grammar: &mut G,
+    table: &mut T,
+    report: &mut P,
+) -> Result<Counts, Trouble<'a>>
+where
+    G::Device: Read,
+    T::Device: Write,
+    P::Device: Write,
     ensures wrote { IfOk result Generates }
     ensures fails { IfErr result (FilesFail words.entry) }
 {
-    let tables = tables_of(rt, words.grammar())?;
-    let written = write_files(rt, words, &tables);
-    let counts = tables.conflicts();
-    drop(tables);
-    written?;
-    Ok(counts)
+    match generate(alloc, grammar, table, report, words.verbose()) {
+        Ok(counts) => Ok(counts),
+        Err(fault) => Err(Trouble::of_generating(words, fault)),
+    }
+}
+
+/// Writes the files of a grammar and counts its conflicts.
+fn generate_files<'a, F: Files + AllocGlobal>(
+    rt: &F,
+    words: YaccWords<'a>,
+) -> Result<Counts, Trouble<'a>>
+    ensures wrote { IfOk result Generates }
+    ensures fails { IfErr result (FilesFail words.entry) }
+{
+    let mut grammar = OldFile::new(rt, words.grammar());
+    let mut table = NewFile::new(rt, words.prefix(), Text::Table.ending());
+    let mut report = NewFile::new(rt, words.prefix(), Text::Report.ending());
+    generate_as(rt.alloc(), words, &mut grammar, &mut table, &mut report)
 }
 
 /// Does what the words ask for.
@@ -163,14 +103,14 @@ fn obey<'a, F: Files + AllocGlobal, W: Write>(
     words: &'a [&'a str],
     writer: &mut Link<W>,
 ) -> Result<Done, Trouble<'a>>
-    ensures { EndsIn (map (λ word. word.now) words.entry.now) (device_of writer.old) writer.new
-        result }
+    requires { has_failed writer.old ≡ false }
+    ensures { EndsIn W.contents (map (λ word. word.now) words.entry.now) (device_of writer.old)
+        writer.new result }
 {
     match request_of(rt.alloc(), words)? {
-        Request::Generate(words) => Ok(Done::Wrote(generate(rt, words)?)),
+        Request::Generate(words) => Ok(Done::Wrote(generate_files(rt, words)?)),
         Request::Help(text) => {
-            let _ = put(writer, text.as_bytes());
-            let _ = writer.flush();
+            put_help(writer, text.as_str());
             Ok(Done::Helped)
         }
     }
@@ -188,7 +128,7 @@ pub fn yacc_run<'a, F: Files + AllocGlobal, W: Write, E: Write>(
     writer: &mut Link<W>,
     errors: &mut Link<E>,
 ) -> u8
-    ensures { Runs E.contents (map (λ word. word.now) words.entry.now)
+    ensures { Runs W.contents E.contents (map (λ word. word.now) words.entry.now)
         (device_of writer.old) writer.new (device_of errors.old) errors.new result }
 {
     writer.clear();

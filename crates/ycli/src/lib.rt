@@ -4,13 +4,14 @@
 
 mod command;
 pub mod fault;
-mod files;
+pub mod generate;
 pub mod generator;
 mod line_buffer;
 mod message;
 pub mod programs;
 mod reply;
 pub mod run;
+pub mod source;
 pub mod stepper;
 
 pub use ywords::arguments;

@@ -1,20 +1,25 @@
 //! What the programs write to standard error, and the status that goes with it.
 
 ghost use Rattle.std.specs.Prelude.{◌≡◌, ◌++◌, ◌==◌, ◌&&◌, is_some, codes};
+ghost use Rattle.ylink.specs.Link.{device_of};
 ghost use Rattle.ylink.specs.Sends.{Sends};
 ghost use Rattle.ycli.specs.Messages.{conflicts_line, grammar_code, grammar_line, message, name_of};
 ghost use Rattle.ycli.specs.Messages.{message_line, session_word, token_code};
 ghost use Rattle.ycli.specs.Messages.{token_place, usage_of};
-ghost use Rattle.ycli.specs.Programs.{status};
+ghost use Rattle.ycli.specs.Generating.{IsGenerating};
+ghost use Rattle.ycli.specs.Programs.{SaysSome, of_source, of_start, status};
 
 use crate::fault::SessionFault;
+use crate::generate::GenerateFault;
+use crate::source::SourceFault;
 use crate::stepper::StepperFault;
-use std::io::{self, Write};
+use std::io::Write;
 use ygrammar::GrammarFault;
 use ylalr::BuildFault;
 use ylink::put::{put, put_all};
 use yparse::TokenFault;
 use ytables::{Counts, Link};
+use ywords::arguments::{YaccWords, YstepWords};
 
 /// One of the programs.
 #[derive(Clone, Copy, Debug, PartialEq, Eq)]
@@ -90,6 +95,14 @@ fn put_unwritten<'a, E: Write>(
         (name.now ++ (codes ": cannot write " ++ (prefix.now ++ (ending.now ++ codes "\n")))) }
 {
     put_all(link, &[name, b": cannot write ", prefix, ending, b"\n"])
+}
+
+/// The text that was asked for, where it can be written.
+pub(crate) fn put_help<W: Write>(writer: &mut Link<W>, text: &str)
+    ensures { SaysSome W.contents (device_of writer.old) writer.new }
+{
+    let _ = put(writer, text.as_bytes());
+    let _ = writer.flush();
 }
 
 /// Whether there are no conflicts.
@@ -207,22 +220,6 @@ impl<'a> From<TokenFault> for Trouble<'a> {
     }
 }
 
-impl<'a> From<StepperFault> for Trouble<'a> {
-    ghost use Rattle.ycli.specs.Programs.{of_start};
-
-    ghost from_gives = { λ fault trouble. trouble ≡ of_start fault };
-
-    fn from(fault: StepperFault) -> Trouble<'a> {
-        match fault {
-            StepperFault::Grammar(fault) => Trouble::from(fault),
-            StepperFault::Build(fault) => Trouble::from(fault),
-            StepperFault::Tables => Trouble::NoMemory,
-            StepperFault::Tokens(fault) => Trouble::from(fault),
-            StepperFault::Session(fault) => Trouble::from(fault),
-        }
-    }
-}
-
 impl<'a> From<SessionFault> for Trouble<'a> {
     ghost use Rattle.ycli.specs.declared.message.Trouble.TheVariants.{Session};
 
@@ -234,16 +231,41 @@ impl<'a> From<SessionFault> for Trouble<'a> {
 }
 
 impl<'a> Trouble<'a> {
-    ghost use Rattle.std.specs.IoError.{error_kind};
-    ghost use Rattle.ycli.specs.Programs.{of_unread};
-
-    /// What a failed read of a file means.
-    pub(crate) fn of_file(path: &'a str, error: io::Error) -> Trouble<'a>
-        ensures { result ≡ of_unread (error_kind error) path.entry }
+    /// What it means that there are no tables of the grammar file at this path.
+    fn of_source(path: &'a str, fault: SourceFault) -> Trouble<'a>
+        ensures { result ≡ of_source path.entry fault }
     {
-        match error.kind() {
-            io::ErrorKind::OutOfMemory => Trouble::NoMemory,
-            _ => Trouble::CannotRead(path),
+        match fault {
+            SourceFault::Unread => Trouble::CannotRead(path),
+            SourceFault::NoRoom | SourceFault::Tables => Trouble::NoMemory,
+            SourceFault::Grammar(fault) => Trouble::from(fault),
+            SourceFault::Build(fault) => Trouble::from(fault),
+        }
+    }
+
+    /// What it means that a session over files did not start, or ended early.
+    pub(crate) fn of_start(words: YstepWords<'a>, fault: StepperFault) -> Trouble<'a>
+        ensures { result ≡ of_start words.entry fault }
+    {
+        match fault {
+            StepperFault::Source(fault) => Trouble::of_source(words.grammar(), fault),
+            StepperFault::Unread => Trouble::CannotRead(words.tokens()),
+            StepperFault::NoRoom => Trouble::NoMemory,
+            StepperFault::Tokens(fault) => Trouble::from(fault),
+            StepperFault::Session(fault) => Trouble::from(fault),
+        }
+    }
+
+    /// What it means that not all files of a grammar were written.
+    pub(crate) fn of_generating(words: YaccWords<'a>, fault: GenerateFault) -> Trouble<'a>
+        ensures { IsGenerating words.entry fault result }
+    {
+        match fault {
+            GenerateFault::Source(fault) => Trouble::of_source(words.grammar(), fault),
+            GenerateFault::NoRoom(_) => Trouble::NoMemory,
+            GenerateFault::Unopened(text) | GenerateFault::Unwritten(text) => {
+                Trouble::CannotWrite(words.prefix(), text.ending())
+            }
         }
     }
 

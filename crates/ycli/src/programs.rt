@@ -1,23 +1,17 @@
 //! What the programs do but for their exit.
 
-ghost use Rattle.std.specs.Prelude.{ℕ, ◌≡◌, List, IfOk, IfErr, map};
-ghost use Rattle.ylink.specs.Link.{device_of};
-ghost use Rattle.yparse.specs.Session.{machine_of, history_of};
-ghost use Rattle.ymachine.specs.MachineOver.{machine_over};
-ghost use Rattle.ycli.specs.Halves.{AreTablesOf, Parses};
-ghost use Rattle.ycli.specs.Programs.{Asks, Starts, FilesFail, TokensFail, EndsIn, Runs};
+ghost use Rattle.std.specs.Prelude.{◌≡◌, false, map};
+ghost use Rattle.ylink.specs.Link.{device_of, has_failed};
+ghost use Rattle.ycli.specs.Programs.{Asks, EndsIn, FilesEnd, Runs};
 
-use crate::files::{bytes_of, tables_of};
-use crate::message::{Program, Trouble};
-use crate::run::run_session;
-use crate::stepper::session_over;
+use crate::message::{Program, Trouble, put_help};
+use crate::stepper::step_through;
 use clap::error::ErrorKind;
 use std::alloc::Global;
 use std::io::{Read, Write};
 use std::rt::Files;
-use ylink::put::put;
-use yparse::Session;
-use ytables::{Link, Tables};
+use yopen::files::OldFile;
+use ytables::Link;
 use ywords::arguments::{YstepWords, ystep_words};
 
 /// What the words of a program ask for.
@@ -45,32 +39,22 @@ fn request_of<'a>(alloc: Global, words: &'a [&'a str]) -> Result<Request<'a>, Tr
     }
 }
 
-/// A session over tables and the tokens of a file.
-fn session_with<'a, F: Files + AllocGlobal>(
-    rt: &F,
-    tables: Tables,
-    path: &'a str,
-) -> Result<Session, Trouble<'a>>
-    ensures machine { IfOk result (λ session. machine_of session ≡ machine_over tables) }
-    ensures parses { IfOk result (λ session. (tokens : List ℕ)
-        × Parses tables.built.grammar tokens (machine_of session) (history_of session)) }
-    ensures fails { IfErr result (λ trouble. (source : List ℕ) → AreTablesOf source tables →
-        TokensFail path.entry trouble) }
-{
-    let bytes = bytes_of(rt, path, u64::MAX)?;
-    Ok(session_over(rt.alloc(), tables, &bytes)?)
-}
-
-/// A session over a grammar file and a tokens file, which is read only once the tables stand.
-fn session_of<'a, F: Files + AllocGlobal>(
+/// Steps through the parse of a tokens file by a grammar file.
+fn step_files<'a, F: Files + AllocGlobal, R: Read, W: Write>(
     rt: &F,
     words: YstepWords<'a>,
-) -> Result<Session, Trouble<'a>>
-    ensures starts { IfOk result (λ session. Starts (machine_of session) (history_of session)) }
-    ensures fails { IfErr result (FilesFail words.entry) }
+    reader: &mut Link<R>,
+    writer: &mut Link<W>,
+) -> Result<(), Trouble<'a>>
+    ensures { FilesEnd R.remaining W.contents words.entry (device_of reader.old) reader.new
+        (device_of writer.old) writer.new result }
 {
-    let tables = tables_of(rt, words.grammar())?;
-    session_with(rt, tables, words.tokens())
+    let mut grammar = OldFile::new(rt, words.grammar());
+    let mut tokens = OldFile::new(rt, words.tokens());
+    match step_through(rt.alloc(), &mut grammar, &mut tokens, reader, writer) {
+        Ok(()) => Ok(()),
+        Err(fault) => Err(Trouble::of_start(words, fault)),
+    }
 }
 
 /// Does what the words ask for.
@@ -80,17 +64,15 @@ fn obey<'a, F: Files + AllocGlobal, R: Read, W: Write>(
     reader: &mut Link<R>,
     writer: &mut Link<W>,
 ) -> Result<(), Trouble<'a>>
+    requires reader_clear { has_failed reader.old ≡ false }
+    requires writer_clear { has_failed writer.old ≡ false }
     ensures { EndsIn R.remaining W.contents (map (λ word. word.now) words.entry.now)
         (device_of reader.old) reader.new (device_of writer.old) writer.new result }
 {
     match request_of(rt.alloc(), words)? {
-        Request::Session(words) => {
-            let session = session_of(rt, words)?;
-            Ok(run_session(session, reader, writer)?)
-        }
+        Request::Session(words) => step_files(rt, words, reader, writer),
         Request::Help(text) => {
-            let _ = put(writer, text.as_bytes());
-            let _ = writer.flush();
+            put_help(writer, text.as_str());
             Ok(())
         }
     }

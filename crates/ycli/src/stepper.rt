@@ -1,37 +1,38 @@
-//! The stepper from bytes to bytes: a grammar file, a tokens file and command lines in, replies
-//! out.
+//! The stepper from bytes to bytes: a grammar, tokens and command lines in, replies out.
 
-ghost use Rattle.std.specs.Prelude.{IfOk, IfErr, ◌≡◌, Err};
+ghost use Rattle.std.specs.Prelude.{IfOk, IfErr, ◌≡◌, ℕ, List, Ok};
+ghost use Rattle.yopen.specs.Open.{Tells};
 ghost use Rattle.ylink.specs.Link.{device_of, has_failed};
 ghost use Rattle.yparse.specs.Session.{machine_of, history_of};
-ghost use Rattle.ymachine.specs.MachineOver.{machine_over};
-ghost use Rattle.ytokens.specs.Reading.{Gives};
-ghost use Rattle.ycli.specs.Halves.{AreTablesOf, NoTables, Parses};
-ghost use Rattle.ycli.specs.Headline.{Ends, reader_failed, writer_failed};
+ghost use Rattle.ytokens.specs.Reading.{TokensOf};
+ghost use Rattle.ytokens.specs.Tokens.{Fits, symbols_of};
+ghost use Rattle.ycli.specs.Headline.{Ends, Starts, StartFails, TokensFail};
+ghost use Rattle.ycli.specs.Headline.{reader_failed, writer_failed};
 
 use crate::fault::SessionFault;
 use crate::run::run_session;
+use crate::source::{SourceFault, tables_from};
 use std::alloc::Global;
-use std::io::{Read, Write};
+use std::io::{ErrorKind, Read, Write};
 use thiserror::Error;
-use ygrammar::{GrammarFault, read_grammar};
-use ylalr::{BuildFault, build};
-use yparse::{Session, TokenFault, read_tokens};
-use ytables::{Link, Tables, resolve};
+use yopen::Open;
+use yopen::bytes::bytes_of;
+use yparse::{Session, TokenFault, Tokens, read_tokens};
+use ytables::{Link, Tables};
 
-/// Why there is no session over a grammar file and a tokens file, or why it ended early.
+/// Why there is no session over a grammar and tokens, or why it ended early.
 #[derive(Debug, Drop, Error)]
 pub enum StepperFault {
-    /// The grammar file is refused.
+    /// There are no tables of the grammar.
     #[error("{0}")]
-    Grammar(GrammarFault),
-    /// There are more than 16,384 item sets, or a growth was refused.
-    #[error("{0}")]
-    Build(BuildFault),
-    /// A growth was refused for the tables.
+    Source(SourceFault),
+    /// The text of the tokens can't be opened or read.
+    #[error("cannot read the tokens")]
+    Unread,
+    /// A growth was refused while the text of the tokens was opened or read.
     #[error("no memory")]
-    Tables,
-    /// The tokens file is refused.
+    NoRoom,
+    /// The text of the tokens is refused.
     #[error("{0}")]
     Tokens(TokenFault),
     /// A link failed.
@@ -39,70 +40,90 @@ pub enum StepperFault {
     Session(SessionFault),
 }
 
-/// The tables of the grammar that the bytes mean.
-pub(crate) fn tables_over(alloc: Global, source: &[u8]) -> Result<Tables, StepperFault>
-    ensures tables { IfOk result (λ t. AreTablesOf source.now t) }
-    ensures refused { IfErr result (λ fault. NoTables source.now fault) }
+/// The tokens that an opener's reader tells.
+fn tokens_from<T: Open>(
+    alloc: Global,
+    tables: &Tables,
+    tokens: &mut T,
+) -> Result<Tokens, StepperFault>
+where
+    T::Device: Read,
+    ensures tokens { IfOk result (λ found. (text : List ℕ)
+        × Tells T.opens T.Device.remaining tokens.old text
+        × TokensOf tables.now.built.grammar text (Ok (symbols_of found))) }
+    ensures fits { IfOk result (λ found. Fits tables.now.built.grammar (symbols_of found)) }
+    ensures fails { IfErr result (λ fault.
+        TokensFail (Tells T.opens T.Device.remaining tokens.old) tables.now fault) }
 {
-    let grammar = match read_grammar(alloc, source) {
-        Ok(grammar) => grammar,
-        Err(fault) => return Err(StepperFault::Grammar(fault)),
-    };
-    let automaton = match build(alloc, grammar) {
-        Ok(automaton) => automaton,
-        Err(fault) => return Err(StepperFault::Build(fault)),
-    };
-    match resolve(alloc, automaton) {
-        Ok(tables) => Ok(tables),
-        Err(_) => Err(StepperFault::Tables),
+    match bytes_of(alloc, tokens) {
+        Ok(bytes) => match read_tokens(alloc, tables, &bytes) {
+            Ok(tokens) => Ok(tokens),
+            Err(fault) => Err(StepperFault::Tokens(fault)),
+        },
+        Err(error) => match error.kind() {
+            ErrorKind::OutOfMemory => Err(StepperFault::NoRoom),
+            _ => Err(StepperFault::Unread),
+        },
     }
 }
 
-/// A session at its start, over tables and the tokens that the bytes mean.
-pub(crate) fn session_over(
+/// A session at its start, over a grammar and tokens. The tokens are opened only once the tables
+/// stand.
+fn session_from<G: Open, T: Open>(
     alloc: Global,
-    tables: Tables,
-    tokens: &[u8],
-) -> Result<Session, TokenFault>
-    ensures machine { IfOk result (λ session. machine_of session ≡ machine_over tables) }
-    ensures parses { IfOk result (λ session. Parses tables.built.grammar tokens.now
-        (machine_of session) (history_of session)) }
-    ensures refused { IfErr result (λ fault. Gives tables.built.grammar tokens.now (Err fault)) }
+    grammar: &mut G,
+    tokens: &mut T,
+) -> Result<Session, StepperFault>
+where
+    G::Device: Read,
+    T::Device: Read,
+    ensures starts { IfOk result (λ session.
+        Starts (Tells G.opens G.Device.remaining grammar.old)
+        (Tells T.opens T.Device.remaining tokens.old) (machine_of session) (history_of session)) }
+    ensures fails { IfErr result (λ fault.
+        StartFails (Tells G.opens G.Device.remaining grammar.old)
+        (Tells T.opens T.Device.remaining tokens.old) (tokens.new ≡ tokens.old) fault) }
 {
-    match read_tokens(alloc, &tables, tokens) {
+    let tables = match tables_from(alloc, grammar) {
+        Ok(tables) => tables,
+        Err(fault) => return Err(StepperFault::Source(fault)),
+    };
+    match tokens_from(alloc, &tables, tokens) {
         Ok(tokens) => Ok(Session::new(alloc, tables, tokens)),
         Err(fault) => Err(fault),
     }
 }
 
-/// Steps through the parse of a tokens file by a grammar file: reads both, and then serves a
-/// session between the links, up to a `quit` or to the end of the input.
+/// Steps through the parse of tokens by a grammar: opens and reads both, and then serves a session
+/// between the links, up to a `quit` or to the end of the input.
 ///
 /// What is written is a text of the machine of the merged canonical LR(1) items of that grammar,
 /// which keeps all its past configurations; the forms of what it accepts without error steps are a
 /// rightmost derivation of those tokens. A fault of a link is answered exactly where that link
-/// failed. With any other fault nothing was read or written.
-pub fn step_through<R: Read, W: Write>(
+/// failed. With any other fault nothing was read from or written to a link. The tokens are opened
+/// only where there are tables of the grammar.
+pub fn step_through<G: Open, T: Open, R: Read, W: Write>(
     alloc: Global,
-    source: &[u8],
-    tokens: &[u8],
+    grammar: &mut G,
+    tokens: &mut T,
     reader: &mut Link<R>,
     writer: &mut Link<W>,
 ) -> Result<(), StepperFault>
-    ensures ends { Ends R.remaining W.contents source.now tokens.now (device_of reader.old)
-        reader.new (device_of writer.old) writer.new result }
+where
+    G::Device: Read,
+    T::Device: Read,
+    ensures ends { Ends (Tells G.opens G.Device.remaining grammar.old)
+        (Tells T.opens T.Device.remaining tokens.old) (tokens.new ≡ tokens.old)
+        R.remaining W.contents (device_of reader.old) reader.new (device_of writer.old) writer.new
+        result }
     ensures read_fault { has_failed reader.new ≡ reader_failed result }
     ensures write_fault { has_failed writer.new ≡ writer_failed result }
 {
     reader.clear();
     writer.clear();
-    let tables = match tables_over(alloc, source) {
-        Ok(tables) => tables,
-        Err(fault) => return Err(fault),
-    };
-    let session = match session_over(alloc, tables, tokens) {
+    let session = match session_from(alloc, grammar, tokens) {
         Ok(session) => session,
-        Err(fault) => return Err(StepperFault::Tokens(fault)),
+        Err(fault) => return Err(fault),
     };
     match run_session(session, reader, writer) {
         Ok(()) => Ok(()),

@@ -87,7 +87,8 @@ const UNDONE: &[u8] = b"\
 fn resumed(alloc: Global, steps: usize) -> Result<(Taking, bool), Fail> {
     let mut reader = Link::new(Source::new(b"run 20\nrun 20\nback 12\n", 4096, 0));
     let mut writer = Link::new(Taking::new(alloc, steps)?);
-    let answer = step_through(alloc, LIST, SPOILED.tokens, &mut reader, &mut writer);
+    let (mut grammar, mut tokens) = (LIST, SPOILED.tokens);
+    let answer = step_through(alloc, &mut grammar, &mut tokens, &mut reader, &mut writer);
     let writer = writer.into_inner();
     let refused = writer.plain_refused();
     answer?;

@@ -14,13 +14,13 @@ pub type Lines<'a> = &'a [(Memory, &'a [u8])];
 /// when memory was taken.
 pub fn told(
     alloc: Global,
-    grammar: &[u8],
-    tokens: &[u8],
+    mut grammar: &[u8],
+    mut tokens: &[u8],
     lines: Lines<'_>,
 ) -> Result<(Sink, bool), Fail> {
     let mut reader = Link::new(Script::new(alloc, lines)?);
     let mut writer = Link::new(Sink::new(4096, Refusal::Never));
-    let answer = step_through(alloc, grammar, tokens, &mut reader, &mut writer);
+    let answer = step_through(alloc, &mut grammar, &mut tokens, &mut reader, &mut writer);
     let refused = reader.into_inner().plain_refused();
     answer?;
     Ok((writer.into_inner(), refused))

@@ -27,12 +27,13 @@ fn end_of(answer: &Result<(), StepperFault>) -> End {
 
 /// How a session between this reader and this writer ends, and the writer.
 fn served(alloc: Global, worked: Worked, source: Source<'_>, sink: Sink) -> (End, Sink) {
+    let (mut grammar, mut tokens) = (worked.grammar, worked.tokens);
     let mut reader = Link::new(source);
     let mut writer = Link::new(sink);
     let answer = step_through(
         alloc,
-        worked.grammar,
-        worked.tokens,
+        &mut grammar,
+        &mut tokens,
         &mut reader,
         &mut writer,
     );

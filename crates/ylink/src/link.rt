@@ -1,10 +1,11 @@
 //! A link: a reader or a writer, and whether a call of it failed.
 
-ghost use Rattle.std.specs.Prelude.{◌≡◌, true, false, is_some, if◌then◌else◌};
-ghost use Rattle.std.specs.Io.KnownBytes.{Keeps};
+ghost use Rattle.std.specs.Prelude.{◌≡◌, true, false, is_ok, is_some, if◌then◌else◌};
+ghost use Rattle.std.specs.Io.{ReadsAtMost};
+ghost use Rattle.std.specs.Io.KnownBytes.{Keeps, ReadConsumes};
 ghost use Rattle.ylink.specs.Link.{device_of, has_failed, LinkReads, LinkWrites};
 
-use std::io::{Read, Write};
+use std::io::{self, Read, Write};
 
 /// A reader or a writer, and whether a call of it failed since the flag was cleared.
 ///
@@ -67,6 +68,28 @@ impl<R: Read> Link<R> {
             Err(_) => {
                 self.failed = true;
                 None
+            }
+        }
+    }
+}
+
+/// A link to a reader is a reader, which tells why a call was refused.
+impl<R: Read> Read for Link<R> {
+    ghost remaining = { λ link. R.remaining (device_of link) };
+
+    /// One read of the device, which sets the flag where it refuses.
+    fn read(&mut self, buf: &mut [u8]) -> io::Result<usize>
+        ensures bound { ReadsAtMost result buf.new }
+        ensures bytes { ReadConsumes (R.remaining (device_of self.old))
+            (R.remaining (device_of self.new)) result buf.new }
+        ensures failed { has_failed self.new ≡
+            (if is_ok result then has_failed self.old else true) }
+    {
+        match self.device.read(buf) {
+            Ok(n) => Ok(n),
+            Err(error) => {
+                self.failed = true;
+                Err(error)
             }
         }
     }

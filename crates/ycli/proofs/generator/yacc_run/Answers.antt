@@ -18,7 +18,7 @@ returns-in-Ok g c =
     c.flush.ensures.bytes c.flush.ensures.failed in
     record {
       ending = Ok c.in-Ok.done;
-      ends = subst (λ (w : g.row.W.Denot). EndsIn ws w c.obey.new.writer (Ok c.in-Ok.done))
+      ends = subst (λ (w : g.row.W.Denot). EndsIn g.W.Write.contents ws w c.obey.new.writer (Ok c.in-Ok.done))
           c.clear.ensures.device c.in-Ok.ensures;
       answers = refl;
       says = subst (λ (e : g.row.E.Denot). Says messages e c.flush.new.self (said_of c.in-Ok.done))
@@ -36,7 +36,7 @@ returns-in-Err g c =
     c.put-in-Err.ensures c.flush-in-Err.ensures.bytes c.flush-in-Err.ensures.failed in
     record {
       ending = Err c.in-Err.trouble;
-      ends = subst (λ (w : g.row.W.Denot). EndsIn ws w c.obey.new.writer (Err c.in-Err.trouble))
+      ends = subst (λ (w : g.row.W.Denot). EndsIn g.W.Write.contents ws w c.obey.new.writer (Err c.in-Err.trouble))
           c.clear.ensures.device c.in-Err.ensures;
       answers = c.status.ensures;
       says = subst (λ (e : g.row.E.Denot). Says messages e c.flush-in-Err.new.self

@@ -1,33 +1,31 @@
 use Rattle.std.proofs.Common.{ℕ, ◌≡◌, ◌<◌, ◌^◌, List, Option, Result, Ok, Err, length, IfSome}
 use Rattle.std.proofs.Common.{subst}
+use Rattle.ylink.specs.declared.link.Link.{Link}
 use Rattle.ylink.specs.Link.{device_of}
 use Rattle.ymachine.specs.Machine.{Machine}
 use Rattle.ymachine.specs.History.{History}
 use Rattle.yparse.specs.Session.{machine_of, history_of}
 use Rattle.ycli.specs.declared.fault.SessionFault.{SessionFault}
-use Rattle.ylink.specs.declared.link.Link.{Link}
-use Rattle.ytables.specs.Tables.{TablesValue as Tables}
-use Rattle.ycli.specs.Halves.{AreTablesOf, Parses}
-use Rattle.ycli.specs.Headline.{Served}
+use Rattle.ycli.specs.Headline.{Served, Starts}
 use Rattle.ycli.specs.Plain.{HasOneText}
 use Rattle.ycli.specs.Transcript.{Tells}
 use Rattle.ycli.proofs.stepper.step_through.Goals as goal
 
-module _ {R W : Type 0} (remaining : R → Option (List ℕ)) (contents : W → Option (List ℕ)) where
-  -- a session was served from such a beginning, between links that were cleared
-  served : (source tokens : List ℕ) (t : Tables) (m : Machine) (h : History) (r cleared : R)
-      (reader : Link R) (w clear : W) (writer : Link W) (ending : Result (Unit {0}) SessionFault)
-      → AreTablesOf source t → Parses t.built.grammar tokens m h
+module _ (grammar tokens : List ℕ → Type 0) (unopened : Type 0) {R W : Type 0}
+    (remaining : R → Option (List ℕ)) (contents : W → Option (List ℕ)) where
+  -- a session was served from such a start, between links that were cleared
+  served : (m : Machine) (h : History) (r cleared : R) (reader : Link R) (w clear : W)
+      (writer : Link W) (ending : Result (Unit {0}) SessionFault) → Starts grammar tokens m h
       → ((lines : List (List ℕ)) → HasOneText m h lines) → cleared ≡ r → clear ≡ w
       → IfSome (remaining cleared) (λ input. length input < 2 ^ 63
       → Tells m h input (remaining (device_of reader)) (contents clear)
       (contents (device_of writer)) ending)
-      → Served remaining contents source tokens r reader w writer ending
-  served source tokens t m h r cleared reader w clear writer ending are parses plain e f told =
+      → Served grammar tokens unopened remaining contents r reader w writer ending
+  served m h r cleared reader w clear writer ending starts plain e f told =
       record {
         machine = m;
         history = h;
-        begins = record { grammar = t.built.grammar; means = are.grammar; parses = parses };
+        starts = starts;
         plain = plain;
         tells = subst (λ (x : R). IfSome (remaining x) (λ input. length input < 2 ^ 63
             → Tells m h input (remaining (device_of reader)) (contents w)
@@ -39,18 +37,16 @@ module _ {R W : Type 0} (remaining : R → Option (List ℕ)) (contents : W → 
 
 pub returns-in-Ok-run_session-clause-ends : goal.returns-in-Ok-run_session-clause-ends
 returns-in-Ok-run_session-clause-ends g c =
-    let session = c.in-Ok-session_over.session in
-    served g.R.Read.remaining g.W.Write.contents c.args.source.now c.args.tokens.now
-    c.in-Ok.tables (machine_of session) (history_of session) _ _ c.run_session.new.reader _ _
-    c.run_session.new.writer (Ok tt) c.in-Ok.ensures.tables c.in-Ok-session_over.ensures.parses
+    let session = c.in-Ok.session in
+    served _ _ _ g.R.Read.remaining g.W.Write.contents (machine_of session) (history_of session) _
+    _ c.run_session.new.reader _ _ c.run_session.new.writer (Ok tt) c.in-Ok.ensures.starts
     c.in-Ok-run_session.ensures.plain c.clear.ensures.device c.clear-2.ensures.device
     c.in-Ok-run_session.ensures.tells
 
 pub returns-in-Err-run_session-clause-ends : goal.returns-in-Err-run_session-clause-ends
 returns-in-Err-run_session-clause-ends g c =
-    let session = c.in-Ok-session_over.session in
-    served g.R.Read.remaining g.W.Write.contents c.args.source.now c.args.tokens.now
-    c.in-Ok.tables (machine_of session) (history_of session) _ _ c.run_session.new.reader _ _
-    c.run_session.new.writer (Err c.in-Err-run_session.fault) c.in-Ok.ensures.tables
-    c.in-Ok-session_over.ensures.parses c.in-Err-run_session.ensures.plain
-    c.clear.ensures.device c.clear-2.ensures.device c.in-Err-run_session.ensures.tells
+    let session = c.in-Ok.session in
+    served _ _ _ g.R.Read.remaining g.W.Write.contents (machine_of session) (history_of session) _
+    _ c.run_session.new.reader _ _ c.run_session.new.writer (Err c.in-Err-run_session.fault)
+    c.in-Ok.ensures.starts c.in-Err-run_session.ensures.plain c.clear.ensures.device
+    c.clear-2.ensures.device c.in-Err-run_session.ensures.tells

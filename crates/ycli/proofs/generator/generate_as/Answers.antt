@@ -1,0 +1,13 @@
+use Rattle.yopen.specs.Open.{Tells}
+use Rattle.ycli.specs.declared.generate.Text.TheVariants.{Table, Report}
+use Rattle.ycli.specs.Written.{Writes}
+use Rattle.ycli.proofs.Written.{files_fail}
+use Rattle.ycli.proofs.generator.generate_as.Goals as goal
+
+pub returns-in-Err-clause-fails : goal.returns-in-Err-clause-fails
+returns-in-Err-clause-fails g c =
+    files_fail (Tells g.G.Open.opens g.G.Device.Read.remaining c.args.grammar.now)
+    (λ t. Writes g.T.Open.opens g.T.Device.Write.contents c.args.table.now t Table)
+    (λ t. Writes g.P.Open.opens g.P.Device.Write.contents c.args.report.now t Report) _ _
+    c.verbose.result c.args.words c.verbose.ensures c.in-Err.fault c.of_generating.result
+    c.of_generating.ensures c.in-Err.ensures

@@ -1,0 +1,37 @@
+//! The bytes that a reader tells, read through a link.
+
+ghost use Rattle.std.specs.Prelude.{IfOk};
+ghost use Rattle.yopen.specs.Open.{Tells, TellsFront};
+
+use crate::open::Open;
+use std::alloc::Global;
+use std::io::{self, Read};
+use ylink::Link;
+
+/// All bytes of the reader that is opened.
+///
+/// An error is that of the opener or of the reader, or a growth was refused.
+pub fn bytes_of<O: Open>(alloc: Global, opener: &mut O) -> io::Result<Vec<u8>>
+where
+    O::Device: Read,
+    ensures { IfOk result (λ bytes.
+        Tells O.opens O.Device.remaining opener.old bytes.items) }
+{
+    let mut bytes = Vec::new(alloc);
+    Link::new(opener.open()?).read_to_end(&mut bytes)?;
+    Ok(bytes)
+}
+
+/// At most so many bytes of the reader that is opened: those that it tells first.
+///
+/// An error is that of the opener or of the reader, or a growth was refused.
+pub fn first_bytes<O: Open>(alloc: Global, opener: &mut O, most: u64) -> io::Result<Vec<u8>>
+where
+    O::Device: Read,
+    ensures { IfOk result (λ bytes.
+        TellsFront O.opens O.Device.remaining opener.old most bytes.items) }
+{
+    let mut bytes = Vec::new(alloc);
+    Link::new(opener.open()?).take(most).read_to_end(&mut bytes)?;
+    Ok(bytes)
+}

@@ -1,0 +1,65 @@
+//! Files as openers.
+
+ghost use Rattle.std.specs.Prelude.{⊤};
+
+use crate::open::Open;
+use std::alloc::Global;
+use std::fs;
+use std::io::{self, BufWriter};
+use std::rt::Files;
+
+/// The file at a path, opened to be read.
+#[derive(Clone, Copy, Debug)]
+pub struct OldFile<'a, F> {
+    files: &'a F,
+    path: &'a str,
+}
+
+impl<'a, F> OldFile<'a, F> {
+    /// The file at this path.
+    pub fn new(files: &'a F, path: &'a str) -> Self {
+        OldFile { files, path }
+    }
+}
+
+impl<'a, F: Files> Open for OldFile<'a, F> {
+    type Device = F::File;
+
+    ghost opens = { λ _ _. ⊤ };
+
+    fn open(&mut self) -> io::Result<F::File> {
+        fs::open(self.files, self.path)
+    }
+}
+
+/// The file of a prefix and an ending, opened to be written from its beginning, through a buffer.
+#[derive(Clone, Copy, Debug)]
+pub struct NewFile<'a, F> {
+    files: &'a F,
+    prefix: &'a str,
+    ending: &'a str,
+}
+
+impl<'a, F> NewFile<'a, F> {
+    /// The file whose path is this prefix and then this ending.
+    pub fn new(files: &'a F, prefix: &'a str, ending: &'a str) -> Self {
+        NewFile {
+            files,
+            prefix,
+            ending,
+        }
+    }
+}
+
+impl<'a, F: Files + AllocGlobal> Open for NewFile<'a, F> {
+    type Device = BufWriter<F::File>;
+
+    ghost opens = { λ _ _. ⊤ };
+
+    fn open(&mut self) -> io::Result<BufWriter<F::File>> {
+        let alloc: Global = self.files.alloc();
+        let path = format!(in alloc; "{}{}", self.prefix, self.ending)?;
+        let file = fs::create(self.files, path.as_str())?;
+        Ok(BufWriter::new(alloc, file)?)
+    }
+}
