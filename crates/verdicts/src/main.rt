@@ -3,12 +3,12 @@
 #![tactic(auto)]
 
 use std::alloc::{AllocError, Global};
-use std::io::{self, ErrorKind, Write};
+use std::io::{self, ErrorKind, Read, Write};
 use std::process::ExitCode;
 use std::{env, fs};
 use thiserror::Error;
-use ygrammar::{GrammarFault, read_grammar};
-use ylalr::{BuildFault, build};
+use ygrammar::{Grammar, GrammarFault, LONGEST_FILE, read_grammar};
+use ylalr::{Automaton, BuildFault, build};
 use yparse::{JudgeFault, TokenFault, Verdict, judge, read_tokens};
 use ytables::{TableFault, Tables, resolve};
 
@@ -24,11 +24,7 @@ enum Trouble {
     #[error("{0}")]
     Build(#[from] BuildFault),
     #[error("{0}")]
-    Tables(#[from] TableFault),
-    #[error("{0}")]
     Tokens(#[from] TokenFault),
-    #[error("{0}")]
-    Judge(#[from] JudgeFault),
 }
 
 impl From<io::Error> for Trouble {
@@ -40,18 +36,56 @@ impl From<io::Error> for Trouble {
     }
 }
 
+impl From<TableFault> for Trouble {
+    fn from(_refused: TableFault) -> Trouble {
+        Trouble::Memory
+    }
+}
+
+impl From<JudgeFault> for Trouble {
+    fn from(_refused: JudgeFault) -> Trouble {
+        Trouble::Memory
+    }
+}
+
+/// As many bytes of a grammar file as decide that it is too long, also where it never ends.
+const GRAMMAR_BYTES: u64 = LONGEST_FILE as u64 + 1;
+
+/// At most so many bytes of a file.
+fn first_bytes(rt: &HostRuntime, path: &str, most: u64) -> io::Result<Vec<u8>> {
+    let mut bytes = Vec::new(rt.alloc());
+    fs::open(rt, path)?.take(most).read_to_end(&mut bytes)?;
+    Ok(bytes)
+}
+
+/// The grammar that the bytes mean.
+fn grammar_over(alloc: Global, source: &[u8]) -> Result<Grammar, Trouble> {
+    Ok(read_grammar(alloc, source)?)
+}
+
+/// The item sets of the grammar that the bytes mean.
+fn automaton_over(alloc: Global, source: &[u8]) -> Result<Automaton, Trouble> {
+    Ok(build(alloc, grammar_over(alloc, source)?)?)
+}
+
 /// The tables of a grammar file.
 fn tables_of(rt: &HostRuntime, path: &str) -> Result<Tables, Trouble> {
-    let alloc = rt.alloc();
-    let source = fs::read(rt, path)?;
-    Ok(resolve(alloc, build(alloc, read_grammar(alloc, &source)?)?)?)
+    let source = first_bytes(rt, path, GRAMMAR_BYTES)?;
+    Ok(resolve(rt.alloc(), automaton_over(rt.alloc(), &source)?)?)
+}
+
+/// The verdict on the tokens that the bytes mean.
+fn verdict_over(alloc: Global, tables: &Tables, source: &[u8]) -> Result<Verdict, Trouble> {
+    let tokens = read_tokens(alloc, tables, source)?;
+    let verdict = judge(alloc, tables, &tokens);
+    drop(tokens);
+    Ok(verdict?)
 }
 
 /// The verdict on a tokens file.
 fn verdict_on(rt: &HostRuntime, tables: &Tables, path: &str) -> Result<Verdict, Trouble> {
     let source = fs::read(rt, path)?;
-    let tokens = read_tokens(rt.alloc(), tables, &source)?;
-    Ok(judge(rt.alloc(), tables, &tokens)?)
+    verdict_over(rt.alloc(), tables, &source)
 }
 
 /// What is said of a tokens file.
@@ -68,44 +102,70 @@ fn line_of(
     }
 }
 
-/// Says whether a cell of the tables has a choice, and then the verdict on each tokens file.
-fn tell(rt: &HostRuntime, tables: &Tables, grammar: &str, files: &[String]) -> io::Result<()> {
-    let alloc = rt.alloc();
+/// Writes a line to standard output, where there was memory for it.
+fn put(rt: &HostRuntime, line: Result<String, AllocError>) -> io::Result<()> {
+    rt.stdout().write_all(line?.as_bytes())
+}
+
+/// Says whether a cell of the tables has a choice.
+fn tell_choices(rt: &HostRuntime, tables: &Tables, grammar: &str) -> io::Result<()> {
     let choices = if tables.choice_free() {
         "no choices"
     } else {
         "choices"
     };
-    let head = format!(in alloc; "{grammar}: {choices}\n")?;
-    rt.stdout().write_all(head.as_bytes())?;
+    put(rt, format!(in rt.alloc(); "{grammar}: {choices}\n"))
+}
+
+/// Says whether a cell of the tables has a choice, and then the verdict on each tokens file.
+fn tell(rt: &HostRuntime, tables: &Tables, grammar: &str, files: &[String]) -> io::Result<()> {
+    tell_choices(rt, tables, grammar)?;
     for path in files {
-        let line = line_of(alloc, path, verdict_on(rt, tables, path))?;
-        rt.stdout().write_all(line.as_bytes())?;
+        let verdict = verdict_on(rt, tables, path);
+        put(rt, line_of(rt.alloc(), path, verdict))?;
     }
     Ok(())
 }
 
-/// Does what the words ask for, and gives the exit status: 2 for words that name no grammar file, 1
-/// for a grammar file without tables.
-fn status(rt: &HostRuntime) -> io::Result<u8> {
-    let alloc = rt.alloc();
-    let words: Vec<String> = env::args(rt)?.collect(alloc)?;
-    let Some((grammar, files)) = words.get(1..).and_then(<[String]>::split_first) else {
-        rt.stderr()
-            .write_all(b"usage: verdicts grammar tokens..\n")?;
-        return Ok(2);
-    };
+/// Says why a grammar file has no tables.
+fn refuse(rt: &HostRuntime, grammar: &str, trouble: Trouble) -> io::Result<()> {
+    let message = format!(in rt.alloc(); "verdicts: {grammar}: {trouble}\n")?;
+    rt.stderr().write_all(message.as_bytes())
+}
+
+/// Says that the words name no grammar file.
+fn misused(rt: &HostRuntime) -> io::Result<u8> {
+    rt.stderr()
+        .write_all(b"usage: verdicts grammar tokens..\n")
+        .map(|()| 2)
+}
+
+/// Judges tokens files by a grammar file, and gives the exit status: 1 where it has no tables.
+fn judged(rt: &HostRuntime, grammar: &str, files: &[String]) -> io::Result<u8> {
     match tables_of(rt, grammar) {
         Ok(tables) => {
-            tell(rt, &tables, grammar, files)?;
-            Ok(0)
+            let told = tell(rt, &tables, grammar, files);
+            drop(tables);
+            told.map(|()| 0)
         }
-        Err(trouble) => {
-            let message = format!(in alloc; "verdicts: {grammar}: {trouble}\n")?;
-            rt.stderr().write_all(message.as_bytes())?;
-            Ok(1)
-        }
+        Err(trouble) => refuse(rt, grammar, trouble).map(|()| 1),
     }
+}
+
+/// The words behind the program's name.
+fn words_of(rt: &HostRuntime) -> io::Result<Vec<String>> {
+    Ok(env::args(rt)?.skip(1).collect(rt.alloc())?)
+}
+
+/// Does what the words ask for, and gives the exit status: 2 for words that name no grammar file.
+fn status(rt: &HostRuntime) -> io::Result<u8> {
+    let words = words_of(rt)?;
+    let status = match words.split_first() {
+        Some((grammar, files)) => judged(rt, grammar, files),
+        None => misused(rt),
+    };
+    drop(words);
+    status
 }
 
 fn main(rt: HostRuntime) -> ExitCode {

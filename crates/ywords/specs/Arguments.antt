@@ -1,13 +1,44 @@
 -- The command lines of the programs, as `clap` sees them.
-use Rattle.std.specs.Prelude.{ℕ, ◌≡◌, List, Some, codes, is_some, true, false, unwrap_or}
+use Rattle.std.specs.Prelude.{ℕ, ◌≡◌, List, [], Some, None, codes, is_some, true, false, unwrap_or}
+use Rattle.std.specs.Prelude.{IfOk, IfErr, Result}
 use Rattle.std.specs.Option.{option_map_or}
 use Rattle.std.specs.Str.{bytes_eq}
 use Rattle.clap.specs.Words.{App, Rule, new_app, new_rule, with_rule, matches_of, first_of}
-use Rattle.clap.specs.Words.{first_value, found_of}
+use Rattle.clap.specs.Words.{FailsBy, IsPlainArg, args_of, app_of, fault_of, first_value}
+use Rattle.clap.specs.Words.{found_of, groups_of, kind_of, rule_of, takes}
+use Rattle.clap.specs.declared.builder.arg.Arg.{Arg}
+use Rattle.clap.specs.declared.builder.command.Command.{Command}
+use Rattle.clap.specs.declared.builder.command.Command.TheViews.{out-Command}
+use Rattle.clap.specs.declared.error.Error.{Error}
+use Rattle.clap.specs.declared.error.kind.ErrorKind.TheVariants.{OutOfMemory}
 use Rattle.clap.specs.declared.parser.matches.ArgMatches.{ArgMatches}
 use Rattle.clap.specs.declared.builder.action.ArgAction.TheVariants.{Set, SetTrue}
 use Rattle.ywords.specs.declared.arguments.YstepWords.{YstepWords}
 use Rattle.ywords.specs.declared.arguments.YaccWords.{YaccWords}
+
+-- a command of this name that has no argument yet
+pub record IsNewCommand (name : List ℕ) (c : Command) : Type 0 where
+  pub app : app_of c ≡ new_app name
+  pub args : args_of c ≡ []
+  pub groups : groups_of c ≡ []
+  pub globals : (out-Command c).has_globals ≡ false
+  pub negates : (out-Command c).subcommand_negates_reqs ≡ false
+
+-- an argument of this rule, which excludes no other, is its command's alone, and whose value isn't
+-- split
+pub record IsArgument (rule : Rule) (a : Arg) : Type 0 where
+  pub rule_is : rule_of a ≡ rule
+  pub plain : IsPlainArg a
+  pub global : a.global ≡ false
+  pub delimiter : a.val_delim ≡ None
+
+-- what a command line gives for words: the values that they give each argument, or their first
+-- fault, and where it takes them no error but a lack of memory
+pub record ReadsAs (app : App) (words : List (List ℕ)) (r : Result ArgMatches Error) : Type 0 where
+  pub values : IfOk r (λ found. (id : List ℕ)
+      → first_of id (matches_of app words) ≡ first_value (found_of found) id)
+  pub faults : FailsBy (fault_of app words) r
+  pub taken : IfErr r (λ e. takes app words ≡ true → kind_of e ≡ OutOfMemory)
 
 -- a required argument, by its place, of one value
 abbrev pub required_argument : List ℕ → Rule

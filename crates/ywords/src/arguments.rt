@@ -1,16 +1,18 @@
 //! The words of the programs.
 
-ghost use Rattle.std.specs.Prelude.{◌≡◌, IfOk, IfErr, map, true, false, codes, List, ℕ};
+ghost use Rattle.std.specs.Prelude.{◌≡◌, IfOk, IfErr, IsOkAnd, map, true, false, codes, List, ℕ};
 ghost use Rattle.std.specs.Option.{option_map_or};
 ghost use Rattle.std.specs.Borrow.{Bor};
 ghost use Rattle.std.specs.Str.{bytes_eq};
-ghost use Rattle.clap.specs.Words.{FailsBy, IsParsedFrom, app_of, fault_of, kind_of, takes};
+ghost use Rattle.clap.specs.Words.{App, FailsBy, IsParsedFrom, app_of, fault_of, kind_of, takes};
+ghost use Rattle.clap.specs.Words.{is_simple, is_simple_and_free};
 ghost use Rattle.clap.specs.declared.error.kind.ErrorKind.TheVariants.{OutOfMemory};
 ghost use Rattle.clap.specs.declared.parser.matches.ArgMatches.{ArgMatches};
 ghost use Rattle.ywords.specs.Arguments.{ystep_app, yacc_app, ArePathsIn, AreYaccWordsIn, HasBoth};
-ghost use Rattle.ywords.specs.Arguments.{HasGrammar};
+ghost use Rattle.ywords.specs.Arguments.{HasGrammar, IsArgument, IsNewCommand, ReadsAs};
+ghost use Rattle.ywords.specs.Arguments.{required_argument, short_flag, short_option};
 
-use clap::{Arg, ArgAction, Command, Error};
+use clap::{Arg, ArgAction, ArgMatches, Command, Error};
 use std::alloc::{AllocError, Global};
 
 /// The words of `ystep`: the paths of a grammar file and of a tokens file.
@@ -36,25 +38,56 @@ impl<'a> YstepWords<'a> {
     }
 }
 
+/// A command without arguments, of this name and of this line of help.
+fn new_command<'a>(alloc: Global, name: &'a str, about: &'a str) -> Command<'a>
+    ensures { IsNewCommand name.entry.now result }
+{
+    Command::new(alloc, name).about(about)
+}
+
+/// The grammar file, of both programs.
+fn grammar_argument<'a>(alloc: Global) -> Arg<'a>
+    ensures { IsArgument (required_argument (codes "grammar")) result }
+{
+    Arg::new(alloc, "grammar")
+        .required(true)
+        .action(ArgAction::Set)
+        .help("The grammar file")
+}
+
+fn tokens_argument<'a>(alloc: Global) -> Arg<'a>
+    ensures { IsArgument (required_argument (codes "tokens")) result }
+{
+    Arg::new(alloc, "tokens")
+        .required(true)
+        .action(ArgAction::Set)
+        .help("The tokens file")
+}
+
 /// The command line of `ystep`. A parse of it gives both of its arguments.
-#[tactic(auto, unfolding(crate::specs::Arguments::ystep_app))]
 fn ystep_command<'a>(alloc: Global) -> Result<Command<'a>, AllocError>
     ensures app { IfOk result (λ command. app_of command ≡ ystep_app) }
     ensures both { IfOk result (λ command. (found : ArgMatches) → IsParsedFrom command found
         → HasBoth found) }
 {
-    let grammar = Arg::new(alloc, "grammar")
-        .required(true)
-        .action(ArgAction::Set)
-        .help("The grammar file");
-    let tokens = Arg::new(alloc, "tokens")
-        .required(true)
-        .action(ArgAction::Set)
-        .help("The tokens file");
-    Command::new(alloc, "ystep")
-        .about("Steps a parse forward and back by the command lines of standard input")
-        .arg(grammar)?
-        .arg(tokens)
+    let about = "Steps a parse forward and back by the command lines of standard input";
+    new_command(alloc, "ystep", about)
+        .arg(grammar_argument(alloc))?
+        .arg(tokens_argument(alloc))
+}
+
+/// What a command line makes of words, the program's name first among them.
+fn matches_by<'a>(
+    command: Result<Command<'a>, AllocError>,
+    words: &'a [&'a str],
+) -> Result<ArgMatches<'a>, Error>
+    ensures reads { (app : App) → IfOk command.entry (λ line. app_of line ≡ app)
+        → is_simple app ≡ true → is_simple_and_free app ≡ true
+        → ReadsAs app (map (λ word. word.now) words.entry.now) result }
+    ensures parsed { IfOk result (λ found.
+        IsOkAnd command.entry (λ line. IsParsedFrom line found)) }
+{
+    command?.try_get_matches_from(words)
 }
 
 /// Reads the words of `ystep`, the program's name first among them.
@@ -71,7 +104,7 @@ pub fn ystep_words<'a>(alloc: Global, words: &'a [&'a str]) -> Result<YstepWords
     ensures taken { IfErr result (λ e.
         takes ystep_app (map (λ word. word.now) words.entry.now) ≡ true → kind_of e ≡ OutOfMemory) }
 {
-    let matches = ystep_command(alloc)?.try_get_matches_from(words)?;
+    let matches = matches_by(ystep_command(alloc), words)?;
     let grammar = matches.get_str("grammar").unwrap();
     let tokens = matches.get_str("tokens").unwrap();
     Ok(YstepWords { grammar, tokens })
@@ -109,30 +142,35 @@ impl<'a> YaccWords<'a> {
     }
 }
 
+fn verbose_flag<'a>(alloc: Global) -> Arg<'a>
+    ensures { IsArgument (short_flag (codes "verbose") 118) result }
+{
+    Arg::new(alloc, "verbose")
+        .short('v')
+        .action(ArgAction::SetTrue)
+        .help("Writes the report PREFIX.output beside the table")
+}
+
+fn prefix_argument<'a>(alloc: Global) -> Arg<'a>
+    ensures { IsArgument (short_option (codes "prefix") 98) result }
+{
+    Arg::new(alloc, "prefix")
+        .short('b')
+        .action(ArgAction::Set)
+        .help("The prefix of the files to write, y unless given")
+}
+
 /// The command line of `yacc`. A parse of it gives a grammar.
-#[tactic(auto, unfolding(crate::specs::Arguments::yacc_app))]
 fn yacc_command<'a>(alloc: Global) -> Result<Command<'a>, AllocError>
     ensures app { IfOk result (λ command. app_of command ≡ yacc_app) }
     ensures given { IfOk result (λ command. (found : ArgMatches) → IsParsedFrom command found
         → HasGrammar found) }
 {
-    let verbose = Arg::new(alloc, "verbose")
-        .short('v')
-        .action(ArgAction::SetTrue)
-        .help("Writes the report PREFIX.output beside the table");
-    let prefix = Arg::new(alloc, "prefix")
-        .short('b')
-        .action(ArgAction::Set)
-        .help("The prefix of the files to write, y unless given");
-    let grammar = Arg::new(alloc, "grammar")
-        .required(true)
-        .action(ArgAction::Set)
-        .help("The grammar file");
-    Command::new(alloc, "yacc")
-        .about("Writes the LALR(1) table of a grammar file to PREFIX.tab")
-        .arg(verbose)?
-        .arg(prefix)?
-        .arg(grammar)
+    let about = "Writes the LALR(1) table of a grammar file to PREFIX.tab";
+    new_command(alloc, "yacc", about)
+        .arg(verbose_flag(alloc))?
+        .arg(prefix_argument(alloc))?
+        .arg(grammar_argument(alloc))
 }
 
 /// Whether the value of a flag says that it was given.
@@ -160,7 +198,7 @@ pub fn yacc_words<'a>(alloc: Global, words: &'a [&'a str]) -> Result<YaccWords<'
     ensures taken { IfErr result (λ e.
         takes yacc_app (map (λ word. word.now) words.entry.now) ≡ true → kind_of e ≡ OutOfMemory) }
 {
-    let matches = yacc_command(alloc)?.try_get_matches_from(words)?;
+    let matches = matches_by(yacc_command(alloc), words)?;
     let grammar = matches.get_str("grammar").unwrap();
     let prefix = matches.get_str("prefix").unwrap_or("y");
     let verbose = is_set(matches.get_str("verbose"));

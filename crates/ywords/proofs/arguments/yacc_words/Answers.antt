@@ -1,14 +1,12 @@
 use Rattle.std.specs.Option.{option_map_or}
 use Rattle.std.specs.Str.{bytes_eq}
-use Rattle.std.proofs.Common.{rules, ◌≡◌, ℕ, true, false, Bool, List, Option, Some, None, map}
+use Rattle.std.proofs.Common.{rules, ◌≡◌, ℕ, true, false, Bool, List, Option, Some, None}
 use Rattle.std.proofs.Common.{codes, refl, sym, ap, ◌∙◌}
 use Rattle.std.specs.Prelude.{option_map, unwrap_or}
 use Rattle.std.specs.Borrow.{Bor}
-use Rattle.clap.specs.Words.{App}
 use Rattle.clap.specs.Words.{is_simple}
-use Rattle.clap.specs.Faults.{is_simple_and_free, fault_of}
+use Rattle.clap.specs.Faults.{is_simple_and_free}
 use Rattle.std.proofs.lemmas.Result.{err_from_is_err_and}
-use Rattle.ywords.proofs.Words.{fails_by, fails_taken, value_in}
 use Rattle.ywords.specs.Arguments.{yacc_app}
 use Rattle.ywords.proofs.arguments.yacc_words.Goals as goal
 
@@ -41,10 +39,9 @@ set_now (Some s) t b p q =
 
 pub returns-clause-values : goal.returns-clause-values
 returns-clause-values c =
-    let ws : List (List ℕ) = map (λ (word : Bor (List ℕ)). word.now) c.args.words.now in
-    let app = c.in_ok-yacc_command.ensures.app in
-    let found = value_in yacc_app _ app ws c.in_ok-matches.matches
-    (c.in_ok-matches.ensures.matches (ap is_simple app ∙ is_plain)).0 in
+    let reads = c.in_ok-matches.ensures.reads yacc_app c.yacc_command.ensures.app is_plain is_free
+    in
+    let found = reads.values in
     record {
       grammar = found (codes "grammar") ∙ sym c.get_str.ensures
           ∙ ap (option_map (λ (s : Bor (List ℕ)). s.now)) c.unwrap-grammar.ensures;
@@ -57,24 +54,16 @@ returns-clause-values c =
 
 pub returns-clause-faults : goal.returns-clause-faults
 returns-clause-faults c =
-    let ws : List (List ℕ) = map (λ (word : Bor (List ℕ)). word.now) c.args.words.now in
-    let app = c.in_ok-yacc_command.ensures.app in
-    ap (λ (a : App). fault_of a ws) (sym app)
-    ∙ c.in_ok-matches.ensures.kinds (ap is_simple_and_free app ∙ is_free)
+    (c.in_ok-matches.ensures.reads yacc_app c.yacc_command.ensures.app is_plain is_free).faults
 
 pub returns-in_err-matches-clause-faults : goal.returns-in_err-matches-clause-faults
 returns-in_err-matches-clause-faults c =
-    let ws : List (List ℕ) = map (λ (word : Bor (List ℕ)). word.now) c.args.words.now in
-    let app = c.in_ok-yacc_command.ensures.app in
-    let is = err_from_is_err_and c.from_residual-in_err-matches.result
-    c.from_residual-in_err-matches.ensures.1 in
-    fails_by yacc_app _ app ws _ is.0 _ is.1 is.2
-    (c.in_err-matches.ensures.kinds (ap is_simple_and_free app ∙ is_free))
+    let is = err_from_is_err_and c.from_residual.result c.from_residual.ensures.1 in
+    rw (is.1, is.2) (c.in_err-matches.ensures.reads yacc_app c.yacc_command.ensures.app is_plain
+    is_free).faults
 
 pub returns-in_err-matches-clause-taken : goal.returns-in_err-matches-clause-taken
 returns-in_err-matches-clause-taken c =
-    let ws : List (List ℕ) = map (λ (word : Bor (List ℕ)). word.now) c.args.words.now in
-    let is = err_from_is_err_and c.from_residual-in_err-matches.result
-    c.from_residual-in_err-matches.ensures.1 in
-    fails_taken yacc_app _ c.in_ok-yacc_command.ensures.app ws _ is.0 _ is.1 is.2
-    c.in_err-matches.ensures.passes
+    let is = err_from_is_err_and c.from_residual.result c.from_residual.ensures.1 in
+    rw (is.1, is.2) (c.in_err-matches.ensures.reads yacc_app c.yacc_command.ensures.app is_plain
+    is_free).taken
