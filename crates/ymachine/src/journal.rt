@@ -111,10 +111,13 @@ impl<M: Reversible> Journal<M> {
         &self.changes
     }
 
-    /// The change of the newest step, where one stands.
+    /// The newest change, where one stands: of the kind of the newest step, and taken back from
+    /// the machine as it is now, it leads to what was before that step.
     pub fn last(&self) -> Option<&M::Change>
-        ensures { option_map (λ change. M.kind change.now) result
+        ensures kind { option_map (λ change. M.kind change.now) result
             ≡ option_map (λ step. step.0) (slice_get self.now.earlier 0) }
+        ensures before { option_map (λ change. M.before change.now self.now.now) result
+            ≡ option_map (λ step. step.1) (slice_get self.now.earlier 0) }
     {
         self.changes.last()
     }
