@@ -27,6 +27,11 @@ onward p found = option_map (λ (step : StepKind × Configuration). let pair : S
 pub halted : (p : Place) → Sound p.tables → IsTrue (valid p) → KindIs p None → place_next p ≡ None
 halted p s v e = ap (onward p) (halts p s (facts p v) e)
 
+-- nor can an edit be made there
+pub halted_edit : (p : Place) (edit : Edit) → Sound p.tables → IsTrue (valid p) → KindIs p None
+    → place_edited edit p ≡ None
+halted_edit p edit s v e = ap (onward p) (unmoving p s (facts p v) edit e)
+
 reached : (p : Place) (found : Option (StepKind × Configuration)) (kind : StepKind)
     → IsTrue (valid p) → Leads p found kind → LeadsOn p (onward p found) kind
 reached p found kind v m = record {

@@ -131,9 +131,9 @@ impl<M: Reversible> Journal<M> {
         keep(&mut self.machine, &mut self.changes, made)
     }
 
-    /// One edit of the input. S1 where no step follows, else S4 where the edit can't be made, else
-    /// S2 where 1,000,000 steps and edits stand, else S3 where a growth is refused. An `Err`
-    /// changes nothing.
+    /// One edit of the input. S1 or S4 exactly where the edit can't be made, S1 where no step
+    /// follows either; else S2 where 1,000,000 steps and edits stand, else S3 where a growth is
+    /// refused. An `Err` changes nothing.
     pub fn edit(&mut self, edit: M::Edit) -> Result<(), StepFault>
         ensures { StepsOn M.next (M.edited edit) self.old result self.new }
     {
