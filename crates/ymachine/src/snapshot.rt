@@ -6,6 +6,7 @@ ghost use Rattle.ymachine.specs.Content.{Place, configuration_of, first_place, p
 ghost use Rattle.ymachine.specs.Content.{place_next, valid};
 ghost use Rattle.ymachine.specs.Parts.{content_of, HasRoom, HasRoomFor};
 ghost use Rattle.ymachine.specs.Reversible.{Advances};
+ghost use Rattle.ymachine.specs.Shown.{GoesByMachine};
 ghost use Rattle.ymachine.specs.View.{configuration_by};
 ghost use Rattle.ytokens.specs.Tokens.{Fits, symbols_of};
 ghost use Rattle.ymachine.specs.declared.machine.StepKind.{StepKind as Kind};
@@ -15,6 +16,7 @@ use crate::machine::{Edit, StepFault, StepKind};
 use crate::parts::{Parts, children_of, make};
 use crate::rest;
 use crate::reversible::Reversible;
+use crate::tables::known;
 use crate::view::View;
 use std::alloc::{AllocError, Global};
 use std::marker::Model;
@@ -107,6 +109,14 @@ impl SnapshotParser {
         ensures { configuration_by result ≡ configuration_of self.now }
     {
         View::new(&self.parts, &self.tokens.symbols)
+    }
+
+    /// That its steps and edits are those of the machine of its tables. The call does nothing.
+    pub fn goes(&self)
+        ensures { GoesByMachine self.now }
+    {
+        known(&self.tables);
+        let _ = &self.tokens;
     }
 
     /// Makes on a copy a step or an edit of this kind, which leads on, and keeps what was before.
