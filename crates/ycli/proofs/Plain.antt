@@ -38,7 +38,7 @@ use Rattle.ycli.specs.Plain.{PlainSteps, PlainEdits, PlainReply, PlainTranscript
 step_at : (m : Machine) (h : History) (o : Option (StepKind × Configuration)) → next m h.now ≡ o
     → (position h < most_steps) ⊎ (most_steps ≤ position h)
     → (result : Result StepKind StepFault) × (mid : History) × PlainSteps m h result mid
-step_at m h None e p = (Err Halted, h, ((e, refl), λ bad. cc))
+step_at m h None e p = (Err Halted, h, (((e, e), refl), λ bad. cc))
 step_at m h (Some s) e (inl p) = (
   Ok s.0,
   record { now = s.1; earlier = (s.0, h.now) ∷ h.earlier },
@@ -52,12 +52,32 @@ plain_step : (m : Machine) (h : History) → (result : Result StepKind StepFault
     × PlainSteps m h result mid
 plain_step m h = step_at m h (next m h.now) refl (cases_lt (position h) most_steps)
 
+none_some : (o : Option (StepKind × Configuration)) → o ≡ None → IsSome o → ⊥
+none_some None e p = cc
+none_some (Some s) e p = cc
+
+-- an edit can be made only where a step follows
+edit_lives : (m : Machine) (edit : Edit) (c : Configuration) (d : Mode) → c.mode ≡ d
+    → IsSome (edited_in m edit c d) → IsSome (next_in m c d)
+edit_lives m edit c Running e p = refl
+edit_lives m edit c Popping e p = refl
+edit_lives m edit c Accepted e p = p
+edit_lives m edit c Failed e p = p
+
+lives : (m : Machine) (edit : Edit) (c : Configuration) → IsSome (edited m edit c)
+    → IsSome (next m c)
+unfolding next edited
+lives m edit c p = edit_lives m edit c c.mode refl p
+
 -- an edit is answered, where memory is there
 edit_at : (m : Machine) (edit : Edit) (h : History) (o e : Option (StepKind × Configuration))
     → next m h.now ≡ o → edited m edit h.now ≡ e
     → (position h < most_steps) ⊎ (most_steps ≤ position h)
     → (result : Result StepKind StepFault) × (new : History) × PlainEdits m edit h result new
-edit_at m edit h None e f g p = (Err Halted, h, ((f, refl), λ bad. cc))
+edit_at m edit h None None f g p = (Err Halted, h, (((f, g), refl), λ bad. cc))
+edit_at m edit h None (Some t) f g p =
+    let some = subst (λ (x : Option (StepKind × Configuration)). IsSome x) (sym g) refl in
+    absurd (none_some (next m h.now) f (lives m edit h.now some))
 edit_at m edit h (Some s) None f g p =
     let some = subst (λ (x : Option (StepKind × Configuration)). IsSome x) (sym f) refl in
     (Err NoToken, h, (((some, g), refl), λ bad. cc))
@@ -277,10 +297,6 @@ some_none : (o : Option (StepKind × Configuration)) (s : StepKind × Configurat
 some_none None s e f = cc
 some_none (Some x) s e f = cc
 
-none_some : (o : Option (StepKind × Configuration)) → o ≡ None → IsSome o → ⊥
-none_some None e p = cc
-none_some (Some s) e p = cc
-
 abbrev kind_in : StepKind → Option (StepKind × Configuration) → StepKind
 kind_in kind None = kind
 kind_in kind (Some s) = s.0
@@ -304,13 +320,13 @@ one_change m what h a b (Ok j) (Ok k) s t live x y =
       same_past a b nows pasts,
     )
 one_change m what h a b (Ok j) (Err Halted) s t live x y =
-    absurd (none_some (next m h.now) t.0
+    absurd (none_some (next m h.now) t.0.0
     (live (subst (λ (o : Option (StepKind × Configuration)). IsSome o) (sym s.1.0) refl)))
 one_change m what h a b (Ok j) (Err NoToken) s t live x y =
     absurd (some_none (what h.now) (j, a.now) s.1.0 t.0.1)
 one_change m what h a b (Ok j) (Err Limit) s t live x y = absurd (omega (arith, s.0, t.0.1))
 one_change m what h a b (Err Halted) (Ok k) s t live x y =
-    absurd (none_some (next m h.now) s.0
+    absurd (none_some (next m h.now) s.0.0
     (live (subst (λ (o : Option (StepKind × Configuration)). IsSome o) (sym t.1.0) refl)))
 one_change m what h a b (Err NoToken) (Ok k) s t live x y =
     absurd (some_none (what h.now) (k, b.now) t.1.0 s.0.1)
@@ -319,13 +335,13 @@ one_change m what h a b (Err Halted) (Err Halted) s t live x y = (refl, s.1 ∙ 
 one_change m what h a b (Err NoToken) (Err NoToken) s t live x y = (refl, s.1 ∙ sym t.1)
 one_change m what h a b (Err Limit) (Err Limit) s t live x y = (refl, s.1 ∙ sym t.1)
 one_change m what h a b (Err Halted) (Err NoToken) s t live x y =
-    absurd (none_some (next m h.now) s.0 t.0.0)
+    absurd (none_some (next m h.now) s.0.0 t.0.0)
 one_change m what h a b (Err NoToken) (Err Halted) s t live x y =
-    absurd (none_some (next m h.now) t.0 s.0.0)
+    absurd (none_some (next m h.now) t.0.0 s.0.0)
 one_change m what h a b (Err Halted) (Err Limit) s t live x y =
-    absurd (none_some (next m h.now) s.0 (live t.0.0))
+    absurd (none_some (next m h.now) s.0.0 (live t.0.0))
 one_change m what h a b (Err Limit) (Err Halted) s t live x y =
-    absurd (none_some (next m h.now) t.0 (live s.0.0))
+    absurd (none_some (next m h.now) t.0.0 (live s.0.0))
 one_change m what h a b (Err NoToken) (Err Limit) s t live x y =
     absurd (none_some (what h.now) s.0.1 t.0.0)
 one_change m what h a b (Err Limit) (Err NoToken) s t live x y =
@@ -336,19 +352,6 @@ one_change m what h a b r (Err Memory) s t live x y = absurd (y refl)
 one_step : (m : Machine) (h a b : History) (r q : Result StepKind StepFault)
     → PlainSteps m h r a → PlainSteps m h q b → (r ≡ q) × (a ≡ b)
 one_step m h a b r q s t = one_change m (next m) h a b r q s.0 t.0 (λ p. p) s.1 t.1
-
--- an edit can be made only where a step follows
-edit_lives : (m : Machine) (edit : Edit) (c : Configuration) (d : Mode) → c.mode ≡ d
-    → IsSome (edited_in m edit c d) → IsSome (next_in m c d)
-edit_lives m edit c Running e p = refl
-edit_lives m edit c Popping e p = refl
-edit_lives m edit c Accepted e p = p
-edit_lives m edit c Failed e p = p
-
-lives : (m : Machine) (edit : Edit) (c : Configuration) → IsSome (edited m edit c)
-    → IsSome (next m c)
-unfolding next edited
-lives m edit c p = edit_lives m edit c c.mode refl p
 
 one_edit : (m : Machine) (edit : Edit) (h a b : History) (s t : List ℕ)
     → EditsBy (PlainSteps m) (PlainEdits m) m edit h s a

@@ -17,3 +17,4 @@ pub mod Places
 pub mod Walks
 pub mod Headlines
 pub mod OneMachine
+pub mod Counters

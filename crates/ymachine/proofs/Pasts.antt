@@ -126,7 +126,8 @@ module _ {S C K : Type 0} (next what : S → Option (K × S)) (before : C → S 
         → Advances next what before kind fits old (Err fault) now
         → (full ≡ true → most_steps ≤ length items) → (full ≡ false → length items < most_steps)
         → Kept (Err (refusal_of full fault)) now items
-    refused_by Halted full t h i = ((t.0, same now items t.1 refl), still now items t.1 refl)
+    refused_by Halted full t h i =
+        (((t.0, t.1), same now items t.2 refl), still now items t.2 refl)
     refused_by NoToken full t h i =
         (((t.0, t.1), same now items t.2 refl), still now items t.2 refl)
     refused_by Limit full t h i = absurd t

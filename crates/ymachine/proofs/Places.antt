@@ -4,14 +4,17 @@ use Rattle.std.proofs.Common.{IsTrue, Option, Some, None, refl, sym, ◌∙◌, 
 use Rattle.std.proofs.Common.{subst}
 use Rattle.std.specs.Prelude.{is_some, unwrap_or}
 use Rattle.std.specs.Option.{option_map}
+use Rattle.ymachine.specs.declared.machine.Deed.{Deed}
+use Rattle.ymachine.specs.declared.machine.Deed.TheVariants as deeds
 use Rattle.ymachine.specs.declared.machine.Edit.{Edit}
 use Rattle.ymachine.specs.declared.machine.StepKind.{StepKind}
 use Rattle.ymachine.specs.Machine.{Configuration, next, edited}
 use Rattle.ymachine.specs.MachineOver.{machine_over}
 use Rattle.ymachine.specs.Sound.{Sound}
 use Rattle.ymachine.specs.Content.{Place, kind_in, place_after}
-use Rattle.ymachine.specs.Content.{place_next, place_edited, edit_kind}
+use Rattle.ymachine.specs.Content.{place_next, place_edited, place_deed, edit_kind}
 use Rattle.ymachine.specs.Content.{configuration_of, valid}
+use Rattle.ymachine.specs.Shown.{KeepsGround, step_view, GoesByMachine}
 use Rattle.ymachine.specs.Ahead.{LeadsOn}
 use Rattle.ymachine.proofs.Facts.{facts, is_valid}
 use Rattle.ymachine.proofs.Moves.{Leads, moves, halts, changes, unchanged, unmoving}
@@ -26,6 +29,11 @@ onward p found = option_map (λ (step : StepKind × Configuration). let pair : S
 
 pub halted : (p : Place) → Sound p.tables → IsTrue (valid p) → KindIs p None → place_next p ≡ None
 halted p s v e = ap (onward p) (halts p s (facts p v) e)
+
+-- nor can an edit be made there
+pub halted_edit : (p : Place) (edit : Edit) → Sound p.tables → IsTrue (valid p) → KindIs p None
+    → place_edited edit p ≡ None
+halted_edit p edit s v e = ap (onward p) (unmoving p s (facts p v) edit e)
 
 reached : (p : Place) (found : Option (StepKind × Configuration)) (kind : StepKind)
     → IsTrue (valid p) → Leads p found kind → LeadsOn p (onward p found) kind
@@ -98,4 +106,37 @@ edit_reaches p edit kind after s v e = by (kind_in p.tables p.tokens p.content p
         sym (ap is_some (unmoving p s (facts p v) edit h)) ∙ ap is_some e in cc
     by (Some j) h = found j h (edit_kind p.tables p.tokens p.content edit) refl
 
--- ---- how many insertions stand
+-- ---- by the machine of the tables
+
+shown_alike : (p : Place) (found : Option (StepKind × Configuration))
+    → ((kind : StepKind) (after : Configuration) → found ≡ Some (kind, after)
+    → after ≡ configuration_of (place_after kind p)) → option_map step_view (onward p found) ≡ found
+shown_alike p None h = refl
+shown_alike p (Some step) h =
+    ap (λ (c : Configuration). let o : Option (StepKind × Configuration) = Some (step.0, c) in
+    o) (sym (h step.0 step.1 refl))
+
+on_ground : (p : Place) (found : Option (StepKind × Configuration)) (kind : StepKind) (after : Place)
+    → onward p found ≡ Some (kind, after) → KeepsGround p (kind, after)
+on_ground p None kind after e = let bad : false ≡ true = ap is_some e in cc
+on_ground p (Some step) kind after e =
+    let same : place_after step.0 p ≡ after =
+    ap (λ (o : Option (StepKind × Place)). (unwrap_or o (kind, p)).1) e in (
+      ap (λ (q : Place). q.tables) (sym same),
+      ap (λ (q : Place). q.tokens) (sym same),
+    )
+
+deed_on_ground : (p : Place) (deed : Deed) (kind : StepKind) (after : Place)
+    → place_deed deed p ≡ Some (kind, after) → KeepsGround p (kind, after)
+deed_on_ground p deeds.Step = on_ground p (next (machine_over p.tables) (configuration_of p))
+deed_on_ground p (deeds.Edit edit) =
+    on_ground p (edited (machine_over p.tables) edit (configuration_of p))
+
+pub goes : (p : Place) → Sound p.tables → IsTrue (valid p) → GoesByMachine p
+goes p s v = record {
+  next = shown_alike p (next (machine_over p.tables) (configuration_of p))
+      (λ kind after e. step_reaches p kind after s v e);
+  edited = λ edit. shown_alike p (edited (machine_over p.tables) edit (configuration_of p))
+      (λ kind after e. edit_reaches p edit kind after s v e);
+  ground = deed_on_ground p;
+}

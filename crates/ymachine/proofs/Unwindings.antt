@@ -1,6 +1,6 @@
 -- What every history keeps, and the derivation that an accepted one without error steps unwinds to.
 use Rattle.std.proofs.Common.{ℕ, suc, ◌≡◌, ◌≢◌, ◌<◌, Bool, true, false, if◌then◌else◌, List, []}
-use Rattle.std.proofs.Common.{◌∷◌, ◌++◌, length, reverse, refl, sym, ◌∙◌, ap, subst, append_assoc}
+use Rattle.std.proofs.Common.{◌∷◌, ◌++◌, length, take, drop, reverse, refl, sym, ◌∙◌, ap, subst, append_assoc}
 use Rattle.std.proofs.Common.{append-nil, arith}
 use Rattle.std.specs.List.{All}
 use Rattle.std.proofs.lemmas.List.Elements.{All-head, All-tail, All-cons, All-nil}
@@ -17,7 +17,8 @@ use Rattle.ymachine.specs.Machine.{Machine, Reduce, Configuration, symbols, look
 use Rattle.ymachine.specs.Machine.{width, next, edited}
 use Rattle.ymachine.specs.Past.{LeadsTo}
 use Rattle.ymachine.specs.History.{History, IsHistory, places_from, first_configuration}
-use Rattle.ymachine.specs.Unwinding.{tokens_left, form_of, shifts_from, shifts_before, is_reduction}
+use Rattle.ymachine.specs.Unwinding.{tokens_left, form_of, shifts_from, is_reduction, Input}
+use Rattle.ymachine.specs.Unwinding.{input_after, input_by}
 use Rattle.ymachine.specs.Unwinding.{is_error_step, is_edit, NoErrors, NoEdits, forms_before}
 use Rattle.ymachine.specs.Cells.{Expects, IsSound}
 use Rattle.ymachine.specs.Rightmost.{AreInput, UnwindsRight}
@@ -55,6 +56,11 @@ unedited step = is_edit step.0 ≡ false
 pub left_of_places : (n : ℕ) (tokens : List ℕ) → tokens_left (places_from n tokens) ≡ tokens
 left_of_places n [] = refl
 left_of_places n (token ∷ tokens) = ap (λ z. token ∷ z) (left_of_places (suc n) tokens)
+
+-- the tokens that the past has shifted, and these
+abbrev shifts_before : List (StepKind × Configuration) → List ℕ → List ℕ
+shifts_before [] later = later
+shifts_before (step ∷ earlier) later = shifts_before earlier (shifts_from step.0 later)
 
 -- forms that run on to the tokens shifted
 abbrev Runs : ContextFree → List ℕ → List (StepKind × Configuration) → List ℕ → List (List ℕ)
@@ -230,7 +236,66 @@ module _ (g : ContextFree) (m : Machine) (w : WellFormed g) (s : IsSound g m) wh
   whole_kept (inserts t d i k st re mo) x y = absurd (true_false (sym (ap is_edit k) ∙ y))
   whole_kept (drops t rest d e k st re mo) x y = absurd (true_false (sym (ap is_edit k) ∙ y))
 
+  -- What a deed that is no error step makes of an input, which had the upcoming tokens: those left
+  -- are upcoming, and what was read has grown by the token shifted.
+  record Reads (i : Input) (n : Configuration) (k : StepKind) : Type 0 where
+    pub upcoming : (input_after k i).upcoming ≡ tokens_left n.rest
+    pub read : (later : List ℕ) → i.read ++ shifts_from k later ≡ (input_after k i).read ++ later
+
+  reads_same : (i : Input) (c n : Configuration) → i.upcoming ≡ tokens_left c.rest
+      → n.rest ≡ c.rest → i.upcoming ≡ tokens_left n.rest
+  reads_same i c n u re = u ∙ ap tokens_left (sym re)
+
+  reads : (i : Input) {c n : Configuration} {k : StepKind} → Stepped m c k n
+      → is_error_step k ≡ false → i.upcoming ≡ tokens_left c.rest → Reads i n k
+  reads i {n = n} (shifts t rest r h e k st re mo) x u =
+      let all = u ∙ ap tokens_left e in
+      subst (Reads i n) (sym k) (record {
+        upcoming = ap (drop 1) all ∙ ap tokens_left (sym re);
+        read = λ later. sym (ap (λ z. (i.read ++ take 1 z) ++ later) all
+            ∙ append_assoc i.read (t.0 ∷ []) later);
+      })
+  reads i {c = c} {n = n} (reduces r d h k st re mo) x u =
+      subst (Reads i n) (sym k) (record { upcoming = reads_same i c n u re; read = λ l. refl })
+  reads i {c = c} {n = n} (accepts d h k st re mo) x u =
+      subst (Reads i n) (sym k) (record { upcoming = reads_same i c n u re; read = λ l. refl })
+  reads i {c = c} {n = n} (fails k st re mo) x u =
+      subst (Reads i n) (sym k) (record { upcoming = reads_same i c n u re; read = λ l. refl })
+  reads i (detects d h k st re mo) x u = absurd (true_false (sym (ap is_error_step k) ∙ x))
+  reads i (discards t rest r h e k st re mo) x u =
+      absurd (true_false (sym (ap is_error_step k) ∙ x))
+  reads i (pops t p k st re mo) x u = absurd (true_false (sym (ap is_error_step k) ∙ x))
+  reads i (shifts_error p h k st re mo) x u = absurd (true_false (sym (ap is_error_step k) ∙ x))
+  reads i {n = n} (inserts t d h k st re mo) x u =
+      subst (Reads i n) (sym k) (record {
+        upcoming = ap (λ z. t ∷ z) u ∙ ap tokens_left (sym re);
+        read = λ later. refl;
+      })
+  reads i {n = n} (drops t rest d e k st re mo) x u =
+      subst (Reads i n) (sym k) (record {
+        upcoming = ap (drop 1) (u ∙ ap tokens_left e) ∙ ap tokens_left (sym re);
+        read = λ later. refl;
+      })
+
   module _ (first : Configuration) (empty : first.stack ≡ []) where
+    -- without error steps, the tokens that were read are those shifted, and those left are upcoming
+    record AllRead (now : Configuration) (earlier : List (StepKind × Configuration)) : Type 0 where
+      pub upcoming : (input_by now earlier).upcoming ≡ tokens_left now.rest
+      pub read : (later : List ℕ) → shifts_before earlier later
+          ≡ (input_by now earlier).read ++ later
+
+    all_read : (now : Configuration) (earlier : List (StepKind × Configuration))
+        → LeadsTo (next m) (edited m) first now earlier → NoErrors earlier → AllRead now earlier
+    all_read now [] h x = record { upcoming = refl; read = λ later. refl }
+    all_read now (step ∷ earlier) h x =
+        let before = all_read step.1 earlier h.1 (All-tail quiet step earlier x) in
+        let one = reads (input_by step.1 earlier) (came m step.1 step.0 now h.0)
+        (All-head quiet step earlier x) before.upcoming in
+        record {
+          upcoming = one.upcoming;
+          read = λ later. before.read (shifts_from step.0 later) ∙ one.read later;
+        }
+
     -- what holds of all tokens, and of each that may be inserted, holds of those left
     pub rest_history : (P : ℕ → Type 0) → ((t : ℕ) → is_input m.tokens t ≡ true → P t)
         → (now : Configuration) (earlier : List (StepKind × Configuration))
@@ -342,11 +407,15 @@ module _ (g : ContextFree) (m : Machine) (w : WellFormed g) (s : IsSound g m) wh
       let here = left_of_places 1 tokens in
       let u = unwinds (first_configuration tokens) refl [] h.now h.earlier p x
       (subst (All (IsToken g)) (sym here) a.0) (All-nil (IsToken g)) in
-      let none = (accepted tokens h a p d).rest in (
+      let none = (accepted tokens h a p d).rest in
+      let i = input_by h.now h.earlier in
+      let all = all_read (first_configuration tokens) refl h.now h.earlier p x in (
         (
           accepted_form tokens h a p d,
           u.0,
-          u.1 ∙ ap (λ z. shifts_before h.earlier (tokens_left z)) (sym none),
+          u.1 ∙ (all.read []
+              ∙ ap (λ z. i.read ++ z) (sym (all.upcoming ∙ ap tokens_left none))),
         ),
-        λ y. whole (first_configuration tokens) refl h.now h.earlier p x y ∙ here,
+        λ y. ap (λ z. i.read ++ z) all.upcoming ∙ (sym (all.read (tokens_left h.now.rest))
+            ∙ (whole (first_configuration tokens) refl h.now h.earlier p x y ∙ here)),
       )

@@ -12,11 +12,12 @@ pub record LeadsOn (p : Place) (found : Option (StepKind × Place)) (kind : Step
   pub fits : IsTrue (place_fits (change_at kind p.content) (place_after kind p))
   pub valid : IsTrue (valid (place_after kind p))
 
--- The kind of what is found, or why there is none: no step follows, or else it can't be made.
+-- The kind of what is found, or why there is none: it can't be made, halted where no step follows
+-- either.
 abbrev pub Ahead : (Place → Option (StepKind × Place)) → (Place → Option (StepKind × Place))
     → Place → Result StepKind StepFault → Type 0
 Ahead next found p (Ok kind) = LeadsOn p (found p) kind
-Ahead next found p (Err Halted) = next p ≡ None
+Ahead next found p (Err Halted) = (next p ≡ None) × (found p ≡ None)
 Ahead next found p (Err NoToken) = IsSome (next p) × (found p ≡ None)
 Ahead next found p (Err Limit) = ⊥
 Ahead next found p (Err Memory) = ⊥

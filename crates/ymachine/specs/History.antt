@@ -1,6 +1,7 @@
 -- The history of a parse: its configurations from the first one on, each the next of the one before
 -- or an edit of it.
-use Rattle.std.specs.Prelude.{ℕ, suc, List, [], ◌∷◌}
+use Rattle.std.specs.Prelude.{ℕ, suc, ◌≤◌, List, [], ◌∷◌}
+use Rattle.std.specs.List.{All}
 use Rattle.ymachine.specs.declared.machine.Mode.TheVariants.{Running}
 use Rattle.ymachine.specs.declared.machine.StepKind.{StepKind}
 use Rattle.ymachine.specs.Machine.{Machine, Configuration, next, edited}
@@ -33,3 +34,8 @@ first_history tokens = first_past (first_configuration tokens)
 -- of the one before or an edit of it
 abbrev pub IsHistory : Machine → List ℕ → History → Type 0
 IsHistory m tokens h = IsPast (next m) (edited m) (first_configuration tokens) h
+
+-- the recovery counter is at most 3, now and in each configuration before
+pub record CountsToThree (h : History) : Type 0 where
+  pub now : h.now.counter ≤ 3
+  pub earlier : All (λ (step : StepKind × Configuration). step.1.counter ≤ 3) h.earlier

@@ -63,11 +63,11 @@ abbrev pub Makes : {K S : Type 0} → (S → Option (K × S)) → K → Past K S
 Makes next kind h new = Follows next h.now kind new.now × (new.earlier ≡ (kind, h.now) ∷ h.earlier)
 
 -- why a step or an edit is refused, where one function says what a step makes and the other what is
--- to be made: no step follows, or else it can't be made, or else as many stand as may, or else
--- there is no memory
+-- to be made: it can't be made, halted where no step follows either; or else as many stand as may,
+-- or else there is no memory
 abbrev pub Refuses : {K S : Type 0} → (S → Option (K × S)) → (S → Option (K × S)) → Past K S
     → StepFault → Type 0
-Refuses next made h Halted = next h.now ≡ None
+Refuses next made h Halted = (next h.now ≡ None) × (made h.now ≡ None)
 Refuses next made h NoToken = IsSome (next h.now) × (made h.now ≡ None)
 Refuses next made h Limit = IsSome (made h.now) × (most_steps ≤ position h)
 Refuses next made h Memory = IsSome (made h.now) × (position h < most_steps)

@@ -7,13 +7,14 @@ use Rattle.ymachine.specs.declared.machine.StepFault.TheVariants.{Halted, NoToke
 use Rattle.ymachine.specs.Past.{Past, Follows, Changes, most_steps}
 
 -- What a step or an edit answers and leaves, where one function says what a step makes and the
--- other what is to be made: a change that leads to it and back; or no change, where no step
--- follows, or else what is to be made can't be, or else there is no memory.
+-- other what is to be made: a change that leads to it and back; or no change, where it can't be
+-- made, halted where no step follows either, or else there is no memory.
 abbrev pub Advances : {S C K : Type 0} → (S → Option (K × S)) → (S → Option (K × S)) → (C → S → S)
     → (C → K) → (C → S → Bool) → S → Result C StepFault → S → Type 0
 Advances next made before kind fits old (Ok change) new =
     Follows made old (kind change) new × (before change new ≡ old) × IsTrue (fits change new)
-Advances next made before kind fits old (Err Halted) new = (next old ≡ None) × (new ≡ old)
+Advances next made before kind fits old (Err Halted) new =
+    (next old ≡ None) × (made old ≡ None) × (new ≡ old)
 Advances next made before kind fits old (Err NoToken) new =
     IsSome (next old) × (made old ≡ None) × (new ≡ old)
 Advances next made before kind fits old (Err Memory) new = IsSome (made old) × (new ≡ old)

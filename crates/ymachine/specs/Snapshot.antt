@@ -1,14 +1,19 @@
 -- A parser whose changes keep the whole earlier content.
 use Rattle.std.specs.Prelude.{Bool, IsTrue}
 use Rattle.ymachine.specs.declared.snapshot.SnapshotChange.{SnapshotChange}
-use Rattle.ytokens.specs.Tokens.{Fits}
+use Rattle.ytables.specs.Tables.{TablesValue as Tables}
+use Rattle.ytokens.specs.declared.tokens.Tokens.{Tokens}
+use Rattle.ytokens.specs.Tokens.{Fits, symbols_of}
+use Rattle.ymachine.specs.declared.parts.Parts.{Parts}
 use Rattle.ymachine.specs.Content.{Place, valid}
-use Rattle.ymachine.specs.Parts.{content_of}
+use Rattle.ymachine.specs.Parts.{content_of, HasRoom}
+use Rattle.ymachine.specs.Place.{place_of}
 
 -- what such a parser keeps
-pub record IsSnapshot (p : Place) : Type 0 where
-  pub input : Fits p.tables.built.grammar p.tokens
-  pub valid : IsTrue (valid p)
+pub record IsSnapshot (t : Tables) (tokens : Tokens) (parts : Parts) : Type 0 where
+  pub input : Fits t.built.grammar (symbols_of tokens)
+  pub valid : IsTrue (valid (place_of t tokens parts))
+  pub room : HasRoom parts
 
 -- what was before a change
 abbrev pub snapshot_before : SnapshotChange → Place → Place

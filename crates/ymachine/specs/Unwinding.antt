@@ -1,6 +1,6 @@
 -- The forms of a parse that is unwound, and what is written of them and of trees.
-use Rattle.std.specs.Prelude.{ℕ, Bool, true, false, ◌≡◌, List, [], ◌∷◌, ◌++◌, map, flat_map, codes}
-use Rattle.std.specs.Prelude.{decimal, if◌then◌else◌}
+use Rattle.std.specs.Prelude.{ℕ, Bool, true, false, ◌≡◌, List, [], ◌∷◌, ◌++◌, take, drop, map}
+use Rattle.std.specs.Prelude.{flat_map, codes, decimal, if◌then◌else◌}
 use Rattle.std.specs.List.{All}
 use Rattle.ymachine.specs.declared.machine.StepKind.{StepKind}
 use Rattle.ymachine.specs.declared.machine.StepKind.TheVariants as kinds
@@ -48,14 +48,36 @@ is_edit _ = false
 abbrev pub NoEdits : List (StepKind × Configuration) → Type 0
 NoEdits earlier = All (λ (step : StepKind × Configuration). is_edit step.0 ≡ false) earlier
 
--- the tokens that the past has shifted, and these
-abbrev pub shifts_before : List (StepKind × Configuration) → List ℕ → List ℕ
-shifts_before [] later = later
-shifts_before (step ∷ earlier) later = shifts_before earlier (shifts_from step.0 later)
+-- the input of a parse: the tokens that were read, and the upcoming ones
+pub record Input : Type 0 where
+  pub read : List ℕ
+  pub upcoming : List ℕ
 
--- the whole input as it stands: the tokens shifted, and the upcoming ones
+-- the first of the upcoming tokens is read
+abbrev pub read_on : Input → Input
+read_on i = record { read = i.read ++ take 1 i.upcoming; upcoming = drop 1 i.upcoming }
+
+-- what a deed makes of the input: a shift or a discard reads the first of the upcoming tokens, an
+-- insertion puts a token before them, a drop takes the first of them out
+abbrev pub input_after : StepKind → Input → Input
+input_after (kinds.Shift token) i = read_on i
+input_after (kinds.Discard token) i = read_on i
+input_after (kinds.Insert token) i = record i { upcoming = token ∷ i.upcoming }
+input_after (kinds.Drop token) i = record i { upcoming = drop 1 i.upcoming }
+input_after _ i = i
+
+-- the input after the deeds of the past; before the first one nothing was read
+abbrev pub input_by : Configuration → List (StepKind × Configuration) → Input
+input_by now [] = record { read = []; upcoming = tokens_left now.rest }
+input_by now (step ∷ earlier) = input_after step.0 (input_by step.1 earlier)
+
+-- all its tokens, in their order
+abbrev pub tokens_of : Input → List ℕ
+tokens_of i = i.read ++ i.upcoming
+
+-- the whole input as it stands: the tokens first read, with the edits made
 abbrev pub whole_input : History → List ℕ
-whole_input h = shifts_before h.earlier (tokens_left h.now.rest)
+whole_input h = tokens_of (input_by h.now h.earlier)
 
 -- the forms before the reductions of the past, the newest first, where these tokens are shifted
 -- later

@@ -111,10 +111,13 @@ impl<M: Reversible> Journal<M> {
         &self.changes
     }
 
-    /// The change of the newest step, where one stands.
+    /// The newest change, where one stands: of the kind of the newest step, and taken back from
+    /// the machine as it is now, it leads to what was before that step.
     pub fn last(&self) -> Option<&M::Change>
-        ensures { option_map (λ change. M.kind change.now) result
+        ensures kind { option_map (λ change. M.kind change.now) result
             ≡ option_map (λ step. step.0) (slice_get self.now.earlier 0) }
+        ensures before { option_map (λ change. M.before change.now self.now.now) result
+            ≡ option_map (λ step. step.1) (slice_get self.now.earlier 0) }
     {
         self.changes.last()
     }
@@ -128,9 +131,9 @@ impl<M: Reversible> Journal<M> {
         keep(&mut self.machine, &mut self.changes, made)
     }
 
-    /// One edit of the input. S1 where no step follows, else S4 where the edit can't be made, else
-    /// S2 where 1,000,000 steps and edits stand, else S3 where a growth is refused. An `Err`
-    /// changes nothing.
+    /// One edit of the input. S1 or S4 exactly where the edit can't be made, S1 where no step
+    /// follows either; else S2 where 1,000,000 steps and edits stand, else S3 where a growth is
+    /// refused. An `Err` changes nothing.
     pub fn edit(&mut self, edit: M::Edit) -> Result<(), StepFault>
         ensures { StepsOn M.next (M.edited edit) self.old result self.new }
     {

@@ -8,7 +8,7 @@ ghost use Rattle.ymachine.specs.Content.{first_content};
 ghost use Rattle.ymachine.specs.Content.{content_before, without_entry, one_back, change_at};
 ghost use Rattle.ymachine.specs.Content.{taken_by};
 ghost use Rattle.ymachine.specs.declared.machine.StepKind.TheVariants as kinds;
-ghost use Rattle.ymachine.specs.Parts.{content_of, HasRoomFor, KeepsRoom};
+ghost use Rattle.ymachine.specs.Parts.{content_of, HasRoom, HasRoomFor, KeepsRoom};
 
 use crate::machine::{Mode, StepKind};
 use crate::rest::{self, Remaining};
@@ -93,6 +93,7 @@ pub(crate) fn make_room(
     walk: &mut Vec<Frame>,
     count: usize,
 ) -> Result<(), AllocError>
+    requires room { HasRoom parts.old }
     requires stack { vec_len parts.old.stack ≤ parts.old.steps }
     requires inserted { vec_len parts.old.rest.inserted ≤ parts.old.rest.edits }
     ensures content { content_of parts.new ≡ content_of parts.old }
@@ -102,7 +103,7 @@ pub(crate) fn make_room(
     ensures walk { OnOk result (parts.new.steps + 2 ≤ vec_capacity walk.new) }
     ensures walk_kept { vec_capacity walk.old ≤ vec_capacity walk.new }
 {
-    let wanted = parts.steps.checked_add(2).ok_or(AllocError)?;
+    let wanted = parts.steps + 2;
     walk.reserve(wanted)?;
     rest::make_room(&mut parts.rest)?;
     parts.stack.reserve(wanted - parts.stack.len())?;

@@ -11,6 +11,7 @@ ghost use Rattle.ymachine.specs.Place.{IsKept};
 ghost use Rattle.ymachine.specs.Reversible.{Advances};
 ghost use Rattle.ymachine.specs.Rightmost.{UnwindsRight};
 ghost use Rattle.ymachine.specs.declared.machine.StepKind.{StepKind as Kind};
+ghost use Rattle.ymachine.specs.Shown.{GoesByMachine};
 ghost use Rattle.ymachine.specs.Spelling.{Spells};
 ghost use Rattle.ytokens.specs.Symbols.{is_input};
 ghost use Rattle.ytokens.specs.Tokens.{Fits, symbols_of};
@@ -146,6 +147,14 @@ impl PlaceParser {
     pub fn unwinds(&self)
         ensures { (h : History) → UnwindsRight self.now.tables.built.grammar.bare
             (machine_over self.now.tables) self.now.tokens h }
+    {
+        known(&self.tables);
+        let _ = &self.tokens;
+    }
+
+    /// That its steps and edits are those of the machine of its tables. The call does nothing.
+    pub fn goes(&self)
+        ensures { GoesByMachine self.now }
     {
         known(&self.tables);
         let _ = &self.tokens;

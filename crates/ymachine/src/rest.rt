@@ -121,13 +121,13 @@ pub(crate) fn give_back(rest: &mut Remaining, place: usize, token: Sym)
 
 /// Room for one insertion more, while all those that stand can be given back.
 pub(crate) fn make_room(rest: &mut Remaining) -> Result<(), AllocError>
-    requires { vec_len rest.old.inserted ≤ rest.old.edits }
+    requires few { vec_len rest.old.inserted ≤ rest.old.edits }
+    requires edits { rest.old.edits < 2 ^ 63 }
     ensures rest { rest_in rest.new ≡ rest_in rest.old }
     ensures capacity { vec_capacity rest.old.inserted ≤ vec_capacity rest.new.inserted }
     ensures room { OnOk result (rest.new.edits < vec_capacity rest.new.inserted) }
 {
-    let wanted = rest.edits.checked_add(1).ok_or(AllocError)?;
-    rest.inserted.reserve(wanted - rest.inserted.len())
+    rest.inserted.reserve(rest.edits + 1 - rest.inserted.len())
 }
 
 /// A token comes first.

@@ -41,8 +41,8 @@ pub trait Reversible {
     fn advance(&mut self) -> Result<Self::Change, StepFault>
         ensures advances { Advances next next before kind fits self.old result self.new };
 
-    /// An edit. S1 exactly where no step follows, else S4 exactly where the edit can't be made; S3
-    /// where a growth is refused; never S2. An `Err` changes nothing.
+    /// An edit. S1 or S4 exactly where the edit can't be made: S1 where no step follows either,
+    /// else S4; S3 where a growth is refused; never S2. An `Err` changes nothing.
     fn edit(&mut self, edit: Self::Edit) -> Result<Self::Change, StepFault>
         ensures edits { Advances next (edited edit) before kind fits self.old result self.new };
 

@@ -4,9 +4,9 @@ ghost use Rattle.std.specs.Prelude.{◌≡◌, ◌≤◌, ◌+◌, IsTrue, IfOk,
 ghost use Rattle.ymachine.specs.Ahead.{LeadsOn};
 ghost use Rattle.ymachine.specs.Content.{Place, configuration_of, first_place, place_after};
 ghost use Rattle.ymachine.specs.Content.{place_next, valid};
-ghost use Rattle.ymachine.specs.Parts.{content_of, HasRoomFor};
+ghost use Rattle.ymachine.specs.Parts.{content_of, HasRoom, HasRoomFor};
 ghost use Rattle.ymachine.specs.Reversible.{Advances};
-ghost use Rattle.ymachine.specs.Snapshot.{snapshot_before, snapshot_fits};
+ghost use Rattle.ymachine.specs.Shown.{GoesByMachine};
 ghost use Rattle.ymachine.specs.View.{configuration_by};
 ghost use Rattle.ytokens.specs.Tokens.{Fits, symbols_of};
 ghost use Rattle.ymachine.specs.declared.machine.StepKind.{StepKind as Kind};
@@ -16,6 +16,7 @@ use crate::machine::{Edit, StepFault, StepKind};
 use crate::parts::{Parts, children_of, make};
 use crate::rest;
 use crate::reversible::Reversible;
+use crate::tables::known;
 use crate::view::View;
 use std::alloc::{AllocError, Global};
 use std::marker::Model;
@@ -28,6 +29,7 @@ use ytokens::tokens::Tokens;
 pub struct SnapshotChange {
     pub kind: StepKind,
     pub(crate) earlier: Parts,
+    ghost room: { HasRoom earlier },
 }
 
 /// A parse of some tokens by some tables, as it is now. A step is made on a copy, and leaves what
@@ -49,7 +51,7 @@ impl Model for SnapshotParser {
 
     ghost view = { λ p. place_of p.tables p.tokens p.parts };
 
-    ghost invariant = { λ p. IsSnapshot (place_of p.tables p.tokens p.parts) };
+    ghost invariant = { λ p. IsSnapshot p.tables p.tokens p.parts };
 }
 
 /// A copy of what a parse holds.
@@ -70,6 +72,7 @@ fn copy_of(parts: &Parts) -> Result<Parts, AllocError>
 
 /// A copy with room for one step more, which takes so many children.
 fn roomy_copy(parts: &Parts, count: usize) -> Result<Parts, AllocError>
+    requires room { HasRoom parts.now }
     requires stack { vec_len parts.now.stack ≤ parts.now.steps }
     requires inserted { vec_len parts.now.rest.inserted ≤ parts.now.rest.edits }
     ensures content { IfOk result (λ copy. content_of copy ≡ content_of parts.now) }
@@ -77,7 +80,7 @@ fn roomy_copy(parts: &Parts, count: usize) -> Result<Parts, AllocError>
     ensures steps { IfOk result (λ copy. copy.steps + 2 ≤ vec_capacity copy.stack) }
 {
     let mut copy = copy_of(parts)?;
-    let wanted = copy.steps.checked_add(2).ok_or(AllocError)? - copy.stack.len();
+    let wanted = copy.steps + 2 - copy.stack.len();
     rest::make_room(&mut copy.rest)?;
     copy.stack.reserve(wanted)?;
     copy.nodes.reserve(1)?;
@@ -86,6 +89,8 @@ fn roomy_copy(parts: &Parts, count: usize) -> Result<Parts, AllocError>
 }
 
 impl SnapshotParser {
+    ghost use Rattle.ymachine.specs.Snapshot.{snapshot_before, snapshot_fits};
+
     /// The first configuration. It takes no memory.
     pub fn new(alloc: Global, tables: Tables, tokens: Tokens) -> SnapshotParser
         requires { Fits tables.built.grammar (symbols_of tokens) }
@@ -104,6 +109,14 @@ impl SnapshotParser {
         ensures { configuration_by result ≡ configuration_of self.now }
     {
         View::new(&self.parts, &self.tokens.symbols)
+    }
+
+    /// That its steps and edits are those of the machine of its tables. The call does nothing.
+    pub fn goes(&self)
+        ensures { GoesByMachine self.now }
+    {
+        known(&self.tables);
+        let _ = &self.tokens;
     }
 
     /// Makes on a copy a step or an edit of this kind, which leads on, and keeps what was before.

@@ -1,15 +1,16 @@
 -- How the lines of forms join, and what unwinding leaves.
-use Rattle.std.proofs.Common.{ℕ, zero, suc, ◌≡◌, ◌<◌, ◌+◌, if◌then◌else◌, Bool, true, false, List}
+use Rattle.std.proofs.Common.{ℕ, zero, suc, ◌≡◌, ◌≢◌, ◌<◌, ◌+◌, if◌then◌else◌, Bool, true, false, List}
 use Rattle.std.proofs.Common.{[], ◌∷◌, ◌++◌, length, take, map, flat_map, reverse, get_or, refl}
 use Rattle.std.proofs.Common.{sym, ◌∙◌, ap, subst, append_assoc, append-nil, arith, Option, Some}
 use Rattle.std.proofs.Common.{None, is_some}
 use Rattle.std.specs.List.{All}
-use Rattle.std.specs.Io.KnownBytes.{Appends}
-use Rattle.std.proofs.KnownBytes.{Appends-trans}
+use Rattle.std.specs.Io.KnownBytes.{Keeps, Appends}
+use Rattle.std.proofs.KnownBytes.{Appends-trans, Appends-kept}
 use Rattle.ylink.specs.declared.link.Link.{Link}
 use Rattle.ylink.specs.Sends.{Begins, Sends}
 use Rattle.ylink.proofs.Sent.{Begins-more, flat_map-append, Sends-none, Sends-stop, Sends-then}
 use Rattle.ymachine.specs.declared.machine.StepKind.{StepKind}
+use Rattle.ymachine.specs.declared.machine.StepKind.TheVariants as kinds
 use Rattle.ymachine.specs.declared.parts.PlaceChange.{PlaceChange}
 use Rattle.ymachine.specs.Machine.{Machine, Configuration}
 use Rattle.ymachine.specs.Past.{Past, back_by, back_from, LeadsTo, first_past}
@@ -22,7 +23,7 @@ use Rattle.ymachine.specs.Unwinding.{forms_text}
 use Rattle.std.proofs.lemmas.List.Elements.{All-append, All-cons, All-map, All-nil}
 use Rattle.std.proofs.lemmas.List.{get_or-map, reverse-reverse, reverse-append}
 use Rattle.ymachine.proofs.Shown.{length-map}
-use Rattle.yparse.specs.Unwound.{gap, Stops, GoesBack}
+use Rattle.yparse.specs.Unwound.{gap, Cuts, IsAtForm, Stops, GoesBack}
 
 -- ---- names with one space between
 
@@ -121,10 +122,10 @@ forms-other kind later mid new e r =
 -- where the link fails at the line of a form
 pub stops : (a b c : Option (List ℕ)) (m : Machine) (h new : History) (steps : ℕ)
     (before : List (List ℕ)) (later : List ℕ) → new ≡ back_by steps h
-    → forms_of h ≡ before ++ forms_from later new
-    → Appends a b (flat_map (form_line m) before) → Begins b c (form_line m (form_of new.now later))
+    → forms_of h ≡ before ++ forms_from later new → IsAtForm h steps
+    → Appends a b (flat_map (form_line m) before) → Cuts b c (form_line m (form_of new.now later))
     → Stops a c m h new
-stops a b c m h new steps before later l f p q =
+stops a b c m h new steps before later l f at p q =
     let lines = flat_map (form_line m) before in
     let form = form_line m (form_of new.now later) in
     let written : Appends a c (lines ++ q.front) = Appends-trans a b c lines q.front p q.written in
@@ -142,15 +143,68 @@ stops a b c m h new steps before later l f p q =
     record {
       steps = steps;
       left = l;
+      at = at;
       before = before;
       later = later;
       forms = f;
       front = q.front;
       back = q.back;
       line = q.parts;
+      short = q.short;
       written = written;
       begins = subst (λ (t : List ℕ). Begins a c t) (sym whole) (Begins-more a c _ after sent);
     }
+
+-- a line whose names were cut
+pub cut_in_names : (a b : Option (List ℕ)) (names end : List ℕ) → end ≢ [] → Begins a b names
+    → Cuts a b (names ++ end)
+cut_in_names a b names end some p = record {
+  front = p.front;
+  back = p.back ++ end;
+  parts = ap (λ l. l ++ end) p.parts ∙ append_assoc p.front p.back end;
+  short = λ none. some (nothing_after p.back end none);
+  written = p.written;
+}
+  where
+    nothing_after : (xs ys : List ℕ) → xs ++ ys ≡ [] → ys ≡ []
+    nothing_after [] ys e = e
+    nothing_after (x ∷ xs) ys e = cc
+
+-- a line of which all but its end was written
+pub cut_at_end : (a b c : Option (List ℕ)) (names end : List ℕ) → end ≢ [] → Appends a b names
+    → Keeps b c → Cuts a c (names ++ end)
+cut_at_end a b c names end some p k = record {
+  front = names;
+  back = end;
+  parts = refl;
+  short = some;
+  written = Appends-kept a b c names p k;
+}
+
+-- an undo that took a reduction back leaves a form to be written
+pub at_form : (h mid new : History) (n : ℕ) (kind : StepKind) → mid ≡ back_by n h
+    → new ≡ back_by (suc n) h → mid.earlier ≡ (kind, new.now) ∷ new.earlier
+    → is_reduction kind ≡ true → IsAtForm h (suc n)
+at_form h mid new n kind e f u r =
+    let found = a_reduction kind r in (
+      found.0,
+      subst (λ (p : History). (back_by n h).earlier ≡ (kinds.Reduce found.0, p.now) ∷ p.earlier) f
+          (subst (λ (k : StepKind). (back_by n h).earlier ≡ (k, new.now) ∷ new.earlier) found.1
+          (subst (λ (p : History). p.earlier ≡ (kind, new.now) ∷ new.earlier) e u)),
+    )
+  where
+    a_reduction : (kind : StepKind) → is_reduction kind ≡ true
+        → (rule : ℕ) × (kind ≡ kinds.Reduce rule)
+    a_reduction (kinds.Reduce rule) r = (rule, refl)
+    a_reduction (kinds.Shift t) r = cc
+    a_reduction kinds.Accept r = cc
+    a_reduction kinds.Detect r = cc
+    a_reduction (kinds.Pop t) r = cc
+    a_reduction kinds.ShiftError r = cc
+    a_reduction (kinds.Discard t) r = cc
+    a_reduction kinds.Fail r = cc
+    a_reduction (kinds.Insert t) r = cc
+    a_reduction (kinds.Drop t) r = cc
 
 -- an answer that is none comes of a link that failed
 pub goes_back-none : {X : Type 0} (a c : Option (List ℕ)) (m : Machine) (h new : History)

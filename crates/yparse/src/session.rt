@@ -75,7 +75,7 @@ impl Session {
     ghost use Rattle.std.specs.Prelude.{IfSome};
     ghost use Rattle.ymachine.specs.Machine.{next, edited, deed_by};
     ghost use Rattle.ymachine.specs.Past.{Steps, Changes, Undoes, position, most_steps};
-    ghost use Rattle.ymachine.specs.History.{first_history};
+    ghost use Rattle.ymachine.specs.History.{CountsToThree, first_history};
     ghost use Rattle.ymachine.specs.Headline.{IsMachineOf};
     ghost use Rattle.ymachine.specs.History.{History};
     ghost use Rattle.ymachine.specs.Rightmost.{UnwindsRight};
@@ -186,12 +186,14 @@ impl Session {
     }
 
     /// How many steps and edits stand, 0 to 1,000,000. Each configuration is the next of the one
-    /// before it or an edit of it, from the first one on.
+    /// before it or an edit of it, from the first one on; the recovery counter of each is at most
+    /// 3.
     pub fn position(&self) -> usize
         ensures position { result ≡ position (history_of self.now) }
         ensures few { result ≤ most_steps }
         ensures history { ∥ IsHistory (machine_of self.now) (tokens_of self.now)
             (history_of self.now) ∥₁ }
+        ensures counters { CountsToThree (history_of self.now) }
     {
         self.journal.position()
     }

@@ -3,7 +3,8 @@
 ghost use Rattle.std.specs.Prelude.{◌≡◌, ◌↔◌, ◌++◌, ◌+◌, ◌<◌, ◌≤◌, [], All, IsTrue, IfOk, false};
 ghost use Rattle.std.specs.Prelude.{true};
 ghost use Rattle.std.specs.Prelude.{length, slice_index, vec_len, vec_capacity};
-ghost use Rattle.std.specs.Prelude.{is_some, if◌then◌else◌};
+ghost use Rattle.std.specs.Prelude.{is_some, codes, if◌then◌else◌};
+ghost use Rattle.std.specs.Io.KnownBytes.{Keeps};
 ghost use Rattle.ylink.specs.Link.{device_of, has_failed};
 ghost use Rattle.ylink.specs.Sends.{Sends};
 ghost use Rattle.yparse.specs.Session.{setting_of, machine_of, history_of, tokens_of, grammar_of};
@@ -12,7 +13,7 @@ ghost use Rattle.ymachine.specs.Unwinding.{NoErrors, form_line, form_of, forms_o
 ghost use Rattle.ymachine.specs.Unwinding.{is_error_step, whole_input};
 ghost use Rattle.ymachine.specs.Past.{position};
 ghost use Rattle.ymachine.specs.Unwinding.{is_reduction, names_text};
-ghost use Rattle.yparse.specs.Unwound.{GoesBack, Unwinds, gap, is_write};
+ghost use Rattle.yparse.specs.Unwound.{Cuts, GoesBack, Unwinds, gap, is_write};
 
 use crate::session::Session;
 use std::io::Write;
@@ -82,14 +83,28 @@ fn put_names<W: Write>(session: &Session, link: &mut Link<W>) -> Option<()>
     Some(())
 }
 
-/// The line of the form that stands now.
+/// The end of a line, in one call of the link; where that fails nothing is written.
+fn put_end<W: Write>(link: &mut Link<W>) -> Option<()>
+    ensures sends { Sends W.contents link.old link.new (is_some result) (codes "\n") }
+    ensures kept { is_some result ≡ false
+        → Keeps (W.contents (device_of link.old)) (W.contents (device_of link.new)) }
+{
+    link.write(b"\n")?;
+    Some(())
+}
+
+/// The line of the form that stands now. Where the link fails, its end is missing.
 fn put_form<W: Write>(session: &Session, link: &mut Link<W>) -> Option<()>
-    ensures { Sends W.contents link.old link.new (is_some result)
+    ensures sends { Sends W.contents link.old link.new (is_some result)
+        (form_line (machine_of session.now)
+        (form_of (history_of session.now).now (later_of session.now))) }
+    ensures cut { is_some result ≡ false
+        → Cuts (W.contents (device_of link.old)) (W.contents (device_of link.new))
         (form_line (machine_of session.now)
         (form_of (history_of session.now).now (later_of session.now))) }
 {
     put_names(session, link)?;
-    put(link, b"\n")
+    put_end(link)
 }
 
 /// The forms from the one that stands now back to the first, each after the undo that restores it.
@@ -224,7 +239,7 @@ impl Session {
     ///
     /// U1 where the parse isn't accepted, else U2 where an error step was made, both changing
     /// nothing; U3 exactly where the link failed, at the configuration whose form was being
-    /// written. It takes no memory.
+    /// written, with a beginning of its line written that lacks the end. It takes no memory.
     pub fn unwind<W: Write>(&mut self, link: &mut Link<W>) -> Result<(), UnwindFault>
         ensures unwinds { Unwinds (W.contents (device_of link.old))
             (W.contents (device_of link.new)) (machine_of self.old) (history_of self.old) result

@@ -65,9 +65,13 @@ rules_by test items = map (λ (i : Item). i.rule) (filter test items)
 abbrev pub class_at : GrammarValue → Option Precedence → ℕ → Class
 class_at v level r = class_of level (slice_index_or v.rule_precedences r None)
 
+-- the precedence of a token; the end has none
+abbrev pub level_of : GrammarValue → ℕ → Option Precedence
+level_of v t = if nat_eq t end_token then None else slice_index_or v.token_precedences t None
+
 -- rule r against the shift of token t
 abbrev pub class_in : GrammarValue → ℕ → ℕ → Class
-class_in v t = class_at v (slice_index_or v.token_precedences t None)
+class_in v t = class_at v (level_of v t)
 
 -- The cell of the state with these items at the token t, by the gotos from the state and the
 -- lookaheads of its items.

@@ -9,7 +9,7 @@ ghost use Rattle.ylalr.specs.Collection.{Guide, IsGuide, bare_of, state_of, goto
 ghost use Rattle.ytables.specs.Cell.{common, is_filled};
 ghost use Rattle.ytables.specs.Rows.{InGrammar, IsRowTo, IsRow, most_in_row};
 ghost use Rattle.ytables.specs.Tables.{after_dot, is_ready, has_before, ready_in, class_at};
-ghost use Rattle.ytables.specs.Tables.{rules_by, shift_of, cell_in};
+ghost use Rattle.ytables.specs.Tables.{rules_by, shift_of, level_of, cell_in};
 ghost use Rattle.ytables.specs.Tally.{IsTally};
 
 use crate::cell::{Action, Cell, Tally};
@@ -137,6 +137,19 @@ fn shift_at(automaton: &Automaton, q: usize, t: Sym) -> Action
     }
 }
 
+/// The precedence of a token; the end has none.
+fn level_of(grammar: &Grammar, t: Sym) -> Option<Precedence>
+    requires { t < grammar.now.bare.tokens }
+    ensures { result ≡ level_of grammar.now t }
+{
+    let _well_formed = grammar.symbols();
+    if t == END {
+        None
+    } else {
+        grammar.precedence(t)
+    }
+}
+
 /// The cell of a state and a token, by a list of items that has its complete ones.
 fn cell_at(automaton: &Automaton, q: usize, t: Sym, shifts: bool, items: &[Item]) -> Cell
     requires state { q < length automaton.now.states }
@@ -152,7 +165,7 @@ fn cell_at(automaton: &Automaton, q: usize, t: Sym, shifts: bool, items: &[Item]
     let grammar = automaton.grammar();
     let _well_formed = grammar.symbols();
     if shifts {
-        let tally = tally_at(automaton, q, t, grammar.precedence(t), items);
+        let tally = tally_at(automaton, q, t, level_of(grammar, t), items);
         return tally.settle(Some(shift_at(automaton, q, t)));
     }
     tally_at(automaton, q, t, None, items).settle(None)

@@ -1,13 +1,16 @@
-use Rattle.std.proofs.Common.{Some, sym, ap, ◌∙◌}
+use Rattle.std.proofs.Common.{Some, None, sym, ap, ◌∙◌}
 use Rattle.std.specs.Prelude.{is_some}
 use Rattle.ymachine.specs.Place.{place_of}
-use Rattle.ymachine.proofs.Places.{KindIs, advanced, changed, halted, refused}
+use Rattle.ymachine.proofs.Places.{KindIs, advanced, changed, halted, halted_edit, refused}
 use Rattle.ymachine.proofs.kinds.edit_ahead.Goals as goal
 
 pub returns-in-None : goal.returns-in-None
 returns-in-None c =
-    halted (place_of c.args.tables.now c.args.tokens.now c.args.parts.now) c.known.ensures.sound
-    c.requires (sym c.next_kind.ensures ∙ c.in-None.is)
+    let p = place_of c.args.tables.now c.args.tokens.now c.args.parts.now in
+    let k : KindIs p None = sym c.next_kind.ensures ∙ c.in-None.is in (
+      halted p c.known.ensures.sound c.requires k,
+      halted_edit p c.args.edit c.known.ensures.sound c.requires k,
+    )
 
 pub returns-in-Some-edit_kind : goal.returns-in-Some-edit_kind
 returns-in-Some-edit_kind c =

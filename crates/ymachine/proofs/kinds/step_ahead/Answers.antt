@@ -10,5 +10,6 @@ returns-in-Some c =
 
 pub returns-in-None : goal.returns-in-None
 returns-in-None c =
-    halted (place_of c.args.tables.now c.args.tokens.now c.args.parts.now) c.known.ensures.sound
-    c.requires (sym c.next_kind.ensures ∙ c.in-None.is)
+    let none = halted (place_of c.args.tables.now c.args.tokens.now c.args.parts.now)
+    c.known.ensures.sound c.requires (sym c.next_kind.ensures ∙ c.in-None.is) in
+    (none, none)

@@ -1,9 +1,9 @@
-use Rattle.std.proofs.Common.{ℕ, suc, ◌≡◌, ◌+◌, ◌++◌, ◌∷◌, [], List, true, false, length, flat_map}
+use Rattle.std.proofs.Common.{ℕ, suc, ◌≡◌, ◌+◌, ◌++◌, ◌∷◌, [], List, true, length, flat_map}
 use Rattle.std.proofs.Common.{refl, ap, sym, subst, ◌∙◌, append_assoc, append-nil, arith, Option}
 use Rattle.std.specs.Io.KnownBytes.{Appends}
 use Rattle.std.proofs.KnownBytes.{Appends-nil}
 use Rattle.ylink.specs.Link.{device_of}
-use Rattle.ylink.specs.Sends.{Sends, Begins}
+use Rattle.ylink.specs.Sends.{Sends}
 use Rattle.ylink.proofs.Sent.{Sends-then}
 use Rattle.ymachine.specs.Machine.{Machine}
 use Rattle.ymachine.specs.Past.{position, back_by}
@@ -12,7 +12,8 @@ use Rattle.yparse.specs.Session.{Setting, setting_of, machine_of, history_of, la
 use Rattle.ymachine.specs.Unwinding.{form_of, forms_from, forms_of, forms_before}
 use Rattle.ymachine.specs.Unwinding.{form_line, is_reduction}
 use Rattle.yparse.proofs.Unwound.{undone-next, forms-reduction, forms-other, stops, goes_back-none}
-use Rattle.yparse.proofs.Unwound.{lines-push}
+use Rattle.yparse.proofs.Unwound.{lines-push, at_form}
+use Rattle.yparse.specs.Unwound.{Cuts}
 use Rattle.yparse.proofs.unwind.put_forms.Given.{Over}
 use Rattle.yparse.proofs.unwind.put_forms.Goals.{In-Ok}
 use Rattle.yparse.proofs.unwind.put_forms.Goals as goal
@@ -61,9 +62,9 @@ returns-in_err-put_form-clause-forms g c =
     let a : Option (List ℕ) = w (device_of c.args.link.now) in
     let known : Option (List ℕ) = w (device_of c.put_form.new.link) in
     goes_back-none a known m h h c.from_residual.result c.from_residual.ensures
-    (stops a a known m h h 0 [] [] refl refl (Appends-nil a)
-    (subst (λ (later : List ℕ). Begins a known (form_line m (form_of h.now later))) c.requires
-    c.in_err-put_form.ensures.bytes))
+    (stops a a known m h h 0 [] [] refl refl tt (Appends-nil a)
+    (subst (λ (later : List ℕ). Cuts a known (form_line m (form_of h.now later))) c.requires
+    (c.in_err-put_form.ensures.cut refl)))
 
 pub loop-kind-init : goal.loop-kind-init
 loop-kind-init g c =
@@ -82,7 +83,7 @@ loop-kind-init g c =
           subst (λ (t : List ℕ). Sends w c.args.link.now c.put_form.new.link true t)
           (sym (append-nil (form_line m (form_of h.now []))))
           (subst (λ (later : List ℕ). Sends w c.args.link.now c.put_form.new.link true
-          (form_line m (form_of h.now later))) c.requires c.in_ok-put_form.ensures);
+          (form_line m (form_of h.now later))) c.requires c.in_ok-put_form.ensures.sends);
     }
 
 pub loop-kind-preserved-in-Continue-branch-2 : goal.loop-kind-preserved-in-Continue-branch-2
@@ -96,7 +97,7 @@ loop-kind-preserved-in-Continue-branch-2 g c =
     let one = sym c.is_reduction.ensures ∙ c.if-is_reduction.true in
     let line = subst (λ (s : Setting). Sends w c.loop-kind.link
     c.put_form-then-is_reduction.new.link true (form_line s.machine (form_of new.now later)))
-    (stays g here) c.in_ok-put_form-in-Ok.ensures in
+    (stays g here) c.in_ok-put_form-in-Ok.ensures.sends in
     record {
       setting = stays g here;
       steps = suc inv.steps;
@@ -124,13 +125,16 @@ returns-in_err-put_form-in-Ok-clause-forms g c =
     let one = sym c.is_reduction.ensures ∙ c.if-is_reduction.true in
     let a : Option (List ℕ) = w (device_of c.args.link.now) in
     let known : Option (List ℕ) = w (device_of c.put_form-then-is_reduction.new.link) in
-    let cut = subst (λ (s : Setting). Sends w c.loop-kind.link
-    c.put_form-then-is_reduction.new.link false (form_line s.machine (form_of new.now later)))
-    (stays g here) c.in_err-put_form-in-Ok.ensures in
+    let between : Option (List ℕ) = w (device_of c.loop-kind.link) in
+    let cut = subst (λ (s : Setting). Cuts between known
+    (form_line s.machine (form_of new.now later)))
+    (stays g here) (c.in_err-put_form-in-Ok.ensures.cut refl) in
+    let at = at_form h (history_of c.loop-kind.session) new inv.steps c.in-Ok.kind inv.left
+    (further g here) c.in-Ok.ensures.undoes one in
     goes_back-none a known m h new c.from_residual-in_err-put_form-in-Ok.result
     c.from_residual-in_err-put_form-in-Ok.ensures
-    (stops a (w (device_of c.loop-kind.link)) known m h new (suc inv.steps) inv.before later
-    (further g here) (restored g here one) inv.sent.bytes cut.bytes)
+    (stops a between known m h new (suc inv.steps) inv.before later (further g here)
+    (restored g here one) at inv.sent.bytes cut)
 
 pub loop-kind-preserved : goal.loop-kind-preserved
 loop-kind-preserved g c =

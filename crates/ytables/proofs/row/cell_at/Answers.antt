@@ -1,8 +1,9 @@
-use Rattle.std.proofs.Common.{◌≡◌, Some, None, sym, ap, ◌∙◌, subst, if◌then◌else◌, get_or}
+use Rattle.std.proofs.Common.{◌≡◌, Some, None, sym, ap, ◌∙◌, subst, if◌then◌else◌}
 use Rattle.ylalr.specs.declared.items.Item.{Item}
 use Rattle.ysymbols.specs.Grammar.{GrammarValue}
 use Rattle.ytables.specs.Cell.{cell_of}
-use Rattle.ytables.specs.Tables.{class_in, class_at, rules_by, ready_in, has_before, shift_of}
+use Rattle.ytables.specs.Tables.{class_in, class_at, level_of, rules_by, ready_in, has_before}
+use Rattle.ytables.specs.Tables.{shift_of}
 use Rattle.ytables.specs.Tally.{IsTally}
 use Rattle.ytables.proofs.RowSteps.{rules_ready}
 use Rattle.ytables.proofs.TallySteps.{settled_some, settled_none}
@@ -15,14 +16,13 @@ returns-then-shifts-clause-cell c = λ u h.
     let v = m.grammar in
     let class = class_in v c.args.t in
     let test = λ (i : Item). u.looks c.args.q i c.args.t in
-    let level : c.precedence.result ≡ get_or v.token_precedences c.args.t None =
-    c.precedence.ensures ∙ ap (λ (g : GrammarValue). get_or g.token_precedences c.args.t
-    None) c.grammar-grammar.ensures in
+    let level : c.level_of.result ≡ level_of v c.args.t =
+    c.level_of.ensures ∙ ap (λ (g : GrammarValue). level_of g c.args.t) c.grammar-grammar.ensures in
     let tally : IsTally class (rules_by test (ready_in v.bare (state_of m c.args.q)))
     c.tally_at-tally.result =
     subst (λ o. IsTally (class_at v o) (rules_by test (ready_in v.bare (state_of m c.args.q)))
     c.tally_at-tally.result) level
-    (subst (λ rs. IsTally (class_at v c.precedence.result) rs c.tally_at-tally.result)
+    (subst (λ rs. IsTally (class_at v c.level_of.result) rs c.tally_at-tally.result)
     (rules_ready v.bare test c.args.items.now (state_of m c.args.q) c.requires.ready)
     (c.tally_at-tally.ensures.tally u h)) in
     let rules = rules_by test (ready_in v.bare (state_of m c.args.q)) in

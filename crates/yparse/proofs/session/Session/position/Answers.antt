@@ -1,0 +1,10 @@
+use Rattle.ymachine.specs.MachineOver.{machine_over}
+use Rattle.ymachine.proofs.Counters.{counted_merely}
+use Rattle.yparse.specs.Session.{setting_of, history_of}
+use Rattle.yparse.proofs.session.Session.position.Goals as goal
+
+pub returns-clause-counters : goal.returns-clause-counters
+unfolding setting_of history_of
+returns-clause-counters c =
+    let s = c.args.self.now in
+    counted_merely (machine_over s.journal.now.tables) s.journal.now.tokens (history_of s) s.steps
