@@ -23,6 +23,11 @@ impl<'a> Source<'a> {
             calls: 0,
         }
     }
+
+    /// How many calls came.
+    pub fn calls(&self) -> usize {
+        self.calls
+    }
 }
 
 impl Read for Source<'_> {

@@ -90,7 +90,10 @@ where
     };
     match tokens_from(alloc, &tables, tokens) {
         Ok(tokens) => Ok(Session::new(alloc, tables, tokens)),
-        Err(fault) => Err(fault),
+        Err(fault) => {
+            drop(tables);
+            Err(fault)
+        }
     }
 }
 

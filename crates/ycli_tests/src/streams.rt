@@ -126,6 +126,24 @@ fn a_writer_that_takes_nothing(rt: HostRuntime) {
     }
 }
 
+#[test]
+fn nothing_is_read_behind_quit(rt: HostRuntime) {
+    let (mut grammar, mut tokens) = (ONE, b"'x'".as_slice());
+    let mut reader = Link::new(Source::new(b"step\nquit\nstep\n", 1, 0));
+    let mut writer = Link::new(Sink::new(4096, Refusal::Never));
+    let answer = step_through(
+        rt.alloc(),
+        &mut grammar,
+        &mut tokens,
+        &mut reader,
+        &mut writer,
+    );
+    assert_eq!(rt; end_of(&answer), SERVED);
+    // One call for each byte up to the newline of `quit`.
+    assert_eq!(rt; reader.into_inner().calls(), 10);
+    assert_eq!(rt; writer.into_inner().text(), b"1 shift 'x'\n".as_slice());
+}
+
 /// How many whole lines the reader has given before this call, at so many bytes a call.
 fn lines_before(commands: &[u8], most: usize, call: usize) -> usize {
     let bytes = most.saturating_mul(call.saturating_sub(1));
