@@ -91,10 +91,10 @@ def compiler():
     return next((it for it in names if it and shutil.which(it)), None)
 
 
-def library_in(room):
-    """The library, built into a folder; a fault of the machine where it can't be."""
-    source, library = Path(room) / "device.c", Path(room) / "device.so"
-    source.write_text(SOURCE)
+def library_in(room, text=SOURCE):
+    """A library, built into a folder; a fault of the machine where it can't be."""
+    source, library = Path(room) / "library.c", Path(room) / "library.so"
+    source.write_text(text)
     if not compiler():
         raise OSError("there is no C compiler")
     subprocess.run([compiler(), "-shared", "-fPIC", "-o", library, source, "-ldl"], check=True)
