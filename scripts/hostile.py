@@ -4,7 +4,8 @@
     hostile.py yacc=PATH ystep=PATH
 
 Each run must leave a beginning of the usual text, the message and the status that docs/FORMATS.md
-has for it, and nothing else. The last line is `N passed, M failed`.
+has for it, and nothing else. So must files that are cut off anywhere, and files at each limit. The
+last line is `N passed, M failed`.
 """
 import os
 import subprocess
@@ -15,11 +16,13 @@ from pathlib import Path
 
 sys.dont_write_bytecode = True
 
+import beginnings
 import between
+import limits
 import strange
 from devices import library_in
 
-MODULES = (between, strange)
+MODULES = (limits, between, strange, beginnings)
 
 
 def results_of(task):
