@@ -4,14 +4,16 @@
 # make accept NAME..   keeps what comes back of these scenarios as what is wanted, and marks them unread
 # make build      proves the programs and leaves them in bin/
 # make bench      times whole runs of the programs, on growing grammars and over long parses; FILES="a.y b.y" adds grammar files to them
-# make refuse     refuses each allocation of the stepper in turn, on every example
-# make compare    compares the programs that make build left with plain machines in Python, on grammars drawn at random, for a minute, and verdicts with sessions over every scenario
-# make test       the gate: every proof from nothing, the must-fail edits, the tests, the stored runs, the scenarios
-.PHONY: demo examples scenarios accept build bench refuse compare test
+# make refuse     refuses each allocation of a run in turn, on every example and some scenarios; FILES="a.y b.y" refuses some thousands over these grammar files instead
+# make compare    compares the programs that make build left with plain machines in Python, on grammars drawn at random, for a minute, and verdicts with sessions over every scenario; FILES="a.y b.y" adds these, cut off and spoiled, with a second reader
+# make hostile    runs both programs, proved, between devices that fail and on files and streams that are no one's friends
+# make test       the gate: every proof from nothing, the must-fail edits, the tests, the stored runs, the scenarios, make hostile
+.PHONY: demo examples scenarios accept build bench refuse compare hostile test
 
 programs := $(foreach file,$(wildcard crates/*/src/main.rt),$(notdir $(file:/src/main.rt=)))
 run := python3 scenarios/run.py $(foreach name,$(programs),$(name)=crates/$(name)/out/$(name))
 both := --at scenarios --at examples
+hostile := python3 scripts/hostile.py $(foreach name,yacc ystep,$(name)=crates/$(name)/out/$(name))
 
 demo:
 	@sh examples/demo.sh statements
@@ -29,15 +31,19 @@ build:
 bench: build
 	@python3 bench/bench.py bin/yacc bin/ystep $(FILES)
 
-refuse:
-	@sh examples/refuse.sh
+refuse: build
+	@python3 scripts/refuse.py $(foreach name,$(programs),$(name)=bin/$(name)) $(FILES)
 
 compare:
 	@python3 compare/compare.py bin/yacc bin/ystep
 	@python3 compare/verdicts.py bin/verdicts bin/ystep
+	@$(if $(FILES),python3 compare/faults.py bin/ystep $(FILES),true)
+
+hostile: build
+	@$(hostile)
 
 test:
-	@python3 scripts/gate.py scripts/rings.py scenarios/kinds.py examples/trace.py -- $(run) $(both)
+	@python3 scripts/gate.py scripts/rings.py scenarios/kinds.py examples/trace.py -- $(run) $(both) -- $(hostile)
 
 # The names of scenarios stand behind `accept` as goals of their own.
 ifeq (accept,$(firstword $(MAKECMDGOALS)))

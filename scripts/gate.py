@@ -1,11 +1,11 @@
 #!/usr/bin/env python3
-"""The gate: quick checks, then `rt ci`, then every scenario with the programs that it built.
+"""The gate: quick checks, then `rt ci`, then what runs the programs that it built.
 
-    gate.py QUICK.. -- RUNNER..
+    gate.py QUICK.. -- RUNNER.. [-- RUNNER..]..
 
 Each QUICK is a script that ends with status 0 where all is well; the first that doesn't ends the
-gate. RUNNER is the command of the scenarios. The last line, `N passed, M failed`, is the sum of
-`rt ci` and the runner.
+gate. A RUNNER is a command: that of the scenarios, and that of hostile devices. The last line,
+`N passed, M failed`, is the sum of `rt ci` and the runners.
 """
 import re
 import subprocess
@@ -34,13 +34,24 @@ def counted(words):
     return passed, failed
 
 
+def parts_of(words):
+    """The parts between which `--` stands."""
+    parts = [[]]
+    for word in words:
+        if word == "--":
+            parts.append([])
+        else:
+            parts[-1].append(word)
+    return parts
+
+
 def main():
-    at = sys.argv.index("--")
-    for check in sys.argv[1:at]:
+    checks, *runners = parts_of(sys.argv[1:])
+    for check in checks:
         if subprocess.run([sys.executable, check]).returncode:
             print("0 passed, 1 failed")
             return 1
-    sums = [counted(words) for words in (["rt", "ci"], sys.argv[at + 1 :])]
+    sums = [counted(words) for words in (["rt", "ci"], *runners)]
     passed, failed = map(sum, zip(*sums))
     print(f"{passed} passed, {failed} failed")
     return 1 if failed else 0

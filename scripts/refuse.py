@@ -1,0 +1,212 @@
+#!/usr/bin/env python3
+"""Refuses one allocation of a run, each of them once: of every example, and of some scenarios.
+
+    refuse.py yacc=PATH ystep=PATH verdicts=PATH [GRAMMAR..]
+
+An allocator in front of that of C refuses the call of one number. Each run must end as usual, or
+with `no memory` and status 3, nothing on standard output and of each file a beginning. A session
+may also go on: then one step says `no memory`, and all else is as if nothing had been asked for
+there. A verdict may be `no memory`. Of each GRAMMAR, whose runs are long, the first 2,000
+allocations are refused, then every 97th, and the last 97. The last line is `N runs, M wrong`.
+"""
+import os
+import subprocess
+import sys
+import tempfile
+from collections import Counter
+from concurrent.futures import ProcessPoolExecutor
+from dataclasses import replace
+from functools import partial
+from pathlib import Path
+
+sys.dont_write_bytecode = True
+
+from cases import TOP, run, scenario, stored, wrong
+from devices import library_in
+from folders import found_below
+
+SOURCE = r"""
+#define _GNU_SOURCE
+#include <dlfcn.h>
+#include <stdio.h>
+#include <stdlib.h>
+#include <unistd.h>
+
+static long calls, refused = -1;
+static void *(*plain_malloc)(size_t), *(*plain_realloc)(void *, size_t);
+
+static int refuses(void) {
+  if (refused < 0) {
+    refused = atol(getenv("REFUSED"));
+    plain_malloc = dlsym(RTLD_NEXT, "malloc");
+    plain_realloc = dlsym(RTLD_NEXT, "realloc");
+  }
+  return ++calls == refused;
+}
+
+void *malloc(size_t size) { return refuses() ? NULL : plain_malloc(size); }
+void *realloc(void *old, size_t size) { return refuses() ? NULL : plain_realloc(old, size); }
+
+__attribute__((destructor)) static void tell(void) {
+  char text[32];
+  int length = snprintf(text, sizeof text, "%ld", calls);
+  if (write(atoi(getenv("COUNTED")), text, length) != length) _exit(99);
+}
+"""
+EVERY, STRIDE = 2_000, 97
+NO_MEMORY = b"no memory\n"
+# What no example has: messages, help, the line on conflicts, files that are there before, edits.
+OTHERS = """
+yacc/absent-grammar yacc/help yacc/no-word yacc/old-files-replaced yacc/refused-grammar
+yacc/shift-reduce-conflict ystep/absent-tokens ystep/fault-foreign-byte ystep/help ystep/no-word
+sessions/inner-action tokens/unknown-word edits/missing-operator recovery/counter
+""".split()
+
+
+def refused_at(number, it, programs, library):
+    """What comes back of a run with one allocation refused, and how many it asked for."""
+    with tempfile.TemporaryFile() as counted:
+        words = {"REFUSED": number, "COUNTED": counted.fileno(), "LD_PRELOAD": library}
+        words = {name: str(word) for name, word in words.items()}
+        made = run(it, programs, env=words, pass_fds=[counted.fileno()])
+        counted.seek(0)
+        return made, int(counted.read() or b"0")
+
+
+# How a run may end
+
+
+def is_refusal(made, it):
+    """Whether a run ended with no memory, and has left a beginning of each file, or none."""
+    message = it.words[0].encode() + b": " + NO_MEMORY
+    ended = {"stdout": b"", "message": message, "status": b"3\n"}
+    if ended != {name: made[name] for name in ended}:
+        return False
+    before = {f"left/{path}": text for path, text in it.inputs.items()}
+    files = {name: text for name, text in made.items() if name.startswith("left/")}
+    is_begun = (it.wanted.get(name, b"").startswith(text) for name, text in files.items())
+    is_left = (text == before.get(name) for name, text in files.items())
+    kept = all(files.get(name) == text for name, text in before.items() if text == it.wanted[name])
+    return kept and all(map(max, is_begun, is_left)) and before.keys() <= files.keys()
+
+
+def output(lines, it, programs):
+    """What a session replies to some lines, as usual."""
+    return run(replace(it, stdin=b"".join(lines)), programs)["stdout"].splitlines(keepends=True)
+
+
+def goes_on(made, it, programs):
+    """Whether one step of a session was refused, and the session went on from where it was."""
+    replies = made["stdout"].splitlines(keepends=True)
+    if it.words[0] != "ystep" or replies.count(NO_MEMORY) != 1:
+        return False
+    at, lines = replies.index(NO_MEMORY), it.stdin.splitlines(keepends=True)
+    before = [len(output(lines[:count], it, programs)) for count in range(len(lines) + 1)]
+    refused = next((count for count in range(len(lines)) if before[count + 1] > at), None)
+    if refused is None:
+        return False
+    steps = at - before[refused]
+    instead = [b"run %d\n" % steps] if steps else []
+    usual = output(lines[:refused] + instead + lines[refused + 1 :], it, programs)
+    whole = b"".join([*usual[:at], NO_MEMORY, *usual[at:]])
+    return not wrong(made, {**it.wanted, "stdout": whole})
+
+
+def is_verdict(made, it):
+    """Whether each line is as usual or says no memory, or there are no tables or no words."""
+    if it.words[0] != "verdicts":
+        return False
+    usual, lines = (text.splitlines() for text in (it.wanted["stdout"], made["stdout"]))
+    if made["status"] == b"0\n" and len(usual) == len(lines):
+        pairs = zip(usual, lines)
+        return all(a == b or a.split(b":")[0] + b": no memory" == b for a, b in pairs)
+    return made["message"].endswith(NO_MEMORY) and made["status"] in (b"1\n", b"3\n")
+
+
+def way_of(made, it, programs):
+    """How a run has ended, or none where it may not end so."""
+    if not wrong(made, it.wanted):
+        return "as usual"
+    if is_refusal(made, it):
+        return "end with no memory"
+    if goes_on(made, it, programs):
+        return "go on behind a step"
+    return "say no memory" if is_verdict(made, it) else None
+
+
+# What is run
+
+
+def scenarios():
+    """The examples by their names, and the other scenarios by theirs."""
+    for folder in found_below(TOP / "examples"):
+        yield folder.parent.name, stored(folder.relative_to(TOP).as_posix())
+    for name in OTHERS:
+        yield name, stored(f"scenarios/{name}")
+
+
+def with_usual(it, programs):
+    """A run over files that no scenario has, whose usual texts are those of an undisturbed run."""
+    return replace(it, wanted=run(it, programs))
+
+
+def over_file(path, programs):
+    """Both programs over a grammar file; the tokens are a sentence of it, drawn at random."""
+    words = [sys.executable, TOP / "bench" / "tokens.py", path, "60", "1"]
+    tokens = subprocess.run(words, capture_output=True, check=True).stdout
+    inputs = {"grammar.y": Path(path).read_bytes(), "tokens": tokens}
+    yield with_usual(scenario(["yacc", "-v", "grammar.y"], inputs), programs)
+    lines = b"run 50\ntree\nshow\ndrop\nback 20\nrun 900\nshow\nback 900\n"
+    yield with_usual(scenario(["ystep", "grammar.y", "tokens"], inputs, lines), programs)
+
+
+def numbers_of(calls, is_long):
+    """Which allocations are refused: each, or of many the first ones, then some, and the last."""
+    if not is_long:
+        return range(1, calls + 1)
+    some = [*range(1, EVERY + 1), *range(EVERY, calls, STRIDE), *range(calls - STRIDE, calls + 1)]
+    return sorted({number for number in some if 1 <= number <= calls})
+
+
+def refused_once(number, it, programs, library):
+    """How a run ended with one allocation refused, and what differs where it may not end so."""
+    made, _ = refused_at(number, it, programs, library)
+    way = way_of(made, it, programs)
+    return way or "wrong", [] if way else wrong(made, it.wanted)
+
+
+def refused_in_turn(name, it, is_long, programs, library, pool):
+    """How the runs of one scenario ended, each with another allocation refused; says so."""
+    made, calls = refused_at(0, it, programs, library)
+    ways = Counter({"wrong": 1} if wrong(made, it.wanted) else {})
+    numbers = numbers_of(calls, is_long)
+    once = partial(refused_once, it=it, programs=programs, library=library)
+    for number, (way, differs) in zip(numbers, pool.map(once, numbers, chunksize=8)):
+        ways[way] += 1
+        if differs:
+            print(f"{it.words[0]}, {name}: allocation {number} refused")
+            sys.stdout.writelines(differs)
+    said = ", ".join(f"{ways[way]} {way}" for way in sorted(ways))
+    print(f"{it.words[0]}, {name}: {calls} allocations, {len(numbers)} refused: {said}", flush=True)
+    return ways
+
+
+def main():
+    programs = dict(it.split("=", 1) for it in sys.argv[1:] if "=" in it)
+    programs = {name: str(Path(path).absolute()) for name, path in programs.items()}
+    files = [it for it in sys.argv[1:] if "=" not in it]
+    whole = Counter()
+    with tempfile.TemporaryDirectory() as room, ProcessPoolExecutor(os.cpu_count()) as pool:
+        given = programs, library_in(room, SOURCE), pool
+        for name, it in [] if files else scenarios():
+            if it.words[0] in programs:
+                whole += refused_in_turn(name, it, False, *given)
+        for path in files:
+            for it in over_file(path, programs):
+                whole += refused_in_turn(Path(path).name, it, True, *given)
+    print(f"{whole.total()} runs, {whole['wrong']} wrong")
+    return 1 if whole["wrong"] or not whole else 0
+
+
+if __name__ == "__main__":
+    sys.exit(main())
