@@ -1,16 +1,15 @@
 -- How replies join.
-use Rattle.std.proofs.Common.{ℕ, arith, suc, ◌≡◌, ◌<◌, ◌≤◌, ◌-◌, ◌++◌, nat_lt, Bool, true}
+use Rattle.std.proofs.Common.{ℕ, suc, ◌≡◌, ◌++◌, Bool, true}
 use Rattle.std.proofs.Common.{false, List, [], ◌∷◌, Option, Ok, Err, codes, if◌then◌else◌, refl}
 use Rattle.std.proofs.Common.{sym, ap, subst, ◌∙◌, append-nil, append_assoc, is_some, Some, None}
 use Rattle.std.proofs.Common.{length, get_or}
 use Rattle.std.proofs.lemmas.List.{length-map}
 use Rattle.std.proofs.Math.ListN.{get_or-map}
 use Rattle.ymachine.specs.Unwinding.{tokens_left}
-use Rattle.std.proofs.lemmas.Bool.{lt-ltb, false_from_ne_true, ltb-true}
 use Rattle.ymachine.specs.declared.machine.StepKind.{StepKind}
 use Rattle.ymachine.specs.declared.machine.StepFault.{StepFault}
 use Rattle.ycli.specs.Command.{Command}
-use Rattle.ycli.specs.Command.{To, Show, Unknown}
+use Rattle.ycli.specs.Command.{Show, Unknown}
 use Rattle.ylink.specs.declared.link.Link.{Link}
 use Rattle.std.specs.Io.KnownBytes.{Appends, Keeps}
 use Rattle.std.proofs.KnownBytes.{Appends-nil, Appends-kept}
@@ -20,7 +19,7 @@ use Rattle.ylink.proofs.Sent.{Sends-then, Sends-stop, Sends-none, Sends-nothing}
 use Rattle.ymachine.specs.Machine.{Machine, Configuration, next}
 use Rattle.ymachine.specs.Past.{Steps, position, back_by, back_from}
 use Rattle.ymachine.specs.History.{History}
-use Rattle.ycli.specs.Reply.{configuration_text, Reply, Answers, Runs, GoesBack, GoesTo, refusal}
+use Rattle.ycli.specs.Reply.{configuration_text, Reply, Answers, Runs, refusal}
 use Rattle.ycli.specs.Reply.{undo_text}
 use Rattle.ycli.specs.Reply.{step_line}
 

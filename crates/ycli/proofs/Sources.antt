@@ -1,6 +1,6 @@
 -- Tables of a grammar's bytes, and of those that a reader tells first.
 use Rattle.std.proofs.Common.{ℕ, suc, ◌≡◌, ◌<◌, ◌≤◌, ◌↔◌, List, Option, Some, None, Result, Err, IfSome}
-use Rattle.std.proofs.Common.{length, take, refl, subst, sym, ap, ◌∙◌, inl, inr, arith}
+use Rattle.std.proofs.Common.{length, take, refl, subst, sym, ◌∙◌, inl, inr, arith}
 use Rattle.std.proofs.Common.{length-take-le}
 use Rattle.std.specs.Prelude.{IsErrOf}
 use Rattle.std.proofs.lemmas.Bool.{cases_lt}

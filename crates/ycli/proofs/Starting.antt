@@ -1,7 +1,7 @@
 -- What became of a run over files.
 use Rattle.std.proofs.Common.{ℕ, ◌≡◌, false, List, Option, Result, Ok, Err, inl, inr, refl}
 use Rattle.ylink.specs.declared.link.Link.{Link}
-use Rattle.ylink.specs.Link.{device_of, has_failed}
+use Rattle.ylink.specs.Link.{has_failed}
 use Rattle.ywords.specs.declared.arguments.YstepWords.{YstepWords}
 use Rattle.ywords.specs.Arguments.{ystep_app, ArePathsIn}
 use Rattle.ycli.specs.declared.fault.SessionFault.{SessionFault}
@@ -12,10 +12,10 @@ use Rattle.ycli.specs.declared.message.Trouble.TheVariants.{NoMemory, CannotRead
 use Rattle.ycli.specs.declared.message.Trouble.TheVariants.{Session}
 use Rattle.ycli.specs.declared.stepper.StepperFault.{StepperFault}
 use Rattle.ycli.specs.declared.stepper.StepperFault.TheVariants as starts
-use Rattle.ycli.specs.Headline.{Ends, Rests, Served, Starts, StartFails}
+use Rattle.ycli.specs.Headline.{Ends, Rests, Served, StartFails}
 use Rattle.ycli.specs.Headline.{reader_failed, writer_failed}
 use Rattle.ycli.specs.Programs.{AreTaken, EndsIn, FilesEnd, FilesFail, IsUntouched, Serves}
-use Rattle.ycli.specs.Programs.{of_start, some_bytes}
+use Rattle.ycli.specs.Programs.{of_start}
 use Rattle.ycli.specs.Transcript.{failed_read, failed_write}
 use Rattle.ycli.proofs.Running.{tables_fail, tokens_fail}
 

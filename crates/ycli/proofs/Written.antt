@@ -1,5 +1,5 @@
 -- What became of writing the files of a grammar.
-use Rattle.std.proofs.Common.{ℕ, ◌≡◌, ◌∙◌, Bool, true, List, Err, inl, inr, refl, subst, sym}
+use Rattle.std.proofs.Common.{ℕ, ◌≡◌, ◌∙◌, Bool, true, List, Err, inl, inr, subst, sym}
 use Rattle.ytables.specs.Tables.{TablesValue as Tables}
 use Rattle.ywords.specs.declared.arguments.YaccWords.{YaccWords}
 use Rattle.ycli.specs.declared.message.Trouble.{Trouble}

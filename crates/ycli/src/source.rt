@@ -57,10 +57,7 @@ pub(crate) fn tables_over(alloc: Global, source: &[u8]) -> Result<Tables, Source
 }
 
 /// The tables of the grammar that an opener's reader tells.
-pub(crate) fn tables_from<G: Open>(
-    alloc: Global,
-    grammar: &mut G,
-) -> Result<Tables, SourceFault>
+pub(crate) fn tables_from<G: Open>(alloc: Global, grammar: &mut G) -> Result<Tables, SourceFault>
 where
     G::Device: Read,
     ensures tables { IfOk result (λ t. (source : List ℕ)

@@ -30,13 +30,7 @@ fn served(alloc: Global, worked: Worked, source: Source<'_>, sink: Sink) -> (End
     let (mut grammar, mut tokens) = (worked.grammar, worked.tokens);
     let mut reader = Link::new(source);
     let mut writer = Link::new(sink);
-    let answer = step_through(
-        alloc,
-        &mut grammar,
-        &mut tokens,
-        &mut reader,
-        &mut writer,
-    );
+    let answer = step_through(alloc, &mut grammar, &mut tokens, &mut reader, &mut writer);
     (end_of(&answer), writer.into_inner())
 }
 

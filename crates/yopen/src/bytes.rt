@@ -32,6 +32,8 @@ where
         TellsFront O.opens O.Device.remaining opener.old most bytes.items) }
 {
     let mut bytes = Vec::new(alloc);
-    Link::new(opener.open()?).take(most).read_to_end(&mut bytes)?;
+    Link::new(opener.open()?)
+        .take(most)
+        .read_to_end(&mut bytes)?;
     Ok(bytes)
 }

@@ -1,4 +1,4 @@
-use Rattle.std.proofs.Common.{ℕ, Bool, true, false, List, [], Option, refl, sym, subst, append-nil}
+use Rattle.std.proofs.Common.{ℕ, Bool, true, false, List, [], Option, sym, subst, append-nil}
 use Rattle.std.specs.Io.KnownBytes.{Appends, Keeps}
 use Rattle.std.proofs.KnownBytes.{Appends-kept}
 use Rattle.ylink.specs.Link.{device_of}
@@ -20,8 +20,7 @@ flushed a b c false text grown kept = record {
 pub returns-in_default : goal.returns-in_default
 returns-in_default g c =
     let contents = g.W.Write.contents in
-    let left = device_of c.put_text.new.link in
-    (
+    let left = device_of c.put_text.new.link in (
       left,
       λ u guides.
           subst (λ (w : g.row.W.Denot). Grows (contents w) (contents left) false
@@ -32,8 +31,7 @@ returns-in_default g c =
 pub returns : goal.returns
 returns g c =
     let contents = g.W.Write.contents in
-    let left = device_of c.flush.new.self in
-    (
+    let left = device_of c.flush.new.self in (
       left,
       λ u guides.
           let text = text_of c.args.tables.now u c.args.text in

@@ -1,4 +1,4 @@
-use Rattle.std.proofs.Common.{ℕ, ◌≡◌, List, map, Bor, Err, inl, inr, refl, subst, sym}
+use Rattle.std.proofs.Common.{ℕ, List, map, Bor, Err, inl, inr, refl, subst, sym}
 use Rattle.std.proofs.lemmas.Result.{err_from_is_err_and}
 use Rattle.std.proofs.Common.{Option}
 use Rattle.ylink.specs.declared.link.Link.{Link}

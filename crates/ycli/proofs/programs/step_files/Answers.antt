@@ -1,4 +1,4 @@
-use Rattle.std.proofs.Common.{◌≡◌, Err, subst, sym}
+use Rattle.std.proofs.Common.{Err, subst, sym}
 use Rattle.ylink.specs.Link.{device_of}
 use Rattle.ycli.specs.declared.message.Trouble.{Trouble}
 use Rattle.ycli.specs.Programs.{FilesEnd}

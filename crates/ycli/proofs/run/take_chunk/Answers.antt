@@ -1,4 +1,4 @@
-use Rattle.std.proofs.Common.{rules, ◌≡◌, ◌==◌, ℕ, suc, List, true, false}
+use Rattle.std.proofs.Common.{rules, ◌≡◌, ◌==◌, ℕ, suc, List, false}
 use Rattle.std.proofs.Common.{Option}
 use Rattle.std.proofs.Common.{Some, take, drop, get_or, sym, ◌∙◌, subst}
 use Rattle.std.proofs.lemmas.List.{take_more, take_all}

@@ -1,8 +1,7 @@
 use Rattle.std.proofs.Common.{sym, subst, ap, ◌∙◌}
 use Rattle.ysymbols.specs.Grammar.{GrammarValue}
 use Rattle.ygrammar.specs.GrammarOf.{IsGrammarOf}
-use Rattle.ylalr.specs.Collection.{Collection, HasStates, Guide, IsGuide}
-use Rattle.ycli.proofs.Sources.{refused_grammar}
+use Rattle.ylalr.specs.Collection.{Collection, HasStates, IsGuide}
 use Rattle.ycli.proofs.source.tables_over.Goals as goal
 
 pub returns-in-Ok-resolve-clause-tables : goal.returns-in-Ok-resolve-clause-tables
