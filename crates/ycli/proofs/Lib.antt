@@ -4,5 +4,6 @@ pub mod Replying
 pub mod Transcripts
 pub mod Running
 pub mod Sources
+pub mod Spelled
 pub mod Starting
 pub mod Written

@@ -1,6 +1,6 @@
 -- What a command line says.
-use Rattle.std.specs.Prelude.{ℕ, nat_le, nat_lt, ◌&&◌, ◌||◌, List, length, take, drop, Option, Some}
-use Rattle.std.specs.Prelude.{None, codes, if◌then◌else◌}
+use Rattle.std.specs.Prelude.{ℕ, ◌≡◌, ◌<◌, ◌≤◌, ◌⊎◌, nat_le, nat_lt, ◌&&◌, ◌||◌, List, ◌++◌, length}
+use Rattle.std.specs.Prelude.{take, drop, Option, Some, None, codes, true, if◌then◌else◌}
 use Rattle.std.specs.Option.{option_map_or}
 use Rattle.std.specs.Str.{bytes_eq, all_ascii_digits}
 use Rattle.std.specs.Str.Parse.{digits_value}
@@ -70,3 +70,27 @@ command_of line =
     else (if bytes_eq line (codes "unwind") then Unwind
     else (if bytes_eq line (codes "drop") then Drop
     else option_map_or Insert (text_after (codes "insert ") line) (number_command line)))))
+
+-- a word, and behind it one to seven decimal digits, whose value lies from the least one to
+-- 1,000,000
+pub record IsNumbered (least : ℕ) (word : List ℕ) (n : ℕ) (line : List ℕ) : Type 0 where
+  pub digits : List ℕ
+  pub parts : line ≡ word ++ digits
+  pub some : 0 < length digits
+  pub few : length digits ≤ 7
+  pub decimal : all_ascii_digits digits ≡ true
+  pub value : n ≡ digits_value 10 digits
+  pub at_least : least ≤ n
+  pub at_most : n ≤ greatest_count
+
+-- the lines that a command is spelled as
+abbrev pub IsSpelled : Command → List ℕ → Type 0
+IsSpelled (Run n) line = ((line ≡ codes "step") × (n ≡ 1)) ⊎ IsNumbered 1 (codes "run ") n line
+IsSpelled (Back n) line = IsNumbered 1 (codes "back ") n line
+IsSpelled (To n) line = IsNumbered 0 (codes "to ") n line
+IsSpelled Show line = line ≡ codes "show"
+IsSpelled Tree line = line ≡ codes "tree"
+IsSpelled Unwind line = line ≡ codes "unwind"
+IsSpelled (Insert bytes) line = line ≡ codes "insert " ++ bytes
+IsSpelled Drop line = line ≡ codes "drop"
+IsSpelled Unknown line = ⊥

@@ -1,10 +1,11 @@
 -- What a line says.
-use Rattle.std.specs.Prelude.{ℕ, ◌+◌, nat_lt, List, length, codes, if◌then◌else◌}
+use Rattle.std.specs.Prelude.{ℕ, ◌≡◌, ◌≢◌, ◌↔◌, ◌+◌, ◌≤◌, nat_lt, List, length, codes}
+use Rattle.std.specs.Prelude.{if◌then◌else◌}
 use Rattle.std.specs.Str.{bytes_eq}
 use Rattle.ycli.specs.declared.command.Line.{Line as CodeLine}
 use Rattle.ycli.specs.declared.command.Line.TheVariants as code
 use Rattle.ycli.specs.Command as commands
-use Rattle.ycli.specs.Command.{command_of, command_view}
+use Rattle.ycli.specs.Command.{command_of, command_view, IsSpelled}
 
 -- the end of the session, or a command
 pub data Line : Type 0 where
@@ -30,3 +31,13 @@ line_in line =
     if nat_lt longest_line (length line) then Command commands.Unknown
     else (if bytes_eq line (codes "quit") then Quit
     else Command (command_of line))
+
+-- the lines that say so: `quit`, or a command's, of at most 4,096 bytes
+abbrev pub IsLineOf : Line → List ℕ → Type 0
+IsLineOf Quit line = line ≡ codes "quit"
+IsLineOf (Command command) line = IsSpelled command line × (length line ≤ longest_line)
+
+-- each line but the unknown ones is told by its spelling, and no other line says the same
+abbrev pub AreTold : Type 0
+AreTold = (line : List ℕ) (said : Line) → (said ≢ Command commands.Unknown)
+    → (line_in line ≡ said) ↔ IsLineOf said line

@@ -6,7 +6,7 @@ ghost use Rattle.ylink.specs.Link.{device_of, has_failed};
 ghost use Rattle.yparse.specs.Session.{machine_of, history_of};
 ghost use Rattle.ycli.specs.Transcript.{Tells, failed_read, failed_write};
 ghost use Rattle.ycli.specs.Plain.{HasOneText};
-ghost use Rattle.ycli.specs.Line.{line_room};
+ghost use Rattle.ycli.specs.Line.{AreTold, line_room};
 ghost use Rattle.ycli.specs.Serving.{ChunkTells, ReadTells, Ends};
 
 use crate::command::{Line, line_in};
@@ -146,7 +146,7 @@ fn serve<R: Read, W: Write>(
 /// X1 is answered exactly where the reader's link failed, and then the replies of all lines whose
 /// newline was read are written. X2 is answered exactly where the writer's link failed, and then a
 /// beginning of the session's text is written.
-#[tactic(auto, using(crate::proofs::Plain::has_one_text))]
+#[tactic(auto, using(crate::proofs::Plain::has_one_text, crate::proofs::Spelled::are_told))]
 pub fn run_session<R: Read, W: Write>(
     mut session: Session,
     reader: &mut Link<R>,
@@ -159,6 +159,8 @@ pub fn run_session<R: Read, W: Write>(
     // Where no step is refused when memory runs out, the text is a function of the lines.
     ensures plain { (lines : List (List ℕ)) →
         HasOneText (machine_of session) (history_of session) lines }
+    // What a line says is told by how it is spelled.
+    ensures told { AreTold }
     // A read fault exactly where the reader's link failed.
     ensures read_fault { has_failed reader.new ≡ failed_read result }
     // A write fault exactly where the writer's did.
