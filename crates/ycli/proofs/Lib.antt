@@ -1,4 +1,5 @@
 pub mod Lines
+pub mod Otherwise
 pub mod Plain
 pub mod Replying
 pub mod Transcripts

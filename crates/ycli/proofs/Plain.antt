@@ -32,6 +32,7 @@ use Rattle.ycli.specs.Reply.{GoesOn, RunsBy, GoesToBy, Runs, GoesTo, Reply, Unwi
 use Rattle.ycli.specs.Reply.{configuration_text, step_line, undo_text}
 use Rattle.ycli.specs.Transcript.{Continues, Transcript}
 use Rattle.ycli.specs.Plain.{PlainSteps, PlainEdits, PlainReply, PlainTranscript, HasOneText}
+use Rattle.ycli.proofs.Otherwise.{text_either}
 
 -- ---- there is a text
 
@@ -456,4 +457,9 @@ has_one_text m h lines =
       plain = plain;
       told = text_is m h lines text plain;
       only = λ other p. one_text m h lines other text p plain;
+      otherwise = λ other p.
+          elim (text_either m h lines other p) [
+            | inl same ↦ inl (one_text m h lines other text same plain)
+            | inr none ↦ inr none
+          ];
     }

@@ -1,7 +1,7 @@
 -- Each command but the unknown one is told by its spelling.
-use Rattle.std.proofs.Common.{ℕ, ◌≡◌, ◌≢◌, ◌<◌, ◌≤◌, ◌∙◌, Bool, true, false, List, ◌++◌, length, take}
+use Rattle.std.proofs.Common.{ℕ, ◌≡◌, ◌≢◌, ◌≤◌, ◌∙◌, true, false, List, ◌++◌, length, take}
 use Rattle.std.proofs.Common.{drop, Option, Some, None, refl, sym, ap, subst, inl, inr, arith, codes}
-use Rattle.std.proofs.Common.{◌&&◌, ◌||◌, nat_le, nat_lt, if◌then◌else◌, length-append}
+use Rattle.std.proofs.Common.{◌&&◌, ◌||◌, nat_le, nat_lt, length-append}
 use Rattle.std.specs.Option.{option_map_or}
 use Rattle.std.specs.Str.{bytes_eq, all_ascii_digits}
 use Rattle.std.specs.Str.Parse.{digits_value}
@@ -249,6 +249,8 @@ line_says (lines.Command c) line (is, short) =
     ∙ cond-false _ _ _ (not_quit c line is) ∙ ap lines.Command (command_says c line is)
 
 pub are_told : AreTold
-are_told line said known =
-    (λ e. subst (IsLineOf said) refl (subst (λ s. IsLineOf s line) e
-    (line_told line (λ same. known (sym e ∙ same)))), line_says said line)
+are_told line said known = (
+  λ e. subst (IsLineOf said) refl (subst (λ s. IsLineOf s line) e
+      (line_told line (λ same. known (sym e ∙ same)))),
+  line_says said line,
+)

@@ -1,6 +1,6 @@
 -- Sessions in which no step or edit is refused when memory runs out: their text is a function of
 -- the lines.
-use Rattle.std.specs.Prelude.{ℕ, ◌≡◌, ◌≢◌, List, Result, Err}
+use Rattle.std.specs.Prelude.{ℕ, ◌≡◌, ◌≢◌, ◌⊎◌, ◌++◌, List, Result, Err, codes}
 use Rattle.ymachine.specs.declared.machine.StepKind.{StepKind}
 use Rattle.ymachine.specs.declared.machine.StepFault.{StepFault}
 use Rattle.ymachine.specs.declared.machine.StepFault.TheVariants.{Memory}
@@ -28,9 +28,18 @@ PlainReply m h command text new = ReplyBy (PlainSteps m) (PlainEdits m) m h comm
 abbrev pub PlainTranscript : Machine → History → List (List ℕ) → List ℕ → Type 0
 PlainTranscript m h lines text = TranscriptBy (PlainReply m) h lines text
 
--- Where no step or edit is refused when memory runs out, these lines have exactly one text.
+-- `no memory` stands in the text, at the end of a line
+pub record SaysNoMemory (text : List ℕ) : Type 0 where
+  pub before : List ℕ
+  pub after : List ℕ
+  pub parts : text ≡ before ++ (codes "no memory\n" ++ after)
+
+-- Where no step or edit is refused when memory runs out, these lines have exactly one text; any
+-- other text of theirs says `no memory`.
 pub record HasOneText (m : Machine) (h : History) (lines : List (List ℕ)) : Type 0 where
   pub text : List ℕ
   pub plain : PlainTranscript m h lines text
   pub told : Transcript m h lines text
   pub only : (other : List ℕ) → PlainTranscript m h lines other → other ≡ text
+  pub otherwise : (other : List ℕ) → Transcript m h lines other
+      → (other ≡ text) ⊎ SaysNoMemory other
