@@ -4,7 +4,7 @@
 # make accept NAME..   keeps what comes back of these scenarios as what is wanted, and marks them unread
 # make build      proves the programs and leaves them in bin/
 # make bench      times whole runs of the programs, on growing grammars and over long parses; FILES="a.y b.y" adds grammar files to them
-# make refuse     refuses each allocation of a run in turn, on every example and some scenarios; FILES="a.y b.y" refuses some thousands over these grammar files instead
+# make refuse     refuses one allocation of a run, each of them once, on every example and some scenarios; FILES="a.y b.y" refuses some thousands over these grammar files instead
 # make compare    compares the programs that make build left with plain machines in Python, on grammars drawn at random, for a minute, and verdicts with sessions over every scenario; FILES="a.y b.y" adds these, cut off and spoiled, with a second reader
 # make hostile    runs both programs, proved, between devices that fail and on files and streams that are no one's friends
 # make test       the gate: every proof from nothing, the must-fail edits, the tests, the stored runs, the scenarios, make hostile
