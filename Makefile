@@ -4,16 +4,17 @@
 # make accept NAME..   keeps what comes back of these scenarios as what is wanted, and marks them unread
 # make build      proves the programs and leaves them in bin/
 # make bench      times whole runs of the programs, on growing grammars and over long parses; FILES="a.y b.y" adds grammar files to them
-# make refuse     refuses one allocation of a run, each of them once, on every example and some scenarios; FILES="a.y b.y" refuses some thousands over these grammar files instead
+# make refuse     refuses allocations of a run, each once and each with all behind it, on every example and some scenarios; FILES="a.y b.y" refuses some thousands over these grammar files instead
 # make compare    compares the programs that make build left with plain machines in Python, on grammars drawn at random, for a minute, and verdicts with sessions over every scenario; FILES="a.y b.y" adds these, cut off and spoiled, with a second reader
 # make hostile    runs both programs, proved, between devices that fail and on files and streams that are no one's friends
-# make test       the gate: every proof from nothing, the must-fail edits, the tests, the stored runs, the scenarios, make hostile
+# make test       the gate: every proof from nothing, the must-fail edits, the tests, the stored runs, the scenarios, make hostile, make refuse over three examples
 .PHONY: demo examples scenarios accept build bench refuse compare hostile test
 
 programs := $(foreach file,$(wildcard crates/*/src/main.rt),$(notdir $(file:/src/main.rt=)))
 run := python3 scenarios/run.py $(foreach name,$(programs),$(name)=crates/$(name)/out/$(name))
 both := --at scenarios --at examples
 hostile := python3 scripts/hostile.py $(foreach name,yacc ystep,$(name)=crates/$(name)/out/$(name))
+refuse := python3 scripts/refuse.py $(foreach name,$(programs),$(name)=crates/$(name)/out/$(name))
 
 demo:
 	@sh examples/demo.sh statements
@@ -32,7 +33,7 @@ bench: build
 	@python3 bench/bench.py bin/yacc bin/ystep $(FILES)
 
 refuse: build
-	@python3 scripts/refuse.py $(foreach name,$(programs),$(name)=bin/$(name)) $(FILES)
+	@$(refuse) $(FILES)
 
 compare:
 	@python3 compare/compare.py bin/yacc bin/ystep
@@ -43,7 +44,7 @@ hostile: build
 	@$(hostile)
 
 test:
-	@python3 scripts/gate.py scripts/rings.py scenarios/kinds.py examples/trace.py -- $(run) $(both) -- $(hostile)
+	@python3 scripts/gate.py scripts/rings.py scenarios/kinds.py examples/trace.py -- $(run) $(both) -- $(hostile) -- $(refuse) --few
 
 # The names of scenarios stand behind `accept` as goals of their own.
 ifeq (accept,$(firstword $(MAKECMDGOALS)))

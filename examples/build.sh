@@ -3,11 +3,13 @@
 set -eu
 top=$(cd "$(dirname "$0")/.." && pwd)
 mkdir -p "$top/bin"
-for name in yacc ystep verdicts; do
+for name in yacc ystep verdicts calls; do
   cd "$top/crates/$name"
-  words=--help
-  [ "$name" != verdicts ] || words=data/one.y
-  rt run -- "$words" > /dev/null
+  case $name in
+    verdicts | calls) set -- data/one.y data/one.tokens ;;
+    *) set -- --help ;;
+  esac
+  rt run -- "$@" > /dev/null
   program=$(find out -type f -perm -u+x ! -name '*.so' ! -name '*.o' | grep "/$name\$" | head -n 1)
   [ -n "$program" ] || { echo "no program was built"; exit 1; }
   cp "$program" "$top/bin/$name"

@@ -5,7 +5,7 @@ from itertools import count, product
 
 from cases import Beginning, run, stored, wrong
 from devices import Device, counting
-from sessions import SESSIONS
+from sessions import SESSIONS, Session, lines
 
 
 @dataclass
@@ -25,6 +25,7 @@ def failed(message):
 
 
 ONE_RULE, CONFLICT = "examples/one-rule/tables", "scenarios/yacc/shift-reduce-conflict"
+LATER = 10**9
 WAYS = [("fail", False), ("nothing", False), ("fail", True)]
 # Messages and help that can't be written are passed over.
 SPOKEN = [
@@ -57,9 +58,8 @@ def texts():
 def cut(text, device, at):
     """What is wanted where a text can't be written from some call on."""
     whole = text.scenario.wanted[text.name]
-    # A writer that fails once may be asked again for what it did not take.
-    most = len(whole) if device.once else at - 1 if device.most else len(whole) - 1
-    part = Beginning(whole, at - 1 if device.most else 0, most)
+    # A byte a call was taken before, and what was refused is offered to no later call.
+    part = Beginning(whole, *(at - 1, at - 1) if device.most else (0, len(whole) - 1))
     kept = {it: text.scenario.wanted[it] for it in text.scenario.wanted if it not in text.without}
     return {**kept, text.name: part, **text.told}
 
@@ -120,6 +120,16 @@ def file_reads():
             yield it, name, lambda at, told=told: told
 
 
+def ends_at_quit(programs, library):
+    """Of an input that comes byte by byte nothing is read behind the newline of `quit`."""
+    replies = [("step", lines("1 shift 'x'")), ("quit", ""), ("step", "")]
+    it = Session("%% s : 'x' ;\n", "'x'\n", replies).scenario()
+    device = Device("read", "0", at=LATER, most=1)
+    made, calls = counting(device, library, partial(run, it, programs))
+    read = [] if calls == len("step\nquit\n") else [f"{calls} calls of the reader\n"]
+    yield "nothing is read behind quit", wrong(made, it.wanted) + read
+
+
 def tasks(programs, library):
     """Each gives pairs of a name and of what is wrong there."""
     for text, (how, once), most in product(texts(), WAYS, (0, 1)):
@@ -130,6 +140,7 @@ def tasks(programs, library):
             yield partial(in_turn, session.scenario(), device, broken, programs, library)
         device, broken = Device("read", "0"), all_at_once(session)
         yield partial(in_turn, session.scenario(), device, broken, programs, library)
+    yield partial(ends_at_quit, programs, library)
     for it, name, broken in file_reads():
         for most in (0, 1):
             yield partial(in_turn, it, Device("read", name, most=most), broken, programs, library)

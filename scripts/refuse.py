@@ -1,15 +1,19 @@
 #!/usr/bin/env python3
-"""Refuses one allocation of a run, each of them once: of every example, and of some scenarios.
+"""Refuses allocations of a run: each of them once by itself, and from each of them on all.
 
-    refuse.py yacc=PATH ystep=PATH verdicts=PATH [GRAMMAR..]
+    refuse.py yacc=PATH ystep=PATH verdicts=PATH calls=PATH [--few | GRAMMAR..]
 
-An allocator in front of that of C refuses the call of one number. Each run must end as usual, or
-with `no memory` and status 3, nothing on standard output and of each file a beginning. A session
-may also go on: then one step says `no memory`, and all else is as if nothing had been asked for
-there. A verdict may be `no memory`. Of each GRAMMAR, whose runs are long, the first 2,000
-allocations are refused, then every 97th, and the last 97. The last line is `N runs, M wrong`.
+An allocator in front of that of C refuses the calls of some numbers, over every example and some
+scenarios, or over a few of them. Each run must end as usual, or with `no memory` and status 3,
+nothing on standard output and of each file a beginning. A session may also go on: then each step
+that was refused says `no memory`, and all else is as if nothing had been asked for there. A
+verdict may be `no memory`. `calls`, which makes each call by itself, makes a refused one again,
+and where it is refused once more, goes on with the calls that take no memory. Of each GRAMMAR,
+whose runs are long, the first 2,000 allocations are refused, then every 97th, and the last 97. The
+last line is `N passed, M failed`.
 """
 import os
+import re
 import subprocess
 import sys
 import tempfile
@@ -32,16 +36,18 @@ SOURCE = r"""
 #include <stdlib.h>
 #include <unistd.h>
 
-static long calls, refused = -1;
+static long calls, refused = -1, last;
 static void *(*plain_malloc)(size_t), *(*plain_realloc)(void *, size_t);
 
 static int refuses(void) {
   if (refused < 0) {
     refused = atol(getenv("REFUSED"));
+    last = atol(getenv("LAST"));
     plain_malloc = dlsym(RTLD_NEXT, "malloc");
     plain_realloc = dlsym(RTLD_NEXT, "realloc");
   }
-  return ++calls == refused;
+  calls++;
+  return refused <= calls && calls <= last;
 }
 
 void *malloc(size_t size) { return refuses() ? NULL : plain_malloc(size); }
@@ -53,7 +59,7 @@ __attribute__((destructor)) static void tell(void) {
   if (write(atoi(getenv("COUNTED")), text, length) != length) _exit(99);
 }
 """
-EVERY, STRIDE = 2_000, 97
+EVERY, STRIDE, ALL = 2_000, 97, 10**9
 NO_MEMORY = b"no memory\n"
 # What no example has: messages, help, the line on conflicts, files that are there before, edits.
 OTHERS = """
@@ -61,12 +67,14 @@ yacc/absent-grammar yacc/help yacc/no-word yacc/old-files-replaced yacc/refused-
 yacc/shift-reduce-conflict ystep/absent-tokens ystep/fault-foreign-byte ystep/help ystep/no-word
 sessions/inner-action tokens/unknown-word edits/missing-operator recovery/counter
 """.split()
+FEW = ["edits", "one-rule", "recovery"]
 
 
-def refused_at(number, it, programs, library):
-    """What comes back of a run with one allocation refused, and how many it asked for."""
+def refused_at(first, last, it, programs, library):
+    """What comes back of a run with some allocations refused, and how many it asked for."""
     with tempfile.TemporaryFile() as counted:
-        words = {"REFUSED": number, "COUNTED": counted.fileno(), "LD_PRELOAD": library}
+        words = {"REFUSED": first, "LAST": last, "COUNTED": counted.fileno()}
+        words["LD_PRELOAD"] = library
         words = {name: str(word) for name, word in words.items()}
         made = run(it, programs, env=words, pass_fds=[counted.fileno()])
         counted.seek(0)
@@ -90,26 +98,63 @@ def is_refusal(made, it):
     return kept and all(map(max, is_begun, is_left)) and before.keys() <= files.keys()
 
 
+KNOWN = {}
+
+
 def output(lines, it, programs):
     """What a session replies to some lines, as usual."""
-    return run(replace(it, stdin=b"".join(lines)), programs)["stdout"].splitlines(keepends=True)
+    stdin = b"".join(lines)
+    key = stdin, *it.inputs.items()
+    if key not in KNOWN:
+        made = run(replace(it, stdin=stdin), programs)
+        KNOWN[key] = made["stdout"].splitlines(keepends=True)
+    return KNOWN[key]
+
+
+def same_until(some, others):
+    """How many of some lines stand before the first that is another one."""
+    pairs = enumerate(zip(some, others))
+    return next((at for at, (a, b) in pairs if a != b), min(len(some), len(others)))
 
 
 def goes_on(made, it, programs):
-    """Whether one step of a session was refused, and the session went on from where it was."""
-    replies = made["stdout"].splitlines(keepends=True)
-    if it.words[0] != "ystep" or replies.count(NO_MEMORY) != 1:
+    """Whether steps of a session were refused, and it went on each time from where it was."""
+    left = made["stdout"].splitlines(keepends=True)
+    if it.words[0] != "ystep" or NO_MEMORY not in left:
         return False
-    at, lines = replies.index(NO_MEMORY), it.stdin.splitlines(keepends=True)
-    before = [len(output(lines[:count], it, programs)) for count in range(len(lines) + 1)]
-    refused = next((count for count in range(len(lines)) if before[count + 1] > at), None)
-    if refused is None:
+    obeyed = []
+    for line in it.stdin.splitlines(keepends=True):
+        usual = output([*obeyed, line], it, programs)[len(output(obeyed, it, programs)) :]
+        done = same_until(usual, left)
+        if done == len(usual):
+            obeyed.append(line)
+        elif left[done : done + 1] == [NO_MEMORY]:
+            obeyed += [b"run %d\n" % done] if done else []
+            done += 1
+        left = left[done:]
+    return not left and not wrong({**made, "stdout": it.wanted["stdout"]}, it.wanted)
+
+
+MADE = re.compile(rb"\d+ (insert|drop|shift|reduce|accept|detect|pop|discard|fail)\b.*")
+
+
+def is_made_again(made, it):
+    """Whether a call was refused and made again, or some were refused twice, and what takes no
+    memory followed: the undos of all steps."""
+    if it.words[0] != "calls":
         return False
-    steps = at - before[refused]
-    instead = [b"run %d\n" % steps] if steps else []
-    usual = output(lines[:refused] + instead + lines[refused + 1 :], it, programs)
-    whole = b"".join([*usual[:at], NO_MEMORY, *usual[at:]])
-    return not wrong(made, {**it.wanted, "stdout": whole})
+    usual, lines = (text.splitlines() for text in (it.wanted["stdout"], made["stdout"]))
+    refused = [line for line in lines if line.endswith(b": no memory")]
+    others = [line for line in lines if line not in refused]
+    if len(refused) == 1:
+        return others == usual and made["status"] == b"0\n"
+    if not refused or len(refused) % 2 or made["status"] != b"3\n":
+        return False
+    steps, asked = ([line for line in some if MADE.fullmatch(line)] for some in (others, usual))
+    kinds = [line.split(b" ", 1)[1] for line in steps]
+    mirrored = [b"%d undo %s" % (at, kind) for at, kind in enumerate(kinds)]
+    undone = [line for line in others if b" undo " in line]
+    return steps == asked[: len(steps)] and undone == mirrored[::-1]
 
 
 def is_verdict(made, it):
@@ -131,17 +176,30 @@ def way_of(made, it, programs):
         return "end with no memory"
     if goes_on(made, it, programs):
         return "go on behind a step"
+    if is_made_again(made, it):
+        return "make a call again, or what takes no memory"
     return "say no memory" if is_verdict(made, it) else None
 
 
 # What is run
 
 
-def scenarios():
+def calls_over(it):
+    """The calls by themselves over the files of a session."""
+    files = {name: it.inputs[name] for name in it.words[1:]}
+    return replace(it, words=["calls", *it.words[1:]], stdin=b"", inputs=files)
+
+
+def scenarios(programs, few):
     """The examples by their names, and the other scenarios by theirs."""
     for folder in found_below(TOP / "examples"):
-        yield folder.parent.name, stored(folder.relative_to(TOP).as_posix())
-    for name in OTHERS:
+        name, it = folder.parent.name, stored(folder.relative_to(TOP).as_posix())
+        if few and name not in FEW:
+            continue
+        yield name, it
+        if it.words[0] == "ystep":
+            yield name, with_usual(calls_over(it), programs)
+    for name in [] if few else OTHERS:
         yield name, stored(f"scenarios/{name}")
 
 
@@ -157,7 +215,9 @@ def over_file(path, programs):
     inputs = {"grammar.y": Path(path).read_bytes(), "tokens": tokens}
     yield with_usual(scenario(["yacc", "-v", "grammar.y"], inputs), programs)
     lines = b"run 50\ntree\nshow\ndrop\nback 20\nrun 900\nshow\nback 900\n"
-    yield with_usual(scenario(["ystep", "grammar.y", "tokens"], inputs, lines), programs)
+    session = with_usual(scenario(["ystep", "grammar.y", "tokens"], inputs, lines), programs)
+    yield session
+    yield with_usual(calls_over(session), programs)
 
 
 def numbers_of(calls, is_long):
@@ -168,43 +228,47 @@ def numbers_of(calls, is_long):
     return sorted({number for number in some if 1 <= number <= calls})
 
 
-def refused_once(number, it, programs, library):
-    """How a run ended with one allocation refused, and what differs where it may not end so."""
-    made, _ = refused_at(number, it, programs, library)
+def refused_once(number, from_there_on, it, programs, library):
+    """How a run ended with allocations refused, and what differs where it may not end so."""
+    made, _ = refused_at(number, ALL if from_there_on else number, it, programs, library)
     way = way_of(made, it, programs)
     return way or "wrong", [] if way else wrong(made, it.wanted)
 
 
-def refused_in_turn(name, it, is_long, programs, library, pool):
-    """How the runs of one scenario ended, each with another allocation refused; says so."""
-    made, calls = refused_at(0, it, programs, library)
+def refused_in_turn(name, it, from_there_on, is_long, programs, library, pool):
+    """How the runs of one scenario ended, each with other allocations refused; says so."""
+    made, calls = refused_at(0, 0, it, programs, library)
     ways = Counter({"wrong": 1} if wrong(made, it.wanted) else {})
     numbers = numbers_of(calls, is_long)
-    once = partial(refused_once, it=it, programs=programs, library=library)
+    once = partial(
+        refused_once, from_there_on=from_there_on, it=it, programs=programs, library=library
+    )
+    how = " and all behind it" if from_there_on else ""
     for number, (way, differs) in zip(numbers, pool.map(once, numbers, chunksize=8)):
         ways[way] += 1
         if differs:
-            print(f"{it.words[0]}, {name}: allocation {number} refused")
+            print(f"{it.words[0]}, {name}: allocation {number}{how} refused")
             sys.stdout.writelines(differs)
     said = ", ".join(f"{ways[way]} {way}" for way in sorted(ways))
-    print(f"{it.words[0]}, {name}: {calls} allocations, {len(numbers)} refused: {said}", flush=True)
+    counts = f"{calls} allocations, each{how} refused, {len(numbers)} runs"
+    print(f"{it.words[0]}, {name}: {counts}: {said}", flush=True)
     return ways
 
 
 def main():
     programs = dict(it.split("=", 1) for it in sys.argv[1:] if "=" in it)
     programs = {name: str(Path(path).absolute()) for name, path in programs.items()}
-    files = [it for it in sys.argv[1:] if "=" not in it]
+    few, files = "--few" in sys.argv, [it for it in sys.argv[1:] if "=" not in it and it != "--few"]
     whole = Counter()
     with tempfile.TemporaryDirectory() as room, ProcessPoolExecutor(os.cpu_count()) as pool:
         given = programs, library_in(room, SOURCE), pool
-        for name, it in [] if files else scenarios():
-            if it.words[0] in programs:
-                whole += refused_in_turn(name, it, False, *given)
+        for name, it in [] if files else scenarios(programs, few):
+            for from_there_on in (False, True) if it.words[0] in programs else ():
+                whole += refused_in_turn(name, it, from_there_on, False, *given)
         for path in files:
             for it in over_file(path, programs):
-                whole += refused_in_turn(Path(path).name, it, True, *given)
-    print(f"{whole.total()} runs, {whole['wrong']} wrong")
+                whole += refused_in_turn(Path(path).name, it, False, True, *given)
+    print(f"{whole.total() - whole['wrong']} passed, {whole['wrong']} failed")
     return 1 if whole["wrong"] or not whole else 0
 
 

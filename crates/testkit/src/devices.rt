@@ -1,47 +1,9 @@
-//! Readers and writers that give or take little at a time, and fail where a test says.
+//! A writer that takes little at a time, and fails where a test says.
 
-use std::io::{self, ErrorKind, Read, Write};
+use std::io::{self, ErrorKind, Write};
 
 /// How many bytes a writer holds.
 const ROOM: usize = 8192;
-
-/// A reader over bytes: at most so many a call, and a refusal at one of its calls, counted from 1.
-#[derive(Drop)]
-pub struct Source<'a> {
-    rest: &'a [u8],
-    most: usize,
-    refused: usize,
-    calls: usize,
-}
-
-impl<'a> Source<'a> {
-    pub fn new(bytes: &'a [u8], most: usize, refused: usize) -> Source<'a> {
-        Source {
-            rest: bytes,
-            most,
-            refused,
-            calls: 0,
-        }
-    }
-
-    /// How many calls came.
-    pub fn calls(&self) -> usize {
-        self.calls
-    }
-}
-
-impl Read for Source<'_> {
-    fn read(&mut self, buf: &mut [u8]) -> io::Result<usize> {
-        self.calls = self.calls.saturating_add(1);
-        if self.calls == self.refused {
-            return Err(io::Error::from(ErrorKind::Other));
-        }
-        let n = self.rest.len().min(buf.len()).min(self.most);
-        buf[..n].copy_from_slice(&self.rest[..n]);
-        self.rest = &self.rest[n..];
-        Ok(n)
-    }
-}
 
 /// What a writer does at the call that a test picks.
 #[derive(Clone, Copy)]
@@ -61,7 +23,6 @@ pub struct Sink {
     most: usize,
     refusal: Refusal,
     calls: usize,
-    flushes: usize,
 }
 
 impl Sink {
@@ -72,23 +33,12 @@ impl Sink {
             most,
             refusal,
             calls: 0,
-            flushes: 0,
         }
     }
 
     /// What was written.
     pub fn text(&self) -> &[u8] {
         self.bytes.get(..self.len).unwrap_or(&[])
-    }
-
-    /// How often it was flushed.
-    pub fn flushes(&self) -> usize {
-        self.flushes
-    }
-
-    /// How many calls came.
-    pub fn calls(&self) -> usize {
-        self.calls
     }
 }
 
@@ -113,10 +63,7 @@ impl Write for Sink {
         self.calls = self.calls.saturating_add(1);
         match self.refusal {
             Refusal::Refuses(call) if call == self.calls => Err(io::Error::from(ErrorKind::Other)),
-            _ => {
-                self.flushes = self.flushes.saturating_add(1);
-                Ok(())
-            }
+            _ => Ok(()),
         }
     }
 }

@@ -1,5 +1,5 @@
-//! What tests share: readers and writers that fail where a test says, worked sessions, long texts,
-//! and the tables of a grammar text.
+//! What tests share: a writer that fails where a test says, worked sessions, long texts, and the
+//! tables of a grammar text.
 #![tactic(auto)]
 
 pub mod devices;

@@ -1,4 +1,4 @@
-//! Worked sessions: grammars, their tokens, commands, and what these reply.
+//! Worked sessions: grammars, their tokens, and what all steps, trees and forms of them write.
 
 /// One rule of one token.
 pub const ONE: &[u8] = b"%% s : 'x' ;";
@@ -15,56 +15,41 @@ pub const DANGLING: &[u8] = b"%token IF ELSE X %% s : IF s | IF s ELSE s | X ;";
 /// An empty rule that goes before the only token, without end.
 pub const ENDLESS: &[u8] = b"%left 'x' %left HI %% s : e s | 'x' ; e : %prec HI ;";
 
-/// Texts of a session, its commands, and what they reply.
+/// Texts of a session, and the lines of all its steps, its trees and its forms.
 #[derive(Clone, Copy)]
 pub struct Worked {
     pub grammar: &'static [u8],
     pub tokens: &'static [u8],
-    pub commands: &'static [u8],
-    /// The replies, one behind the other.
     pub text: &'static [u8],
-    /// How many lines the replies to none, one, two and more of the commands have.
-    pub lines: &'static [usize],
 }
 
-/// All three steps over one rule, one step too many, and their undos.
-pub const STORED: Worked = Worked {
+/// One rule of one token.
+pub const SHORT: Worked = Worked {
     grammar: ONE,
     tokens: b"'x'",
-    commands: b"step\nshow\nstep\nstep\nstep\nback 9\nback 1\n",
-    text: b"\
-        1 shift 'x'\n1 running\nstack: 'x'\nrest:\ncounter: 0\nerrors: 0\n2 reduce 1\n3 accept\n\
-        halted\n2 undo accept\n1 undo reduce 1\n0 undo shift 'x'\nat start\n",
-    lines: &[0, 1, 6, 7, 8, 9, 12, 13],
+    text: b"1 shift 'x'\n2 reduce 1\n3 accept\n(1 'x'@1)\ns\n'x'\n",
 };
 
-/// A list of two numbers, of which the first is spoiled.
+/// A list of two numbers, of which the first is spoiled; so it has no forms.
 pub const SPOILED: Worked = Worked {
     grammar: LIST,
     tokens: b"NUM NUM ';' NUM ';'",
-    commands: b"run 20\ntree\nunwind\n",
     text: b"\
         1 reduce 1\n2 shift NUM\n3 detect\n4 pop NUM\n5 shift error\n6 discard NUM\n7 shift ';'\n\
         8 reduce 3\n9 shift NUM\n10 shift ';'\n11 reduce 2\n12 accept\n\
-        (2 (3 (1) error ';'@3) NUM@4 ';'@5)\nhad error\n",
-    lines: &[0, 12, 13, 14],
+        (2 (3 (1) error ';'@3) NUM@4 ';'@5)\n",
 };
 
 /// A sum of a number and a product.
 pub const SUM: Worked = Worked {
     grammar: SUMS,
     tokens: b"NUM '+' NUM '*' NUM",
-    commands: b"run 20\ntree\nunwind\n",
     text: b"\
         1 shift NUM\n2 reduce 3\n3 shift '+'\n4 shift NUM\n5 reduce 3\n6 shift '*'\n7 shift NUM\n\
         8 reduce 3\n9 reduce 2\n10 reduce 1\n11 accept\n\
         (1 (3 NUM@1) '+'@2 (2 (3 NUM@3) '*'@4 (3 NUM@5)))\ne\ne '+' e\ne '+' e '*' e\n\
         e '+' e '*' NUM\ne '+' NUM '*' NUM\nNUM '+' NUM '*' NUM\n",
-    lines: &[0, 11, 12, 18],
 };
-
-/// The worked sessions.
-pub const WORKED: [Worked; 3] = [STORED, SPOILED, SUM];
 
 /// The first lines of a text, each with its newline; all of it where it has fewer.
 pub fn first_lines(text: &[u8], lines: usize) -> &[u8] {

@@ -259,7 +259,7 @@ module _ {W : Type 0} (contents : W → Option (List ℕ)) where
       answered contents a c whole m h now command text r
       (Sends-then contents a b c whole [] text none s)
 
--- ---- the tokens that are left
+-- ---- the upcoming tokens
 
 -- the token at a place of those that a view shows
 pub rest_at : (d now : Configuration) (token : ℕ × ℕ) (i : ℕ) → d ≡ now

@@ -55,6 +55,19 @@ IsGenerating said (faults.NoRoom text) trouble = trouble ≡ NoMemory
 IsGenerating said (faults.Unopened text) trouble = NamesFile said text trouble
 IsGenerating said (faults.Unwritten text) trouble = NamesFile said text trouble
 
+-- the program's answer where the generator gave this one
+abbrev pub IsAnswer : YaccWords → Result Counts GenerateFault → Result Counts Trouble → Type 0
+IsAnswer said (Ok counts) (Ok told) = told ≡ counts
+IsAnswer said (Ok counts) (Err trouble) = ⊥
+IsAnswer said (Err fault) (Ok told) = ⊥
+IsAnswer said (Err fault) (Err trouble) = IsGenerating said fault trouble
+
+-- the program passes on an answer of the generator that is so
+abbrev pub PassesOn : (Result Counts GenerateFault → Type 0) → YaccWords → Result Counts Trouble
+    → Type 0
+PassesOn generated said told =
+    (answer : Result Counts GenerateFault) × generated answer × IsAnswer said answer told
+
 -- why a file wasn't written: it is named, the report only where it was wanted; or no memory
 abbrev pub FileFails : YaccWords → Trouble → Type 0
 FileFails said NoMemory = Unit {0}

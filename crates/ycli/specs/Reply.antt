@@ -98,7 +98,7 @@ head_text h = decimal (position h) ++ (codes " " ++ (mode_word h.now.mode ++ cod
 abbrev pub stack_text : Machine → History → List ℕ
 stack_text m h = spaced_names m.name (symbols h.now.stack)
 
--- the tokens that are left
+-- the upcoming tokens
 abbrev pub rest_text : Machine → History → List ℕ
 rest_text m h = spaced_names m.name (tokens_left h.now.rest)
 

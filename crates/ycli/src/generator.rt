@@ -3,7 +3,10 @@
 ghost use Rattle.std.specs.Prelude.{◌≡◌, false, IfOk, IfErr, map, is_some};
 ghost use Rattle.ylink.specs.Link.{device_of, has_failed};
 ghost use Rattle.ylink.specs.Sends.{Sends};
-ghost use Rattle.ycli.specs.Generating.{Asks, EndsIn, FilesFail, Generates, Runs, said_of};
+ghost use Rattle.ycli.specs.Generating.{Asks, EndsIn, FilesFail, Generates, PassesOn, Runs};
+ghost use Rattle.ycli.specs.Generating.{said_of};
+ghost use Rattle.ycli.specs.Written.{Generated, Writes};
+ghost use Rattle.yopen.specs.Open.{Tells};
 
 use crate::generate::{Text, generate};
 use crate::message::{Program, Trouble, put_conflicts, put_help};
@@ -74,6 +77,11 @@ where
     G::Device: Read,
     T::Device: Write,
     P::Device: Write,
+    ensures passes { PassesOn (Generated (Tells G.opens G.Device.remaining grammar.old)
+        (λ t. Writes T.opens T.Device.contents table.old t Text.Table)
+        (λ t. Writes P.opens P.Device.contents report.old t Text.Report)
+        (table.new ≡ table.old) (report.new ≡ report.old) words.entry.verbose)
+        words.entry result }
     ensures wrote { IfOk result Generates }
     ensures fails { IfErr result (FilesFail words.entry) }
 {

@@ -197,7 +197,7 @@ fn put_stack<W: Write>(session: &Session, writer: &mut Link<W>) -> Option<()>
     Some(())
 }
 
-/// The tokens that are left.
+/// The upcoming tokens.
 fn put_rest<W: Write>(session: &Session, writer: &mut Link<W>) -> Option<()>
     ensures { Sends W.contents writer.old writer.new (is_some result)
         (rest_text (machine_of session.now) (history_of session.now)) }

@@ -110,18 +110,24 @@ same_content c d a b e f g h i j =
     ∙ ap (λ (x : Mode). held d.stack d.nodes d.children d.rest d.counter d.errors x c.steps) i
     ∙ ap (λ (x : ℕ). held d.stack d.nodes d.children d.rest d.counter d.errors d.mode x) j
 
-module _ (p : Place) (s : Sound p.tables) (f : FactsOf p) where
-  -- the state of the shown stack is the one on top
-  at_top : state_after p.tables (map symbol_of p.content.stack) ≡ Some (top_state p.content.stack)
-  at_top = leads_walk p.tables 0 p.content.stack f.states
+-- the state of the stack is the one on top
+at_top : (p : Place) → FactsOf p
+    → state_after p.tables (map symbol_of p.content.stack) ≡ Some (top_state p.content.stack)
+at_top p f = leads_walk p.tables 0 p.content.stack f.states
 
+-- and so is that of the shown stack
+pub shown_state : (p : Place) → FactsOf p
+    → state_after p.tables (symbols (configuration_of p).stack) ≡ Some (top_state p.content.stack)
+shown_state p f =
+    ap (λ (l : List ℕ). state_after p.tables l)
+    (shown-symbols (trees_over p.content.children p.content.nodes) p.content.stack)
+    ∙ at_top p f
+
+module _ (p : Place) (s : Sound p.tables) (f : FactsOf p) where
   cell_is : (token : ℕ) → (machine_over p.tables).cell (symbols (configuration_of p).stack) token
       ≡ move_of (cell_at p.tables (top_state p.content.stack) token)
   unfolding machine_over
-  cell_is token =
-      ap (λ (l : List ℕ). move_of (cell_in p.tables (state_after p.tables l) token))
-      (shown-symbols (trees_over p.content.children p.content.nodes) p.content.stack)
-      ∙ ap (λ (q : Option ℕ). move_of (cell_in p.tables q token)) at_top
+  cell_is token = ap (λ (q : Option ℕ). move_of (cell_in p.tables q token)) (shown_state p f)
 
   rule_is : (r : ℕ) → (machine_over p.tables).rule r ≡ rule_of p.tables r
   unfolding machine_over
@@ -175,7 +181,7 @@ module _ (p : Place) (s : Sound p.tables) (f : FactsOf p) where
   shifts to m e =
       let c = p.content in
       let token = ahead p.tokens c.rest in
-      let x = s.shift (map symbol_of c.stack) (top_state c.stack) token to at_top e in
+      let x = s.shift (map symbol_of c.stack) (top_state c.stack) token to (at_top p f) e in
       let inside = left_by_ahead p.tokens c.rest x.0 in
       let q = some_of (goto_at p.tables (top_state c.stack) token) x.1 in
       let leaf : Node = nodes.Leaf token (place_left c.rest) in
@@ -206,7 +212,7 @@ module _ (p : Place) (s : Sound p.tables) (f : FactsOf p) where
       let c = p.content in
       let w = width_of p.tables r in
       let left = (rule_of p.tables r).left in
-      let x = s.reduce (map symbol_of c.stack) (top_state c.stack) (ahead p.tokens c.rest) r at_top
+      let x = s.reduce (map symbol_of c.stack) (top_state c.stack) (ahead p.tokens c.rest) r (at_top p f)
       e in
       let lengths = length-map symbol_of c.stack in
       let wide = x.1 in
@@ -331,7 +337,7 @@ module _ (p : Place) (s : Sound p.tables) (f : FactsOf p) where
       → Moves p kinds.ShiftError
   error_shifts to m e =
       let c = p.content in
-      let x = s.shift (map symbol_of c.stack) (top_state c.stack) error_token to at_top e in
+      let x = s.shift (map symbol_of c.stack) (top_state c.stack) error_token to (at_top p f) e in
       let q = some_of (goto_at p.tables (top_state c.stack) error_token) x.1 in
       let leaf : Node = nodes.ErrorLeaf in
       record {

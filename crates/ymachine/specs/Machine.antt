@@ -52,7 +52,7 @@ symbols stack = map (λ (e : Entry). e.symbol) stack
 abbrev pub entry_of : ℕ → Tree → Entry
 entry_of symbol tree = record { symbol = symbol; tree = tree }
 
--- the first token left, or the end
+-- the first upcoming token, or the end
 abbrev pub lookahead : List (ℕ × ℕ) → ℕ
 lookahead [] = 0
 lookahead (token ∷ rest) = token.0
@@ -73,7 +73,7 @@ width m r = length (m.rule r).body
 abbrev pub fail_step : Configuration → StepKind × Configuration
 fail_step c = (kinds.Fail, record c { mode = Failed })
 
--- the first token left goes to the stack, and the counter falls by one, not below 0
+-- the first upcoming token goes to the stack, and the counter falls by one, not below 0
 abbrev pub shift_step : Configuration → List (ℕ × ℕ) → StepKind × Configuration
 shift_step c [] = fail_step c
 shift_step c (token ∷ rest) = (
@@ -96,7 +96,7 @@ reduce_step m c r = (
   },
 )
 
--- the first token left is dropped; where none is left the parse gives up
+-- the first upcoming token is dropped; where there is none the parse gives up
 abbrev pub discard_step : Configuration → List (ℕ × ℕ) → StepKind × Configuration
 discard_step c [] = fail_step c
 discard_step c (token ∷ rest) = (kinds.Discard token.0, record c { rest = rest })

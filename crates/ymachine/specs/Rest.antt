@@ -35,11 +35,11 @@ ahead tokens r =
 abbrev pub is_left : List ℕ → Rest → Bool
 is_left tokens r = nat_lt 0 (length r.inserted) || nat_lt r.at (length tokens)
 
--- the place of the first token left
+-- the place of the first upcoming token
 abbrev pub place_left : Rest → ℕ
 place_left r = if length r.inserted == 0 then r.at + 1 else 0
 
--- the first token left goes
+-- the first upcoming token goes
 abbrev pub without_first : Rest → Rest
 without_first r =
     if length r.inserted == 0 then record r { at = r.at + 1 }
@@ -59,6 +59,6 @@ with_insertion token r = record r { inserted = r.inserted ++ token ∷ []; edits
 abbrev pub without_insertion : Rest → Rest
 without_insertion r = record r { inserted = without_last 1 r.inserted; edits = r.edits - 1 }
 
--- all tokens first read are left
+-- all tokens first read are upcoming
 abbrev pub first_rest : Rest
 first_rest = record { inserted = []; at = 0; edits = 0 }

@@ -1,11 +1,12 @@
 //! A parse that goes by tables, and steps forward and back in place.
 
 ghost use Rattle.std.specs.Prelude.{◌≡◌, ◌<◌, IsTrue, IfSome, Option, is_some, length};
-ghost use Rattle.std.specs.Prelude.{slice_index_or};
+ghost use Rattle.std.specs.Prelude.{slice_index_or, Some};
 ghost use Rattle.ymachine.specs.Ahead.{LeadsOn};
 ghost use Rattle.ymachine.specs.Content.{Place, configuration_of, first_place, place_after, valid};
 ghost use Rattle.ymachine.specs.Content.{place_next, place_before, place_fits};
 ghost use Rattle.ymachine.specs.History.{History};
+ghost use Rattle.ymachine.specs.Machine.{symbols};
 ghost use Rattle.ymachine.specs.MachineOver.{machine_over};
 ghost use Rattle.ymachine.specs.Place.{IsKept};
 ghost use Rattle.ymachine.specs.Reversible.{Advances};
@@ -13,6 +14,7 @@ ghost use Rattle.ymachine.specs.Rightmost.{UnwindsRight};
 ghost use Rattle.ymachine.specs.declared.machine.StepKind.{StepKind as Kind};
 ghost use Rattle.ymachine.specs.Shown.{GoesByMachine};
 ghost use Rattle.ymachine.specs.Spelling.{Spells};
+ghost use Rattle.ymachine.specs.Tables.{state_after};
 ghost use Rattle.ytokens.specs.Symbols.{is_input};
 ghost use Rattle.ytokens.specs.Tokens.{Fits, symbols_of};
 ghost use Rattle.ymachine.specs.Tree.{error_leaf};
@@ -23,7 +25,7 @@ ghost use Rattle.ylink.specs.Sends.{Sends};
 use crate::journal::Journal;
 use crate::kinds::{edit_ahead, step_ahead};
 use crate::machine::{Edit, StepFault, StepKind};
-use crate::parts::{Frame, Parts, PlaceChange, children_of, make, make_room, unmake};
+use crate::parts::{Frame, Parts, PlaceChange, children_of, make, make_room, state_below, unmake};
 use crate::reversible::Reversible;
 use crate::tables::{grammar_of, known, name_of};
 use crate::tree_view::TreeView;
@@ -72,6 +74,21 @@ impl PlaceParser {
             parts: Parts::new(alloc),
             walk: Vec::new(alloc),
         }
+    }
+
+    /// The tables that it goes by.
+    pub fn tables(&self) -> &Tables
+        ensures { result.now ≡ self.now.tables }
+    {
+        &self.tables
+    }
+
+    /// The state to which the gotos lead over the stack's symbols.
+    pub fn state(&self) -> usize
+        ensures { state_after self.now.tables (symbols (configuration_of self.now).stack)
+            ≡ Some result }
+    {
+        state_below(&self.parts.stack, self.parts.stack.len())
     }
 
     /// The printed name of a symbol; empty for a number that is no symbol.

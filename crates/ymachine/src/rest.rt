@@ -19,7 +19,7 @@ pub struct Remaining {
     pub(crate) edits: usize,
 }
 
-/// All tokens first read are left.
+/// All tokens first read are upcoming.
 pub(crate) fn first_rest(alloc: Global) -> Remaining
     ensures { rest_in result ≡ first_rest }
 {
@@ -60,14 +60,14 @@ pub(crate) fn is_left(tokens: &[Sym], rest: &Remaining) -> bool
     0 < rest.inserted.len() || rest.at < tokens.len()
 }
 
-/// How many tokens are left.
+/// How many upcoming tokens there are.
 pub(crate) fn left_len(tokens: &[Sym], rest: &Remaining) -> usize
     ensures { result ≡ length (rest_left tokens.now (rest_in rest.now)) }
 {
     rest.inserted.len() + tokens.len().saturating_sub(rest.at)
 }
 
-/// A token that is left, and its place.
+/// An upcoming token, and its place.
 pub(crate) fn left_at(tokens: &[Sym], rest: &Remaining, index: usize) -> (Sym, usize)
     requires { index < length (rest_left tokens.now (rest_in rest.now)) }
     ensures { result ≡ slice_index_or (rest_left tokens.now (rest_in rest.now)) index (0, 0) }
@@ -80,7 +80,7 @@ pub(crate) fn left_at(tokens: &[Sym], rest: &Remaining, index: usize) -> (Sym, u
     (tokens[at], at + 1)
 }
 
-/// The place of the first token left: 0 for one that was inserted.
+/// The place of the first upcoming token: 0 for one that was inserted.
 pub(crate) fn place_left(rest: &Remaining) -> usize
     requires { rest.now.at < 2 ^ 63 }
     ensures { result ≡ place_left (rest_in rest.now) }
@@ -92,7 +92,7 @@ pub(crate) fn place_left(rest: &Remaining) -> usize
     }
 }
 
-/// The first token left goes.
+/// The first upcoming token goes.
 pub(crate) fn take(rest: &mut Remaining)
     requires { rest.old.at < 2 ^ 63 }
     ensures rest { rest_in rest.new ≡ without_first (rest_in rest.old) }

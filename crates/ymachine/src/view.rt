@@ -46,7 +46,7 @@ impl<'a> View<'a> {
         self.parts.stack[index].symbol
     }
 
-    /// How many tokens are left.
+    /// How many upcoming tokens there are.
     #[tactic(auto, unfolding(crate::specs::View::configuration_by))]
     pub fn rest_len(&self) -> usize
         ensures { result ≡ length (configuration_by self.now).rest }
@@ -54,7 +54,7 @@ impl<'a> View<'a> {
         left_len(self.tokens, &self.parts.rest)
     }
 
-    /// A token that is left, and its place among the tokens first read, counted from 1; 0 is the
+    /// An upcoming token, and its place among the tokens first read, counted from 1; 0 is the
     /// place of one that was inserted.
     #[tactic(auto, unfolding(crate::specs::View::configuration_by))]
     pub fn rest(&self, index: usize) -> (Sym, usize)

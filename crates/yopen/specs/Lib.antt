@@ -1,1 +1,3 @@
+pub mod Buffered
+pub mod Files
 pub mod Open

@@ -1,12 +1,13 @@
 //! Files as openers.
 
-ghost use Rattle.std.specs.Prelude.{⊤};
+ghost use Rattle.std.specs.Prelude.{◌≡◌, ◌++◌, ⊤};
+ghost use Rattle.yopen.specs.Files.{new_path, old_path};
 
+use crate::buffered::Buffered;
 use crate::open::Open;
 use std::alloc::Global;
-use std::fs;
-use std::io::{self, BufWriter};
 use std::rt::Files;
+use std::{fs, io};
 
 /// The file at a path, opened to be read.
 #[derive(Clone, Copy, Debug)]
@@ -17,7 +18,9 @@ pub struct OldFile<'a, F> {
 
 impl<'a, F> OldFile<'a, F> {
     /// The file at this path.
-    pub fn new(files: &'a F, path: &'a str) -> Self {
+    pub fn new(files: &'a F, path: &'a str) -> Self
+        ensures { old_path result ≡ path.now }
+    {
         OldFile { files, path }
     }
 }
@@ -42,7 +45,9 @@ pub struct NewFile<'a, F> {
 
 impl<'a, F> NewFile<'a, F> {
     /// The file whose path is this prefix and then this ending.
-    pub fn new(files: &'a F, prefix: &'a str, ending: &'a str) -> Self {
+    pub fn new(files: &'a F, prefix: &'a str, ending: &'a str) -> Self
+        ensures { new_path result ≡ prefix.now ++ ending.now }
+    {
         NewFile {
             files,
             prefix,
@@ -52,14 +57,14 @@ impl<'a, F> NewFile<'a, F> {
 }
 
 impl<'a, F: Files + AllocGlobal> Open for NewFile<'a, F> {
-    type Device = BufWriter<F::File>;
+    type Device = Buffered<F::File>;
 
     ghost opens = { λ _ _. ⊤ };
 
-    fn open(&mut self) -> io::Result<BufWriter<F::File>> {
+    fn open(&mut self) -> io::Result<Buffered<F::File>> {
         let alloc: Global = self.files.alloc();
         let path = format!(in alloc; "{}{}", self.prefix, self.ending)?;
         let file = fs::create(self.files, path.as_str())?;
-        Ok(BufWriter::new(alloc, file)?)
+        Buffered::new(alloc, file)
     }
 }

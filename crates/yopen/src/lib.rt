@@ -1,8 +1,11 @@
-//! What opens readers and writers when they are due, and the bytes that a reader tells.
+//! What opens readers and writers when they are due, the bytes that a reader tells, and writers
+//! through a buffer.
 #![tactic(auto)]
 
+pub mod buffered;
 pub mod bytes;
 pub mod files;
 pub mod open;
 
+pub use buffered::Buffered;
 pub use open::Open;

@@ -1,6 +1,7 @@
 -- What a session is: a machine, the tokens first read, and a history.
 use Rattle.std.specs.Prelude.{ℕ, List, reverse}
 use Rattle.ysymbols.specs.Grammar.{GrammarValue}
+use Rattle.ytables.specs.Tables.{TablesValue as Tables}
 use Rattle.ymachine.specs.declared.machine.StepKind.{StepKind}
 use Rattle.yparse.specs.declared.session.Session.{Session}
 use Rattle.ymachine.specs.Machine.{Machine}
@@ -14,9 +15,10 @@ use Rattle.ymachine.specs.Shown.{past_view}
 abbrev pub past_of : Session → Past StepKind Place
 past_of s = s.journal
 
--- what a session goes by from its first step to its last: a grammar, its machine, and the tokens
--- first read
+-- what a session goes by from its first step to its last: tables, their grammar and machine, and
+-- the tokens first read
 pub record Setting : Type 0 where
+  pub tables : Tables
   pub grammar : GrammarValue
   pub machine : Machine
   pub tokens : List ℕ
@@ -24,6 +26,7 @@ pub record Setting : Type 0 where
 -- the setting of a content
 abbrev pub setting_at : Place → Setting
 setting_at p = record {
+  tables = p.tables;
   grammar = p.tables.built.grammar;
   machine = machine_over p.tables;
   tokens = p.tokens;
@@ -32,6 +35,10 @@ setting_at p = record {
 -- the setting of a session
 unfoldable pub setting_of : Session → Setting
 setting_of s = setting_at s.journal.now
+
+-- its tables
+abbrev pub tables_of : Session → Tables
+tables_of s = (setting_of s).tables
 
 -- the grammar of its tables
 abbrev pub grammar_of : Session → GrammarValue

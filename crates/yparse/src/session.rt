@@ -81,12 +81,13 @@ impl Session {
     ghost use Rattle.ymachine.specs.Rightmost.{UnwindsRight};
     ghost use Rattle.ytokens.specs.Tokens.{Fits, symbols_of};
     ghost use Rattle.yparse.specs.Session.{setting_of, machine_of, history_of, tokens_of};
-    ghost use Rattle.yparse.specs.Session.{grammar_of};
+    ghost use Rattle.yparse.specs.Session.{grammar_of, tables_of};
     ghost use Rattle.yparse.specs.Session.{past_of};
 
     /// The first configuration alone: an empty stack, all tokens, no error. It takes no memory.
     pub fn new(alloc: Global, tables: Tables, tokens: Tokens) -> Session
         requires { Fits tables.built.grammar (symbols_of tokens) }
+        ensures tables { tables_of result ≡ tables }
         ensures machine { machine_of result ≡ machine_over tables }
         ensures tokens { tokens_of result ≡ symbols_of tokens }
         ensures grammar { grammar_of result ≡ tables.built.grammar }

@@ -1,9 +1,11 @@
 //! What a session shows of its configuration: a view of it, and its trees.
 
-ghost use Rattle.std.specs.Prelude.{◌≡◌, ◌<◌, length, slice_index_or, IfErr, is_ok, is_err};
+ghost use Rattle.std.specs.Prelude.{◌≡◌, ◌<◌, length, slice_index_or, Some, IfErr, is_ok, is_err};
 ghost use Rattle.ylink.specs.Link.{device_of, has_failed};
 ghost use Rattle.ylink.specs.Sends.{Grows};
-ghost use Rattle.yparse.specs.Session.{history_of, machine_of, setting_of};
+ghost use Rattle.yparse.specs.Session.{history_of, machine_of, setting_of, tables_of};
+ghost use Rattle.ymachine.specs.Machine.{symbols};
+ghost use Rattle.ymachine.specs.Tables.{state_after};
 ghost use Rattle.ymachine.specs.Tree.{error_leaf};
 ghost use Rattle.ymachine.specs.Unwinding.{tree_lines};
 ghost use Rattle.ymachine.specs.View.{configuration_by, tree_by, trees_in};
@@ -13,9 +15,27 @@ use crate::session::Session;
 use std::io::Write;
 use ymachine::machine::UnwindFault;
 use ymachine::{TreeView, View};
-use ytables::Link;
+use ytables::{Link, Tables};
 
 impl Session {
+    /// The tables that the session goes by. It takes no memory.
+    #[tactic(auto, unfolding(crate::specs::Session::setting_of))]
+    pub fn tables(&self) -> &Tables
+        ensures { result.now ≡ tables_of self.now }
+    {
+        self.journal.machine().tables()
+    }
+
+    /// The number of the state to which the gotos of the tables lead over the stack's symbols. It
+    /// takes no memory.
+    #[tactic(auto, unfolding(crate::specs::Session::setting_of, crate::specs::Session::history_of))]
+    pub fn state(&self) -> usize
+        ensures { state_after (tables_of self.now) (symbols (history_of self.now).now.stack)
+            ≡ Some result }
+    {
+        self.journal.machine().state()
+    }
+
     /// The configuration now. It takes no memory.
     #[tactic(auto, unfolding(crate::specs::Session::history_of))]
     pub fn view(&self) -> View<'_>

@@ -2,9 +2,10 @@
 #![tactic(auto)]
 
 use std::env;
-use std::io::{self, BufWriter, ErrorKind, Write};
+use std::io::{self, ErrorKind, Write};
 use std::process::ExitCode;
 use ycli::programs::ystep_run;
+use yopen::Buffered;
 use ytables::Link;
 
 /// Passes on the words and the standard streams, and gives the exit status.
@@ -16,7 +17,7 @@ fn status(rt: &HostRuntime) -> io::Result<u8> {
         words.push(word.as_str())?;
     }
     let mut reader = Link::new(rt.stdin());
-    let mut writer = Link::new(BufWriter::new(alloc, rt.stdout())?);
+    let mut writer = Link::new(Buffered::new(alloc, rt.stdout())?);
     let mut errors = Link::new(rt.stderr());
     Ok(ystep_run(rt, &words, &mut reader, &mut writer, &mut errors))
 }

@@ -2,10 +2,9 @@
 
 use std::alloc::Global;
 use std::test::Fail;
-use testkit::devices::{Refusal, Sink, Source};
+use testkit::devices::{Refusal, Sink};
 use testkit::tables::tables_of;
-use testkit::worked::{SPOILED, STORED, SUM, Worked, behind, first_lines};
-use ycli::run::run_session;
+use testkit::worked::{SHORT, SPOILED, SUM, Worked, behind, first_lines};
 use yparse::machine::UnwindFault;
 use yparse::{Session, read_tokens};
 use ytables::Link;
@@ -17,14 +16,15 @@ enum Written {
     Forms,
 }
 
-/// What a session wrote before a refusal, how that was answered, where it stood then, and what it
-/// replied after it.
+/// What a session wrote before a refusal, how that was answered, where it stood then, how many
+/// steps it made after it, and its trees in the end.
 #[derive(Drop)]
 struct Resumed {
     answer: Result<(), UnwindFault>,
     before: Sink,
     position: usize,
-    after: Sink,
+    steps: usize,
+    trees: Sink,
 }
 
 /// A session at its start.
@@ -34,54 +34,55 @@ fn session_of(alloc: Global, worked: Worked) -> Result<Session, Fail> {
     Ok(Session::new(alloc, tables, tokens))
 }
 
-/// Makes twenty steps, then writes the trees or the forms.
+/// Makes all steps, and answers how many.
+fn run(session: &mut Session) -> usize {
+    let mut steps: usize = 0;
+    for _ in 0..20 {
+        steps = steps.wrapping_add(usize::from(session.step().is_ok()));
+    }
+    steps
+}
+
+/// Writes the trees or the forms.
 fn write(
     session: &mut Session,
     written: Written,
     link: &mut Link<Sink>,
 ) -> Result<(), UnwindFault> {
-    for _ in 0..20 {
-        let _ = session.step();
-    }
     match written {
         Written::Trees => session.write_trees(link),
         Written::Forms => session.unwind(link),
     }
 }
 
-/// Writes the trees or the forms into a writer of one byte a call that refuses this call, and then
-/// obeys these commands.
-fn resume(
-    alloc: Global,
-    worked: Worked,
-    written: Written,
-    call: usize,
-    commands: &[u8],
-) -> Result<Resumed, Fail> {
+/// Makes all steps, and writes the trees or the forms into a writer of one byte a call that refuses
+/// this call; then goes on.
+fn resume(alloc: Global, worked: Worked, written: Written, call: usize) -> Result<Resumed, Fail> {
     let mut session = session_of(alloc, worked)?;
     let mut before = Link::new(Sink::new(1, Refusal::Refuses(call)));
+    let mut trees = Link::new(Sink::new(4096, Refusal::Never));
+    let _ = run(&mut session);
     let answer = write(&mut session, written, &mut before);
     let position = session.position();
-    let mut reader = Link::new(Source::new(commands, 4096, 0));
-    let mut after = Link::new(Sink::new(4096, Refusal::Never));
-    let _ = run_session(session, &mut reader, &mut after);
+    let steps = run(&mut session);
+    let _ = session.write_trees(&mut trees);
+    drop(session);
     Ok(Resumed {
         answer,
         before: before.into_inner(),
         position,
-        after: after.into_inner(),
+        steps,
+        trees: trees.into_inner(),
     })
 }
 
 #[test]
 fn stepping_goes_on_behind_a_refused_form(rt: HostRuntime) -> Result<(), Fail> {
-    let resumed = resume(rt.alloc(), STORED, Written::Forms, 3, b"step\n")?;
-    assert_eq!(rt;
-        (resumed.answer, resumed.position),
-        (Err(UnwindFault::Write), 1)
-    );
+    let resumed = resume(rt.alloc(), SHORT, Written::Forms, 3)?;
+    assert_eq!(rt; resumed.answer, Err(UnwindFault::Write));
     assert_eq!(rt; resumed.before.text(), b"s\n".as_slice());
-    assert_eq!(rt; resumed.after.text(), b"2 reduce 1\n".as_slice());
+    assert_eq!(rt; (resumed.position, resumed.steps), (1, 2));
+    assert_eq!(rt; resumed.trees.text(), b"(1 'x'@1)\n".as_slice());
     Ok(())
 }
 
@@ -90,7 +91,7 @@ fn stepping_goes_on_behind_a_refused_form(rt: HostRuntime) -> Result<(), Fail> {
 fn resumes(alloc: Global, call: usize) -> Result<bool, Fail> {
     // Where the forms stand, the last first.
     let positions = [11usize, 9, 8, 7, 4, 1];
-    let resumed = resume(alloc, SUM, Written::Forms, call, b"run 20\ntree\n")?;
+    let resumed = resume(alloc, SUM, Written::Forms, call)?;
     let written = resumed.before.text();
     let whole = written.iter().filter(|byte| **byte == b'\n').count();
     let position = positions.get(whole).copied().unwrap_or(0);
@@ -99,10 +100,8 @@ fn resumes(alloc: Global, call: usize) -> Result<bool, Fail> {
             && written.len() == call.saturating_sub(1)
             && behind(SUM.text, 12).starts_with(written)
             && resumed.position == position
-            && resumed
-                .after
-                .text()
-                .ends_with(behind(first_lines(SUM.text, 12), position)),
+            && resumed.steps == 11usize.saturating_sub(position)
+            && resumed.trees.text() == behind(first_lines(SUM.text, 12), 11),
     )
 }
 
@@ -119,15 +118,15 @@ fn a_refusal_at_each_call_of_the_forms(rt: HostRuntime) -> Result<(), Fail> {
 /// Whether a refusal at this call of the trees, which stand behind so many steps, leaves the
 /// session as it was.
 fn keeps_its_trees(alloc: Global, worked: Worked, steps: usize, call: usize) -> Result<bool, Fail> {
-    let resumed = resume(alloc, worked, Written::Trees, call, b"tree\n")?;
+    let resumed = resume(alloc, worked, Written::Trees, call)?;
     let trees = behind(first_lines(worked.text, steps.saturating_add(1)), steps);
     let written = resumed.before.text();
     Ok(
         resumed.answer == Err(UnwindFault::Write)
             && written.len() == call.saturating_sub(1)
             && trees.starts_with(written)
-            && resumed.position == steps
-            && resumed.after.text() == trees,
+            && (resumed.position, resumed.steps) == (steps, 0)
+            && resumed.trees.text() == trees,
     )
 }
 

@@ -2,16 +2,12 @@
 
 use std::alloc::Global;
 use std::test::Fail;
-use ygrammar::read_grammar;
-use ylalr::{ERROR, build};
-use ymachine::machine::{AtStart, Edit, Mode, StepFault, StepKind as Kind};
-use ymachine::{Journal, SnapshotParser};
-use ysymbols::Sym;
-use ytables::resolve;
-use ytokens::read_tokens;
-
-/// Lists of numbers, each behind it a semicolon; `error` stands for one that is spoiled.
-const LIST: &[u8] = b"%token NUM %% list : | list NUM ';' | list error ';' ;";
+use testkit::tables::tables_of;
+use testkit::worked::{LIST, ONE, SUMS};
+use ygrammar::Sym;
+use ylalr::ERROR;
+use yparse::machine::{AtStart, Edit, Mode, StepFault, StepKind as Kind};
+use yparse::{Journal, SnapshotParser, read_tokens};
 
 const NUM: Sym = 2;
 
@@ -19,14 +15,9 @@ const SEMICOLON: Sym = 3;
 
 const LIST_SYMBOL: Sym = 5;
 
-/// Sums and products of numbers.
-const SUM: &[u8] = b"%token NUM %left '+' %left '*' %% e : e '+' e | e '*' e | NUM ;";
-
 const PLUS: Sym = 3;
 
 const SUM_SYMBOL: Sym = 6;
-
-const ONE: &[u8] = b"%% s : 'x' ;";
 
 const X: Sym = 2;
 
@@ -57,7 +48,7 @@ fn journal_of(
     grammar: &[u8],
     tokens: &[u8],
 ) -> Result<Journal<SnapshotParser>, Fail> {
-    let tables = resolve(alloc, build(alloc, read_grammar(alloc, grammar)?)?)?;
+    let tables = tables_of(alloc, grammar)?;
     let tokens = read_tokens(alloc, &tables, tokens)?;
     Ok(Journal::new(alloc, SnapshotParser::new(alloc, tables, tokens)))
 }
@@ -215,7 +206,7 @@ fn an_inserted_token_and_its_undos(rt: HostRuntime) -> Result<(), Fail> {
         Turn::Undone(FIRST),
         Turn::Start,
     ];
-    assert!(rt; goes(rt.alloc(), (SUM, b"NUM NUM"), &turns)?);
+    assert!(rt; goes(rt.alloc(), (SUMS, b"NUM NUM"), &turns)?);
     Ok(())
 }
 
