@@ -1,0 +1,7 @@
+%token N
+%%
+s : a
+  | b 'x' 'y'
+  ;
+a : N 'x' ;
+b : N ;

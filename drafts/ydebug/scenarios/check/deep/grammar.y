@@ -1,0 +1,7 @@
+%left 'x'
+%left HI
+%%
+s : e s
+  | 'x'
+  ;
+e : %prec HI ;

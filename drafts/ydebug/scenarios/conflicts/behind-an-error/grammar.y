@@ -1,0 +1,8 @@
+%token A
+%%
+s : A
+  | error a A
+  | error b A
+  ;
+a : ;
+b : ;

@@ -1,0 +1,9 @@
+%token A B
+%%
+s : { one } A
+  |
+    { two }
+    { three } A B
+  | B
+    { last }
+  ;

@@ -1,0 +1,6 @@
+%token N
+%nonassoc '<'
+%%
+e : e '<' e
+  | N
+  ;

@@ -1,0 +1,5 @@
+%token NUM
+%%
+e : NUM
+  | e PLUS NUM
+  ;

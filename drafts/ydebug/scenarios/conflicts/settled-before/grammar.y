@@ -1,0 +1,11 @@
+%token A B
+%%
+s : a B
+  | a c A
+  ;
+a :
+  | A
+  ;
+c :
+  | A
+  ;

@@ -1,0 +1,6 @@
+%token NUM
+%%
+e : e '+' e
+  | e '*' e
+  | NUM
+  ;

@@ -1,0 +1,11 @@
+%token N
+%left '+'
+%left HIGH
+%%
+s : e
+  | f '+'
+  | g '+'
+  ;
+e : N '+' N ;
+f : N %prec HIGH ;
+g : N ;

@@ -1,0 +1,4 @@
+%token A
+%start A
+%%
+s : A ;

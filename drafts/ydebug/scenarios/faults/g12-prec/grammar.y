@@ -1,0 +1,4 @@
+%token A
+%%
+s : A %prec t ;
+t : A ;

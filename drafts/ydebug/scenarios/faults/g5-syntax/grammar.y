@@ -1,0 +1,2 @@
+%token A
+s : A ;

@@ -1,0 +1,4 @@
+%token A
+%type <t> A
+%%
+s : A ;

@@ -1,0 +1,5 @@
+%token A
+%%
+s : A
+  | A	B C
+  ;

@@ -1,0 +1,5 @@
+%token A
+%left A '+'
+%right '*' '+'
+%%
+s : A ;
