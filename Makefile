@@ -7,8 +7,9 @@
 # make refuse     refuses allocations of a run, each once and each with all behind it, on every example and some scenarios; FILES="a.y b.y" refuses some thousands over these grammar files instead
 # make compare    compares the programs that make build left with plain machines in Python, on grammars drawn at random, for a minute, and verdicts with sessions over every scenario; FILES="a.y b.y" adds these, cut off and spoiled, with a second reader
 # make hostile    runs both programs, proved, between devices that fail and on files and streams that are no one's friends
-# make test       the gate: every proof from nothing, the must-fail edits, the tests, the stored runs, the scenarios, make hostile, make refuse over three examples
-.PHONY: demo examples scenarios accept build bench refuse compare hostile test
+# make edits      tries every wrong body that the prover must refuse, also those that the gate leaves out; some 40 minutes
+# make test       the gate: every proof from nothing, the wrong bodies in must-fail, the tests, the stored runs, the scenarios, make hostile, make refuse over three examples
+.PHONY: demo examples scenarios accept build bench refuse compare hostile edits test
 
 programs := $(foreach file,$(wildcard crates/*/src/main.rt),$(notdir $(file:/src/main.rt=)))
 run := python3 scenarios/run.py $(foreach name,$(programs),$(name)=crates/$(name)/out/$(name))
@@ -42,6 +43,9 @@ compare:
 
 hostile: build
 	@$(hostile)
+
+edits:
+	@python3 scripts/edits.py
 
 test:
 	@python3 scripts/gate.py scripts/rings.py scenarios/kinds.py examples/trace.py -- $(run) $(both) -- $(hostile) -- $(refuse) --few
