@@ -3,7 +3,7 @@
 set -eu
 top=$(cd "$(dirname "$0")/.." && pwd)
 mkdir -p "$top/bin"
-for name in yacc ystep verdicts calls; do
+for name in yacc ystep ydebug verdicts calls; do
   cd "$top/crates/$name"
   case $name in
     verdicts | calls) set -- data/one.y data/one.tokens ;;

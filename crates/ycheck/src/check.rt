@@ -1,0 +1,260 @@
+//! `ydebug check`: the verdict on each tokens file, by tables that are made once.
+
+use crate::expected::{Wanted, expected, states_after};
+use std::alloc::{AllocError, Global};
+use std::fs;
+use std::io::{self, ErrorKind, Read, Write};
+use std::rt::Files;
+use yexplain::reads::grammar_of;
+use yexplain::text::{Name, Names};
+use yfaults::opening::{open_grammar, put_near_token, put_token_fault};
+use ylalr::END;
+use yparse::{TokenFault, Tokens, Verdict, judge, read_tokens};
+use ysymbols::{Grammar, Sym};
+use ytables::Tables;
+
+/// The most tokens that are named of those before an error, and of those that were expected.
+const MOST_NAMED: usize = 20;
+
+/// What is asked for: verdicts on tokens files by a grammar file, and whether to say if it has
+/// choices.
+#[derive(Clone, Copy, Debug)]
+pub struct Check<'a> {
+    pub grammar: &'a str,
+    pub tokens: &'a [&'a str],
+    pub choice: bool,
+}
+
+/// What is said of a tokens file: what came of it, for the exit status.
+#[derive(Clone, Copy, Debug, Drop, PartialEq, Eq)]
+enum Said {
+    /// It is accepted.
+    Good,
+    /// It isn't, or is refused.
+    Bad,
+    /// It can't be read, or memory was refused.
+    Outside,
+}
+
+impl Said {
+    fn status(self) -> u8 {
+        match self {
+            Said::Good => 0,
+            Said::Bad => 1,
+            Said::Outside => 3,
+        }
+    }
+}
+
+/// The tokens of a file, and the verdict on them.
+#[derive(Drop)]
+struct Judged {
+    tokens: Tokens,
+    verdict: Verdict,
+}
+
+/// What verdicts are written by.
+#[derive(Clone, Copy)]
+struct Judge<'a> {
+    alloc: Global,
+    tables: &'a Tables,
+}
+
+/// All bytes of a tokens file, or of standard input.
+fn bytes_of<F: Files + AllocGlobal, R: Read>(
+    rt: &F,
+    input: &mut R,
+    path: &str,
+) -> io::Result<Vec<u8>> {
+    if path != "-" {
+        return fs::read(rt, path);
+    }
+    let mut bytes = Vec::new(rt.alloc());
+    input.read_to_end(&mut bytes)?;
+    Ok(bytes)
+}
+
+/// The tokens that the bytes mean, and the verdict on them.
+fn judge_bytes(alloc: Global, tables: &Tables, source: &[u8]) -> Result<Judged, TokenFault> {
+    let tokens = read_tokens(alloc, tables, source)?;
+    match judge(alloc, tables, &tokens) {
+        Ok(verdict) => Ok(Judged { tokens, verdict }),
+        Err(_) => Err(TokenFault::Memory),
+    }
+}
+
+/// Writes that a tokens file can't be read, or that there is no memory.
+fn put_unread<W: Write>(out: &mut W, path: &str, error: &io::Error) -> io::Result<Said> {
+    match error.kind() {
+        ErrorKind::OutOfMemory => put_memory(out, path),
+        _ => {
+            writeln!(out, "{path}: cannot read it")?;
+            Ok(Said::Outside)
+        }
+    }
+}
+
+/// Writes that there is no memory for a tokens file.
+fn put_memory<W: Write>(out: &mut W, path: &str) -> io::Result<Said> {
+    writeln!(out, "{path}: no memory")?;
+    Ok(Said::Outside)
+}
+
+/// Writes the first of some tokens behind a space each, and dots where there are more.
+fn put_first<W: Write>(out: &mut W, grammar: &Grammar, tokens: &[Sym]) -> io::Result<()> {
+    let first = tokens.get(..MOST_NAMED).unwrap_or(tokens);
+    let names = Names(grammar, first);
+    let more = if tokens.len() > MOST_NAMED { " .." } else { "" };
+    write!(out, "{names}{more}")
+}
+
+/// Writes the last of some tokens behind a space each, and dots where there are more.
+fn put_last<W: Write>(out: &mut W, grammar: &Grammar, tokens: &[Sym]) -> io::Result<()> {
+    let start = tokens.len().saturating_sub(MOST_NAMED);
+    let names = Names(grammar, tokens.get(start..).unwrap_or(tokens));
+    let more = if start > 0 { " .." } else { "" };
+    write!(out, "{more}{names}")
+}
+
+/// Writes which tokens were expected, as the end of a line.
+fn put_wanted<W: Write>(out: &mut W, grammar: &Grammar, wanted: &Wanted) -> io::Result<()> {
+    if wanted.can.is_empty() && wanted.unknown.is_empty() {
+        return writeln!(out, "; nothing can");
+    }
+    if !wanted.can.is_empty() {
+        write!(out, "; expected")?;
+        put_first(out, grammar, &wanted.can)?;
+    }
+    if !wanted.unknown.is_empty() {
+        write!(out, "; can't tell of")?;
+        put_first(out, grammar, &wanted.unknown)?;
+    }
+    writeln!(out)
+}
+
+/// Writes which tokens stand before an error.
+fn put_before<W: Write>(out: &mut W, grammar: &Grammar, before: &[Sym]) -> io::Result<()> {
+    if before.is_empty() {
+        return writeln!(out, "  at the start");
+    }
+    write!(out, "  after")?;
+    put_last(out, grammar, before)?;
+    writeln!(out)
+}
+
+impl Judge<'_> {
+    /// Writes the verdict on a tokens file of these bytes.
+    fn put_file<W: Write>(self, out: &mut W, path: &str, source: &[u8]) -> io::Result<Said> {
+        match judge_bytes(self.alloc, self.tables, source) {
+            Ok(judged) => self.put_verdict(out, path, &judged),
+            Err(TokenFault::Memory) => put_memory(out, path),
+            Err(fault) => {
+                let grammar = grammar_of(self.tables);
+                put_token_fault(out, path, source, fault)?;
+                put_near_token(out, self.alloc, grammar, source, fault)?;
+                Ok(Said::Bad)
+            }
+        }
+    }
+
+    fn put_verdict<W: Write>(self, out: &mut W, path: &str, judged: &Judged) -> io::Result<Said> {
+        match judged.verdict {
+            Verdict::Accepted(steps) => {
+                writeln!(out, "{path}: good: accepted in {steps} steps")?;
+                Ok(Said::Good)
+            }
+            Verdict::Rejected(place) => self.put_rejected(out, path, &judged.tokens.symbols, place),
+            Verdict::Limit => {
+                writeln!(out, "{path}: deep: more than 1,000,000 steps")?;
+                Ok(Said::Bad)
+            }
+        }
+    }
+
+    /// Writes that the token at a place can't come, which tokens can, and those before it.
+    fn put_rejected<W: Write>(
+        self,
+        out: &mut W,
+        path: &str,
+        tokens: &[Sym],
+        place: usize,
+    ) -> io::Result<Said> {
+        let taken = place.saturating_sub(1);
+        let before = tokens.get(..taken).unwrap_or(tokens);
+        let token = tokens.get(taken).copied().unwrap_or(END);
+        let Ok(wanted) = self.wanted(before) else {
+            return put_memory(out, path);
+        };
+        let grammar = grammar_of(self.tables);
+        let name = Name(grammar, token);
+        write!(out, "{path}: bad: {place}: {name} can't come here")?;
+        put_wanted(out, grammar, &wanted)?;
+        put_before(out, grammar, before)?;
+        Ok(Said::Bad)
+    }
+
+    /// The tokens that can come behind some others.
+    fn wanted(self, before: &[Sym]) -> Result<Wanted, AllocError> {
+        let states = states_after(self.alloc, self.tables, before)?;
+        expected(self.alloc, self.tables, &states)
+    }
+
+    /// Writes whether the grammar has choices.
+    fn put_choice<W: Write>(self, out: &mut W, path: &str) -> io::Result<()> {
+        if self.tables.choice_free() {
+            writeln!(
+                out,
+                "{path}: no cell has a choice, so the answers are those of the grammar's language"
+            )
+        } else {
+            writeln!(
+                out,
+                "{path}: cells have choices, so a list that is bad here may be in the grammar's \
+                 language"
+            )
+        }
+    }
+}
+
+/// Writes the verdict on each tokens file, and gives the greatest of their statuses.
+fn put_all<F: Files + AllocGlobal, R: Read, W: Write>(
+    rt: &F,
+    input: &mut R,
+    out: &mut W,
+    judge: Judge<'_>,
+    files: &[&str],
+) -> io::Result<u8> {
+    let mut status = 0;
+    for path in files {
+        let said = match bytes_of(rt, input, path) {
+            Ok(bytes) => judge.put_file(out, path, &bytes)?,
+            Err(error) => put_unread(out, path, &error)?,
+        };
+        status = said.status().max(status);
+    }
+    Ok(status)
+}
+
+/// Writes what is asked for, and gives the exit status: 0 where all files are accepted, 1 where the
+/// grammar or a tokens file is refused or one isn't accepted, 3 where one can't be read, or for
+/// want of memory. Faults of the grammar file go to `errors`.
+pub fn run_check<F: Files + AllocGlobal, R: Read, W: Write, E: Write>(
+    rt: &F,
+    asked: Check<'_>,
+    input: &mut R,
+    out: &mut W,
+    errors: &mut E,
+) -> io::Result<u8> {
+    let opened = match open_grammar(rt, asked.grammar, errors)? {
+        Ok(opened) => opened,
+        Err(status) => return Ok(status),
+    };
+    let judge = Judge {
+        alloc: rt.alloc(),
+        tables: &opened.tables,
+    };
+    if asked.choice {
+        judge.put_choice(out, asked.grammar)?;
+    }
+    put_all(rt, input, out, judge, asked.tokens)
+}

@@ -1,0 +1,179 @@
+//! The tokens that can come, each tried over the states of a stack without a change to them.
+
+use std::alloc::{AllocError, Global};
+use yexplain::reads::{action_of, body_of, goto_of, grammar_of, left_of};
+use ylalr::{END, ERROR, token_count};
+use ysymbols::Sym;
+use ytables::{Action, Tables};
+
+/// The most reductions that a trial of one token makes.
+const MOST_REDUCTIONS: usize = 100_000;
+/// The most reductions that the trials of all tokens make together.
+const MOST_OF_ALL: usize = 10_000_000;
+/// The most steps of a parse that goes on to a shift, which are those of a verdict.
+const MOST_STEPS: usize = 1_000_000;
+
+/// Whether a token can come.
+#[derive(Clone, Copy, Debug, Drop, PartialEq, Eq)]
+pub enum Answer {
+    Can,
+    Cannot,
+    /// It takes too many reductions to tell.
+    Unknown,
+}
+
+/// The tokens that can come, and those of which it takes too many reductions to tell: more than
+/// 100,000 for one token, or 10,000,000 for all that were tried up to it.
+#[derive(Drop)]
+pub struct Wanted {
+    pub can: Vec<Sym>,
+    pub unknown: Vec<Sym>,
+}
+
+/// A stack of states in the making: some of those below, and others above them. So many reductions
+/// are left to be made.
+#[derive(Drop)]
+struct Trial<'a> {
+    tables: &'a Tables,
+    below: &'a [usize],
+    above: Vec<usize>,
+    left: usize,
+}
+
+impl<'a> Trial<'a> {
+    fn new(alloc: Global, tables: &'a Tables, left: usize) -> Trial<'a> {
+        Trial {
+            tables,
+            below: &[],
+            above: Vec::new(alloc),
+            left,
+        }
+    }
+
+    fn top(&self) -> usize {
+        let below = self.below.last().copied().unwrap_or(0);
+        self.above.last().copied().unwrap_or(below)
+    }
+
+    /// Takes so many states away.
+    fn take(&mut self, count: usize) {
+        let deeper = count.saturating_sub(self.above.len());
+        self.above.truncate(self.above.len().saturating_sub(count));
+        let left = self.below.len().saturating_sub(deeper);
+        self.below = self.below.get(..left).unwrap_or(&[]);
+    }
+
+    /// Replaces the body of a rule by its left side, and says whether that leads anywhere.
+    fn reduce(&mut self, rule: usize) -> Result<bool, AllocError> {
+        let grammar = grammar_of(self.tables);
+        self.left = self.left.saturating_sub(1);
+        self.take(body_of(grammar, rule).len());
+        let left = left_of(grammar, rule).unwrap_or(END);
+        match goto_of(self.tables.automaton(), self.top(), left) {
+            Some(state) => {
+                self.above.push(state)?;
+                Ok(true)
+            }
+            None => Ok(false),
+        }
+    }
+
+    /// What the cell on top says of a token; none where it reduces, which is done.
+    fn ask(&mut self, token: Sym) -> Result<Option<Answer>, AllocError> {
+        match action_of(self.tables, self.top(), token) {
+            Action::Shift(_) | Action::Accept => Ok(Some(Answer::Can)),
+            Action::Error => Ok(Some(Answer::Cannot)),
+            Action::Reduce(rule) => {
+                if self.reduce(rule)? {
+                    Ok(None)
+                } else {
+                    Ok(Some(Answer::Cannot))
+                }
+            }
+        }
+    }
+
+    /// Whether a token can come over these states.
+    fn answer(&mut self, states: &'a [usize], token: Sym) -> Result<Answer, AllocError> {
+        self.below = states;
+        self.above.clear();
+        for _ in 0..=MOST_REDUCTIONS.min(self.left) {
+            if let Some(answer) = self.ask(token)? {
+                return Ok(answer);
+            }
+        }
+        Ok(Answer::Unknown)
+    }
+}
+
+/// Whether a token can come over these states, the first state of all at the bottom.
+pub fn can_come(
+    alloc: Global,
+    tables: &Tables,
+    states: &[usize],
+    token: Sym,
+) -> Result<Answer, AllocError> {
+    Trial::new(alloc, tables, MOST_REDUCTIONS).answer(states, token)
+}
+
+/// The tokens that can come over these states, the first state of all at the bottom; `error` is
+/// not among them.
+pub fn expected(alloc: Global, tables: &Tables, states: &[usize]) -> Result<Wanted, AllocError> {
+    let mut can = Vec::new(alloc);
+    let mut unknown = Vec::new(alloc);
+    let mut trial = Trial::new(alloc, tables, MOST_OF_ALL);
+    for token in 0..token_count(grammar_of(tables)) {
+        if token == ERROR {
+            continue;
+        }
+        match trial.answer(states, token)? {
+            Answer::Can => can.push(token)?,
+            Answer::Unknown => unknown.push(token)?,
+            Answer::Cannot => {}
+        }
+    }
+    Ok(Wanted { can, unknown })
+}
+
+/// The states of a parse once these tokens are shifted, before anything is reduced with the next
+/// one ahead; those that it has come to, where it doesn't get there.
+pub fn states_after(
+    alloc: Global,
+    tables: &Tables,
+    tokens: &[Sym],
+) -> Result<Vec<usize>, AllocError> {
+    let mut states = Vec::new(alloc);
+    states.push(0)?;
+    for token in tokens {
+        if !shift(tables, &mut states, *token)? {
+            break;
+        }
+    }
+    Ok(states)
+}
+
+/// Goes on until a token is shifted, and says whether it is.
+fn shift(tables: &Tables, states: &mut Vec<usize>, token: Sym) -> Result<bool, AllocError> {
+    for _ in 0..MOST_STEPS {
+        match action_of(tables, states.last().copied().unwrap_or(0), token) {
+            Action::Shift(state) => {
+                states.push(state)?;
+                return Ok(true);
+            }
+            Action::Reduce(rule) => reduce(tables, states, rule)?,
+            Action::Accept | Action::Error => return Ok(false),
+        }
+    }
+    Ok(false)
+}
+
+/// Replaces the body of a rule by its left side.
+fn reduce(tables: &Tables, states: &mut Vec<usize>, rule: usize) -> Result<(), AllocError> {
+    let grammar = grammar_of(tables);
+    let body = body_of(grammar, rule).len();
+    states.truncate(states.len().saturating_sub(body));
+    let below = states.last().copied().unwrap_or(0);
+    let left = left_of(grammar, rule).unwrap_or(END);
+    states.push(goto_of(tables.automaton(), below, left).unwrap_or(0))?;
+    Ok(())
+}

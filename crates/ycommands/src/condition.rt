@@ -1,0 +1,260 @@
+//! What a run stops at.
+
+use crate::refusal::{Grouped, Refusal};
+use crate::words::{Found, Nearest, find, first_word, number_of};
+use std::alloc::Global;
+use std::io::{self, Write};
+use yexplain::reads::{grammar_of, left_of};
+use ylalr::{END, ERROR};
+use yparse::Session;
+use yparse::machine::StepKind;
+use yshow::Page;
+use yshow::reading::{
+    has_conflict, is_running, last_rule, last_state, name_of, token_ahead, upcoming_token,
+};
+use ysymbols::{Grammar, Sym};
+use ytables::Tables;
+
+/// The most entries that a stack has.
+const DEEPEST: usize = 1_000_000;
+
+/// What a run stops at.
+#[derive(Clone, Copy, Debug)]
+pub enum Condition {
+    /// This token was shifted.
+    Shift(Sym),
+    /// This rule was reduced.
+    Reduce(usize),
+    /// A rule of this nonterminal was reduced.
+    ReduceTo(Sym),
+    /// An error was detected.
+    Error,
+    /// The state and the token ahead have a conflict.
+    Conflict,
+    /// The state is this.
+    State(usize),
+    /// The token of this place is ahead.
+    Token(usize),
+    /// The stack has so many entries.
+    Depth(usize),
+    /// The input was accepted.
+    Accept,
+}
+
+/// The word of a condition.
+#[derive(Clone, Copy, Debug)]
+enum Word {
+    Shift,
+    Reduce,
+    Error,
+    Conflict,
+    State,
+    Token,
+    Depth,
+    Accept,
+}
+
+/// Each condition by its word.
+const WORDS: [(&str, Word); 8] = [
+    ("shift", Word::Shift),
+    ("reduce", Word::Reduce),
+    ("error", Word::Error),
+    ("conflict", Word::Conflict),
+    ("state", Word::State),
+    ("token", Word::Token),
+    ("depth", Word::Depth),
+    ("accept", Word::Accept),
+];
+
+/// A number of these.
+pub fn number_in(word: &str, what: &'static str, from: usize, to: usize) -> Result<usize, Refusal> {
+    match number_of(word) {
+        Some(number) if from <= number && number <= to => Ok(number),
+        None if !is_digits(word) => Err(Refusal::NoNumber),
+        _ if to < from => Err(Refusal::None(what)),
+        _ => Err(Refusal::Range(what, Grouped(from), Grouped(to))),
+    }
+}
+
+/// Whether a word is a number, also where it is too long for one.
+pub fn is_digits(word: &str) -> bool {
+    !word.is_empty() && word.bytes().all(|b| b.is_ascii_digit())
+}
+
+/// The token of a name: one of the input, or `error` or `$end`.
+pub fn token_named(session: &Session, name: &str) -> Option<Sym> {
+    let grammar = grammar_of(session.tables());
+    match session.token(name.as_bytes()) {
+        Some(token) => Some(token),
+        None => grammar
+            .find(name.as_bytes())
+            .filter(|symbol| grammar.is_token(*symbol)),
+    }
+}
+
+/// The symbol of a name.
+pub fn symbol_named(session: &Session, name: &str) -> Option<Sym> {
+    match session.token(name.as_bytes()) {
+        Some(token) => Some(token),
+        None => grammar_of(session.tables()).find(name.as_bytes()),
+    }
+}
+
+/// What is reduced: a rule by its number, or a nonterminal by its name.
+fn reduced(grammar: &Grammar, name: &str) -> Result<Condition, Refusal> {
+    if is_digits(name) {
+        return number_in(name, "rules", 1, last_rule(grammar)).map(Condition::Reduce);
+    }
+    match grammar.find(name.as_bytes()) {
+        Some(symbol) if !grammar.is_token(symbol) => Ok(Condition::ReduceTo(symbol)),
+        _ => Err(Refusal::NoNonterminal),
+    }
+}
+
+/// A condition by its word and what follows.
+fn condition_for(
+    session: &Session,
+    tokens: usize,
+    word: Word,
+    name: &str,
+) -> Result<Condition, Refusal> {
+    let tables = session.tables();
+    match word {
+        Word::Shift => token_named(session, name)
+            .map(Condition::Shift)
+            .ok_or(Refusal::NoToken),
+        Word::Reduce => reduced(grammar_of(tables), name),
+        Word::State => { number_in(name, "states", 0, last_state(tables)).map(Condition::State) }
+        Word::Token => number_in(name, "tokens", 1, tokens).map(Condition::Token),
+        Word::Depth => number_in(name, "depths", 0, DEEPEST).map(Condition::Depth),
+        Word::Error => Ok(Condition::Error),
+        Word::Conflict => Ok(Condition::Conflict),
+        Word::Accept => Ok(Condition::Accept),
+    }
+}
+
+/// Whether a condition is a word alone.
+fn is_alone(word: Word) -> bool {
+    matches!(word, Word::Error | Word::Conflict | Word::Accept)
+}
+
+/// The condition that a text says, where the file has so many tokens.
+pub fn condition_of(session: &Session, tokens: usize, text: &str) -> Result<Condition, Refusal> {
+    let (word, name) = first_word(text);
+    match find(&WORDS, word) {
+        Found::One(word) if is_alone(word) && !name.is_empty() => Err(Refusal::Alone),
+        Found::One(word) if !is_alone(word) && name.is_empty() => Err(Refusal::Unfinished),
+        Found::One(word) => condition_for(session, tokens, word, name),
+        Found::Many if !word.is_empty() => Err(Refusal::ManyConditions),
+        _ => Err(Refusal::NoCondition),
+    }
+}
+
+/// The condition whose word is near to this one.
+pub fn condition_near<'a>(alloc: Global, word: &'a str) -> Option<&'a str> {
+    let mut nearest = Nearest::new(word);
+    for (name, _) in &WORDS {
+        nearest.offer(alloc, name);
+    }
+    nearest.best()
+}
+
+/// Whether a symbol is of the kind that was wanted where this was refused.
+fn is_wanted(grammar: &Grammar, symbol: Sym, refusal: Refusal) -> bool {
+    match refusal {
+        Refusal::NoToken => grammar.is_token(symbol),
+        Refusal::NoInput => grammar.is_token(symbol) && symbol != END && symbol != ERROR,
+        Refusal::NoNonterminal => !grammar.is_token(symbol),
+        _ => true,
+    }
+}
+
+/// The symbol whose name is near to this one, of the kind that was wanted where this was refused.
+pub fn symbol_near<'a>(
+    alloc: Global,
+    grammar: &'a Grammar,
+    name: &'a str,
+    refusal: Refusal,
+) -> Option<&'a str> {
+    let mut nearest = Nearest::new(name);
+    for symbol in 0..grammar.symbols() {
+        if is_wanted(grammar, symbol, refusal) {
+            nearest.offer(alloc, name_of(grammar, symbol));
+        }
+    }
+    nearest.best()
+}
+
+impl Condition {
+    /// Whether it is met by what was done or undone.
+    fn meets_kind(self, grammar: &Grammar, kind: StepKind) -> bool {
+        match (self, kind) {
+            (Condition::Shift(wanted), StepKind::Shift(token)) => wanted == token,
+            (Condition::Shift(wanted), StepKind::ShiftError) => wanted == ERROR,
+            (Condition::Reduce(wanted), StepKind::Reduce(rule)) => wanted == rule,
+            (Condition::ReduceTo(left), StepKind::Reduce(rule)) => left_of(grammar, rule)
+                == Some(left),
+            (Condition::Error, StepKind::Detect) => true,
+            (Condition::Accept, StepKind::Accept) => true,
+            _ => false,
+        }
+    }
+
+    /// Whether it holds in the configuration.
+    fn holds_in(self, tables: &Tables, session: &Session) -> bool {
+        match self {
+            Condition::Conflict => {
+                is_running(session) && has_conflict(tables, session.state(), token_ahead(session))
+            }
+            Condition::State(state) => session.state() == state,
+            Condition::Token(place) => {
+                session.view().rest_len() > 0 && upcoming_token(session, 0).1 == place
+            }
+            Condition::Depth(depth) => session.view().stack_len() == depth,
+            _ => false,
+        }
+    }
+
+    /// Whether it is met after a step or an undo of this kind.
+    pub fn is_met(self, session: &Session, kind: StepKind) -> bool {
+        let tables = session.tables();
+        self.meets_kind(grammar_of(tables), kind) || self.holds_in(tables, session)
+    }
+
+    /// A number or a name behind a word.
+    fn put_number<W: Write>(page: &mut Page<W>, word: &str, number: usize) -> io::Result<()> {
+        page.put(word)?;
+        page.number(number)
+    }
+
+    /// Why the run stopped, or what never came.
+    pub fn put<W: Write>(self, page: &mut Page<W>, session: &Session) -> io::Result<()> {
+        let grammar = grammar_of(session.tables());
+        match self {
+            Condition::Shift(token) => {
+                page.put("shift of ")?;
+                page.put(name_of(grammar, token))
+            }
+            Condition::ReduceTo(left) => {
+                page.put("reduction to ")?;
+                page.put(name_of(grammar, left))
+            }
+            Condition::Reduce(rule) => Self::put_number(page, "reduction by rule ", rule),
+            Condition::Error => page.put("error"),
+            Condition::Conflict => page.put("conflict"),
+            Condition::State(state) => Self::put_number(page, "state ", state),
+            Condition::Token(place) => Self::put_number(page, "token ", place),
+            Condition::Depth(depth) => Self::put_number(page, "depth ", depth),
+            Condition::Accept => page.put("acceptance"),
+        }
+    }
+}
+
+/// Which state and which token ahead have a conflict.
+pub fn put_cell<W: Write>(page: &mut Page<W>, session: &Session) -> io::Result<()> {
+    page.put("state ")?;
+    page.number(session.state())?;
+    page.put(" on ")?;
+    page.put(name_of(grammar_of(session.tables()), token_ahead(session)))?;
+    page.put(" has a conflict")
+}

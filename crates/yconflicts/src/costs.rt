@@ -1,0 +1,266 @@
+//! The shortest sentence of each symbol.
+
+use crate::lists::Lists;
+use crate::queue::Queue;
+use std::alloc::{AllocError, Global};
+use yexplain::reads::{body_of, left_of};
+use ylalr::{ERROR, Item};
+use ysymbols::{Grammar, Sym};
+
+/// What `error` counts for: no list of tokens can have it, so all else is preferred.
+const ERROR_LENGTH: u64 = 10_000;
+
+/// What stands for all lengths beyond it, so that the length of a way is no more than `u64` holds.
+const LONGEST: u64 = 1_000_000_000_000;
+
+/// Odd numbers that mix the digests of lists.
+const SPREAD: u64 = 0x9e37_79b9_7f4a_7c15;
+
+const FACTOR: u64 = 0xd129_0d3a_7c6b_2f85;
+
+/// The most symbols that are taken while a sentence is written out.
+const MOST_TAKEN: usize = 100_000;
+
+/// The length of the shortest sentence of each symbol, at most 1,000,000,000,000, its digest, and the
+/// rule with which that of a nonterminal begins.
+#[derive(Drop)]
+pub struct Shortest {
+    lengths: Vec<Option<u64>>,
+    digests: Vec<Digest>,
+    rules: Vec<usize>,
+}
+
+/// A number by which lists of tokens are told apart, and what it is multiplied by where the list
+/// stands before another: two lists of one digest are very likely the same.
+#[derive(Clone, Copy, Drop, PartialEq, Eq, Hash)]
+pub struct Digest {
+    sum: u64,
+    factor: u64,
+}
+
+impl Digest {
+    /// The digest of no tokens.
+    pub fn empty() -> Digest {
+        Digest { sum: 0, factor: 1 }
+    }
+
+    /// The digest of one token.
+    fn of(token: Sym) -> Digest {
+        Digest {
+            sum: (token as u64).wrapping_add(1).wrapping_mul(SPREAD),
+            factor: FACTOR,
+        }
+    }
+
+    /// The digest of this list and another behind it.
+    pub fn before(self, rest: Digest) -> Digest {
+        Digest {
+            sum: self.sum.wrapping_mul(rest.factor).wrapping_add(rest.sum),
+            factor: self.factor.wrapping_mul(rest.factor),
+        }
+    }
+}
+
+/// Where each symbol stands in bodies: the items with their dot before it.
+pub fn occurrences(alloc: Global, grammar: &Grammar) -> Result<Lists<Item>, AllocError> {
+    let mut pairs = Vec::new(alloc);
+    for rule in 0..grammar.rules() {
+        push_places(&mut pairs, rule, body_of(grammar, rule))?;
+    }
+    Lists::new(alloc, grammar.symbols(), &pairs)
+}
+
+/// Adds the items of a rule that have their dot before a symbol.
+fn push_places(
+    pairs: &mut Vec<(usize, Item)>,
+    rule: usize,
+    body: &[Sym],
+) -> Result<(), AllocError> {
+    for (dot, symbol) in body.iter().enumerate() {
+        pairs.push((*symbol, Item { rule, dot }))?;
+    }
+    Ok(())
+}
+
+/// A rule whose body isn't known yet: how many of its symbols are still to come, and the length of
+/// the others.
+#[derive(Clone, Copy, Drop)]
+struct Part {
+    missing: usize,
+    length: u64,
+}
+
+/// Lengths in the making.
+#[derive(Drop)]
+struct Making {
+    parts: Vec<Part>,
+    queue: Queue,
+    found: Shortest,
+}
+
+impl Making {
+    /// The length of a symbol is known: so is more of each body in which it stands.
+    fn spread(&mut self, places: &[Item], length: u64) -> Result<(), AllocError> {
+        for item in places {
+            if let Some(part) = self.parts.get_mut(item.rule) {
+                part.missing = part.missing.saturating_sub(1);
+                part.length = part.length.saturating_add(length).min(LONGEST);
+                if part.missing == 0 {
+                    self.queue.put(part.length, item.rule)?;
+                }
+            }
+        }
+        Ok(())
+    }
+
+    /// Notes the length of a symbol, where it has none yet, and says whether that is so.
+    fn note(&mut self, symbol: Sym, length: u64, digest: Digest, rule: usize) -> bool {
+        let is_new = self.found.length(symbol).is_none();
+        if is_new {
+            set(&mut self.found.lengths, symbol, Some(length));
+            set(&mut self.found.digests, symbol, digest);
+            set(&mut self.found.rules, symbol, rule);
+        }
+        is_new
+    }
+}
+
+/// Sets an entry, where there is one.
+fn set<T: Copy>(entries: &mut [T], place: usize, value: T) {
+    if let Some(entry) = entries.get_mut(place) {
+        *entry = value;
+    }
+}
+
+/// The length of a token.
+fn token_length(token: Sym) -> u64 {
+    if token == ERROR { ERROR_LENGTH } else { 1 }
+}
+
+/// What is known before any length: how many symbols each body has.
+fn first_parts(
+    alloc: Global,
+    grammar: &Grammar,
+    queue: &mut Queue,
+) -> Result<Vec<Part>, AllocError> {
+    let mut parts = Vec::new(alloc);
+    for rule in 0..grammar.rules() {
+        let missing = body_of(grammar, rule).len();
+        if missing == 0 {
+            queue.put(0, rule)?;
+        }
+        parts.push(Part { missing, length: 0 })?;
+    }
+    Ok(parts)
+}
+
+impl Shortest {
+    /// The shortest sentences of a grammar, where this is where each symbol stands.
+    pub fn new(
+        alloc: Global,
+        grammar: &Grammar,
+        places: &Lists<Item>,
+    ) -> Result<Shortest, AllocError> {
+        let symbols = grammar.symbols();
+        let mut queue = Queue::new(alloc);
+        let mut making = Making {
+            parts: first_parts(alloc, grammar, &mut queue)?,
+            queue,
+            found: Shortest {
+                lengths: vec![in alloc; None; symbols]?,
+                digests: vec![in alloc; Digest::empty(); symbols]?,
+                rules: vec![in alloc; 0usize; symbols]?,
+            },
+        };
+        settle_tokens(grammar, places, &mut making)?;
+        settle_rules(grammar, places, &mut making)?;
+        let Making { found, .. } = making;
+        Ok(found)
+    }
+
+    /// The length of the shortest sentence of a symbol; each symbol of a grammar has one.
+    pub fn length(&self, symbol: Sym) -> Option<u64> {
+        self.lengths.get(symbol).copied().flatten()
+    }
+
+    /// The digest of the shortest sentence of a symbol.
+    pub fn digest(&self, symbol: Sym) -> Digest {
+        self.digests.get(symbol).copied().unwrap_or(Digest::empty())
+    }
+
+    /// The digest of the shortest sentence of some symbols.
+    fn digest_of(&self, form: &[Sym]) -> Digest {
+        let mut digest = Digest::empty();
+        for symbol in form {
+            digest = digest.before(self.digest(*symbol));
+        }
+        digest
+    }
+
+    /// The shortest sentence of some symbols, or none where it is too long to be written out.
+    pub fn sentence(
+        &self,
+        alloc: Global,
+        grammar: &Grammar,
+        form: &[Sym],
+    ) -> Result<Option<Vec<Sym>>, AllocError> {
+        let mut tokens = Vec::new(alloc);
+        let mut open = Vec::new(alloc);
+        push_back(&mut open, form)?;
+        for _ in 0..MOST_TAKEN {
+            let Some(symbol) = open.pop() else {
+                return Ok(Some(tokens));
+            };
+            if grammar.is_token(symbol) {
+                tokens.push(symbol)?;
+            } else {
+                let rule = self.rules.get(symbol).copied().unwrap_or(0);
+                push_back(&mut open, body_of(grammar, rule))?;
+            }
+        }
+        Ok(None)
+    }
+}
+
+/// Adds symbols, the first of them last.
+fn push_back(open: &mut Vec<Sym>, form: &[Sym]) -> Result<(), AllocError> {
+    for symbol in form.iter().rev() {
+        open.push(*symbol)?;
+    }
+    Ok(())
+}
+
+/// The lengths of the tokens.
+fn settle_tokens(
+    grammar: &Grammar,
+    places: &Lists<Item>,
+    making: &mut Making,
+) -> Result<(), AllocError> {
+    for token in 0..grammar.symbols() {
+        let length = token_length(token);
+        if grammar.is_token(token) && making.note(token, length, Digest::of(token), 0) {
+            making.spread(places.of(token), length)?;
+        }
+    }
+    Ok(())
+}
+
+/// The lengths of the nonterminals, the shortest first. Each rule waits at most once.
+fn settle_rules(
+    grammar: &Grammar,
+    places: &Lists<Item>,
+    making: &mut Making,
+) -> Result<(), AllocError> {
+    for _ in 0..grammar.rules() {
+        let Some((length, rule)) = making.queue.take() else {
+            break;
+        };
+        if let Some(left) = left_of(grammar, rule) {
+            let digest = making.found.digest_of(body_of(grammar, rule));
+            if making.note(left, length, digest, rule) {
+                making.spread(places.of(left), length)?;
+            }
+        }
+    }
+    Ok(())
+}

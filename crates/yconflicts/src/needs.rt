@@ -1,0 +1,191 @@
+//! What has to hold in a state so that a rule can be reduced at a token further on: an item must
+//! have that token as its lookahead, by one of the ways that canonical LR(1) items know.
+
+use crate::lists::Lists;
+use std::alloc::{AllocError, Global};
+use yexplain::reads::{begins_with, body_of, has_item, left_of, looks_at, vanishes};
+use ylalr::{Automaton, Item};
+use ysymbols::Sym;
+
+/// What a state has to fulfil.
+#[derive(Clone, Copy, Drop, PartialEq, Eq, Hash)]
+pub enum Need {
+    /// Nothing: whatever comes before will do.
+    Free,
+    /// This item has the token as its lookahead.
+    Item(Item),
+}
+
+impl Need {
+    /// Whether it is an item with its dot at 0, which rests on others of its state.
+    pub fn is_closed(self) -> bool {
+        match self {
+            Need::Free => false,
+            Need::Item(item) => item.dot == 0,
+        }
+    }
+
+    /// What has to hold in a state, so that this holds in the one behind it; none where it can't.
+    pub fn before(self, automaton: &Automaton, state: usize, token: Sym) -> Option<Need> {
+        match self {
+            Need::Free => Some(Need::Free),
+            Need::Item(item) => {
+                let item = moved_back(item);
+                if looks_at(automaton, state, item, token) {
+                    Some(Need::Item(item))
+                } else {
+                    None
+                }
+            }
+        }
+    }
+}
+
+/// What the form behind a nonterminal is to a token.
+#[derive(Clone, Copy, Drop)]
+enum Behind {
+    /// It begins with the token.
+    Begins,
+    /// It doesn't, but vanishes.
+    Vanishes,
+    /// Neither.
+    Other,
+}
+
+/// Finds what has to hold before an item with its dot at 0.
+#[derive(Drop)]
+pub struct Needs {
+    /// For each symbol, the round in which it was met last.
+    met: Vec<usize>,
+    round: usize,
+    /// The left sides of this round.
+    lefts: Vec<Sym>,
+}
+
+/// What the form behind a nonterminal is to a token.
+fn form_behind(automaton: &Automaton, item: Item, token: Sym) -> Behind {
+    let body = body_of(automaton.grammar(), item.rule);
+    let form = body.get(item.dot.saturating_add(1)..).unwrap_or(&[]);
+    for symbol in form {
+        if begins_with(automaton, *symbol, token) {
+            return Behind::Begins;
+        }
+        if !vanishes(automaton, *symbol) {
+            return Behind::Other;
+        }
+    }
+    Behind::Vanishes
+}
+
+/// The item with its dot one symbol further to the left.
+fn moved_back(item: Item) -> Item {
+    Item {
+        rule: item.rule,
+        dot: item.dot.saturating_sub(1),
+    }
+}
+
+impl Needs {
+    /// Nothing met.
+    pub fn new(alloc: Global, symbols: usize) -> Result<Needs, AllocError> {
+        Ok(Needs {
+            met: vec![in alloc; 0usize; symbols]?,
+            round: 0,
+            lefts: Vec::new(alloc),
+        })
+    }
+
+    /// Adds the left side of a rule, where it wasn't met in this round.
+    fn meet(&mut self, left: Sym) -> Result<(), AllocError> {
+        if self
+            .met
+            .get(left)
+            .map_or(false, |round| *round != self.round)
+        {
+            if let Some(round) = self.met.get_mut(left) {
+                *round = self.round;
+            }
+            self.lefts.push(left)?;
+        }
+        Ok(())
+    }
+
+    /// Takes in an item of the state with its dot before a left side, and says whether it frees.
+    fn take(
+        &mut self,
+        automaton: &Automaton,
+        state: usize,
+        item: Item,
+        token: Sym,
+        found: &mut Vec<Need>,
+    ) -> Result<bool, AllocError> {
+        match form_behind(automaton, item, token) {
+            Behind::Begins => return Ok(has_item(automaton, state, item)),
+            Behind::Vanishes if looks_at(automaton, state, item, token) => {}
+            _ => return Ok(false),
+        }
+        if item.dot > 0 {
+            found.push(Need::Item(item))?;
+        } else if let Some(left) = left_of(automaton.grammar(), item.rule) {
+            self.meet(left)?;
+        }
+        Ok(false)
+    }
+
+    /// Takes in the items with their dot before a left side.
+    fn take_all(
+        &mut self,
+        automaton: &Automaton,
+        state: usize,
+        items: &[Item],
+        token: Sym,
+        found: &mut Vec<Need>,
+    ) -> Result<bool, AllocError> {
+        for item in items {
+            if self.take(automaton, state, *item, token, found)? {
+                return Ok(true);
+            }
+        }
+        Ok(false)
+    }
+
+    /// What has to hold in a state, so that this item of it has the token as its lookahead: any one
+    /// of these.
+    pub fn of(
+        &mut self,
+        alloc: Global,
+        automaton: &Automaton,
+        places: &Lists<Item>,
+        state: usize,
+        item: Item,
+        token: Sym,
+    ) -> Result<Vec<Need>, AllocError> {
+        let mut found = Vec::new(alloc);
+        if item.dot > 0 {
+            found.push(Need::Item(item))?;
+            return Ok(found);
+        }
+        self.begin(automaton, item)?;
+        for number in 0..self.met.len() {
+            let Some(left) = self.lefts.get(number).copied() else {
+                break;
+            };
+            if self.take_all(automaton, state, places.of(left), token, &mut found)? {
+                found.clear();
+                found.push(Need::Free)?;
+                break;
+            }
+        }
+        Ok(found)
+    }
+
+    /// Begins a round with the left side of an item.
+    fn begin(&mut self, automaton: &Automaton, item: Item) -> Result<(), AllocError> {
+        self.round = self.round.saturating_add(1);
+        self.lefts.clear();
+        match left_of(automaton.grammar(), item.rule) {
+            Some(left) => self.meet(left),
+            None => Ok(()),
+        }
+    }
+}

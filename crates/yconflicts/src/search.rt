@@ -1,0 +1,458 @@
+//! The shortest ways to a state on which complete items have a token as their lookahead, by the
+//! canonical LR(1) items: sought backward from the state, the least possible length first.
+
+use crate::costs::{Digest, Shortest, occurrences};
+use crate::lists::Lists;
+use crate::moves::Moves;
+use crate::needs::{Need, Needs};
+use crate::queue::Queue;
+use indexmap::{IndexMap, IndexSet};
+use std::alloc::{AllocError, Global};
+use yexplain::reads::{body_of, left_of};
+use ylalr::{Automaton, Item};
+use ysymbols::{Grammar, Sym};
+
+/// The most spots that the search for one way meets.
+const MOST_SPOTS: usize = 200_000;
+
+/// The most spots that the search for several ways meets.
+const MOST_FOR_SEVERAL: usize = 30_000;
+
+/// How many spots any search may meet.
+const LEAST_SPOTS: usize = 2_000;
+
+/// How many spots all searches for one way of a run may meet together, and all those for several,
+/// beside those that each of them may meet in any case.
+const ALL_FOR_ONE: usize = 2_000_000;
+
+const ALL_FOR_SEVERAL: usize = 1_000_000;
+
+/// A cell, and the rules that are all to be possible there; one that is left out is no condition.
+#[derive(Clone, Copy, Drop)]
+pub struct Target {
+    pub state: usize,
+    pub token: Sym,
+    pub first: Option<usize>,
+    pub second: Option<usize>,
+}
+
+/// What a search comes to: a way by its symbols, that there is none, or that it took too long.
+#[derive(Drop)]
+pub enum Found {
+    Way(Vec<Sym>),
+    Nothing,
+    Late,
+}
+
+/// A state on a way, and what has to hold there for each of two rules.
+#[derive(Clone, Copy, Drop, PartialEq, Eq, Hash)]
+struct Spot {
+    state: usize,
+    first: Need,
+    second: Need,
+}
+
+/// A spot that was met, the length and the digest of the way from it, and the spot behind it.
+#[derive(Clone, Copy, Drop)]
+struct Node {
+    spot: Spot,
+    length: u64,
+    digest: Digest,
+    next: Option<usize>,
+}
+
+/// Needs that lie side by side.
+#[derive(Clone, Copy, Drop)]
+struct Stretch {
+    start: usize,
+    end: usize,
+}
+
+/// A search for the ways to a cell.
+#[derive(Drop)]
+pub struct Search {
+    token: Sym,
+    /// How often a spot may be left: as many ways are found.
+    tries: usize,
+    /// How many spots may still be met.
+    left: usize,
+    nodes: Vec<Node>,
+    queue: Queue,
+    /// How often each spot was left; where several ways are wanted, with which lists of tokens.
+    met: IndexMap<Spot, usize>,
+    seen: IndexSet<(Spot, Digest)>,
+    /// What has to hold for each item of a state with its dot at 0, once that was looked for.
+    opened: IndexMap<(usize, Item), Stretch>,
+    needs: Vec<Need>,
+}
+
+/// What searches in one automaton share.
+#[derive(Drop)]
+pub struct Finder {
+    alloc: Global,
+    places: Lists<Item>,
+    /// The rules of each left side.
+    rules: Lists<usize>,
+    shortest: Shortest,
+    moves: Moves,
+    needs: Needs,
+    /// How many spots searches for one way may still meet, and those for several.
+    left: usize,
+    left_for_several: usize,
+}
+
+/// How many spots a search may meet: a part of those that are left.
+fn allowance(left: usize, most: usize) -> usize {
+    (left / 8).min(most).max(LEAST_SPOTS)
+}
+
+/// What has to hold in a state so that a rule can be reduced there.
+fn complete(grammar: &Grammar, rule: Option<usize>) -> Need {
+    match rule {
+        Some(rule) => {
+            let dot = body_of(grammar, rule).len();
+            Need::Item(Item { rule, dot })
+        }
+        None => Need::Free,
+    }
+}
+
+/// The rules of each left side.
+fn rules_by_left(alloc: Global, grammar: &Grammar) -> Result<Lists<usize>, AllocError> {
+    let mut pairs = Vec::new(alloc);
+    for rule in 0..grammar.rules() {
+        if let Some(left) = left_of(grammar, rule) {
+            pairs.push((left, rule))?;
+        }
+    }
+    Lists::new(alloc, grammar.symbols(), &pairs)
+}
+
+impl Search {
+    fn new(alloc: Global, token: Sym, tries: usize, left: usize) -> Result<Search, AllocError> {
+        let mut needs = Vec::new(alloc);
+        needs.push(Need::Free)?;
+        Ok(Search {
+            token,
+            tries,
+            left,
+            nodes: Vec::new(alloc),
+            queue: Queue::new(alloc),
+            met: IndexMap::new(alloc),
+            seen: IndexSet::new(alloc),
+            opened: IndexMap::new(alloc),
+            needs,
+        })
+    }
+
+    /// A spot waits, where at best a way of this length goes over it.
+    fn put(&mut self, node: Node, best: u64) -> Result<(), AllocError> {
+        self.left = self.left.saturating_sub(1);
+        let number = self.nodes.len();
+        self.nodes.push(node)?;
+        self.queue.put(best, number)
+    }
+
+    /// The next spot that may be left.
+    fn take(&mut self) -> Result<Option<(usize, Node)>, AllocError> {
+        for _ in 0..self.nodes.len() {
+            let Some((_, number)) = self.queue.take() else {
+                return Ok(None);
+            };
+            if let Some(node) = self.nodes.get(number).copied() {
+                if self.may_leave(node)? {
+                    return Ok(Some((number, node)));
+                }
+            }
+        }
+        Ok(None)
+    }
+
+    /// Notes that a spot is left, and says whether it may be.
+    fn may_leave(&mut self, node: Node) -> Result<bool, AllocError> {
+        let times = self.met.get(&node.spot).copied().unwrap_or(0);
+        if times >= self.tries {
+            return Ok(false);
+        }
+        if self.tries > 1 && !self.seen.insert((node.spot, node.digest))? {
+            return Ok(false);
+        }
+        self.met.insert(node.spot, times.saturating_add(1))?;
+        Ok(true)
+    }
+
+    /// Whether a way is found with this spot: nothing more has to hold, and where several ways are
+    /// wanted, it is whole.
+    fn is_end(&self, spot: Spot) -> bool {
+        spot.first == Need::Free
+            && spot.second == Need::Free
+            && (self.tries == 1 || spot.state == 0)
+    }
+
+    /// The need of a place.
+    fn need(&self, place: usize) -> Need {
+        self.needs.get(place).copied().unwrap_or(Need::Free)
+    }
+
+    /// Keeps needs side by side.
+    fn keep(&mut self, needs: &[Need]) -> Result<Stretch, AllocError> {
+        let start = self.needs.len();
+        self.needs.extend_from_slice(needs)?;
+        Ok(Stretch {
+            start,
+            end: self.needs.len(),
+        })
+    }
+}
+
+impl Finder {
+    /// What searches in this automaton share.
+    pub fn new(alloc: Global, automaton: &Automaton) -> Result<Finder, AllocError> {
+        let grammar = automaton.grammar();
+        let places = occurrences(alloc, grammar)?;
+        let shortest = Shortest::new(alloc, grammar, &places)?;
+        let moves = Moves::new(alloc, automaton, &shortest)?;
+        Ok(Finder {
+            alloc,
+            places,
+            rules: rules_by_left(alloc, grammar)?,
+            shortest,
+            moves,
+            needs: Needs::new(alloc, grammar.symbols())?,
+            left: ALL_FOR_ONE,
+            left_for_several: ALL_FOR_SEVERAL,
+        })
+    }
+
+    /// The rules of a left side.
+    pub fn rules(&self, left: Sym) -> &[usize] {
+        self.rules.of(left)
+    }
+
+    /// The length of the shortest sentence of a form.
+    pub fn length(&self, form: &[Sym]) -> u64 {
+        let mut length: u64 = 0;
+        for symbol in form {
+            length = length.saturating_add(self.shortest.length(*symbol).unwrap_or(0));
+        }
+        length
+    }
+
+    /// The shortest sentence of a way, or none where it is too long to be written out.
+    pub fn sentence(
+        &self,
+        automaton: &Automaton,
+        way: &[Sym],
+    ) -> Result<Option<Vec<Sym>>, AllocError> {
+        self.shortest.sentence(self.alloc, automaton.grammar(), way)
+    }
+
+    /// The shortest way to a cell on which its rules are possible.
+    pub fn shortest(&mut self, automaton: &Automaton, target: Target) -> Result<Found, AllocError> {
+        let mut search = self.search(automaton, target, 1)?;
+        self.next(automaton, &mut search)
+    }
+
+    /// A search for so many ways, of which no two have the same tokens.
+    pub fn search(
+        &mut self,
+        automaton: &Automaton,
+        target: Target,
+        ways: usize,
+    ) -> Result<Search, AllocError> {
+        let left = if ways == 1 {
+            allowance(self.left, MOST_SPOTS)
+        } else {
+            allowance(self.left_for_several, MOST_FOR_SEVERAL)
+        };
+        let mut search = Search::new(self.alloc, target.token, ways, left)?;
+        let grammar = automaton.grammar();
+        let node = Node {
+            spot: Spot {
+                state: target.state,
+                first: complete(grammar, target.first),
+                second: complete(grammar, target.second),
+            },
+            length: 0,
+            digest: Digest::empty(),
+            next: None,
+        };
+        self.put(&mut search, node)?;
+        Ok(search)
+    }
+
+    /// The next way of a search, none of them shorter than those before.
+    pub fn next(
+        &mut self,
+        automaton: &Automaton,
+        search: &mut Search,
+    ) -> Result<Found, AllocError> {
+        for _ in 0..MOST_SPOTS {
+            if search.left == 0 {
+                break;
+            }
+            let Some((number, node)) = search.take()? else {
+                return Ok(Found::Nothing);
+            };
+            if search.is_end(node.spot) {
+                return Ok(Found::Way(self.way(search, number, node)?));
+            }
+            self.leave(automaton, search, number, node)?;
+        }
+        Ok(Found::Late)
+    }
+
+    /// A spot waits.
+    fn put(&mut self, search: &mut Search, node: Node) -> Result<(), AllocError> {
+        let best = node
+            .length
+            .saturating_add(self.moves.length(node.spot.state));
+        self.count(search.tries);
+        search.put(node, best)
+    }
+
+    /// Counts a spot that is met in a search for so many ways.
+    fn count(&mut self, ways: usize) {
+        if ways == 1 {
+            self.left = self.left.saturating_sub(1);
+        } else {
+            self.left_for_several = self.left_for_several.saturating_sub(1);
+        }
+    }
+
+    /// What has to hold in a state, so that a need of it is fulfilled: any one of these.
+    fn opened(
+        &mut self,
+        automaton: &Automaton,
+        search: &mut Search,
+        state: usize,
+        need: Need,
+    ) -> Result<Stretch, AllocError> {
+        let Need::Item(item) = need else {
+            return Ok(Stretch { start: 0, end: 1 });
+        };
+        if let Some(stretch) = search.opened.get(&(state, item)) {
+            return Ok(*stretch);
+        }
+        let needs = self.needs.of(
+            self.alloc,
+            automaton,
+            &self.places,
+            state,
+            item,
+            search.token,
+        )?;
+        let stretch = search.keep(&needs)?;
+        search.opened.insert((state, item), stretch)?;
+        Ok(stretch)
+    }
+
+    /// Goes on from a spot: to what has to hold there for items with their dot at 0, or else to the
+    /// states before it.
+    fn leave(
+        &mut self,
+        automaton: &Automaton,
+        search: &mut Search,
+        number: usize,
+        node: Node,
+    ) -> Result<(), AllocError> {
+        if node.spot.first.is_closed() || node.spot.second.is_closed() {
+            self.open(automaton, search, node)
+        } else {
+            self.go_back(automaton, search, number, node)
+        }
+    }
+
+    /// Goes on to what has to hold in the state itself.
+    fn open(
+        &mut self,
+        automaton: &Automaton,
+        search: &mut Search,
+        node: Node,
+    ) -> Result<(), AllocError> {
+        let state = node.spot.state;
+        let firsts = self.opened(automaton, search, state, node.spot.first)?;
+        let seconds = self.opened(automaton, search, state, node.spot.second)?;
+        for place in firsts.start..firsts.end {
+            if search.left == 0 {
+                break;
+            }
+            let first = search.need(place);
+            self.put_row(search, node, first, seconds)?;
+        }
+        Ok(())
+    }
+
+    fn put_row(
+        &mut self,
+        search: &mut Search,
+        node: Node,
+        first: Need,
+        seconds: Stretch,
+    ) -> Result<(), AllocError> {
+        for place in seconds.start..seconds.end {
+            let spot = Spot {
+                state: node.spot.state,
+                first,
+                second: search.need(place),
+            };
+            self.put(search, Node { spot, ..node })?;
+        }
+        Ok(())
+    }
+
+    /// Goes on to the states before the state.
+    fn go_back(
+        &mut self,
+        automaton: &Automaton,
+        search: &mut Search,
+        number: usize,
+        node: Node,
+    ) -> Result<(), AllocError> {
+        let Spot {
+            state,
+            first,
+            second,
+        } = node.spot;
+        let symbol = self.moves.symbol(state);
+        let length = node
+            .length
+            .saturating_add(self.shortest.length(symbol).unwrap_or(0));
+        let digest = self.shortest.digest(symbol).before(node.digest);
+        for place in 0..self.moves.before(state).len() {
+            let before = self.moves.state_before(state, place);
+            let firsts = first.before(automaton, before, search.token);
+            let seconds = second.before(automaton, before, search.token);
+            if let (Some(first), Some(second)) = (firsts, seconds) {
+                let node = Node {
+                    spot: Spot {
+                        state: before,
+                        first,
+                        second,
+                    },
+                    length,
+                    digest,
+                    next: Some(number),
+                };
+                self.put(search, node)?;
+            }
+        }
+        Ok(())
+    }
+
+    /// The symbols of a way: the shortest to the spot, and then those of the spots behind it.
+    fn way(&self, search: &Search, number: usize, node: Node) -> Result<Vec<Sym>, AllocError> {
+        let mut symbols = Vec::new(self.alloc);
+        self.moves.push_way(&mut symbols, node.spot.state)?;
+        symbols.reverse();
+        let mut at = search.nodes.get(number).and_then(|node| node.next);
+        for _ in 0..search.nodes.len() {
+            let Some(node) = at.and_then(|number| search.nodes.get(number)) else {
+                break;
+            };
+            symbols.push(self.moves.symbol(node.spot.state))?;
+            at = node.next;
+        }
+        Ok(symbols)
+    }
+}

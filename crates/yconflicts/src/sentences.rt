@@ -1,0 +1,113 @@
+//! The sentences of forms, the shortest first.
+
+use crate::queue::Queue;
+use crate::search::Finder;
+use indexmap::IndexSet;
+use std::alloc::{AllocError, Global};
+use yexplain::reads::body_of;
+use ysymbols::{Grammar, Sym};
+
+/// The most symbols and tokens of a form that is taken in.
+const MOST_SYMBOLS: usize = 1_000;
+
+/// Forms that wait with the length of their shortest sentences.
+#[derive(Drop)]
+pub struct Sentences {
+    /// All forms that were met.
+    forms: IndexSet<Vec<Sym>>,
+    queue: Queue,
+    /// How many forms may still be taken in.
+    left: usize,
+}
+
+/// Where the first nonterminal of a form stands.
+fn first_nonterminal(grammar: &Grammar, form: &[Sym]) -> Option<usize> {
+    form.iter().position(|symbol| !grammar.is_token(*symbol))
+}
+
+/// A form in which other symbols stand for the one at a place.
+fn replaced(
+    alloc: Global,
+    form: &[Sym],
+    place: usize,
+    body: &[Sym],
+) -> Result<Vec<Sym>, AllocError> {
+    let mut found = Vec::new(alloc);
+    found.extend_from_slice(form.get(..place).unwrap_or(&[]))?;
+    found.extend_from_slice(body)?;
+    found.extend_from_slice(form.get(place.saturating_add(1)..).unwrap_or(&[]))?;
+    Ok(found)
+}
+
+impl Sentences {
+    /// Nothing waits, and so many forms may be taken in.
+    pub fn new(alloc: Global, most: usize) -> Sentences {
+        Sentences {
+            forms: IndexSet::new(alloc),
+            queue: Queue::new(alloc),
+            left: most,
+        }
+    }
+
+    /// The length of the next sentence.
+    pub fn least(&self) -> Option<u64> {
+        self.queue.least()
+    }
+
+    /// Takes a form in, where it is new and not too long.
+    pub fn add(&mut self, finder: &Finder, form: Vec<Sym>) -> Result<(), AllocError> {
+        let length = finder.length(&form);
+        if self.left == 0 || form.len() > MOST_SYMBOLS || length > MOST_SYMBOLS as u64 {
+            return Ok(());
+        }
+        self.left = self.left.saturating_sub(1);
+        let (number, is_new) = self.forms.insert_full(form)?;
+        if is_new {
+            self.queue.put(length, number)?;
+        }
+        Ok(())
+    }
+
+    /// Takes the form of the shortest sentence: itself, where it is one; else the forms of its first
+    /// nonterminal's rules are taken in.
+    pub fn take(
+        &mut self,
+        alloc: Global,
+        finder: &Finder,
+        grammar: &Grammar,
+    ) -> Result<Option<Vec<Sym>>, AllocError> {
+        let Some((_, number)) = self.queue.take() else {
+            return Ok(None);
+        };
+        let form = match self.forms.get_index(number) {
+            Some(form) => form.clone()?,
+            None => return Ok(None),
+        };
+        match first_nonterminal(grammar, &form) {
+            Some(place) => {
+                self.expand(alloc, finder, grammar, &form, place)?;
+                Ok(None)
+            }
+            None => Ok(Some(form)),
+        }
+    }
+
+    /// Takes in what a form is where the symbol at a place begins with each of its rules.
+    fn expand(
+        &mut self,
+        alloc: Global,
+        finder: &Finder,
+        grammar: &Grammar,
+        form: &[Sym],
+        place: usize,
+    ) -> Result<(), AllocError> {
+        let symbol = form.get(place).copied().unwrap_or(0);
+        for rule in finder.rules(symbol) {
+            if self.left > 0 {
+                let next = replaced(alloc, form, place, body_of(grammar, *rule))?;
+                self.add(finder, next)?;
+            }
+        }
+        Ok(())
+    }
+}

@@ -1,0 +1,244 @@
+//! `ydebug grammar tokens`: a debugger of parses for people. `ydebug conflicts grammar` explains the
+//! conflicts of a grammar, and `ydebug check grammar tokens..` says what its sentences are.
+#![tactic(auto)]
+
+use clap::error::ErrorKind;
+use clap::{Arg, ArgAction, ArgMatches, Command};
+use std::alloc::{AllocError, Global};
+use std::env;
+use std::io::{self, BufWriter, IsTerminal, Write};
+use std::process::ExitCode;
+use ycheck::check::{Check, run_check};
+use ydebugger::{Setting, debug, parse_of};
+use yreports::report::{Asked, run_conflicts};
+
+/// The forms of the command line.
+const FORMS: &str = "Other forms:\n\
+    \x20 ydebug conflicts grammar [--save FOLDER] [--strict]\n\
+    \x20 ydebug check grammar tokens.. [--choice]";
+/// What is said of words that are none of the program's.
+const USAGE: &[u8] = b"usage: ydebug grammar tokens\n\
+    \x20      ydebug conflicts grammar [--save FOLDER] [--strict]\n\
+    \x20      ydebug check grammar tokens.. [--choice]\n";
+
+/// Why nothing was done.
+#[derive(Debug, Drop)]
+enum Refused {
+    /// The words are not those of the program.
+    Words,
+    /// Help was asked for.
+    Help(String),
+    /// There is no memory.
+    Memory,
+    /// The standard streams fail.
+    Outside,
+}
+
+impl From<AllocError> for Refused {
+    fn from(_refused: AllocError) -> Refused {
+        Refused::Memory
+    }
+}
+
+impl From<io::Error> for Refused {
+    fn from(error: io::Error) -> Refused {
+        match error.kind() {
+            io::ErrorKind::OutOfMemory => Refused::Memory,
+            _ => Refused::Outside,
+        }
+    }
+}
+
+/// A file among the words.
+fn file_argument<'a>(alloc: Global, name: &'a str, help: &'a str) -> Arg<'a> {
+    Arg::new(alloc, name)
+        .required(true)
+        .action(ArgAction::Set)
+        .help(help)
+}
+
+/// A flag of two dashes.
+fn flag<'a>(alloc: Global, name: &'a str, help: &'a str) -> Arg<'a> {
+    Arg::new(alloc, name)
+        .long(name)
+        .action(ArgAction::SetTrue)
+        .help(help)
+}
+
+/// The command line of a session.
+fn debug_command<'a>(alloc: Global) -> Result<Command<'a>, AllocError> {
+    Command::new(alloc, "ydebug")
+        .about("Steps a parse forward and back for a person at a terminal")
+        .after_help(FORMS)
+        .arg(file_argument(alloc, "grammar", "The grammar file"))?
+        .arg(file_argument(alloc, "tokens", "The tokens file"))
+}
+
+/// The command line of the report on conflicts.
+fn conflicts_command<'a>(alloc: Global) -> Result<Command<'a>, AllocError> {
+    let save = Arg::new(alloc, "save")
+        .long("save")
+        .action(ArgAction::Set)
+        .help("Writes the tokens of each conflict to a file of this folder");
+    Command::new(alloc, "ydebug conflicts")
+        .about("Explains the conflicts of a grammar, and warns of what it has in vain")
+        .arg(file_argument(alloc, "grammar", "The grammar file"))?
+        .arg(save)?
+        .arg(flag(
+            alloc,
+            "strict",
+            "Ends with 1 where there is a conflict or a warning",
+        ))
+}
+
+/// The command line of verdicts.
+fn check_command<'a>(alloc: Global) -> Result<Command<'a>, AllocError> {
+    let tokens = file_argument(alloc, "tokens", "The tokens files; - is standard input");
+    Command::new(alloc, "ydebug check")
+        .about("Says of each tokens file whether it is a sentence of a grammar")
+        .arg(file_argument(alloc, "grammar", "The grammar file"))?
+        .arg(tokens.num_args(1..))?
+        .arg(flag(
+            alloc,
+            "choice",
+            "Says whether the grammar is free of choices",
+        ))
+}
+
+/// What a command line makes of words.
+fn matches_by<'a>(
+    alloc: Global,
+    command: Result<Command<'a>, AllocError>,
+    words: &'a [&'a str],
+) -> Result<ArgMatches<'a>, Refused> {
+    match command?.try_get_matches_from(words) {
+        Ok(matches) => Ok(matches),
+        Err(error) => match error.kind() {
+            ErrorKind::DisplayHelp => Err(Refused::Help(format!(in alloc; "{error}")?)),
+            ErrorKind::OutOfMemory => Err(Refused::Memory),
+            _ => Err(Refused::Words),
+        },
+    }
+}
+
+/// The value of an argument that is required.
+fn value_of<'a>(matches: &ArgMatches<'a>, name: &str) -> Result<&'a str, Refused> {
+    matches.get_str(name).ok_or(Refused::Words)
+}
+
+/// Whether a flag is given.
+fn is_given(matches: &ArgMatches<'_>, name: &str) -> bool {
+    matches.get_str(name) == Some("true")
+}
+
+/// A report on conflicts. The words begin with the subcommand.
+fn report(rt: &HostRuntime, words: &[&str]) -> Result<u8, Refused> {
+    let alloc = rt.alloc();
+    let matches = matches_by(alloc, conflicts_command(alloc), words)?;
+    let asked = Asked {
+        grammar: value_of(&matches, "grammar")?,
+        save: matches.get_str("save"),
+        strict: is_given(&matches, "strict"),
+    };
+    let mut writer = BufWriter::new(alloc, rt.stdout())?;
+    let status = run_conflicts(rt, asked, &mut writer, &mut rt.stderr())?;
+    writer.flush()?;
+    Ok(status)
+}
+
+/// Verdicts on tokens files. The words begin with the subcommand.
+fn check(rt: &HostRuntime, words: &[&str]) -> Result<u8, Refused> {
+    let alloc = rt.alloc();
+    let matches = matches_by(alloc, check_command(alloc), words)?;
+    let asked = Check {
+        grammar: value_of(&matches, "grammar")?,
+        tokens: matches.get_strs("tokens").unwrap_or(&[]),
+        choice: is_given(&matches, "choice"),
+    };
+    let mut writer = BufWriter::new(alloc, rt.stdout())?;
+    let status = run_check(rt, asked, &mut rt.stdin(), &mut writer, &mut rt.stderr())?;
+    writer.flush()?;
+    Ok(status)
+}
+
+/// Whether an environment variable is set to something that counts.
+fn is_set(rt: &HostRuntime, name: &str) -> bool {
+    match env::var(rt, name) {
+        Ok(value) => !value.is_empty(),
+        Err(_) => false,
+    }
+}
+
+/// Whether the terminal is one without colour.
+fn is_dumb(rt: &HostRuntime) -> bool {
+    match env::var(rt, "TERM") {
+        Ok(value) => value.as_str() == "dumb",
+        Err(_) => false,
+    }
+}
+
+/// Where a session takes place.
+fn setting_of<'a>(rt: &HostRuntime, grammar: &'a str, tokens: &'a str) -> Setting<'a> {
+    let shown = rt.stdout().is_terminal();
+    Setting {
+        grammar,
+        tokens,
+        terminal: shown && rt.stdin().is_terminal(),
+        colour: shown && !is_set(rt, "NO_COLOR") && !is_dumb(rt),
+    }
+}
+
+/// A session with the standard streams.
+fn debug_files(rt: &HostRuntime, words: &[&str]) -> Result<u8, Refused> {
+    let matches = matches_by(rt.alloc(), debug_command(rt.alloc()), words)?;
+    let grammar = value_of(&matches, "grammar")?;
+    let tokens = value_of(&matches, "tokens")?;
+    let writer = BufWriter::new(rt.alloc(), rt.stdout())?;
+    match parse_of(rt, grammar, tokens, &mut rt.stderr())? {
+        Ok(parse) => {
+            let setting = setting_of(rt, grammar, tokens);
+            let ended = debug(rt, setting, parse, rt.stdin(), writer);
+            ended.map(|()| 0).map_err(Refused::from)
+        }
+        Err(status) => Ok(status),
+    }
+}
+
+/// Does what the words ask for, and gives the exit status. The first word is the program's name.
+fn obey(rt: &HostRuntime, words: &[&str]) -> Result<u8, Refused> {
+    match words {
+        [_, rest @ ..] if rest.first() == Some(&"conflicts") => report(rt, rest),
+        [_, rest @ ..] if rest.first() == Some(&"check") => check(rt, rest),
+        _ => debug_files(rt, words),
+    }
+}
+
+/// Reads the words and does what they ask for.
+fn run(rt: &HostRuntime) -> Result<u8, Refused> {
+    let given: Vec<String> = env::args(rt)?.collect(rt.alloc())?;
+    let mut words = Vec::with_capacity(rt.alloc(), given.len())?;
+    for word in &given {
+        words.push(word.as_str()).map_err(AllocError::from)?;
+    }
+    obey(rt, &words)
+}
+
+/// Says why nothing was done, and gives the exit status.
+fn refuse(rt: &HostRuntime, refused: &Refused) -> u8 {
+    let mut errors = rt.stderr();
+    let (told, status) = match refused {
+        Refused::Help(text) => (rt.stdout().write_all(text.as_bytes()), 0),
+        Refused::Words => (errors.write_all(USAGE), 2),
+        Refused::Memory => (errors.write_all(b"ydebug: no memory\n"), 3),
+        Refused::Outside => (errors.write_all(b"ydebug: cannot read or write\n"), 3),
+    };
+    let _ = told;
+    status
+}
+
+fn main(rt: HostRuntime) -> ExitCode {
+    match run(&rt) {
+        Ok(status) => ExitCode::from(status),
+        Err(refused) => ExitCode::from(refuse(&rt, &refused)),
+    }
+}

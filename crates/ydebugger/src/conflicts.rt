@@ -1,0 +1,84 @@
+//! The conflicts of the tables by which a parse goes.
+
+use crate::parse::Parse;
+use std::alloc::Global;
+use std::io::{self, Write};
+use yconflicts::groups::{Conflicts, Group, Kind};
+use yexplain::why::{explain, put_cell};
+use yshow::page::Page;
+
+/// How many kinds of conflicts are explained, and how many are named at most.
+const EXPLAINED: usize = 20;
+
+const NAMED: usize = 1_000;
+
+/// How many conflicts there are.
+fn put_counts<W: Write>(page: &mut Page<W>, parse: &Parse, found: &Conflicts) -> io::Result<()> {
+    let counts = parse.tables().conflicts();
+    page.number(counts.shift_reduce as usize)?;
+    page.put(" shift/reduce, ")?;
+    page.number(counts.reduce_reduce as usize)?;
+    page.put(" reduce/reduce, in ")?;
+    page.count(found.cells, "cell", "cells")?;
+    page.put(" of ")?;
+    page.count(found.groups.len(), "kind", "kinds")?;
+    page.end()
+}
+
+/// In how many states a kind of conflict stands, where that is more than one.
+fn put_states<W: Write>(page: &mut Page<W>, group: Group) -> io::Result<()> {
+    if group.states < 2 {
+        return Ok(());
+    }
+    page.put("  The same in ")?;
+    page.number(group.states)?;
+    page.put(" states, the last of them ")?;
+    page.number(group.last)?;
+    page.line(".")
+}
+
+/// A kind of conflict: the first ones are explained.
+fn put_kind<W: Write>(
+    page: &mut Page<W>,
+    parse: &Parse,
+    kind: &Kind,
+    group: Group,
+    number: usize,
+) -> io::Result<()> {
+    let (tables, lines) = (parse.tables(), parse.lines());
+    if number < EXPLAINED {
+        explain(page, tables, lines, group.state, kind.token)?;
+    } else {
+        put_cell(page, tables, lines, group.state, kind.token)?;
+    }
+    put_states(page, group)
+}
+
+/// How many kinds and cells aren't named.
+fn put_rest<W: Write>(page: &mut Page<W>, found: &Conflicts) -> io::Result<()> {
+    let kinds = found.groups.len().saturating_sub(NAMED);
+    if kinds > 0 {
+        page.put("and ")?;
+        page.count(kinds, "kind more", "kinds more")?;
+        page.end()?;
+    }
+    if found.others > 0 {
+        page.put("and ")?;
+        page.count(found.others, "cell", "cells")?;
+        page.line(" whose kinds aren't told apart")?;
+    }
+    Ok(())
+}
+
+/// The conflicts of the tables by kinds: each with a cell, the first 20 explained.
+pub fn put_conflicts<W: Write>(alloc: Global, page: &mut Page<W>, parse: &Parse) -> io::Result<()> {
+    let found = Conflicts::new(alloc, parse.tables().automaton())?;
+    if found.cells == 0 {
+        return page.line("The tables have no conflict.");
+    }
+    put_counts(page, parse, &found)?;
+    for (number, (kind, group)) in found.groups.iter().take(NAMED).enumerate() {
+        put_kind(page, parse, kind, *group, number)?;
+    }
+    put_rest(page, &found)
+}

@@ -1,0 +1,376 @@
+//! The loop over command lines.
+
+use crate::conflicts::put_conflicts;
+use crate::edits::{drop_next, insert, save};
+use crate::expected::put_expected;
+use crate::help::{put_command, put_commands};
+use crate::moves::{LAST, Move, make_move};
+use crate::parse::Parse;
+use crate::reload::reload;
+use crate::views::{
+    refuse_name, show_derivation, show_history, show_rule, show_state, show_symbol, show_tree,
+    show_why,
+};
+use std::alloc::Global;
+use std::io::{self, BufReader, ErrorKind, Read, Write};
+use std::rt::Files;
+use std::str;
+use ycommands::condition::{condition_of, number_in};
+use ycommands::lines::{Came, LONGEST, next_line};
+use ycommands::refusal::{Refusal, misused, put_refusal};
+use ycommands::verb::{VERBS, Verb};
+use ycommands::words::{Found, Nearest, begins, find, first_word};
+use yexplain::reads::grammar_of;
+use yshow::grammar_view::put_grammar;
+use yshow::place_view::{put_stack, put_upcoming, put_where};
+use yshow::reading::{last_rule, states_of};
+use yshow::{Page, Paint};
+
+/// Where a session takes place: its files, and whether a person sits at a terminal.
+#[derive(Clone, Copy, Debug)]
+pub struct Setting<'a> {
+    pub grammar: &'a str,
+    pub tokens: &'a str,
+    pub terminal: bool,
+    pub colour: bool,
+}
+
+/// Whether a session goes on.
+#[derive(Clone, Copy, Debug, PartialEq, Eq)]
+enum Flow {
+    GoesOn,
+    Quits,
+}
+
+/// A session with a person.
+#[derive(Drop)]
+struct Desk<'a, F> {
+    rt: &'a F,
+    setting: Setting<'a>,
+    parse: Parse,
+    last: Option<Move>,
+}
+
+/// The command that a word means.
+fn verb_of(word: &str) -> Found<Verb> {
+    match word {
+        "s" => Found::One(Verb::Step),
+        "b" => Found::One(Verb::Back),
+        "r" => Found::One(Verb::Run),
+        "w" => Found::One(Verb::Where),
+        _ => find(&VERBS, word),
+    }
+}
+
+/// The commands that begin so.
+fn put_candidates<W: Write>(page: &mut Page<W>, word: &str) -> io::Result<()> {
+    page.put(word)?;
+    page.put(" could be any of:")?;
+    for (name, _) in &VERBS {
+        if begins(name, word) {
+            page.put(" ")?;
+            page.put(name)?;
+        }
+    }
+    page.end()
+}
+
+/// That a word is no command, and which one is near it.
+fn put_unknown<W: Write>(alloc: Global, page: &mut Page<W>, word: &str) -> io::Result<()> {
+    let mut nearest = Nearest::new(word);
+    for (name, _) in &VERBS {
+        nearest.offer(alloc, name);
+    }
+    page.painted(Paint::Bad, word)?;
+    page.put(" is no command; ")?;
+    match nearest.best() {
+        Some(best) => writeln!(page, "did you mean {best}?"),
+        None => page.line("help lists them."),
+    }
+}
+
+/// How often: once where nothing is said.
+fn count_of(text: &str) -> Result<usize, Refusal> {
+    if text.is_empty() {
+        return Ok(1);
+    }
+    number_in(text, "counts", 1, LAST)
+}
+
+/// What stands behind `until`, or a beginning of it.
+fn until_in(text: &str) -> Option<&str> {
+    let (word, condition) = first_word(text);
+    if !word.is_empty() && "until".starts_with(word) {
+        Some(condition)
+    } else {
+        None
+    }
+}
+
+/// The word for which a condition was refused: its first one, or the name behind that.
+fn name_at_fault(text: &str, refusal: Refusal) -> &str {
+    let (word, name) = first_word(until_in(text).unwrap_or(""));
+    match refusal {
+        Refusal::NoCondition => word,
+        _ => name,
+    }
+}
+
+/// The move that a command and the words behind it mean.
+fn move_of(parse: &Parse, verb: Verb, text: &str) -> Result<Move, Refusal> {
+    let until = |condition: &str| condition_of(parse.session(), parse.tokens(), condition);
+    match (verb, until_in(text)) {
+        (Verb::Run, Some(condition)) => until(condition).map(Move::RunUntil),
+        (Verb::Back, Some(condition)) => until(condition).map(Move::BackUntil),
+        (Verb::Back, None) => count_of(text).map(Move::Back),
+        (Verb::To, _) => number_in(text, "positions", 0, LAST).map(Move::To),
+        (Verb::Run, None) if text.is_empty() => Ok(Move::Run),
+        (Verb::Run, None) => Err(misused(verb)),
+        _ => count_of(text).map(Move::Step),
+    }
+}
+
+/// Help on all commands, or on one.
+fn show_help<W: Write>(alloc: Global, page: &mut Page<W>, text: &str) -> io::Result<()> {
+    if text.is_empty() {
+        return put_commands(page);
+    }
+    match verb_of(text) {
+        Found::One(verb) => put_command(page, verb),
+        Found::Many => put_candidates(page, text),
+        Found::Nothing => put_unknown(alloc, page, text),
+    }
+}
+
+impl<'a, F: Files + AllocGlobal> Desk<'a, F> {
+    /// Makes a move, which an empty line then repeats.
+    fn go<W: Write>(&mut self, page: &mut Page<W>, wanted: Move) -> io::Result<()> {
+        self.last = Some(wanted);
+        make_move(
+            self.rt.alloc(),
+            &mut self.parse,
+            page,
+            wanted,
+            self.setting.terminal,
+        )
+    }
+
+    /// Makes the move that a command means.
+    fn travel<W: Write>(&mut self, page: &mut Page<W>, verb: Verb, text: &str) -> io::Result<()> {
+        match move_of(&self.parse, verb, text) {
+            Ok(wanted) => self.go(page, wanted),
+            Err(Refusal::NoNumber) => put_refusal(page, misused(verb)),
+            Err(refusal) => {
+                let name = name_at_fault(text, refusal);
+                refuse_name(self.rt.alloc(), self.parse.session(), page, name, refusal)
+            }
+        }
+    }
+
+    /// Changes the upcoming tokens, or writes them to a file.
+    fn edit<W: Write>(&mut self, page: &mut Page<W>, verb: Verb, text: &str) -> io::Result<()> {
+        let wants_word = verb != Verb::Drop;
+        if wants_word == text.is_empty() {
+            return put_refusal(page, misused(verb));
+        }
+        match verb {
+            Verb::Insert => insert(self.rt.alloc(), &mut self.parse, page, text),
+            Verb::Drop => drop_next(&mut self.parse, page),
+            verb => save(self.rt, &self.parse, page, text, verb == Verb::SaveOver),
+        }
+    }
+
+    /// Shows what needs no words behind the command.
+    fn look<W: Write>(&mut self, page: &mut Page<W>, verb: Verb) -> io::Result<()> {
+        let parse = &self.parse;
+        match verb {
+            Verb::Stack => put_stack(page, parse.session()),
+            Verb::Upcoming => put_upcoming(page, parse.session()),
+            Verb::Expected => put_expected(self.rt.alloc(), page, parse.session()),
+            Verb::Grammar => put_grammar(page, parse.tables(), parse.lines()),
+            Verb::Conflicts => put_conflicts(self.rt.alloc(), page, parse),
+            _ => put_where(page, parse.session(), parse.tokens()),
+        }
+    }
+
+    /// Shows what words behind the command ask for.
+    fn show<W: Write>(&mut self, page: &mut Page<W>, verb: Verb, text: &str) -> io::Result<()> {
+        let alloc = self.rt.alloc();
+        let parse = &self.parse;
+        match verb {
+            Verb::State => show_state(parse, page, text),
+            Verb::Why => show_why(alloc, parse, page, text),
+            Verb::Rule => show_rule(parse, page, text),
+            Verb::Symbol => show_symbol(alloc, parse, page, text),
+            Verb::Tree => show_tree(alloc, parse, page, text),
+            Verb::Derivation => show_derivation(alloc, parse, page, text),
+            Verb::History => show_history(parse, page, text),
+            Verb::Help => show_help(alloc, page, text),
+            verb if text.is_empty() => self.look(page, verb),
+            verb => put_refusal(page, misused(verb)),
+        }
+    }
+
+    /// Reads both files again.
+    fn renew<W: Write>(&mut self, page: &mut Page<W>, text: &str) -> io::Result<()> {
+        if !text.is_empty() {
+            return put_refusal(page, misused(Verb::Reload));
+        }
+        self.last = None;
+        reload(
+            self.rt,
+            page,
+            &mut self.parse,
+            self.setting.grammar,
+            self.setting.tokens,
+        )
+    }
+
+    /// Does what a command and the words behind it say.
+    fn obey<W: Write>(&mut self, page: &mut Page<W>, verb: Verb, text: &str) -> io::Result<Flow> {
+        match verb {
+            Verb::Quit if text.is_empty() => return Ok(Flow::Quits),
+            Verb::Step | Verb::Back | Verb::To | Verb::Run => self.travel(page, verb, text)?,
+            Verb::Insert | Verb::Drop | Verb::Save | Verb::SaveOver => {
+                self.edit(page, verb, text)?;
+            }
+            Verb::Reload => self.renew(page, text)?,
+            verb => self.show(page, verb, text)?,
+        }
+        Ok(Flow::GoesOn)
+    }
+
+    /// Repeats the last move, where there was one.
+    fn repeat<W: Write>(&mut self, page: &mut Page<W>) -> io::Result<()> {
+        match self.last {
+            Some(wanted) => self.go(page, wanted),
+            None => Ok(()),
+        }
+    }
+
+    /// Answers a line.
+    fn answer<W: Write>(&mut self, page: &mut Page<W>, line: &str) -> io::Result<Flow> {
+        let (word, text) = first_word(line);
+        if word.is_empty() {
+            return self.repeat(page).map(|()| Flow::GoesOn);
+        }
+        match verb_of(word) {
+            Found::One(verb) => return self.obey(page, verb, text),
+            Found::Many => put_candidates(page, word)?,
+            Found::Nothing => put_unknown(self.rt.alloc(), page, word)?,
+        }
+        Ok(Flow::GoesOn)
+    }
+
+    /// Answers a line, also where there is no memory for what it asks.
+    fn serve<W: Write>(&mut self, page: &mut Page<W>, line: &[u8]) -> io::Result<Flow> {
+        let Ok(line) = str::from_utf8(line) else {
+            return page.line("That line is no text.").map(|()| Flow::GoesOn);
+        };
+        match self.answer(page, line) {
+            Err(error) if error.kind() == ErrorKind::OutOfMemory => {
+                if page.column() > 0 {
+                    page.end()?;
+                }
+                put_refusal(page, Refusal::Memory).map(|()| Flow::GoesOn)
+            }
+            answered => answered,
+        }
+    }
+
+    /// Asks for a line where a person sits at a terminal.
+    fn prompt<W: Write>(&self, page: &mut Page<W>) -> io::Result<()> {
+        if self.setting.terminal {
+            page.painted(Paint::Strong, "(ydebug) ")?;
+        }
+        page.flush()
+    }
+
+    /// Reads a line and answers it.
+    fn turn<R: Read, W: Write>(
+        &mut self,
+        reader: &mut BufReader<R>,
+        line: &mut Vec<u8>,
+        page: &mut Page<W>,
+    ) -> io::Result<Flow> {
+        self.prompt(page)?;
+        let came = next_line(reader, line)?;
+        if came != Came::End {
+            page.fresh();
+        }
+        match came {
+            Came::End => {
+                if self.setting.terminal {
+                    page.end()?;
+                }
+                Ok(Flow::Quits)
+            }
+            Came::Long => page.line("That line is too long.").map(|()| Flow::GoesOn),
+            Came::Line => self.serve(page, line),
+        }
+    }
+
+    /// Greets a person at a terminal.
+    fn greet<W: Write>(&self, page: &mut Page<W>) -> io::Result<()> {
+        if !self.setting.terminal {
+            return Ok(());
+        }
+        let tables = self.parse.tables();
+        let counts = tables.conflicts();
+        let conflicts = counts.shift_reduce.saturating_add(counts.reduce_reduce);
+        page.count(last_rule(grammar_of(tables)), "rule, ", "rules, ")?;
+        page.count(states_of(tables), "state, ", "states, ")?;
+        page.count(conflicts as usize, "conflict, ", "conflicts, ")?;
+        page.count(self.parse.tokens(), "token; ", "tokens; ")?;
+        page.line("type help")
+    }
+}
+
+/// Greets, and answers lines up to `quit` or the end of the input.
+fn turns<F: Files + AllocGlobal, R: Read, W: Write>(
+    desk: &mut Desk<'_, F>,
+    page: &mut Page<W>,
+    reader: &mut BufReader<R>,
+    line: &mut Vec<u8>,
+) -> io::Result<()> {
+    desk.greet(page)?;
+    for _ in 0..u64::MAX {
+        if desk.turn(reader, line, page)? == Flow::Quits {
+            break;
+        }
+    }
+    page.flush()
+}
+
+/// Makes room for lines, and answers them.
+fn serve_all<F: Files + AllocGlobal, R: Read + Drop, W: Write>(
+    desk: &mut Desk<'_, F>,
+    page: &mut Page<W>,
+    reader: R,
+) -> io::Result<()> {
+    let alloc: Global = desk.rt.alloc();
+    let mut line = Vec::with_capacity(alloc, LONGEST)?;
+    let mut reader = BufReader::new(alloc, reader)?;
+    turns(desk, page, &mut reader, &mut line)
+}
+
+/// A session over a parse: command lines from the reader, what they show to the writer, up to
+/// `quit` or the end of the input.
+///
+/// An error is that of the reader or of the writer, or want of memory before the first line.
+pub fn debug<F: Files + AllocGlobal, R: Read + Drop, W: Write + Drop>(
+    rt: &F,
+    setting: Setting<'_>,
+    parse: Parse,
+    reader: R,
+    writer: W,
+) -> io::Result<()> {
+    let mut page = Page::new(writer, setting.colour);
+    let mut desk = Desk {
+        rt,
+        setting,
+        parse,
+        last: None,
+    };
+    serve_all(&mut desk, &mut page, reader)
+}

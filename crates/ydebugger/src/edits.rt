@@ -1,0 +1,90 @@
+//! Edits of the upcoming tokens, and the tokens as a file.
+
+use crate::history::put_tokens;
+use crate::parse::Parse;
+use crate::views::refuse_name;
+use std::alloc::Global;
+use std::fs::{self, File};
+use std::io::{self, ErrorKind, Write};
+use std::rt::Files;
+use ycommands::refusal::{Refusal, edit_words};
+use yparse::machine::{StepFault, StepKind};
+use yshow::page::Page;
+use yshow::step_line::{StepLine, put_made};
+
+/// Tells an edit, or why it wasn't made.
+fn put_edit<W: Write>(
+    page: &mut Page<W>,
+    parse: &Parse,
+    made: Result<StepKind, StepFault>,
+) -> io::Result<()> {
+    let session = parse.session();
+    match made {
+        Ok(kind) => put_made(page, session, StepLine::of(session, kind, false)),
+        Err(fault) => page.line(edit_words(fault, session.view().mode())),
+    }
+}
+
+/// Puts a token before the upcoming ones.
+pub fn insert<W: Write>(
+    alloc: Global,
+    parse: &mut Parse,
+    page: &mut Page<W>,
+    name: &str,
+) -> io::Result<()> {
+    match parse.insert(name.as_bytes()) {
+        Ok(Some(kind)) => put_edit(page, parse, Ok(kind)),
+        Ok(None) => refuse_name(alloc, parse.session(), page, name, Refusal::NoInput),
+        Err(fault) => put_edit(page, parse, Err(fault)),
+    }
+}
+
+/// Takes the first of the upcoming tokens out.
+pub fn drop_next<W: Write>(parse: &mut Parse, page: &mut Page<W>) -> io::Result<()> {
+    let made = parse.drop_next();
+    put_edit(page, parse, made)
+}
+
+/// The tokens as they stand, as the text of a tokens file.
+fn text_of(alloc: Global, parse: &Parse) -> io::Result<Vec<u8>> {
+    let mut page = Page::new(Vec::new(alloc), false);
+    put_tokens(&mut page, parse)?;
+    Ok(page.into_out())
+}
+
+/// Opens a file and writes the tokens to it. Without `over` there must be no such file.
+fn save_to<F: Files + AllocGlobal>(
+    rt: &F,
+    parse: &Parse,
+    path: &str,
+    over: bool,
+) -> io::Result<()> {
+    let text = text_of(rt.alloc(), parse)?;
+    let mut device = if over {
+        fs::create(rt, path)?
+    } else {
+        File::create_new(rt, path)?
+    };
+    device.write_all(&text)?;
+    device.flush()
+}
+
+/// Writes the tokens as they stand to a file, and says so, or why not.
+pub fn save<F: Files + AllocGlobal, W: Write>(
+    rt: &F,
+    parse: &Parse,
+    page: &mut Page<W>,
+    path: &str,
+    over: bool,
+) -> io::Result<()> {
+    let words = match save_to(rt, parse, path, over) {
+        Ok(()) => " has the tokens as they stand.",
+        Err(error) => match error.kind() {
+            ErrorKind::AlreadyExists => " is there already; save! writes over it.",
+            ErrorKind::OutOfMemory => " isn't written: there is no memory.",
+            _ => " can't be written.",
+        },
+    };
+    page.put(path)?;
+    page.line(words)
+}

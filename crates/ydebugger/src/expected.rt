@@ -1,0 +1,66 @@
+//! The tokens that can come here.
+
+use std::alloc::{AllocError, Global};
+use std::io::{self, Write};
+use ycheck::expected::{Wanted, expected};
+use yexplain::reads::{goto_of, grammar_of};
+use yparse::Session;
+use yparse::machine::Mode;
+use yshow::page::Page;
+use yshow::reading::{name_of, stack_symbol};
+use ysymbols::{Grammar, Sym};
+
+/// The states of the stack from the bottom, the first state below it.
+fn states_of_stack(alloc: Global, session: &Session) -> Result<Vec<usize>, AllocError> {
+    let automaton = session.tables().automaton();
+    let mut states = Vec::new(alloc);
+    let mut state = 0;
+    states.push(state)?;
+    for index in 0..session.view().stack_len() {
+        state = goto_of(automaton, state, stack_symbol(session, index)).unwrap_or(0);
+        states.push(state)?;
+    }
+    Ok(states)
+}
+
+/// Tokens by name, as a list that ends its last line.
+fn put_names<W: Write>(page: &mut Page<W>, grammar: &Grammar, tokens: &[Sym]) -> io::Result<()> {
+    for token in tokens {
+        page.word(0, name_of(grammar, *token))?;
+    }
+    page.end()
+}
+
+/// The tokens that can come, and those of which that can't be told.
+fn put_found<W: Write>(page: &mut Page<W>, grammar: &Grammar, found: &Wanted) -> io::Result<()> {
+    if !found.can.is_empty() {
+        put_names(page, grammar, &found.can)?;
+    }
+    if !found.unknown.is_empty() {
+        page.put("can't tell, since too many reductions come first:")?;
+        put_names(page, grammar, &found.unknown)?;
+    }
+    if found.can.is_empty() && found.unknown.is_empty() {
+        page.line("No token can come here.")?;
+    }
+    Ok(())
+}
+
+/// The tokens that can come here; none where the parse isn't running.
+pub fn put_expected<W: Write>(
+    alloc: Global,
+    page: &mut Page<W>,
+    session: &Session,
+) -> io::Result<()> {
+    match session.view().mode() {
+        Mode::Running => {}
+        Mode::Popping => {
+            return page.line("No token can come while symbols are popped; go back and ask again.");
+        }
+        Mode::Accepted => return page.line("No token can come: the input is accepted."),
+        Mode::Failed => return page.line("No token can come: the parse has given up."),
+    }
+    let states = states_of_stack(alloc, session)?;
+    let found = expected(alloc, session.tables(), &states)?;
+    put_found(page, grammar_of(session.tables()), &found)
+}

@@ -1,0 +1,256 @@
+//! Moves: steps forward and back, and to where a condition holds.
+
+use crate::parse::Parse;
+use crate::tail::Tail;
+use std::alloc::{AllocError, Global};
+use std::io::{self, Write};
+use ycommands::condition::{Condition, put_cell};
+use ycommands::refusal::fault_words;
+use yparse::machine::{AtStart, StepFault, StepKind};
+use yshow::page::Page;
+use yshow::step_line::{StepLine, put_made};
+
+/// The last position.
+pub const LAST: usize = 1_000_000;
+/// More steps than can be made.
+const FARTHEST: usize = LAST + 1;
+/// After how many steps a long run tells its position.
+const PROGRESS: usize = 50_000;
+
+/// A move.
+#[derive(Clone, Copy, Debug)]
+pub enum Move {
+    /// So many steps forward, each told.
+    Step(usize),
+    /// So many steps back, each told.
+    Back(usize),
+    /// To a position.
+    To(usize),
+    /// To the end.
+    Run,
+    /// Forward to where a condition holds.
+    RunUntil(Condition),
+    /// Back to where a condition holds.
+    BackUntil(Condition),
+}
+
+/// How a move ended.
+#[derive(Clone, Copy, Debug)]
+enum End {
+    /// As many steps were made as were wanted.
+    Done,
+    /// The condition is met.
+    Met,
+    /// No further step can be made.
+    Refused(StepFault),
+    /// Nothing stands that could be undone.
+    AtStart,
+}
+
+/// How the steps of a move are told: each at once, or the last ones behind it.
+#[derive(Drop)]
+struct Telling {
+    each: bool,
+    progress: bool,
+    made: usize,
+    tail: Tail,
+}
+
+impl Telling {
+    /// Nothing was told yet.
+    fn new(alloc: Global, each: bool, progress: bool) -> Result<Telling, AllocError> {
+        Ok(Telling {
+            each,
+            progress,
+            made: 0,
+            tail: Tail::new(alloc)?,
+        })
+    }
+
+    /// Tells what was just done or undone, or keeps it to be told.
+    fn tell<W: Write>(
+        &mut self,
+        page: &mut Page<W>,
+        parse: &Parse,
+        kind: StepKind,
+        undone: bool,
+    ) -> io::Result<()> {
+        let line = StepLine::of(parse.session(), kind, undone);
+        self.made = self.made.saturating_add(1);
+        if self.each {
+            return put_made(page, parse.session(), line);
+        }
+        self.tail.add(line);
+        if self.progress && self.made % PROGRESS == 0 {
+            page.passing("")?;
+            page.number(line.position)?;
+            page.flush()?;
+        }
+        Ok(())
+    }
+
+    /// Tells what was kept.
+    fn finish<W: Write>(&self, page: &mut Page<W>, parse: &Parse) -> io::Result<()> {
+        if self.progress && self.made >= PROGRESS {
+            page.passing("        ")?;
+            page.passing("")?;
+        }
+        self.tail.put(page, parse.session())
+    }
+}
+
+/// Whether a condition is given and met.
+fn is_met(until: Option<Condition>, parse: &Parse, kind: StepKind) -> bool {
+    match until {
+        Some(condition) => condition.is_met(parse.session(), kind),
+        None => false,
+    }
+}
+
+/// Steps forward, so many at most, or to where a condition is met.
+fn forward<W: Write>(
+    parse: &mut Parse,
+    page: &mut Page<W>,
+    telling: &mut Telling,
+    most: usize,
+    until: Option<Condition>,
+) -> io::Result<End> {
+    for _ in 0..most {
+        match parse.step() {
+            Err(fault) => return Ok(End::Refused(fault)),
+            Ok(kind) => {
+                telling.tell(page, parse, kind, false)?;
+                if is_met(until, parse, kind) {
+                    return Ok(End::Met);
+                }
+            }
+        }
+    }
+    Ok(End::Done)
+}
+
+/// Steps back, so many at most, or to where a condition is met.
+fn backward<W: Write>(
+    parse: &mut Parse,
+    page: &mut Page<W>,
+    telling: &mut Telling,
+    most: usize,
+    until: Option<Condition>,
+) -> io::Result<End> {
+    for _ in 0..most {
+        match parse.back() {
+            Err(AtStart) => return Ok(End::AtStart),
+            Ok(kind) => {
+                telling.tell(page, parse, kind, true)?;
+                if is_met(until, parse, kind) {
+                    return Ok(End::Met);
+                }
+            }
+        }
+    }
+    Ok(End::Done)
+}
+
+/// Steps forward or back to a position.
+fn go_to<W: Write>(
+    parse: &mut Parse,
+    page: &mut Page<W>,
+    telling: &mut Telling,
+    position: usize,
+) -> io::Result<End> {
+    let now = parse.session().position();
+    if now < position {
+        forward(parse, page, telling, position.saturating_sub(now), None)
+    } else {
+        backward(parse, page, telling, now.saturating_sub(position), None)
+    }
+}
+
+/// Makes the steps of a move.
+fn go<W: Write>(
+    parse: &mut Parse,
+    page: &mut Page<W>,
+    telling: &mut Telling,
+    wanted: Move,
+) -> io::Result<End> {
+    match wanted {
+        Move::Step(count) => forward(parse, page, telling, count, None),
+        Move::Back(count) => backward(parse, page, telling, count, None),
+        Move::To(position) => go_to(parse, page, telling, position),
+        Move::Run => forward(parse, page, telling, FARTHEST, None),
+        Move::RunUntil(condition) => forward(parse, page, telling, FARTHEST, Some(condition)),
+        Move::BackUntil(condition) => backward(parse, page, telling, FARTHEST, Some(condition)),
+    }
+}
+
+/// The condition of a move.
+fn until_of(wanted: Move) -> Option<Condition> {
+    match wanted {
+        Move::RunUntil(condition) | Move::BackUntil(condition) => Some(condition),
+        _ => None,
+    }
+}
+
+/// That a condition is met.
+fn put_met<W: Write>(page: &mut Page<W>, parse: &Parse, until: Condition) -> io::Result<()> {
+    page.put("stopped: ")?;
+    match until {
+        Condition::Conflict => put_cell(page, parse.session())?,
+        until => until.put(page, parse.session())?,
+    }
+    page.end()
+}
+
+/// That a condition was never met.
+fn put_never<W: Write>(page: &mut Page<W>, parse: &Parse, until: Condition) -> io::Result<()> {
+    page.put("No ")?;
+    until.put(page, parse.session())?;
+    page.line(" came on the way.")
+}
+
+/// How a move ended, where that isn't plain from its steps.
+fn put_end<W: Write>(
+    page: &mut Page<W>,
+    parse: &Parse,
+    wanted: Move,
+    end: End,
+    made: usize,
+) -> io::Result<()> {
+    match (end, until_of(wanted)) {
+        (End::Met, Some(until)) => return put_met(page, parse, until),
+        (_, Some(until)) => put_never(page, parse, until)?,
+        _ => {}
+    }
+    match end {
+        End::Refused(StepFault::Halted) if made > 0 && !is_to(wanted) => Ok(()),
+        End::Refused(fault) => page.line(fault_words(fault, parse.session().view().mode())),
+        End::AtStart if made > 0 => Ok(()),
+        End::AtStart => page.line("The parse is at its start."),
+        End::Done if made == 0 => page.line("The parse is at that position already."),
+        End::Done | End::Met => Ok(()),
+    }
+}
+
+/// Whether a move goes to a position.
+fn is_to(wanted: Move) -> bool {
+    matches!(wanted, Move::To(_))
+}
+
+/// Whether each step of a move is told.
+fn tells_each(wanted: Move) -> bool {
+    matches!(wanted, Move::Step(_) | Move::Back(_))
+}
+
+/// Makes a move, and tells it. A long one tells its position on the way where `progress` is set.
+pub fn make_move<W: Write>(
+    alloc: Global,
+    parse: &mut Parse,
+    page: &mut Page<W>,
+    wanted: Move,
+    progress: bool,
+) -> io::Result<()> {
+    let mut telling = Telling::new(alloc, tells_each(wanted), progress)?;
+    let end = go(parse, page, &mut telling, wanted)?;
+    telling.finish(page, parse)?;
+    put_end(page, parse, wanted, end, telling.made)
+}

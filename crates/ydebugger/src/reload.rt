@@ -1,0 +1,117 @@
+//! Both files again: a new parse, and the steps and edits of the old one in it.
+
+use crate::parse::Parse;
+use crate::start::parse_of;
+use std::io::{self, Write};
+use std::mem;
+use std::rt::Files;
+use ycommands::refusal::{Refusal, fault_words, put_refusal};
+use yexplain::reads::grammar_of;
+use yparse::machine::{StepFault, StepKind};
+use yshow::page::Page;
+use yshow::reading::name_of;
+use ysymbols::Grammar;
+
+/// Why the past isn't made again.
+#[derive(Clone, Copy, Debug)]
+enum Stopped {
+    /// A step or an edit was refused.
+    Fault(StepFault),
+    /// A token that was inserted isn't one of the new grammar.
+    NoToken,
+}
+
+/// Makes one step or edit of the old parse in the new one.
+fn redo_one(parse: &mut Parse, old: &Grammar, kind: StepKind) -> Result<(), Stopped> {
+    let made = match kind {
+        StepKind::Insert(token) => parse.insert(name_of(old, token).as_bytes()),
+        StepKind::Drop(_) => parse.drop_next().map(Some),
+        _ => parse.step().map(Some),
+    };
+    match made {
+        Ok(Some(_)) => Ok(()),
+        Ok(None) => Err(Stopped::NoToken),
+        Err(fault) => Err(Stopped::Fault(fault)),
+    }
+}
+
+/// Makes the steps and edits of the old parse in the new one.
+fn redo(parse: &mut Parse, old: &Parse) -> Result<(), Stopped> {
+    for kind in old.past() {
+        redo_one(parse, grammar_of(old.tables()), *kind)?;
+    }
+    Ok(())
+}
+
+/// Where the new parse came to.
+fn put_reached<W: Write>(
+    page: &mut Page<W>,
+    parse: &Parse,
+    wanted: usize,
+    reached: Result<(), Stopped>,
+) -> io::Result<()> {
+    page.put("Both files are read again; the position is ")?;
+    page.number(parse.session().position())?;
+    if reached.is_ok() {
+        return page.line(", as before.");
+    }
+    page.put(" and not ")?;
+    page.number(wanted)?;
+    page.line(".")?;
+    match reached {
+        Err(Stopped::Fault(fault)) => {
+            page.line(fault_words(fault, parse.session().view().mode()))
+        }
+        Err(Stopped::NoToken) => page.line(
+            "The grammar has no longer the token that was inserted.",
+        ),
+        Ok(()) => Ok(()),
+    }
+}
+
+/// Whether a step or an edit was refused for want of memory.
+fn is_memory(reached: Result<(), Stopped>) -> bool {
+    match reached {
+        Err(Stopped::Fault(fault)) => fault == StepFault::Memory,
+        _ => false,
+    }
+}
+
+/// Where the new parse came to, or that there is no memory for it.
+fn put_outcome<W: Write>(
+    page: &mut Page<W>,
+    parse: &Parse,
+    wanted: usize,
+    reached: Result<(), Stopped>,
+) -> io::Result<()> {
+    if is_memory(reached) {
+        put_refusal(page, Refusal::Memory)
+    } else {
+        put_reached(page, parse, wanted, reached)
+    }
+}
+
+/// Puts the new parse in the place of the old one, once its steps and edits are made again.
+fn replace<W: Write>(page: &mut Page<W>, parse: &mut Parse, fresh: Parse) -> io::Result<()> {
+    let mut fresh = fresh;
+    let reached = redo(&mut fresh, parse);
+    let told = put_outcome(page, &fresh, parse.session().position(), reached);
+    if !is_memory(reached) {
+        mem::swap(parse, &mut fresh);
+    }
+    told
+}
+
+/// Reads both files again. Where one is refused, that is said, and the old parse stays.
+pub fn reload<F: Files + AllocGlobal, W: Write>(
+    rt: &F,
+    page: &mut Page<W>,
+    parse: &mut Parse,
+    grammar: &str,
+    tokens: &str,
+) -> io::Result<()> {
+    match parse_of(rt, grammar, tokens, page)? {
+        Ok(fresh) => replace(page, parse, fresh),
+        Err(_) => page.line("The parse is as it was."),
+    }
+}

@@ -1,0 +1,192 @@
+//! Commands that show something.
+
+use crate::history::{SOME_STEPS, put_history};
+use crate::moves::LAST;
+use crate::parse::Parse;
+use std::alloc::Global;
+use std::io::{self, Write};
+use ycommands::condition::{condition_near, number_in, symbol_named, symbol_near, token_named};
+use ycommands::refusal::{Refusal, misused, put_refusal};
+use ycommands::verb::Verb;
+use ycommands::words::first_word;
+use yexplain::reads::grammar_of;
+use yexplain::why::explain;
+use yparse::Session;
+use yparse::machine::Mode;
+use yshow::derivation::{SOME_FORMS, put_derivation};
+use yshow::grammar_view::put_one_rule;
+use yshow::page::Page;
+use yshow::reading::{last_rule, last_state, token_ahead};
+use yshow::state_view::put_state;
+use yshow::symbol_view::put_symbol;
+use yshow::tree_text::{SOME_LINES, put_tree, put_trees};
+
+/// Writes a refusal; how the command is used, where a word was no number.
+pub fn put_misuse<W: Write>(page: &mut Page<W>, verb: Verb, refusal: Refusal) -> io::Result<()> {
+    match refusal {
+        Refusal::NoNumber => put_refusal(page, misused(verb)),
+        refusal => put_refusal(page, refusal),
+    }
+}
+
+/// A state, that of the stack where none is named.
+pub fn show_state<W: Write>(parse: &Parse, page: &mut Page<W>, text: &str) -> io::Result<()> {
+    let session = parse.session();
+    if text.is_empty() {
+        return put_state(page, session.tables(), session.state());
+    }
+    match number_in(text, "states", 0, last_state(session.tables())) {
+        Ok(state) => put_state(page, session.tables(), state),
+        Err(refusal) => put_misuse(page, Verb::State, refusal),
+    }
+}
+
+/// Why the parse doesn't go by the cell, where it doesn't.
+fn put_mode<W: Write>(page: &mut Page<W>, mode: Mode) -> io::Result<()> {
+    match mode {
+        Mode::Running => Ok(()),
+        Mode::Popping => page.line(
+            "  The parse goes by no cell now: it looks for a state that can shift error.",
+        ),
+        Mode::Accepted => page.line("  The input is accepted: there is no further step."),
+        Mode::Failed => page.line("  The parse has given up: there is no further step."),
+    }
+}
+
+/// Why the cell of the state and the token ahead says what it says, or that of another token.
+pub fn show_why<W: Write>(
+    alloc: Global,
+    parse: &Parse,
+    page: &mut Page<W>,
+    text: &str,
+) -> io::Result<()> {
+    let session = parse.session();
+    let (tables, state) = (session.tables(), session.state());
+    if text.is_empty() {
+        explain(page, tables, parse.lines(), state, token_ahead(session))?;
+        return put_mode(page, session.view().mode());
+    }
+    match token_named(session, text) {
+        Some(token) => explain(page, tables, parse.lines(), state, token),
+        None => refuse_name(alloc, session, page, text, Refusal::NoToken),
+    }
+}
+
+/// A rule.
+pub fn show_rule<W: Write>(parse: &Parse, page: &mut Page<W>, text: &str) -> io::Result<()> {
+    let last = last_rule(grammar_of(parse.tables()));
+    match number_in(text, "rules", 0, last) {
+        Ok(rule) => put_one_rule(page, parse.tables(), parse.lines(), rule),
+        Err(refusal) => put_misuse(page, Verb::Rule, refusal),
+    }
+}
+
+/// The word that is near to the one for which a line was refused.
+fn nearest<'a>(
+    alloc: Global,
+    session: &'a Session,
+    name: &'a str,
+    refusal: Refusal,
+) -> Option<&'a str> {
+    match refusal {
+        Refusal::NoCondition => condition_near(alloc, name),
+        Refusal::NoToken | Refusal::NoInput | Refusal::NoNonterminal | Refusal::NoSymbol => {
+            symbol_near(alloc, grammar_of(session.tables()), name, refusal)
+        }
+        _ => None,
+    }
+}
+
+/// Writes a refusal, and the word that is near to the one at fault.
+pub fn refuse_name<W: Write>(
+    alloc: Global,
+    session: &Session,
+    page: &mut Page<W>,
+    name: &str,
+    refusal: Refusal,
+) -> io::Result<()> {
+    put_refusal(page, refusal)?;
+    match nearest(alloc, session, name, refusal) {
+        Some(best) => writeln!(page, "Did you mean {best}?"),
+        None => Ok(()),
+    }
+}
+
+/// A symbol.
+pub fn show_symbol<W: Write>(
+    alloc: Global,
+    parse: &Parse,
+    page: &mut Page<W>,
+    text: &str,
+) -> io::Result<()> {
+    if text.is_empty() {
+        return put_refusal(page, misused(Verb::Symbol));
+    }
+    match symbol_named(parse.session(), text) {
+        Some(symbol) => put_symbol(page, parse.tables(), parse.lines(), symbol),
+        None => refuse_name(alloc, parse.session(), page, text, Refusal::NoSymbol),
+    }
+}
+
+/// How many lines or forms are wanted: so many, all, or as many as usual.
+fn amount(text: &str, usual: usize) -> Result<usize, Refusal> {
+    match text {
+        "" => Ok(usual),
+        "all" => Ok(usize::MAX),
+        _ => number_in(text, "counts", 1, LAST),
+    }
+}
+
+/// The tree of an entry of the stack.
+fn show_entry<W: Write>(
+    alloc: Global,
+    parse: &Parse,
+    page: &mut Page<W>,
+    entry: &str,
+    most: usize,
+) -> io::Result<()> {
+    let session = parse.session();
+    let entries = session.view().stack_len();
+    match number_in(entry, "entries", 1, entries) {
+        _ if entries == 0 => page.line("The stack is empty: there is no tree."),
+        Ok(entry) => put_tree(alloc, page, session, entry, most),
+        Err(refusal) => put_misuse(page, Verb::Tree, refusal),
+    }
+}
+
+/// The trees of the stack, or that of one entry.
+pub fn show_tree<W: Write>(
+    alloc: Global,
+    parse: &Parse,
+    page: &mut Page<W>,
+    text: &str,
+) -> io::Result<()> {
+    match first_word(text) {
+        ("", _) => put_trees(alloc, page, parse.session(), SOME_LINES),
+        ("all", "") => put_trees(alloc, page, parse.session(), usize::MAX),
+        (entry, "") => show_entry(alloc, parse, page, entry, SOME_LINES),
+        (entry, "all") => show_entry(alloc, parse, page, entry, usize::MAX),
+        _ => put_refusal(page, misused(Verb::Tree)),
+    }
+}
+
+/// The rightmost derivation up to here.
+pub fn show_derivation<W: Write>(
+    alloc: Global,
+    parse: &Parse,
+    page: &mut Page<W>,
+    text: &str,
+) -> io::Result<()> {
+    match amount(text, SOME_FORMS) {
+        Ok(most) => put_derivation(alloc, page, parse.session(), most),
+        Err(refusal) => put_misuse(page, Verb::Derivation, refusal),
+    }
+}
+
+/// The last steps and edits.
+pub fn show_history<W: Write>(parse: &Parse, page: &mut Page<W>, text: &str) -> io::Result<()> {
+    match amount(text, SOME_STEPS) {
+        Ok(most) => put_history(page, parse, most),
+        Err(refusal) => put_misuse(page, Verb::History, refusal),
+    }
+}

@@ -1,0 +1,10 @@
+//! Words for people: reads of grammars and tables by any number, where rules and symbols stand in
+//! their file, what a cell could say, and why it says what it says.
+#![tactic(auto)]
+
+pub mod cells;
+pub mod lines;
+pub mod reads;
+pub mod roles;
+pub mod text;
+pub mod why;

@@ -1,0 +1,409 @@
+//! Why a cell says what it says: its candidates, what settled it, and how to choose otherwise.
+
+use crate::cells::{Case, Standing, Survey, reduces_at, standing_of, survey_at};
+use crate::lines::Lines;
+use crate::reads::{action_of, default_of, items_of, level_of, next_of};
+use crate::text::{ItemText, Name, Numbered, RuleText};
+use std::io::{self, Write};
+use ylalr::{END, Item};
+use ysymbols::{Associativity, Grammar, Sym};
+use ytables::{Action, Tables};
+
+/// The most candidates of one kind that are shown.
+const MOST_SHOWN: usize = 10;
+
+/// A cell to be explained.
+#[derive(Clone, Copy)]
+struct Asked<'a> {
+    tables: &'a Tables,
+    lines: &'a Lines,
+    state: usize,
+    token: Sym,
+}
+
+/// Writes what a cell says: `state 33 on ELSE: shift, to state 35`.
+pub fn put_cell<W: Write>(
+    out: &mut W,
+    tables: &Tables,
+    lines: &Lines,
+    state: usize,
+    token: Sym,
+) -> io::Result<()> {
+    let name = Name(tables.automaton().grammar(), token);
+    write!(out, "state {state} on {name}: ")?;
+    match action_of(tables, state, token) {
+        Action::Shift(to) => writeln!(out, "shift, to state {to}"),
+        Action::Reduce(rule) => {
+            let rule = Numbered(lines, rule);
+            writeln!(out, "reduce by {rule}")
+        }
+        Action::Accept => writeln!(out, "accept"),
+        Action::Error => writeln!(out, "error"),
+    }
+}
+
+/// Writes why the cell of a state and a token says what it says: its candidates, what settled it,
+/// and how to choose otherwise. `lines` are those of the grammar's file.
+pub fn explain<W: Write>(
+    out: &mut W,
+    tables: &Tables,
+    lines: &Lines,
+    state: usize,
+    token: Sym,
+) -> io::Result<()> {
+    let asked = Asked {
+        tables,
+        lines,
+        state,
+        token,
+    };
+    put_cell(out, tables, lines, state, token)?;
+    asked.put_reason(out)
+}
+
+/// Writes the candidates of a cell, what settled it, and how to choose otherwise.
+pub fn explain_rivals<W: Write>(
+    out: &mut W,
+    tables: &Tables,
+    lines: &Lines,
+    state: usize,
+    token: Sym,
+) -> io::Result<()> {
+    let asked = Asked {
+        tables,
+        lines,
+        state,
+        token,
+    };
+    asked.put_reason(out)
+}
+
+impl<'a> Asked<'a> {
+    fn grammar(self) -> &'a Grammar {
+        self.tables.automaton().grammar()
+    }
+
+    fn name(self) -> Name<'a> {
+        Name(self.grammar(), self.token)
+    }
+
+    fn items(self) -> &'a [Item] {
+        items_of(self.tables.automaton(), self.state)
+    }
+
+    /// Writes what settled the cell, with its candidates where there are several.
+    fn put_reason<W: Write>(self, out: &mut W) -> io::Result<()> {
+        let survey = survey_at(self.tables.automaton(), self.state, self.token);
+        let name = self.name();
+        match survey.case() {
+            Case::Empty => self.put_empty(out),
+            Case::Shift if self.token == END => writeln!(out, "  The input can only end here."),
+            Case::Shift => writeln!(out, "  {name} can only be shifted here."),
+            Case::Reduce(_) => self.put_alone(out),
+            case => {
+                self.put_candidates(out, survey)?;
+                self.put_standings(out, survey)?;
+                self.put_case(out, survey, case)
+            }
+        }
+    }
+
+    /// Writes that nothing can be done.
+    fn put_empty<W: Write>(self, out: &mut W) -> io::Result<()> {
+        let name = self.name();
+        write!(out, "  No item of the state allows {name}")?;
+        match default_of(self.tables, self.state) {
+            Some(_) => writeln!(
+                out,
+                ". The state reduces whatever comes, so the error is found behind that."
+            ),
+            None => writeln!(out, ", so it is an error here."),
+        }
+    }
+
+    /// Writes that one rule alone can be reduced.
+    fn put_alone<W: Write>(self, out: &mut W) -> io::Result<()> {
+        match default_of(self.tables, self.state) {
+            Some(_) => writeln!(out, "  The state reduces by this rule whatever comes."),
+            None => writeln!(out, "  Nothing else can be done here."),
+        }
+    }
+
+    /// Writes the candidates.
+    fn put_candidates<W: Write>(self, out: &mut W, survey: Survey) -> io::Result<()> {
+        if survey.shifts {
+            self.put_shifts(out)?;
+        }
+        self.put_rules(out, survey)
+    }
+
+    /// Writes the items that could shift.
+    fn put_shifts<W: Write>(self, out: &mut W) -> io::Result<()> {
+        let deed = if self.token == END {
+            "accept"
+        } else {
+            "shift "
+        };
+        let mut left = MOST_SHOWN;
+        for item in self.items() {
+            if left > 0 && next_of(self.grammar(), *item) == Some(self.token) {
+                let number = Numbered(self.lines, item.rule);
+                let text = ItemText(self.grammar(), *item);
+                writeln!(out, "  {deed}  {number}  {text}")?;
+                left -= 1;
+            }
+        }
+        Ok(())
+    }
+
+    /// Writes the rules that could be reduced.
+    fn put_rules<W: Write>(self, out: &mut W, survey: Survey) -> io::Result<()> {
+        let mut left = MOST_SHOWN;
+        for item in self.items() {
+            if left > 0 && self.reduces(*item) {
+                let number = Numbered(self.lines, item.rule);
+                let text = RuleText(self.grammar(), item.rule);
+                writeln!(out, "  reduce  {number}  {text}")?;
+                left -= 1;
+            }
+        }
+        self.put_more(out, survey.rules)
+    }
+
+    /// Writes how many rules are not shown.
+    fn put_more<W: Write>(self, out: &mut W, rules: usize) -> io::Result<()> {
+        if rules > MOST_SHOWN {
+            let more = rules.saturating_sub(MOST_SHOWN);
+            writeln!(out, "  and {more} rules more")?;
+        }
+        Ok(())
+    }
+
+    fn reduces(self, item: Item) -> bool {
+        reduces_at(self.tables.automaton(), self.state, item, self.token)
+    }
+
+    /// Writes how the rules stand against the shift, where there is one.
+    fn put_standings<W: Write>(self, out: &mut W, survey: Survey) -> io::Result<()> {
+        let mut left = if survey.shifts { MOST_SHOWN } else { 0 };
+        for item in self.items() {
+            if left > 0 && self.reduces(*item) {
+                self.put_standing(out, item.rule)?;
+                left -= 1;
+            }
+        }
+        Ok(())
+    }
+
+    /// Writes how a rule stands against the shift.
+    fn put_standing<W: Write>(self, out: &mut W, rule: usize) -> io::Result<()> {
+        let name = self.name();
+        match standing_of(self.grammar(), rule, self.token) {
+            Standing::Higher => writeln!(out, "  Rule {rule} binds tighter than {name}."),
+            Standing::Lower => writeln!(out, "  {name} binds tighter than rule {rule}."),
+            Standing::Level(kind) => self.put_level(out, rule, kind),
+            Standing::NoToken => writeln!(out, "  Rule {rule} has a precedence, {name} has none."),
+            Standing::NoRule => {
+                writeln!(out, "  {name} has a precedence, rule {rule} has none.")?;
+                self.put_source(out, rule)
+            }
+            Standing::Neither => {
+                writeln!(out, "  Neither rule {rule} nor {name} has a precedence.")
+            }
+        }
+    }
+
+    /// Writes that a rule has the level of the token.
+    fn put_level<W: Write>(self, out: &mut W, rule: usize, kind: Associativity) -> io::Result<()> {
+        let name = self.name();
+        write!(out, "  Rule {rule} and {name} have one level: ")?;
+        match kind {
+            Associativity::Left => writeln!(out, "%left reduces."),
+            Associativity::Right => writeln!(out, "%right shifts."),
+            Associativity::Nonassoc => writeln!(out, "%nonassoc allows neither."),
+        }
+    }
+
+    /// Writes from what a rule could have a precedence.
+    fn put_source<W: Write>(self, out: &mut W, rule: usize) -> io::Result<()> {
+        match self.lines.giver(self.grammar(), rule) {
+            Some(token) => {
+                let token = Name(self.grammar(), token);
+                writeln!(out, "  Rule {rule} would take that of {token}.")
+            }
+            None => writeln!(out, "  Rule {rule} has no token to take one from."),
+        }
+    }
+
+    /// Writes what settled the cell, and how to choose otherwise.
+    fn put_case<W: Write>(self, out: &mut W, survey: Survey, case: Case) -> io::Result<()> {
+        match case {
+            Case::Banned(_) => self.put_banned(out),
+            Case::Beaten(rule) => self.put_beaten(out, rule, survey),
+            Case::Kept => self.put_kept(out),
+            Case::Open => self.put_open(out, survey),
+            Case::Least(rule) => self.put_least(out, rule),
+            _ => Ok(()),
+        }
+    }
+
+    fn put_banned<W: Write>(self, out: &mut W) -> io::Result<()> {
+        let name = self.name();
+        writeln!(out, "  So {name} can't come here; nothing is counted.")?;
+        writeln!(
+            out,
+            "  To choose otherwise, write %left in place of %nonassoc to reduce, %right to shift."
+        )
+    }
+
+    fn put_beaten<W: Write>(self, out: &mut W, rule: usize, survey: Survey) -> io::Result<()> {
+        let name = self.name();
+        writeln!(out, "  So rule {rule} is reduced and {name} isn't shifted.")?;
+        if survey.kept > 1 {
+            writeln!(
+                out,
+                "  Of the rules that don't lose, the first in the file is taken: a conflict."
+            )?;
+        }
+        self.put_swap(out, survey.winner.unwrap_or(rule), true)
+    }
+
+    fn put_kept<W: Write>(self, out: &mut W) -> io::Result<()> {
+        let name = self.name();
+        writeln!(out, "  So {name} is shifted; nothing is counted.")?;
+        match self.items().iter().find(|item| self.reduces(**item)) {
+            Some(item) => self.put_swap(out, item.rule, false),
+            None => Ok(()),
+        }
+    }
+
+    /// Writes how to turn what the precedences of a rule and the token have settled.
+    fn put_swap<W: Write>(self, out: &mut W, rule: usize, reduced: bool) -> io::Result<()> {
+        let (deed, kind, place) = if reduced {
+            ("shift", "%right", "a later")
+        } else {
+            ("reduce", "%left", "an earlier")
+        };
+        let name = self.name();
+        write!(out, "  To {deed} instead, ")?;
+        match standing_of(self.grammar(), rule, self.token) {
+            Standing::Level(_) => writeln!(out, "write {kind} for the line of {name}."),
+            _ => match self.lines.giver(self.grammar(), rule) {
+                Some(token) => {
+                    let token = Name(self.grammar(), token);
+                    writeln!(out, "name {name} on {place} line than {token}.")
+                }
+                None => writeln!(out, "give rule {rule} another %prec."),
+            },
+        }
+    }
+
+    fn put_open<W: Write>(self, out: &mut W, survey: Survey) -> io::Result<()> {
+        let deed = if self.token == END {
+            "accepts"
+        } else {
+            "shifts"
+        };
+        writeln!(
+            out,
+            "  So yacc {deed}: a conflict, counted once for each such rule."
+        )?;
+        match survey.least {
+            Some(rule) => self.put_advice(out, rule),
+            None => Ok(()),
+        }
+    }
+
+    /// Writes how to give precedences to a rule and the token.
+    fn put_advice<W: Write>(self, out: &mut W, rule: usize) -> io::Result<()> {
+        if self.token == END {
+            return writeln!(
+                out,
+                "  The end takes no precedence: change the grammar to choose."
+            );
+        }
+        let name = self.name();
+        match self.lines.giver(self.grammar(), rule) {
+            Some(token) if token == self.token => writeln!(
+                out,
+                "  To choose, name {name} in a line: %left reduces, %right shifts."
+            ),
+            Some(token) => self.put_giver(out, rule, token),
+            None => self.put_own(out, rule),
+        }
+    }
+
+    /// Writes how the token that would give a rule its precedence chooses.
+    fn put_giver<W: Write>(self, out: &mut W, rule: usize, token: Sym) -> io::Result<()> {
+        match standing_of(self.grammar(), rule, self.token) {
+            Standing::NoToken => self.put_line(out, rule, self.token, token),
+            Standing::NoRule => self.put_line(out, rule, token, self.token),
+            _ => self.put_lines(out, rule, token),
+        }
+    }
+
+    /// Writes how a line for one token chooses, where the other has one.
+    fn put_line<W: Write>(
+        self,
+        out: &mut W,
+        rule: usize,
+        token: Sym,
+        other: Sym,
+    ) -> io::Result<()> {
+        let (shifts, reduces) = if token == self.token {
+            ("later", "earlier")
+        } else {
+            ("earlier", "later")
+        };
+        let token = Name(self.grammar(), token);
+        let other = Name(self.grammar(), other);
+        let name = self.name();
+        writeln!(
+            out,
+            "  To choose, name {token} on a line of %left, %right or %nonassoc: {shifts} than \
+             {other} shifts {name}, {reduces} reduces by rule {rule}."
+        )
+    }
+
+    /// Writes how a name of its own gives a rule a precedence.
+    fn put_own<W: Write>(self, out: &mut W, rule: usize) -> io::Result<()> {
+        let name = self.name();
+        let line = match level_of(self.grammar(), self.token) {
+            Some(_) => "the line of",
+            None => "%nonassoc",
+        };
+        writeln!(
+            out,
+            "  To choose, write %nonassoc LOW above {line} {name}, and %prec LOW at the end of \
+             rule {rule}: that shifts, and the other order of the lines reduces."
+        )
+    }
+
+    /// Writes how the lines of two tokens choose.
+    fn put_lines<W: Write>(self, out: &mut W, rule: usize, token: Sym) -> io::Result<()> {
+        let token = Name(self.grammar(), token);
+        let name = self.name();
+        writeln!(
+            out,
+            "  To choose, name {name} and {token} on two lines of %left, %right or %nonassoc: \
+             {name} on the later one shifts, {token} on it reduces."
+        )?;
+        writeln!(
+            out,
+            "  In place of {token}, rule {rule} can have a name of its own, by %prec NAME at its \
+             end."
+        )
+    }
+
+    fn put_least<W: Write>(self, out: &mut W, rule: usize) -> io::Result<()> {
+        writeln!(
+            out,
+            "  So rule {rule} is reduced, the first of them in the file: a conflict."
+        )?;
+        writeln!(
+            out,
+            "  To choose, put the rule that you want first, or change the grammar so that one \
+             alone fits here."
+        )
+    }
+}

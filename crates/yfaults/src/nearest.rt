@@ -1,0 +1,68 @@
+//! The nearest of some names to one that is none of them, for a slip in spelling.
+
+use std::alloc::{AllocError, Global};
+use std::str;
+use strsim::osa_distance;
+
+/// The longest name that is compared with others.
+const LONGEST: usize = 64;
+
+/// A search among names for the one that is nearest to a wanted name.
+#[derive(Clone, Copy, Debug, Drop)]
+pub struct Search<'a> {
+    wanted: &'a [u8],
+    found: Option<&'a [u8]>,
+    /// Fewer edits than these must lead to a name.
+    edits: usize,
+}
+
+/// A name without the quotes around it.
+fn unquoted(name: &[u8]) -> &[u8] {
+    match name {
+        [b'\'', inner @ .., b'\''] | [b'"', inner @ .., b'"'] => inner,
+        _ => name,
+    }
+}
+
+/// How many edits lead from one name to another; none, where they differ in case or quotes alone.
+fn edits_between(alloc: Global, wanted: &[u8], name: &[u8]) -> Result<usize, AllocError> {
+    if unquoted(wanted).eq_ignore_ascii_case(unquoted(name)) {
+        return Ok(0);
+    }
+    let Ok(wanted) = str::from_utf8(wanted) else {
+        return Ok(LONGEST);
+    };
+    let Ok(name) = str::from_utf8(name) else {
+        return Ok(LONGEST);
+    };
+    osa_distance(alloc, wanted, name)
+}
+
+impl<'a> Search<'a> {
+    /// A search for a name to which at most an edit leads for every third byte of the wanted one.
+    pub fn new(wanted: &'a [u8]) -> Search<'a> {
+        Search {
+            wanted,
+            found: None,
+            edits: wanted.len() / 3 + 1,
+        }
+    }
+
+    /// Takes a name in.
+    pub fn offer(&mut self, alloc: Global, name: &'a [u8]) -> Result<(), AllocError> {
+        if self.wanted.len() > LONGEST || name.len() > LONGEST {
+            return Ok(());
+        }
+        let edits = edits_between(alloc, self.wanted, name)?;
+        if edits < self.edits {
+            self.found = Some(name);
+            self.edits = edits;
+        }
+        Ok(())
+    }
+
+    /// The nearest of the names that were offered.
+    pub fn found(&self) -> Option<&'a [u8]> {
+        self.found
+    }
+}

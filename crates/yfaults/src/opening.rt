@@ -1,0 +1,191 @@
+//! Grammar files and tokens files opened, and what is said of those that are refused.
+
+use crate::place::word_place;
+use crate::shown::{Place, put_whole};
+use crate::told::{nearest_token, put_grammar_fault, put_question};
+use crate::words::{token_code, words_of};
+use std::alloc::Global;
+use std::fs;
+use std::io::{self, ErrorKind, Read, Write};
+use std::rt::Files;
+use yexplain::lines::Lines;
+use ygrammar::{Grammar, GrammarFault, LONGEST_FILE, read_grammar};
+use ylalr::{Automaton, BuildFault, build};
+use ytables::{Tables, resolve};
+use ytokens::token_words::{Front, front_of};
+use ytokens::tokens::TokenFault;
+
+/// As many bytes of a grammar file as decide that it is too long.
+const GRAMMAR_BYTES: u64 = LONGEST_FILE as u64 + 1;
+
+/// The tables of a grammar file, and where things stand in it.
+#[derive(Drop)]
+pub struct Opened {
+    pub tables: Tables,
+    pub lines: Lines,
+}
+
+/// Why a file isn't opened.
+#[derive(Debug, Drop)]
+pub enum Trouble {
+    /// It can't be read.
+    Unread,
+    /// Memory was refused.
+    Memory,
+    /// It has a fault.
+    Grammar(GrammarFault),
+    /// Its grammar has too many states.
+    TooManySets,
+}
+
+impl Trouble {
+    /// The exit status of a run that ends by it: 1 for a fault of the file, 3 for want of memory,
+    /// too many states and what comes from outside.
+    pub fn status(&self) -> u8 {
+        match self {
+            Trouble::Grammar(GrammarFault::Memory) => 3,
+            Trouble::Grammar(_) => 1,
+            Trouble::Unread | Trouble::Memory | Trouble::TooManySets => 3,
+        }
+    }
+}
+
+impl From<GrammarFault> for Trouble {
+    fn from(fault: GrammarFault) -> Trouble {
+        Trouble::Grammar(fault)
+    }
+}
+
+impl From<BuildFault> for Trouble {
+    fn from(fault: BuildFault) -> Trouble {
+        match fault {
+            BuildFault::TooManySets => Trouble::TooManySets,
+            BuildFault::Memory => Trouble::Memory,
+        }
+    }
+}
+
+/// At most so many bytes of a file.
+pub fn first_bytes<F: Files + AllocGlobal>(rt: &F, path: &str, most: u64) -> io::Result<Vec<u8>> {
+    let mut bytes = Vec::new(rt.alloc());
+    fs::open(rt, path)?.take(most).read_to_end(&mut bytes)?;
+    Ok(bytes)
+}
+
+/// The bytes of a grammar file, one more than it may have at most.
+pub fn grammar_bytes<F: Files + AllocGlobal>(rt: &F, path: &str) -> io::Result<Vec<u8>> {
+    first_bytes(rt, path, GRAMMAR_BYTES)
+}
+
+/// The item sets of a grammar.
+fn automaton_of(alloc: Global, grammar: Grammar) -> Result<Automaton, Trouble> {
+    Ok(build(alloc, grammar)?)
+}
+
+/// The tables of the grammar that the bytes mean, and where things stand in them.
+pub fn open_bytes(alloc: Global, source: &[u8]) -> Result<Opened, Trouble> {
+    let grammar = read_grammar(alloc, source)?;
+    let lines = Lines::new(alloc, source, &grammar)?;
+    let automaton = automaton_of(alloc, grammar)?;
+    match resolve(alloc, automaton) {
+        Ok(tables) => Ok(Opened { tables, lines }),
+        Err(_) => Err(Trouble::Memory),
+    }
+}
+
+/// Writes that a file can't be read, or that there is no memory, and gives the exit status.
+pub fn put_unread<W: Write>(out: &mut W, path: &str, error: &io::Error) -> io::Result<u8> {
+    match error.kind() {
+        ErrorKind::OutOfMemory => writeln!(out, "ydebug: no memory")?,
+        _ => writeln!(out, "ydebug: cannot read {path}")?,
+    }
+    Ok(3)
+}
+
+/// Writes why the grammar file of these bytes isn't opened.
+pub fn put_trouble<W: Write>(
+    out: &mut W,
+    alloc: Global,
+    path: &str,
+    source: &[u8],
+    trouble: &Trouble,
+) -> io::Result<()> {
+    match trouble {
+        Trouble::Unread => writeln!(out, "ydebug: cannot read {path}"),
+        Trouble::Memory | Trouble::Grammar(GrammarFault::Memory) => {
+            writeln!(out, "ydebug: no memory")
+        }
+        Trouble::Grammar(fault) => put_grammar_fault(out, alloc, path, source, *fault),
+        Trouble::TooManySets => match words_of("B1") {
+            Some(words) => put_whole(out, path, words),
+            None => Ok(()),
+        },
+    }
+}
+
+/// Writes a fault of a tokens file of these bytes.
+pub fn put_token_fault<W: Write>(
+    out: &mut W,
+    path: &str,
+    source: &[u8],
+    fault: TokenFault,
+) -> io::Result<()> {
+    let (code, number) = token_code(fault);
+    let Some(words) = words_of(code) else {
+        return Ok(());
+    };
+    match number.and_then(|number| word_place(source, number)) {
+        Some(at) => Place { path, source, at }.put(out, words, true),
+        None => put_whole(out, path, words),
+    }
+}
+
+/// The token that the word at a place of a tokens file could mean.
+fn near_token<'a>(
+    alloc: Global,
+    grammar: &'a Grammar,
+    source: &'a [u8],
+    place: usize,
+) -> Option<&'a [u8]> {
+    let rest = source.get(word_place(source, place)?..)?;
+    match front_of(rest) {
+        Front::Word(word, _) => nearest_token(alloc, grammar, word).ok()?,
+        _ => None,
+    }
+}
+
+/// Asks whether another token was meant, where a tokens file has a name that the grammar hasn't.
+pub fn put_near_token<W: Write>(
+    out: &mut W,
+    alloc: Global,
+    grammar: &Grammar,
+    source: &[u8],
+    fault: TokenFault,
+) -> io::Result<()> {
+    let TokenFault::Unknown(place) = fault else {
+        return Ok(());
+    };
+    match near_token(alloc, grammar, source, place) {
+        Some(name) => put_question(out, name),
+        None => Ok(()),
+    }
+}
+
+/// Opens a grammar file. Where it is refused, that is written, and the exit status is the answer.
+pub fn open_grammar<F: Files + AllocGlobal, W: Write>(
+    rt: &F,
+    path: &str,
+    errors: &mut W,
+) -> io::Result<Result<Opened, u8>> {
+    let source = match grammar_bytes(rt, path) {
+        Ok(source) => source,
+        Err(error) => return Ok(Err(put_unread(errors, path, &error)?)),
+    };
+    match open_bytes(rt.alloc(), &source) {
+        Ok(opened) => Ok(Ok(opened)),
+        Err(trouble) => {
+            put_trouble(errors, rt.alloc(), path, &source, &trouble)?;
+            Ok(Err(trouble.status()))
+        }
+    }
+}

@@ -1,0 +1,188 @@
+//! A place of a file as it is shown: its line, the text of that, and a caret.
+
+use crate::words::Words;
+use std::io::{self, Write};
+use std::{fmt, str};
+use yexplain::roles::newlines;
+
+/// The most bytes of a line that are shown before a place, and behind it.
+const MOST_BEFORE: usize = 100;
+
+const MOST_BEHIND: usize = 100;
+
+/// A place of a file: the file's path, its bytes, and how many of them stand before the place.
+#[derive(Clone, Copy)]
+pub struct Place<'a> {
+    pub path: &'a str,
+    pub source: &'a [u8],
+    pub at: usize,
+}
+
+/// A character as it is shown: control characters but the tab as spaces.
+fn shown_char(c: char) -> char {
+    if c == '\t' || !c.is_control() { c } else { ' ' }
+}
+
+/// A byte as it is shown, where its line isn't UTF-8.
+fn shown_byte(byte: u8) -> char {
+    if byte < 128 {
+        shown_char(char::from(byte))
+    } else {
+        '?'
+    }
+}
+
+/// A part of a line as it is shown; its columns alone, where it is blank.
+#[derive(Clone, Copy)]
+struct Text<'a> {
+    bytes: &'a [u8],
+    blank: bool,
+}
+
+impl Text<'_> {
+    /// Writes a character, or a blank in its place.
+    fn put<W: fmt::Write>(&self, f: &mut fmt::Formatter<W>, c: char) -> fmt::Result {
+        if self.blank && c != '\t' {
+            f.write_char(' ')
+        } else {
+            f.write_char(c)
+        }
+    }
+
+    fn put_bytes<W: fmt::Write>(&self, f: &mut fmt::Formatter<W>) -> fmt::Result {
+        for byte in self.bytes {
+            self.put(f, shown_byte(*byte))?;
+        }
+        Ok(())
+    }
+}
+
+impl fmt::Display for Text<'_> {
+    fn fmt<W: fmt::Write>(&self, f: &mut fmt::Formatter<W>) -> fmt::Result {
+        let Ok(text) = str::from_utf8(self.bytes) else {
+            return self.put_bytes(f);
+        };
+        for c in text.chars() {
+            self.put(f, shown_char(c))?;
+        }
+        Ok(())
+    }
+}
+
+/// The last bytes of those before a place, and whether there are more.
+fn last_before(before: &[u8]) -> (&[u8], bool) {
+    let start = before.len().saturating_sub(MOST_BEFORE);
+    (before.get(start..).unwrap_or(before), start > 0)
+}
+
+/// The first bytes of those behind a place, and whether there are more.
+fn first_behind(behind: &[u8]) -> (&[u8], bool) {
+    match behind.get(..MOST_BEHIND) {
+        Some(first) => (first, behind.len() > MOST_BEHIND),
+        None => (behind, false),
+    }
+}
+
+impl<'a> Place<'a> {
+    /// The bytes before the place, and those behind it.
+    fn halves(self) -> (&'a [u8], &'a [u8]) {
+        let before = self.source.get(..self.at).unwrap_or(self.source);
+        let behind = self.source.get(self.at..).unwrap_or(&[]);
+        (before, behind)
+    }
+
+    /// The line of the place.
+    pub fn line(self) -> usize {
+        newlines(self.halves().0).saturating_add(1)
+    }
+
+    /// The parts of its line before and behind the place.
+    fn parts(self) -> (&'a [u8], &'a [u8]) {
+        let (before, behind) = self.halves();
+        let start = before
+            .iter()
+            .rposition(|b| *b == b'\n')
+            .map_or(0, |at| at.saturating_add(1));
+        let end = behind
+            .iter()
+            .position(|b| *b == b'\n')
+            .unwrap_or(behind.len());
+        (
+            before.get(start..).unwrap_or(&[]),
+            behind.get(..end).unwrap_or(behind),
+        )
+    }
+
+    /// Writes the file, the line and what is wrong there.
+    fn put_head<W: Write>(self, out: &mut W, words: Words) -> io::Result<()> {
+        let path = self.path;
+        let line = self.line();
+        let Words { code, what, .. } = words;
+        writeln!(out, "{path}:{line}: {code}: {what}")
+    }
+
+    /// Writes the text of the line, and a caret under the place.
+    fn put_text<W: Write>(self, out: &mut W, caret: bool) -> io::Result<()> {
+        let (before, behind) = self.parts();
+        if before.is_empty() && behind.is_empty() {
+            return Ok(());
+        }
+        let (before, is_cut) = last_before(before);
+        let (behind, goes_on) = first_behind(behind);
+        let dots = if is_cut { ".. " } else { "" };
+        let more = if goes_on { " .." } else { "" };
+        let text = Text {
+            bytes: before,
+            blank: false,
+        };
+        let rest = Text {
+            bytes: behind,
+            blank: false,
+        };
+        writeln!(out, "    {dots}{text}{rest}{more}")?;
+        if caret {
+            let dots = if is_cut { "   " } else { "" };
+            let blank = Text {
+                bytes: before,
+                blank: true,
+            };
+            writeln!(out, "    {dots}{blank}^")?;
+        }
+        Ok(())
+    }
+
+    /// Writes what is wrong at the place, its line with a caret where the place is known, and how
+    /// to mend it.
+    pub fn put<W: Write>(self, out: &mut W, words: Words, caret: bool) -> io::Result<()> {
+        self.put_head(out, words)?;
+        self.put_text(out, caret)?;
+        put_mend(out, words)
+    }
+}
+
+/// Writes how to mend a fault.
+fn put_mend<W: Write>(out: &mut W, words: Words) -> io::Result<()> {
+    let mend = words.mend;
+    writeln!(out, "  {mend}")
+}
+
+/// Writes what is wrong with a whole file, and how to mend it.
+pub fn put_whole<W: Write>(out: &mut W, path: &str, words: Words) -> io::Result<()> {
+    let Words { code, what, .. } = words;
+    writeln!(out, "{path}: {code}: {what}")?;
+    put_mend(out, words)
+}
+
+/// The place at which a line begins.
+pub fn line_start(source: &[u8], line: usize) -> usize {
+    let mut left = line.saturating_sub(1);
+    for (at, byte) in source.iter().enumerate() {
+        if left == 0 {
+            return at;
+        }
+        if *byte == b'\n' {
+            left -= 1;
+        }
+    }
+    source.len()
+}

@@ -1,0 +1,183 @@
+//! What is said of the faults of grammar files, with what helps beside the words of their codes.
+
+use crate::barren::barren;
+use crate::coming::Coming;
+use crate::nearest::Search;
+use crate::place::{grammar_place, syntax_stop};
+use crate::shown::{Place, line_start, put_whole};
+use crate::words::{Words, grammar_code, grammar_line, words_at_end, words_of};
+use std::alloc::{AllocError, Global};
+use std::io::{self, Write};
+use yexplain::reads::name_of;
+use yexplain::roles::{How, Role, roles_of};
+use yexplain::text::Bytes;
+use ygrammar::{Grammar, GrammarFault};
+use ylalr::token_count;
+use ylexemes::part::Lexeme;
+
+/// The most names that are listed.
+const MOST_NAMED: usize = 20;
+
+/// The name of a lexeme, where it is one.
+fn name_in(lexeme: Lexeme<'_>) -> Option<&[u8]> {
+    match lexeme {
+        Lexeme::Name(name) | Lexeme::CIdentifier(name) => Some(name),
+        _ => None,
+    }
+}
+
+/// Whether a name that is named like this is a symbol.
+fn makes_symbol(how: Option<How>) -> bool {
+    match how {
+        Some(How::Declared | How::Levelled | How::Defined) => true,
+        _ => false,
+    }
+}
+
+/// The nearest to a name of those that are symbols of a file.
+fn nearest_symbol<'a>(
+    alloc: Global,
+    roles: &[Role<'a>],
+    wanted: &'a [u8],
+) -> Result<Option<&'a [u8]>, AllocError> {
+    let mut search = Search::new(wanted);
+    search.offer(alloc, b"error")?;
+    for role in roles {
+        if let (true, Some(name)) = (makes_symbol(role.how), name_in(role.lexeme)) {
+            search.offer(alloc, name)?;
+        }
+    }
+    Ok(search.found())
+}
+
+/// The symbol of a file that the name at a place could mean.
+fn meant_symbol(alloc: Global, source: &[u8], at: usize) -> Option<&[u8]> {
+    let roles = roles_of(alloc, source).ok()?;
+    let named = roles.iter().find(|role| role.at == at)?;
+    let wanted = name_in(named.lexeme)?;
+    nearest_symbol(alloc, &roles, wanted).ok()?
+}
+
+/// The nearest to a word of the tokens that an input can have.
+pub fn nearest_token<'a>(
+    alloc: Global,
+    grammar: &'a Grammar,
+    word: &'a [u8],
+) -> Result<Option<&'a [u8]>, AllocError> {
+    let mut search = Search::new(word);
+    for token in 2..token_count(grammar) {
+        search.offer(alloc, name_of(grammar, token))?;
+    }
+    Ok(search.found())
+}
+
+/// Asks whether a name was meant.
+pub fn put_question<W: Write>(out: &mut W, name: &[u8]) -> io::Result<()> {
+    let name = Bytes(name);
+    writeln!(out, "  Did you mean {name}?")
+}
+
+/// The left sides of a file of which no list of tokens can be made; none, where that isn't found.
+fn barren_in<'a>(alloc: Global, source: &'a [u8]) -> Option<Vec<Role<'a>>> {
+    let roles = roles_of(alloc, source).ok()?;
+    barren(alloc, &roles).ok()
+}
+
+/// Writes of which nonterminals but the first no list of tokens can be made.
+fn put_others<W: Write>(out: &mut W, alloc: Global, source: &[u8]) -> io::Result<()> {
+    let Some(lefts) = barren_in(alloc, source) else {
+        return Ok(());
+    };
+    if lefts.len() < 2 {
+        return Ok(());
+    }
+    write!(out, "  The same holds of:")?;
+    for left in lefts.iter().skip(1).take(MOST_NAMED) {
+        let name = Bytes(name_in(left.lexeme).unwrap_or(b""));
+        write!(out, " {name}")?;
+    }
+    let more = if lefts.len() > MOST_NAMED + 1 {
+        " .."
+    } else {
+        ""
+    };
+    writeln!(out, "{more}")
+}
+
+/// Writes what helps with a fault at a place beside the words of its code.
+fn put_help<W: Write>(
+    out: &mut W,
+    alloc: Global,
+    source: &[u8],
+    fault: GrammarFault,
+    at: usize,
+) -> io::Result<()> {
+    match fault {
+        GrammarFault::Syntax { .. } => {
+            let coming = Coming(syntax_stop(source).1);
+            writeln!(out, "  Here can come: {coming}")
+        }
+        GrammarFault::Undefined { .. } => match meant_symbol(alloc, source, at) {
+            Some(name) => put_question(out, name),
+            None => Ok(()),
+        },
+        GrammarFault::Unproductive { .. } => put_others(out, alloc, source),
+        _ => Ok(()),
+    }
+}
+
+/// Whether a file has no syntax.
+fn is_syntax(fault: GrammarFault) -> bool {
+    match fault {
+        GrammarFault::Syntax { .. } => true,
+        _ => false,
+    }
+}
+
+/// Whether a grammar is above a limit.
+fn is_limit(fault: GrammarFault) -> bool {
+    match fault {
+        GrammarFault::Limit { .. } => true,
+        _ => false,
+    }
+}
+
+/// Writes a fault at a place, with a caret but at the end of the file, and what helps.
+fn put_at<W: Write>(
+    out: &mut W,
+    alloc: Global,
+    place: Place<'_>,
+    fault: GrammarFault,
+    words: Words,
+) -> io::Result<()> {
+    let Place { source, at, .. } = place;
+    let is_end = is_syntax(fault) && at >= source.len();
+    let words = if is_end { words_at_end() } else { words };
+    place.put(out, words, !is_end)?;
+    put_help(out, alloc, source, fault, at)
+}
+
+/// Writes a fault of a grammar file of these bytes: the line, what is wrong there, its text with a
+/// caret under the name at fault where that can be found, how to mend it, and what else helps.
+pub fn put_grammar_fault<'a, W: Write>(
+    out: &mut W,
+    alloc: Global,
+    path: &'a str,
+    source: &'a [u8],
+    fault: GrammarFault,
+) -> io::Result<()> {
+    let Some(words) = words_of(grammar_code(fault)) else {
+        return Ok(());
+    };
+    let Some(line) = grammar_line(fault) else {
+        return put_whole(out, path, words);
+    };
+    if let Some(at) = grammar_place(alloc, source, fault) {
+        return put_at(out, alloc, Place { path, source, at }, fault, words);
+    }
+    if is_limit(fault) {
+        return put_whole(out, path, words);
+    }
+    let at = line_start(source, line);
+    Place { path, source, at }.put(out, words, false)
+}

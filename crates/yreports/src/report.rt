@@ -1,0 +1,229 @@
+//! `ydebug conflicts`: each kind of conflict with its rivals, what settled it, and lists of tokens
+//! that get there; then the warnings.
+
+use crate::finding::{ALL_STEPS, Finding, Seeker, file_tokens};
+use crate::kinds::{Count, put_counts, put_named, put_states};
+use crate::list_text::{ListText, put_unfound};
+use crate::saving::Folder;
+use crate::warnings::put_warnings;
+use std::alloc::Global;
+use std::io::{self, Write};
+use std::rt::Files;
+use yconflicts::groups::{Conflicts, Group, Kind};
+use yconflicts::search::Finder;
+use yexplain::lines::Lines;
+use yexplain::reads::grammar_of;
+use yexplain::why::{explain_rivals, put_cell};
+use yfaults::opening::{Opened, open_grammar};
+use yparse::{Session, Tokens};
+use ytables::Tables;
+
+/// The most kinds for which lists are made.
+const MOST_GROUPS: usize = 200;
+
+/// What is asked for: the conflicts of a grammar file, where to keep the lists, and whether a
+/// conflict or a warning makes the status 1.
+#[derive(Clone, Copy)]
+pub struct Asked<'a> {
+    pub grammar: &'a str,
+    pub save: Option<&'a str>,
+    pub strict: bool,
+}
+
+/// What conflicts are written by.
+#[derive(Drop)]
+struct Report<'a, W, F> {
+    alloc: Global,
+    out: &'a mut W,
+    lines: &'a Lines,
+    folder: Folder<'a, F>,
+}
+
+impl<W: Write, F: Files + AllocGlobal> Report<'_, W, F> {
+    /// Writes the conflicts of the first kinds, with their lists.
+    fn put_groups(
+        &mut self,
+        finder: &mut Finder,
+        session: &mut Session,
+        found: &Conflicts,
+    ) -> io::Result<()> {
+        let mut number: usize = 0;
+        let mut seeker = Seeker {
+            alloc: self.alloc,
+            finder,
+            session,
+            steps: ALL_STEPS,
+            steps_for_others: ALL_STEPS,
+        };
+        for (kind, group) in found.groups.iter().take(MOST_GROUPS) {
+            number = number.saturating_add(1);
+            let finding = seeker.find(kind, *group)?;
+            let tables = seeker.session.tables();
+            self.put_group(tables, number, kind, *group)?;
+            self.put_finding(tables, number, kind, *group, &finding)?;
+        }
+        Ok(())
+    }
+
+    /// Writes a kind of conflict and why it is settled so.
+    fn put_group(
+        &mut self,
+        tables: &Tables,
+        number: usize,
+        kind: &Kind,
+        group: Group,
+    ) -> io::Result<()> {
+        writeln!(self.out)?;
+        write!(self.out, "conflict {number}: ")?;
+        put_cell(self.out, tables, self.lines, group.state, kind.token)?;
+        explain_rivals(self.out, tables, self.lines, group.state, kind.token)?;
+        put_states(self.out, group)
+    }
+
+    /// Writes the lists for a kind of conflict.
+    fn put_finding(
+        &mut self,
+        tables: &Tables,
+        number: usize,
+        kind: &Kind,
+        group: Group,
+        finding: &Finding,
+    ) -> io::Result<()> {
+        let text = ListText {
+            tables,
+            lines: self.lines,
+            kind,
+            group,
+            lists: finding.lists.len(),
+        };
+        text.put_merged(self.out, finding)?;
+        for (part, list) in finding.lists.iter().enumerate() {
+            text.put_list(self.out, list)?;
+            if let Some((tokens, last)) = file_tokens(list, kind.token) {
+                let name = (number, part);
+                self.folder
+                    .keep(self.out, grammar_of(tables), name, tokens, last)?;
+            }
+        }
+        put_unfound(self.out, finding)
+    }
+
+    /// Names the kinds for which no lists are made.
+    fn put_rest(&mut self, tables: &Tables, found: &Conflicts) -> io::Result<()> {
+        let rest = found.groups.len().saturating_sub(MOST_GROUPS);
+        if rest == 0 {
+            return Ok(());
+        }
+        let kinds = Count(rest, "kind");
+        writeln!(self.out)?;
+        writeln!(self.out, "{kinds} more, without lists of tokens:")?;
+        put_named(self.out, tables, self.lines, found, MOST_GROUPS)
+    }
+}
+
+/// Writes the conflicts, with lists of tokens.
+fn put_found<W: Write, F: Files + AllocGlobal>(
+    report: &mut Report<'_, W, F>,
+    session: &mut Session,
+    found: &Conflicts,
+) -> io::Result<()> {
+    if found.cells == 0 {
+        return Ok(());
+    }
+    report.folder.make()?;
+    let mut finder = Finder::new(report.alloc, session.tables().automaton())?;
+    report.put_groups(&mut finder, session, found)?;
+    report.put_rest(session.tables(), found)
+}
+
+/// Writes what couldn't be written, where there is something, and gives the exit status.
+fn put_failed<E: Write>(errors: &mut E, failed: Option<&String>, status: u8) -> io::Result<u8> {
+    match failed {
+        Some(path) => {
+            writeln!(errors, "ydebug: cannot write {path}")?;
+            Ok(3)
+        }
+        None => Ok(status),
+    }
+}
+
+/// Writes the conflicts of a grammar, with lists of tokens, and says which file couldn't be written,
+/// if one couldn't.
+fn put_lists<'a, W: Write, F: Files + AllocGlobal>(
+    rt: &'a F,
+    out: &'a mut W,
+    asked: Asked<'a>,
+    session: &mut Session,
+    lines: &'a Lines,
+    found: &Conflicts,
+) -> io::Result<Option<String>> {
+    let mut report = Report {
+        alloc: rt.alloc(),
+        out,
+        lines,
+        folder: Folder {
+            rt,
+            path: asked.save,
+            failed: None,
+        },
+    };
+    put_counts(report.out, asked.grammar, session.tables(), found)?;
+    put_found(&mut report, session, found)?;
+    let Report { folder, .. } = report;
+    let Folder { failed, .. } = folder;
+    Ok(failed)
+}
+
+/// Writes the conflicts and the warnings of a session's grammar, and gives the exit status.
+fn put_all<W: Write, E: Write, F: Files + AllocGlobal>(
+    rt: &F,
+    out: &mut W,
+    errors: &mut E,
+    asked: Asked<'_>,
+    session: &mut Session,
+    lines: &Lines,
+) -> io::Result<u8> {
+    let found = Conflicts::new(rt.alloc(), session.tables())?;
+    let failed = put_lists(rt, &mut *out, asked, session, lines, &found)?;
+    let warnings = put_warnings(&mut *out, rt.alloc(), session.tables(), lines)?;
+    let is_bad = found.cells > 0 || warnings > 0;
+    let status = if asked.strict && is_bad { 1 } else { 0 };
+    put_failed(errors, failed.as_ref(), status)
+}
+
+/// Writes the conflicts and the warnings of a grammar that is open, and gives the exit status: 0; 1
+/// where there is one of these and that is to count; 3 where a list can't be written, which is said
+/// on `errors`.
+pub fn put_conflicts<W: Write, E: Write, F: Files + AllocGlobal>(
+    rt: &F,
+    out: &mut W,
+    errors: &mut E,
+    asked: Asked<'_>,
+    opened: Opened,
+) -> io::Result<u8> {
+    let Opened { tables, lines } = opened;
+    let tokens = Tokens {
+        symbols: Vec::new(rt.alloc()),
+    };
+    if !tokens.fits(&tables) {
+        return Ok(3);
+    }
+    let mut session = Session::new(rt.alloc(), tables, tokens);
+    put_all(rt, out, errors, asked, &mut session, &lines)
+}
+
+/// Writes what is asked for, and gives the exit status: 0; 1 where the grammar is refused, or there
+/// is a conflict or a warning and that is to count; 3 where it can't be read or has too many
+/// states, where a list can't be written, or for want of memory. Faults of the grammar file go to
+/// `errors`.
+pub fn run_conflicts<F: Files + AllocGlobal, W: Write, E: Write>(
+    rt: &F,
+    asked: Asked<'_>,
+    out: &mut W,
+    errors: &mut E,
+) -> io::Result<u8> {
+    match open_grammar(rt, asked.grammar, errors)? {
+        Ok(opened) => put_conflicts(rt, out, errors, asked, opened),
+        Err(status) => Ok(status),
+    }
+}

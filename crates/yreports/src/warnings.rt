@@ -1,0 +1,191 @@
+//! What deserves a warning in a grammar without a fault.
+
+use crate::unused::{Done, mark};
+use std::alloc::{AllocError, Global};
+use std::io::{self, Write};
+use yexplain::lines::{Lines, Mention};
+use yexplain::reads::{grammar_of, is_reachable, left_of, level_of};
+use yexplain::roles::How;
+use yexplain::text::{Name, RuleText};
+use ylalr::ERROR;
+use ysymbols::{Grammar, Sym};
+use ytables::Tables;
+
+/// How symbols are named in a file.
+#[derive(Drop)]
+struct Named {
+    /// Where each symbol is named first.
+    first: Vec<Option<usize>>,
+    /// Which are named in a rule, and which in a body.
+    used: Vec<bool>,
+    in_body: Vec<bool>,
+}
+
+/// What warnings are written by.
+#[derive(Drop)]
+struct Warner<'a, W> {
+    out: &'a mut W,
+    grammar: &'a Grammar,
+    lines: &'a Lines,
+    count: usize,
+}
+
+impl Named {
+    fn new(alloc: Global, grammar: &Grammar, mentions: &[Mention]) -> Result<Named, AllocError> {
+        let mut named = Named {
+            first: vec![in alloc; None; grammar.symbols()]?,
+            used: vec![in alloc; false; grammar.symbols()]?,
+            in_body: vec![in alloc; false; grammar.symbols()]?,
+        };
+        for mention in mentions {
+            named.take(*mention);
+        }
+        Ok(named)
+    }
+
+    fn take(&mut self, mention: Mention) {
+        if let Some(first) = self.first.get_mut(mention.symbol) {
+            if first.is_none() {
+                *first = Some(mention.line);
+            }
+        }
+        if mention.how == How::Used {
+            mark(&mut self.in_body, mention.symbol);
+        }
+        if mention.how == How::Used || mention.how == How::Prec {
+            mark(&mut self.used, mention.symbol);
+        }
+    }
+
+    /// Whether a symbol is a left side or stands in a body.
+    fn is_in_rules(&self, grammar: &Grammar, symbol: Sym) -> bool {
+        let is_in_body = self.in_body.get(symbol).copied().unwrap_or(false);
+        is_in_body || !grammar.is_token(symbol)
+    }
+
+    fn is_used(&self, symbol: Sym) -> bool {
+        self.used.get(symbol).copied().unwrap_or(false)
+    }
+
+    fn line(&self, symbol: Sym) -> Option<usize> {
+        self.first.get(symbol).copied().flatten()
+    }
+}
+
+impl<W: Write> Warner<'_, W> {
+    /// Begins a warning, behind an empty line where it is the first.
+    fn begin(&mut self) -> io::Result<()> {
+        if self.count == 0 {
+            writeln!(self.out)?;
+        }
+        self.count = self.count.saturating_add(1);
+        Ok(())
+    }
+
+    /// Rules of symbols that can be reached, which are never reduced.
+    fn put_lost(&mut self, done: &Done) -> io::Result<()> {
+        for rule in 1..self.grammar.rules() {
+            let is_done = done.reduced.get(rule).copied().unwrap_or(true);
+            if !is_done && self.is_live(rule) {
+                let text = RuleText(self.grammar, rule);
+                self.put_at(self.lines.rule(rule))?;
+                writeln!(
+                    self.out,
+                    "rule {rule} is never reduced, since it lost every cell:  {text}"
+                )?;
+            }
+        }
+        Ok(())
+    }
+
+    /// Whether the left side of a rule can be reached.
+    fn is_live(&self, rule: usize) -> bool {
+        left_of(self.grammar, rule).map_or(false, |left| is_reachable(self.grammar, left))
+    }
+
+    /// Precedences of tokens that are used, by which no cell was settled.
+    fn put_idle_tokens(&mut self, done: &Done, named: &Named) -> io::Result<()> {
+        for token in 0..self.grammar.symbols() {
+            let settles = done.by_token.get(token).copied().unwrap_or(true);
+            let is_meant = named.is_used(token) && level_of(self.grammar, token).is_some();
+            if is_meant && !settles {
+                let name = Name(self.grammar, token);
+                self.put_at(named.line(token))?;
+                writeln!(self.out, "the precedence of {name} settles nothing")?;
+            }
+        }
+        Ok(())
+    }
+
+    /// Precedences behind `%prec` by which no cell was settled.
+    fn put_idle_rules(&mut self, done: &Done) -> io::Result<()> {
+        for rule in 1..self.grammar.rules() {
+            let settles = done.by_rule.get(rule).copied().unwrap_or(true);
+            if !settles && self.lines.prec(rule).is_some() && self.is_live(rule) {
+                self.put_at(self.lines.rule(rule))?;
+                writeln!(self.out, "the %prec of rule {rule} settles nothing")?;
+            }
+        }
+        Ok(())
+    }
+
+    /// Tokens that are declared and named in no rule.
+    fn put_unused(&mut self, named: &Named) -> io::Result<()> {
+        for token in 0..self.grammar.symbols() {
+            let is_token = self.grammar.is_token(token) && token > ERROR;
+            if is_token && !named.is_used(token) {
+                let name = Name(self.grammar, token);
+                self.put_at(named.line(token))?;
+                writeln!(self.out, "the token {name} is declared and used nowhere")?;
+            }
+        }
+        Ok(())
+    }
+
+    /// Symbols that are used, but can't be reached.
+    fn put_unreachable(&mut self, named: &Named) -> io::Result<()> {
+        for symbol in 0..self.grammar.symbols() {
+            let is_meant = named.is_in_rules(self.grammar, symbol) && named.line(symbol).is_some();
+            if is_meant && symbol != ERROR && !is_reachable(self.grammar, symbol) {
+                let name = Name(self.grammar, symbol);
+                self.put_at(named.line(symbol))?;
+                writeln!(self.out, "{name} can't be reached from the start")?;
+            }
+        }
+        Ok(())
+    }
+
+    /// Begins a warning, with the line where there is one.
+    fn put_at(&mut self, line: Option<usize>) -> io::Result<()> {
+        self.begin()?;
+        match line {
+            Some(line) => write!(self.out, "warning: line {line}: "),
+            None => write!(self.out, "warning: "),
+        }
+    }
+}
+
+/// Writes a line for each warning, and says how many there are.
+pub fn put_warnings<W: Write>(
+    out: &mut W,
+    alloc: Global,
+    tables: &Tables,
+    lines: &Lines,
+) -> io::Result<usize> {
+    let grammar = grammar_of(tables);
+    let mut done = Done::new(alloc, tables)?;
+    done.spread(grammar, lines);
+    let named = Named::new(alloc, grammar, lines.mentions())?;
+    let mut warner = Warner {
+        out,
+        grammar,
+        lines,
+        count: 0,
+    };
+    warner.put_lost(&done)?;
+    warner.put_idle_tokens(&done, &named)?;
+    warner.put_idle_rules(&done)?;
+    warner.put_unused(&named)?;
+    warner.put_unreachable(&named)?;
+    Ok(warner.count)
+}

@@ -1,0 +1,149 @@
+//! The rightmost derivation that a parse has made up to here, read off its trees.
+
+use crate::page::Page;
+use crate::reading::{child_of, name_of, tree_at, upcoming_token};
+use std::alloc::{AllocError, Global};
+use std::io::{self, Write};
+use yexplain::reads::{grammar_of, left_of};
+use ylalr::{END, ERROR};
+use yparse::{Session, TreeNode, TreeView};
+use ysymbols::{Grammar, Sym};
+
+/// How many nodes a parse has at most: no step makes more than one.
+const MOST_NODES: usize = 1_000_000;
+/// How many forms are written unless all are asked for.
+pub const SOME_FORMS: usize = 100;
+
+/// A form of the derivation: trees, of which the last may be replaced by its children, and then
+/// tokens, the last one first.
+#[derive(Drop)]
+struct Form<'a> {
+    trees: Vec<TreeView<'a>>,
+    tokens: Vec<Sym>,
+}
+
+/// The symbol at the root of a tree.
+fn symbol_of(grammar: &Grammar, node: TreeNode) -> Sym {
+    match node {
+        TreeNode::Leaf(token, _) => token,
+        TreeNode::ErrorLeaf => ERROR,
+        TreeNode::Rule(rule) => left_of(grammar, rule).unwrap_or(END),
+    }
+}
+
+/// The trees of the stack.
+fn trees_of<'a>(alloc: Global, session: &'a Session) -> Result<Vec<TreeView<'a>>, AllocError> {
+    let mut trees = Vec::new(alloc);
+    for index in 0..session.view().stack_len() {
+        if let Some(tree) = tree_at(session, index) {
+            trees.push(tree)?;
+        }
+    }
+    Ok(trees)
+}
+
+/// The upcoming tokens, the last one first.
+fn rest_of(alloc: Global, session: &Session) -> Result<Vec<Sym>, AllocError> {
+    let mut tokens = Vec::new(alloc);
+    for index in (0..session.view().rest_len()).rev() {
+        tokens.push(upcoming_token(session, index).0)?;
+    }
+    Ok(tokens)
+}
+
+impl<'a> Form<'a> {
+    /// The form of the configuration now.
+    fn now(alloc: Global, session: &'a Session) -> Result<Form<'a>, AllocError> {
+        Ok(Form {
+            trees: trees_of(alloc, session)?,
+            tokens: rest_of(alloc, session)?,
+        })
+    }
+
+    /// The children of a tree come in its place.
+    fn open(&mut self, tree: &TreeView<'a>) -> Result<(), AllocError> {
+        for index in 0..tree.children() {
+            if let Some(child) = child_of(tree, index) {
+                self.trees.push(child)?;
+            }
+        }
+        Ok(())
+    }
+
+    /// Takes the last tree: a rule is replaced by its body, which makes another form, and anything
+    /// else moves behind. `None` where no tree is left.
+    fn expand(&mut self, grammar: &Grammar) -> Result<Option<bool>, AllocError> {
+        let Some(tree) = self.trees.pop() else {
+            return Ok(None);
+        };
+        match tree.node() {
+            TreeNode::Rule(_) => {
+                self.open(&tree)?;
+                Ok(Some(true))
+            }
+            node => {
+                self.tokens.push(symbol_of(grammar, node))?;
+                Ok(Some(false))
+            }
+        }
+    }
+
+    /// Writes the form.
+    fn put<W: Write>(&self, page: &mut Page<W>, grammar: &Grammar) -> io::Result<()> {
+        if self.trees.is_empty() && self.tokens.is_empty() {
+            return page.line(" (empty)");
+        }
+        for tree in &self.trees {
+            page.put(" ")?;
+            page.put(name_of(grammar, symbol_of(grammar, tree.node())))?;
+        }
+        self.put_tokens(page, grammar)?;
+        page.end()
+    }
+
+    /// Writes the tokens.
+    fn put_tokens<W: Write>(&self, page: &mut Page<W>, grammar: &Grammar) -> io::Result<()> {
+        for token in self.tokens.iter().rev() {
+            page.put(" ")?;
+            page.put(name_of(grammar, *token))?;
+        }
+        Ok(())
+    }
+}
+
+/// The further forms, at most so many.
+fn put_forms<W: Write>(
+    page: &mut Page<W>,
+    grammar: &Grammar,
+    form: &mut Form<'_>,
+    most: usize,
+) -> io::Result<()> {
+    let mut written = 1usize;
+    for _ in 0..=MOST_NODES {
+        match form.expand(grammar)? {
+            None => return Ok(()),
+            Some(false) => {}
+            Some(true) if written >= most => {
+                return page.line("  ..  (derivation all writes every form)");
+            }
+            Some(true) => {
+                form.put(page, grammar)?;
+                written = written.saturating_add(1);
+            }
+        }
+    }
+    Ok(())
+}
+
+/// The forms from the one now to the tokens: at most so many.
+pub fn put_derivation<W: Write>(
+    alloc: Global,
+    page: &mut Page<W>,
+    session: &Session,
+    most: usize,
+) -> io::Result<()> {
+    let grammar = grammar_of(session.tables());
+    let mut form = Form::now(alloc, session)?;
+    form.put(page, grammar)?;
+    put_forms(page, grammar, &mut form, most)
+}

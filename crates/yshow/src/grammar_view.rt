@@ -1,0 +1,77 @@
+//! A grammar: its rules.
+
+use crate::page::Page;
+use crate::reading::{name_of, rule_precedence};
+use std::io::{self, Write};
+use yexplain::lines::Lines;
+use yexplain::reads::grammar_of;
+use yexplain::text::{Numbered, RuleText};
+use ysymbols::{Associativity, Grammar, Precedence};
+use ytables::Tables;
+
+/// The word of an associativity.
+pub fn associativity_word(kind: Associativity) -> &'static str {
+    match kind {
+        Associativity::Left => "%left",
+        Associativity::Right => "%right",
+        Associativity::Nonassoc => "%nonassoc",
+    }
+}
+
+/// A precedence, where there is one.
+pub fn put_precedence<W: Write>(
+    page: &mut Page<W>,
+    precedence: Option<Precedence>,
+) -> io::Result<()> {
+    let Some(precedence) = precedence else {
+        return page.put(", no precedence");
+    };
+    page.put(", precedence ")?;
+    page.number(precedence.level)?;
+    page.put(" by ")?;
+    page.put(associativity_word(precedence.kind))
+}
+
+/// The number of a rule, its text, and its line.
+pub fn put_numbered<W: Write>(
+    page: &mut Page<W>,
+    grammar: &Grammar,
+    lines: &Lines,
+    rule: usize,
+) -> io::Result<()> {
+    page.number_to(7, rule)?;
+    write!(page, "  {}", RuleText(grammar, rule))?;
+    if let Some(line) = lines.rule(rule) {
+        page.tab(58)?;
+        write!(page, "line {line}")?;
+    }
+    page.end()
+}
+
+/// Every rule with its number.
+pub fn put_grammar<W: Write>(page: &mut Page<W>, tables: &Tables, lines: &Lines) -> io::Result<()> {
+    let grammar = grammar_of(tables);
+    for rule in 0..grammar.rules() {
+        put_numbered(page, grammar, lines, rule)?;
+    }
+    Ok(())
+}
+
+/// A rule, its line, its precedence, and the token that gives it.
+pub fn put_one_rule<W: Write>(
+    page: &mut Page<W>,
+    tables: &Tables,
+    lines: &Lines,
+    rule: usize,
+) -> io::Result<()> {
+    let grammar = grammar_of(tables);
+    let precedence = rule_precedence(grammar, rule);
+    write!(page, "{}", Numbered(lines, rule))?;
+    put_precedence(page, precedence)?;
+    if let (Some(_), Some(token)) = (precedence, lines.giver(grammar, rule)) {
+        page.put(" from ")?;
+        page.put(name_of(grammar, token))?;
+    }
+    page.end()?;
+    writeln!(page, "   {}", RuleText(grammar, rule))
+}

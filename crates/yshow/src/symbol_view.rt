@@ -1,0 +1,137 @@
+//! A symbol: what it is, where it is defined and used, and what it begins with.
+
+use crate::grammar_view::{put_numbered, put_precedence};
+use crate::page::Page;
+use crate::reading::name_of;
+use std::io::{self, Write};
+use yexplain::lines::Lines;
+use yexplain::reads::{begins_with, body_of, grammar_of, left_of, level_of, vanishes};
+use yexplain::roles::How;
+use ylalr::token_count;
+use ysymbols::{Grammar, Sym};
+use ytables::Tables;
+
+/// How many rules that use a symbol are shown.
+const SOME_RULES: usize = 40;
+
+/// The rules of a nonterminal.
+fn put_rules<W: Write>(
+    page: &mut Page<W>,
+    grammar: &Grammar,
+    lines: &Lines,
+    symbol: Sym,
+) -> io::Result<()> {
+    page.line("defined by")?;
+    for rule in 0..grammar.rules() {
+        if left_of(grammar, rule) == Some(symbol) {
+            put_numbered(page, grammar, lines, rule)?;
+        }
+    }
+    Ok(())
+}
+
+/// The rules whose bodies have a symbol: the first 40 of them.
+fn put_uses<W: Write>(
+    page: &mut Page<W>,
+    grammar: &Grammar,
+    lines: &Lines,
+    symbol: Sym,
+) -> io::Result<()> {
+    page.line("used in")?;
+    let mut count = 0usize;
+    for rule in 0..grammar.rules() {
+        if body_of(grammar, rule).contains(&symbol) {
+            count = count.saturating_add(1);
+            if count > SOME_RULES {
+                return page.line("     ..");
+            }
+            put_numbered(page, grammar, lines, rule)?;
+        }
+    }
+    if count == 0 {
+        page.line("     no rule")?;
+    }
+    Ok(())
+}
+
+/// The tokens that a nonterminal begins with, and whether it can be empty.
+fn put_first<W: Write>(page: &mut Page<W>, tables: &Tables, symbol: Sym) -> io::Result<()> {
+    let grammar = grammar_of(tables);
+    page.put("begins with")?;
+    let mut none = true;
+    for token in 0..token_count(grammar) {
+        if begins_with(tables.automaton(), symbol, token) {
+            none = false;
+            page.word(3, name_of(grammar, token))?;
+        }
+    }
+    page.line(if none { " no token" } else { "" })?;
+    page.line(if vanishes(tables.automaton(), symbol) {
+        "can be empty"
+    } else {
+        "can't be empty"
+    })
+}
+
+/// How a symbol is named outside of the rules, or by `%prec`.
+fn how_words(how: How) -> Option<&'static str> {
+    match how {
+        How::Declared => Some("listed by %token"),
+        How::Levelled => Some("given a precedence"),
+        How::Typed => Some("named by %type"),
+        How::Start => Some("named by %start"),
+        How::Prec => Some("named by %prec"),
+        How::Defined | How::Used => None,
+    }
+}
+
+/// Where a symbol is named outside of the rules, or by `%prec`: the first 40 places.
+fn put_mentions<W: Write>(page: &mut Page<W>, lines: &Lines, symbol: Sym) -> io::Result<()> {
+    let mut left = SOME_RULES;
+    for mention in lines.mentions() {
+        if left == 0 || mention.symbol != symbol {
+            continue;
+        }
+        if let Some(words) = how_words(mention.how) {
+            left -= 1;
+            page.put(words)?;
+            page.put(" on line ")?;
+            page.number(mention.line)?;
+            page.end()?;
+        }
+    }
+    Ok(())
+}
+
+/// What a token is: its number and its precedence.
+fn put_token<W: Write>(page: &mut Page<W>, grammar: &Grammar, token: Sym) -> io::Result<()> {
+    page.put(": a token")?;
+    if token < grammar.symbols() {
+        if let Some(number) = grammar.number(token) {
+            page.put(", number ")?;
+            page.number(number as usize)?;
+        }
+    }
+    put_precedence(page, level_of(grammar, token))?;
+    page.end()
+}
+
+/// A symbol: what it is, where it is defined and used, what it begins with.
+pub fn put_symbol<W: Write>(
+    page: &mut Page<W>,
+    tables: &Tables,
+    lines: &Lines,
+    symbol: Sym,
+) -> io::Result<()> {
+    let grammar = grammar_of(tables);
+    page.put(name_of(grammar, symbol))?;
+    if grammar.is_token(symbol) {
+        put_token(page, grammar, symbol)?;
+    } else {
+        page.line(": a nonterminal")?;
+        put_rules(page, grammar, lines, symbol)?;
+        put_first(page, tables, symbol)?;
+    }
+    put_mentions(page, lines, symbol)?;
+    put_uses(page, grammar, lines, symbol)
+}

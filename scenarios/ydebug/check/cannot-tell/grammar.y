@@ -1,0 +1,8 @@
+%left 'x'
+%left HI
+%%
+s : e s
+  | 'x' 'y'
+  | 'z'
+  ;
+e : %prec HI ;

@@ -1,0 +1,3 @@
+%token ID NUM '='
+%%
+pair : ID NUM ;

@@ -1,0 +1,6 @@
+%%
+s : lower ';'
+  | upper ';'
+  ;
+lower : 'x' ;
+upper : 'x' | 'y' ;

@@ -1,0 +1,6 @@
+%token A
+%start s
+%start t
+%%
+s : t ;
+t : A ;

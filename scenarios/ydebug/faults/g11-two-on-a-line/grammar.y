@@ -1,0 +1,4 @@
+%token A
+%%
+s : A ;
+u : A ; t : t A ;

@@ -1,0 +1,4 @@
+%token A
+%{ int n;
+%%
+s : A ;

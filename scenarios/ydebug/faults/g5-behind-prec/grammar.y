@@ -1,0 +1,4 @@
+%token A
+%left B
+%%
+s : A %prec B A ;

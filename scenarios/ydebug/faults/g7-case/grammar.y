@@ -1,0 +1,3 @@
+%token IF
+%%
+s : If ;

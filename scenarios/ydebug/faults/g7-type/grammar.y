@@ -1,0 +1,4 @@
+%token A
+%type <n> s t
+%%
+s : A ;

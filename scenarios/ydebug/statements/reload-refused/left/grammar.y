@@ -1,0 +1,1 @@
+IF '(' ID '<' NUM ')' IF '(' ID ')' RETURN NUM ';' ELSE ID '=' NUM ';'

@@ -1,0 +1,179 @@
+#!/usr/bin/env python3
+"""Refuses each allocation of sessions of `ydebug` in turn, by itself and with all behind it.
+
+    refuse_debug.py YDEBUG [SESSION..]
+
+Each session below gives command lines over an example or a scenario. Behind every line stands a
+mark, a word that is no command and too long to be compared with one, and `where`. A run must end
+with `ydebug: no memory`, status 3 and nothing on standard output, or go on: then each answer is as
+usual for the parse as it stands, or says that there is no memory, and the parse behind it is as it
+was, or, behind a move, where the steps that were told have led. The last line is
+`N passed, M failed`.
+"""
+import os
+import re
+import subprocess
+import sys
+import tempfile
+from collections import Counter
+from concurrent.futures import ProcessPoolExecutor
+from functools import partial
+from pathlib import Path
+
+sys.dont_write_bytecode = True
+
+from devices import library_in
+from refuse import ALL, SOURCE
+
+TOP = Path(__file__).resolve().parent.parent
+HERE = TOP / "scenarios" / "ydebug"
+EXAMPLES = TOP / "examples"
+# Each session: the folder of its two files, and its command lines.
+SESSIONS = {
+    "moves": (EXAMPLES / "statements", "s|s 5||back 2|to 12|r|b|to 3"),
+    "until": (EXAMPLES / "statements", "run until conflict|back until shift ID|run until token 9"),
+    "looks": (EXAMPLES / "statements", "to 21|stack|upcoming|state|state 3|rule 6|grammar|history"),
+    "names": (EXAMPLES / "statements", "stpe|why|why IDD|symbol ELSE|symbol statment|insert ELES"),
+    "expected": (EXAMPLES / "statements", "expected|to 21|expected|why ')'|run|expected"),
+    "trees": (EXAMPLES / "statements", "to 21|tree|tree 3|derivation|run|tree all|derivation all"),
+    "edits": (EXAMPLES / "statements", "insert '{'|s|drop|insert ID|s 3|back 4|drop|history"),
+    "files": (EXAMPLES / "statements", "to 5|save one|save one|drop|save! one|save! two"),
+    "reload": (EXAMPLES / "statements", "to 9|insert ';'|reload|s 2|reload"),
+    "recovery": (HERE / "recovery", "run until error|s 3|expected|run|tree|derivation|conflicts"),
+}
+MARK = "#" * 50
+# What a move is, and where a parse stands.
+MOVE = re.compile(r"(s|step|b|back|to|r|run)( |$)")
+PLACE = re.compile(r"^ *(\d+)  \S")
+NO_MEMORY = "no memory"
+
+
+def spelled(lines):
+    return "".join(f"{line}\n{MARK}\nwhere\n{MARK}\n" for line in lines).encode()
+
+
+def run(ydebug, source, given, **more):
+    """The status, both streams and the files of a run in a folder of its own."""
+    with tempfile.TemporaryDirectory() as room:
+        for name in ("grammar.y", "tokens"):
+            Path(room, name).write_bytes((source / name).read_bytes())
+        words = [ydebug, "grammar.y", "tokens"]
+        ran = subprocess.run(words, cwd=room, input=given, capture_output=True, timeout=120, **more)
+        files = {it.name: it.read_bytes() for it in Path(room).iterdir()}
+    return ran.returncode, ran.stdout.decode(), ran.stderr.decode(), files
+
+
+def answers(text):
+    """The answer to each line and the place behind it; none where marks are missing."""
+    parts = re.split(rf"(?m)^{MARK} is no command; .*\n", text)
+    if len(parts) % 2 == 0 or parts[-1]:
+        return None
+    return list(zip(parts[:-1:2], parts[1::2]))
+
+
+KNOWN = {}
+
+
+def usual(ydebug, source, lines):
+    """The answer to the last of some lines and the place behind it, undisturbed."""
+    key = source, *lines
+    if key not in KNOWN:
+        KNOWN[key] = answers(run(ydebug, source, spelled(lines))[1])[-1]
+    return KNOWN[key]
+
+
+def position_of(place):
+    found = PLACE.match(place)
+    return int(found[1]) if found else None
+
+
+def is_told(answer, place, ydebug, source, obeyed, line):
+    """The lines that lead to where the parse stands behind a refused line; none where none do."""
+    stays = [*obeyed] or ["to 0"]
+    if usual(ydebug, source, [*stays, "where"])[1] == place:
+        return obeyed
+    position = position_of(place)
+    if not MOVE.match(line) or position is None:
+        return None
+    moved = [*obeyed, f"to {position}"]
+    return moved if usual(ydebug, source, moved)[1] == place else None
+
+
+def as_moves(lines):
+    """The lines, where one that repeats a move stands for that, also where it was refused."""
+    last = ""
+    for line in lines:
+        last = "" if line == "reload" else line if line and MOVE.match(line) else last
+        yield line or last
+
+
+def fault_of(text, ydebug, source, lines):
+    """What is wrong with what a session that went on has said; nothing where all is well."""
+    made = answers(text)
+    if made is None or len(made) != len(lines):
+        return "a line isn't answered"
+    obeyed = []
+    for line, (answer, place) in zip(as_moves(lines), made):
+        if (answer, place) == usual(ydebug, source, [*obeyed, line]):
+            obeyed.append(line)
+            continue
+        if NO_MEMORY in place:
+            return None if NO_MEMORY in answer else "where alone is refused"
+        if NO_MEMORY not in answer:
+            return f"{line!r} is answered otherwise: {answer!r} {place!r}"
+        obeyed = is_told(answer, place, ydebug, source, obeyed, line)
+        if obeyed is None:
+            return f"behind {line!r} the parse is another one: {answer!r} {place!r}"
+    return None
+
+
+def refused_once(number, last, ydebug, source, lines, library):
+    """How a run ended with some allocations refused, and how many it asked for."""
+    with tempfile.TemporaryFile() as counted:
+        words = {"REFUSED": number, "LAST": last or number, "COUNTED": counted.fileno()}
+        words |= {"LD_PRELOAD": library}
+        words = {name: str(word) for name, word in words.items()}
+        made = run(ydebug, source, spelled(lines), env=words, pass_fds=[counted.fileno()])
+        counted.seek(0)
+        calls = int(counted.read() or b"0")
+    status, text, message, _ = made
+    if (status, text, message) == (3, "", "ydebug: no memory\n"):
+        return "end with no memory", None, calls
+    if status != 0 or message:
+        return "wrong", f"status {status}: {message}", calls
+    fault = fault_of(text, ydebug, source, lines)
+    way = "wrong" if fault else "go on and say no memory" if NO_MEMORY in text else "as usual"
+    return way, fault, calls
+
+
+def refused_in_turn(name, from_there_on, ydebug, library, pool):
+    source, text = SESSIONS[name]
+    lines = text.split("|")
+    given = dict(ydebug=ydebug, source=source, lines=lines, library=library)
+    way, fault, calls = refused_once(0, 0, **given)
+    ways = Counter({"wrong": 1} if way == "wrong" else {})
+    once = partial(refused_once, last=ALL if from_there_on else 0, **given)
+    for number, (way, fault, _) in enumerate(pool.map(once, range(1, calls + 1), chunksize=8), 1):
+        ways[way] += 1
+        if fault:
+            print(f"{name}: allocation {number}{' and all behind it' * from_there_on}: {fault}")
+    said = ", ".join(f"{ways[way]} {way}" for way in sorted(ways))
+    how = " and all behind it" if from_there_on else ""
+    print(f"{name}: {calls} allocations, each{how} refused: {said}", flush=True)
+    return ways
+
+
+def main(ydebug, *names):
+    ydebug = str(Path(ydebug).absolute())
+    whole = Counter()
+    with tempfile.TemporaryDirectory() as room, ProcessPoolExecutor(os.cpu_count()) as pool:
+        library = library_in(room, SOURCE)
+        for name in names or SESSIONS:
+            for from_there_on in (False, True):
+                whole += refused_in_turn(name, from_there_on, ydebug, library, pool)
+    print(f"{whole.total() - whole['wrong']} passed, {whole['wrong']} failed")
+    return 1 if whole["wrong"] or not whole else 0
+
+
+if __name__ == "__main__":
+    sys.exit(main(*sys.argv[1:]))
