@@ -24,8 +24,8 @@ returns-in_err-p c =
     (IsOut a b c.pop-2.new.self.items c.swap.new.y.items)) (sym c.from_residual.ensures) (
       over a b none (sym same ∙ none_next),
       over c.pop-2.new.self.items c.swap.new.y.items
-      (nothing_left swapped.items _ c.in_err-p.ensures.items none_next)
-      (popped ∙ nothing_left a _ c.in_default.ensures.items none),
+          (nothing_left swapped.items _ c.in_err-p.ensures.items none_next)
+          (popped ∙ nothing_left a _ c.in_default.ensures.items none),
     )
 
 pub returns : goal.returns
