@@ -8,3 +8,4 @@ pub mod RangeSteps
 pub mod RowSteps
 pub mod TableSteps
 pub mod TallySteps
+pub mod TalliesSteps

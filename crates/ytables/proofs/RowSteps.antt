@@ -1,10 +1,10 @@
 -- The steps of one state's row: rules that look at a token, complete items, the rule that all
 -- actions share.
-use Rattle.std.proofs.Common.{ℕ, zero, suc, ◌≡◌, ◌≢◌, ◌+◌, ◌-◌, ◌<◌, ◌≤◌, Bool, true, false, not}
+use Rattle.std.proofs.Common.{codes, ℕ, zero, suc, ◌≡◌, ◌≢◌, ◌+◌, ◌-◌, ◌<◌, ◌≤◌, Bool, true, false, not}
 use Rattle.std.proofs.Common.{◌&&◌, ◌||◌, nat_eq, List, [], ◌∷◌, ◌++◌, length, map, take, drop}
 use Rattle.std.proofs.Common.{get_or, refl, sym, ap, ◌∙◌, subst, inl, inr, ◌⊎◌, arith, append-nil}
 use Rattle.std.proofs.Common.{length-drop, Option, Some, None, MatchOption, if◌then◌else◌}
-use Rattle.std.specs.List.{All, AllPairs, filter, flat_map, list_all, list_any, range_with_len}
+use Rattle.std.specs.List.{All, AllPairs, filter, flat_map, list_all, list_any, range_with_len, sum_by}
 use Rattle.std.proofs.lemmas.Bool.Decides.{eqb_tells}
 use Rattle.std.proofs.lemmas.List.{map-append}
 use Rattle.std.proofs.lemmas.List.Elements.{All-filter, filter_more, filter_passes}
@@ -23,6 +23,10 @@ use Rattle.ytables.specs.declared.cell.Cell.{Cell}
 use Rattle.ytables.specs.declared.cell.Tally.{Tally}
 use Rattle.ytables.specs.Cell.{cell_of, common, is_filled, is_reduce}
 use Rattle.ytables.specs.Report.{conflict_line, conflicts_text}
+use Rattle.ytables.specs.Report.{line_for}
+use Rattle.ytables.specs.Text.{pair_line}
+use Rattle.ytables.specs.Tables.{row_shift_reduce, row_reduce_reduce}
+use Rattle.std.proofs.lemmas.List.Folds.{sum_by-zero}
 use Rattle.ytables.specs.Rows.{InGrammar, IsRowTo, IsRow, ReduceBy}
 use Rattle.ytables.specs.Tables.{after_dot, is_empty, is_ready, ready_in, rules_by, has_before}
 use Rattle.ytables.specs.Tables.{tokens_of, cell_in, class_in, shift_by, TablesValue}
@@ -291,24 +295,36 @@ empty_yes l n h = go (drop n l) (let e = length-drop n l in omega (arith, e, h))
     go [] e = refl
     go (x ∷ k) e = absurd (omega (arith, e))
 
-flat_none : (f : ℕ → List ℕ) (xs : List ℕ) → ((x : ℕ) → f x ≡ []) → flat_map f xs ≡ []
-flat_none f [] h = refl
-flat_none f (x ∷ xs) h = ap (λ l. l ++ flat_map f xs) (h x) ∙ flat_none f xs h
+both : (a b : Bool) → (a && b) ≡ true → (a ≡ true) × (b ≡ true)
+both true b e = (refl, e)
+both false b e = absurd (cc)
 
--- a state without complete items counts no conflicts
-pub no_conflicts : (v : TablesValue) (u : Guide) (q : ℕ) → ready_in v.built.grammar.bare
-    (state_of v.built q) ≡ [] → conflicts_text v u q ≡ []
-no_conflicts v u q e = flat_none (λ t. conflict_line v.built.grammar t (cell_in v.built u q t))
-    (tokens_of v.built.grammar) line
+all_zero : (f : ℕ → ℕ) (xs : List ℕ) → sum_by f xs ≡ 0 → list_all (λ t. nat_eq (f t) 0) xs ≡ true
+all_zero f xs e = sym (sum_by-zero f xs) ∙ ap (λ n. nat_eq n 0) e
+
+-- a state whose cells count no conflict has no line for one
+pub no_conflicts : (v : TablesValue) (u : Guide) (q : ℕ) → row_shift_reduce v.built u q ≡ 0 →
+    row_reduce_reduce v.built u q ≡ 0 → conflicts_text v u q ≡ []
+no_conflicts v u q s d = go (tokens_of v.built.grammar)
+    (all_zero (λ t. (cell_in v.built u q t).shift_reduce) (tokens_of v.built.grammar) s)
+    (all_zero (λ t. (cell_in v.built u q t).reduce_reduce) (tokens_of v.built.grammar) d)
   where
-    bare : (t : ℕ) (class : ℕ → Class) (shift : Option Action) → conflict_line v.built.grammar t
-        (cell_of class shift []) ≡ []
-    bare t class None = refl
-    bare t class (Some s) = refl
+    none : (t : ℕ) (c : Cell) → nat_eq c.shift_reduce 0 ≡ true → nat_eq c.reduce_reduce 0 ≡ true →
+        conflict_line v.built.grammar t c ≡ []
+    none t c a b =
+        let line : List ℕ = line_for v.built.grammar t
+        (pair_line (codes " conflicts ") c.shift_reduce c.reduce_reduce) in
+        ap (λ x. if x && nat_eq c.reduce_reduce 0 then [] else line) a ∙ ap
+        (λ x. if x then [] else line) b
 
-    line : (t : ℕ) → conflict_line v.built.grammar t (cell_in v.built u q t) ≡ []
-    line t =
-        let class = class_in v.built.grammar t in
-        let shift = shift_by v.built.grammar.bare (goto_in v.built q) (state_of v.built q) t in
-        ap (λ (k : List Item). conflict_line v.built.grammar t
-        (cell_of class shift (rules_by (λ i. u.looks q i t) k))) e ∙ bare t class shift
+    go : (xs : List ℕ) → list_all (λ t. nat_eq (cell_in v.built u q t).shift_reduce 0) xs ≡ true →
+        list_all (λ t. nat_eq (cell_in v.built u q t).reduce_reduce 0) xs ≡ true →
+        flat_map (λ t. conflict_line v.built.grammar t (cell_in v.built u q t)) xs ≡ []
+    go [] a b = refl
+    go (x ∷ xs) a b =
+        let f = λ (t : ℕ). conflict_line v.built.grammar t (cell_in v.built u q t) in
+        let p = both (nat_eq (cell_in v.built u q x).shift_reduce 0)
+        (list_all (λ t. nat_eq (cell_in v.built u q t).shift_reduce 0) xs) a in
+        let r = both (nat_eq (cell_in v.built u q x).reduce_reduce 0)
+        (list_all (λ t. nat_eq (cell_in v.built u q t).reduce_reduce 0) xs) b in
+        ap (λ l. l ++ flat_map f xs) (none x (cell_in v.built u q x) p.0 r.0) ∙ go xs p.1 r.1

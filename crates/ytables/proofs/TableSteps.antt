@@ -9,7 +9,9 @@ use Rattle.ytables.specs.declared.cell.Action.{Action}
 use Rattle.ytables.specs.declared.cell.Action.TheVariants.{Error}
 use Rattle.ytables.specs.Cell.{by_default}
 use Rattle.yrows.specs.Packed.{PackedRows, entry_of, IsPushed}
+use Rattle.ytables.specs.declared.tables.Counts.{Counts}
 use Rattle.ytables.specs.Rows.{IsRow}
+use Rattle.ytables.specs.Tables.{AreStateCounts, no_counts}
 use Rattle.ytables.specs.Tables.{AreRowsTo, AreSumsTo, act_at, rule_at, action_in, default_in}
 use Rattle.ytables.specs.Tables.{cell_in, row_shift_reduce, row_reduce_reduce, row_choice}
 use Rattle.ytables.proofs.RangeSteps.{sum_more, any_more}
@@ -26,6 +28,38 @@ module _ (m : Collection) (u : Guide) (n : ℕ) (row : List Action) (rule : Opti
     choice = (let a = h.choice in let e = r.cells.choice in let k = any_more n (row_choice m u) in
         cc);
   }
+
+  pub counts_step : (list list' : List Counts) (c : Counts) → length list ≡ n →
+      list' ≡ list ++ c ∷ [] → c.shift_reduce ≡ shifts → c.reduce_reduce ≡ reduces →
+      AreStateCounts m u n list → AreStateCounts m u (n + 1) list'
+  counts_step list list' c len e s d h = record {
+    shift_reduce = λ q l. shift q (side q l);
+    reduce_reduce = λ q l. reduce q (side q l);
+  }
+    where
+      side : (q : ℕ) → q < n + 1 → (q < n) ⊎ (q ≡ n)
+      side q l = grind arith
+
+      kept : (q : ℕ) → q < n → get_or list' q no_counts ≡ get_or list q no_counts
+      kept q l = ap (λ (xs : List Counts). get_or xs q no_counts) e ∙ get_or_append_left list
+          (c ∷ []) no_counts q (omega arith)
+
+      added : (q : ℕ) → q ≡ n → get_or list' q no_counts ≡ c
+      added q l = ap (λ (xs : List Counts). get_or xs q no_counts) e ∙ ap
+          (λ k. get_or (list ++ c ∷ []) k no_counts) (l ∙ sym len) ∙ get_or-append_seam list c []
+          no_counts
+
+      shift : (q : ℕ) → (q < n) ⊎ (q ≡ n) → (get_or list' q no_counts).shift_reduce ≡
+          row_shift_reduce m u q
+      shift q (inl l) = ap (λ (x : Counts). x.shift_reduce) (kept q l) ∙ h.shift_reduce q l
+      shift q (inr l) = ap (λ (x : Counts). x.shift_reduce) (added q l) ∙ s ∙
+          r.cells.shift_reduce ∙ ap (row_shift_reduce m u) (sym l)
+
+      reduce : (q : ℕ) → (q < n) ⊎ (q ≡ n) → (get_or list' q no_counts).reduce_reduce ≡
+          row_reduce_reduce m u q
+      reduce q (inl l) = ap (λ (x : Counts). x.reduce_reduce) (kept q l) ∙ h.reduce_reduce q l
+      reduce q (inr l) = ap (λ (x : Counts). x.reduce_reduce) (added q l) ∙ d ∙
+          r.cells.reduce_reduce ∙ ap (row_reduce_reduce m u) (sym l)
 
   pub rows_step : (old new : PackedRows Action) (entries : List (Option Action))
       (ds ds' : List (Option ℕ)) → length old.rows ≡ n → old.width ≡ m.grammar.bare.tokens →

@@ -11,6 +11,7 @@ use Rattle.ytables.specs.declared.class.Class.{Class}
 use Rattle.ytables.specs.declared.cell.Action.{Action}
 use Rattle.ytables.specs.declared.cell.Action.TheVariants.{Shift, Accept, Error}
 use Rattle.ytables.specs.declared.cell.Cell.{Cell}
+use Rattle.ytables.specs.declared.tables.Counts.{Counts}
 use Rattle.yrows.specs.Packed.{PackedRows, entry_of}
 use Rattle.ytables.specs.Cell.{class_of, cell_of, is_filled, common, by_default}
 
@@ -161,6 +162,17 @@ pub record AreSumsTo (m : Collection) (u : Guide) (n shifts reduces : ℕ) (chos
     pub reduce_reduce : reduces ≡ sum_by (row_reduce_reduce m u) (range_with_len 0 n)
     pub choice : chosen ≡ list_any (row_choice m u) (range_with_len 0 n)
 
+-- no conflicts
+abbrev pub no_counts : Counts
+no_counts = record { shift_reduce = 0; reduce_reduce = 0 }
+
+-- The list has the conflicts of each state below n.
+pub record AreStateCounts (m : Collection) (u : Guide) (n : ℕ) (list : List Counts) : Type 0 where
+  pub shift_reduce : (q : ℕ) → q < n → (slice_index_or list q no_counts).shift_reduce ≡
+      row_shift_reduce m u q
+  pub reduce_reduce : (q : ℕ) → q < n → (slice_index_or list q no_counts).reduce_reduce ≡
+      row_reduce_reduce m u q
+
 -- The tables go by these gotos and lookaheads: all cells, and the sums over all states and all
 -- tokens.
 pub record FollowsGuide (v : TablesValue) (u : Guide) : Type 0 where
@@ -184,10 +196,14 @@ pub record AreGotos (m : Collection) (packed : PackedRows ℕ) : Type 0 where
   pub width : packed.width + m.grammar.bare.tokens ≡ m.grammar.bare.symbols
   pub gotos : AreGotosTo m (length m.states) packed.rows
 
--- What holds of tables: a row, a default rule and gotos for each state, and what these say.
-pub record IsTables (v : TablesValue) (columns : ℕ) (packed : PackedRows ℕ) : Type 0 where
+-- What holds of tables: a row, a default rule, gotos and counts for each state, and what these say.
+pub record IsTables (v : TablesValue) (columns : ℕ) (packed : PackedRows ℕ)
+    (counts : List Counts) : Type 0 where
   pub rows : length v.actions ≡ length v.built.states
   pub defaults : length v.defaults ≡ length v.built.states
   pub width : columns ≡ v.built.grammar.bare.tokens
   pub gotos : AreGotos v.built packed
   pub tables : AreTables v
+  pub counted : length counts ≡ length v.built.states
+  pub by_state : (u : Guide) → IsGuide v.built u → AreStateCounts v.built u (length v.built.states)
+      counts

@@ -7,12 +7,14 @@
 mod cell;
 mod class;
 mod count;
+mod dots;
 mod fault;
 mod gotos;
 mod report;
 mod row;
 mod table;
 mod tables;
+mod tallies;
 
 pub use cell::Action;
 pub use fault::TableFault;

@@ -20,7 +20,7 @@ ghost use Rattle.ytables.specs.Report.{unreachable_part, report_of};
 use crate::cell::{Action, Cell};
 use crate::count::put_count;
 use crate::fault::TableFault;
-use crate::row::{cell_of, has_ready};
+use crate::row::cell_of;
 use crate::tables::Tables;
 use std::io::Write;
 use ylalr::{Item, token_count};
@@ -352,18 +352,17 @@ fn put_all_conflicts<W: Write>(link: &mut Link<W>, tables: &Tables, q: usize) ->
     Some(())
 }
 
-/// The lines of the cells of a state that count a conflict: none where no item is complete.
+/// The lines of the cells of a state that count a conflict: none where the state counts none.
 fn put_conflicts<W: Write>(link: &mut Link<W>, tables: &Tables, q: usize) -> Option<()>
     requires { q < length tables.now.built.states }
     ensures { (u : Guide) → IsGuide tables.now.built u
         → Sends W.contents link.old link.new (is_some result) (conflicts_text tables.now u q) }
 {
-    let automaton = tables.automaton();
-    let _guide = automaton.states();
-    if has_ready(tables.grammar(), automaton.items(q)) {
-        put_all_conflicts(link, tables, q)
-    } else {
+    let counts = tables.conflicts_in(q);
+    if counts.shift_reduce == 0 && counts.reduce_reduce == 0 {
         Some(())
+    } else {
+        put_all_conflicts(link, tables, q)
     }
 }
 

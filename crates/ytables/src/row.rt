@@ -11,49 +11,15 @@ ghost use Rattle.ytables.specs.Rows.{InGrammar, IsRowTo, IsRow, most_in_row};
 ghost use Rattle.ytables.specs.Tables.{after_dot, is_ready, has_before, ready_in, class_at};
 ghost use Rattle.ytables.specs.Tables.{rules_by, shift_of, level_of, cell_in};
 ghost use Rattle.ytables.specs.Tally.{IsTally};
+ghost use Rattle.ytables.specs.Tallies.{IsTallyAt};
 
 use crate::cell::{Action, Cell, Tally};
 use crate::class::class_between;
+use crate::dots::{is_ready, next_symbol};
+use crate::tallies::{level_of, tallies_of};
 use std::alloc::{AllocError, Global};
 use ylalr::{Automaton, END, Item};
 use ysymbols::{Grammar, Precedence, Sym};
-
-/// The symbol after the dot.
-pub fn next_symbol(grammar: &Grammar, item: Item) -> Option<Sym>
-    requires { item.rule < length grammar.now.bare.rules }
-    ensures { MatchOption result (after_dot grammar.now.bare item ≡ [])
-        (λ s. after_dot grammar.now.bare item ≡ s ∷ drop (item.dot + 1)
-        (body_of grammar.now.bare item.rule)) }
-{
-    let body = grammar.rule(item.rule).body();
-    if item.dot < body.len() {
-        Some(body[item.dot])
-    } else {
-        None
-    }
-}
-
-/// Whether the item is complete, and of another rule than rule 0.
-fn is_ready(grammar: &Grammar, item: Item) -> bool
-    requires { item.rule < length grammar.now.bare.rules }
-    ensures { result ≡ is_ready grammar.now.bare item }
-{
-    item.rule != 0 && next_symbol(grammar, item).is_none()
-}
-
-/// The complete items of a list, but for rule 0.
-fn ready_items(alloc: Global, grammar: &Grammar, items: &[Item]) -> Result<Vec<Item>, AllocError>
-    requires { InGrammar grammar.now.bare items.now }
-    ensures { IfOk result (λ v. v.items ≡ ready_in grammar.now.bare items.now) }
-{
-    let mut found = Vec::new(alloc);
-    for item in items {
-        if is_ready(grammar, *item) {
-            found.push(*item)?;
-        }
-    }
-    Ok(found)
-}
 
 /// For each token, whether an item of the list has its dot before it.
 fn tokens_before(
@@ -137,19 +103,6 @@ fn shift_at(automaton: &Automaton, q: usize, t: Sym) -> Action
     }
 }
 
-/// The precedence of a token; the end has none.
-fn level_of(grammar: &Grammar, t: Sym) -> Option<Precedence>
-    requires { t < grammar.now.bare.tokens }
-    ensures { result ≡ level_of grammar.now t }
-{
-    let _well_formed = grammar.symbols();
-    if t == END {
-        None
-    } else {
-        grammar.precedence(t)
-    }
-}
-
 /// The cell of a state and a token, by a list of items that has its complete ones.
 fn cell_at(automaton: &Automaton, q: usize, t: Sym, shifts: bool, items: &[Item]) -> Cell
     requires state { q < length automaton.now.states }
@@ -169,19 +122,6 @@ fn cell_at(automaton: &Automaton, q: usize, t: Sym, shifts: bool, items: &[Item]
         return tally.settle(Some(shift_at(automaton, q, t)));
     }
     tally_at(automaton, q, t, None, items).settle(None)
-}
-
-/// Whether the list has a complete item of another rule than rule 0.
-pub fn has_ready(grammar: &Grammar, items: &[Item]) -> bool
-    requires { InGrammar grammar.now.bare items.now }
-    ensures { result ≡ false → ready_in grammar.now.bare items.now ≡ [] }
-{
-    for item in items {
-        if is_ready(grammar, *item) {
-            return true;
-        }
-    }
-    false
 }
 
 /// Whether an item of the list has its dot before the token.
@@ -234,17 +174,32 @@ struct Cells {
     choice: bool,
 }
 
-/// The cells of one state, by its complete items and the tokens before which a dot stands.
+/// The cell of a state and a token, where it can be shifted or not, by the tally of its rules.
+fn settled(automaton: &Automaton, q: usize, t: Sym, shifts: bool, tally: &Tally) -> Cell
+    requires state { q < length automaton.now.states }
+    requires token { t < automaton.now.grammar.bare.tokens }
+    requires shifts { shifts ≡ has_before (bare_of automaton.now) (state_of automaton.now q) t }
+    requires tally { (u : Guide) → IsGuide automaton.now u
+        → IsTallyAt automaton.now u q shifts t tally.now }
+    ensures cell { (u : Guide) → IsGuide automaton.now u → result ≡ cell_in automaton.now u q t }
+    ensures shift_reduce { result.shift_reduce ≤ tally.now.rests }
+    ensures reduce_reduce { result.reduce_reduce ≤ tally.now.kept }
+{
+    if shifts {
+        return tally.settle(Some(shift_at(automaton, q, t)));
+    }
+    tally.settle(None)
+}
+
+/// The cells of one state, by the tokens before which a dot stands.
 fn cells_of(
     alloc: Global,
     automaton: &Automaton,
     q: usize,
     before: &[bool],
-    ready: &[Item],
 ) -> Result<Cells, AllocError>
     requires state { q < length automaton.now.states }
     requires tokens { length before.now ≡ automaton.now.grammar.bare.tokens }
-    requires ready { ready.now ≡ ready_in (bare_of automaton.now) (state_of automaton.now q) }
     requires before { (t : ℕ) → t < length before.now
         → slice_index_or before.now t false ≡ has_before (bare_of automaton.now)
         (state_of automaton.now q) t }
@@ -255,14 +210,14 @@ fn cells_of(
     ensures shift_reduce { IfOk result (λ c. c.shift_reduce ≤ most_in_row) }
     ensures reduce_reduce { IfOk result (λ c. c.reduce_reduce ≤ most_in_row) }
 {
-    let _guide = automaton.states();
     let _well_formed = automaton.grammar().symbols();
+    let tallies = tallies_of(alloc, automaton, q, before)?;
     let mut actions = Vec::with_capacity(alloc, before.len())?;
     let mut shift_reduce = 0;
     let mut reduce_reduce = 0;
     let mut choice = false;
     for t in 0..before.len() {
-        let cell = cell_at(automaton, q, t, before[t], ready);
+        let cell = settled(automaton, q, t, before[t], &tallies[t]);
         actions.push(cell.action)?;
         shift_reduce += cell.shift_reduce as u64;
         reduce_reduce += cell.reduce_reduce as u64;
@@ -317,9 +272,8 @@ pub fn row_of(
     let _guide = automaton.states();
     let grammar = automaton.grammar();
     let items = automaton.items(q);
-    let ready = ready_items(alloc, grammar, items)?;
     let before = tokens_before(alloc, grammar, tokens, items)?;
-    let cells = cells_of(alloc, automaton, q, &before, &ready)?;
+    let cells = cells_of(alloc, automaton, q, &before)?;
     let default = default_of(&before, &cells.actions);
     let Cells {
         actions,

@@ -9,7 +9,8 @@ ghost use Rattle.ytables.specs.declared.fault.TableFault.{TableFault};
 ghost use Rattle.ytables.specs.Allowed.{CellsAllow};
 ghost use Rattle.ytables.specs.Cell.{by_default};
 ghost use Rattle.ytables.specs.Had.{NoChoice, CellsHave};
-ghost use Rattle.ytables.specs.Tables.{AreRowsTo, AreSumsTo, AreTables, action_at, default_at};
+ghost use Rattle.ytables.specs.Tables.{AreRowsTo, AreSumsTo, AreTables, AreStateCounts};
+ghost use Rattle.ytables.specs.Tables.{action_at, default_at};
 ghost use Rattle.ytables.specs.Tables.{action_in, default_in, act_at, rule_at};
 ghost use Rattle.ytables.specs.Tables.{row_shift_reduce, row_reduce_reduce, states_of};
 
@@ -37,6 +38,7 @@ pub struct Tables {
     actions: Packed<Action>,
     gotos: Packed<usize>,
     defaults: Vec<Option<usize>>,
+    by_state: Vec<Counts>,
     counts: Counts,
     chosen: bool,
 }
@@ -62,7 +64,7 @@ impl Model for Tables {
       shift_reduce = t.counts.shift_reduce;
       reduce_reduce = t.counts.reduce_reduce;
       choice = t.chosen;
-    }) t.actions.width t.gotos };
+    }) t.actions.width t.gotos t.by_state.items };
 }
 
 /// The entries of a row: its actions but for errors, and none where a default rule stands in for
@@ -94,6 +96,7 @@ fn entries_of(
 struct Found {
     actions: Packed<Action>,
     defaults: Vec<Option<usize>>,
+    by_state: Vec<Counts>,
     counts: Counts,
     chosen: bool,
 }
@@ -103,6 +106,10 @@ fn all_rows(alloc: Global, automaton: &Automaton) -> Result<Found, AllocError>
     ensures actions { IfOk result (λ f. length f.actions.rows ≡ length automaton.now.states) }
     ensures width { IfOk result (λ f. f.actions.width ≡ automaton.now.grammar.bare.tokens) }
     ensures defaults { IfOk result (λ f. length f.defaults.items ≡ length automaton.now.states) }
+    ensures by_state { IfOk result (λ f. (u : Guide) → IsGuide automaton.now u
+        → AreStateCounts automaton.now u (length automaton.now.states) f.by_state.items) }
+    ensures counted { IfOk result (λ f. length f.by_state.items
+        ≡ length automaton.now.states) }
     ensures rows { IfOk result (λ f. (u : Guide) → IsGuide automaton.now u
         → AreRowsTo automaton.now u (length automaton.now.states)
         (act_at f.actions.rows f.defaults.items) (rule_at f.defaults.items)) }
@@ -116,6 +123,7 @@ fn all_rows(alloc: Global, automaton: &Automaton) -> Result<Found, AllocError>
     let states = automaton.states();
     let mut actions = Packed::new(alloc, tokens);
     let mut defaults = Vec::with_capacity(alloc, states)?;
+    let mut by_state = Vec::with_capacity(alloc, states)?;
     let mut shift_reduce = 0;
     let mut reduce_reduce = 0;
     let mut chosen = false;
@@ -124,6 +132,10 @@ fn all_rows(alloc: Global, automaton: &Automaton) -> Result<Found, AllocError>
         let entries = entries_of(alloc, &row.actions, row.default)?;
         actions.push(alloc, &entries)?;
         defaults.push(row.default)?;
+        by_state.push(Counts {
+            shift_reduce: row.shift_reduce,
+            reduce_reduce: row.reduce_reduce,
+        })?;
         shift_reduce += row.shift_reduce;
         reduce_reduce += row.reduce_reduce;
         chosen |= row.choice;
@@ -135,6 +147,7 @@ fn all_rows(alloc: Global, automaton: &Automaton) -> Result<Found, AllocError>
     Ok(Found {
         actions,
         defaults,
+        by_state,
         counts,
         chosen,
     })
@@ -155,6 +168,7 @@ pub fn resolve(alloc: Global, automaton: Automaton) -> Result<Tables, TableFault
     let Found {
         actions,
         defaults,
+        by_state,
         counts,
         chosen,
     } = found;
@@ -163,6 +177,7 @@ pub fn resolve(alloc: Global, automaton: Automaton) -> Result<Tables, TableFault
         actions,
         gotos,
         defaults,
+        by_state,
         counts,
         chosen,
     })
@@ -238,6 +253,17 @@ impl Tables {
             ≡ sum_by (row_reduce_reduce self.now.built u) (states_of self.now.built)) }
     {
         self.counts
+    }
+
+    /// How many conflicts the cells of state `q` count; `q` is below the number of states.
+    pub fn conflicts_in(&self, q: usize) -> Counts
+        requires { q < length self.now.built.states }
+        ensures shift_reduce { (u : Guide) → IsGuide self.now.built u
+            → result.shift_reduce ≡ row_shift_reduce self.now.built u q }
+        ensures reduce_reduce { (u : Guide) → IsGuide self.now.built u
+            → result.reduce_reduce ≡ row_reduce_reduce self.now.built u q }
+    {
+        self.by_state[q]
     }
 
     /// Whether no cell has a choice between two candidates. Where that is so, each candidate that

@@ -29,6 +29,6 @@ returns-clause-row c = λ u h.
     whole_row m u c.args.q before d.actions.items c.default_of-default.result d.shift_reduce
     d.reduce_reduce d.choice (c.in_ok-before.ensures.len ∙ c.requires.tokens) marks cells
     (c.default_of-default.ensures ∙ ap (λ (l : List Bool). if list_any (λ b. b) l then None else
-    common (filter is_filled c.deref-4.result.now)) c.deref-3.ensures.value
+    common (filter is_filled c.deref-3.result.now)) c.deref-2.ensures.value
     ∙ ap (λ (l : List Action). if list_any (λ b. b) before then None else common
-    (filter is_filled l)) c.deref-4.ensures.value)
+    (filter is_filled l)) c.deref-3.ensures.value)
