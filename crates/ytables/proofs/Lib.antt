@@ -4,6 +4,7 @@ pub mod AmongSteps
 pub mod HadSteps
 pub mod GuideSteps
 pub mod LineSteps
+pub mod LookSteps
 pub mod RangeSteps
 pub mod RowSteps
 pub mod TableSteps

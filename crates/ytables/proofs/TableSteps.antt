@@ -9,9 +9,9 @@ use Rattle.ytables.specs.declared.cell.Action.{Action}
 use Rattle.ytables.specs.declared.cell.Action.TheVariants.{Error}
 use Rattle.ytables.specs.Cell.{by_default}
 use Rattle.yrows.specs.Packed.{PackedRows, entry_of, IsPushed}
-use Rattle.ytables.specs.declared.tables.Counts.{Counts}
+use Rattle.ytables.specs.declared.cell.Conflict.{Conflict}
 use Rattle.ytables.specs.Rows.{IsRow}
-use Rattle.ytables.specs.Tables.{AreStateCounts, no_counts}
+use Rattle.ytables.specs.Tables.{AreConflicts, conflicts_in}
 use Rattle.ytables.specs.Tables.{AreRowsTo, AreSumsTo, act_at, rule_at, action_in, default_in}
 use Rattle.ytables.specs.Tables.{cell_in, row_shift_reduce, row_reduce_reduce, row_choice}
 use Rattle.ytables.proofs.RangeSteps.{sum_more, any_more}
@@ -29,37 +29,20 @@ module _ (m : Collection) (u : Guide) (n : ℕ) (row : List Action) (rule : Opti
         cc);
   }
 
-  pub counts_step : (list list' : List Counts) (c : Counts) → length list ≡ n →
-      list' ≡ list ++ c ∷ [] → c.shift_reduce ≡ shifts → c.reduce_reduce ≡ reduces →
-      AreStateCounts m u n list → AreStateCounts m u (n + 1) list'
-  counts_step list list' c len e s d h = record {
-    shift_reduce = λ q l. shift q (side q l);
-    reduce_reduce = λ q l. reduce q (side q l);
-  }
+  pub conflicts_step : (lists lists' : List (List Conflict)) (k : List Conflict) →
+      length lists ≡ n → lists' ≡ lists ++ k ∷ [] → k ≡ conflicts_in m u n →
+      AreConflicts m u n lists → AreConflicts m u (n + 1) lists'
+  conflicts_step lists lists' k len e same h = λ q l. go q (side q l)
     where
       side : (q : ℕ) → q < n + 1 → (q < n) ⊎ (q ≡ n)
       side q l = grind arith
 
-      kept : (q : ℕ) → q < n → get_or list' q no_counts ≡ get_or list q no_counts
-      kept q l = ap (λ (xs : List Counts). get_or xs q no_counts) e ∙ get_or_append_left list
-          (c ∷ []) no_counts q (omega arith)
-
-      added : (q : ℕ) → q ≡ n → get_or list' q no_counts ≡ c
-      added q l = ap (λ (xs : List Counts). get_or xs q no_counts) e ∙ ap
-          (λ k. get_or (list ++ c ∷ []) k no_counts) (l ∙ sym len) ∙ get_or-append_seam list c []
-          no_counts
-
-      shift : (q : ℕ) → (q < n) ⊎ (q ≡ n) → (get_or list' q no_counts).shift_reduce ≡
-          row_shift_reduce m u q
-      shift q (inl l) = ap (λ (x : Counts). x.shift_reduce) (kept q l) ∙ h.shift_reduce q l
-      shift q (inr l) = ap (λ (x : Counts). x.shift_reduce) (added q l) ∙ s ∙
-          r.cells.shift_reduce ∙ ap (row_shift_reduce m u) (sym l)
-
-      reduce : (q : ℕ) → (q < n) ⊎ (q ≡ n) → (get_or list' q no_counts).reduce_reduce ≡
-          row_reduce_reduce m u q
-      reduce q (inl l) = ap (λ (x : Counts). x.reduce_reduce) (kept q l) ∙ h.reduce_reduce q l
-      reduce q (inr l) = ap (λ (x : Counts). x.reduce_reduce) (added q l) ∙ d ∙
-          r.cells.reduce_reduce ∙ ap (row_reduce_reduce m u) (sym l)
+      go : (q : ℕ) → (q < n) ⊎ (q ≡ n) → get_or lists' q [] ≡ conflicts_in m u q
+      go q (inl l) = ap (λ (xs : List (List Conflict)). get_or xs q []) e ∙ get_or_append_left lists
+          (k ∷ []) [] q (omega arith) ∙ h q l
+      go q (inr l) = ap (λ (xs : List (List Conflict)). get_or xs q []) e ∙ ap
+          (λ i. get_or (lists ++ k ∷ []) i []) (l ∙ sym len) ∙ get_or-append_seam lists k [] [] ∙
+          same ∙ ap (conflicts_in m u) (sym l)
 
   pub rows_step : (old new : PackedRows Action) (entries : List (Option Action))
       (ds ds' : List (Option ℕ)) → length old.rows ≡ n → old.width ≡ m.grammar.bare.tokens →

@@ -4,9 +4,9 @@ use Rattle.std.proofs.Common.{take_all}
 use Rattle.std.proofs.Common.{get_or, refl, sym, ap, ◌∙◌, subst, arith, Option, None, if◌then◌else◌, not}
 use Rattle.std.proofs.lemmas.List.{length-map}
 use Rattle.std.proofs.lemmas.List.Sums.{length-filter, count_by-le-length}
-use Rattle.std.specs.List.{filter, count_by}
+use Rattle.std.specs.List.{filter}
 use Rattle.ysymbols.specs.declared.precedence.Precedence.{Precedence}
-use Rattle.ysymbols.specs.Grammar.{GrammarValue, ContextFree, most_rules}
+use Rattle.ysymbols.specs.Grammar.{ContextFree, most_rules}
 use Rattle.ylalr.specs.declared.items.Item.{Item}
 use Rattle.ylalr.specs.Collection.{Collection, Guide, IsGuide, state_of}
 use Rattle.ylalr.specs.Sets.{IsAscending, InRange}
@@ -16,7 +16,7 @@ use Rattle.ytables.specs.Cell.{is_rest, is_lose}
 use Rattle.ytables.specs.Cell.{class_of}
 use Rattle.ytables.specs.Tables.{is_ready, ready_in, rules_by, class_at}
 use Rattle.ytables.specs.Tally.{IsTally, tally_more, no_tally}
-use Rattle.ytables.specs.Tallies.{against, AreSmall, AddsAt, IsTallyBy}
+use Rattle.ytables.specs.Tallies.{AreSmall, AddsAt, IsTallyBy}
 use Rattle.ytables.proofs.RowSteps.{tally_skip, tally_take, tally_room, rules_ready}
 use Rattle.ytables.proofs.RowSteps.{few_ready}
 

@@ -16,7 +16,7 @@ mod table;
 mod tables;
 mod tallies;
 
-pub use cell::Action;
+pub use cell::{Action, Conflict};
 pub use fault::TableFault;
 pub use tables::{Counts, Tables, resolve};
 pub use ylink::Link;

@@ -16,7 +16,7 @@ use ylalr::{Automaton, END};
 use ysymbols::{Grammar, Precedence, Sym};
 
 /// The precedence of a token; the end has none.
-pub fn level_of(grammar: &Grammar, t: Sym) -> Option<Precedence>
+fn level_of(grammar: &Grammar, t: Sym) -> Option<Precedence>
     requires { t < grammar.now.bare.tokens }
     ensures { result ≡ level_of grammar.now t }
 {

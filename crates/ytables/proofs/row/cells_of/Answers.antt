@@ -1,4 +1,4 @@
-use Rattle.std.proofs.Common.{◌≡◌, ◌<◌, ◌≤◌, ◌+◌, ◌*◌, List, ◌∷◌, ◌||◌, [], length, get_or, sym, ap}
+use Rattle.std.proofs.Common.{◌++◌, ◌≡◌, ◌<◌, ◌≤◌, ◌+◌, List, ◌∷◌, ◌||◌, [], length, get_or, sym, ap}
 use Rattle.std.proofs.Common.{◌∙◌, subst, arith, length-append}
 use Rattle.std.proofs.lemmas.List.{get_or_read}
 use Rattle.ysymbols.specs.Grammar.{GrammarValue, most_rules, most_symbols}
@@ -6,7 +6,8 @@ use Rattle.ytables.specs.declared.cell.Action.{Action}
 use Rattle.ytables.specs.declared.cell.Tally.{Tally}
 use Rattle.ytables.specs.Rows.{IsRowTo}
 use Rattle.ytables.specs.Tally.{no_tally}
-use Rattle.ytables.proofs.RowSteps.{row_more}
+use Rattle.ytables.specs.Tables.{conflict_at}
+use Rattle.ytables.proofs.RowSteps.{row_more, conflicts_more}
 use Rattle.ytables.proofs.row.cells_of.Goals.{After-settled-cell}
 use Rattle.ytables.proofs.row.cells_of.Goals as goal
 
@@ -72,4 +73,7 @@ loop-t-preserved c =
           (row_more m u c.args.q c.loop-t.t c.loop-t.actions.items c.loop-t.shift_reduce
           c.loop-t.reduce_reduce c.loop-t.choice c.settled-cell.result
           (c.loop-t.invariant.row u h) (c.settled-cell.ensures.cell u h));
+      conflicts = λ u h. c.in_ok-keep.ensures ∙ ap (λ l. l ++ conflict_at c.loop-t.t
+          c.settled-cell.result) (c.loop-t.invariant.conflicts u h) ∙ conflicts_more m u c.args.q
+          c.loop-t.t c.settled-cell.result (c.settled-cell.ensures.cell u h);
     }

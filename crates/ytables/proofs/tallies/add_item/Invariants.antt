@@ -2,7 +2,7 @@ use Rattle.std.proofs.Common.{ℕ, ◌≡◌, ◌-◌, ◌≤◌, ◌<◌, lengt
 use Rattle.ylalr.specs.declared.items.Item.{Item}
 use Rattle.ylalr.specs.Collection.{Guide, IsGuide, state_of}
 use Rattle.ytables.specs.Tally.{no_tally}
-use Rattle.ytables.specs.Tallies.{added, AreSmall}
+use Rattle.ytables.specs.Tallies.{added}
 use Rattle.ytables.proofs.tallies.add_item.Given as goal
 
 -- below t the rule is added where the item looks, from t on nothing is

@@ -2,7 +2,6 @@ use Rattle.std.proofs.Common.{◌≡◌, ◌+◌, ◌<◌, ◌≤◌, List, leng
 use Rattle.ysymbols.specs.Grammar.{GrammarValue, most_rules}
 use Rattle.ylalr.specs.declared.items.Item.{Item}
 use Rattle.ylalr.specs.Collection.{state_of}
-use Rattle.ytables.specs.declared.cell.Tally.{Tally}
 use Rattle.ytables.specs.Tables.{is_ready}
 use Rattle.ytables.proofs.TalliesSteps.{Tallied, tallied_yes, tallied_no, tallied_all, tallied_few}
 use Rattle.ytables.proofs.tallies.add_items.Goals.{then-is_ready, else-is_ready}

@@ -1,5 +1,5 @@
-use Rattle.std.proofs.Common.{◌≡◌, ◌<◌, ◌≤◌, List, Option, None, length, get_or, sym, ap, ◌∙◌}
-use Rattle.std.proofs.Common.{subst, arith, false}
+use Rattle.std.proofs.Common.{◌≡◌, ◌<◌, List, Option, None, length, get_or, sym, ap, ◌∙◌}
+use Rattle.std.proofs.Common.{subst, false}
 use Rattle.std.specs.Vec.{with_items}
 use Rattle.std.proofs.lemmas.List.{with_items_is}
 use Rattle.ysymbols.specs.Grammar.{GrammarValue}
