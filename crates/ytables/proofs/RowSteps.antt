@@ -25,7 +25,7 @@ use Rattle.ytables.specs.declared.cell.Tally.{Tally}
 use Rattle.ytables.specs.Cell.{common, is_filled, is_reduce}
 use Rattle.ytables.specs.Report.{conflict_line, conflict_text, conflicts_text}
 use Rattle.ytables.specs.Tables.{conflict_at, conflicts_to, conflicts_in}
-use Rattle.ytables.specs.Rows.{InGrammar, IsRowTo, IsRow, ReduceBy}
+use Rattle.ytables.specs.Rows.{IsRowTo, IsRow, ReduceBy}
 use Rattle.ytables.specs.Tables.{after_dot, is_empty, is_ready, ready_in, rules_by, has_before}
 use Rattle.ytables.specs.Tables.{tokens_of, cell_in, TablesValue}
 use Rattle.ytables.specs.Tally.{IsTally, tally_more}
