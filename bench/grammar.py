@@ -94,9 +94,49 @@ def queries(n):
     return "\n".join(lines) + "\n"
 
 
+def rules_of(left, bodies):
+    return f"{left} : " + " | ".join(bodies) + " ;\n"
+
+
+def zigzag(n):
+    """Unit rules up and down a chain of N nonterminals, each with a token behind it, in 125 states."""
+    ends = [[f"n{j}" for j in (k + 1, k - 1) if 0 <= j < n] + [f"n{k} WORD{k}"] for k in range(n)]
+    ends[-1].append("LAST")
+    start = rules_of("s", ["LAST " + "LAST n0 " * 125])
+    return declared(["WORD"], n) + start + "".join(rules_of(f"n{k}", ends[k]) for k in range(n))
+
+
+def web(n):
+    """N nullable nonterminals with three unit rules each on average, drawn at random, 250 of them in one body."""
+    drawn = random.Random(1)
+    bodies = [[""] for _ in range(n)]
+    for _ in range(3 * n):
+        bodies[drawn.randrange(n)].append(f"n{drawn.randrange(n)}")
+    start = rules_of("s", [" ".join(f"n{k % n}" for k in range(250))])
+    return declared(["WORD"], n) + start + "".join(rules_of(f"n{k}", bodies[k]) for k in range(n))
+
+
+def empties(n):
+    """N nonterminals with an empty rule each, all possible in each of 20 states, and N tokens."""
+    start = rules_of("s", ["LAST" + " a" * 20]) + rules_of("a", [f"n{k}" for k in range(n)])
+    return declared(["WORD"], n) + start + "".join(rules_of(f"n{k}", [""]) for k in range(n))
+
+
+def operators(n):
+    """N binary operators without precedence: a conflict for each pair of them."""
+    return declared(["OP"], n) + rules_of("e", ["LAST"] + [f"e OP{k} e" for k in range(n)])
+
+
+def one_empty(n):
+    """One complete item beside N others in each of 100 states, and N tokens."""
+    start = rules_of("s", ["LAST" + " LAST a" * 100]) + rules_of("a", ["", "b"])
+    return declared(["WORD"], n) + start + rules_of("b", ["LAST LAST"] * n)
+
+
 KINDS = {
     "levels": levels, "statements": statements, "options": options, "ring": ring, "ring-back": ring_back,
-    "ring-mixed": ring_mixed,    "limit": limit, "symbols": symbols, "text": text, "queries": queries,
+    "ring-mixed": ring_mixed, "limit": limit, "symbols": symbols, "text": text, "queries": queries,
+    "zigzag": zigzag, "web": web, "empties": empties, "operators": operators, "one-empty": one_empty,
 }
 
 if __name__ == "__main__":
