@@ -1,7 +1,7 @@
 #!/usr/bin/env python3
 """Compares the steps of both drivers with those of `ystep`, and shows them tables that are wrong.
 
-    check.py [--try] [--seed N] yacc=PATH ystep=PATH
+    check.py [--try] [--seed N] [--sessions N] yacc=PATH ystep=PATH
 
 Over the grammar and tokens of every scenario and example, and over 1,000 random ones, both drivers
 make the steps of `ystep`, line for line. Of 10,000 tables with bytes changed or cut both say the
@@ -33,7 +33,7 @@ from reader import LITERAL, value_of
 from spoil import spoiled
 from ydriver import Fault, Kind, Parser, Result, read_table
 
-SESSIONS, TABLES = 1_000, 10_000
+TABLES = 10_000
 MOST, FEW = 20_000, 200
 NAMED = {Kind.SHIFT, Kind.POP, Kind.DISCARD}
 WORD = re.compile(rb"%b|[^\s']+" % LITERAL.pattern)
@@ -161,14 +161,16 @@ def compare_spoiled(cases, programs, rng):
     return counts
 
 
-def compare_calculators(folder):
-    """Both calculators by one table, on sums whose answers are known."""
-    table, sums = TOP / "drivers/calculator.tab", (HERE / "sums").read_bytes()
-    wanted = (HERE / "answers").read_bytes()
-    python = [sys.executable, str(HERE / "python/calculator.py")]
-    for words in ([f"{folder}/calculator"], python):
-        ran = subprocess.run([*words, str(table)], input=sums, capture_output=True)
-        if ran.stdout != wanted or ran.stderr or ran.returncode:
+def compare_calculators(folder, way, programs):
+    """Both calculators, by the table of their grammar, on sums whose answers are known."""
+    files = {"calculator.y": (HERE / "calculator.y").read_bytes()}
+    run = Scenario(HERE, ["yacc", "calculator.y"], b"", files, {}, {}, {})
+    Path(f"{folder}/y.tab").write_bytes(way.run_all([run], programs)[0]["left/y.tab"])
+    program = build(folder, "calculator", "calculator.c", CHECKED)
+    for words in ([program], [sys.executable, str(HERE / "python/calculator.py")]):
+        sums = (HERE / "sums").read_bytes()
+        ran = subprocess.run([*words, f"{folder}/y.tab"], input=sums, capture_output=True)
+        if ran.returncode or ran.stderr or ran.stdout != (HERE / "answers").read_bytes():
             sys.exit(f"check.py: {words[-1]}\n{(ran.stdout + ran.stderr).decode()}")
 
 
@@ -184,6 +186,7 @@ def asked():
     parser = argparse.ArgumentParser(usage=__doc__)
     parser.add_argument("--try", action="store_true", dest="tries")
     parser.add_argument("--seed", type=int, default=1)
+    parser.add_argument("--sessions", type=int, default=1_000)
     parser.add_argument("programs", nargs="+")
     return parser.parse_args()
 
@@ -194,15 +197,17 @@ def main():
     programs = {name: str(Path(path).absolute()) for name, path in programs.items()}
     rng, way = random.Random(given.seed), tried if given.tries else proved
     pairs = list(dict.fromkeys(pairs_of_scenarios()))
-    cases = list(cases_of(pairs + [pair_at_random(rng) for _ in range(SESSIONS)], way, programs))
-    of_scenarios = len(cases) - SESSIONS
+    drawn = [pair_at_random(rng) for _ in range(given.sessions)]
+    cases = list(cases_of(pairs + drawn, way, programs))
+    of_scenarios = len(cases) - given.sessions
     with tempfile.TemporaryDirectory() as folder:
         plain = build(folder, "steps", "steps.c", ["-O2"])
         checked = build(folder, "checked", "steps.c", CHECKED)
         compare_steps(cases, [plain, checked])
         counts = compare_spoiled(cases, [plain, checked], rng)
+        compare_calculators(folder, way, programs)
     steps = sum(steps.count("\n") for _, _, steps in cases)
-    print(f"{of_scenarios} cases of scenarios, {SESSIONS} at random, {steps} steps: no difference")
+    print(f"{of_scenarios} cases of scenarios, {given.sessions} at random, {steps} steps: no difference")
     print(f"{TABLES} wrong tables: {', '.join(f'{n} {what}' for what, n in counts.most_common())}")
 
 

@@ -8,29 +8,34 @@
 enum { SYMBOLS = 4096, NUMBERS = 32767, RULES = 8192, LENGTH = 255, STATES = 16384 };
 enum { END = 0, ERROR = 1 };
 
-/* A cell is a state and a symbol. What it says: to which state, by which rule, or to accept. */
-enum { TO = 0, BY = 1, ACCEPT = 2, NOTHING = -1 };
-#define SAYS(kind, number) ((int32_t)(number) * 4 + (kind))
-#define FREE UINT32_MAX
+/* What a cell says: nothing, to accept, by which rule to reduce, or to which state to go. */
+enum { NOTHING = 0, ACCEPT = 1 };
+static uint16_t by(uint32_t rule) { return (uint16_t)(rule * 2 + 1); }
+static uint16_t to(uint32_t state) { return (uint16_t)(state * 2 + 2); }
+static int is_by(uint16_t says) { return says > ACCEPT && says % 2; }
+static int is_to(uint16_t says) { return says > ACCEPT && says % 2 == 0; }
+static int rule_of(uint16_t says) { return says / 2; }
+static int state_of(uint16_t says) { return says / 2 - 1; }
+
+/* Cells of one state, from the first symbol that has one to the last. Where there is none, `base` is
+   what all of them say. */
+typedef struct {
+  uint32_t base;
+  uint16_t first, count;
+} row;
 
 typedef struct {
-  uint32_t key;
-  int32_t says;
-} cell;
-
-typedef struct {
-  int32_t left, length;
+  uint16_t left, length;
 } rule;
 
-/* The cells stand in a table of hashes that is at least half free, a power of two long. */
+/* A state has a row for tokens and one for nonterminals. */
 struct yd_table {
   uint32_t symbols, tokens, rules, states;
-  uint32_t mask, shift;
-  cell *cells;
-  rule *rule;
-  int32_t *by_default; /* the rule of each state, or NOTHING */
-  int32_t *number;     /* of each token */
   char **name;
+  row *actions, *gotos;
+  int32_t *number; /* of each token */
+  rule *rule;
+  uint16_t *cells;
 };
 
 /* ---- Reading ---- */
@@ -45,7 +50,7 @@ typedef struct {
 /* What a table holds; and the table itself, once it has its memory. */
 typedef struct {
   uint32_t symbols, tokens, rules, states;
-  size_t cells, names;
+  size_t cells, names; /* how many of them, so far */
   char *free_name;
   yd_table *table;
 } content;
@@ -144,95 +149,103 @@ static int take_rule(reader *from, content *found, uint32_t number) {
   if (!take_this(from, number) || !take(from, " ")) return 0;
   if (!take_number(from, found->tokens, found->symbols - 1, &left)) return 0;
   if (!take(from, " ") || !take_number(from, 0, LENGTH, &length)) return 0;
-  if (found->table) found->table->rule[number] = (rule){(int32_t)left, (int32_t)length};
+  if (found->table) found->table->rule[number] = (rule){(uint16_t)left, (uint16_t)length};
   return take_newline(from);
 }
 
-static uint32_t key_of(const yd_table *table, uint32_t state, uint32_t symbol) {
-  return state * table->symbols + symbol;
-}
-
-static uint32_t place_of(const yd_table *table, uint32_t key) {
-  return key * UINT32_C(2654435769) >> table->shift;
-}
-
-static void add_cell(content *found, uint32_t state, uint32_t symbol, int32_t says) {
-  yd_table *table = found->table;
-  found->cells++;
-  if (!table) return;
-  uint32_t key = key_of(table, state, symbol), at = place_of(table, key);
-  while (table->cells[at].key != FREE) at = (at + 1) & table->mask;
-  table->cells[at] = (cell){key, says};
+/* Adds a cell to the end of a row, and those without anything to say that stand before it. */
+static void add_cell(content *found, row *of, uint32_t symbol, uint16_t says) {
+  if (!of->count) *of = (row){(uint32_t)found->cells, (uint16_t)symbol, 0};
+  found->cells += symbol + 1 - of->first - of->count;
+  of->count = (uint16_t)(symbol + 1 - of->first);
+  if (found->table) found->table->cells[found->cells - 1] = says;
 }
 
 /* Reads what a cell of a token says. */
-static int take_action(reader *from, content *found, uint32_t symbol, int32_t *says) {
+static int take_action(reader *from, const content *found, uint32_t symbol, uint16_t *says) {
   uint32_t number;
-  *says = SAYS(ACCEPT, 0);
+  *says = ACCEPT;
   if (symbol == END && sees(from, 'a')) return take(from, "acc");
   if (sees(from, 'r')) {
     if (!take(from, "r ") || !take_number(from, 1, found->rules - 1, &number)) return 0;
-    *says = SAYS(BY, number);
+    *says = by(number);
     return 1;
   }
   if (symbol == END) return refuse(from, "the end is not shifted");
   if (!take(from, "s ") || !take_number(from, 0, found->states - 1, &number)) return 0;
-  *says = SAYS(TO, number);
+  *says = to(number);
   return 1;
 }
 
-/* The line that was read last among those of the states: its state, its letter, its symbol. */
+/* A line of a state: its letter, its state, its symbol, and what it says. */
 typedef struct {
-  uint32_t state, symbol;
   char letter;
-} order;
+  uint32_t state, symbol;
+  uint16_t says;
+} line;
 
 /* Lines go by states; in one, `d` alone or `a` by symbols, and then `g` by symbols. */
-static int is_behind(const order *last, const order *next) {
+static int is_behind(const line *last, const line *next) {
   if (next->state != last->state || !last->letter) return next->state >= last->state;
   if (next->letter != last->letter) return next->letter == 'g';
   return next->letter != 'd' && next->symbol > last->symbol;
 }
 
-/* Reads the symbol of a line, and what stands behind it. */
-static int take_cell(reader *from, content *found, order *next) {
-  uint32_t to;
-  int32_t says = NOTHING;
-  int is_token = next->letter == 'a';
-  uint32_t least = is_token ? 0 : found->tokens;
-  uint32_t most = (is_token ? found->tokens : found->symbols) - 1;
-  if (!take(from, " ") || !take_number(from, least, most, &next->symbol)) return 0;
-  if (!take(from, " ")) return 0;
-  if (is_token && !take_action(from, found, next->symbol, &says)) return 0;
-  if (!is_token && !take_number(from, 0, found->states - 1, &to)) return 0;
-  add_cell(found, next->state, next->symbol, is_token ? says : SAYS(TO, to));
+static int take_action_line(reader *from, const content *found, line *next) {
+  return take_number(from, 0, found->tokens - 1, &next->symbol) && take(from, " ") &&
+         take_action(from, found, next->symbol, &next->says);
+}
+
+static int take_default_line(reader *from, const content *found, line *next) {
+  uint32_t number = 0;
+  if (!take_number(from, 1, found->rules - 1, &number)) return 0;
+  next->says = by(number);
   return 1;
 }
 
-/* Reads the rule by which a state always reduces. */
-static int take_default(reader *from, content *found, uint32_t state) {
-  uint32_t number;
-  if (!take(from, " ") || !take_number(from, 1, found->rules - 1, &number)) return 0;
-  if (found->table) found->table->by_default[state] = (int32_t)number;
+static int take_goto_line(reader *from, const content *found, line *next) {
+  uint32_t number = 0;
+  if (!take_number(from, found->tokens, found->symbols - 1, &next->symbol)) return 0;
+  if (!take(from, " ") || !take_number(from, 0, found->states - 1, &number)) return 0;
+  next->says = to(number);
   return 1;
 }
 
-static int take_line(reader *from, content *found, order *last) {
-  order next = {0, 0, from->text < from->end ? *from->text : '\0'};
-  if (!next.letter || !strchr("adg", next.letter))
+static int take_state_line(reader *from, const content *found, line *next) {
+  next->letter = from->text < from->end ? *from->text : '\0';
+  if (next->letter != 'a' && next->letter != 'd' && next->letter != 'g')
     return refuse(from, "a line of a state, or the end, is wanted here");
   from->text++;
-  if (!take(from, " ") || !take_number(from, 0, found->states - 1, &next.state)) return 0;
-  if (!(next.letter == 'd' ? take_default(from, found, next.state) : take_cell(from, found, &next)))
-    return 0;
-  if (!is_behind(last, &next)) return refuse(from, "this line is out of order");
-  *last = next;
-  return take_newline(from);
+  if (!take(from, " ") || !take_number(from, 0, found->states - 1, &next->state)) return 0;
+  if (!take(from, " ")) return 0;
+  if (next->letter == 'a') return take_action_line(from, found, next);
+  return next->letter == 'd' ? take_default_line(from, found, next)
+                             : take_goto_line(from, found, next);
+}
+
+/* Keeps a line. Without a table, the row that it belongs to is `open`, and is only counted. */
+static void keep(content *found, row *open, const line *last, const line *next) {
+  yd_table *table = found->table;
+  if (next->state != last->state || next->letter != last->letter) *open = (row){0, 0, 0};
+  if (next->letter != 'd') add_cell(found, open, next->symbol, next->says);
+  if (next->letter == 'd') open->base = next->says;
+  if (table) (next->letter == 'g' ? table->gotos : table->actions)[next->state] = *open;
+}
+
+static int take_states(reader *from, content *found) {
+  line last = {0}, next = {0};
+  row open = {0};
+  for (; !sees(from, 'e'); last = next) {
+    if (!take_state_line(from, found, &next)) return 0;
+    if (!is_behind(&last, &next)) return refuse(from, "this line is out of order");
+    keep(found, &open, &last, &next);
+    if (!take_newline(from)) return 0;
+  }
+  return 1;
 }
 
 /* Reads a whole table. */
 static int take_table(reader *from, content *found) {
-  order last = {0, 0, '\0'};
   if (!take(from, "table 2") || !take_newline(from)) return 0;
   if (!take_count(from, "symbols ", 4, SYMBOLS, &found->symbols)) return 0;
   for (uint32_t at = 0; at < found->symbols; at++)
@@ -242,37 +255,26 @@ static int take_table(reader *from, content *found) {
   for (uint32_t at = 0; at < found->rules; at++)
     if (!take_rule(from, found, at)) return 0;
   if (!take_count(from, "states ", 1, STATES, &found->states)) return 0;
-  while (!sees(from, 'e'))
-    if (!take_line(from, found, &last)) return 0;
-  if (!take(from, "end") || !take_newline(from)) return 0;
+  if (!take_states(from, found) || !take(from, "end") || !take_newline(from)) return 0;
   return from->text == from->end ? 1 : refuse(from, "there is more behind the end");
 }
 
-/* How many places the cells take. */
-static size_t places_for(size_t cells) {
-  size_t places = 2;
-  while (places < cells * 2) places *= 2;
-  return places;
-}
-
-/* A table without content, of the size of another one's, in one block. */
+/* A table without content, of this size, in one block. */
 static yd_table *room_for(const content *found) {
-  size_t places = places_for(found->cells);
-  size_t bytes = sizeof(yd_table) + found->symbols * sizeof(char *) + places * sizeof(cell) +
-                 found->rules * sizeof(rule) +
-                 (found->states + found->symbols) * sizeof(int32_t) + found->names;
-  yd_table *table = malloc(bytes);
+  size_t symbols = found->symbols, rules = found->rules, states = found->states;
+  size_t bytes = sizeof(yd_table) + symbols * (sizeof(char *) + sizeof(int32_t)) +
+                 2 * states * sizeof(row) + rules * sizeof(rule) +
+                 found->cells * sizeof(uint16_t) + found->names;
+  yd_table *table = calloc(1, bytes);
   if (!table) return NULL;
   *table = (yd_table){found->symbols, found->tokens, found->rules, found->states,
-                      (uint32_t)places - 1, 32, NULL, NULL, NULL, NULL, NULL};
-  for (size_t left = places; left > 1; left /= 2) table->shift--;
+                      NULL, NULL, NULL, NULL, NULL, NULL};
   table->name = (char **)(table + 1);
-  table->cells = (cell *)(table->name + found->symbols);
-  table->rule = (rule *)(table->cells + places);
-  table->by_default = (int32_t *)(table->rule + found->rules);
-  table->number = table->by_default + found->states;
-  memset(table->cells, 0xff, places * sizeof(cell));
-  memset(table->by_default, 0xff, (found->states + found->symbols) * sizeof(int32_t));
+  table->actions = (row *)(table->name + symbols);
+  table->gotos = table->actions + states;
+  table->number = (int32_t *)(table->gotos + states);
+  table->rule = (rule *)(table->number + symbols);
+  table->cells = (uint16_t *)(table->rule + rules);
   return table;
 }
 
@@ -287,7 +289,7 @@ yd_table *yd_read(const char *text, size_t length, yd_fault *fault) {
   if (!take_table(&first, &found)) return refused(fault, first.line, first.what);
   filled.table = room_for(&found);
   if (!filled.table) return refused(fault, 0, "no memory");
-  filled.free_name = (char *)(filled.table->number + found.symbols);
+  filled.free_name = (char *)(filled.table->cells + found.cells);
   take_table(&second, &filled);
   return filled.table;
 }
@@ -322,28 +324,28 @@ typedef struct {
   yd_span span;
 } ahead;
 
-static int32_t cell_of(const yd_table *table, int state, int symbol) {
-  uint32_t key = key_of(table, (uint32_t)state, (uint32_t)symbol), at = place_of(table, key);
-  for (;; at = (at + 1) & table->mask) {
-    if (table->cells[at].key == key) return table->cells[at].says;
-    if (table->cells[at].key == FREE) return NOTHING;
-  }
+static uint16_t cell_of(const yd_table *table, const row *of, int symbol) {
+  uint32_t at = (uint32_t)symbol - of->first;
+  if (at < of->count) return table->cells[of->base + at];
+  return of->count ? NOTHING : (uint16_t)of->base;
 }
 
-static int32_t action_of(const yd_table *table, int state, int token) {
-  int32_t rule = table->by_default[state];
-  return rule == NOTHING ? cell_of(table, state, token) : SAYS(BY, rule);
+static uint16_t action_of(const yd_parser *parser, int token) {
+  return cell_of(parser->table, &parser->table->actions[parser->top->state], token);
 }
 
-static int can_grow(yd_parser *parser) {
-  if (parser->depth + 1 < parser->room) return 1;
-  size_t room = parser->room ? parser->room * 2 : 64;
+static int is_full(const yd_parser *parser) { return parser->top == parser->last; }
+
+static int grow(yd_parser *parser) {
+  size_t used = parser->stack ? (size_t)(parser->last - parser->stack) + 1 : 0;
+  size_t room = used ? used * 2 : 64;
   if (room > SIZE_MAX / sizeof(yd_entry)) return 0;
   yd_entry *stack = realloc(parser->stack, room * sizeof *stack);
   if (!stack) return 0;
-  if (!parser->stack) memset(stack, 0, sizeof *stack);
+  if (!used) memset(stack, 0, sizeof *stack);
+  parser->top = stack + (used ? parser->top - parser->stack : 0);
   parser->stack = stack;
-  parser->room = room;
+  parser->last = stack + room - 1;
   return 1;
 }
 
@@ -357,11 +359,11 @@ static void drop(yd_parser *parser, int symbol, yd_value value, yd_span span) {
 }
 
 static outcome shift(yd_parser *parser, const ahead *next, int state) {
-  if (!can_grow(parser)) return NO_MEMORY;
+  if (is_full(parser) && !grow(parser)) return NO_MEMORY;
   yd_value value = next->value;
   const yd_calls *calls = &parser->calls;
   if (calls->shift) value = calls->shift(calls->context, next->token, value, next->span);
-  parser->stack[++parser->depth] = (yd_entry){state, next->token, value, next->span};
+  *++parser->top = (yd_entry){state, next->token, value, next->span};
   if (parser->counter) parser->counter--;
   tell(parser, YD_SHIFT, next->token);
   return TAKEN;
@@ -373,25 +375,23 @@ static yd_span span_of(const yd_entry *entries, size_t count) {
   return (yd_span){entries->span.begin, entries[count - 1].span.end};
 }
 
-static yd_value value_of(yd_parser *parser, int number, const yd_entry *entries) {
-  const rule *by = &parser->table->rule[number];
-  const yd_calls *calls = &parser->calls;
+static yd_value value_of(const yd_calls *calls, int number, rule with, const yd_entry *entries) {
   if (calls->reduce)
-    return calls->reduce(calls->context, number, by->left, entries, (size_t)by->length);
-  return by->length ? entries->value : (yd_value){0};
+    return calls->reduce(calls->context, number, with.left, entries, with.length);
+  return with.length ? entries->value : (yd_value){0};
 }
 
 static outcome reduce(yd_parser *parser, int number) {
-  const rule *by = &parser->table->rule[number];
-  size_t length = (size_t)by->length;
-  if (length > parser->depth) return BROKEN;
-  int32_t says = cell_of(parser->table, parser->stack[parser->depth - length].state, by->left);
+  const yd_table *table = parser->table;
+  rule with = table->rule[number];
+  if (with.length > parser->top - parser->stack) return BROKEN;
+  uint16_t says = cell_of(table, &table->gotos[(parser->top - with.length)->state], with.left);
   if (says == NOTHING) return BROKEN;
-  if (!length && !can_grow(parser)) return NO_MEMORY;
-  yd_entry *entries = parser->stack + (parser->depth - length + 1);
-  yd_value value = value_of(parser, number, entries);
-  *entries = (yd_entry){says / 4, by->left, value, span_of(entries, length)};
-  parser->depth = parser->depth - length + 1;
+  if (!with.length && is_full(parser) && !grow(parser)) return NO_MEMORY;
+  yd_entry *first = parser->top - with.length + 1;
+  yd_value value = value_of(&parser->calls, number, with, first);
+  *first = (yd_entry){state_of(says), with.left, value, span_of(first, with.length)};
+  parser->top = first;
   tell(parser, YD_REDUCE, number);
   return STEPPED;
 }
@@ -424,19 +424,19 @@ static outcome discard(yd_parser *parser, const ahead *next) {
 }
 
 static outcome shift_error(yd_parser *parser, const ahead *next, int state) {
-  if (!can_grow(parser)) return NO_MEMORY;
+  if (is_full(parser) && !grow(parser)) return NO_MEMORY;
   yd_span span = {parser->lost_begin, next->span.end};
-  parser->stack[++parser->depth] = (yd_entry){state, ERROR, (yd_value){0}, span};
+  *++parser->top = (yd_entry){state, ERROR, (yd_value){0}, span};
   parser->mode = YD_RUNNING;
   tell(parser, YD_SHIFT_ERROR, next->token);
   return STEPPED;
 }
 
 static outcome pop(yd_parser *parser, const ahead *next) {
-  int32_t says = action_of(parser->table, parser->stack[parser->depth].state, ERROR);
-  if (says >= 0 && says % 4 == TO) return shift_error(parser, next, says / 4);
-  if (!parser->depth) return end_as(parser, YD_GIVEN_UP, YD_FAIL, next);
-  yd_entry top = parser->stack[parser->depth--];
+  uint16_t says = action_of(parser, ERROR);
+  if (is_to(says)) return shift_error(parser, next, state_of(says));
+  if (parser->top == parser->stack) return end_as(parser, YD_GIVEN_UP, YD_FAIL, next);
+  yd_entry top = *parser->top--;
   parser->lost_begin = top.span.begin;
   drop(parser, top.symbol, top.value, top.span);
   tell(parser, YD_POP, top.symbol);
@@ -445,41 +445,41 @@ static outcome pop(yd_parser *parser, const ahead *next) {
 
 static outcome step(yd_parser *parser, const ahead *next) {
   if (parser->mode == YD_POPPING) return pop(parser, next);
-  int32_t says = action_of(parser->table, parser->stack[parser->depth].state, next->token);
+  uint16_t says = action_of(parser, next->token);
+  if (is_by(says)) return reduce(parser, rule_of(says));
+  if (is_to(says)) return shift(parser, next, state_of(says));
   if (says == NOTHING) return parser->counter < 3 ? detect(parser, next) : discard(parser, next);
-  if (says % 4 == BY) return reduce(parser, says / 4);
-  if (says % 4 == TO) return shift(parser, next, says / 4);
-  return parser->depth == 1 ? end_as(parser, YD_DONE, YD_ACCEPT, next) : BROKEN;
+  int is_whole = parser->top - parser->stack == 1;
+  return is_whole ? end_as(parser, YD_DONE, YD_ACCEPT, next) : BROKEN;
 }
 
-/* Makes the reductions that need no token ahead. Where one can't be made, the next token meets it
-   again. */
-static void settle(yd_parser *parser) {
-  outcome made = STEPPED;
-  while (made == STEPPED && parser->spent < parser->limit) {
-    int32_t rule = parser->table->by_default[parser->stack[parser->depth].state];
-    made = rule == NOTHING ? ENDED : reduce(parser, rule);
-  }
+/* Whether the state on top reduces without a token ahead. */
+static int reduces_alone(const yd_parser *parser) {
+  const row *actions = &parser->table->actions[parser->top->state];
+  return !actions->count && actions->base != NOTHING;
 }
 
 static yd_result result_of(const yd_parser *parser, outcome made) {
   if (made == NO_MEMORY) return YD_NO_MEMORY;
   if (made == BROKEN) return YD_BROKEN;
   if (parser->mode == YD_DONE) return YD_ACCEPTED;
-  if (parser->mode == YD_GIVEN_UP) return YD_FAILED;
-  return made == STEPPED ? YD_LIMIT : YD_MORE;
+  return parser->mode == YD_GIVEN_UP ? YD_FAILED : YD_LIMIT;
 }
 
+/* A reduction that can't be made once the token is taken is left to the next token. */
 static yd_result push(yd_parser *parser, const ahead *next) {
-  outcome made = STEPPED;
-  if (parser->mode >= YD_DONE) return result_of(parser, ENDED);
-  if (!parser->stack && !can_grow(parser)) return YD_NO_MEMORY;
-  while (made == STEPPED && parser->spent < parser->limit) made = step(parser, next);
-  if (made == TAKEN) {
-    parser->spent = 0;
-    settle(parser);
+  outcome made = parser->mode < YD_DONE ? STEPPED : ENDED;
+  int is_taken = 0;
+  if (!parser->stack && !grow(parser)) return YD_NO_MEMORY;
+  while (made <= TAKEN && parser->spent < parser->limit) {
+    made = step(parser, next);
+    if (made == TAKEN) {
+      is_taken = 1;
+      parser->spent = 0;
+    }
+    if (is_taken && !reduces_alone(parser)) break;
   }
-  return result_of(parser, made);
+  return is_taken ? YD_MORE : result_of(parser, made);
 }
 
 void yd_start(yd_parser *parser, const yd_table *table, yd_calls calls) {
@@ -501,11 +501,8 @@ yd_result yd_finish(yd_parser *parser, yd_span span) {
 }
 
 void yd_stop(yd_parser *parser) {
-  for (; parser->depth; parser->depth--) {
-    const yd_entry *top = &parser->stack[parser->depth];
-    drop(parser, top->symbol, top->value, top->span);
-  }
+  for (; parser->top > parser->stack; parser->top--)
+    drop(parser, parser->top->symbol, parser->top->value, parser->top->span);
   free(parser->stack);
-  parser->stack = NULL;
-  parser->room = 0;
+  parser->stack = parser->top = parser->last = NULL;
 }

@@ -79,9 +79,8 @@ typedef enum { YD_RUNNING, YD_POPPING, YD_DONE, YD_GIVEN_UP } yd_mode;
 typedef struct {
   const yd_table *table;
   yd_calls calls;
-  yd_entry *stack; /* NULL before the first token; stack[0] is the bottom, with state 0 */
-  size_t depth;    /* the entries above the bottom */
-  size_t room;
+  /* NULL before the first token. stack[0] is the bottom, with state 0; entries go up to `top`. */
+  yd_entry *stack, *top, *last;
   yd_mode mode;
   int counter;       /* 3 behind an error, and one less for each token that is shifted */
   size_t errors;     /* the errors that were reported */
