@@ -18,7 +18,7 @@
 
 programs := $(foreach file,$(wildcard crates/*/src/main.rt),$(notdir $(file:/src/main.rt=)))
 run := python3 scenarios/run.py $(foreach name,$(programs),$(name)=crates/$(name)/out/$(name))
-both := --at scenarios --at examples --at docs/TUTORIAL.md
+both := --at scenarios --at examples --at docs/TUTORIAL.md --at docs/FAULTS.md
 hostile := python3 scripts/hostile.py $(foreach name,yacc ystep,$(name)=crates/$(name)/out/$(name))
 refuse := python3 scripts/refuse.py $(foreach name,$(programs),$(name)=crates/$(name)/out/$(name))
 

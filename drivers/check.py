@@ -6,7 +6,8 @@
 Over the grammar and tokens of every scenario and example, and over 1,000 random ones, both drivers
 make the steps of `ystep`, line for line. Of 10,000 tables with bytes changed or cut both say the
 same: the line that is at fault, or the same steps. C runs as it is and with the sanitizers of the
-compiler (CC, or cc). Both calculators answer alike. With --try the programs are built by `rt try`.
+compiler (CC, or cc). Both calculators, and the program of the tutorial, answer as they should.
+With --try the programs are built by `rt try`.
 """
 import argparse
 import os
@@ -29,6 +30,7 @@ import tried
 from folders import Fault as NoScenario
 from folders import Scenario, found_below, read
 from grammars import grammar_of, tokens_of
+from pages import blocks_of
 from reader import LITERAL, value_of
 from spoil import spoiled
 from ydriver import Fault, Kind, Parser, Result, read_table
@@ -161,17 +163,39 @@ def compare_spoiled(cases, programs, rng):
     return counts
 
 
+def table_of(grammar, way, programs):
+    """The table of a grammar."""
+    run = Scenario(HERE, ["yacc", "grammar"], b"", {"grammar": grammar}, {}, {}, {})
+    return way.run_all([run], programs)[0]["left/y.tab"]
+
+
+def compare_answers(words, given, answers):
+    """Whether a program answers as it should."""
+    where = {**os.environ, "PYTHONPATH": str(HERE / "python")}
+    ran = subprocess.run(words, input=given, capture_output=True, env=where)
+    if ran.returncode or ran.stderr or ran.stdout != answers:
+        sys.exit(f"check.py: {words[-2]}\n{(ran.stdout + ran.stderr).decode()}")
+
+
 def compare_calculators(folder, way, programs):
-    """Both calculators, by the table of their grammar, on sums whose answers are known."""
-    files = {"calculator.y": (HERE / "calculator.y").read_bytes()}
-    run = Scenario(HERE, ["yacc", "calculator.y"], b"", files, {}, {}, {})
-    Path(f"{folder}/y.tab").write_bytes(way.run_all([run], programs)[0]["left/y.tab"])
-    program = build(folder, "calculator", "calculator.c", CHECKED)
-    for words in ([program], [sys.executable, str(HERE / "python/calculator.py")]):
-        sums = (HERE / "sums").read_bytes()
-        ran = subprocess.run([*words, f"{folder}/y.tab"], input=sums, capture_output=True)
-        if ran.returncode or ran.stderr or ran.stdout != (HERE / "answers").read_bytes():
-            sys.exit(f"check.py: {words[-1]}\n{(ran.stdout + ran.stderr).decode()}")
+    """Both calculators, on sums whose answers are known."""
+    table = Path(f"{folder}/calculator.tab")
+    table.write_bytes(table_of((HERE / "calculator.y").read_bytes(), way, programs))
+    in_c = build(folder, "calculator", "calculator.c", CHECKED)
+    for words in ([in_c], [sys.executable, str(HERE / "python/calculator.py")]):
+        sums, answers = (HERE / "sums").read_bytes(), (HERE / "answers").read_bytes()
+        compare_answers([*words, str(table)], sums, answers)
+
+
+def compare_tutorial(folder, way, programs):
+    """The program of the tutorial, on its questions."""
+    blocks = blocks_of((TOP / "docs/TUTORIAL.md").read_text())
+    files = {name: "".join(lines).encode() for kind, name, lines, _ in blocks if kind == "file"}
+    table, program = Path(f"{folder}/queries.tab"), Path(f"{folder}/ask.py")
+    table.write_bytes(table_of(files["queries.y"], way, programs))
+    program.write_bytes(files["ask.py"])
+    words = [sys.executable, str(program), str(table)]
+    compare_answers(words, files["questions"], files["answers"])
 
 
 def build(folder, name, main, flags):
@@ -206,6 +230,7 @@ def main():
         compare_steps(cases, [plain, checked])
         counts = compare_spoiled(cases, [plain, checked], rng)
         compare_calculators(folder, way, programs)
+        compare_tutorial(folder, way, programs)
     steps = sum(steps.count("\n") for _, _, steps in cases)
     print(f"{of_scenarios} cases of scenarios, {given.sessions} at random, {steps} steps: no difference")
     print(f"{TABLES} wrong tables: {', '.join(f'{n} {what}' for what, n in counts.most_common())}")
