@@ -65,6 +65,7 @@ bin/libydriver.a: drivers/c/ydriver.c drivers/c/ydriver.h
 drivers: build bin/libydriver.a
 	@python3 drivers/check.py yacc=bin/yacc ystep=bin/ystep
 
+.PHONY: bin/ydriver.pc
 bin/ydriver.pc: drivers/c/ydriver.pc.in Makefile
 	@mkdir -p bin
 	@sed 's,@PREFIX@,$(PREFIX),; s,@VERSION@,$(VERSION),' $< > $@
