@@ -1,7 +1,7 @@
-/* Parses the numbers in a file five times, and prints the tokens of a second in the fastest. With
+/* Parses the numbers in a file five times, and prints the million tokens of a second
+   of processor time in the fastest. With
    PARSER, the file of a parser of byacc, by that one; else by the driver and the table that the
    second word names. See drivers/speed.py. */
-#define _POSIX_C_SOURCE 199309L
 #include <stdio.h>
 #include <stdlib.h>
 #include <time.h>
@@ -66,11 +66,7 @@ static int parse_all(const char *path) {
 }
 #endif
 
-static double now(void) {
-  struct timespec time;
-  clock_gettime(CLOCK_MONOTONIC, &time);
-  return (double)time.tv_sec + (double)time.tv_nsec / 1e9;
-}
+static double now(void) { return (double)clock() / CLOCKS_PER_SEC; }
 
 int main(int words, char **word) {
   double least = 1e9;
