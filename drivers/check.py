@@ -41,6 +41,8 @@ NAMED = {Kind.SHIFT, Kind.POP, Kind.DISCARD}
 WORD = re.compile(rb"%b|[^\s']+" % LITERAL.pattern)
 STRICT = ["-std=c99", "-Wall", "-Wextra", "-Wpedantic", "-Wconversion", "-Werror"]
 CHECKED = ["-g", "-O1", "-fsanitize=address,undefined", "-fno-sanitize-recover=all"]
+# As it is, with the sanitizers, and where each growth of the stack is refused once.
+WAYS = {"plain": ["-O2"], "checked": CHECKED, "refusing": ["-O2", "-Drealloc=refusing"]}
 
 
 def pairs_of_scenarios():
@@ -136,23 +138,22 @@ def differ(what, case, wanted, made):
 
 
 def compare_steps(cases, programs):
-    """Both drivers against `ystep`."""
-    made = [steps_of_c(program, cases, MOST) for program in programs]
-    made.append([steps_of_python(table, names, MOST) for table, names, _ in cases])
-    for case, *answers in zip(cases, *made):
-        wanted = case[2].removesuffix("halted\n")
-        for what, (steps, _) in zip(("C", "C with sanitizers", "Python"), answers):
-            if steps != wanted:
-                differ(what, case, wanted, steps)
+    """Both drivers against `ystep`; the one in C as each of the programs."""
+    made = {name: steps_of_c(program, cases, MOST) for name, program in programs.items()}
+    made["python"] = [steps_of_python(table, names, MOST) for table, names, _ in cases]
+    for name, answers in made.items():
+        for case, (steps, _) in zip(cases, answers):
+            if steps != case[2]:
+                differ(name, case, case[2], steps)
 
 
-def compare_spoiled(cases, programs, rng):
+def compare_spoiled(cases, program, rng):
     """Both drivers on tables that are cut or changed; how often each thing came of them."""
     short = [case for case in cases if len(case[0]) < 20_000 and len(case[1]) < 100]
     drawn = [rng.choice(short) for _ in range(TABLES)]
     tables = [spoiled(table, rng) for table, _, _ in drawn]
     wrong = [(table, names, way) for (table, way), (_, names, _) in zip(tables, drawn)]
-    counts, in_c = Counter(), steps_of_c(programs[1], wrong, FEW)
+    counts, in_c = Counter(), steps_of_c(program, wrong, FEW)
     for case, theirs in zip(wrong, in_c):
         ours = steps_of_python(case[0], case[1], FEW)
         if case[2] == "cut" and not theirs[1].startswith(f"line {case[0].count(10) + 1}: "):
@@ -225,10 +226,9 @@ def main():
     cases = list(cases_of(pairs + drawn, way, programs))
     of_scenarios = len(cases) - given.sessions
     with tempfile.TemporaryDirectory() as folder:
-        plain = build(folder, "steps", "steps.c", ["-O2"])
-        checked = build(folder, "checked", "steps.c", CHECKED)
-        compare_steps(cases, [plain, checked])
-        counts = compare_spoiled(cases, [plain, checked], rng)
+        built = {name: build(folder, name, "steps.c", flags) for name, flags in WAYS.items()}
+        compare_steps(cases, built)
+        counts = compare_spoiled(cases, built["checked"], rng)
         compare_calculators(folder, way, programs)
         compare_tutorial(folder, way, programs)
     steps = sum(steps.count("\n") for _, _, steps in cases)

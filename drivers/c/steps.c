@@ -1,12 +1,27 @@
 /* Writes the steps of parses, for drivers/check.py. Standard input has any number of cases: a line
    `LENGTH TOKENS MOST`, LENGTH bytes of a table, and TOKENS lines with the name of a token each. The
    answer to each is a line for each step, at most MOST, as `ystep` has them, and `== ` with what
-   came of it. */
+   came of it. With -Drealloc=refusing each growth of a stack is refused once, and asked for again.
+*/
+#ifdef realloc
+#undef realloc
+#define REFUSES
+#endif
+
 #include "ydriver.h"
 
 #include <stdio.h>
 #include <stdlib.h>
 #include <string.h>
+
+#ifdef REFUSES
+void *refusing(void *old, size_t size);
+
+void *refusing(void *old, size_t size) {
+  static int turn;
+  return ++turn % 2 ? NULL : realloc(old, size);
+}
+#endif
 
 typedef struct {
   const yd_table *table;
@@ -28,16 +43,21 @@ static void write_step(void *context, yd_kind kind, int number) {
   putchar('\n');
 }
 
-/* A token out of reach for a while is one that the input doesn't have. */
+/* Pushes a token, or the end where there is no name, and once more where there was no memory. */
+static yd_result push(yd_parser *parser, const char *name, size_t place) {
+  yd_span span = {place, place};
+  int token = name ? yd_find(parser->table, name) : -1;
+  yd_result result = YD_NO_MEMORY;
+  for (int turn = 0; turn < 64 && result == YD_NO_MEMORY; turn++)
+    result = name ? yd_push(parser, token, (yd_value){0}, span) : yd_finish(parser, span);
+  return result;
+}
+
 static yd_result push_all(yd_parser *parser, const trace *to, char **names, size_t count) {
   yd_result result = YD_MORE;
-  for (size_t at = 0; at < count && result == YD_MORE && to->made < to->most; at++) {
-    yd_span span = {at + 1, at + 1};
-    yd_value value = {(long)at};
-    result = yd_push(parser, yd_find(parser->table, names[at]), value, span);
-  }
-  if (result != YD_MORE || to->made >= to->most) return result;
-  return yd_finish(parser, (yd_span){count + 1, count + 1});
+  for (size_t at = 0; at <= count && result == YD_MORE && to->made < to->most; at++)
+    result = push(parser, names[at], at + 1);
+  return result;
 }
 
 static void parse(const yd_table *table, char **names, size_t count, size_t most) {

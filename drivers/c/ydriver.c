@@ -443,9 +443,8 @@ static outcome pop(yd_parser *parser, const ahead *next) {
   return STEPPED;
 }
 
-static outcome step(yd_parser *parser, const ahead *next) {
-  if (parser->mode == YD_POPPING) return pop(parser, next);
-  uint16_t says = action_of(parser, next->token);
+/* Does what the cell of the token ahead says. */
+static outcome act(yd_parser *parser, const ahead *next, uint16_t says) {
   if (is_by(says)) return reduce(parser, rule_of(says));
   if (is_to(says)) return shift(parser, next, state_of(says));
   if (says == NOTHING) return parser->counter < 3 ? detect(parser, next) : discard(parser, next);
@@ -453,10 +452,19 @@ static outcome step(yd_parser *parser, const ahead *next) {
   return is_whole ? end_as(parser, YD_DONE, YD_ACCEPT, next) : BROKEN;
 }
 
-/* Whether the state on top reduces without a token ahead. */
-static int reduces_alone(const yd_parser *parser) {
+static outcome step(yd_parser *parser, const ahead *next) {
+  if (parser->mode == YD_POPPING) return pop(parser, next);
+  return act(parser, next, action_of(parser, next->token));
+}
+
+/* Makes the reductions that need no token ahead. One that can't be made is left to the next
+   token. */
+static void settle(yd_parser *parser) {
   const row *actions = &parser->table->actions[parser->top->state];
-  return !actions->count && actions->base != NOTHING;
+  while (!actions->count && actions->base != NOTHING && parser->spent < parser->limit) {
+    if (reduce(parser, rule_of((uint16_t)actions->base)) != STEPPED) break;
+    actions = &parser->table->actions[parser->top->state];
+  }
 }
 
 static yd_result result_of(const yd_parser *parser, outcome made) {
@@ -466,20 +474,14 @@ static yd_result result_of(const yd_parser *parser, outcome made) {
   return parser->mode == YD_GIVEN_UP ? YD_FAILED : YD_LIMIT;
 }
 
-/* A reduction that can't be made once the token is taken is left to the next token. */
 static yd_result push(yd_parser *parser, const ahead *next) {
   outcome made = parser->mode < YD_DONE ? STEPPED : ENDED;
-  int is_taken = 0;
   if (!parser->stack && !grow(parser)) return YD_NO_MEMORY;
-  while (made <= TAKEN && parser->spent < parser->limit) {
-    made = step(parser, next);
-    if (made == TAKEN) {
-      is_taken = 1;
-      parser->spent = 0;
-    }
-    if (is_taken && !reduces_alone(parser)) break;
-  }
-  return is_taken ? YD_MORE : result_of(parser, made);
+  while (made == STEPPED && parser->spent < parser->limit) made = step(parser, next);
+  if (made != TAKEN) return result_of(parser, made);
+  parser->spent = 0;
+  settle(parser);
+  return YD_MORE;
 }
 
 void yd_start(yd_parser *parser, const yd_table *table, yd_calls calls) {
