@@ -225,6 +225,8 @@ def main():
     drawn = [pair_at_random(rng) for _ in range(given.sessions)]
     cases = list(cases_of(pairs + drawn, way, programs))
     of_scenarios = len(cases) - given.sessions
+    if of_scenarios < 1:
+        sys.exit("check.py: no scenario has a grammar and tokens")
     with tempfile.TemporaryDirectory() as folder:
         built = {name: build(folder, name, "steps.c", flags) for name, flags in WAYS.items()}
         compare_steps(cases, built)
@@ -232,7 +234,7 @@ def main():
         compare_calculators(folder, way, programs)
         compare_tutorial(folder, way, programs)
     steps = sum(steps.count("\n") for _, _, steps in cases)
-    print(f"{of_scenarios} cases of scenarios, {given.sessions} at random, {steps} steps: no difference")
+    print(f"{of_scenarios} cases of scenarios, {given.sessions} at random, {steps} steps: the same")
     print(f"{TABLES} wrong tables: {', '.join(f'{n} {what}' for what, n in counts.most_common())}")
 
 
