@@ -18,7 +18,10 @@ typedef union {
   void *pointer;
 } yd_value;
 
-/* Where a symbol stands in the input, in bytes, lines or whatever the caller counts. */
+/* Where a symbol stands in the input, in bytes, lines or whatever the caller counts. That of a left
+   side goes from where its first entry begins to where its last one ends; without entries it stands
+   where the entry below ends. That of `error` goes from the first entry that was popped to the token
+   that could not come. */
 typedef struct {
   size_t begin, end;
 } yd_span;

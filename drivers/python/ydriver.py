@@ -246,8 +246,8 @@ def read_table(text: bytes) -> Union[Table, Fault]:
 
 @dataclass(frozen=True)
 class Entry:
-    """An entry of the stack: its places are those of its first and its last token, or None where it
-    has none."""
+    """An entry of the stack. Its places are those of its first and its last token, or None where it
+    has none; those of `error` go from the first that was popped to the token that couldn't come."""
 
     state: int
     symbol: int
@@ -277,8 +277,8 @@ class Parser:
     reduce: Optional[Callable[[int, int, List[Entry]], Value]] = None
     # (token, place): an error is reported, this token cannot come
     error: Optional[Callable[[int, Place], None]] = None
-    # (symbol, value): an entry or a token is given up, and its value with it
-    drop: Optional[Callable[[int, Value], None]] = None
+    # (symbol, value, place): an entry or a token is given up, and its value with it
+    drop: Optional[Callable[[int, Value, Place], None]] = None
     # (kind, number): a step was made, with its symbol or its rule
     step: Optional[Callable[[Kind, int], None]] = None
     # the most steps with one token ahead
@@ -292,6 +292,8 @@ class Parser:
     errors: int = 0
     # the steps since the last token was taken
     spent: int = 0
+    # where what recovery took begins
+    lost: Place = None
 
     @property
     def value(self) -> Value:
@@ -383,13 +385,13 @@ class Parser:
             self.errors += 1
             if self.error:
                 self.error(ahead.token, ahead.place)
-        self.counter, self.mode = 3, Mode.POPPING
+        self.counter, self.mode, self.lost = 3, Mode.POPPING, ahead.place
         self._tell(Kind.DETECT, ahead.token)
 
     def _discard(self, ahead: _Ahead) -> Result:
         if ahead.token == END:
             return self._fail()
-        self._drop(ahead.token, ahead.value)
+        self._drop(ahead.token, ahead.value, ahead.place)
         self._tell(Kind.DISCARD, ahead.token)
         return Result.MORE
 
@@ -401,17 +403,18 @@ class Parser:
     def _pop(self, ahead: _Ahead) -> Optional[Result]:
         action = self.table.action(self.stack[-1].state, ERROR)
         if action and action[0] == "s":
-            self.stack.append(Entry(action[1], ERROR, None, ahead.place, ahead.place))
+            self.stack.append(Entry(action[1], ERROR, None, self.lost, ahead.place))
             self.mode = Mode.RUNNING
             self._tell(Kind.SHIFT_ERROR, ERROR)
             return None
         if len(self.stack) == 1:
             return self._fail()
         top = self.stack.pop()
-        self._drop(top.symbol, top.value)
+        self.lost = self.lost if top.first is None else top.first
+        self._drop(top.symbol, top.value, top.first)
         self._tell(Kind.POP, top.symbol)
         return None
 
-    def _drop(self, symbol: int, value: Value) -> None:
+    def _drop(self, symbol: int, value: Value, place: Place) -> None:
         if self.drop:
-            self.drop(symbol, value)
+            self.drop(symbol, value, place)
