@@ -7,16 +7,26 @@
 # make refuse     refuses allocations of a run, each once and each with all behind it, on every example and some scenarios; FILES="a.y b.y" refuses some thousands over these grammar files instead
 # make debug      refuses the allocations of ten sessions of ydebug in turn, gives it 100,000 random command lines over random grammars, and shows its screens at a terminal, which needs tmux
 # make compare    compares the programs that make build left with plain machines in Python, on grammars drawn at random, for a minute, and verdicts with sessions over every scenario; FILES="a.y b.y" adds these, cut off and spoiled, with a second reader
+# make drivers    builds the drivers in C and Python, and compares their steps with those of ystep, over scenarios, at random and by tables that are wrong
+# make install    copies programs, manual pages, drivers and books below PREFIX (/usr/local), and with DESTDIR below that; make build comes first
+# make uninstall  takes the same files away
+# make dist       packs what git has of this state into bin/; VERSION=1.0 names it
 # make hostile    runs both programs, proved, between devices that fail and on files and streams that are no one's friends
 # make edits      tries every wrong body that the prover must refuse, also those that the gate leaves out; some 40 minutes
 # make test       the gate: every proof from nothing, the wrong bodies in must-fail, the tests, the stored runs, the scenarios, make hostile, make refuse over three examples
-.PHONY: demo examples scenarios accept build bench refuse debug compare hostile edits test
+.PHONY: demo examples scenarios accept build bench refuse debug compare drivers install uninstall dist hostile edits test
 
 programs := $(foreach file,$(wildcard crates/*/src/main.rt),$(notdir $(file:/src/main.rt=)))
 run := python3 scenarios/run.py $(foreach name,$(programs),$(name)=crates/$(name)/out/$(name))
-both := --at scenarios --at examples
+both := --at scenarios --at examples --at docs/TUTORIAL.md --at docs/FAULTS.md
 hostile := python3 scripts/hostile.py $(foreach name,yacc ystep,$(name)=crates/$(name)/out/$(name))
 refuse := python3 scripts/refuse.py $(foreach name,$(programs),$(name)=crates/$(name)/out/$(name))
+
+PREFIX ?= /usr/local
+VERSION ?= 1.0
+there := $(DESTDIR)$(PREFIX)
+shared := share/ydriver
+books := share/doc/ydriver
 
 demo:
 	@sh examples/demo.sh statements
@@ -46,6 +56,54 @@ compare:
 	@python3 compare/compare.py bin/yacc bin/ystep
 	@python3 compare/verdicts.py bin/verdicts bin/ystep
 	@$(if $(FILES),python3 compare/faults.py bin/ystep $(FILES),true)
+
+bin/libydriver.a: drivers/c/ydriver.c drivers/c/ydriver.h
+	@mkdir -p bin
+	@$(CC) -std=c99 -O2 -Wall -Wextra -c -o bin/ydriver.o $<
+	@$(AR) rcs $@ bin/ydriver.o
+
+drivers: build bin/libydriver.a
+	@python3 drivers/check.py yacc=bin/yacc ystep=bin/ystep
+
+.PHONY: bin/ydriver.pc
+bin/ydriver.pc: drivers/c/ydriver.pc.in Makefile
+	@mkdir -p bin
+	@sed 's,@PREFIX@,$(PREFIX),; s,@VERSION@,$(VERSION),' $< > $@
+
+# What is copied: a mode, a file, and where it goes.
+define copies
+755 bin/yacc bin/yacc
+755 bin/ystep bin/ystep
+755 bin/ydebug bin/ydebug
+644 man/yacc.1 share/man/man1/yacc.1
+644 man/ystep.1 share/man/man1/ystep.1
+644 man/ydebug.1 share/man/man1/ydebug.1
+644 drivers/c/ydriver.h include/ydriver.h
+644 bin/libydriver.a lib/libydriver.a
+644 bin/ydriver.pc lib/pkgconfig/ydriver.pc
+644 drivers/c/ydriver.c $(shared)/ydriver.c
+644 drivers/c/calculator.c $(shared)/calculator.c
+644 drivers/python/ydriver.py $(shared)/ydriver.py
+644 drivers/python/calculator.py $(shared)/calculator.py
+644 drivers/calculator.y $(shared)/calculator.y
+644 docs/TUTORIAL.md $(books)/TUTORIAL.md
+644 docs/FORMATS.md $(books)/FORMATS.md
+644 docs/FAULTS.md $(books)/FAULTS.md
+endef
+export copies
+
+install: bin/libydriver.a bin/ydriver.pc
+	@for name in yacc ystep ydebug; do test -x bin/$$name || { echo "no bin/$$name: make build"; exit 1; }; done
+	@echo "$$copies" | while read -r mode from to; do \
+	  mkdir -p "$(there)/$${to%/*}" && install -m "$$mode" "$$from" "$(there)/$$to" || exit 1; done
+
+uninstall:
+	@echo "$$copies" | while read -r mode from to; do rm -f "$(there)/$$to" || exit 1; done
+	@for folder in $(shared) $(books); do rmdir "$(there)/$$folder" 2> /dev/null || true; done
+
+dist:
+	@mkdir -p bin
+	@git archive --prefix=ydriver-$(VERSION)/ -o bin/ydriver-$(VERSION).tar.gz HEAD
 
 hostile: build
 	@$(hostile)

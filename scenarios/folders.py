@@ -163,6 +163,8 @@ def came_back(stdout, message, status, room):
 def fill_in(scenario, made):
     """Keeps what came back as what is wanted, to be read by someone."""
     folder, plain = scenario.folder, wanted_of({}, scenario.inputs)
+    if not folder.is_dir():
+        raise Fault("what a page tells is written by hand")
     lost = plain.keys() - made.keys() - {"stdout"}
     if lost:
         raise Fault(f"it takes {min(lost)} away, which no scenario can want")

@@ -56,6 +56,49 @@ FAIL = {
 }
 
 
+# A page, of which the second session fails at its second command line, and the last one as a whole.
+PAGE = """A page.
+
+```file given
+of the page
+```
+
+```session
+$ p
+> cat given
+of the page
+> echo a > made
+```
+
+```left made
+a
+```
+
+```session
+$ p
+> echo one
+one
+> echo two; echo three
+two
+> echo four
+three
+four
+```
+
+```message status=3
+$ p
+> echo told >&2; exit 3
+told
+```
+
+```session status=1
+$ p
+> echo out
+out
+```
+"""
+
+
 def lay(root, scenarios):
     for name, files in scenarios.items():
         for path, text in files.items():
@@ -65,7 +108,7 @@ def lay(root, scenarios):
 
 
 def failed(root, *words):
-    """The names that a run says to fail, and its last line."""
+    """The names that a run says to fail, and its last line. A root is a folder, or a page."""
     program = root.parent / "p"
     given = [sys.executable, RUNNER, "--at", root, f"p={program}", *words]
     said = subprocess.run(given, capture_output=True, text=True).stdout
@@ -100,6 +143,21 @@ def look(room):
     ended.append(tell("unread", ["other-output"], failed(root, "other-output")[0]))
     (root / "other-output" / "about").write_text("One sentence.\n")
     ended.append(tell("read", [], failed(root, "other-output")[0]))
+    return all(ended) & look_at_pages(room)
+
+
+def look_at_pages(room):
+    """Whether runs over a page, over a session of it, and over a page without one end so."""
+    page, bare = room / "page.md", room / "bare.md"
+    page.write_text(PAGE)
+    bare.write_text("A page.\n")
+    bad = ["18/2", "35/1"]
+    ended = [tell("a page", (bad, "5 passed, 2 failed"), failed(page))]
+    ended.append(tell("a session", ([], "1 passed, 0 failed"), failed(page, "page.md/29")))
+    none = [str(bare), "scenarios"], "0 passed, 2 failed"
+    ended.append(tell("no session", none, failed(bare)))
+    failed(page, "--accept", "page.md/18")
+    ended.append(tell("an accepted page", PAGE, page.read_text()))
     return all(ended)
 
 

@@ -3,8 +3,8 @@
 
     run.py [--try | --or-try] [--accept] [--at ROOT].. PROGRAM=PATH.. [NAME..]
 
-ROOT holds scenarios (the folder of this file, unless given); NAME is one below a root, or a folder
-of some. PATH is a built program, crates/NAME/out/NAME. With --try the programs are built by `rt
+ROOT holds scenarios (the folder of this file, unless given), or is a page that tells some, NAME.md;
+NAME is one below a root, or a folder of some. PATH is a built program, crates/NAME/out/NAME. With --try the programs are built by `rt
 try`, without proof; with --or-try where one is older than a file of crates/ or crates.txt.
 --accept keeps what comes back of the named scenarios as what is wanted, and marks them unread.
 docs/FORMATS.md says what a scenario is. The last line is `N passed, M failed`.
@@ -20,6 +20,7 @@ import proved
 import tried
 from difference import differences
 from folders import Fault, fill_in, found_below, read, summed
+from pages import scenarios_of
 
 HERE = Path(__file__).resolve().parent
 
@@ -77,31 +78,48 @@ class Run:
         print(f"--- {name} FAILED")
         sys.stdout.writelines(lines)
 
+    def has_program(self, scenario):
+        program = scenario.words[0] if scenario.words else ""
+        if program not in self.programs:
+            self.fail(scenario.folder, [f"no program {program} was given\n"])
+        return program in self.programs
+
     def taken(self, folder, root):
         """The scenario of a folder, where nothing is wrong with it."""
         try:
             scenario = read(folder, root, self.accepting)
-            program = scenario.words[0] if scenario.words else ""
-            if program not in self.programs:
-                raise Fault(f"no program {program} was given")
-            return scenario
+            return scenario if self.has_program(scenario) else None
         except Fault as fault:
             self.fail(folder, [f"{fault}\n"])
             return None
 
+    def told(self, page, names):
+        """The scenarios of a page that are named, and whether there is one."""
+        try:
+            every = scenarios_of(page)
+        except (Fault, OSError) as fault:
+            self.fail(page, [f"{fault}\n"])
+            return []
+        some = [it for it in every if is_named(it.folder, page.parent, names)]
+        return [it for it in some if self.has_program(it)]
+
     def found(self, roots, names):
         """The scenarios that are named, of all roots."""
-        every = [(folder, root) for root in roots if root.is_dir() for folder in found_below(root)]
-        for root in roots:
+        pages = [root for root in roots if root.suffix == ".md"]
+        folders = [root for root in roots if root not in pages]
+        every = [(folder, root) for root in folders if root.is_dir() for folder in found_below(root)]
+        for root in folders:
             if not root.is_dir():
                 self.fail(root, ["no such folder\n"])
+        told = [it for page in pages for it in self.told(page, names)]
         for name in names:
-            if not any(is_named(*it, [name]) for it in every):
+            of_pages = any(is_named(it.folder, it.folder.parents[2], [name]) for it in told)
+            if not of_pages and not any(is_named(*it, [name]) for it in every):
                 self.fail(name, ["no scenario has this name\n"])
         some = [it for it in every if is_named(*it, names)]
-        if not some:
+        if not some and not told:
             self.fail("scenarios", ["there is none\n"])
-        return [it for it in (self.taken(*it) for it in some) if it]
+        return [it for it in (self.taken(*it) for it in some) if it] + told
 
     def look_for_programs(self):
         for name, path in self.programs.items():

@@ -1,0 +1,108 @@
+/* Writes the steps of parses, for drivers/check.py. Standard input has any number of cases: a line
+   `LENGTH TOKENS MOST`, LENGTH bytes of a table, and TOKENS lines with the name of a token each. The
+   answer to each is a line for each step, at most MOST, as `ystep` has them, and `== ` with what
+   came of it. With -Drealloc=refusing each growth of a stack is refused once, and asked for again.
+*/
+#ifdef realloc
+#undef realloc
+#define REFUSES
+#endif
+
+#include "ydriver.h"
+
+#include <stdio.h>
+#include <stdlib.h>
+#include <string.h>
+
+#ifdef REFUSES
+void *refusing(void *old, size_t size);
+
+void *refusing(void *old, size_t size) {
+  static int turn;
+  return ++turn % 2 ? NULL : realloc(old, size);
+}
+#endif
+
+typedef struct {
+  const yd_table *table;
+  size_t made, most;
+} trace;
+
+static const char *const words[] = {"shift ", "reduce ", "accept", "detect",
+                                    "pop ",   "shift error", "discard ", "fail"};
+static const char *const results[] = {"more",      "accepted", "failed", "no token",
+                                      "no memory", "limit",    "broken"};
+
+static void write_step(void *context, yd_kind kind, int number) {
+  trace *to = context;
+  if (++to->made > to->most) return;
+  printf("%zu %s", to->made, words[kind]);
+  if (kind == YD_REDUCE) printf("%d", number);
+  if (kind == YD_SHIFT || kind == YD_POP || kind == YD_DISCARD)
+    fputs(yd_name(to->table, number), stdout);
+  putchar('\n');
+}
+
+/* Pushes a token, or the end where there is no name, and once more where there was no memory. */
+static yd_result push(yd_parser *parser, const char *name, size_t place) {
+  yd_span span = {place, place};
+  int token = name ? yd_find(parser->table, name) : -1;
+  yd_result result = YD_NO_MEMORY;
+  for (int turn = 0; turn < 64 && result == YD_NO_MEMORY; turn++)
+    result = name ? yd_push(parser, token, (yd_value){0}, span) : yd_finish(parser, span);
+  return result;
+}
+
+static yd_result push_all(yd_parser *parser, const trace *to, char **names, size_t count) {
+  yd_result result = YD_MORE;
+  for (size_t at = 0; at <= count && result == YD_MORE && to->made < to->most; at++)
+    result = push(parser, names[at], at + 1);
+  return result;
+}
+
+static void parse(const yd_table *table, char **names, size_t count, size_t most) {
+  trace to = {table, 0, most};
+  yd_parser parser;
+  yd_start(&parser, table, (yd_calls){.context = &to, .step = write_step});
+  parser.limit = most;
+  yd_result result = push_all(&parser, &to, names, count);
+  printf("== %s\n", to.made >= most ? "cut" : results[result]);
+  yd_stop(&parser);
+}
+
+/* Exactly so many bytes, so that a read past their end is seen. */
+static char *read_bytes(size_t length) {
+  char *text = malloc(length ? length : 1);
+  if (!text || fread(text, 1, length, stdin) != length) exit(2);
+  return text;
+}
+
+static char *read_name(void) {
+  char line[4096];
+  if (!fgets(line, sizeof line, stdin)) exit(2);
+  line[strcspn(line, "\n")] = '\0';
+  char *name = malloc(strlen(line) + 1);
+  return name ? strcpy(name, line) : (exit(2), NULL);
+}
+
+static void answer(size_t length, size_t count, size_t most) {
+  char *text = read_bytes(length), **names = calloc(count + 1, sizeof *names);
+  if (!names) exit(2);
+  for (size_t at = 0; at < count; at++) names[at] = read_name();
+  yd_fault fault;
+  yd_table *table = yd_read(text, length, &fault);
+  free(text);
+  if (table) parse(table, names, count, most);
+  if (!table) printf("== line %zu: %s\n", fault.line, fault.what);
+  yd_free(table);
+  for (size_t at = 0; at < count; at++) free(names[at]);
+  free(names);
+}
+
+int main(void) {
+  size_t length, count, most;
+  char newline;
+  while (scanf("%zu %zu %zu%c", &length, &count, &most, &newline) == 4)
+    answer(length, count, most);
+  return 0;
+}

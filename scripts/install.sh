@@ -1,0 +1,41 @@
+#!/bin/sh
+# Tries `make install`, `make uninstall` and `make dist` in an empty folder: the programs run from
+# there, both calculators are built from what lies there, and nothing stays behind.
+#
+#     install.sh        after make build
+set -eu
+top=$(cd "$(dirname "$0")/.." && pwd)
+room=$(mktemp -d)
+trap 'rm -rf "$room"' EXIT
+there=$room/root/opt/y
+fail() { echo "install.sh: $1"; exit 1; }
+
+make -s -C "$top" install DESTDIR="$room/root" PREFIX=/opt/y
+cd "$room"
+
+"$there/bin/yacc" "$top/examples/one-rule/grammar.y"
+cmp y.tab "$top/examples/one-rule/tables/left/y.tab" || fail "another table"
+for page in yacc ystep ydebug; do
+  "$there/bin/$page" --help > /dev/null || fail "no help of $page"
+  test -s "$there/share/man/man1/$page.1" || fail "no page of $page"
+done
+
+"$there/bin/yacc" "$there/share/ydriver/calculator.y"
+export PKG_CONFIG_PATH="$there/lib/pkgconfig" PKG_CONFIG_SYSROOT_DIR="$room/root"
+# shellcheck disable=SC2046
+${CC:-cc} -std=c99 -o sums $(pkg-config --cflags ydriver) "$there/share/ydriver/calculator.c" \
+  $(pkg-config --libs ydriver)
+./sums y.tab < "$top/drivers/sums" | cmp - "$top/drivers/answers" || fail "other sums in C"
+python3 -B "$there/share/ydriver/calculator.py" y.tab < "$top/drivers/sums" |
+  cmp - "$top/drivers/answers" || fail "other sums in Python"
+
+make -s -C "$top" uninstall DESTDIR="$room/root" PREFIX=/opt/y
+left=$(find "$room/root" -type f)
+test -z "$left" || fail "left behind: $left"
+
+make -s -C "$top" dist VERSION=0
+tar xzf "$top/bin/ydriver-0.tar.gz"
+rm "$top/bin/ydriver-0.tar.gz"
+test -f ydriver-0/README.md || fail "no README in the archive"
+make -s -C ydriver-0 bin/libydriver.a
+echo "installed, run, taken away, packed"
