@@ -1,0 +1,17 @@
+//! A grammar file of bison or byacc made one that `yacc` reads, with what is changed.
+#![tactic(auto)]
+
+pub mod applied;
+pub mod bodies;
+pub mod declarations;
+pub mod directive;
+pub mod edits;
+pub mod groups;
+pub mod import;
+pub mod listings;
+pub mod note;
+pub mod numbers;
+pub mod refusal;
+pub mod survey;
+pub mod symbols;
+pub mod typed;
