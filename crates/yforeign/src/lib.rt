@@ -1,8 +1,13 @@
-//! The lexemes of grammar files of bison and byacc, each with its place and its line.
+//! Grammar files of bison and byacc: their lexemes with places and lines, these in groups, and what
+//! the names and strings of a file are.
 #![tactic(auto)]
 
+pub mod directive;
+pub mod groups;
 pub mod lexeme;
 pub mod lexer;
+pub mod numbers;
 mod quoted;
 pub mod runs;
 mod signs;
+pub mod survey;

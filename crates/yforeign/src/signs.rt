@@ -74,7 +74,10 @@ fn percent_at(bytes: &[u8]) -> Result<(Piece, usize), Flaw> {
         Some(b'?') => Ok((Piece::Lexeme(Kind::Predicate), 2)),
         Some(b) if is_name_start(*b) => {
             let word = bytes.get(1..).unwrap_or(&[]);
-            Ok((Piece::Lexeme(Kind::Word), word_length(word).saturating_add(1)))
+            Ok((
+                Piece::Lexeme(Kind::Word),
+                word_length(word).saturating_add(1),
+            ))
         }
         _ => Err(Flaw::Foreign),
     }

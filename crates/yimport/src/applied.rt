@@ -1,6 +1,6 @@
 //! A file with its changes made.
 
-use crate::edits::Edit;
+use crate::edits::{Edit, Edits};
 use std::alloc::{AllocError, Global};
 use yforeign::runs::newlines;
 use ylexemes::bytes::{is_blank, is_name_byte};
@@ -37,7 +37,8 @@ impl<'a> Page<'a> {
 
     /// Copies the file up to a place.
     fn copy_to(&mut self, to: usize) -> Result<(), AllocError> {
-        let part = self.part(self.at, to);
+        let from = self.at;
+        let part = self.part(from, to);
         let kept = if self.passing {
             after_spaces(part)
         } else {
@@ -87,24 +88,32 @@ impl<'a> Page<'a> {
     }
 }
 
-/// A file with changes made, in the order of their places.
-pub fn applied(
-    alloc: Global,
-    source: &[u8],
-    edits: &mut Vec<Edit>,
-    texts: &[u8],
-) -> Result<Vec<u8>, AllocError> {
+/// Makes changes, in the order of their places.
+fn make_all(page: &mut Page<'_>, edits: &[Edit], texts: &[u8]) -> Result<(), AllocError> {
+    for edit in edits {
+        page.make(edit, texts)?;
+    }
+    let end = page.source.len();
+    page.copy_to(end)
+}
+
+/// A file with its changes made.
+pub fn applied(alloc: Global, changes: &mut Edits<'_>) -> Result<Vec<u8>, AllocError> {
+    let Edits {
+        source,
+        edits,
+        texts,
+        ..
+    } = changes;
     edits.sort_by_key(|edit| edit.from)?;
     let mut page = Page {
-        source,
+        source: *source,
         out: Vec::with_capacity(alloc, source.len())?,
         at: 0,
         passing: false,
     };
-    for edit in edits.iter() {
-        page.make(edit, texts)?;
+    match make_all(&mut page, edits, texts) {
+        Ok(()) => Ok(page.out),
+        Err(error) => Err(error),
     }
-    page.copy_to(source.len())?;
-    let Page { out, .. } = page;
-    Ok(out)
 }

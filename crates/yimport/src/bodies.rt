@@ -1,11 +1,10 @@
 //! The alternatives of rules.
 
-use crate::directive::{Directive, directive_of, is_symbol};
 use crate::note::{How, Reason};
 use crate::refusal::{Refusal, Trouble};
 use crate::symbols::Work;
+use yforeign::directive::{Directive, directive_of, is_symbol};
 use yforeign::lexeme::{Kind, Lexeme};
-use ysymbols::names::is_among;
 
 /// How many symbols and how many actions stand in a part of a body. What `%prec` names isn't one.
 fn counts(lexemes: &[Lexeme]) -> (usize, usize) {
@@ -71,7 +70,7 @@ impl Work<'_> {
         if symbols > 0 || !self.is_of_start() {
             return Err(Refusal::EndElsewhere.at(lexeme));
         }
-        if is_among(&self.survey.used, self.survey.start_name(self.source)) {
+        if self.survey.uses_start(self.source) {
             return Err(Refusal::EndAndStart.at(lexeme));
         }
         if around.before == Some(Kind::Braced) && actions == 0 {
@@ -199,9 +198,7 @@ impl Work<'_> {
         let name = self.spelled(&symbol)?;
         let mut text = Vec::from_slice(self.alloc, b" %prec ")?;
         text.extend_from_slice(&name)?;
-        let last = body
-            .iter()
-            .rfind(|lexeme| lexeme.kind != Kind::Semicolon);
+        let last = body.iter().rfind(|lexeme| lexeme.kind != Kind::Semicolon);
         if let Some(last) = last {
             self.edits.insert(last.to, &text)?;
         }

@@ -1,11 +1,11 @@
 //! Declarations.
 
-use crate::directive::Directive;
 use crate::note::{How, Reason};
-use crate::numbers::number_of;
 use crate::refusal::{Refusal, Trouble};
 use crate::symbols::{Expected, Work};
+use yforeign::directive::Directive;
 use yforeign::lexeme::{Kind, Lexeme};
+use yforeign::numbers::number_of;
 
 /// Whether some bytes stand in others.
 fn has(bytes: &[u8], part: &[u8]) -> bool {

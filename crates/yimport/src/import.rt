@@ -2,11 +2,11 @@
 
 use crate::applied::applied;
 use crate::edits::Edits;
-use crate::groups::{Group, Head, groups_of};
 use crate::note::Note;
 use crate::refusal::{Refusal, Trouble};
 use crate::symbols::{Expected, Work};
 use std::alloc::Global;
+use yforeign::groups::{Group, Head, groups_of};
 use yforeign::lexeme::{Kind, Lexeme};
 use yforeign::lexer::{Lexemes, lexemes_of};
 
@@ -70,7 +70,7 @@ impl Work<'_> {
         }
         self.import_groups(groups)?;
         self.put_moved(first_mark(&lexemes.all))?;
-        self.text = applied(self.alloc, self.source, &mut self.edits.edits, &self.edits.texts)?;
+        self.text = applied(self.alloc, &mut self.edits)?;
         self.edits.notes.sort_by_key(|note| note.line)?;
         Ok(())
     }

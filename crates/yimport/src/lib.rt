@@ -4,14 +4,10 @@
 pub mod applied;
 pub mod bodies;
 pub mod declarations;
-pub mod directive;
 pub mod edits;
-pub mod groups;
 pub mod import;
 pub mod listings;
 pub mod note;
-pub mod numbers;
 pub mod refusal;
-pub mod survey;
 pub mod symbols;
 pub mod typed;

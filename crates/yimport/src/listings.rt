@@ -1,14 +1,14 @@
 //! Lists of tokens.
 
-use crate::directive::{Directive, is_symbol};
 use crate::note::Reason;
-use crate::numbers::{ERROR, MOST, is_hexadecimal, number_of};
 use crate::refusal::{Refusal, Trouble};
-use crate::survey::{is_macro, is_text};
 use crate::symbols::Work;
 use std::alloc::AllocError;
 use std::io::Write;
+use yforeign::directive::{Directive, is_symbol};
 use yforeign::lexeme::{Kind, Lexeme};
+use yforeign::numbers::{ERROR, MOST, is_hexadecimal, number_of};
+use yforeign::survey::{is_macro, is_text};
 use ylexemes::bytes::{is_name_byte, is_name_start};
 
 /// Where a list stands.
@@ -21,6 +21,17 @@ struct Place {
     closed: bool,
     /// Whether something but the end is listed.
     stands: bool,
+}
+
+/// What `yacc` has in place of a directive, and why.
+fn written(directive: Directive) -> Option<(&'static [u8], Reason)> {
+    match directive {
+        Directive::Term => Some((b"%token", Reason::OldWord)),
+        Directive::Binary => Some((b"%nonassoc", Reason::OldWord)),
+        Directive::Precedence => Some((b"%nonassoc", Reason::Precedence)),
+        Directive::Nterm => Some((b"%type", Reason::OldWord)),
+        _ => None,
+    }
 }
 
 /// Whether a tag holds a name of `yacc`.
@@ -60,10 +71,8 @@ impl Work<'_> {
 
     /// Keeps the word of a directive, or writes that of `yacc`.
     pub fn keep_word(&mut self, word: &Lexeme, directive: Directive) -> Result<(), Trouble> {
-        match directive.written() {
-            Some((written, reason)) => {
-                self.edits.replace(word, written.as_bytes(), reason)?;
-            }
+        match written(directive) {
+            Some((written, reason)) => self.edits.replace(word, written, reason)?,
             None => self.edits.keep(word)?,
         }
         Ok(())

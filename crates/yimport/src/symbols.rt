@@ -3,11 +3,11 @@
 use crate::edits::Edits;
 use crate::note::Reason;
 use crate::refusal::{Refusal, Trouble};
-use crate::survey::{Survey, inside, is_text};
 use indexmap::IndexMap;
 use std::alloc::{AllocError, Global};
 use std::io::Write;
 use yforeign::lexeme::{Kind, Lexeme};
+use yforeign::survey::{Survey, inside, is_text};
 use ysymbols::names::{Printed, is_among};
 
 /// A number of conflicts that a file expects, and the line that says so.
@@ -133,8 +133,7 @@ impl<'a> Work<'a> {
         }
         let last = self.made.last().map_or(0, |(_, number)| *number);
         let number = self.free_number(last.saturating_add(1))?;
-        self.made
-            .insert(Vec::from_slice(self.alloc, key)?, number)?;
+        self.made.insert(Vec::from_slice(self.alloc, key)?, number)?;
         Ok(number)
     }
 

@@ -1,9 +1,9 @@
 //! Lists of nonterminals with a tag.
 
-use crate::directive::{Directive, is_symbol};
 use crate::note::{How, Reason};
 use crate::refusal::{Refusal, Trouble};
 use crate::symbols::Work;
+use yforeign::directive::{Directive, is_symbol};
 use yforeign::lexeme::{Kind, Lexeme};
 use ysymbols::names::is_among;
 
@@ -19,10 +19,7 @@ impl Work<'_> {
     /// Why a symbol can't stand in such a list, where it can't.
     fn reason_against(&self, lexeme: &Lexeme) -> Option<Reason> {
         let name = lexeme.text(self.source);
-        if lexeme.kind != Kind::Name
-            || is_among(&self.survey.tokens, name)
-            || self.is_end(lexeme)
-        {
+        if lexeme.kind != Kind::Name || is_among(&self.survey.tokens, name) || self.is_end(lexeme) {
             Some(Reason::TypedToken)
         } else if is_among(&self.survey.lefts, name) {
             None
@@ -35,10 +32,8 @@ impl Work<'_> {
     fn has_nonterminal(&self, lexemes: &[Lexeme]) -> bool {
         let has_tag = lexemes.get(1).map(|tag| tag.kind) == Some(Kind::Tag);
         has_tag
-            && lexemes
-                .iter()
-                .skip(2)
-                .any(|lexeme| is_symbol(lexeme.kind) && self.reason_against(lexeme).is_none())
+            && lexemes.iter().skip(2).any(|lexeme| is_symbol(lexeme.kind)
+                && self.reason_against(lexeme).is_none())
     }
 
     /// Takes in one lexeme of a list that stays.
@@ -69,11 +64,7 @@ impl Work<'_> {
     }
 
     /// Refuses what stands in a declaration where it can't, or behind its semicolon.
-    pub fn refuse_others(
-        &self,
-        lexemes: &[Lexeme],
-        directive: Directive,
-    ) -> Result<(), Trouble> {
+    pub fn refuse_others(&self, lexemes: &[Lexeme], directive: Directive) -> Result<(), Trouble> {
         let mut closed = false;
         for lexeme in lexemes.iter().skip(1) {
             let is_end = matches!(lexeme.kind, Kind::Semicolon | Kind::LineMark);

@@ -148,7 +148,13 @@ pub fn put_expected<W: Write>(
         reduce_reduce,
     } = counts;
     if let Some(expected) = imported.shift_reduce {
-        put_count(out, path, expected, "%expect", ("shift/reduce", shift_reduce))?;
+        put_count(
+            out,
+            path,
+            expected,
+            "%expect",
+            ("shift/reduce", shift_reduce),
+        )?;
     }
     if let Some(expected) = imported.reduce_reduce {
         let found = ("reduce/reduce", reduce_reduce);

@@ -1,8 +1,8 @@
 //! The lexemes of a file in groups: declarations, code, marks, and the alternatives of rules.
 
 use crate::directive::{Directive, directive_of};
+use crate::lexeme::{Kind, Lexeme};
 use std::alloc::{AllocError, Global};
-use yforeign::lexeme::{Kind, Lexeme};
 
 /// How a group begins.
 #[derive(Clone, Copy, Debug, Drop, PartialEq, Eq)]
@@ -65,11 +65,7 @@ struct Start {
 }
 
 /// Where groups begin.
-fn starts_of(
-    alloc: Global,
-    source: &[u8],
-    lexemes: &[Lexeme],
-) -> Result<Vec<Start>, AllocError> {
+fn starts_of(alloc: Global, source: &[u8], lexemes: &[Lexeme]) -> Result<Vec<Start>, AllocError> {
     let mut starts = Vec::new(alloc);
     let mut in_rules = false;
     for (at, lexeme) in lexemes.iter().enumerate() {

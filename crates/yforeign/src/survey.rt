@@ -2,10 +2,10 @@
 
 use crate::directive::{Directive, is_symbol};
 use crate::groups::{Group, Head};
+use crate::lexeme::{Kind, Lexeme};
 use crate::numbers::number_of;
 use indexmap::IndexMap;
 use std::alloc::{AllocError, Global};
-use yforeign::lexeme::{Kind, Lexeme};
 use ysymbols::names::{SymbolTable, intern, is_among};
 
 /// What a file says of its symbols.
@@ -225,5 +225,11 @@ impl Survey {
             Some(lexeme) => lexeme.text(source),
             None => &[],
         }
+    }
+
+    /// Whether the start symbol stands in a body.
+    pub fn uses_start(&self, source: &[u8]) -> bool {
+        let name = self.start_name(source);
+        is_among(&self.used, name)
     }
 }

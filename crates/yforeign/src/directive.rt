@@ -1,7 +1,6 @@
 //! The directives of bison and byacc.
 
-use crate::note::Reason;
-use yforeign::lexeme::Kind;
+use crate::lexeme::Kind;
 
 /// A directive, by what is done with it.
 #[derive(Clone, Copy, Debug, Drop, PartialEq, Eq)]
@@ -100,10 +99,7 @@ const WORDS: [(&str, Directive); 49] = [
 fn is_word(word: &[u8], name: &str) -> bool {
     let name = name.as_bytes();
     word.len() == name.len()
-        && word
-            .iter()
-            .zip(name)
-            .all(|(b, wanted)| b == wanted || (*b == b'_' && *wanted == b'-'))
+        && word.iter().zip(name).all(|(b, wanted)| b == wanted || (*b == b'_' && *wanted == b'-'))
 }
 
 /// The directive of a word with its percent sign.
@@ -145,17 +141,6 @@ impl Directive {
                 true
             }
             _ => false,
-        }
-    }
-
-    /// What `yacc` has in its place, and why.
-    pub fn written(self) -> Option<(&'static str, Reason)> {
-        match self {
-            Directive::Term => Some(("%token", Reason::OldWord)),
-            Directive::Binary => Some(("%nonassoc", Reason::OldWord)),
-            Directive::Precedence => Some(("%nonassoc", Reason::Precedence)),
-            Directive::Nterm => Some(("%type", Reason::OldWord)),
-            _ => None,
         }
     }
 
