@@ -7,10 +7,11 @@
 # make refuse     refuses allocations of a run, each once and each with all behind it, on every example and some scenarios; FILES="a.y b.y" refuses some thousands over these grammar files instead
 # make debug      refuses the allocations of ten sessions of ydebug in turn, gives it 100,000 random command lines over random grammars, and shows its screens at a terminal, which needs tmux
 # make compare    compares the programs that make build left with plain machines in Python, on grammars drawn at random, for a minute, and verdicts with sessions over every scenario; FILES="a.y b.y" adds these, cut off and spoiled, with a second reader
+# make imports    imports grammars of some source packages of Debian, by the programs that make build left, and compares their tables with bison's; FILES="a.y b.y" or PACKAGES="bash" names others. It takes bison and a network
 # make hostile    runs both programs, proved, between devices that fail and on files and streams that are no one's friends
 # make edits      tries every wrong body that the prover must refuse, also those that the gate leaves out; some 40 minutes
 # make test       the gate: every proof from nothing, the wrong bodies in must-fail, the tests, the stored runs, the scenarios, make hostile, make refuse over three examples
-.PHONY: demo examples scenarios accept build bench refuse debug compare hostile edits test
+.PHONY: demo examples scenarios accept build bench refuse debug compare imports hostile edits test
 
 programs := $(foreach file,$(wildcard crates/*/src/main.rt),$(notdir $(file:/src/main.rt=)))
 run := python3 scenarios/run.py $(foreach name,$(programs),$(name)=crates/$(name)/out/$(name))
@@ -46,6 +47,9 @@ compare:
 	@python3 compare/compare.py bin/yacc bin/ystep
 	@python3 compare/verdicts.py bin/verdicts bin/ystep
 	@$(if $(FILES),python3 compare/faults.py bin/ystep $(FILES),true)
+
+imports:
+	@python3 compare/imports.py bin/ydebug bin/yacc $(FILES) $(PACKAGES)
 
 hostile: build
 	@$(hostile)

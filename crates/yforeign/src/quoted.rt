@@ -4,8 +4,8 @@ use crate::lexeme::{Flaw, Kind};
 use ylexemes::bytes::{is_blank, is_name_byte, is_name_start};
 use ylexemes::literal::literal_at;
 
-/// How many bytes stand up to the closing quote, with both quotes. A backslash takes the byte behind
-/// it along, and a newline ends the search.
+/// How many bytes stand up to the closing quote, with both quotes. A backslash takes the byte that
+/// follows along, and a newline ends the search.
 fn quoted_length(bytes: &[u8], quote: u8) -> Result<usize, Flaw> {
     let mut escaped = false;
     for (at, b) in bytes.iter().enumerate().skip(1) {

@@ -29,13 +29,18 @@ fn after_spaces(bytes: &[u8]) -> &[u8] {
     bytes.get(spaces..).unwrap_or(&[])
 }
 
+/// Whether a line ends at the front.
+fn ends_line(bytes: &[u8]) -> bool {
+    matches!(bytes, [b'\n', ..] | [b'\r', b'\n', ..])
+}
+
 impl<'a> Page<'a> {
     /// The bytes of the file from one place to another.
     fn part(&self, from: usize, to: usize) -> &'a [u8] {
         self.source.get(from..to).unwrap_or(&[])
     }
 
-    /// Copies the file up to a place.
+    /// Copies the file up to a place, without the spaces around what was left out.
     fn copy_to(&mut self, to: usize) -> Result<(), AllocError> {
         let from = self.at;
         let part = self.part(from, to);
@@ -44,11 +49,20 @@ impl<'a> Page<'a> {
         } else {
             part
         };
+        if self.passing && ends_line(kept) {
+            self.drop_spaces();
+        }
         self.out.extend_from_slice(kept)?;
         if !part.is_empty() {
             self.passing = false;
         }
         Ok(())
+    }
+
+    /// Takes the spaces at the end of the text away.
+    fn drop_spaces(&mut self) {
+        let kept = self.out.iter().rposition(|b| !is_space(*b));
+        self.out.truncate(kept.map_or(0, |at| at.saturating_add(1)));
     }
 
     /// Writes the newlines of a part that is left out, so that lines keep their numbers.

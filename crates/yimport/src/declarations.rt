@@ -7,9 +7,9 @@ use yforeign::directive::Directive;
 use yforeign::lexeme::{Kind, Lexeme};
 use yforeign::numbers::number_of;
 
-/// Whether some bytes stand in others.
-fn has(bytes: &[u8], part: &[u8]) -> bool {
-    bytes.windows(part.len()).any(|window| window == part)
+/// Whether a name is that of a skeleton for another kind of parser.
+fn names_other_parser(name: &[u8]) -> bool {
+    name.windows(3).any(|part| part == b"glr".as_slice())
 }
 
 impl Work<'_> {
@@ -36,7 +36,7 @@ impl Work<'_> {
     /// Refuses the skeleton of another kind of parser.
     fn refuse_skeleton(&self, lexemes: &[Lexeme]) -> Result<(), Trouble> {
         for lexeme in lexemes {
-            if lexeme.kind == Kind::Text && has(lexeme.text(self.source), b"glr") {
+            if lexeme.kind == Kind::Text && names_other_parser(lexeme.text(self.source)) {
                 return Err(Refusal::OtherParser.at(lexeme));
             }
         }
