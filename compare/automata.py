@@ -25,14 +25,20 @@ def by_bison(path):
     """What bison writes in XML."""
     made = Automaton()
     tree = ElementTree.parse(path)
+    end = tree.find("grammar/rules/rule[@number='0']").findall("rhs/symbol")[-1].text
+
+    def name(text):
+        return END if text == end else text
+
     for rule in tree.iterfind("grammar/rules/rule"):
-        body = [it.text for it in rule.iterfind("rhs/symbol")]
+        body = [name(it.text) for it in rule.iterfind("rhs/symbol")]
         made.rules.append([rule.find("lhs").text, *body])
     for state in tree.iterfind("automaton/state"):
         ways = state.iterfind("actions/transitions/transition")
-        made.ways.append({it.get("symbol"): int(it.get("state")) for it in ways})
+        made.ways.append({name(it.get("symbol")): int(it.get("state")) for it in ways})
         reductions = state.iterfind("actions/reductions/reduction")
-        made.conflicts.append({it.get("symbol") for it in reductions if it.get("enabled") == "false"})
+        left = [it.get("symbol") for it in reductions if it.get("enabled") == "false"]
+        made.conflicts.append({name(it) for it in left})
     return made
 
 

@@ -132,7 +132,8 @@ def looked_at(ydebug, yacc, folder, source):
     made = run([ydebug, "import", "grammar.y", "-o", "imported.y"], folder)
     if made.returncode:
         return "refused", made.stderr.strip().splitlines()[-1]
-    words = "bison -Wnone -v --xml=bison.xml --report-file=bison.output -o bison.c grammar.y"
+    (folder / "bison.y").write_bytes(EXPECTS.sub(b"", source))
+    words = "bison -Wnone -d -v --xml=bison.xml --report-file=bison.output -o bison.c bison.y"
     asked = run(words.split(), folder)
     if asked.returncode:
         return "refused", f"bison refuses it: {asked.stderr.strip().splitlines()[0]}"

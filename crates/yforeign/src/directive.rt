@@ -96,11 +96,20 @@ const WORDS: [(&str, Directive); 49] = [
     ("semantic-parser", Directive::OtherParser),
 ];
 
-/// Whether a word is this one, a line below counting as a dash.
+/// Whether a byte of a word stands for this one: capitals count as small letters, as they do to
+/// byacc, and a line below as a dash.
+fn stands_for(b: u8, wanted: u8) -> bool {
+    b.to_ascii_lowercase() == wanted || (b == b'_' && wanted == b'-')
+}
+
+/// Whether a word is this one.
 fn is_word(word: &[u8], name: &str) -> bool {
     let name = name.as_bytes();
     word.len() == name.len()
-        && word.iter().zip(name).all(|(b, wanted)| b == wanted || (*b == b'_' && *wanted == b'-'))
+        && word
+            .iter()
+            .zip(name)
+            .all(|(b, wanted)| stands_for(*b, *wanted))
 }
 
 /// The directive of a word with its percent sign.

@@ -126,10 +126,11 @@ impl Work<'_> {
         }
         place.prec = Some(*symbol);
         place.moves = has_to_move(behind);
-        if place.moves {
-            self.edits.remove(lexeme)?;
-            self.edits.note(lexeme, How::ToEnd, Reason::PrecInside)?;
+        if !place.moves {
+            return self.keep_word(lexeme, Directive::Prec);
         }
+        self.edits.remove(lexeme)?;
+        self.edits.note(lexeme, How::ToEnd, Reason::PrecInside)?;
         Ok(())
     }
 

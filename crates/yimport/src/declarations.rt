@@ -76,7 +76,7 @@ impl Work<'_> {
             return Err(Refusal::SeveralStarts.at(word));
         }
         self.has_start = true;
-        self.edits.keep(word)?;
+        self.keep_word(word, Directive::Start)?;
         for (at, lexeme) in lexemes.iter().enumerate().skip(1) {
             match lexeme.kind {
                 Kind::Name if at == 1 => self.keep_symbol(lexeme)?,
@@ -93,6 +93,7 @@ impl Work<'_> {
         if self.edits.moving {
             return self.take_all(word, lexemes, Reason::ForItsParser);
         }
+        self.keep_word(word, Directive::Union)?;
         for (at, lexeme) in lexemes.iter().enumerate().skip(1) {
             match lexeme.kind {
                 Kind::Name if at == 1 => self.edits.take_out(lexeme, Reason::UnionName)?,

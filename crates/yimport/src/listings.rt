@@ -23,13 +23,17 @@ struct Place {
     stands: bool,
 }
 
-/// What `yacc` has in place of a directive, and why.
-fn written(directive: Directive) -> Option<(&'static [u8], Reason)> {
+/// The word of `yacc` for a directive, where it has one.
+fn written(directive: Directive) -> Option<&'static [u8]> {
     match directive {
-        Directive::Term => Some((b"%token", Reason::OldWord)),
-        Directive::Binary => Some((b"%nonassoc", Reason::OldWord)),
-        Directive::Precedence => Some((b"%nonassoc", Reason::Precedence)),
-        Directive::Nterm => Some((b"%type", Reason::OldWord)),
+        Directive::Token | Directive::Term => Some(b"%token"),
+        Directive::Left => Some(b"%left"),
+        Directive::Right => Some(b"%right"),
+        Directive::Nonassoc | Directive::Binary | Directive::Precedence => Some(b"%nonassoc"),
+        Directive::Type | Directive::Nterm => Some(b"%type"),
+        Directive::Start => Some(b"%start"),
+        Directive::Union => Some(b"%union"),
+        Directive::Prec => Some(b"%prec"),
         _ => None,
     }
 }
@@ -71,9 +75,16 @@ impl Work<'_> {
 
     /// Keeps the word of a directive, or writes that of `yacc`.
     pub fn keep_word(&mut self, word: &Lexeme, directive: Directive) -> Result<(), Trouble> {
+        let reason = if directive == Directive::Precedence {
+            Reason::Precedence
+        } else {
+            Reason::OldWord
+        };
         match written(directive) {
-            Some((written, reason)) => self.edits.replace(word, written, reason)?,
-            None => self.edits.keep(word)?,
+            Some(written) if word.text(self.source) != written => {
+                self.edits.replace(word, written, reason)?;
+            }
+            _ => self.edits.keep(word)?,
         }
         Ok(())
     }
