@@ -1,5 +1,6 @@
 //! `ydebug grammar tokens`: a debugger of parses for people. `ydebug conflicts grammar` explains the
-//! conflicts of a grammar, and `ydebug check grammar tokens..` says what its sentences are.
+//! conflicts of a grammar, `ydebug check grammar tokens..` says what its sentences are, and `ydebug
+//! import file` makes a file of bison one that `yacc` reads.
 #![tactic(auto)]
 
 use clap::error::ErrorKind;
@@ -10,16 +11,19 @@ use std::io::{self, BufWriter, IsTerminal, Write};
 use std::process::ExitCode;
 use ycheck::check::{Check, run_check};
 use ydebugger::{Setting, debug, parse_of};
+use yimported::run::{Asked as Import, run_import};
 use yreports::report::{Asked, run_conflicts};
 
 /// The forms of the command line.
 const FORMS: &str = "Other forms:\n\
     \x20 ydebug conflicts grammar [--save FOLDER] [--strict]\n\
-    \x20 ydebug check grammar tokens.. [--choice]";
+    \x20 ydebug check grammar tokens.. [--choice]\n\
+    \x20 ydebug import file [-o grammar]";
 /// What is said of words that are none of the program's.
 const USAGE: &[u8] = b"usage: ydebug grammar tokens\n\
     \x20      ydebug conflicts grammar [--save FOLDER] [--strict]\n\
-    \x20      ydebug check grammar tokens.. [--choice]\n";
+    \x20      ydebug check grammar tokens.. [--choice]\n\
+    \x20      ydebug import file [-o grammar]\n";
 
 /// Why nothing was done.
 #[derive(Debug, Drop)]
@@ -105,6 +109,18 @@ fn check_command<'a>(alloc: Global) -> Result<Command<'a>, AllocError> {
         ))
 }
 
+/// The command line of an import.
+fn import_command<'a>(alloc: Global) -> Result<Command<'a>, AllocError> {
+    let output = Arg::new(alloc, "output")
+        .short('o')
+        .action(ArgAction::Set)
+        .help("Writes the grammar to this file");
+    Command::new(alloc, "ydebug import")
+        .about("Makes a grammar file of bison or byacc one that yacc reads")
+        .arg(file_argument(alloc, "file", "The file of bison or byacc"))?
+        .arg(output)
+}
+
 /// What a command line makes of words.
 fn matches_by<'a>(
     alloc: Global,
@@ -161,6 +177,20 @@ fn check(rt: &HostRuntime, words: &[&str]) -> Result<u8, Refused> {
     Ok(status)
 }
 
+/// An import. The words begin with the subcommand.
+fn import(rt: &HostRuntime, words: &[&str]) -> Result<u8, Refused> {
+    let alloc = rt.alloc();
+    let matches = matches_by(alloc, import_command(alloc), words)?;
+    let asked = Import {
+        file: value_of(&matches, "file")?,
+        output: matches.get_str("output"),
+    };
+    let mut writer = BufWriter::new(alloc, rt.stdout())?;
+    let status = run_import(rt, asked, &mut writer, &mut rt.stderr())?;
+    writer.flush()?;
+    Ok(status)
+}
+
 /// Whether an environment variable is set to something that counts.
 fn is_set(rt: &HostRuntime, name: &str) -> bool {
     match env::var(rt, name) {
@@ -209,6 +239,7 @@ fn obey(rt: &HostRuntime, words: &[&str]) -> Result<u8, Refused> {
     match words {
         [_, rest @ ..] if rest.first() == Some(&"conflicts") => report(rt, rest),
         [_, rest @ ..] if rest.first() == Some(&"check") => check(rt, rest),
+        [_, rest @ ..] if rest.first() == Some(&"import") => import(rt, rest),
         _ => debug_files(rt, words),
     }
 }

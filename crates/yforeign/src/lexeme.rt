@@ -1,0 +1,93 @@
+//! Lexemes, and why a file isn't cut into them.
+
+use std::alloc::{AllocError, AllocFailed};
+
+/// What a lexeme is.
+#[derive(Clone, Copy, Debug, Drop, PartialEq, Eq)]
+pub enum Kind {
+    Name,
+    /// Digits, or hexadecimal ones behind `0x`.
+    Number,
+    /// A literal that `yacc` reads.
+    Literal,
+    /// One byte between quotes that `yacc` doesn't read so.
+    ByteLiteral,
+    /// A string, or several characters between quotes.
+    Text,
+    /// A string between `_(` and `)`.
+    Translated,
+    /// What stands between `<` and its `>`, with these.
+    Tag,
+    /// A name in square brackets.
+    Reference,
+    /// What stands between parentheses, with these.
+    Arguments,
+    /// A text in braces.
+    Braced,
+    /// `%{` to `%}`.
+    Code,
+    /// `%%`.
+    Mark,
+    /// A percent sign and a name.
+    Word,
+    /// `%?`, which a condition follows.
+    Predicate,
+    /// `#line` up to the end of its line.
+    LineMark,
+    Colon,
+    Bar,
+    Semicolon,
+    Comma,
+    Equals,
+}
+
+/// A lexeme: its first byte, the byte behind it, and its line.
+#[derive(Clone, Copy, Debug)]
+pub struct Lexeme {
+    pub kind: Kind,
+    pub from: usize,
+    pub to: usize,
+    pub line: usize,
+}
+
+/// Why no lexeme stands at a place.
+#[derive(Clone, Copy, Debug, Drop, PartialEq, Eq)]
+pub enum Flaw {
+    /// A comment, a quote, a bracket or a brace has no end.
+    Unfinished,
+    /// No literal of one character from 1 to 255 begins at a quote.
+    BadLiteral,
+    /// Digits that are no number.
+    BadNumber,
+    /// Square brackets without a name.
+    BadReference,
+    /// A byte that begins no lexeme.
+    Foreign,
+}
+
+/// Why a file isn't cut into lexemes.
+#[derive(Debug, Drop)]
+pub enum Uncut {
+    /// A flaw, and its line.
+    Flaw(Flaw, usize),
+    Memory,
+}
+
+impl<T: Drop> From<AllocFailed<T>> for Uncut {
+    fn from(_refused: AllocFailed<T>) -> Uncut {
+        Uncut::Memory
+    }
+}
+
+impl From<AllocError> for Uncut {
+    fn from(_refused: AllocError) -> Uncut {
+        Uncut::Memory
+    }
+}
+
+impl Lexeme {
+    /// The bytes of the lexeme.
+    pub fn text<'a>(&self, source: &'a [u8]) -> &'a [u8] {
+        source.get(self.from..self.to).unwrap_or(&[])
+    }
+}

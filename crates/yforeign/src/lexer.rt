@@ -1,0 +1,92 @@
+//! A file cut into lexemes.
+
+use crate::lexeme::{Kind, Lexeme, Uncut};
+use crate::runs::newlines;
+use crate::signs::{Piece, piece_at};
+use std::alloc::Global;
+
+/// A comment from two slashes to the end of its line: where it stands, and its line.
+#[derive(Clone, Copy, Debug)]
+pub struct Remark {
+    pub from: usize,
+    pub to: usize,
+    pub line: usize,
+}
+
+/// The lexemes of a file up to its second mark, and its comments that begin with two slashes.
+#[derive(Drop)]
+pub struct Lexemes {
+    pub all: Vec<Lexeme>,
+    pub remarks: Vec<Remark>,
+}
+
+/// A walk over a file.
+#[derive(Drop)]
+struct Walk {
+    at: usize,
+    line: usize,
+    marks: usize,
+    found: Lexemes,
+}
+
+impl Walk {
+    /// Takes in what stands at the place.
+    fn take(&mut self, piece: Piece, to: usize) -> Result<(), Uncut> {
+        let (from, line) = (self.at, self.line);
+        match piece {
+            Piece::Blank | Piece::Comment => {}
+            Piece::Remark => self.found.remarks.push(Remark { from, to, line })?,
+            Piece::Lexeme(kind) => {
+                if kind == Kind::Mark {
+                    self.marks = self.marks.saturating_add(1);
+                }
+                self.found.all.push(Lexeme {
+                    kind,
+                    from,
+                    to,
+                    line,
+                })?;
+            }
+        }
+        Ok(())
+    }
+
+    /// Goes on by one piece, and says whether there can be more.
+    fn step(&mut self, source: &[u8]) -> Result<bool, Uncut> {
+        let rest = source.get(self.at..).unwrap_or(&[]);
+        let (Some(first), true) = (rest.first(), self.marks < 2) else {
+            return Ok(false);
+        };
+        match piece_at(rest, *first) {
+            Ok((piece, length)) => {
+                let to = self.at.saturating_add(length);
+                self.take(piece, to)?;
+                let lines = newlines(source.get(self.at..to).unwrap_or(&[]));
+                self.line = self.line.saturating_add(lines);
+                self.at = to;
+                Ok(true)
+            }
+            Err(flaw) => Err(Uncut::Flaw(flaw, self.line)),
+        }
+    }
+}
+
+/// The lexemes of a file up to its second mark, or the first flaw.
+pub fn lexemes_of(alloc: Global, source: &[u8]) -> Result<Lexemes, Uncut> {
+    let mut walk = Walk {
+        at: 0,
+        line: 1,
+        marks: 0,
+        found: Lexemes {
+            all: Vec::new(alloc),
+            remarks: Vec::new(alloc),
+        },
+    };
+    for _ in 0..source.len() {
+        if !walk.step(source)? {
+            break;
+        }
+    }
+    let Walk { found, .. } = walk;
+    Ok(found)
+}

@@ -1,0 +1,110 @@
+//! Quotes, tags and brackets at the front of bytes: what they are, and how many bytes they have.
+
+use crate::lexeme::{Flaw, Kind};
+use ylexemes::bytes::{is_blank, is_name_byte, is_name_start};
+use ylexemes::literal::literal_at;
+
+/// How many bytes stand up to the closing quote, with both quotes. A backslash takes the byte that
+/// follows along, and a newline ends the search.
+fn quoted_length(bytes: &[u8], quote: u8) -> Result<usize, Flaw> {
+    let mut escaped = false;
+    for (at, b) in bytes.iter().enumerate().skip(1) {
+        if *b == b'\n' {
+            break;
+        }
+        if !escaped && *b == quote {
+            return Ok(at.saturating_add(1));
+        }
+        escaped = !escaped && *b == b'\\';
+    }
+    Err(Flaw::Unfinished)
+}
+
+/// What stands between the quotes of a text of this length.
+fn inside(bytes: &[u8], length: usize) -> &[u8] {
+    bytes.get(1..length.saturating_sub(1)).unwrap_or(&[])
+}
+
+/// A quote that begins no literal of `yacc`: one byte, or several characters without an escape.
+fn odd_quote(bytes: &[u8]) -> Result<(Kind, usize), Flaw> {
+    let length = quoted_length(bytes, b'\'')?;
+    let text = inside(bytes, length);
+    match text {
+        [] => Err(Flaw::BadLiteral),
+        [_] => Ok((Kind::ByteLiteral, length)),
+        [b'\\', ..] => Err(Flaw::BadLiteral),
+        _ => Ok((Kind::Text, length)),
+    }
+}
+
+/// What a single quote begins.
+pub fn quote_at(bytes: &[u8]) -> Result<(Kind, usize), Flaw> {
+    match literal_at(bytes) {
+        Some((_, rest)) => Ok((Kind::Literal, bytes.len().saturating_sub(rest.len()))),
+        None => odd_quote(bytes),
+    }
+}
+
+/// The string that a double quote begins.
+pub fn text_at(bytes: &[u8]) -> Result<(Kind, usize), Flaw> {
+    let length = quoted_length(bytes, b'"')?;
+    if length <= 2 {
+        return Err(Flaw::BadLiteral);
+    }
+    Ok((Kind::Text, length))
+}
+
+/// The string between `_(` and `)`.
+pub fn translated_at(bytes: &[u8]) -> Result<(Kind, usize), Flaw> {
+    let text = bytes.get(2..).unwrap_or(&[]);
+    let (_, length) = text_at(text)?;
+    match text.get(length) {
+        Some(b')') => Ok((Kind::Translated, length.saturating_add(3))),
+        _ => Err(Flaw::Unfinished),
+    }
+}
+
+/// The tag that a `<` begins: brackets nest, and that of an arrow is none.
+pub fn tag_at(bytes: &[u8]) -> Result<(Kind, usize), Flaw> {
+    let mut depth: usize = 0;
+    let mut before = 0u8;
+    for (at, b) in bytes.iter().enumerate() {
+        if *b == b'<' {
+            depth = depth.saturating_add(1);
+        } else if *b == b'>' && before != b'-' {
+            depth = depth.saturating_sub(1);
+            if depth == 0 {
+                return Ok((Kind::Tag, at.saturating_add(1)));
+            }
+        }
+        before = *b;
+    }
+    Err(Flaw::Unfinished)
+}
+
+/// Whether a byte can stand in square brackets.
+fn is_reference_byte(b: u8) -> bool {
+    is_name_byte(b) || b == b'-' || is_blank(b)
+}
+
+/// The name in square brackets.
+pub fn reference_at(bytes: &[u8]) -> Result<(Kind, usize), Flaw> {
+    let Some(end) = bytes.iter().position(|b| *b == b']') else {
+        return Err(Flaw::Unfinished);
+    };
+    let inner = bytes.get(1..end).unwrap_or(&[]);
+    let has_name = inner.iter().any(|b| is_name_start(*b));
+    if has_name && inner.iter().all(|b| is_reference_byte(*b)) {
+        Ok((Kind::Reference, end.saturating_add(1)))
+    } else {
+        Err(Flaw::BadReference)
+    }
+}
+
+/// What stands between parentheses, which don't nest.
+pub fn arguments_at(bytes: &[u8]) -> Result<(Kind, usize), Flaw> {
+    match bytes.iter().position(|b| *b == b')') {
+        Some(end) => Ok((Kind::Arguments, end.saturating_add(1))),
+        None => Err(Flaw::Unfinished),
+    }
+}

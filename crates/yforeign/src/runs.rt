@@ -1,0 +1,24 @@
+//! Runs of bytes at the front of others: how many they are.
+
+use ylexemes::bytes::is_name_byte;
+
+/// How many bytes a name has, or a percent word without its sign. Names of bison can have dashes.
+pub fn word_length(bytes: &[u8]) -> usize {
+    bytes
+        .iter()
+        .position(|b| !is_name_byte(*b) && *b != b'-')
+        .unwrap_or(bytes.len())
+}
+
+/// How many bytes stand before a newline.
+pub fn line_length(bytes: &[u8]) -> usize {
+    bytes
+        .iter()
+        .position(|b| *b == b'\n')
+        .unwrap_or(bytes.len())
+}
+
+/// How many newlines there are.
+pub fn newlines(bytes: &[u8]) -> usize {
+    bytes.iter().filter(|b| **b == b'\n').count()
+}

@@ -1,0 +1,235 @@
+//! What the names and strings of a file are.
+
+use crate::directive::{Directive, is_symbol};
+use crate::groups::{Group, Head};
+use crate::lexeme::{Kind, Lexeme};
+use crate::numbers::number_of;
+use indexmap::IndexMap;
+use std::alloc::{AllocError, Global};
+use ysymbols::names::{SymbolTable, intern, is_among};
+
+/// What a file says of its symbols.
+#[derive(Drop)]
+pub struct Survey {
+    /// All names.
+    pub names: SymbolTable,
+    /// What is listed as a token.
+    pub tokens: SymbolTable,
+    /// The left sides of rules.
+    pub lefts: SymbolTable,
+    /// What stands in bodies.
+    pub used: SymbolTable,
+    /// The names of the end.
+    ends: SymbolTable,
+    /// The token of each string that stands for one.
+    aliases: IndexMap<Vec<u8>, Lexeme>,
+    /// What `%start` names.
+    start: Option<Lexeme>,
+    /// The first left side.
+    first: Option<Lexeme>,
+}
+
+/// What stands between the quotes of a string.
+pub fn inside<'a>(source: &'a [u8], lexeme: &Lexeme) -> &'a [u8] {
+    let text = lexeme.text(source);
+    let (before, behind) = if lexeme.kind == Kind::Translated {
+        (3, 2)
+    } else {
+        (1, 1)
+    };
+    text.get(before..text.len().saturating_sub(behind))
+        .unwrap_or(&[])
+}
+
+/// Whether a lexeme is a string.
+pub fn is_text(kind: Kind) -> bool {
+    kind == Kind::Text || kind == Kind::Translated
+}
+
+/// Whether the lexeme at a place is the name of a macro: arguments follow.
+pub fn is_macro(lexemes: &[Lexeme], at: usize) -> bool {
+    let next = lexemes.get(at.saturating_add(1));
+    let kind = lexemes.get(at).map(|lexeme| lexeme.kind);
+    kind == Some(Kind::Name) && next.map(|next| next.kind) == Some(Kind::Arguments)
+}
+
+impl Survey {
+    /// What a file says of which nothing is known.
+    pub fn new(alloc: Global) -> Survey {
+        Survey {
+            names: SymbolTable::new(alloc),
+            tokens: SymbolTable::new(alloc),
+            lefts: SymbolTable::new(alloc),
+            used: SymbolTable::new(alloc),
+            ends: SymbolTable::new(alloc),
+            aliases: IndexMap::new(alloc),
+            start: None,
+            first: None,
+        }
+    }
+
+    /// Takes in what a file of these groups says.
+    pub fn fill(
+        &mut self,
+        alloc: Global,
+        source: &[u8],
+        groups: &[Group<'_>],
+    ) -> Result<(), AllocError> {
+        intern(alloc, &mut self.ends, b"YYEOF")?;
+        intern(alloc, &mut self.tokens, b"error")?;
+        for group in groups {
+            self.take(alloc, source, group)?;
+        }
+        Ok(())
+    }
+
+    /// Takes in a group.
+    fn take(&mut self, alloc: Global, source: &[u8], group: &Group<'_>) -> Result<(), AllocError> {
+        self.take_names(alloc, source, group.lexemes)?;
+        match group.head {
+            Head::Word(directive) if directive.lists_tokens() => {
+                self.take_list(alloc, source, directive, group.lexemes)
+            }
+            Head::Word(Directive::Start) => {
+                self.start = group.lexemes.get(1).copied();
+                Ok(())
+            }
+            Head::Left => self.take_rule(alloc, source, group.lexemes),
+            Head::Bar => self.take_body(alloc, source, group.lexemes),
+            _ => Ok(()),
+        }
+    }
+
+    /// Takes in all names.
+    fn take_names(
+        &mut self,
+        alloc: Global,
+        source: &[u8],
+        lexemes: &[Lexeme],
+    ) -> Result<(), AllocError> {
+        for lexeme in lexemes {
+            if lexeme.kind == Kind::Name {
+                intern(alloc, &mut self.names, lexeme.text(source))?;
+            }
+        }
+        Ok(())
+    }
+
+    /// Takes in a rule from its left side.
+    fn take_rule(
+        &mut self,
+        alloc: Global,
+        source: &[u8],
+        lexemes: &[Lexeme],
+    ) -> Result<(), AllocError> {
+        let Some((left, body)) = lexemes.split_first() else {
+            return Ok(());
+        };
+        if self.first.is_none() {
+            self.first = Some(*left);
+        }
+        intern(alloc, &mut self.lefts, left.text(source))?;
+        self.take_body(alloc, source, body)
+    }
+
+    /// Takes in a body.
+    fn take_body(
+        &mut self,
+        alloc: Global,
+        source: &[u8],
+        lexemes: &[Lexeme],
+    ) -> Result<(), AllocError> {
+        for lexeme in lexemes {
+            if lexeme.kind == Kind::Name {
+                intern(alloc, &mut self.used, lexeme.text(source))?;
+            }
+        }
+        Ok(())
+    }
+
+    /// Takes in a list of tokens.
+    fn take_list(
+        &mut self,
+        alloc: Global,
+        source: &[u8],
+        directive: Directive,
+        lexemes: &[Lexeme],
+    ) -> Result<(), AllocError> {
+        let mut last = None;
+        for (at, lexeme) in lexemes.iter().enumerate().skip(1) {
+            match (lexeme.kind, last) {
+                (Kind::Arguments, _) => {}
+                (Kind::Number, Some(token)) => self.take_number(alloc, source, token, lexeme)?,
+                (Kind::Text | Kind::Translated, Some(token)) if directive.names_tokens() => {
+                    self.take_alias(alloc, source, token, lexeme)?;
+                    last = None;
+                }
+                (kind, _) if is_symbol(kind) && !is_macro(lexemes, at) => {
+                    intern(alloc, &mut self.tokens, lexeme.text(source))?;
+                    last = Some(*lexeme);
+                }
+                (Kind::Name, _) => {}
+                _ => last = None,
+            }
+        }
+        Ok(())
+    }
+
+    /// Takes in the number of a token.
+    fn take_number(
+        &mut self,
+        alloc: Global,
+        source: &[u8],
+        token: Lexeme,
+        number: &Lexeme,
+    ) -> Result<(), AllocError> {
+        if number_of(number.text(source)) == 0 {
+            intern(alloc, &mut self.ends, token.text(source))?;
+        }
+        Ok(())
+    }
+
+    /// Takes in a string that stands for a token.
+    fn take_alias(
+        &mut self,
+        alloc: Global,
+        source: &[u8],
+        token: Lexeme,
+        text: &Lexeme,
+    ) -> Result<(), AllocError> {
+        let key = Vec::from_slice(alloc, inside(source, text))?;
+        self.aliases.insert(key, token)?;
+        Ok(())
+    }
+
+    /// The token that a string stands for.
+    pub fn alias(&self, source: &[u8], text: &Lexeme) -> Option<Lexeme> {
+        self.aliases.get(inside(source, text)).copied()
+    }
+
+    /// Whether a symbol is the end.
+    pub fn is_end(&self, source: &[u8], lexeme: &Lexeme) -> bool {
+        if is_text(lexeme.kind) {
+            match self.alias(source, lexeme) {
+                Some(token) => is_among(&self.ends, token.text(source)),
+                None => false,
+            }
+        } else {
+            is_among(&self.ends, lexeme.text(source))
+        }
+    }
+
+    /// The name of the start symbol.
+    pub fn start_name<'a>(&self, source: &'a [u8]) -> &'a [u8] {
+        match self.start.or(self.first) {
+            Some(lexeme) => lexeme.text(source),
+            None => &[],
+        }
+    }
+
+    /// Whether the start symbol stands in a body.
+    pub fn uses_start(&self, source: &[u8]) -> bool {
+        let name = self.start_name(source);
+        is_among(&self.used, name)
+    }
+}

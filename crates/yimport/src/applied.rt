@@ -1,0 +1,133 @@
+//! A file with its changes made.
+
+use crate::edits::{Edit, Edits};
+use std::alloc::{AllocError, Global};
+use yforeign::runs::newlines;
+use ylexemes::bytes::{is_blank, is_name_byte};
+
+/// A text that is written.
+#[derive(Drop)]
+struct Page<'a> {
+    source: &'a [u8],
+    out: Vec<u8>,
+    at: usize,
+    /// Whether blanks that come next are passed over.
+    passing: bool,
+}
+
+/// Whether a byte is a blank that ends no line.
+fn is_space(b: u8) -> bool {
+    b == b' ' || b == b'\t'
+}
+
+/// What follows the spaces at the front.
+fn after_spaces(bytes: &[u8]) -> &[u8] {
+    let spaces = bytes
+        .iter()
+        .position(|b| !is_space(*b))
+        .unwrap_or(bytes.len());
+    bytes.get(spaces..).unwrap_or(&[])
+}
+
+/// Whether a line ends at the front.
+fn ends_line(bytes: &[u8]) -> bool {
+    matches!(bytes, [b'\n', ..] | [b'\r', b'\n', ..])
+}
+
+impl<'a> Page<'a> {
+    /// The bytes of the file from one place to another.
+    fn part(&self, from: usize, to: usize) -> &'a [u8] {
+        self.source.get(from..to).unwrap_or(&[])
+    }
+
+    /// Copies the file up to a place, without the spaces around what was left out.
+    fn copy_to(&mut self, to: usize) -> Result<(), AllocError> {
+        let from = self.at;
+        let part = self.part(from, to);
+        let kept = if self.passing {
+            after_spaces(part)
+        } else {
+            part
+        };
+        if self.passing && ends_line(kept) {
+            self.drop_spaces();
+        }
+        self.out.extend_from_slice(kept)?;
+        if !part.is_empty() {
+            self.passing = false;
+        }
+        Ok(())
+    }
+
+    /// Takes the spaces at the end of the text away.
+    fn drop_spaces(&mut self) {
+        let kept = self.out.iter().rposition(|b| !is_space(*b));
+        self.out.truncate(kept.map_or(0, |at| at.saturating_add(1)));
+    }
+
+    /// Writes the newlines of a part that is left out, so that lines keep their numbers.
+    fn keep_lines(&mut self, part: &[u8]) -> Result<(), AllocError> {
+        for _ in 0..newlines(part) {
+            self.out.push(b'\n')?;
+        }
+        Ok(())
+    }
+
+    /// Leaves a part out up to a place.
+    fn leave_out(&mut self, part: &[u8], to: usize) -> Result<(), AllocError> {
+        self.keep_lines(part)?;
+        let before = self.out.last().copied().unwrap_or(b'\n');
+        let next = self.source.get(to).copied().unwrap_or(b'\n');
+        if is_name_byte(before) && is_name_byte(next) {
+            self.out.push(b' ')?;
+        }
+        self.passing = is_blank(before);
+        Ok(())
+    }
+
+    /// Makes one change.
+    fn make(&mut self, edit: &Edit, texts: &[u8]) -> Result<(), AllocError> {
+        self.copy_to(edit.from)?;
+        let part = self.part(edit.from, edit.to);
+        match texts.get(edit.text.0..edit.text.1) {
+            Some(text) if !text.is_empty() => {
+                self.out.extend_from_slice(text)?;
+                self.keep_lines(part)?;
+                self.passing = false;
+            }
+            _ => self.leave_out(part, edit.to)?,
+        }
+        self.at = edit.to;
+        Ok(())
+    }
+}
+
+/// Makes changes, in the order of their places.
+fn make_all(page: &mut Page<'_>, edits: &[Edit], texts: &[u8]) -> Result<(), AllocError> {
+    for edit in edits {
+        page.make(edit, texts)?;
+    }
+    let end = page.source.len();
+    page.copy_to(end)
+}
+
+/// A file with its changes made.
+pub fn applied(alloc: Global, changes: &mut Edits<'_>) -> Result<Vec<u8>, AllocError> {
+    let Edits {
+        source,
+        edits,
+        texts,
+        ..
+    } = changes;
+    edits.sort_by_key(|edit| edit.from)?;
+    let mut page = Page {
+        source: *source,
+        out: Vec::with_capacity(alloc, source.len())?,
+        at: 0,
+        passing: false,
+    };
+    match make_all(&mut page, edits, texts) {
+        Ok(()) => Ok(page.out),
+        Err(error) => Err(error),
+    }
+}

@@ -1,0 +1,123 @@
+//! A file imported.
+
+use crate::applied::applied;
+use crate::edits::Edits;
+use crate::note::Note;
+use crate::refusal::{Refusal, Trouble};
+use crate::symbols::{Expected, Work};
+use std::alloc::Global;
+use yforeign::groups::{Group, Head, groups_of};
+use yforeign::lexeme::{Kind, Lexeme};
+use yforeign::lexer::{Lexemes, lexemes_of};
+
+/// A file that `yacc` reads, and what was changed for it.
+#[derive(Drop)]
+pub struct Imported {
+    pub text: Vec<u8>,
+    /// What was changed, by lines of the file, which are those of the text too.
+    pub notes: Vec<Note>,
+    /// The texts that notes name.
+    pub texts: Vec<u8>,
+    /// The line of `%precedence` for each level that comes from one.
+    pub levels: Vec<Option<usize>>,
+    /// The conflicts that the file expects.
+    pub shift_reduce: Option<Expected>,
+    pub reduce_reduce: Option<Expected>,
+}
+
+/// The first mark of a file.
+fn first_mark(lexemes: &[Lexeme]) -> Option<Lexeme> {
+    lexemes
+        .iter()
+        .find(|lexeme| lexeme.kind == Kind::Mark)
+        .copied()
+}
+
+impl Work<'_> {
+    /// Takes in a group.
+    fn import_group(&mut self, group: &Group<'_>) -> Result<(), Trouble> {
+        let Some((first, rest)) = group.lexemes.split_first() else {
+            return Ok(());
+        };
+        match group.head {
+            Head::Word(directive) => {
+                self.import_declaration(directive, group.lexemes, group.in_rules)
+            }
+            Head::Code if group.in_rules => Err(Refusal::CodeBetween.at(first)),
+            Head::Code | Head::Mark => self.import_loose(rest),
+            Head::Stray => self.import_loose(group.lexemes),
+            Head::Left => self.import_rule(group.lexemes),
+            Head::Bar => self.import_body(rest),
+        }
+    }
+
+    /// Puts what goes there in front of the first mark.
+    fn put_moved(&mut self, mark: Option<Lexeme>) -> Result<(), Trouble> {
+        self.list_made()?;
+        if let Some(mark) = mark {
+            let moved = Vec::from_slice(self.alloc, &self.edits.moved)?;
+            if !moved.is_empty() {
+                self.edits.insert(mark.from, &moved)?;
+            }
+        }
+        Ok(())
+    }
+
+    /// Takes in all groups of a file, and its comments, and makes the changes.
+    fn import_all(&mut self, lexemes: &Lexemes, groups: &[Group<'_>]) -> Result<(), Trouble> {
+        for remark in &lexemes.remarks {
+            self.edits.close_remark(remark)?;
+        }
+        self.import_groups(groups)?;
+        self.put_moved(first_mark(&lexemes.all))?;
+        self.text = applied(self.alloc, &mut self.edits)?;
+        self.edits.notes.sort_by_key(|note| note.line)?;
+        Ok(())
+    }
+
+    /// Takes in all groups.
+    fn import_groups(&mut self, groups: &[Group<'_>]) -> Result<(), Trouble> {
+        for group in groups {
+            self.import_group(group)?;
+        }
+        Ok(())
+    }
+
+    /// Takes in the file.
+    fn run(&mut self) -> Result<(), Trouble> {
+        let lexemes = lexemes_of(self.alloc, self.source)?;
+        let groups = groups_of(self.alloc, self.source, &lexemes.all)?;
+        self.survey.fill(self.alloc, self.source, &groups)?;
+        self.import_all(&lexemes, &groups)
+    }
+
+    /// What came of it.
+    fn imported(self) -> Imported {
+        let Work {
+            text,
+            edits,
+            levels,
+            shift_reduce,
+            reduce_reduce,
+            ..
+        } = self;
+        let Edits { texts, notes, .. } = edits;
+        Imported {
+            text,
+            notes,
+            texts,
+            levels,
+            shift_reduce,
+            reduce_reduce,
+        }
+    }
+}
+
+/// A file of bison or byacc as one that `yacc` reads.
+pub fn import(alloc: Global, source: &[u8]) -> Result<Imported, Trouble> {
+    let mut work = Work::new(alloc, source);
+    match work.run() {
+        Ok(()) => Ok(work.imported()),
+        Err(trouble) => Err(trouble),
+    }
+}

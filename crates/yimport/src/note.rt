@@ -1,0 +1,130 @@
+//! What is changed, and why.
+
+/// Whether a change can change what the file says.
+#[derive(Clone, Copy, Debug, Drop, PartialEq, Eq)]
+pub enum Effect {
+    None,
+    Conflicts,
+    Language,
+}
+
+impl Effect {
+    /// What is said of it.
+    pub fn text(self) -> &'static str {
+        match self {
+            Effect::None => "language and conflicts stay",
+            Effect::Conflicts => "conflicts can change",
+            Effect::Language => "the language can change",
+        }
+    }
+}
+
+/// Why something is changed.
+#[derive(Clone, Copy, Debug, Drop, PartialEq, Eq)]
+pub enum Reason {
+    ForItsParser,
+    Expected,
+    TablesAsked,
+    OldWord,
+    Precedence,
+    NoType,
+    TypedToken,
+    TypedUnknown,
+    Alias,
+    AliasUsed,
+    MadeName,
+    MadeSign,
+    EndListed,
+    EndInBody,
+    MacroNumber,
+    LargeNumber,
+    ErrorNumber,
+    HexNumber,
+    EmptyWord,
+    Reference,
+    Remark,
+    Separator,
+    OddTag,
+    SecondTag,
+    Between,
+    ByteLiteral,
+    InnerType,
+    Equals,
+    UnionName,
+    LineMark,
+    PrecInside,
+    Dash,
+    ErrorName,
+}
+
+/// How something is changed.
+#[derive(Clone, Copy, Debug, Drop, PartialEq, Eq)]
+pub enum How {
+    Out,
+    /// It becomes the text that stands here among those written.
+    Becomes(usize, usize),
+    /// It goes in front of the first mark.
+    ToMark,
+    /// It goes to the end of its body.
+    ToEnd,
+}
+
+/// A change: its line, where what is changed stands in the file, how, and why.
+#[derive(Clone, Copy, Debug, Drop)]
+pub struct Note {
+    pub line: usize,
+    pub from: usize,
+    pub to: usize,
+    pub how: How,
+    pub reason: Reason,
+}
+
+impl Reason {
+    /// What is said of it.
+    pub fn text(self) -> &'static str {
+        match self {
+            Reason::ForItsParser => "it's for the parser that is written",
+            Reason::Expected => "conflicts are counted anew",
+            Reason::TablesAsked => "yacc makes LALR(1) tables alone",
+            Reason::OldWord => "it's yacc's word for this",
+            Reason::Precedence => "yacc has no %precedence, and no cell meets equal levels of it",
+            Reason::NoType => "no nonterminal with a tag stands in it",
+            Reason::TypedToken => "it's a token",
+            Reason::TypedUnknown => "it's no left side of a rule",
+            Reason::Alias => "tokens of yacc have one name",
+            Reason::AliasUsed => "the token's name stands for its string",
+            Reason::MadeName => "no token has this string, so it's a token of its own",
+            Reason::MadeSign => "no token has this string; byacc would read a literal",
+            Reason::EndListed => "its number is 0: it's the end, $end to yacc",
+            Reason::EndInBody => "it's the end, which yacc puts there itself",
+            Reason::MacroNumber => "yacc knows no macros",
+            Reason::LargeNumber => "numbers of yacc end at 32,767",
+            Reason::ErrorNumber => "256 is the number of error",
+            Reason::HexNumber => "numbers of yacc are decimal",
+            Reason::EmptyWord => "an empty body of yacc has nothing in it",
+            Reason::Reference => "yacc has no names for what stands in a body",
+            Reason::Remark => "a comment of yacc stands between these",
+            Reason::Separator => "declarations of yacc have none",
+            Reason::OddTag => "a tag of yacc is a name",
+            Reason::SecondTag => "a list of yacc has one tag",
+            Reason::Between => "declarations of yacc stand before the rules",
+            Reason::ByteLiteral => "yacc reads this byte as an escape",
+            Reason::InnerType => "actions of yacc have no type",
+            Reason::Equals => "actions of yacc have no sign before them",
+            Reason::UnionName => "the union of yacc has no name",
+            Reason::LineMark => "yacc reads no marks of lines",
+            Reason::PrecInside => "%prec of yacc stands at the end of a body",
+            Reason::Dash => "names of yacc have no dashes",
+            Reason::ErrorName => "it's yacc's name for this",
+        }
+    }
+
+    /// What it can change.
+    pub fn effect(self) -> Effect {
+        match self {
+            Reason::TablesAsked => Effect::Conflicts,
+            Reason::MadeSign => Effect::Language,
+            _ => Effect::None,
+        }
+    }
+}

@@ -1,0 +1,111 @@
+//! Why a file isn't imported.
+
+use std::alloc::{AllocError, AllocFailed};
+use yforeign::lexeme::{Flaw, Lexeme, Uncut};
+
+/// What a file has that can't be imported.
+#[derive(Clone, Copy, Debug, Drop, PartialEq, Eq)]
+pub enum Refusal {
+    Flaw(Flaw),
+    UnknownWord,
+    OtherParser,
+    NoDefault,
+    SeveralStarts,
+    Misplaced,
+    NothingListed,
+    CodeBetween,
+    EndElsewhere,
+    EndAndStart,
+    EndBehindAction,
+    SecondPrec,
+    NameTaken,
+}
+
+/// What is refused, its line, and where it stands; at no place, where it is no lexeme.
+#[derive(Clone, Copy, Debug, Drop)]
+pub struct Refused {
+    pub refusal: Refusal,
+    pub line: usize,
+    pub from: usize,
+    pub to: usize,
+}
+
+/// Why there is no import.
+#[derive(Debug, Drop)]
+pub enum Trouble {
+    Refused(Refused),
+    Memory,
+}
+
+/// What is said of a flaw.
+fn flaw_text(flaw: Flaw) -> &'static str {
+    match flaw {
+        Flaw::Unfinished => "what begins here has no end",
+        Flaw::BadLiteral => "no literal of one character from 1 to 255, and no string, begins here",
+        Flaw::BadNumber => "no number begins here",
+        Flaw::BadReference => "no name stands in these brackets",
+        Flaw::Foreign => "neither bison nor byacc has a lexeme that begins here",
+    }
+}
+
+impl Refusal {
+    /// What is said of it.
+    pub fn text(self) -> &'static str {
+        match self {
+            Refusal::Flaw(flaw) => flaw_text(flaw),
+            Refusal::UnknownWord => "no directive that is known",
+            Refusal::OtherParser => "it asks for another kind of parser",
+            Refusal::NoDefault => "rules of yacc have a precedence without %prec",
+            Refusal::SeveralStarts => "yacc has one start symbol",
+            Refusal::Misplaced => "it can't stand here",
+            Refusal::NothingListed => "it lists nothing",
+            Refusal::CodeBetween => "yacc has no code between rules",
+            Refusal::EndElsewhere => {
+                "its number is 0, so it is the end, which can stand only at the end of a body of \
+                 the start symbol"
+            }
+            Refusal::EndAndStart => "it is the end, and the start symbol stands in a body too",
+            Refusal::EndBehindAction => {
+                "it is the end, and without it the action before it would be the rule's last"
+            }
+            Refusal::SecondPrec => "a rule has one %prec",
+            Refusal::NameTaken => "yacc's names have no dashes, and the one without is taken",
+        }
+    }
+
+    /// A lexeme refused.
+    pub fn at(self, lexeme: &Lexeme) -> Trouble {
+        Trouble::Refused(Refused {
+            refusal: self,
+            line: lexeme.line,
+            from: lexeme.from,
+            to: lexeme.to,
+        })
+    }
+}
+
+impl<T: Drop> From<AllocFailed<T>> for Trouble {
+    fn from(_refused: AllocFailed<T>) -> Trouble {
+        Trouble::Memory
+    }
+}
+
+impl From<AllocError> for Trouble {
+    fn from(_refused: AllocError) -> Trouble {
+        Trouble::Memory
+    }
+}
+
+impl From<Uncut> for Trouble {
+    fn from(uncut: Uncut) -> Trouble {
+        match uncut {
+            Uncut::Memory => Trouble::Memory,
+            Uncut::Flaw(flaw, line) => Trouble::Refused(Refused {
+                refusal: Refusal::Flaw(flaw),
+                line,
+                from: 0,
+                to: 0,
+            }),
+        }
+    }
+}

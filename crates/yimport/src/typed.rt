@@ -1,0 +1,100 @@
+//! Lists of nonterminals with a tag.
+
+use crate::note::{How, Reason};
+use crate::refusal::{Refusal, Trouble};
+use crate::symbols::Work;
+use yforeign::directive::{Directive, is_symbol};
+use yforeign::lexeme::{Kind, Lexeme};
+use ysymbols::names::is_among;
+
+/// Whether a lexeme can stand in a list of nonterminals.
+fn is_listed(kind: Kind) -> bool {
+    match kind {
+        Kind::Tag | Kind::Comma | Kind::Semicolon | Kind::LineMark => true,
+        _ => is_symbol(kind),
+    }
+}
+
+impl Work<'_> {
+    /// Why a symbol can't stand in such a list, where it can't.
+    fn reason_against(&self, lexeme: &Lexeme) -> Option<Reason> {
+        let name = lexeme.text(self.source);
+        if lexeme.kind != Kind::Name || is_among(&self.survey.tokens, name) || self.is_end(lexeme) {
+            Some(Reason::TypedToken)
+        } else if is_among(&self.survey.lefts, name) {
+            None
+        } else {
+            Some(Reason::TypedUnknown)
+        }
+    }
+
+    /// Whether a nonterminal with a tag is listed.
+    fn has_nonterminal(&self, lexemes: &[Lexeme]) -> bool {
+        let has_tag = lexemes.get(1).map(|tag| tag.kind) == Some(Kind::Tag);
+        has_tag
+            && lexemes.iter().skip(2).any(|lexeme| is_symbol(lexeme.kind)
+                && self.reason_against(lexeme).is_none())
+    }
+
+    /// Takes in one lexeme of a list that stays.
+    fn import_typed(&mut self, lexeme: &Lexeme, at: usize) -> Result<(), Trouble> {
+        match lexeme.kind {
+            Kind::Tag => self.keep_tag(lexeme, at == 1),
+            Kind::Comma | Kind::Semicolon => self.take_separator(lexeme),
+            Kind::LineMark => Ok(self.edits.take_out(lexeme, Reason::LineMark)?),
+            _ => match self.reason_against(lexeme) {
+                Some(reason) => Ok(self.edits.take_out(lexeme, reason)?),
+                None => self.keep_symbol(lexeme),
+            },
+        }
+    }
+
+    /// Takes out a whole declaration, with a word for all of it.
+    pub fn take_all(
+        &mut self,
+        word: &Lexeme,
+        lexemes: &[Lexeme],
+        reason: Reason,
+    ) -> Result<(), Trouble> {
+        self.edits.note(word, How::Out, reason)?;
+        for lexeme in lexemes {
+            self.edits.remove(lexeme)?;
+        }
+        Ok(())
+    }
+
+    /// Refuses what stands in a declaration where it can't, or behind its semicolon.
+    pub fn refuse_others(&self, lexemes: &[Lexeme], directive: Directive) -> Result<(), Trouble> {
+        let mut closed = false;
+        for lexeme in lexemes.iter().skip(1) {
+            let is_end = matches!(lexeme.kind, Kind::Semicolon | Kind::LineMark);
+            let fits = match directive {
+                Directive::Type | Directive::Nterm => is_listed(lexeme.kind),
+                _ => directive.takes(lexeme.kind),
+            };
+            if !is_end && (closed || !fits) {
+                return Err(Refusal::Misplaced.at(lexeme));
+            }
+            closed = closed || lexeme.kind == Kind::Semicolon;
+        }
+        Ok(())
+    }
+
+    /// Takes in a list of nonterminals.
+    pub fn import_types(
+        &mut self,
+        directive: Directive,
+        word: &Lexeme,
+        lexemes: &[Lexeme],
+    ) -> Result<(), Trouble> {
+        self.refuse_others(lexemes, directive)?;
+        if !self.has_nonterminal(lexemes) {
+            return self.take_all(word, lexemes, Reason::NoType);
+        }
+        self.keep_word(word, directive)?;
+        for (at, lexeme) in lexemes.iter().enumerate().skip(1) {
+            self.import_typed(lexeme, at)?;
+        }
+        Ok(())
+    }
+}

@@ -1,0 +1,164 @@
+//! `ydebug import`.
+
+use crate::counts::Counts;
+use crate::equals::equal_of;
+use crate::told::{put_equal, put_expected, put_notes, put_refused, put_unreadable};
+use std::alloc::Global;
+use std::fs;
+use std::io::{self, ErrorKind, Write};
+use std::rt::Files;
+use yfaults::opening::{Opened, Trouble, grammar_bytes, open_bytes, put_trouble, put_unread};
+use ygrammar::{GrammarFault, LONGEST_FILE};
+use yimport::import::{Imported, import};
+use yimport::refusal;
+use ytables::Tables;
+
+/// What is asked for: the import of a file, to a file of this path or to standard output.
+#[derive(Clone, Copy)]
+pub struct Asked<'a> {
+    pub file: &'a str,
+    pub output: Option<&'a str>,
+}
+
+/// A file that is imported: its path and its bytes.
+#[derive(Clone, Copy)]
+struct Source<'a> {
+    path: &'a str,
+    bytes: &'a [u8],
+}
+
+/// Looks at the tables of what a file becomes, and gives the exit status: 1 where a cell isn't the
+/// same.
+fn look_at<E: Write>(
+    alloc: Global,
+    errors: &mut E,
+    path: &str,
+    imported: &Imported,
+    tables: &Tables,
+) -> io::Result<u8> {
+    let automaton = tables.automaton();
+    if let Some(equal) = equal_of(automaton, &imported.levels) {
+        put_equal(errors, path, automaton.grammar(), equal)?;
+        return Ok(1);
+    }
+    if imported.shift_reduce.is_some() || imported.reduce_reduce.is_some() {
+        let counts = Counts::new(alloc, automaton)?;
+        put_expected(errors, path, imported, counts)?;
+    }
+    Ok(0)
+}
+
+/// Reads what a file becomes as `yacc` does, and gives the exit status: 0 where it stands.
+fn try_out<E: Write>(
+    alloc: Global,
+    errors: &mut E,
+    path: &str,
+    imported: &Imported,
+) -> io::Result<u8> {
+    match open_bytes(alloc, &imported.text) {
+        Ok(opened) => {
+            let Opened { tables, .. } = &opened;
+            look_at(alloc, errors, path, imported, tables)
+        }
+        Err(trouble) => {
+            if trouble.status() == 1 {
+                put_unreadable(errors, path)?;
+            }
+            put_trouble(errors, alloc, path, &imported.text, &trouble)?;
+            Ok(trouble.status())
+        }
+    }
+}
+
+/// Writes the text of an import to a file, and gives the exit status.
+fn save<F: Files + AllocGlobal, E: Write>(
+    rt: &F,
+    errors: &mut E,
+    path: &str,
+    text: &[u8],
+) -> io::Result<u8> {
+    match fs::write(rt, path, text) {
+        Ok(()) => Ok(0),
+        Err(error) if error.kind() == ErrorKind::OutOfMemory => Err(error),
+        Err(_) => {
+            writeln!(errors, "ydebug: cannot write {path}")?;
+            Ok(3)
+        }
+    }
+}
+
+/// Writes an import, with what is said of it, and gives the exit status.
+fn put_import<F: Files + AllocGlobal, W: Write, E: Write>(
+    rt: &F,
+    asked: Asked<'_>,
+    out: &mut W,
+    errors: &mut E,
+    imported: &Imported,
+) -> io::Result<u8> {
+    let status = try_out(rt.alloc(), errors, asked.file, imported)?;
+    if status != 0 {
+        return Ok(status);
+    }
+    match asked.output {
+        Some(path) => save(rt, errors, path, &imported.text),
+        None => {
+            out.write_all(&imported.text)?;
+            Ok(0)
+        }
+    }
+}
+
+/// Says why a file isn't imported, and gives the exit status.
+fn put_unmade<E: Write>(
+    errors: &mut E,
+    source: Source<'_>,
+    trouble: refusal::Trouble,
+) -> io::Result<u8> {
+    match trouble {
+        refusal::Trouble::Refused(refused) => {
+            put_refused(errors, source.path, source.bytes, refused)?;
+            Ok(1)
+        }
+        refusal::Trouble::Memory => {
+            writeln!(errors, "ydebug: no memory")?;
+            Ok(3)
+        }
+    }
+}
+
+/// Imports bytes, and gives the exit status.
+fn import_bytes<F: Files + AllocGlobal, W: Write, E: Write>(
+    rt: &F,
+    asked: Asked<'_>,
+    out: &mut W,
+    errors: &mut E,
+    bytes: &[u8],
+) -> io::Result<u8> {
+    let path = asked.file;
+    if bytes.len() > LONGEST_FILE {
+        let trouble = Trouble::Grammar(GrammarFault::TooLong);
+        put_trouble(errors, rt.alloc(), path, bytes, &trouble)?;
+        return Ok(1);
+    }
+    match import(rt.alloc(), bytes) {
+        Ok(imported) => {
+            put_notes(errors, path, bytes, &imported)?;
+            put_import(rt, asked, out, errors, &imported)
+        }
+        Err(trouble) => put_unmade(errors, Source { path, bytes }, trouble),
+    }
+}
+
+/// Writes what is asked for, with a line on `errors` for each change, and gives the exit status: 0;
+/// 1 where the file is refused; 3 where a file can't be read or written, or for want of memory.
+pub fn run_import<F: Files + AllocGlobal, W: Write, E: Write>(
+    rt: &F,
+    asked: Asked<'_>,
+    out: &mut W,
+    errors: &mut E,
+) -> io::Result<u8> {
+    match grammar_bytes(rt, asked.file) {
+        Ok(bytes) => import_bytes(rt, asked, out, errors, &bytes),
+        Err(error) => put_unread(errors, asked.file, &error),
+    }
+}

@@ -1,0 +1,6 @@
+%TOKEN NUM
+%Left '+'
+%Start e
+%LOCATIONS
+%%
+e : e '+' e %PREC '+' | NUM ;

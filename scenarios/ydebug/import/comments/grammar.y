@@ -1,0 +1,6 @@
+// first
+%token A // one */ two
+%% /* kept // */
+s // between
+ : A { // in an action
+ } ;

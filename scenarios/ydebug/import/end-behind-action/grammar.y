@@ -1,0 +1,3 @@
+%token END 0
+%%
+s : 'x' { a(); } END ;

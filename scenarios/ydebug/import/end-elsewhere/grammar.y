@@ -1,0 +1,4 @@
+%token END 0
+%%
+s : line ;
+line : 'x' END ;

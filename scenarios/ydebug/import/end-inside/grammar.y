@@ -1,0 +1,3 @@
+%token END 0
+%%
+s : END 'x' ;

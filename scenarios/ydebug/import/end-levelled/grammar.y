@@ -1,0 +1,4 @@
+%token END 0
+%left END
+%%
+s : 'x' ;

@@ -1,0 +1,4 @@
+%token A
+#if A
+%%
+s : A ;

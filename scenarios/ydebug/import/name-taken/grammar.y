@@ -1,0 +1,3 @@
+%token A-B A_B
+%%
+s : A-B A_B ;

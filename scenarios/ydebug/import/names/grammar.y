@@ -1,0 +1,3 @@
+%token IF-NOT
+%%
+a-rule : IF-NOT | YYerror ;

@@ -1,0 +1,3 @@
+%no-default-prec
+%%
+s : 'x' ;

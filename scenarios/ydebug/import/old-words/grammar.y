@@ -1,0 +1,4 @@
+%term NUM
+%binary '<'
+%%
+e : e '<' e | NUM ;

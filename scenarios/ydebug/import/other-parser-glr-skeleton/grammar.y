@@ -1,0 +1,3 @@
+%skeleton "glr.cc"
+%%
+s : 'x' ;

@@ -1,0 +1,3 @@
+%nondeterministic-parser
+%%
+s : 'x' ;

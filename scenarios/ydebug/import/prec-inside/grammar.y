@@ -1,0 +1,4 @@
+%left '+'
+%left NEG
+%%
+e : %prec NEG '-' e { neg(); } | e '+' e | 'x' %prec NEG { a(); } ;

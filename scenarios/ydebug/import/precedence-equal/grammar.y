@@ -1,0 +1,4 @@
+%left '*'
+%precedence '+'
+%%
+e : e '+' e | e '*' e | 'x' ;

@@ -1,0 +1,4 @@
+%token A // a
+%%
+s : A | t ;
+t : t A ;

@@ -1,0 +1,3 @@
+%left A B
+%%
+s : 'x' %prec A %prec B ;

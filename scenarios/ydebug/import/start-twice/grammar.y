@@ -1,0 +1,4 @@
+%start s
+%start t
+%%
+s : 'x' ; t : 'y' ;

@@ -1,0 +1,3 @@
+%define lr.type canonical-lr
+%%
+s : 'x' ;

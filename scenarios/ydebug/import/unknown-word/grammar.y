@@ -1,0 +1,4 @@
+%token A
+%frobnicate
+%%
+s : A ;
