@@ -1,5 +1,6 @@
 //! `ydebug grammar tokens`: a debugger of parses for people. `ydebug conflicts grammar` explains the
-//! conflicts of a grammar, and `ydebug check grammar tokens..` says what its sentences are.
+//! conflicts of a grammar, `ydebug check grammar tokens..` says what its sentences are, and
+//! `ydebug page grammar tokens` makes a page of a parse.
 #![tactic(auto)]
 
 use clap::error::ErrorKind;
@@ -10,16 +11,20 @@ use std::io::{self, BufWriter, IsTerminal, Write};
 use std::process::ExitCode;
 use ycheck::check::{Check, run_check};
 use ydebugger::{Setting, debug, parse_of};
+use ypage::page::{self, run_page};
+use ypage::walk::Part;
 use yreports::report::{Asked, run_conflicts};
 
 /// The forms of the command line.
 const FORMS: &str = "Other forms:\n\
     \x20 ydebug conflicts grammar [--save FOLDER] [--strict]\n\
-    \x20 ydebug check grammar tokens.. [--choice]";
+    \x20 ydebug check grammar tokens.. [--choice]\n\
+    \x20 ydebug page grammar tokens [-o FILE] [--from K] [--to K] [--conflicts]";
 /// What is said of words that are none of the program's.
 const USAGE: &[u8] = b"usage: ydebug grammar tokens\n\
     \x20      ydebug conflicts grammar [--save FOLDER] [--strict]\n\
-    \x20      ydebug check grammar tokens.. [--choice]\n";
+    \x20      ydebug check grammar tokens.. [--choice]\n\
+    \x20      ydebug page grammar tokens [-o FILE] [--from K] [--to K] [--conflicts]\n";
 
 /// Why nothing was done.
 #[derive(Debug, Drop)]
@@ -105,6 +110,34 @@ fn check_command<'a>(alloc: Global) -> Result<Command<'a>, AllocError> {
         ))
 }
 
+/// An option with a value behind two dashes.
+fn option<'a>(alloc: Global, name: &'a str, help: &'a str) -> Arg<'a> {
+    Arg::new(alloc, name)
+        .long(name)
+        .action(ArgAction::Set)
+        .help(help)
+}
+
+/// The command line of a page.
+fn page_command<'a>(alloc: Global) -> Result<Command<'a>, AllocError> {
+    let file = Arg::new(alloc, "file")
+        .short('o')
+        .action(ArgAction::Set)
+        .help("The file that the page goes to; without it, standard output");
+    Command::new(alloc, "ydebug page")
+        .about("Makes a page in HTML of a parse, to be looked at in a browser")
+        .arg(file_argument(alloc, "grammar", "The grammar file"))?
+        .arg(file_argument(alloc, "tokens", "The tokens file"))?
+        .arg(file)?
+        .arg(option(alloc, "from", "The first position that it shows"))?
+        .arg(option(alloc, "to", "The last position that it shows"))?
+        .arg(flag(
+            alloc,
+            "conflicts",
+            "Shows the conflicts of the grammar too",
+        ))
+}
+
 /// What a command line makes of words.
 fn matches_by<'a>(
     alloc: Global,
@@ -161,6 +194,37 @@ fn check(rt: &HostRuntime, words: &[&str]) -> Result<u8, Refused> {
     Ok(status)
 }
 
+/// The number that an option gives, where it is given.
+fn number_of(matches: &ArgMatches<'_>, name: &str) -> Result<Option<usize>, Refused> {
+    match matches.get_str(name) {
+        Some(word) => match word.parse::<usize>() {
+            Ok(number) => Ok(Some(number)),
+            Err(_) => Err(Refused::Words),
+        },
+        None => Ok(None),
+    }
+}
+
+/// A page of a parse. The words begin with the subcommand.
+fn page(rt: &HostRuntime, words: &[&str]) -> Result<u8, Refused> {
+    let alloc = rt.alloc();
+    let matches = matches_by(alloc, page_command(alloc), words)?;
+    let asked = page::Asked {
+        grammar: value_of(&matches, "grammar")?,
+        tokens: value_of(&matches, "tokens")?,
+        file: matches.get_str("file"),
+        part: Part {
+            from: number_of(&matches, "from")?.unwrap_or(0),
+            to: number_of(&matches, "to")?,
+        },
+        conflicts: is_given(&matches, "conflicts"),
+    };
+    let mut writer = BufWriter::new(alloc, rt.stdout())?;
+    let status = run_page(rt, asked, &mut writer, &mut rt.stderr())?;
+    writer.flush()?;
+    Ok(status)
+}
+
 /// Whether an environment variable is set to something that counts.
 fn is_set(rt: &HostRuntime, name: &str) -> bool {
     match env::var(rt, name) {
@@ -209,6 +273,7 @@ fn obey(rt: &HostRuntime, words: &[&str]) -> Result<u8, Refused> {
     match words {
         [_, rest @ ..] if rest.first() == Some(&"conflicts") => report(rt, rest),
         [_, rest @ ..] if rest.first() == Some(&"check") => check(rt, rest),
+        [_, rest @ ..] if rest.first() == Some(&"page") => page(rt, rest),
         _ => debug_files(rt, words),
     }
 }

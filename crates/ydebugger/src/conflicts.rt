@@ -72,7 +72,7 @@ fn put_rest<W: Write>(page: &mut Page<W>, found: &Conflicts) -> io::Result<()> {
 
 /// The conflicts of the tables by kinds: each with a cell, the first 20 explained.
 pub fn put_conflicts<W: Write>(alloc: Global, page: &mut Page<W>, parse: &Parse) -> io::Result<()> {
-    let found = Conflicts::new(alloc, parse.tables().automaton())?;
+    let found = Conflicts::new(alloc, parse.tables())?;
     if found.cells == 0 {
         return page.line("The tables have no conflict.");
     }
