@@ -18,14 +18,6 @@ use ytables::Tables;
 /// The most conflicts that a page shows.
 const MOST_CARDS: usize = 200;
 
-/// A list of tokens that gets to a conflict: for which rules it is, its tokens, what is said of it.
-#[derive(Drop, Serialize)]
-pub struct Way {
-    rules: Vec<usize>,
-    tokens: Vec<Sym>,
-    text: String,
-}
-
 /// A conflict.
 #[derive(Drop, Serialize)]
 pub struct Card {
@@ -39,7 +31,8 @@ pub struct Card {
     /// How many rules there are more.
     more: usize,
     why: String,
-    ways: Vec<Way>,
+    /// What is said of each list of tokens that gets there.
+    ways: Vec<String>,
     /// What is said where lists are missing.
     missing: String,
 }
@@ -56,7 +49,7 @@ struct Maker<'a> {
 
 impl Maker<'_> {
     /// What is said of a list.
-    fn text(self, list: &List, lists: usize) -> io::Result<String> {
+    fn way(self, list: &List, lists: usize) -> io::Result<String> {
         let text = ListText {
             tables: self.tables,
             lines: self.lines,
@@ -69,19 +62,7 @@ impl Maker<'_> {
         Ok(text_of(self.alloc, &bytes)?)
     }
 
-    fn way(self, list: &List, lists: usize) -> io::Result<Way> {
-        let tokens = match &list.other {
-            Some((tokens, _)) => tokens,
-            None => &list.tokens,
-        };
-        Ok(Way {
-            rules: list.rules.clone()?,
-            tokens: tokens.clone()?,
-            text: self.text(list, lists)?,
-        })
-    }
-
-    fn ways(self, finding: &Finding) -> io::Result<Vec<Way>> {
+    fn ways(self, finding: &Finding) -> io::Result<Vec<String>> {
         let mut ways = Vec::new(self.alloc);
         for list in &finding.lists {
             let way = self.way(list, finding.lists.len())?;

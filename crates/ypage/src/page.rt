@@ -2,8 +2,9 @@
 
 use crate::cards::{Card, open_cards};
 use crate::data::Shown;
+use crate::frame::{BODY, END, FRONT};
 use crate::record::Record;
-use crate::script::PAGE;
+use crate::script::SCRIPT;
 use crate::walk::{MOST_STEPS, Part, Walked, walk_part};
 use std::alloc::{AllocError, Global};
 use std::fs;
@@ -12,9 +13,6 @@ use std::rt::Files;
 use ydebugger::parse::Parse;
 use ydebugger::parse_of;
 use ysymbols::Sym;
-
-/// What stands behind the data.
-const END: &[u8] = b"</script>\n</body>\n</html>\n";
 
 /// What is asked for: the page of the parse of a tokens file by a grammar file, where it goes, the
 /// part that it shows, and whether it has the conflicts of the grammar.
@@ -49,9 +47,12 @@ fn push_json(page: &mut Vec<u8>, json: &[u8]) -> Result<(), AllocError> {
 /// The whole page.
 fn page_of(alloc: Global, shown: Shown<'_>) -> io::Result<Vec<u8>> {
     let json = shown.json(alloc)?;
-    let mut page = Vec::from_slice(alloc, PAGE.as_bytes())?;
+    let mut page = Vec::new(alloc);
+    for piece in [FRONT, SCRIPT, BODY] {
+        page.extend_from_slice(piece.as_bytes())?;
+    }
     push_json(&mut page, &json)?;
-    page.extend_from_slice(END)?;
+    page.extend_from_slice(END.as_bytes())?;
     Ok(page)
 }
 
