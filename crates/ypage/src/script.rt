@@ -58,7 +58,7 @@ button {
   .three { grid-template-columns: 3fr 5fr 6fr; }
   .three > :last-child { grid-column: auto; }
 }
-.rows, .items { max-height: 30rem; overflow: auto; }
+.rows, .items { max-height: 30rem; margin-top: .5rem; overflow: auto; }
 .rows li { display: flex; gap: .75rem; padding: 0 .4rem; white-space: pre; }
 .rows li > :nth-child(2) { flex: 1; }
 .new { background: var(--new); }
