@@ -39,8 +39,8 @@ return {
   mode: text("mode"), errors: text("errors"), counter: text("counter"),
   stack: all("#stack .entry").map((it) => it.children[1].textContent).reverse(),
   rest: tokens.slice(ahead).filter((it) => it.title !== "the end").map((it) => it.textContent),
-  tree: all("[role=treeitem]").map((it) => [Number(it.ariaLevel), it.childNodes[1].textContent.trim(),
-    it.childNodes[2].textContent.trim()]),
+  tree: all("[role=treeitem]").map((it) => [Number(it.ariaLevel),
+    it.childNodes[1].textContent.trim(), it.childNodes[2].textContent.trim()]),
 };"""
 
 
@@ -211,6 +211,8 @@ def try_example(count, driver, programs, folder, room, shots):
     steps = len(json.loads(data)["record"]["kinds"])
     want = wanted(ystep, folder, steps)
     count.hold(f"{what}: as many positions", len(want) == steps + 1, len(want))
+    if len(want) != steps + 1:
+        return
     with Browser(driver) as browser:
         browser.go(page.as_uri())
         step_through(count, what, browser, want)

@@ -1,5 +1,5 @@
-//! `ydebug grammar tokens`: a debugger of parses for people. `ydebug conflicts grammar` explains the
-//! conflicts of a grammar, `ydebug check grammar tokens..` says what its sentences are, and
+//! `ydebug grammar tokens`: a debugger of parses for people. `ydebug conflicts grammar` explains
+//! the conflicts of a grammar, `ydebug check grammar tokens..` says what its sentences are, and
 //! `ydebug page grammar tokens` makes a page of a parse.
 #![tactic(auto)]
 
@@ -131,11 +131,7 @@ fn page_command<'a>(alloc: Global) -> Result<Command<'a>, AllocError> {
         .arg(file)?
         .arg(option(alloc, "from", "The first position that it shows"))?
         .arg(option(alloc, "to", "The last position that it shows"))?
-        .arg(flag(
-            alloc,
-            "conflicts",
-            "Shows the conflicts of the grammar too",
-        ))
+        .arg(flag(alloc, "conflicts", "Shows the conflicts of the grammar too"))
 }
 
 /// What a command line makes of words.

@@ -80,7 +80,10 @@ impl Maker<'_> {
 
     fn card(self, finding: &Finding) -> io::Result<Card> {
         let rules = Vec::from_slice(self.alloc, self.kind.rules())?;
-        let all = self.kind.rivals.saturating_add(if self.kind.shift { 0 } else { 1 });
+        let all = self
+            .kind
+            .rivals
+            .saturating_add(if self.kind.shift { 0 } else { 1 });
         let (state, token) = (self.group.state, self.kind.token);
         Ok(Card {
             state,

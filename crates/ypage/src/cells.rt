@@ -2,8 +2,7 @@
 
 use serde::Serialize;
 use std::alloc::{AllocError, Global};
-use std::io;
-use std::str;
+use std::{io, str};
 use yexplain::cells::survey_at;
 use yexplain::lines::Lines;
 use yexplain::why::explain_rivals;

@@ -35,7 +35,10 @@ fn taken_by(kind: StepKind) -> Option<Sym> {
 
 /// How many tokens some steps take.
 fn taken_in(kinds: &[StepKind]) -> usize {
-    kinds.iter().filter(|kind| taken_by(**kind).is_some()).count()
+    kinds
+        .iter()
+        .filter(|kind| taken_by(**kind).is_some())
+        .count()
 }
 
 /// The tokens that some steps take, but for so many of the first.

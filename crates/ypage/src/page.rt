@@ -91,7 +91,10 @@ fn refuse_long<E: Write>(errors: &mut E, from: usize) -> io::Result<u8> {
 
 /// Writes that the parse ends before the part.
 fn refuse_short<E: Write>(errors: &mut E, from: usize, end: usize) -> io::Result<u8> {
-    writeln!(errors, "ydebug: the parse ends at position {end}, before --from {from}")?;
+    writeln!(
+        errors,
+        "ydebug: the parse ends at position {end}, before --from {from}"
+    )?;
     Ok(1)
 }
 
@@ -141,7 +144,11 @@ fn put_parse<F: Files + AllocGlobal, W: Write, E: Write>(
 ) -> io::Result<u8> {
     match walk_part(rt.alloc(), parse, asked.part)? {
         Walked::Done(record, cells) => {
-            let steps = Steps { parse, record: &record, cells: cells.as_slice() };
+            let steps = Steps {
+                parse,
+                record: &record,
+                cells: cells.as_slice(),
+            };
             put_steps(rt, asked, steps, out, errors)
         }
         Walked::Long => refuse_long(errors, asked.part.from),
@@ -149,9 +156,10 @@ fn put_parse<F: Files + AllocGlobal, W: Write, E: Write>(
     }
 }
 
-/// Writes the page that is asked for, and gives the exit status: 0; 1 where a file is refused, there
-/// are more steps than a page shows, or the parse ends before the part; 2 where the part ends before
-/// it begins; 3 where a file can't be read or written, for too many states, or for want of memory.
+/// Writes the page that is asked for, and gives the exit status: 0; 1 where a file is refused,
+/// there are more steps than a page shows, or the parse ends before the part; 2 where the part ends
+/// before it begins; 3 where a file can't be read or written, for too many states, or for want of
+/// memory.
 pub fn run_page<F: Files + AllocGlobal, W: Write, E: Write>(
     rt: &F,
     asked: Asked<'_>,

@@ -33,7 +33,7 @@ pub struct Record {
     pub cells: Vec<Option<usize>>,
 }
 
-/// The letter of a kind.
+/// The letter of a kind. A page has no edits.
 fn letter_of(kind: StepKind) -> char {
     match kind {
         StepKind::Shift(_) => 's',
@@ -44,8 +44,7 @@ fn letter_of(kind: StepKind) -> char {
         StepKind::ShiftError => 'x',
         StepKind::Discard(_) => 'd',
         StepKind::Fail => 'f',
-        StepKind::Insert(_) => 'i',
-        StepKind::Drop(_) => 'o',
+        StepKind::Insert(_) | StepKind::Drop(_) => 'i',
     }
 }
 

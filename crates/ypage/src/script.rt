@@ -216,8 +216,8 @@ function readPositions() {
     position = { ...position, place: step.place, step };
     KINDS[kind].make(position, step, numbers);
     positions.push(position);
-    if (kind === "e") troubles.push([step]);
-    else if ("pxdf".includes(kind) && troubles.length) troubles[troubles.length - 1].push(step);
+    if (kind === "e" || ("pxdf".includes(kind) && !troubles.length)) troubles.push([step]);
+    else if ("pxdf".includes(kind)) troubles[troubles.length - 1].push(step);
   }
   cells.forEach((cell, index) => (positions[index].cell = cell === null ? null : data.cells[cell]));
 }
@@ -389,7 +389,8 @@ function some(list, draw) {
 }
 
 function troubleItem([error, ...steps]) {
-  const item = link(error.place, stepText(error) + (error.reported ? "" : ", not reported"));
+  const quiet = error.reported === false ? ", not reported" : "";
+  const item = link(error.place, stepText(error) + quiet);
   item.append(make("ul", {}, ...some(steps, (step) => link(step.place, stepText(step)))));
   return item;
 }
