@@ -150,6 +150,14 @@ fn matches_by<'a>(
     }
 }
 
+/// The words of a subcommand, with its whole name in place of the first, for the help text.
+fn named<'a>(alloc: Global, name: &'a str, words: &[&'a str]) -> Result<Vec<&'a str>, AllocError> {
+    let mut named = Vec::with_capacity(alloc, words.len())?;
+    named.push(name)?;
+    named.extend_from_slice(words.get(1..).unwrap_or(&[]))?;
+    Ok(named)
+}
+
 /// The value of an argument that is required.
 fn value_of<'a>(matches: &ArgMatches<'a>, name: &str) -> Result<&'a str, Refused> {
     matches.get_str(name).ok_or(Refused::Words)
@@ -163,7 +171,8 @@ fn is_given(matches: &ArgMatches<'_>, name: &str) -> bool {
 /// A report on conflicts. The words begin with the subcommand.
 fn report(rt: &HostRuntime, words: &[&str]) -> Result<u8, Refused> {
     let alloc = rt.alloc();
-    let matches = matches_by(alloc, conflicts_command(alloc), words)?;
+    let words = named(alloc, "ydebug conflicts", words)?;
+    let matches = matches_by(alloc, conflicts_command(alloc), &words)?;
     let asked = Asked {
         grammar: value_of(&matches, "grammar")?,
         save: matches.get_str("save"),
@@ -178,7 +187,8 @@ fn report(rt: &HostRuntime, words: &[&str]) -> Result<u8, Refused> {
 /// Verdicts on tokens files. The words begin with the subcommand.
 fn check(rt: &HostRuntime, words: &[&str]) -> Result<u8, Refused> {
     let alloc = rt.alloc();
-    let matches = matches_by(alloc, check_command(alloc), words)?;
+    let words = named(alloc, "ydebug check", words)?;
+    let matches = matches_by(alloc, check_command(alloc), &words)?;
     let asked = Check {
         grammar: value_of(&matches, "grammar")?,
         tokens: matches.get_strs("tokens").unwrap_or(&[]),
@@ -204,7 +214,8 @@ fn number_of(matches: &ArgMatches<'_>, name: &str) -> Result<Option<usize>, Refu
 /// A page of a parse. The words begin with the subcommand.
 fn page(rt: &HostRuntime, words: &[&str]) -> Result<u8, Refused> {
     let alloc = rt.alloc();
-    let matches = matches_by(alloc, page_command(alloc), words)?;
+    let words = named(alloc, "ydebug page", words)?;
+    let matches = matches_by(alloc, page_command(alloc), &words)?;
     let asked = page::Asked {
         grammar: value_of(&matches, "grammar")?,
         tokens: value_of(&matches, "tokens")?,

@@ -3,7 +3,7 @@
 use crate::cells::{text_of, why_of};
 use serde::Serialize;
 use std::alloc::{AllocError, Global};
-use std::io::{self, Write};
+use std::io::{self, ErrorKind, Write};
 use std::rt::Files;
 use yconflicts::groups::{Conflicts, Group, Kind};
 use yconflicts::search::Finder;
@@ -35,6 +35,14 @@ pub struct Card {
     ways: Vec<String>,
     /// What is said where lists are missing.
     missing: String,
+}
+
+/// The conflicts of a grammar.
+#[derive(Drop, Serialize)]
+pub struct Cards {
+    pub kinds: Vec<Card>,
+    /// How many kinds there are more.
+    more: usize,
 }
 
 /// What cards are made with.
@@ -105,8 +113,8 @@ fn cards_of(
     session: &mut Session,
     lines: &Lines,
     found: &Conflicts,
-) -> io::Result<Vec<Card>> {
-    let mut cards = Vec::new(alloc);
+) -> io::Result<Cards> {
+    let mut kinds = Vec::new(alloc);
     let mut finder = Finder::new(alloc, session.tables().automaton())?;
     let mut seeker = Seeker {
         alloc,
@@ -124,25 +132,29 @@ fn cards_of(
             kind,
             group: *group,
         };
-        cards.push(maker.card(&finding)?).map_err(AllocError::from)?;
+        let card = maker.card(&finding)?;
+        kinds.push(card).map_err(AllocError::from)?;
     }
-    Ok(cards)
+    Ok(Cards {
+        kinds,
+        more: found.groups.len().saturating_sub(MOST_CARDS),
+    })
 }
 
 /// The cards of a grammar, over a session without tokens.
-fn cards_over(alloc: Global, session: &mut Session, lines: &Lines) -> io::Result<Vec<Card>> {
+fn cards_over(alloc: Global, session: &mut Session, lines: &Lines) -> io::Result<Cards> {
     let found = Conflicts::new(alloc, session.tables())?;
     cards_of(alloc, session, lines, &found)
 }
 
 /// The cards of a grammar that is open.
-fn cards_in(alloc: Global, opened: Opened) -> io::Result<Vec<Card>> {
+fn cards_in(alloc: Global, opened: Opened) -> io::Result<Cards> {
     let Opened { tables, lines } = opened;
     let tokens = Tokens {
         symbols: Vec::new(alloc),
     };
     if !tokens.fits(&tables) {
-        return Ok(Vec::new(alloc));
+        return Err(io::Error::from(ErrorKind::Other));
     }
     let mut session = Session::new(alloc, tables, tokens);
     cards_over(alloc, &mut session, &lines)
@@ -154,7 +166,7 @@ pub fn open_cards<F: Files + AllocGlobal, E: Write>(
     rt: &F,
     path: &str,
     errors: &mut E,
-) -> io::Result<Result<Vec<Card>, u8>> {
+) -> io::Result<Result<Cards, u8>> {
     match open_grammar(rt, path, errors)? {
         Ok(opened) => Ok(Ok(cards_in(rt.alloc(), opened)?)),
         Err(status) => Ok(Err(status)),

@@ -1,6 +1,6 @@
 //! All that the page's script is given.
 
-use crate::cards::Card;
+use crate::cards::Cards;
 use crate::cells::{Cell, cells_of};
 use crate::input::Input;
 use crate::record::Record;
@@ -22,7 +22,7 @@ struct Data<'a> {
     record: &'a Record,
     cells: Vec<Cell>,
     /// The conflicts of the grammar, where they are wanted.
-    conflicts: Option<&'a [Card]>,
+    conflicts: Option<&'a Cards>,
 }
 
 /// What the page shows: the files, the parse at its last position, its steps, the cells that they
@@ -33,22 +33,34 @@ pub struct Shown<'a> {
     pub parse: &'a Parse,
     pub record: &'a Record,
     pub asked: &'a [(usize, Sym)],
-    pub conflicts: Option<&'a [Card]>,
+    pub conflicts: Option<&'a Cards>,
+}
+
+/// Adds the states of the first position, and those that the steps come to.
+fn add_reached(states: &mut IndexSet<usize>, record: &Record) -> Result<(), AllocError> {
+    let stack = record.start.stack.iter().map(|entry| entry.1);
+    for state in stack.chain(record.states.iter().copied()) {
+        states.insert(state)?;
+    }
+    Ok(())
+}
+
+/// Adds the states of conflicts.
+fn add_kinds(states: &mut IndexSet<usize>, cards: &Cards) -> Result<(), AllocError> {
+    for card in &cards.kinds {
+        states.insert(card.state)?;
+    }
+    Ok(())
 }
 
 impl<'a> Shown<'a> {
-    /// The states that the page shows: the first one, those of the steps, those of the conflicts.
+    /// The states that the page shows.
     fn states(self, alloc: Global) -> Result<IndexSet<usize>, AllocError> {
         let mut states = IndexSet::new(alloc);
         states.insert(0)?;
-        for entry in &self.record.start.stack {
-            states.insert(entry.1)?;
-        }
-        for state in &self.record.states {
-            states.insert(*state)?;
-        }
-        for card in self.conflicts.unwrap_or(&[]) {
-            states.insert(card.state)?;
+        add_reached(&mut states, self.record)?;
+        if let Some(cards) = self.conflicts {
+            add_kinds(&mut states, cards)?;
         }
         Ok(states)
     }

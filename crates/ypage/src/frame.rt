@@ -69,6 +69,7 @@ pub const BODY: &str = r##"</head>
 </div>
 <section class="panel" id="conflicts" aria-labelledby="conflicts-name" hidden>
   <h2 id="conflicts-name">Conflicts of the grammar</h2>
+  <ul id="kinds"></ul>
 </section>
 <details class="panel">
   <summary>Rules of the grammar</summary>

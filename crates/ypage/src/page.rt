@@ -1,6 +1,6 @@
 //! `ydebug page`: the page of a parse, written to a file or to standard output.
 
-use crate::cards::{Card, open_cards};
+use crate::cards::{Cards, open_cards};
 use crate::data::Shown;
 use crate::frame::{BODY, END, FRONT};
 use crate::record::Record;
@@ -103,7 +103,7 @@ fn cards_of<F: Files + AllocGlobal, E: Write>(
     rt: &F,
     asked: Asked<'_>,
     errors: &mut E,
-) -> io::Result<Result<Option<Vec<Card>>, u8>> {
+) -> io::Result<Result<Option<Cards>, u8>> {
     if asked.conflicts {
         Ok(open_cards(rt, asked.grammar, errors)?.map(Some))
     } else {
@@ -128,7 +128,7 @@ fn put_steps<F: Files + AllocGlobal, W: Write, E: Write>(
         parse: steps.parse,
         record: steps.record,
         asked: steps.cells,
-        conflicts: cards.as_ref().map(|cards| cards.as_slice()),
+        conflicts: cards.as_ref(),
     };
     let page = page_of(rt.alloc(), shown)?;
     write_page(rt, asked.file, &page, out, errors)

@@ -19,8 +19,7 @@ body {
   margin: 0 auto; padding: 0 1rem 2rem; max-width: 90rem; background: var(--back);
   color: var(--text); font: 16px/1.45 system-ui, sans-serif;
 }
-h1, h2, h3 { font-size: 1rem; margin: 0 0 .5rem; overflow-wrap: anywhere; }
-h1, h3 { margin-top: 1rem; }
+h1, h2, h3 { font-size: 1rem; margin: .25rem 0 .5rem; overflow-wrap: anywhere; }
 .names, .rows, .items, pre { font-family: ui-monospace, monospace; font-size: .875rem; }
 pre { margin: .25rem 0; white-space: pre-wrap; overflow-wrap: anywhere; }
 ol, ul, dd { list-style: none; margin: 0; padding: 0; }
@@ -60,6 +59,7 @@ button {
 }
 .rows, .items { max-height: 30rem; margin-top: .5rem; overflow: auto; }
 .rows li { display: flex; gap: .75rem; padding: 0 .4rem; white-space: pre; }
+.rows li > :first-child { min-width: 2.5ch; }
 .rows li > :nth-child(2) { flex: 1; }
 .new { background: var(--new); }
 .items li { padding-left: 1.5rem; text-indent: -1.5rem; overflow-wrap: anywhere; }
@@ -81,7 +81,7 @@ button {
    things of a list; the time between steps that are played. */
 const ROW = 24, DRAWN = 60, BEFORE = 60, MANY = 200, PACE = 500;
 let data, positions = [], troubles = [], now, timer, later, rows = [], active = null;
-const closed = new Set(), lost = new Set();
+const closed = new Set(), lost = new Set(), rulesOf = [];
 
 const at = (id) => document.getElementById(id);
 const name = (symbol) => data.table.names[symbol];
@@ -230,7 +230,7 @@ function itemsOf(state) {
     const symbol = bodyOf(rule)[dot];
     if (!(symbol >= data.table.tokens) || added.has(symbol)) continue;
     added.add(symbol);
-    data.table.rules.forEach(([left], number) => left === symbol && items.push([number, 0]));
+    for (const number of rulesOf[symbol] || []) items.push([number, 0]);
   }
   return items;
 }
@@ -382,8 +382,8 @@ function treeKey(event) {
 }
 
 /* At most so many things of a list, and how many there are more. */
-function some(list, draw) {
-  const shown = list.slice(0, MANY).map(draw), more = list.length - shown.length;
+function some(list, draw, beyond = 0) {
+  const shown = list.slice(0, MANY).map(draw), more = list.length - shown.length + beyond;
   if (more > 0) shown.push(make("li", {}, faint(`and ${more} more`)));
   return list.length ? shown : [make("li", {}, faint("none"))];
 }
@@ -415,7 +415,7 @@ function card({ state, token, states, shift, rules, more, why, ways, missing }, 
   if (more) boxes.push(box(`and ${more} rules more`, ""));
   boxes.push(...[...ways, missing].filter(Boolean).map((way) => box("the way there", plain(way))));
   const count = states > 1 ? `, the same in ${states} states` : "";
-  return make("div", {}, make("h3", {}, `${index + 1}: state ${state} on ${name(token)}${count}`),
+  return make("li", {}, make("h3", {}, `${index + 1}: state ${state} on ${name(token)}${count}`),
     make("div", { class: "beside" }, ...boxes), make("pre", {}, plain(why)));
 }
 
@@ -426,7 +426,7 @@ function showLists() {
   at("rules").append(...data.table.rules.map((_, rule) =>
     make("li", {}, `${ruleText(rule)} `, faint(ruleName(rule)))));
   at("conflicts").hidden = conflicts === null;
-  at("conflicts").append(...(conflicts && conflicts.length ? conflicts.map(card) : ["none"]));
+  if (conflicts) at("kinds").append(...some(conflicts.kinds, card, conflicts.more));
 }
 
 function show(place) {
@@ -477,6 +477,7 @@ function fromAddress() {
 
 function begin() {
   data = JSON.parse(at("data").textContent);
+  data.table.rules.forEach(([left], rule) => (rulesOf[left] ||= []).push(rule));
   readPositions();
   document.title = at("title").textContent = `${data.files[1]}, parsed by ${data.files[0]}`;
   Object.assign(at("slider"), { min: first(), max: last() });
