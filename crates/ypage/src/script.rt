@@ -79,7 +79,7 @@ button {
 "use strict";
 /* The height of a row of the tree, how many are drawn; tokens shown before the one ahead; the most
    things of a list; the time between steps that are played. */
-const ROW = 24, DRAWN = 60, BEFORE = 60, MANY = 200, PACE = 500;
+const ROW = 24, DRAWN = 40, BEFORE = 60, MANY = 200, PACE = 500;
 let data, positions = [], troubles = [], now, timer, later, rows = [], active = null;
 const closed = new Set(), lost = new Set(), rulesOf = [];
 
@@ -272,7 +272,7 @@ function tokenItem(place) {
 function showTokens() {
   const { taken } = here(), { count, skipped, symbols } = data.input, items = [];
   const from = Math.max(skipped, taken - BEFORE);
-  const to = Math.min(skipped + symbols.length, taken + MANY);
+  const to = Math.min(skipped + symbols.length, taken + 2 * BEFORE);
   if (from > 0) items.push(make("li", { class: "more" }, `${from} before`));
   for (let place = from; place < to; place += 1) items.push(tokenItem(place));
   items.push(to === count ? tokenItem(count) : make("li", { class: "more" }, `${count - to} more`));
@@ -285,12 +285,12 @@ function entryRow(number, label, note, kind) {
   return make("li", { class: kind }, faint(number), make("span", {}, label), faint(note));
 }
 
-/* What was popped since the error, the last entry first, until the step behind error's shift. */
+/* What was popped since the error, above what is left, until the step behind error's shift. */
 function poppedHere() {
   const { step, mode } = here();
   if (mode !== "popping" && !(step && "xf".includes(step.kind))) return [];
   const trouble = troubles.findLast(([error]) => error.place <= now) || [];
-  const popped = trouble.filter((it) => it.popped && it.place <= now).reverse();
+  const popped = trouble.filter((it) => it.popped && it.place <= now);
   return popped.map((it) => entryRow("", name(it.popped.symbol), "popped", "popped"));
 }
 
