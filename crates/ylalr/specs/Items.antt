@@ -1,6 +1,6 @@
 -- Valid items of prefixes, cores, merged lookaheads. A prefix is a list of symbols, the newest
 -- first.
-use Rattle.std.specs.Prelude.{ℕ, suc, ◌≡◌, ◌≢◌, ◌<◌, ◌↔◌, List, [], ◌∷◌, ◌++◌, length, drop}
+use Rattle.std.specs.Prelude.{ℕ, suc, ◌≡◌, ◌≢◌, ◌<◌, ◌≤◌, ◌↔◌, List, [], ◌∷◌, ◌++◌, length, drop}
 use Rattle.std.specs.List.{Contains}
 use Rattle.ylalr.specs.declared.items.Item.{Item}
 use Rattle.ysymbols.specs.Grammar.{ContextFree, left_of, body_of, end_token}
@@ -28,3 +28,11 @@ pub record Lookahead (g : ContextFree) (k : List Item) (i : Item) (a : ℕ) : Ty
   pub prefix : List ℕ
   pub core : IsCore g prefix k
   pub valid : Valid g prefix i.rule i.dot a
+
+-- The first token from t on that is a lookahead of the item i in the state k is n; or there is
+-- none, and n is the number of tokens.
+pub record IsNextLook (g : ContextFree) (k : List Item) (i : Item) (t n : ℕ) : Type 0 where
+  pub further : t ≤ n
+  pub within : n ≤ g.tokens
+  pub none : (a : ℕ) → t ≤ a → a < n → Lookahead g k i a → ⊥
+  pub looks : n < g.tokens → Lookahead g k i n

@@ -1,8 +1,9 @@
 //! The automaton of a grammar: its states, their gotos, and the lookaheads of their items.
 
 ghost use Rattle.std.specs.Prelude.{◌≡◌, ◌<◌, ◌≤◌, ◌↔◌, [], ◌∷◌, length, IsTrue, IfOk, IfErr};
+ghost use Rattle.std.specs.Prelude.{slice_index_or};
 ghost use Rattle.ysymbols.specs.Forms.{Nullable, First};
-ghost use Rattle.ylalr.specs.Items.{Lookahead};
+ghost use Rattle.ylalr.specs.Items.{Lookahead, IsNextLook};
 ghost use Rattle.ylalr.specs.Collection.{Collection, HasStates, IsGoto, goto_in, Guide, IsGuide};
 ghost use Rattle.ylalr.specs.Collection.{TooMany, bare_of, state_of};
 ghost use Rattle.yrows.specs.Limits.{most_states};
@@ -14,7 +15,7 @@ use crate::fault::BuildFault;
 use crate::first::{first_tokens, nullable_symbols};
 use crate::item_rows::ItemRows;
 use crate::items::Item;
-use crate::looks::{Lr0, all_looks, has_look};
+use crate::looks::{Lr0, all_looks, has_look, next_in_row};
 use std::alloc::Global;
 use std::marker::Model;
 use yrows::rows::Rows;
@@ -125,6 +126,19 @@ impl Automaton {
         ensures { IsTrue result ↔ Lookahead (bare_of self.now) (state_of self.now q) item t }
     {
         has_look(&self.lr0, &self.looks, q, item, t)
+    }
+
+    /// The first token from `t` on that is a lookahead of the item at `index` among `items(q)`, or
+    /// the number of tokens where there is none. `q` is below the number of states, `index` below
+    /// that of its items, and `t` at most the number of tokens (section 4.7, LALR(1) lookaheads).
+    pub fn next_look(&self, q: usize, index: usize, t: Sym) -> Sym
+        requires state { q < length self.now.states }
+        requires index { index < length (state_of self.now q) }
+        requires token { t ≤ (bare_of self.now).tokens }
+        ensures { (d : Item) → IsNextLook (bare_of self.now) (state_of self.now q)
+            (slice_index_or (state_of self.now q) index d) t result }
+    {
+        next_in_row(&self.lr0, &self.looks, q, index, t)
     }
 
     /// Whether the symbol derives the empty form; `s` is any symbol of the grammar, and no token

@@ -5,7 +5,8 @@ ghost use Rattle.std.specs.Prelude.{ℕ, ◌≡◌, ◌<◌, ◌↔◌, length, 
 ghost use Rattle.ylalr.specs.Draft.{IsHere, LeftsIn, SoundDraft, Further, IsMoved, OpensAt};
 ghost use Rattle.ylalr.specs.Draft.{ShiftsAt, ServesAt, ServesState, ServesAll, StartsDraft};
 ghost use Rattle.ylalr.specs.Draft.{FirstSized, AddsAtMost, HasForm};
-ghost use Rattle.ylalr.specs.Items.{Lookahead};
+ghost use Rattle.std.specs.Prelude.{◌≤◌, slice_index_or};
+ghost use Rattle.ylalr.specs.Items.{Lookahead, IsNextLook};
 ghost use Rattle.yrows.specs.Marks.{Has};
 ghost use Rattle.ylalr.specs.Lr0.{FitLr0, Whole};
 ghost use Rattle.yrows.specs.Rows.{Grows, IsSized};
@@ -229,4 +230,18 @@ pub fn has_look(lr0: &Lr0, looks: &Rows, q: usize, item: Item, t: Sym) -> bool
         Some(p) => looks.has(p, t),
         None => false,
     }
+}
+
+/// The first token from `t` on that is a lookahead of the item at `index` among those of state
+/// `q`, or the number of tokens where there is none.
+pub fn next_in_row(lr0: &Lr0, looks: &Rows, q: usize, index: usize, t: Sym) -> Sym
+    requires whole { Whole lr0.now looks.now }
+    requires state { q < length lr0.now.states.closures }
+    requires index { index < length (set_at lr0.now.states.closures q) }
+    requires token { t ≤ lr0.now.grammar.bare.tokens }
+    ensures next { (d : Item) → IsNextLook lr0.now.grammar.bare
+        (set_at lr0.now.states.closures q)
+        (slice_index_or (set_at lr0.now.states.closures q) index d) t result }
+{
+    looks.next(lr0.item_rows.rows(q)[index], t)
 }

@@ -83,6 +83,22 @@ impl Rows {
         c + step.min(self.width - c)
     }
 
+    /// The first column from `c` on that row `r` has, or the width where there is none.
+    pub fn next(&self, r: usize, c: usize) -> usize
+        requires row { r < self.now.height }
+        requires column { c ≤ self.now.width }
+        ensures further { c ≤ result }
+        ensures within { result ≤ self.now.width }
+        ensures none { (k : ℕ) → c ≤ k → k < result → Holds self.now r k → ⊥ }
+        ensures has { result < self.now.width → Holds self.now r result }
+    {
+        let mut at = c;
+        while at < self.width && !self.has(r, at) {
+            at = self.after(r, at);
+        }
+        at
+    }
+
     /// Unsets all bits.
     pub fn clear(&mut self)
         ensures rows { self.new.height ≡ self.old.height }

@@ -1,5 +1,6 @@
-//! Rows that give what they have along links, until nothing is new: a list of waiting rows, each
-//! taken from the front, which begins with rows in front of those to which they lead.
+//! Rows that give what they have along links, until nothing is new. Rows wait in rounds: the first
+//! has rows in front of those to which they lead, and each round goes against the one before, so
+//! that what runs down a chain of links and up again takes two rounds, however long the chain.
 
 ghost use Rattle.std.specs.Prelude.{◌≡◌, ◌<◌, ◌≤◌, [], length, slice_index_or, OnOk};
 ghost use Rattle.yrows.specs.Rows.{IsSized};
@@ -16,8 +17,7 @@ use std::alloc::{AllocError, Global};
 fn give(links: &Links, p: usize, rows: &mut Rows, waiting: &mut Waiting) -> Result<(), AllocError>
     requires links { AreLinks rows.old.height links.now }
     requires row { p < rows.old.height }
-    requires marks { length waiting.old.marks ≡ rows.old.height }
-    requires few { length waiting.old.queue ≤ length waiting.old.marks }
+    requires marks { length waiting.old ≡ rows.old.height }
     ensures { OnOk result
         (Gives (slice_index_or links.now p []) p rows.old waiting.old rows.new waiting.new) }
 {
@@ -30,8 +30,8 @@ fn give(links: &Links, p: usize, rows: &mut Rows, waiting: &mut Waiting) -> Resu
 }
 
 /// Has each row give along its links, until no row grows any more. A row that grew waits until it
-/// is taken, at most once at a time, and the one that waits longest is taken first. At first all
-/// wait, in an order in which only links that lead back have rows given to that were taken.
+/// is taken, at most once at a time. At first all wait, in an order in which only links that lead
+/// back have rows given to that were taken.
 pub fn spread(alloc: Global, links: &Links, rows: &mut Rows) -> Result<(), AllocError>
     requires { AreLinks rows.old.height links.now }
     ensures sized { OnOk result (IsSized rows.old.height rows.old.width rows.new) }

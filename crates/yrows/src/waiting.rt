@@ -1,38 +1,59 @@
-//! Numbers that wait: the one that waits longest is taken first, and none waits twice.
+//! Numbers that wait, none twice. Those put while a round of them is taken make the next round, and
+//! each round is taken from its end: where the numbers of one round were put in an order, those of
+//! the next are taken against it.
 
-ghost use Rattle.std.specs.Prelude.{ℕ, ◌≡◌, ◌<◌, ◌≤◌, [], ◌∷◌, length, All, IfOk, OnOk};
-ghost use Rattle.std.specs.Prelude.{MatchOption};
+ghost use Rattle.std.specs.Prelude.{ℕ, ◌≡◌, ◌<◌, true, false, [], All, IfOk, OnOk, length};
+ghost use Rattle.std.specs.Prelude.{MatchOption, slice_set};
 ghost use Rattle.std.specs.List.{Contains};
+ghost use Rattle.yrows.specs.Marks.{Has};
+ghost use Rattle.yrows.specs.Waiting.{AreOut, IsOut};
 
 use crate::marks::Marks;
 use std::alloc::{AllocError, Global};
-use std::collections::VecDeque;
 use std::marker::Model;
+use std::mem;
 
-/// A queue, and a mark for each number that stands in it.
+/// The rest of a round, the next round, and a mark for each number that waits.
 #[derive(Drop)]
 pub struct Waiting {
-    queue: VecDeque<usize>,
+    round: Vec<usize>,
+    next: Vec<usize>,
     marks: Marks,
 }
 
 impl Model for Waiting {
-    ghost use Rattle.yrows.specs.Waiting.{Queue, IsQueue};
+    ghost use Rattle.std.specs.Prelude.{List, Bool};
+    ghost use Rattle.yrows.specs.Waiting.{AreListed};
 
-    ghost Value = { Queue };
+    ghost Value = { List Bool };
 
-    ghost view = { λ w. record { queue = w.queue.items; marks = w.marks } };
+    ghost view = { λ w. w.marks };
 
-    ghost invariant = { λ w. IsQueue (record { queue = w.queue.items; marks = w.marks }) };
+    ghost invariant = { λ w. AreListed w.marks w.round.items w.next.items };
+}
+
+/// The number at the end of the round, or of the next one where this one is over.
+fn pop(round: &mut Vec<usize>, next: &mut Vec<usize>) -> Option<usize>
+    ensures { MatchOption result (AreOut round.old.items next.old.items
+        × AreOut round.new.items next.new.items)
+        (IsOut round.old.items next.old.items round.new.items next.new.items) }
+{
+    if let Some(p) = round.pop() {
+        return Some(p);
+    }
+    mem::swap(round, next);
+    let p = round.pop()?;
+    Some(p)
 }
 
 impl Waiting {
     /// None of the numbers below `n`.
     fn none(alloc: Global, n: usize) -> Result<Waiting, AllocError>
-        ensures { IfOk result (λ w. length w.marks ≡ n) }
+        ensures { IfOk result (λ w. length w ≡ n) }
     {
         Ok(Waiting {
-            queue: VecDeque::new(alloc),
+            round: Vec::new(alloc),
+            next: Vec::new(alloc),
             marks: Marks::new(alloc, n)?,
         })
     }
@@ -40,39 +61,37 @@ impl Waiting {
     /// The numbers of a list, all below `n`, the last one first.
     pub fn from_back(alloc: Global, n: usize, list: &[usize]) -> Result<Waiting, AllocError>
         requires { All (λ p. p < n) list.now }
-        ensures sized { IfOk result (λ w. length w.marks ≡ n) }
-        ensures every { IfOk result (λ w. (p : ℕ) → Contains list.now p → Contains w.queue p) }
+        ensures sized { IfOk result (λ w. length w ≡ n) }
+        ensures every { IfOk result (λ w. (p : ℕ) → Contains list.now p → Has w p) }
     {
         let mut waiting = Waiting::none(alloc, n)?;
-        for i in 0..list.len() {
-            waiting.put(list[list.len() - 1 - i])?;
+        for p in list {
+            waiting.put(*p)?;
         }
         Ok(waiting)
     }
 
-    /// Takes the number that waits longest; from then on it can be put back.
+    /// Takes a number that waits; from then on it can be put back.
     pub fn take(&mut self) -> Option<usize>
-        ensures sized { length self.new.marks ≡ length self.old.marks }
-        ensures few { length self.new.queue ≤ length self.new.marks }
-        ensures taken { MatchOption result (self.old.queue ≡ [])
-            (λ p. (self.old.queue ≡ p ∷ self.new.queue) × (p < length self.old.marks)) }
+        ensures { MatchOption result ((p : ℕ) → Has self.old p → ⊥)
+            (λ p. Has self.old p × (self.new ≡ slice_set self.old p false)) }
     {
-        let p = self.queue.pop_front()?;
-        self.marks.unmark(p);
-        Some(p)
+        while let Some(p) = pop(&mut self.round, &mut self.next) {
+            if self.marks.has(p) {
+                self.marks.unmark(p);
+                return Some(p);
+            }
+        }
+        None
     }
 
-    /// Has a number wait, at the end, unless it does.
+    /// Has a number wait, unless it does.
     pub fn put(&mut self, p: usize) -> Result<(), AllocError>
-        requires { p < length self.old.marks }
-        ensures sized { OnOk result (length self.new.marks ≡ length self.old.marks) }
-        ensures few { OnOk result (length self.new.queue ≤ length self.new.marks) }
-        ensures there { OnOk result (Contains self.new.queue p) }
-        ensures kept { OnOk result
-            ((x : ℕ) → Contains self.old.queue x → Contains self.new.queue x) }
+        requires { p < length self.old }
+        ensures { OnOk result (self.new ≡ slice_set self.old p true) }
     {
         if !self.marks.has(p) {
-            self.queue.push_back(p)?;
+            self.next.push(p)?;
             self.marks.mark(p);
         }
         Ok(())

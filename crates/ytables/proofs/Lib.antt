@@ -4,7 +4,9 @@ pub mod AmongSteps
 pub mod HadSteps
 pub mod GuideSteps
 pub mod LineSteps
+pub mod LookSteps
 pub mod RangeSteps
 pub mod RowSteps
 pub mod TableSteps
 pub mod TallySteps
+pub mod TalliesSteps

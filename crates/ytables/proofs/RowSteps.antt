@@ -2,32 +2,34 @@
 -- actions share.
 use Rattle.std.proofs.Common.{ℕ, zero, suc, ◌≡◌, ◌≢◌, ◌+◌, ◌-◌, ◌<◌, ◌≤◌, Bool, true, false, not}
 use Rattle.std.proofs.Common.{◌&&◌, ◌||◌, nat_eq, List, [], ◌∷◌, ◌++◌, length, map, take, drop}
-use Rattle.std.proofs.Common.{get_or, refl, sym, ap, ◌∙◌, subst, inl, inr, ◌⊎◌, arith, append-nil}
+use Rattle.std.proofs.Common.{get_or, refl, sym, ap, ◌∙◌, subst, inl, inr, ◌⊎◌, arith, append-nil, append_assoc}
 use Rattle.std.proofs.Common.{length-drop, Option, Some, None, MatchOption, if◌then◌else◌}
 use Rattle.std.specs.List.{All, AllPairs, filter, flat_map, list_all, list_any, range_with_len}
 use Rattle.std.proofs.lemmas.Bool.Decides.{eqb_tells}
 use Rattle.std.proofs.lemmas.List.{map-append}
-use Rattle.std.proofs.lemmas.List.Elements.{All-filter, filter_more, filter_passes}
+use Rattle.std.proofs.lemmas.List.Elements.{All-append, All-filter, filter_more, filter_passes}
 use Rattle.std.proofs.lemmas.List.Kept.{AllPairs-filter}
 use Rattle.std.proofs.lemmas.List.FromFn.{fill_by_all}
 use Rattle.std.proofs.Math.Seq.{drop-cons}
 use Rattle.ysymbols.specs.Grammar.{ContextFree, body_of}
 use Rattle.ylalr.specs.declared.items.Item.{Item}
 use Rattle.ylalr.specs.Sets.{Before, IsAscending, InRange}
-use Rattle.ylalr.specs.Collection.{Collection, Guide, state_of, goto_in}
+use Rattle.ylalr.specs.Collection.{Collection, Guide, state_of}
 use Rattle.ytables.specs.declared.class.Class.{Class}
 use Rattle.ytables.specs.declared.class.Class.TheVariants.{Beat, Lose, Ban, Rest}
 use Rattle.ytables.specs.declared.cell.Action.{Action}
 use Rattle.ytables.specs.declared.cell.Action.TheVariants.{Shift, Reduce, Accept, Error}
 use Rattle.ytables.specs.declared.cell.Cell.{Cell}
+use Rattle.ytables.specs.declared.cell.Conflict.{Conflict}
 use Rattle.ytables.specs.declared.cell.Tally.{Tally}
-use Rattle.ytables.specs.Cell.{cell_of, common, is_filled, is_reduce}
-use Rattle.ytables.specs.Report.{conflict_line, conflicts_text}
-use Rattle.ytables.specs.Rows.{InGrammar, IsRowTo, IsRow, ReduceBy}
+use Rattle.ytables.specs.Cell.{common, is_filled, is_reduce}
+use Rattle.ytables.specs.Report.{conflict_line, conflict_text, conflicts_text}
+use Rattle.ytables.specs.Tables.{conflict_at, conflicts_to, conflicts_in}
+use Rattle.ytables.specs.Rows.{IsRowTo, IsRow, ReduceBy}
 use Rattle.ytables.specs.Tables.{after_dot, is_empty, is_ready, ready_in, rules_by, has_before}
-use Rattle.ytables.specs.Tables.{tokens_of, cell_in, class_in, shift_by, TablesValue}
+use Rattle.ytables.specs.Tables.{tokens_of, cell_in, TablesValue}
 use Rattle.ytables.specs.Tally.{IsTally, tally_more}
-use Rattle.ytables.proofs.RangeSteps.{map_more, sum_more, any_more}
+use Rattle.ytables.proofs.RangeSteps.{map_more, range_more, sum_more, any_more}
 use Rattle.ytables.proofs.TallySteps.{tally_push}
 
 module _ (class : ℕ → Class) (test : Item → Bool) (xs : List Item) (n : ℕ) (d : Item) (y : Tally)
@@ -94,35 +96,12 @@ filter_both {X} r p (x ∷ xs) = go (r x) (filter_both r p xs)
     go true e = ap (λ l. if p x then x ∷ l else l) e
     go false e = e
 
-and_same : (b : Bool) → (b && b) ≡ b
-and_same true = refl
-and_same false = refl
-
-filter_again : {X : Type 0} (p : X → Bool) (xs : List X) → filter p (filter p xs) ≡ filter p xs
-filter_again {X} p xs = sym (filter_both p p xs) ∙ go xs
-  where
-    go : (xs : List X) → filter (λ x. p x && p x) xs ≡ filter p xs
-    go [] = refl
-    go (x ∷ xs) = ap (λ b. if b then x ∷ filter (λ x. p x && p x) xs else filter (λ x. p x && p x)
-        xs) (and_same (p x)) ∙ ap (λ l. if p x then x ∷ l else l) (go xs)
-
 -- the rules of the complete items that pass, from a list that has the same complete items
 pub rules_ready : (g : ContextFree) (test : Item → Bool) (items k : List Item) →
     ready_in g items ≡ ready_in g k → rules_by (λ i. is_ready g i && test i) items ≡ rules_by test
     (ready_in g k)
 rules_ready g test items k e = ap (map (λ (i : Item). i.rule))
     (filter_both (is_ready g) test items ∙ ap (filter test) e)
-
-pub ready_again : (g : ContextFree) (k : List Item) → ready_in g (ready_in g k) ≡ ready_in g k
-ready_again g k = filter_again (is_ready g) k
-
--- a test that fails in one of its parts
-pub ready_in_grammar : (g : ContextFree) (k : List Item) → InGrammar g k →
-    InGrammar g (ready_in g k)
-ready_in_grammar g k h = All-filter (is_ready g) (λ (i : Item). i.rule < length g.rules) k h
-
-pub range_in_grammar : (g : ContextFree) (k : List Item) → InRange g k → InGrammar g k
-range_in_grammar g k h n d l = (h n d l).0
 
 -- a list whose rules rise is no longer than there are rules
 rising : (xs : List Item) (low n : ℕ) → All (λ (i : Item). (low ≤ i.rule) × (i.rule < n)) xs →
@@ -291,24 +270,90 @@ empty_yes l n h = go (drop n l) (let e = length-drop n l in omega (arith, e, h))
     go [] e = refl
     go (x ∷ k) e = absurd (omega (arith, e))
 
-flat_none : (f : ℕ → List ℕ) (xs : List ℕ) → ((x : ℕ) → f x ≡ []) → flat_map f xs ≡ []
-flat_none f [] h = refl
-flat_none f (x ∷ xs) h = ap (λ l. l ++ flat_map f xs) (h x) ∙ flat_none f xs h
+flat_map-both : {X Y : Type 0} (f : X → List Y) (xs ys : List X) →
+    flat_map f (xs ++ ys) ≡ flat_map f xs ++ flat_map f ys
+flat_map-both f [] ys = refl
+flat_map-both f (x ∷ xs) ys = ap (λ l. f x ++ l) (flat_map-both f xs ys) ∙ sym
+    (append_assoc (f x) (flat_map f xs) (flat_map f ys))
 
--- a state without complete items counts no conflicts
-pub no_conflicts : (v : TablesValue) (u : Guide) (q : ℕ) → ready_in v.built.grammar.bare
-    (state_of v.built q) ≡ [] → conflicts_text v u q ≡ []
-no_conflicts v u q e = flat_none (λ t. conflict_line v.built.grammar t (cell_in v.built u q t))
-    (tokens_of v.built.grammar) line
+-- one more cell, and what it counts
+pub conflicts_more : (m : Collection) (u : Guide) (q n : ℕ) (c : Cell) → c ≡ cell_in m u q n →
+    conflicts_to m u q n ++ conflict_at n c ≡ conflicts_to m u q (n + 1)
+conflicts_more m u q n c e =
+    let f = λ (t : ℕ). conflict_at t (cell_in m u q t) in
+    ap (λ (x : Cell). conflicts_to m u q n ++ conflict_at n x) e ∙ sym
+    (ap (flat_map f) (range_more 0 n n (omega arith)) ∙ flat_map-both f (range_with_len 0 n)
+    (n ∷ []) ∙ ap (λ l. conflicts_to m u q n ++ l) (append-nil (f n)))
+
+-- the lines of the conflicts are those of the cells
+pub conflicts_said : (v : TablesValue) (u : Guide) (q : ℕ) →
+    flat_map (conflict_text v.built.grammar) (conflicts_in v.built u q) ≡ conflicts_text v u q
+conflicts_said v u q = go (tokens_of v.built.grammar)
   where
-    bare : (t : ℕ) (class : ℕ → Class) (shift : Option Action) → conflict_line v.built.grammar t
-        (cell_of class shift []) ≡ []
-    bare t class None = refl
-    bare t class (Some s) = refl
+    one : (t : ℕ) (c : Cell) → flat_map (conflict_text v.built.grammar) (conflict_at t c) ≡
+        conflict_line v.built.grammar t c
+    one t c = case (nat_eq c.shift_reduce 0 && nat_eq c.reduce_reduce 0)
+      where
+        k : Conflict
+        k = record { token = t; shift_reduce = c.shift_reduce; reduce_reduce = c.reduce_reduce }
 
-    line : (t : ℕ) → conflict_line v.built.grammar t (cell_in v.built u q t) ≡ []
-    line t =
-        let class = class_in v.built.grammar t in
-        let shift = shift_by v.built.grammar.bare (goto_in v.built q) (state_of v.built q) t in
-        ap (λ (k : List Item). conflict_line v.built.grammar t
-        (cell_of class shift (rules_by (λ i. u.looks q i t) k))) e ∙ bare t class shift
+        case : (b : Bool) →
+            flat_map (conflict_text v.built.grammar) (if b then [] else k ∷ []) ≡
+            (if b then [] else conflict_text v.built.grammar k)
+        case true = refl
+        case false = append-nil (conflict_text v.built.grammar k)
+
+    go : (ts : List ℕ) → flat_map (conflict_text v.built.grammar)
+        (flat_map (λ t. conflict_at t (cell_in v.built u q t)) ts) ≡
+        flat_map (λ t. conflict_line v.built.grammar t (cell_in v.built u q t)) ts
+    go [] = refl
+    go (t ∷ ts) = flat_map-both (conflict_text v.built.grammar)
+        (conflict_at t (cell_in v.built u q t))
+        (flat_map (λ t. conflict_at t (cell_in v.built u q t)) ts) ∙ ap
+        (λ l. l ++ flat_map (conflict_text v.built.grammar)
+        (flat_map (λ t. conflict_at t (cell_in v.built u q t)) ts))
+        (one t (cell_in v.built u q t)) ∙ ap
+        (λ l. conflict_line v.built.grammar t (cell_in v.built u q t) ++ l) (go ts)
+
+-- each conflict is at a token
+pub conflicts_at_tokens : (m : Collection) (u : Guide) (q n : ℕ) →
+    All (λ (k : Conflict). k.token < n) (conflicts_to m u q n)
+conflicts_at_tokens m u q n = go 0 n (omega arith)
+  where
+    f : ℕ → List Conflict
+    f t = conflict_at t (cell_in m u q t)
+
+    one : (t : ℕ) (c : Cell) → t < n → All (λ (k : Conflict). k.token < n) (conflict_at t c)
+    one t c h = case (nat_eq c.shift_reduce 0 && nat_eq c.reduce_reduce 0)
+      where
+        none : All (λ (k : Conflict). k.token < n) []
+        none i d l = absurd (omega arith)
+
+        alone : (k : Conflict) → k.token < n → All (λ (k : Conflict). k.token < n) (k ∷ [])
+        alone k b zero d l = b
+        alone k b (suc i) d l = absurd (omega arith)
+
+        case : (b : Bool) → All (λ (k : Conflict). k.token < n) (if b then [] else record {
+          token = t;
+          shift_reduce = c.shift_reduce;
+          reduce_reduce = c.reduce_reduce;
+        } ∷ [])
+        case true = none
+        case false = alone _ h
+
+    no_more : All (λ (k : Conflict). k.token < n) []
+    no_more i d l = absurd (omega arith)
+
+    go : (a r : ℕ) → a + r ≤ n → All (λ (k : Conflict). k.token < n)
+        (flat_map f (range_with_len a r))
+    go a zero h = no_more
+    go a (suc r) h = All-append (λ (k : Conflict). k.token < n) (f a)
+        (flat_map f (range_with_len (a + 1) r)) (one a (cell_in m u q a) (omega arith))
+        (go (a + 1) r (omega arith))
+
+-- what stands in a list doesn't hang on what is read beside it
+pub same_at : {X : Type 0} (xs : List X) (i : ℕ) (d e : X) → i < length xs →
+    get_or xs i d ≡ get_or xs i e
+same_at [] i d e h = absurd (omega arith)
+same_at (x ∷ xs) zero d e h = refl
+same_at (x ∷ xs) (suc i) d e h = same_at xs i d e (omega arith)

@@ -9,7 +9,9 @@ use Rattle.ytables.specs.declared.cell.Action.{Action}
 use Rattle.ytables.specs.declared.cell.Action.TheVariants.{Error}
 use Rattle.ytables.specs.Cell.{by_default}
 use Rattle.yrows.specs.Packed.{PackedRows, entry_of, IsPushed}
+use Rattle.ytables.specs.declared.cell.Conflict.{Conflict}
 use Rattle.ytables.specs.Rows.{IsRow}
+use Rattle.ytables.specs.Tables.{AreConflicts, conflicts_in}
 use Rattle.ytables.specs.Tables.{AreRowsTo, AreSumsTo, act_at, rule_at, action_in, default_in}
 use Rattle.ytables.specs.Tables.{cell_in, row_shift_reduce, row_reduce_reduce, row_choice}
 use Rattle.ytables.proofs.RangeSteps.{sum_more, any_more}
@@ -26,6 +28,21 @@ module _ (m : Collection) (u : Guide) (n : ℕ) (row : List Action) (rule : Opti
     choice = (let a = h.choice in let e = r.cells.choice in let k = any_more n (row_choice m u) in
         cc);
   }
+
+  pub conflicts_step : (lists lists' : List (List Conflict)) (k : List Conflict) →
+      length lists ≡ n → lists' ≡ lists ++ k ∷ [] → k ≡ conflicts_in m u n →
+      AreConflicts m u n lists → AreConflicts m u (n + 1) lists'
+  conflicts_step lists lists' k len e same h = λ q l. go q (side q l)
+    where
+      side : (q : ℕ) → q < n + 1 → (q < n) ⊎ (q ≡ n)
+      side q l = grind arith
+
+      go : (q : ℕ) → (q < n) ⊎ (q ≡ n) → get_or lists' q [] ≡ conflicts_in m u q
+      go q (inl l) = ap (λ (xs : List (List Conflict)). get_or xs q []) e ∙ get_or_append_left lists
+          (k ∷ []) [] q (omega arith) ∙ h q l
+      go q (inr l) = ap (λ (xs : List (List Conflict)). get_or xs q []) e ∙ ap
+          (λ i. get_or (lists ++ k ∷ []) i []) (l ∙ sym len) ∙ get_or-append_seam lists k [] [] ∙
+          same ∙ ap (conflicts_in m u) (sym l)
 
   pub rows_step : (old new : PackedRows Action) (entries : List (Option Action))
       (ds ds' : List (Option ℕ)) → length old.rows ≡ n → old.width ≡ m.grammar.bare.tokens →

@@ -6,6 +6,7 @@ pub mod Report
 pub mod Table
 pub mod Tables
 pub mod Tally
+pub mod Tallies
 pub mod Text
 pub use Rattle.ylink.specs.Link
 pub use Rattle.ylink.specs.Sends

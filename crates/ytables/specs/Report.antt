@@ -1,6 +1,6 @@
 -- The text of the report: rules, those that can't be reached, tokens, and each state with its
 -- items, actions and conflicts.
-use Rattle.std.specs.Prelude.{ℕ, ◌&&◌, ◌++◌, List, [], length, codes, decimal, take, Option, Some}
+use Rattle.std.specs.Prelude.{ℕ, ◌≡◌, ◌<◌, ◌&&◌, ◌++◌, List, [], length, codes, decimal, take, Option, Some}
 use Rattle.std.specs.Prelude.{None, false, if◌then◌else◌, nat_eq, slice_get, slice_index_or}
 use Rattle.std.specs.Prelude.{unwrap_or, flat_map}
 use Rattle.ysymbols.specs.Grammar.{GrammarValue, left_of, body_of}
@@ -9,6 +9,7 @@ use Rattle.ylalr.specs.Collection.{Guide, state_of, goto_in}
 use Rattle.ytables.specs.declared.cell.Action.{Action}
 use Rattle.ytables.specs.declared.cell.Action.TheVariants.{Shift, Reduce, Accept, Error}
 use Rattle.ytables.specs.declared.cell.Cell.{Cell}
+use Rattle.ytables.specs.declared.cell.Conflict.{Conflict}
 use Rattle.ytables.specs.Tables.{TablesValue, action_at, default_at, cell_in, after_dot, is_empty}
 use Rattle.ytables.specs.Tables.{tokens_of, states_of}
 use Rattle.ytables.specs.Text.{name_of, spaced_names, count_line, pair_line, rules_of}
@@ -40,6 +41,11 @@ look_text v u q i t = if u.looks q i t then codes " " ++ name_of v.built.grammar
 -- the lookaheads of an item
 abbrev pub looks_text : TablesValue → Guide → ℕ → Item → List ℕ
 looks_text v u q i = flat_map (look_text v u q i) (tokens_of v.built.grammar)
+
+-- the item is the one at the index among those of state q
+pub record StandsAt (v : TablesValue) (q index : ℕ) (i : Item) : Type 0 where
+  pub inside : index < length (state_of v.built q)
+  pub item : (d : Item) → slice_index_or (state_of v.built q) index d ≡ i
 
 -- what follows a complete item
 abbrev pub on_text : TablesValue → Guide → ℕ → Item → List ℕ
@@ -79,6 +85,11 @@ action_line v t Error = []
 abbrev pub goto_line : GrammarValue → ℕ → Option ℕ → List ℕ
 goto_line v x None = []
 goto_line v x (Some n) = line_for v x (count_line (codes " goto ") n)
+
+-- the line of a conflict
+abbrev pub conflict_text : GrammarValue → Conflict → List ℕ
+conflict_text v k =
+    line_for v k.token (pair_line (codes " conflicts ") k.shift_reduce k.reduce_reduce)
 
 -- the line of a cell that counts a conflict
 abbrev pub conflict_line : GrammarValue → ℕ → Cell → List ℕ

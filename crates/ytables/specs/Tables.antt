@@ -1,7 +1,7 @@
 -- What the tables of an automaton say: its cells, with default reductions in consistent states.
 use Rattle.std.specs.Prelude.{ℕ, ◌≡◌, ◌+◌, ◌-◌, ◌<◌, ◌≤◌, Bool, true, false, not, ◌&&◌, List, []}
 use Rattle.std.specs.Prelude.{◌∷◌, length, map, drop, Option, Some, None, if◌then◌else◌, nat_eq}
-use Rattle.std.specs.Prelude.{slice_index_or, unwrap_or}
+use Rattle.std.specs.Prelude.{slice_index_or, unwrap_or, flat_map}
 use Rattle.std.specs.List.{filter, list_any, sum_by, range_with_len}
 use Rattle.ysymbols.specs.declared.precedence.Precedence.{Precedence}
 use Rattle.ysymbols.specs.Grammar.{ContextFree, GrammarValue, body_of, end_token}
@@ -11,6 +11,7 @@ use Rattle.ytables.specs.declared.class.Class.{Class}
 use Rattle.ytables.specs.declared.cell.Action.{Action}
 use Rattle.ytables.specs.declared.cell.Action.TheVariants.{Shift, Accept, Error}
 use Rattle.ytables.specs.declared.cell.Cell.{Cell}
+use Rattle.ytables.specs.declared.cell.Conflict.{Conflict}
 use Rattle.yrows.specs.Packed.{PackedRows, entry_of}
 use Rattle.ytables.specs.Cell.{class_of, cell_of, is_filled, common, by_default}
 
@@ -161,6 +162,24 @@ pub record AreSumsTo (m : Collection) (u : Guide) (n shifts reduces : ℕ) (chos
     pub reduce_reduce : reduces ≡ sum_by (row_reduce_reduce m u) (range_with_len 0 n)
     pub choice : chosen ≡ list_any (row_choice m u) (range_with_len 0 n)
 
+-- what the cell at the token t counts, where it counts something
+abbrev pub conflict_at : ℕ → Cell → List Conflict
+conflict_at t c =
+    if nat_eq c.shift_reduce 0 && nat_eq c.reduce_reduce 0 then [] else
+    record { token = t; shift_reduce = c.shift_reduce; reduce_reduce = c.reduce_reduce } ∷ []
+
+-- the conflicts of state q at the tokens below n
+abbrev pub conflicts_to : Collection → Guide → ℕ → ℕ → List Conflict
+conflicts_to m u q n = flat_map (λ t. conflict_at t (cell_in m u q t)) (range_with_len 0 n)
+
+-- the conflicts of state q
+abbrev pub conflicts_in : Collection → Guide → ℕ → List Conflict
+conflicts_in m u q = conflicts_to m u q m.grammar.bare.tokens
+
+-- The lists have the conflicts of the states below n.
+abbrev pub AreConflicts : Collection → Guide → ℕ → List (List Conflict) → Type 0
+AreConflicts m u n lists = (q : ℕ) → q < n → slice_index_or lists q [] ≡ conflicts_in m u q
+
 -- The tables go by these gotos and lookaheads: all cells, and the sums over all states and all
 -- tokens.
 pub record FollowsGuide (v : TablesValue) (u : Guide) : Type 0 where
@@ -184,10 +203,14 @@ pub record AreGotos (m : Collection) (packed : PackedRows ℕ) : Type 0 where
   pub width : packed.width + m.grammar.bare.tokens ≡ m.grammar.bare.symbols
   pub gotos : AreGotosTo m (length m.states) packed.rows
 
--- What holds of tables: a row, a default rule and gotos for each state, and what these say.
-pub record IsTables (v : TablesValue) (columns : ℕ) (packed : PackedRows ℕ) : Type 0 where
+-- What holds of tables: a row, a default rule, gotos and conflicts for each state, and what these say.
+pub record IsTables (v : TablesValue) (columns : ℕ) (packed : PackedRows ℕ)
+    (lists : List (List Conflict)) : Type 0 where
   pub rows : length v.actions ≡ length v.built.states
   pub defaults : length v.defaults ≡ length v.built.states
   pub width : columns ≡ v.built.grammar.bare.tokens
   pub gotos : AreGotos v.built packed
   pub tables : AreTables v
+  pub listed : length lists ≡ length v.built.states
+  pub conflicts : (u : Guide) → IsGuide v.built u → AreConflicts v.built u (length v.built.states)
+      lists

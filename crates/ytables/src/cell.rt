@@ -28,6 +28,15 @@ pub struct Cell {
     pub choice: bool,
 }
 
+/// What a cell counts, where it counts something: how many rules could be reduced at this token
+/// beside its shift, and how many beside the rule by which it reduces.
+#[derive(Clone, Copy, Debug, Drop, PartialEq, Eq)]
+pub struct Conflict {
+    pub token: usize,
+    pub shift_reduce: usize,
+    pub reduce_reduce: usize,
+}
+
 /// A cell that counts nothing.
 fn lone(action: Action, choice: bool) -> Cell
     ensures { result ≡ lone action choice }

@@ -4,7 +4,7 @@ ghost use Rattle.std.specs.Prelude.{ℕ, ◌≡◌, ◌<◌, ◌+◌, length, sl
 ghost use Rattle.ylalr.specs.Collection.{goto_in};
 ghost use Rattle.ytables.specs.Tables.{AreGotos};
 
-use crate::row::next_symbol;
+use crate::dots::next_symbol;
 use std::alloc::{AllocError, Global};
 use ylalr::{Automaton, token_count};
 use yrows::packed::Packed;

@@ -7,14 +7,16 @@
 mod cell;
 mod class;
 mod count;
+mod dots;
 mod fault;
 mod gotos;
 mod report;
 mod row;
 mod table;
 mod tables;
+mod tallies;
 
-pub use cell::Action;
+pub use cell::{Action, Conflict};
 pub use fault::TableFault;
 pub use tables::{Counts, Tables, resolve};
 pub use ylink::Link;

@@ -1,26 +1,25 @@
 //! The text of the report.
 
 ghost use Rattle.std.specs.Prelude.{ℕ, ◌≡◌, ◌<◌, ◌≤◌, ◌++◌, All, codes, flat_map, is_some};
-ghost use Rattle.std.specs.Prelude.{is_ok, is_err, length, IfErr};
+ghost use Rattle.std.specs.Prelude.{is_ok, is_err, length, IfErr, slice_index_or};
 ghost use Rattle.ysymbols.specs.Grammar.{body_of};
-ghost use Rattle.ylalr.specs.Collection.{Guide, IsGuide};
+ghost use Rattle.ylalr.specs.Collection.{Guide, IsGuide, state_of};
 ghost use Rattle.ytables.specs.declared.fault.TableFault.{TableFault};
 ghost use Rattle.ylink.specs.Link.{device_of, has_failed};
 ghost use Rattle.ylink.specs.Sends.{Sends, Grows};
 ghost use Rattle.ytables.specs.Tables.{default_at, tokens_of};
 ghost use Rattle.ytables.specs.Text.{name_of, pair_line, rules_of, spaced_names};
 ghost use Rattle.ytables.specs.Report.{rule_head, rule_text, unreachable_line};
-ghost use Rattle.ytables.specs.Report.{token_line, look_text, looks_text, on_text, item_left};
+ghost use Rattle.ytables.specs.Report.{token_line, looks_text, on_text, item_left, StandsAt};
 ghost use Rattle.ytables.specs.Report.{item_front, item_back, item_line, action_line, goto_line};
-ghost use Rattle.ytables.specs.Report.{conflict_line, actions_text, rule_or_actions};
+ghost use Rattle.ytables.specs.Report.{conflict_text, actions_text, rule_or_actions};
 ghost use Rattle.ytables.specs.Report.{gotos_text, conflicts_text, items_text, cells_text};
 ghost use Rattle.ytables.specs.Report.{state_text, states_text, counts_text, tokens_part};
 ghost use Rattle.ytables.specs.Report.{unreachable_part, report_of};
 
-use crate::cell::{Action, Cell};
+use crate::cell::{Action, Conflict};
 use crate::count::put_count;
 use crate::fault::TableFault;
-use crate::row::{cell_of, has_ready};
 use crate::tables::Tables;
 use std::io::Write;
 use ylalr::{Item, token_count};
@@ -135,42 +134,36 @@ fn put_tokens<W: Write>(link: &mut Link<W>, grammar: &Grammar) -> Option<()>
     Some(())
 }
 
-/// The name of a token after a space, where it is a lookahead of the item.
-fn put_look<W: Write>(
-    link: &mut Link<W>,
-    tables: &Tables,
-    q: usize,
-    item: Item,
-    t: Sym,
-) -> Option<()>
+/// The lookaheads of the item at an index, each after a space.
+fn put_looks<W: Write>(link: &mut Link<W>, tables: &Tables, q: usize, index: usize) -> Option<()>
     requires state { q < length tables.now.built.states }
-    requires token { t < tables.now.built.grammar.bare.tokens }
+    requires index { index < length (state_of tables.now.built q) }
     ensures { (u : Guide) → IsGuide tables.now.built u
-        → Sends W.contents link.old link.new (is_some result) (look_text tables.now u q item t) }
+        → (d : Item) → Sends W.contents link.old link.new (is_some result)
+        (looks_text tables.now u q (slice_index_or (state_of tables.now.built q) index d)) }
 {
-    let grammar = tables.grammar();
+    let automaton = tables.automaton();
+    let grammar = automaton.grammar();
     let _well_formed = grammar.symbols();
-    if tables.automaton().looks(q, item, t) {
-        put_name(link, grammar, t)
-    } else {
-        Some(())
-    }
-}
-
-fn put_looks<W: Write>(link: &mut Link<W>, tables: &Tables, q: usize, item: Item) -> Option<()>
-    requires { q < length tables.now.built.states }
-    ensures { (u : Guide) → IsGuide tables.now.built u
-        → Sends W.contents link.old link.new (is_some result) (looks_text tables.now u q item) }
-{
-    for t in 0..token_count(tables.grammar()) {
-        put_look(link, tables, q, item, t)?;
+    let tokens = token_count(grammar);
+    let mut t = automaton.next_look(q, index, 0);
+    while t < tokens {
+        put_name(link, grammar, t)?;
+        t = automaton.next_look(q, index, t + 1);
     }
     Some(())
 }
 
 /// What follows an item: for a complete one its lookaheads.
-fn put_on<W: Write>(link: &mut Link<W>, tables: &Tables, q: usize, item: Item) -> Option<()>
+fn put_on<W: Write>(
+    link: &mut Link<W>,
+    tables: &Tables,
+    q: usize,
+    index: usize,
+    item: Item,
+) -> Option<()>
     requires state { q < length tables.now.built.states }
+    requires here { StandsAt tables.now q index item }
     requires rule { item.rule < length tables.now.built.grammar.bare.rules }
     ensures { (u : Guide) → IsGuide tables.now.built u
         → Sends W.contents link.old link.new (is_some result) (on_text tables.now u q item) }
@@ -179,7 +172,7 @@ fn put_on<W: Write>(link: &mut Link<W>, tables: &Tables, q: usize, item: Item) -
         return Some(());
     }
     put(link, b" on")?;
-    put_looks(link, tables, q, item)
+    put_looks(link, tables, q, index)
 }
 
 /// The left side of an item.
@@ -204,8 +197,15 @@ fn put_front<W: Write>(link: &mut Link<W>, grammar: &Grammar, item: Item) -> Opt
 }
 
 /// The rest of an item's line.
-fn put_back<W: Write>(link: &mut Link<W>, tables: &Tables, q: usize, item: Item) -> Option<()>
+fn put_back<W: Write>(
+    link: &mut Link<W>,
+    tables: &Tables,
+    q: usize,
+    index: usize,
+    item: Item,
+) -> Option<()>
     requires state { q < length tables.now.built.states }
+    requires here { StandsAt tables.now q index item }
     requires rule { item.rule < length tables.now.built.grammar.bare.rules }
     requires dot { item.dot ≤ length (body_of tables.now.built.grammar.bare item.rule) }
     ensures { (u : Guide) → IsGuide tables.now.built u
@@ -214,20 +214,27 @@ fn put_back<W: Write>(link: &mut Link<W>, tables: &Tables, q: usize, item: Item)
     let grammar = tables.grammar();
     let _well_formed = grammar.symbols();
     put_names(link, grammar, &grammar.rule(item.rule).body()[item.dot..])?;
-    put_on(link, tables, q, item)?;
+    put_on(link, tables, q, index, item)?;
     put(link, b"\n")
 }
 
 /// The line of an item.
-fn put_item<W: Write>(link: &mut Link<W>, tables: &Tables, q: usize, item: Item) -> Option<()>
+fn put_item<W: Write>(
+    link: &mut Link<W>,
+    tables: &Tables,
+    q: usize,
+    index: usize,
+    item: Item,
+) -> Option<()>
     requires state { q < length tables.now.built.states }
+    requires here { StandsAt tables.now q index item }
     requires rule { item.rule < length tables.now.built.grammar.bare.rules }
     requires dot { item.dot ≤ length (body_of tables.now.built.grammar.bare item.rule) }
     ensures { (u : Guide) → IsGuide tables.now.built u
         → Sends W.contents link.old link.new (is_some result) (item_line tables.now u q item) }
 {
     put_front(link, tables.grammar(), item)?;
-    put_back(link, tables, q, item)
+    put_back(link, tables, q, index, item)
 }
 
 fn put_items<W: Write>(link: &mut Link<W>, tables: &Tables, q: usize) -> Option<()>
@@ -237,8 +244,9 @@ fn put_items<W: Write>(link: &mut Link<W>, tables: &Tables, q: usize) -> Option<
 {
     let automaton = tables.automaton();
     let _guide = automaton.states();
-    for item in automaton.items(q) {
-        put_item(link, tables, q, *item)?;
+    let items = automaton.items(q);
+    for index in 0..items.len() {
+        put_item(link, tables, q, index, items[index])?;
     }
     Some(())
 }
@@ -318,53 +326,35 @@ fn put_gotos<W: Write>(link: &mut Link<W>, tables: &Tables, q: usize) -> Option<
     Some(())
 }
 
-/// The line of a cell that counts a conflict, none for another.
-fn put_conflict<W: Write>(link: &mut Link<W>, grammar: &Grammar, t: Sym, cell: Cell) -> Option<()>
-    requires { t < grammar.now.bare.symbols }
+/// The line of a conflict.
+fn put_conflict<W: Write>(link: &mut Link<W>, grammar: &Grammar, conflict: Conflict) -> Option<()>
+    requires { conflict.token < grammar.now.bare.symbols }
     ensures { Sends W.contents link.old link.new (is_some result)
-        (conflict_line grammar.now t cell) }
+        (conflict_text grammar.now conflict) }
 {
-    if cell.shift_reduce == 0 && cell.reduce_reduce == 0 {
-        return Some(());
-    }
     let mut first = itoa::Buffer::new();
     let mut second = itoa::Buffer::new();
-    let first = first.format(cell.shift_reduce).as_bytes();
-    let second = second.format(cell.reduce_reduce).as_bytes();
-    let name = grammar.name(t);
+    let first = first.format(conflict.shift_reduce).as_bytes();
+    let second = second.format(conflict.reduce_reduce).as_bytes();
+    let name = grammar.name(conflict.token);
     put_all(
         link,
         &[b"  ", name, b" conflicts ", first, b" ", second, b"\n"],
     )
 }
 
-/// The lines of the cells of a state that count a conflict, each cell looked at.
-fn put_all_conflicts<W: Write>(link: &mut Link<W>, tables: &Tables, q: usize) -> Option<()>
-    requires { q < length tables.now.built.states }
-    ensures { (u : Guide) → IsGuide tables.now.built u
-        → Sends W.contents link.old link.new (is_some result) (conflicts_text tables.now u q) }
-{
-    let grammar = tables.grammar();
-    let _well_formed = grammar.symbols();
-    for t in 0..token_count(grammar) {
-        put_conflict(link, grammar, t, cell_of(tables.automaton(), q, t))?;
-    }
-    Some(())
-}
-
-/// The lines of the cells of a state that count a conflict: none where no item is complete.
 fn put_conflicts<W: Write>(link: &mut Link<W>, tables: &Tables, q: usize) -> Option<()>
     requires { q < length tables.now.built.states }
     ensures { (u : Guide) → IsGuide tables.now.built u
         → Sends W.contents link.old link.new (is_some result) (conflicts_text tables.now u q) }
 {
-    let automaton = tables.automaton();
-    let _guide = automaton.states();
-    if has_ready(tables.grammar(), automaton.items(q)) {
-        put_all_conflicts(link, tables, q)
-    } else {
-        Some(())
+    let _guide = tables.automaton().states();
+    let grammar = tables.grammar();
+    let _well_formed = grammar.symbols();
+    for conflict in tables.conflicts_in(q) {
+        put_conflict(link, grammar, *conflict)?;
     }
+    Some(())
 }
 
 /// The actions of a state, its gotos, its conflicts.

@@ -1,59 +1,24 @@
 //! The cells of one state.
 
 ghost use Rattle.std.specs.Prelude.{ℕ, ◌≡◌, ◌<◌, ◌≤◌, ◌+◌, ◌&&◌, [], ◌∷◌, List, length, drop};
-ghost use Rattle.std.specs.Prelude.{false, None, slice_index_or, IfOk, MatchOption};
+ghost use Rattle.std.specs.Prelude.{false, None, slice_index_or, IfOk, OnOk, MatchOption, ◌++◌};
 ghost use Rattle.std.specs.Prelude.{if◌then◌else◌};
 ghost use Rattle.std.specs.List.{filter, list_any};
 ghost use Rattle.ysymbols.specs.Grammar.{body_of};
 ghost use Rattle.ylalr.specs.Collection.{Guide, IsGuide, bare_of, state_of, goto_in};
 ghost use Rattle.ytables.specs.Cell.{common, is_filled};
 ghost use Rattle.ytables.specs.Rows.{InGrammar, IsRowTo, IsRow, most_in_row};
-ghost use Rattle.ytables.specs.Tables.{after_dot, is_ready, has_before, ready_in, class_at};
-ghost use Rattle.ytables.specs.Tables.{rules_by, shift_of, level_of, cell_in};
-ghost use Rattle.ytables.specs.Tally.{IsTally};
+ghost use Rattle.ytables.specs.Tables.{has_before, shift_of, cell_in, conflict_at, conflicts_to};
+ghost use Rattle.ytables.specs.Tables.{conflicts_in};
+ghost use Rattle.ytables.specs.Tallies.{IsTallyAt};
 
-use crate::cell::{Action, Cell, Tally};
-use crate::class::class_between;
+use crate::cell::{Action, Cell, Conflict, Tally};
+use crate::dots::next_symbol;
+use crate::tallies::tallies_of;
 use std::alloc::{AllocError, Global};
 use ylalr::{Automaton, END, Item};
-use ysymbols::{Grammar, Precedence, Sym};
-
-/// The symbol after the dot.
-pub fn next_symbol(grammar: &Grammar, item: Item) -> Option<Sym>
-    requires { item.rule < length grammar.now.bare.rules }
-    ensures { MatchOption result (after_dot grammar.now.bare item ≡ [])
-        (λ s. after_dot grammar.now.bare item ≡ s ∷ drop (item.dot + 1)
-        (body_of grammar.now.bare item.rule)) }
-{
-    let body = grammar.rule(item.rule).body();
-    if item.dot < body.len() {
-        Some(body[item.dot])
-    } else {
-        None
-    }
-}
-
-/// Whether the item is complete, and of another rule than rule 0.
-fn is_ready(grammar: &Grammar, item: Item) -> bool
-    requires { item.rule < length grammar.now.bare.rules }
-    ensures { result ≡ is_ready grammar.now.bare item }
-{
-    item.rule != 0 && next_symbol(grammar, item).is_none()
-}
-
-/// The complete items of a list, but for rule 0.
-fn ready_items(alloc: Global, grammar: &Grammar, items: &[Item]) -> Result<Vec<Item>, AllocError>
-    requires { InGrammar grammar.now.bare items.now }
-    ensures { IfOk result (λ v. v.items ≡ ready_in grammar.now.bare items.now) }
-{
-    let mut found = Vec::new(alloc);
-    for item in items {
-        if is_ready(grammar, *item) {
-            found.push(*item)?;
-        }
-    }
-    Ok(found)
-}
+use yrows::list::Sequence;
+use ysymbols::{Grammar, Sym};
 
 /// For each token, whether an item of the list has its dot before it.
 fn tokens_before(
@@ -78,49 +43,6 @@ fn tokens_before(
     Ok(marks)
 }
 
-/// Whether the item is complete, of another rule than rule 0, and looks at the token.
-fn reduces_at(automaton: &Automaton, q: usize, item: Item, t: Sym) -> bool
-    requires state { q < length automaton.now.states }
-    requires token { t < automaton.now.grammar.bare.tokens }
-    requires rule { item.rule < length automaton.now.grammar.bare.rules }
-    ensures { (u : Guide) → IsGuide automaton.now u
-        → result ≡ (is_ready automaton.now.grammar.bare item && u.looks q item t) }
-{
-    let _well_formed = automaton.grammar().symbols();
-    is_ready(automaton.grammar(), item) && automaton.looks(q, item, t)
-}
-
-/// The rules whose complete items look at the token, tallied.
-fn tally_at(
-    automaton: &Automaton,
-    q: usize,
-    t: Sym,
-    level: Option<Precedence>,
-    items: &[Item],
-) -> Tally
-    requires state { q < length automaton.now.states }
-    requires token { t < automaton.now.grammar.bare.tokens }
-    requires within { InGrammar automaton.now.grammar.bare items.now }
-    ensures tally { (u : Guide) → IsGuide automaton.now u
-        → IsTally (class_at automaton.now.grammar level) (rules_by
-        (λ i. is_ready automaton.now.grammar.bare i && u.looks q i t) items.now) result }
-    ensures rests { result.rests ≤ result.all }
-    ensures kept { result.kept ≤ result.all }
-    ensures all { result.all ≤ length items.now }
-{
-    let grammar = automaton.grammar();
-    let _well_formed = grammar.symbols();
-    let mut tally = Tally::new();
-    for item in items {
-        if !reduces_at(automaton, q, *item, t) {
-            continue;
-        }
-        let rule = grammar.rule(item.rule).precedence();
-        tally.add(item.rule, class_between(level, rule));
-    }
-    tally
-}
-
 /// The shift of a token before which a dot stands.
 fn shift_at(automaton: &Automaton, q: usize, t: Sym) -> Action
     requires state { q < length automaton.now.states }
@@ -135,78 +57,6 @@ fn shift_at(automaton: &Automaton, q: usize, t: Sym) -> Action
         Some(n) => Action::Shift(n),
         None => Action::Error,
     }
-}
-
-/// The precedence of a token; the end has none.
-fn level_of(grammar: &Grammar, t: Sym) -> Option<Precedence>
-    requires { t < grammar.now.bare.tokens }
-    ensures { result ≡ level_of grammar.now t }
-{
-    let _well_formed = grammar.symbols();
-    if t == END {
-        None
-    } else {
-        grammar.precedence(t)
-    }
-}
-
-/// The cell of a state and a token, by a list of items that has its complete ones.
-fn cell_at(automaton: &Automaton, q: usize, t: Sym, shifts: bool, items: &[Item]) -> Cell
-    requires state { q < length automaton.now.states }
-    requires token { t < automaton.now.grammar.bare.tokens }
-    requires ready { ready_in (bare_of automaton.now) items.now ≡ ready_in
-        (bare_of automaton.now) (state_of automaton.now q) }
-    requires within { InGrammar automaton.now.grammar.bare items.now }
-    requires shifts { shifts ≡ has_before (bare_of automaton.now) (state_of automaton.now q) t }
-    ensures cell { (u : Guide) → IsGuide automaton.now u → result ≡ cell_in automaton.now u q t }
-    ensures shift_reduce { result.shift_reduce ≤ length items.now }
-    ensures reduce_reduce { result.reduce_reduce ≤ length items.now }
-{
-    let grammar = automaton.grammar();
-    let _well_formed = grammar.symbols();
-    if shifts {
-        let tally = tally_at(automaton, q, t, level_of(grammar, t), items);
-        return tally.settle(Some(shift_at(automaton, q, t)));
-    }
-    tally_at(automaton, q, t, None, items).settle(None)
-}
-
-/// Whether the list has a complete item of another rule than rule 0.
-pub fn has_ready(grammar: &Grammar, items: &[Item]) -> bool
-    requires { InGrammar grammar.now.bare items.now }
-    ensures { result ≡ false → ready_in grammar.now.bare items.now ≡ [] }
-{
-    for item in items {
-        if is_ready(grammar, *item) {
-            return true;
-        }
-    }
-    false
-}
-
-/// Whether an item of the list has its dot before the token.
-fn stands_before(grammar: &Grammar, items: &[Item], t: Sym) -> bool
-    requires { InGrammar grammar.now.bare items.now }
-    ensures { result ≡ has_before grammar.now.bare items.now t }
-{
-    for item in items {
-        if next_symbol(grammar, *item) == Some(t) {
-            return true;
-        }
-    }
-    false
-}
-
-/// The cell of a state and a token, without memory.
-pub fn cell_of(automaton: &Automaton, q: usize, t: Sym) -> Cell
-    requires state { q < length automaton.now.states }
-    requires token { t < automaton.now.grammar.bare.tokens }
-    ensures { (u : Guide) → IsGuide automaton.now u → result ≡ cell_in automaton.now u q t }
-{
-    let _guide = automaton.states();
-    let items = automaton.items(q);
-    let shifts = stands_before(automaton.grammar(), items, t);
-    cell_at(automaton, q, t, shifts, items)
 }
 
 /// The rule by which all filled cells of a row reduce, where there is one.
@@ -225,51 +75,86 @@ fn common_rule(actions: &[Action]) -> Option<usize>
     found
 }
 
+/// Keeps what a cell counts, where it counts something.
+fn keep(conflicts: &mut Sequence<Conflict>, t: Sym, cell: Cell) -> Result<(), AllocError>
+    ensures { OnOk result (conflicts.new ≡ conflicts.old ++ conflict_at t cell) }
+{
+    if cell.shift_reduce == 0 && cell.reduce_reduce == 0 {
+        return Ok(());
+    }
+    conflicts.push(Conflict {
+        token: t,
+        shift_reduce: cell.shift_reduce,
+        reduce_reduce: cell.reduce_reduce,
+    })
+}
+
 /// The actions of one state by its cells, and what these count.
 #[derive(Drop)]
 struct Cells {
     actions: Vec<Action>,
+    conflicts: Sequence<Conflict>,
     shift_reduce: u64,
     reduce_reduce: u64,
     choice: bool,
 }
 
-/// The cells of one state, by its complete items and the tokens before which a dot stands.
+/// The cell of a state and a token, where it can be shifted or not, by the tally of its rules.
+fn settled(automaton: &Automaton, q: usize, t: Sym, shifts: bool, tally: &Tally) -> Cell
+    requires state { q < length automaton.now.states }
+    requires token { t < automaton.now.grammar.bare.tokens }
+    requires shifts { shifts ≡ has_before (bare_of automaton.now) (state_of automaton.now q) t }
+    requires tally { (u : Guide) → IsGuide automaton.now u
+        → IsTallyAt automaton.now u q shifts t tally.now }
+    ensures cell { (u : Guide) → IsGuide automaton.now u → result ≡ cell_in automaton.now u q t }
+    ensures shift_reduce { result.shift_reduce ≤ tally.now.rests }
+    ensures reduce_reduce { result.reduce_reduce ≤ tally.now.kept }
+{
+    if shifts {
+        return tally.settle(Some(shift_at(automaton, q, t)));
+    }
+    tally.settle(None)
+}
+
+/// The cells of one state, by the tokens before which a dot stands.
 fn cells_of(
     alloc: Global,
     automaton: &Automaton,
     q: usize,
     before: &[bool],
-    ready: &[Item],
 ) -> Result<Cells, AllocError>
     requires state { q < length automaton.now.states }
     requires tokens { length before.now ≡ automaton.now.grammar.bare.tokens }
-    requires ready { ready.now ≡ ready_in (bare_of automaton.now) (state_of automaton.now q) }
     requires before { (t : ℕ) → t < length before.now
         → slice_index_or before.now t false ≡ has_before (bare_of automaton.now)
         (state_of automaton.now q) t }
     ensures cells { IfOk result (λ c. (u : Guide) → IsGuide automaton.now u
         → IsRowTo automaton.now u q
         (length before.now) c.actions.items c.shift_reduce c.reduce_reduce c.choice) }
+    ensures conflicts { IfOk result (λ c. (u : Guide) → IsGuide automaton.now u
+        → c.conflicts ≡ conflicts_to automaton.now u q (length before.now)) }
     ensures len { IfOk result (λ c. length c.actions.items ≡ length before.now) }
     ensures shift_reduce { IfOk result (λ c. c.shift_reduce ≤ most_in_row) }
     ensures reduce_reduce { IfOk result (λ c. c.reduce_reduce ≤ most_in_row) }
 {
-    let _guide = automaton.states();
     let _well_formed = automaton.grammar().symbols();
+    let tallies = tallies_of(alloc, automaton, q, before)?;
     let mut actions = Vec::with_capacity(alloc, before.len())?;
+    let mut conflicts = Sequence::new(alloc);
     let mut shift_reduce = 0;
     let mut reduce_reduce = 0;
     let mut choice = false;
     for t in 0..before.len() {
-        let cell = cell_at(automaton, q, t, before[t], ready);
+        let cell = settled(automaton, q, t, before[t], &tallies[t]);
         actions.push(cell.action)?;
+        keep(&mut conflicts, t, cell)?;
         shift_reduce += cell.shift_reduce as u64;
         reduce_reduce += cell.reduce_reduce as u64;
         choice |= cell.choice;
     }
     Ok(Cells {
         actions,
+        conflicts,
         shift_reduce,
         reduce_reduce,
         choice,
@@ -292,6 +177,7 @@ fn default_of(before: &[bool], actions: &[Action]) -> Option<usize>
 #[derive(Drop)]
 pub struct Row {
     pub actions: Vec<Action>,
+    pub conflicts: Sequence<Conflict>,
     pub default: Option<usize>,
     pub shift_reduce: u64,
     pub reduce_reduce: u64,
@@ -310,6 +196,8 @@ pub fn row_of(
     ensures row { IfOk result (λ r. (u : Guide) → IsGuide automaton.now u
         → IsRow automaton.now u q r.actions.items r.default r.shift_reduce r.reduce_reduce
         r.choice) }
+    ensures conflicts { IfOk result (λ r. (u : Guide) → IsGuide automaton.now u
+        → r.conflicts ≡ conflicts_in automaton.now u q) }
     ensures len { IfOk result (λ r. length r.actions.items ≡ tokens) }
     ensures shift_reduce { IfOk result (λ r. r.shift_reduce ≤ most_in_row) }
     ensures reduce_reduce { IfOk result (λ r. r.reduce_reduce ≤ most_in_row) }
@@ -317,18 +205,19 @@ pub fn row_of(
     let _guide = automaton.states();
     let grammar = automaton.grammar();
     let items = automaton.items(q);
-    let ready = ready_items(alloc, grammar, items)?;
     let before = tokens_before(alloc, grammar, tokens, items)?;
-    let cells = cells_of(alloc, automaton, q, &before, &ready)?;
+    let cells = cells_of(alloc, automaton, q, &before)?;
     let default = default_of(&before, &cells.actions);
     let Cells {
         actions,
+        conflicts,
         shift_reduce,
         reduce_reduce,
         choice,
     } = cells;
     Ok(Row {
         actions,
+        conflicts,
         default,
         shift_reduce,
         reduce_reduce,

@@ -9,17 +9,20 @@ ghost use Rattle.ytables.specs.declared.fault.TableFault.{TableFault};
 ghost use Rattle.ytables.specs.Allowed.{CellsAllow};
 ghost use Rattle.ytables.specs.Cell.{by_default};
 ghost use Rattle.ytables.specs.Had.{NoChoice, CellsHave};
-ghost use Rattle.ytables.specs.Tables.{AreRowsTo, AreSumsTo, AreTables, action_at, default_at};
+ghost use Rattle.ytables.specs.Tables.{AreRowsTo, AreSumsTo, AreTables, AreConflicts};
+ghost use Rattle.ytables.specs.Tables.{action_at, default_at};
 ghost use Rattle.ytables.specs.Tables.{action_in, default_in, act_at, rule_at};
 ghost use Rattle.ytables.specs.Tables.{row_shift_reduce, row_reduce_reduce, states_of};
+ghost use Rattle.ytables.specs.Tables.{conflicts_in};
 
-use crate::cell::Action;
+use crate::cell::{Action, Conflict};
 use crate::fault::TableFault;
 use crate::gotos::all_gotos;
 use crate::row::row_of;
 use std::alloc::{AllocError, Global};
 use std::marker::Model;
 use ylalr::{Automaton, token_count};
+use yrows::list::Sequence;
 use yrows::packed::Packed;
 use ysymbols::{Grammar, Sym};
 
@@ -37,6 +40,7 @@ pub struct Tables {
     actions: Packed<Action>,
     gotos: Packed<usize>,
     defaults: Vec<Option<usize>>,
+    conflicts: Vec<Sequence<Conflict>>,
     counts: Counts,
     chosen: bool,
 }
@@ -62,7 +66,7 @@ impl Model for Tables {
       shift_reduce = t.counts.shift_reduce;
       reduce_reduce = t.counts.reduce_reduce;
       choice = t.chosen;
-    }) t.actions.width t.gotos };
+    }) t.actions.width t.gotos t.conflicts.items };
 }
 
 /// The entries of a row: its actions but for errors, and none where a default rule stands in for
@@ -94,6 +98,7 @@ fn entries_of(
 struct Found {
     actions: Packed<Action>,
     defaults: Vec<Option<usize>>,
+    conflicts: Vec<Sequence<Conflict>>,
     counts: Counts,
     chosen: bool,
 }
@@ -103,6 +108,10 @@ fn all_rows(alloc: Global, automaton: &Automaton) -> Result<Found, AllocError>
     ensures actions { IfOk result (λ f. length f.actions.rows ≡ length automaton.now.states) }
     ensures width { IfOk result (λ f. f.actions.width ≡ automaton.now.grammar.bare.tokens) }
     ensures defaults { IfOk result (λ f. length f.defaults.items ≡ length automaton.now.states) }
+    ensures conflicts { IfOk result (λ f. (u : Guide) → IsGuide automaton.now u
+        → AreConflicts automaton.now u (length automaton.now.states) f.conflicts.items) }
+    ensures listed { IfOk result (λ f. length f.conflicts.items
+        ≡ length automaton.now.states) }
     ensures rows { IfOk result (λ f. (u : Guide) → IsGuide automaton.now u
         → AreRowsTo automaton.now u (length automaton.now.states)
         (act_at f.actions.rows f.defaults.items) (rule_at f.defaults.items)) }
@@ -116,6 +125,7 @@ fn all_rows(alloc: Global, automaton: &Automaton) -> Result<Found, AllocError>
     let states = automaton.states();
     let mut actions = Packed::new(alloc, tokens);
     let mut defaults = Vec::with_capacity(alloc, states)?;
+    let mut conflicts = Vec::with_capacity(alloc, states)?;
     let mut shift_reduce = 0;
     let mut reduce_reduce = 0;
     let mut chosen = false;
@@ -127,6 +137,7 @@ fn all_rows(alloc: Global, automaton: &Automaton) -> Result<Found, AllocError>
         shift_reduce += row.shift_reduce;
         reduce_reduce += row.reduce_reduce;
         chosen |= row.choice;
+        conflicts.push(row.conflicts)?;
     }
     let counts = Counts {
         shift_reduce,
@@ -135,6 +146,7 @@ fn all_rows(alloc: Global, automaton: &Automaton) -> Result<Found, AllocError>
     Ok(Found {
         actions,
         defaults,
+        conflicts,
         counts,
         chosen,
     })
@@ -155,6 +167,7 @@ pub fn resolve(alloc: Global, automaton: Automaton) -> Result<Tables, TableFault
     let Found {
         actions,
         defaults,
+        conflicts,
         counts,
         chosen,
     } = found;
@@ -163,6 +176,7 @@ pub fn resolve(alloc: Global, automaton: Automaton) -> Result<Tables, TableFault
         actions,
         gotos,
         defaults,
+        conflicts,
         counts,
         chosen,
     })
@@ -238,6 +252,16 @@ impl Tables {
             ≡ sum_by (row_reduce_reduce self.now.built u) (states_of self.now.built)) }
     {
         self.counts
+    }
+
+    /// What the cells of state `q` count, by rising tokens, those left out that count nothing;
+    /// `q` is below the number of states.
+    pub fn conflicts_in(&self, q: usize) -> &[Conflict]
+        requires { q < length self.now.built.states }
+        ensures { (u : Guide) → IsGuide self.now.built u
+            → result.now ≡ conflicts_in self.now.built u q }
+    {
+        self.conflicts[q].as_slice()
     }
 
     /// Whether no cell has a choice between two candidates. Where that is so, each candidate that

@@ -1,7 +1,6 @@
 use Rattle.std.proofs.Common.{◌≡◌, ◌<◌, ◌+◌, ◌++◌, [], ◌∷◌, ◌∙◌, get_or, take, suc, sym, ap, subst}
-use Rattle.std.proofs.Common.{arith}
+use Rattle.std.proofs.Common.{arith, List, Bool, length}
 use Rattle.std.proofs.Math.Seq.{take-suc}
-use Rattle.yrows.specs.Waiting.{Queue}
 use Rattle.yrows.specs.Spread.{Gives}
 use Rattle.yrows.proofs.Spreading.{gives_same, gives_grew, linked_at, take_all}
 use Rattle.yrows.proofs.spread.give.Goals as goal
@@ -32,16 +31,19 @@ loop-to-preserved c =
     let a = c.add_row.ensures in
     let m = c.args.rows.now in
     let v = c.args.waiting.now in
+    let inside : t < length c.loop-to.waiting = subst (λ h. t < h)
+    (sym (c.loop-to.invariant.marks ∙ c.requires.marks))
+    (linked_at c.args.rows.now.height c.args.links.now c.args.p k xs c.requires.links
+    c.of-to-items.ensures c.loop-to-test.true) in
     let ek : take (k + 1) xs ≡ take k xs ++ t ∷ [] = (let e : k + 1 ≡ suc k = omega arith in
     ap (λ j. take j xs) e ∙ take-suc xs k 0 c.loop-to-test.true) in
     subst (λ ys. Gives ys c.args.p m v c.add_row.new.self c.if-add_row.waiting) (sym ek)
     (elim c.if-add_row.branch [
-      | then-add_row+in_ok-put w ↦ subst (λ (y : Queue). Gives (take k xs ++ t ∷ []) c.args.p m v
+      | then-add_row+in_ok-put w ↦ subst (λ (y : List Bool). Gives (take k xs ++ t ∷ []) c.args.p m v
           c.add_row.new.self y) (sym w.waiting-is)
           (gives_grew (take k xs) c.args.p t m c.loop-to.rows c.add_row.new.self v c.loop-to.waiting
           w.put.new.self i a.adds (record { rows = a.grown.rows; columns = a.grown.columns })
-          (a.grown.fewer_if w.if-add_row.true) w.in_ok-put.ensures.sized w.in_ok-put.ensures.few
-          w.in_ok-put.ensures.there w.in_ok-put.ensures.kept)
+          (a.grown.fewer_if w.if-add_row.true) w.in_ok-put.ensures inside)
       | else-add_row w ↦ gives_same (take k xs) c.args.p t m c.loop-to.rows c.add_row.new.self v
           c.loop-to.waiting c.if-add_row.waiting i a.adds (a.grown.unchanged w.if-add_row.false)
           w.waiting-is

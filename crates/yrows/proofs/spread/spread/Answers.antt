@@ -12,13 +12,13 @@ loop-p-init c = spreading_none c.args.links.now c.args.rows.now c.in_ok-waiting.
 pub loop-p-preserved : goal.loop-p-preserved
 loop-p-preserved c = spreading_give c.args.links.now c.args.rows.now c.loop-p.rows c.give.new.rows
     c.loop-p.waiting c.take.new.self c.give.new.waiting c.in-Some.p c.loop-p.invariant
-    c.in-Some.ensures.taken.0 c.in-Some.ensures.sized c.in_ok-give.ensures
+    c.in-Some.ensures.1 c.in_ok-give.ensures
 
 pub loop-p-smaller : goal.loop-p-smaller
 loop-p-smaller c = spread_nearer c.args.links.now c.loop-p.rows c.give.new.rows c.loop-p.waiting
-    c.take.new.self c.give.new.waiting c.in-Some.p c.in-Some.ensures.taken.0 c.in-Some.ensures.sized
+    c.take.new.self c.give.new.waiting c.in-Some.p c.in-Some.ensures.0 c.in-Some.ensures.1
     c.in_ok-give.ensures
 
 pub returns-clause-exact : goal.returns-clause-exact
 returns-clause-exact c = spreading_end c.args.links.now c.args.rows.now c.loop-p.rows
-    c.loop-p.waiting c.loop-p.invariant c.in_default.ensures.taken
+    c.loop-p.waiting c.loop-p.invariant c.in_default.ensures

@@ -1,5 +1,5 @@
 use Rattle.std.proofs.Common.{ℕ, ◌≡◌, ◌<◌, ◌≤◌, ◌++◌, Bool, true, false, List, [], codes, length}
-use Rattle.std.proofs.Common.{Option, sym, subst, if◌then◌else◌}
+use Rattle.std.proofs.Common.{Option, is_some, sym, subst, if◌then◌else◌}
 use Rattle.ysymbols.specs.Grammar.{body_of}
 use Rattle.ylalr.specs.declared.items.Item.{Item}
 use Rattle.ylalr.specs.Collection.{Guide}
@@ -47,4 +47,7 @@ returns g c = λ u h.
     let end : length (body_of v.built.grammar.bare i.rule) ≤ i.dot =
     rw (c.body.ensures, c.rule.ensures.production, c.grammar.ensures) at c.if-item-body.false in
     told g.W.Write.contents _ _ _ true v u c.args.q i (empty_yes _ i.dot end)
-    (two g.W.Write.contents _ _ _ _ _ _ c.in_ok-put.ensures (c.put_looks.ensures u h))
+    (two g.W.Write.contents _ _ _ _ _ _ c.in_ok-put.ensures
+    (subst (λ (x : Item). Sends g.W.Write.contents c.put.new.link c.put_looks.new.link
+    (is_some c.put_looks.result) (looks_text v u c.args.q x)) (c.requires.here.item i)
+    (c.put_looks.ensures u h i)))

@@ -1,62 +1,79 @@
-use Rattle.std.proofs.Common.{◌≤◌, ◌+◌, List, ◌∷◌, ◌||◌, [], length, sym, ap, ◌∙◌, subst, arith}
-use Rattle.std.proofs.Common.{length-append}
-use Rattle.ylalr.specs.declared.items.Item.{Item}
-use Rattle.ysymbols.specs.Grammar.{GrammarValue, most_rules}
-use Rattle.ylalr.specs.Collection.{state_of}
+use Rattle.std.proofs.Common.{◌++◌, ◌≡◌, ◌<◌, ◌≤◌, ◌+◌, List, ◌∷◌, ◌||◌, [], length, get_or, sym, ap}
+use Rattle.std.proofs.Common.{◌∙◌, subst, arith, length-append}
+use Rattle.std.proofs.lemmas.List.{get_or_read}
+use Rattle.ysymbols.specs.Grammar.{GrammarValue, most_rules, most_symbols}
 use Rattle.ytables.specs.declared.cell.Action.{Action}
-use Rattle.ytables.specs.Rows.{InGrammar, IsRowTo}
-use Rattle.ytables.specs.Tables.{ready_in}
-use Rattle.ytables.proofs.RowSteps.{row_more, ready_in_grammar, range_in_grammar, few_ready}
-use Rattle.ytables.proofs.RowSteps.{ready_again}
+use Rattle.ytables.specs.declared.cell.Tally.{Tally}
+use Rattle.ytables.specs.Rows.{IsRowTo}
+use Rattle.ytables.specs.Tally.{no_tally}
+use Rattle.ytables.specs.Tables.{conflict_at}
+use Rattle.ytables.proofs.RowSteps.{row_more, conflicts_more}
+use Rattle.ytables.proofs.row.cells_of.Goals.{After-settled-cell}
 use Rattle.ytables.proofs.row.cells_of.Goals as goal
 
-pub cell_at-cell-requires-clause-within : goal.cell_at-cell-requires-clause-within
-cell_at-cell-requires-clause-within c =
-    let m = c.args.automaton.now in
-    let g = m.grammar.bare in
-    let k = state_of m c.args.q in
-    subst (λ (l : List Item). InGrammar g l) (sym c.requires.ready)
-    (ready_in_grammar g k (range_in_grammar g k
-    (c.states-guide.ensures.states.range c.args.q c.requires.state)))
+-- a cell counts no more than there are rules, and there are no more tokens than symbols
+bounds : (c : After-settled-cell) → (c.settled-cell.result.shift_reduce ≤ most_rules) ×
+    (c.settled-cell.result.reduce_reduce ≤ most_rules) × (c.loop-t.t < most_symbols)
+bounds c =
+    let y = c.index.result.now in
+    let items = c.in_ok-tallies.tallies.items in
+    let t = c.loop-t-test.true in
+    let e = c.in_ok-tallies.ensures.len in
+    let within : c.loop-t.t < length items = omega (arith, e, t) in
+    let at : y ≡ get_or items c.loop-t.t no_tally =
+    get_or_read items c.loop-t.t y within c.index.ensures no_tally in
+    let few = subst (λ (y : Tally). (y.rests ≤ y.all) × (y.kept ≤ y.all) × (y.all ≤ most_rules))
+    (sym at) (c.in_ok-tallies.ensures.small c.loop-t.t within) in
+    let r = few.0 in
+    let k = few.1 in
+    let n = few.2 in
+    let a = c.settled-cell.ensures.shift_reduce in
+    let b = c.settled-cell.ensures.reduce_reduce in
+    let w = c.symbols-well_formed.ensures.well_formed in
+    let tokens = subst (λ (v : GrammarValue). v.bare.tokens ≤ v.bare.symbols) c.grammar.ensures
+    w.within in
+    let symbols = subst (λ (v : GrammarValue). v.bare.symbols ≤ most_symbols) c.grammar.ensures
+    w.small in
+    let len = c.requires.tokens in
+    (omega (arith, a, r, n), omega (arith, b, k, n), omega (arith, t, len, tokens, symbols))
 
-pub cell_at-cell-requires-clause-ready : goal.cell_at-cell-requires-clause-ready
-cell_at-cell-requires-clause-ready c =
-    let g = c.args.automaton.now.grammar.bare in
-    ap (ready_in g) c.requires.ready ∙ ready_again g (state_of c.args.automaton.now c.args.q)
+pub overflow_add-shift_reduce : goal.overflow_add-shift_reduce
+overflow_add-shift_reduce c =
+    let b = bounds (goal.at.overflow_add-shift_reduce c).After-settled-cell in
+    let x = b.0 in
+    let t = b.2 in
+    let i = c.loop-t.invariant.shift_reduce in
+    omega (arith, x, t, i)
+
+pub overflow_add-reduce_reduce : goal.overflow_add-reduce_reduce
+overflow_add-reduce_reduce c =
+    let b = bounds (goal.at.overflow_add-reduce_reduce c).After-settled-cell in
+    let x = b.1 in
+    let t = b.2 in
+    let i = c.loop-t.invariant.reduce_reduce in
+    omega (arith, x, t, i)
 
 pub loop-t-preserved : goal.loop-t-preserved
 loop-t-preserved c =
     let m = c.args.automaton.now in
-    let k = state_of m c.args.q in
-    let few : length c.args.ready.now ≤ most_rules =
-    (let rules : length m.grammar.bare.rules ≤ most_rules =
-    subst (λ (v : GrammarValue). length v.bare.rules ≤ most_rules) c.grammar.ensures
-    c.symbols-well_formed.ensures.well_formed.few in
-    let states = c.states-guide.ensures.states in
-    let ready = few_ready m.grammar.bare k (states.range c.args.q c.requires.state)
-    (states.ordered c.args.q c.requires.state) in
-    let same = ap length c.requires.ready in
-    omega (arith, rules, ready, same)) in
+    let b = bounds (goal.at.loop-t-preserved c).After-settled-cell in
+    let x = b.0 in
+    let z = b.1 in
+    let s = c.loop-t.invariant.shift_reduce in
+    let d = c.loop-t.invariant.reduce_reduce in
     record {
       len = (let n = c.loop-t.invariant.len in ap length c.in_ok-push.ensures.items ∙ length-append
-          c.loop-t.actions.items (c.cell_at-cell.result.action ∷ []) ∙ ap (λ n. n + 1) n);
-      shift_reduce = omega (
-        arith,
-        few,
-        c.cell_at-cell.ensures.shift_reduce,
-        c.loop-t.invariant.shift_reduce,
-      );
-      reduce_reduce = omega (
-        arith,
-        few,
-        c.cell_at-cell.ensures.reduce_reduce,
-        c.loop-t.invariant.reduce_reduce,
-      );
+          c.loop-t.actions.items (c.settled-cell.result.action ∷ []) ∙ ap (λ n. n + 1) n);
+      shift_reduce = omega (arith, x, s);
+      reduce_reduce = omega (arith, z, d);
       row = λ u h. subst (λ (l : List Action). IsRowTo m u c.args.q (c.loop-t.t + 1) l
-          (c.loop-t.shift_reduce + c.cell_at-cell.result.shift_reduce)
-          (c.loop-t.reduce_reduce + c.cell_at-cell.result.reduce_reduce)
-          (c.loop-t.choice || c.cell_at-cell.result.choice)) (sym c.in_ok-push.ensures.items)
+          (c.loop-t.shift_reduce + c.settled-cell.result.shift_reduce)
+          (c.loop-t.reduce_reduce + c.settled-cell.result.reduce_reduce)
+          (c.loop-t.choice || c.settled-cell.result.choice)) (sym c.in_ok-push.ensures.items)
           (row_more m u c.args.q c.loop-t.t c.loop-t.actions.items c.loop-t.shift_reduce
-          c.loop-t.reduce_reduce c.loop-t.choice c.cell_at-cell.result
-          (c.loop-t.invariant.row u h) (c.cell_at-cell.ensures.cell u h));
+          c.loop-t.reduce_reduce c.loop-t.choice c.settled-cell.result
+          (c.loop-t.invariant.row u h) (c.settled-cell.ensures.cell u h));
+      conflicts = λ u h. c.in_ok-keep.ensures ∙ ap (λ l. l ++ conflict_at c.loop-t.t
+          c.settled-cell.result) (c.loop-t.invariant.conflicts u h) ∙ conflicts_more m u c.args.q
+          c.loop-t.t c.settled-cell.result (c.settled-cell.ensures.cell u h);
     }

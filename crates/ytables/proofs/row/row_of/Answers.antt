@@ -7,7 +7,7 @@ use Rattle.ylalr.specs.Collection.{state_of}
 use Rattle.ytables.specs.declared.cell.Action.{Action}
 use Rattle.ytables.specs.Cell.{common, is_filled}
 use Rattle.ytables.specs.Rows.{IsRowTo}
-use Rattle.ytables.specs.Tables.{has_before}
+use Rattle.ytables.specs.Tables.{has_before, conflicts_to}
 use Rattle.ytables.proofs.RowSteps.{whole_row}
 use Rattle.ytables.proofs.row.row_of.Goals as goal
 
@@ -29,6 +29,13 @@ returns-clause-row c = λ u h.
     whole_row m u c.args.q before d.actions.items c.default_of-default.result d.shift_reduce
     d.reduce_reduce d.choice (c.in_ok-before.ensures.len ∙ c.requires.tokens) marks cells
     (c.default_of-default.ensures ∙ ap (λ (l : List Bool). if list_any (λ b. b) l then None else
-    common (filter is_filled c.deref-4.result.now)) c.deref-3.ensures.value
+    common (filter is_filled c.deref-3.result.now)) c.deref-2.ensures.value
     ∙ ap (λ (l : List Action). if list_any (λ b. b) before then None else common
-    (filter is_filled l)) c.deref-4.ensures.value)
+    (filter is_filled l)) c.deref-3.ensures.value)
+
+pub returns-clause-conflicts : goal.returns-clause-conflicts
+returns-clause-conflicts c = λ u h.
+    let m = c.args.automaton.now in
+    c.in_ok-cells.ensures.conflicts u h ∙ ap (λ (l : List Bool). conflicts_to m u c.args.q
+    (length l)) c.deref.ensures.value ∙ ap (conflicts_to m u c.args.q)
+    (c.in_ok-before.ensures.len ∙ c.requires.tokens)

@@ -5,7 +5,7 @@ use Rattle.ytables.specs.declared.cell.Action.{Action}
 use Rattle.ytables.specs.declared.cell.Action.TheVariants.{Error}
 use Rattle.ytables.specs.Cell.{by_default}
 use Rattle.yrows.specs.Packed.{IsPushed}
-use Rattle.ytables.proofs.TableSteps.{rows_step, sums_step}
+use Rattle.ytables.proofs.TableSteps.{rows_step, sums_step, conflicts_step}
 use Rattle.ytables.proofs.tables.all_rows.Goals as goal
 
 pub loop-q-preserved : goal.loop-q-preserved
@@ -21,6 +21,7 @@ loop-q-preserved c =
     subst (λ (l : List (Option Action)). IsPushed c.loop-q.actions c.push.new.self l)
     c.deref-in-loop-q.ensures.value c.in_ok-push.ensures in
     let longer = c.in_ok-push-2.ensures.items in
+    let listed = c.in_ok-push-3.ensures.items in
     let same : (t : ℕ) → t < m.grammar.bare.tokens → by_default row.default
     (unwrap_or (get_or entries t None) Error) ≡ by_default row.default
     (get_or row.actions.items t Error) = λ t l.
@@ -32,6 +33,8 @@ loop-q-preserved c =
       width = pushed.width ∙ inv.width;
       defaults = ap length longer ∙ length-append c.loop-q.defaults.items (row.default ∷ []) ∙ ap
           (λ n. n + 1) inv.defaults;
+      listed = ap length listed ∙ length-append c.loop-q.conflicts.items (row.conflicts ∷ []) ∙ ap
+          (λ n. n + 1) inv.listed;
       shift_reduce = (let a = c.in_ok-row.ensures.shift_reduce in let b = inv.shift_reduce in
           omega (arith, a, b));
       reduce_reduce = (let a = c.in_ok-row.ensures.reduce_reduce in let b = inv.reduce_reduce in
@@ -43,4 +46,8 @@ loop-q-preserved c =
       sums = λ u h. sums_step m u q row.actions.items row.default row.shift_reduce row.reduce_reduce
           row.choice (c.in_ok-row.ensures.row u h) c.loop-q.shift_reduce c.loop-q.reduce_reduce
           c.loop-q.chosen (inv.sums u h);
+      conflicts = λ u h. conflicts_step m u q row.actions.items row.default row.shift_reduce
+          row.reduce_reduce row.choice (c.in_ok-row.ensures.row u h) c.loop-q.conflicts.items
+          c.push-in-loop-q-2.new.self.items row.conflicts inv.listed listed
+          (c.in_ok-row.ensures.conflicts u h) (inv.conflicts u h);
     }

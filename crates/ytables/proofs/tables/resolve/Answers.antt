@@ -7,6 +7,8 @@ invariant_of-result c = record {
   width = c.in-Ok.ensures.width;
   gotos = c.in-Ok-all_gotos.ensures;
   tables = λ u h. record { rows = c.in-Ok.ensures.rows u h; sums = c.in-Ok.ensures.sums u h };
+  listed = c.in-Ok.ensures.listed;
+  conflicts = λ u h. c.in-Ok.ensures.conflicts u h;
 }
 
 pub returns-clause-tables : goal.returns-clause-tables

@@ -1,4 +1,4 @@
-use Rattle.std.proofs.Common.{◌≡◌, length, sym, ap, ◌∙◌}
+use Rattle.std.proofs.Common.{length, sym, ap, ◌∙◌}
 use Rattle.yrows.specs.Packed.{PackedRows}
 use Rattle.yrows.proofs.PackedSteps.{rows_count}
 use Rattle.yrows.proofs.packed.Packed.displacements.Goals as goal

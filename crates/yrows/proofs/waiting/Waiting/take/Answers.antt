@@ -1,26 +1,41 @@
-use Rattle.std.proofs.Common.{◌<◌, ◌∙◌, sym, subst, ap, length}
-use Rattle.yrows.specs.Waiting.{Queue, IsQueue}
-use Rattle.yrows.proofs.WaitingSteps.{line_pop, front_marked, marked_within}
+use Rattle.std.proofs.Common.{List, Bool, ◌∙◌, sym, subst}
+use Rattle.yrows.specs.Marks.{Has}
+use Rattle.yrows.specs.Waiting.{AreListed}
+use Rattle.yrows.proofs.WaitingSteps.{out_marked, out_unmarked, none_marked}
 use Rattle.yrows.proofs.waiting.Waiting.take.Goals as goal
 
-pub unmark-requires : goal.unmark-requires
-unmark-requires c =
-    let w : Queue = record { queue = c.self.inside.queue.items; marks = c.self.inside.marks } in
-    marked_within w.marks c.in_ok-p.p (front_marked w c.in_ok-p.p c.pop_front.new.self.items
-    c.self.invariant c.in_ok-p.ensures.items)
+pub has-requires : goal.has-requires
+has-requires c = c.loop-p.invariant.listed.within c.in-Some.p c.in-Some.ensures.there
 
-pub invariant_of-self-2 : goal.invariant_of-self-2
-invariant_of-self-2 c =
-    let w : Queue = record { queue = c.self.inside.queue.items; marks = c.self.inside.marks } in
-    subst (λ m. IsQueue (record { queue = c.pop_front.new.self.items; marks = m }))
-    (sym c.unmark.ensures) (line_pop w c.in_ok-p.p c.pop_front.new.self.items c.self.invariant
-    c.in_ok-p.ensures.items)
+pub invariant_of-self : goal.invariant_of-self
+invariant_of-self c =
+    let w = c.loop-p.self-inside in
+    subst (λ (m : List Bool). AreListed m c.pop.new.round.items c.pop.new.next.items)
+    (sym c.unmark.ensures) (out_marked w.marks w.round.items w.next.items c.pop.new.round.items
+    c.pop.new.next.items c.in-Some.p c.loop-p.invariant.listed c.in-Some.ensures)
 
-pub returns-clause-taken : goal.returns-clause-taken
-returns-clause-taken c =
-    let w : Queue = record { queue = c.self.inside.queue.items; marks = c.self.inside.marks } in
-    let h = marked_within w.marks c.in_ok-p.p (front_marked w c.in_ok-p.p c.pop_front.new.self.items
-    c.self.invariant c.in_ok-p.ensures.items) in (
-      ap (λ (v : Queue). v.queue) (sym c.self.view_is) ∙ c.in_ok-p.ensures.items,
-      subst (λ (v : Queue). c.in_ok-p.p < length v.marks) c.self.view_is h,
-    )
+pub loop-p-preserved : goal.loop-p-preserved
+loop-p-preserved c =
+    let w = c.loop-p.self-inside in
+    record {
+      same = c.loop-p.invariant.same;
+      listed = out_unmarked w.marks w.round.items w.next.items c.pop.new.round.items
+          c.pop.new.next.items c.in-Some.p c.loop-p.invariant.listed c.in-Some.ensures
+          (sym c.has.ensures ∙ c.if-has.false);
+    }
+
+pub invariant_of-self-in_default : goal.invariant_of-self-in_default
+invariant_of-self-in_default c =
+    let w = c.loop-p.self-inside in
+    record {
+      listed = λ p h. absurd (none_marked w.marks w.round.items w.next.items
+          c.loop-p.invariant.listed c.in_default.ensures.0 p h);
+      within = λ p h. absurd (c.in_default.ensures.1 p h);
+    }
+
+pub returns : goal.returns
+returns c =
+    let w = c.loop-p.self-inside in
+    λ p h. none_marked w.marks w.round.items w.next.items c.loop-p.invariant.listed
+    c.in_default.ensures.0 p (subst (λ (m : List Bool). Has m p)
+    (sym (c.loop-p.invariant.same ∙ c.self.view_is)) h)
