@@ -57,7 +57,7 @@ button {
   .three { grid-template-columns: 3fr 5fr 6fr; }
   .three > :last-child { grid-column: auto; }
 }
-.rows, .items { max-height: 30rem; margin-top: .5rem; overflow: auto; }
+.rows, .items { max-height: 480px; margin-top: .5rem; overflow: auto; contain: content; }
 .rows li { display: flex; gap: .75rem; padding: 0 .4rem; white-space: pre; }
 .rows li > :first-child { min-width: 2.5ch; }
 .rows li > :nth-child(2) { flex: 1; }
@@ -72,15 +72,15 @@ button {
   :root { color-scheme: light; --back: #fff; --panel: #fff; --text: #000; --faint: #444; }
   .keys, .hint { display: none; }
   .bar { position: static; }
-  .rows, .items, .names { max-height: none; overflow: visible; flex-wrap: wrap; }
+  .rows, .items, .names { max-height: none; overflow: visible; flex-wrap: wrap; contain: none; }
 }
 </style>
 <script>
 "use strict";
-/* The height of a row of the tree, how many are drawn; tokens shown before the one ahead; the most
-   things of a list; the time between steps that are played. */
-const ROW = 24, DRAWN = 40, BEFORE = 60, MANY = 200, PACE = 500;
-let data, positions = [], troubles = [], now, timer, later, rows = [], active = null;
+/* The heights of a row and of all that is in sight of the trees, how many rows are drawn; tokens
+   before the one ahead; the most things of a list; the time between steps that are played. */
+const ROW = 24, SIGHT = 480, DRAWN = 40, BEFORE = 60, MANY = 200, PACE = 500;
+let data, positions = [], troubles = [], now, timer, later, rows = [], active, scrolled = 0;
 const closed = new Set(), lost = new Set(), rulesOf = [];
 
 const at = (id) => document.getElementById(id);
@@ -92,6 +92,8 @@ const last = () => first() + positions.length - 1;
 const here = () => positions[now - first()];
 const following = () => positions[now - first() + 1];
 const stateOf = (position) => (position.top ? position.top.state : 0);
+const ruleText = (rule) =>
+  `${name(data.table.rules[rule][0])}: ${names(bodyOf(rule)) || "(empty)"}`;
 const faint = (text) => make("span", { class: "faint" }, text);
 const link = (place, text) =>
   make("li", {}, make("a", { href: `#${place}` }, `${place}: ${text}`));
@@ -102,10 +104,6 @@ function make(tag, attributes, ...children) {
   for (const [key, value] of Object.entries(attributes)) element.setAttribute(key, value);
   element.append(...children);
   return element;
-}
-
-function ruleText(rule) {
-  return `${name(data.table.rules[rule][0])}: ${names(bodyOf(rule)) || "(empty)"}`;
 }
 
 function ruleName(rule) {
@@ -277,8 +275,6 @@ function showTokens() {
   for (let place = from; place < to; place += 1) items.push(tokenItem(place));
   items.push(to === count ? tokenItem(count) : make("li", { class: "more" }, `${count - to} more`));
   at("tokens").replaceChildren(...items);
-  const ahead = at("tokens").querySelector("[aria-current]") || { offsetLeft: 0 };
-  at("tokens").scrollLeft = ahead.offsetLeft - at("tokens").clientWidth / 3;
 }
 
 function entryRow(number, label, note, kind) {
@@ -336,7 +332,8 @@ function treeRow({ node, level, place, of }, index) {
 
 /* Only the rows in sight are drawn, but all of them for print. */
 function drawRows(all) {
-  const tree = at("tree"), from = all ? 0 : Math.max(0, Math.floor(tree.scrollTop / ROW) - 5);
+  const wanted = Math.min(Math.floor(scrolled / ROW) - 5, rows.length - DRAWN);
+  const tree = at("tree"), from = all ? 0 : Math.max(0, wanted);
   const drawn = rows.slice(from, all ? rows.length : from + DRAWN);
   const style = `padding-top: ${from * ROW}px; height: ${rows.length * ROW}px`;
   const inside = drawn.map((row, index) => treeRow(row, from + index));
@@ -345,24 +342,24 @@ function drawRows(all) {
 }
 
 function reveal(node) {
-  const tree = at("tree"), height = rows.findIndex((it) => it.node === node) * ROW;
+  readRows();
+  const height = rows.findIndex((it) => it.node === node) * ROW;
+  const away = height < scrolled || height + ROW > scrolled + SIGHT;
+  if (away) scrolled = Math.max(0, Math.min(height - SIGHT / 2, rows.length * ROW - SIGHT));
   active = node;
   drawRows(false);
-  if (height < tree.scrollTop || height + ROW > tree.scrollTop + tree.clientHeight)
-    tree.scrollTop = height - tree.clientHeight / 2;
+  if (away) at("tree").scrollTop = scrolled;
 }
 
 function fold(node, close) {
   if (close) closed.add(node);
   else closed.delete(node);
-  readRows();
   reveal(node);
 }
 
 function foldAll(close) {
   closed.clear();
   if (close) rows.forEach(({ node }) => node.children.length && closed.add(node));
-  readRows();
   reveal(active);
 }
 
@@ -440,8 +437,9 @@ function show(place) {
   showTokens();
   showStack();
   showState();
-  readRows();
   reveal((step && step.node) || (top && top.node));
+  const ahead = at("tokens").querySelector("[aria-current]") || { offsetLeft: 0 };
+  at("tokens").scrollLeft = ahead.offsetLeft - at("tokens").clientWidth / 3;
   clearTimeout(later);
   later = setTimeout(() => history.replaceState(null, "", `#${now}`), 250);
   if (now === last()) stop();
@@ -485,8 +483,10 @@ function begin() {
   const deeds = { first: () => show(first()), back: () => show(now - 1), on: () => show(now + 1),
     last: () => show(last()), play, open: () => foldAll(false), close: () => foldAll(true) };
   for (const [id, deed] of Object.entries(deeds)) at(id).onclick = deed;
-  at("tree").onscroll = () => drawRows(false);
-  at("tree").onkeydown = treeKey;
+  Object.assign(at("tree"), { onkeydown: treeKey, onscroll() {
+    scrolled = at("tree").scrollTop;
+    drawRows(false);
+  } });
   document.onkeydown = key;
   Object.assign(window, { onhashchange: fromAddress, onbeforeprint: () => drawRows(true),
     onafterprint: () => drawRows(false) });
