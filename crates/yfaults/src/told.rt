@@ -11,7 +11,6 @@ use std::io::{self, Write};
 use yexplain::reads::name_of;
 use yexplain::roles::{How, Role, roles_of};
 use yexplain::text::Bytes;
-use yforeign::directive::is_imported;
 use ygrammar::{Grammar, GrammarFault};
 use ylalr::token_count;
 use ylexemes::part::Lexeme;
@@ -123,12 +122,6 @@ fn put_help<W: Write>(
             None => Ok(()),
         },
         GrammarFault::Unproductive { .. } => put_others(out, alloc, source),
-        GrammarFault::Foreign { .. } if is_imported(source.get(at..).unwrap_or(&[])) => {
-            writeln!(
-                out,
-                "  If the file is one of bison or byacc, ydebug import makes it one that can be read."
-            )
-        }
         _ => Ok(()),
     }
 }

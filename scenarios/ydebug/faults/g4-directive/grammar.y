@@ -1,4 +1,0 @@
-%token A
-%expect 1
-%%
-s : A ;
