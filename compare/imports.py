@@ -31,10 +31,12 @@ Suites: bookworm
 Components: main
 Signed-By: /usr/share/keyrings/debian-archive-keyring.gpg
 """
-# A comment, a string, a character, code, a mark, or one byte.
+# A comment, a string, a character, code, a mark, a directive, or one byte.
 PIECE = re.compile(
-    rb"/\*.*?\*/|//[^\n]*|\"(?:\\.|[^\"\\])*\"|'(?:\\.|[^'\\])*'|%\{.*?%\}|%%|.", re.S
+    rb"/\*.*?\*/|//[^\n]*|\"(?:\\.|[^\"\\])*\"|'(?:\\.|[^'\\])*'|%\{.*?%\}|%%|%[\w-]+|.", re.S
 )
+# What stands in braces behind these is no action.
+ASIDE = {b"%destructor", b"%printer", b"%code", b"%union", b"%initial-action", b"%param"}
 EXPECTS = re.compile(rb"%expect(-rr)?[ \t]+\d+")
 COUNTED = re.compile(r"(shift|reduce)/reduce conflicts, as bison counts them: (\d+)")
 TOO_MANY = 99_999_999
@@ -90,15 +92,19 @@ def pieces_between_marks(source):
 
 
 def actions_of(source):
-    """The texts in braces between the marks."""
-    found, depth = [], 0
+    """The texts in braces of the rules: those between the marks, but behind a directive."""
+    found, depth, aside = [], 0, False
     for piece in pieces_between_marks(source):
+        if depth == 0:
+            aside = piece in ASIDE or (aside and piece != b";")
         if piece == b"{":
             depth += 1
             found += [b""] if depth == 1 else []
         if depth:
             found[-1] += piece
         depth -= piece == b"}"
+        if aside and depth == 0 and piece == b"}":
+            found.pop()
     return found
 
 
