@@ -7,8 +7,8 @@ Each session below gives command lines over an example or a scenario. Behind eve
 mark, a word that is no command and too long to be compared with one, and `where`. A run must end
 with `ydebug: no memory`, status 3 and nothing on standard output, or go on: then each answer is as
 usual for the parse as it stands, or says that there is no memory, and the parse behind it is as it
-was, or, behind a move, where the steps that were told have led. The last line is
-`N passed, M failed`.
+was, or, behind a move, where the steps that were told have led. A refusal may lack its suggestion
+then, or make another. The last line is `N passed, M failed`.
 """
 import os
 import re
@@ -46,6 +46,7 @@ MARK = "#" * 50
 MOVE = re.compile(r"(s|step|b|back|to|r|run)( |$)")
 PLACE = re.compile(r"^ *(\d+)  \S")
 NO_MEMORY = "no memory"
+SUGGESTION = re.compile(r"; (did you mean [^?]*\?|help lists them\.)|Did you mean [^?]*\?\n")
 
 
 def spelled(lines):
@@ -107,6 +108,12 @@ def as_moves(lines):
         yield line or last
 
 
+def is_plainer(made, wanted):
+    """Whether an answer is a usual one, but for what it suggests."""
+    bare = [SUGGESTION.sub("", answer) for answer, _ in (made, wanted)]
+    return bare[0] == bare[1] and made[1] == wanted[1]
+
+
 def fault_of(text, ydebug, source, lines):
     """What is wrong with what a session that went on has said; nothing where all is well."""
     made = answers(text)
@@ -114,7 +121,7 @@ def fault_of(text, ydebug, source, lines):
         return "a line isn't answered"
     obeyed = []
     for line, (answer, place) in zip(as_moves(lines), made):
-        if (answer, place) == usual(ydebug, source, [*obeyed, line]):
+        if is_plainer((answer, place), usual(ydebug, source, [*obeyed, line])):
             obeyed.append(line)
             continue
         if NO_MEMORY in place:
