@@ -1,7 +1,6 @@
-//! `ydebug grammar tokens`: a debugger of parses for people. `ydebug conflicts grammar` explains
-//! the conflicts of a grammar, `ydebug check grammar tokens..` says what its sentences are, and
-//! `ydebug page grammar tokens` makes a page of a parse. `ydebug import file` makes a file of bison
-//! one that `yacc` reads.
+//! `ydebug grammar tokens`: a debugger of parses for people. `ydebug conflicts grammar` explains the
+//! conflicts of a grammar, `ydebug check grammar tokens..` says what its sentences are, and `ydebug
+//! import file` makes a file of bison one that `yacc` reads.
 #![tactic(auto)]
 
 use clap::error::ErrorKind;
@@ -13,21 +12,17 @@ use std::process::ExitCode;
 use ycheck::check::{Check, run_check};
 use ydebugger::{Setting, debug, parse_of};
 use yimported::run::{Asked as Import, run_import};
-use ypage::page::{self, run_page};
-use ypage::walk::Part;
 use yreports::report::{Asked, run_conflicts};
 
 /// The forms of the command line.
 const FORMS: &str = "Other forms:\n\
     \x20 ydebug conflicts grammar [--save FOLDER] [--strict]\n\
     \x20 ydebug check grammar tokens.. [--choice]\n\
-    \x20 ydebug page grammar tokens [-o FILE] [--from K] [--to K] [--conflicts]\n\
     \x20 ydebug import file [-o grammar]";
 /// What is said of words that are none of the program's.
 const USAGE: &[u8] = b"usage: ydebug grammar tokens\n\
     \x20      ydebug conflicts grammar [--save FOLDER] [--strict]\n\
     \x20      ydebug check grammar tokens.. [--choice]\n\
-    \x20      ydebug page grammar tokens [-o FILE] [--from K] [--to K] [--conflicts]\n\
     \x20      ydebug import file [-o grammar]\n";
 
 /// Why nothing was done.
@@ -114,30 +109,6 @@ fn check_command<'a>(alloc: Global) -> Result<Command<'a>, AllocError> {
         ))
 }
 
-/// An option with a value behind two dashes.
-fn option<'a>(alloc: Global, name: &'a str, help: &'a str) -> Arg<'a> {
-    Arg::new(alloc, name)
-        .long(name)
-        .action(ArgAction::Set)
-        .help(help)
-}
-
-/// The command line of a page.
-fn page_command<'a>(alloc: Global) -> Result<Command<'a>, AllocError> {
-    let file = Arg::new(alloc, "file")
-        .short('o')
-        .action(ArgAction::Set)
-        .help("The file that the page goes to; without it, standard output");
-    Command::new(alloc, "ydebug page")
-        .about("Makes a page in HTML of a parse, to be looked at in a browser")
-        .arg(file_argument(alloc, "grammar", "The grammar file"))?
-        .arg(file_argument(alloc, "tokens", "The tokens file"))?
-        .arg(file)?
-        .arg(option(alloc, "from", "The first position that it shows"))?
-        .arg(option(alloc, "to", "The last position that it shows"))?
-        .arg(flag(alloc, "conflicts", "Shows the conflicts of the grammar too"))
-}
-
 /// The command line of an import.
 fn import_command<'a>(alloc: Global) -> Result<Command<'a>, AllocError> {
     let output = Arg::new(alloc, "output")
@@ -166,14 +137,6 @@ fn matches_by<'a>(
     }
 }
 
-/// The words of a subcommand, with its whole name in place of the first, for the help text.
-fn named<'a>(alloc: Global, name: &'a str, words: &[&'a str]) -> Result<Vec<&'a str>, AllocError> {
-    let mut named = Vec::with_capacity(alloc, words.len())?;
-    named.push(name)?;
-    named.extend_from_slice(words.get(1..).unwrap_or(&[]))?;
-    Ok(named)
-}
-
 /// The value of an argument that is required.
 fn value_of<'a>(matches: &ArgMatches<'a>, name: &str) -> Result<&'a str, Refused> {
     matches.get_str(name).ok_or(Refused::Words)
@@ -187,8 +150,7 @@ fn is_given(matches: &ArgMatches<'_>, name: &str) -> bool {
 /// A report on conflicts. The words begin with the subcommand.
 fn report(rt: &HostRuntime, words: &[&str]) -> Result<u8, Refused> {
     let alloc = rt.alloc();
-    let words = named(alloc, "ydebug conflicts", words)?;
-    let matches = matches_by(alloc, conflicts_command(alloc), &words)?;
+    let matches = matches_by(alloc, conflicts_command(alloc), words)?;
     let asked = Asked {
         grammar: value_of(&matches, "grammar")?,
         save: matches.get_str("save"),
@@ -203,8 +165,7 @@ fn report(rt: &HostRuntime, words: &[&str]) -> Result<u8, Refused> {
 /// Verdicts on tokens files. The words begin with the subcommand.
 fn check(rt: &HostRuntime, words: &[&str]) -> Result<u8, Refused> {
     let alloc = rt.alloc();
-    let words = named(alloc, "ydebug check", words)?;
-    let matches = matches_by(alloc, check_command(alloc), &words)?;
+    let matches = matches_by(alloc, check_command(alloc), words)?;
     let asked = Check {
         grammar: value_of(&matches, "grammar")?,
         tokens: matches.get_strs("tokens").unwrap_or(&[]),
@@ -216,43 +177,10 @@ fn check(rt: &HostRuntime, words: &[&str]) -> Result<u8, Refused> {
     Ok(status)
 }
 
-/// The number that an option gives, where it is given.
-fn number_of(matches: &ArgMatches<'_>, name: &str) -> Result<Option<usize>, Refused> {
-    match matches.get_str(name) {
-        Some(word) => match word.parse::<usize>() {
-            Ok(number) => Ok(Some(number)),
-            Err(_) => Err(Refused::Words),
-        },
-        None => Ok(None),
-    }
-}
-
-/// A page of a parse. The words begin with the subcommand.
-fn page(rt: &HostRuntime, words: &[&str]) -> Result<u8, Refused> {
-    let alloc = rt.alloc();
-    let words = named(alloc, "ydebug page", words)?;
-    let matches = matches_by(alloc, page_command(alloc), &words)?;
-    let asked = page::Asked {
-        grammar: value_of(&matches, "grammar")?,
-        tokens: value_of(&matches, "tokens")?,
-        file: matches.get_str("file"),
-        part: Part {
-            from: number_of(&matches, "from")?.unwrap_or(0),
-            to: number_of(&matches, "to")?,
-        },
-        conflicts: is_given(&matches, "conflicts"),
-    };
-    let mut writer = BufWriter::new(alloc, rt.stdout())?;
-    let status = run_page(rt, asked, &mut writer, &mut rt.stderr())?;
-    writer.flush()?;
-    Ok(status)
-}
-
 /// An import. The words begin with the subcommand.
 fn import(rt: &HostRuntime, words: &[&str]) -> Result<u8, Refused> {
     let alloc = rt.alloc();
-    let words = named(alloc, "ydebug import", words)?;
-    let matches = matches_by(alloc, import_command(alloc), &words)?;
+    let matches = matches_by(alloc, import_command(alloc), words)?;
     let asked = Import {
         file: value_of(&matches, "file")?,
         output: matches.get_str("output"),
@@ -311,7 +239,6 @@ fn obey(rt: &HostRuntime, words: &[&str]) -> Result<u8, Refused> {
     match words {
         [_, rest @ ..] if rest.first() == Some(&"conflicts") => report(rt, rest),
         [_, rest @ ..] if rest.first() == Some(&"check") => check(rt, rest),
-        [_, rest @ ..] if rest.first() == Some(&"page") => page(rt, rest),
         [_, rest @ ..] if rest.first() == Some(&"import") => import(rt, rest),
         _ => debug_files(rt, words),
     }

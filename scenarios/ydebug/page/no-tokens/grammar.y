@@ -1,3 +1,0 @@
-%token A
-%%
-list : A | list A ;

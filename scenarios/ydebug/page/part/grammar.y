@@ -1,6 +1,0 @@
-%token A
-%%
-l :
-  | l A ';'
-  | l error ';'
-  ;
