@@ -1,6 +1,6 @@
-//! `ydebug grammar tokens`: a debugger of parses for people. `ydebug conflicts grammar` explains the
-//! conflicts of a grammar, `ydebug check grammar tokens..` says what its sentences are, and `ydebug
-//! import file` makes a file of bison one that `yacc` reads.
+//! `ydebug grammar tokens`: a debugger of parses for people. `ydebug conflicts grammar` explains
+//! the conflicts of a grammar, `ydebug check grammar tokens..` says what its sentences are, and
+//! `ydebug import file` makes a file of bison one that `yacc` reads.
 #![tactic(auto)]
 
 use clap::error::ErrorKind;
@@ -137,6 +137,14 @@ fn matches_by<'a>(
     }
 }
 
+/// The words of a subcommand, with its whole name in place of the first, for the help text.
+fn named<'a>(alloc: Global, name: &'a str, words: &[&'a str]) -> Result<Vec<&'a str>, AllocError> {
+    let mut named = Vec::with_capacity(alloc, words.len())?;
+    named.push(name)?;
+    named.extend_from_slice(words.get(1..).unwrap_or(&[]))?;
+    Ok(named)
+}
+
 /// The value of an argument that is required.
 fn value_of<'a>(matches: &ArgMatches<'a>, name: &str) -> Result<&'a str, Refused> {
     matches.get_str(name).ok_or(Refused::Words)
@@ -150,7 +158,8 @@ fn is_given(matches: &ArgMatches<'_>, name: &str) -> bool {
 /// A report on conflicts. The words begin with the subcommand.
 fn report(rt: &HostRuntime, words: &[&str]) -> Result<u8, Refused> {
     let alloc = rt.alloc();
-    let matches = matches_by(alloc, conflicts_command(alloc), words)?;
+    let words = named(alloc, "ydebug conflicts", words)?;
+    let matches = matches_by(alloc, conflicts_command(alloc), &words)?;
     let asked = Asked {
         grammar: value_of(&matches, "grammar")?,
         save: matches.get_str("save"),
@@ -165,7 +174,8 @@ fn report(rt: &HostRuntime, words: &[&str]) -> Result<u8, Refused> {
 /// Verdicts on tokens files. The words begin with the subcommand.
 fn check(rt: &HostRuntime, words: &[&str]) -> Result<u8, Refused> {
     let alloc = rt.alloc();
-    let matches = matches_by(alloc, check_command(alloc), words)?;
+    let words = named(alloc, "ydebug check", words)?;
+    let matches = matches_by(alloc, check_command(alloc), &words)?;
     let asked = Check {
         grammar: value_of(&matches, "grammar")?,
         tokens: matches.get_strs("tokens").unwrap_or(&[]),
@@ -180,7 +190,8 @@ fn check(rt: &HostRuntime, words: &[&str]) -> Result<u8, Refused> {
 /// An import. The words begin with the subcommand.
 fn import(rt: &HostRuntime, words: &[&str]) -> Result<u8, Refused> {
     let alloc = rt.alloc();
-    let matches = matches_by(alloc, import_command(alloc), words)?;
+    let words = named(alloc, "ydebug import", words)?;
+    let matches = matches_by(alloc, import_command(alloc), &words)?;
     let asked = Import {
         file: value_of(&matches, "file")?,
         output: matches.get_str("output"),
