@@ -170,7 +170,10 @@ def named(words, room):
     if packages:
         apt = Apt(room)
     for package in packages:
-        yield from apt.grammars(package)
+        try:
+            yield from apt.grammars(package)
+        except Unfetched as why:
+            print(f"{package}: not fetched: {why}", file=sys.stderr)
 
 
 def main():
