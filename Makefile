@@ -6,6 +6,7 @@
 # make bench      times whole runs of the programs, on growing grammars and over long parses; FILES="a.y b.y" adds grammar files to them
 # make refuse     refuses allocations of a run, each once and each with all behind it, on every example and some scenarios; FILES="a.y b.y" refuses some thousands over these grammar files instead
 # make debug      refuses the allocations of ten sessions of ydebug in turn, gives it 100,000 random command lines over random grammars, and shows its screens at a terminal, which needs tmux
+# make page-test  steps through the pages of every example in a browser without a window, which apt-get installs where it is missing, and compares them with ystep; keeps pictures in screenshots/
 # make compare    compares the programs that make build left with plain machines in Python, on grammars drawn at random, for a minute, and verdicts with sessions over every scenario; FILES="a.y b.y" adds these, cut off and spoiled, with a second reader
 # make drivers    builds the drivers in C and Python, and compares their steps with those of ystep, over scenarios, at random and by tables that are wrong
 # make install    copies programs, manual pages, drivers and books below PREFIX (/usr/local), and with DESTDIR below that; make build comes first
@@ -15,7 +16,7 @@
 # make hostile    runs both programs, proved, between devices that fail and on files and streams that are no one's friends
 # make edits      tries every wrong body that the prover must refuse, also those that the gate leaves out; some 40 minutes
 # make test       the gate: every proof from nothing, the wrong bodies in must-fail, the tests, the stored runs, the scenarios, make hostile, make refuse over three examples
-.PHONY: demo examples scenarios accept build bench refuse debug compare drivers install uninstall dist imports hostile edits test
+.PHONY: demo examples scenarios accept build bench refuse debug page-test compare drivers install uninstall dist imports hostile edits test
 
 programs := $(foreach file,$(wildcard crates/*/src/main.rt),$(notdir $(file:/src/main.rt=)))
 run := python3 scenarios/run.py $(foreach name,$(programs),$(name)=crates/$(name)/out/$(name))
@@ -52,6 +53,9 @@ debug: build
 	@python3 scripts/refuse_debug.py bin/ydebug
 	@python3 scripts/babble.py bin/ydebug
 	@sh scripts/terminal.sh bin/ydebug
+
+page-test: build
+	@python3 scripts/page_test.py bin/ydebug bin/ystep
 
 compare:
 	@python3 compare/compare.py bin/yacc bin/ystep

@@ -1,6 +1,7 @@
 //! `ydebug grammar tokens`: a debugger of parses for people. `ydebug conflicts grammar` explains
 //! the conflicts of a grammar, `ydebug check grammar tokens..` says what its sentences are, and
-//! `ydebug import file` makes a file of bison one that `yacc` reads.
+//! `ydebug page grammar tokens` makes a page of a parse. `ydebug import file` makes a file of bison
+//! one that `yacc` reads.
 #![tactic(auto)]
 
 use clap::error::ErrorKind;
@@ -12,17 +13,21 @@ use std::process::ExitCode;
 use ycheck::check::{Check, run_check};
 use ydebugger::{Setting, debug, parse_of};
 use yimported::run::{Asked as Import, run_import};
+use ypage::page::{self, run_page};
+use ypage::walk::Part;
 use yreports::report::{Asked, run_conflicts};
 
 /// The forms of the command line.
 const FORMS: &str = "Other forms:\n\
     \x20 ydebug conflicts grammar [--save FOLDER] [--strict]\n\
     \x20 ydebug check grammar tokens.. [--choice]\n\
+    \x20 ydebug page grammar tokens [-o FILE] [--from K] [--to K] [--conflicts]\n\
     \x20 ydebug import file [-o grammar]";
 /// What is said of words that are none of the program's.
 const USAGE: &[u8] = b"usage: ydebug grammar tokens\n\
     \x20      ydebug conflicts grammar [--save FOLDER] [--strict]\n\
     \x20      ydebug check grammar tokens.. [--choice]\n\
+    \x20      ydebug page grammar tokens [-o FILE] [--from K] [--to K] [--conflicts]\n\
     \x20      ydebug import file [-o grammar]\n";
 
 /// Why nothing was done.
@@ -109,6 +114,30 @@ fn check_command<'a>(alloc: Global) -> Result<Command<'a>, AllocError> {
         ))
 }
 
+/// An option with a value behind two dashes.
+fn option<'a>(alloc: Global, name: &'a str, help: &'a str) -> Arg<'a> {
+    Arg::new(alloc, name)
+        .long(name)
+        .action(ArgAction::Set)
+        .help(help)
+}
+
+/// The command line of a page.
+fn page_command<'a>(alloc: Global) -> Result<Command<'a>, AllocError> {
+    let file = Arg::new(alloc, "file")
+        .short('o')
+        .action(ArgAction::Set)
+        .help("The file that the page goes to; without it, standard output");
+    Command::new(alloc, "ydebug page")
+        .about("Makes a page in HTML of a parse, to be looked at in a browser")
+        .arg(file_argument(alloc, "grammar", "The grammar file"))?
+        .arg(file_argument(alloc, "tokens", "The tokens file"))?
+        .arg(file)?
+        .arg(option(alloc, "from", "The first position that it shows"))?
+        .arg(option(alloc, "to", "The last position that it shows"))?
+        .arg(flag(alloc, "conflicts", "Shows the conflicts of the grammar too"))
+}
+
 /// The command line of an import.
 fn import_command<'a>(alloc: Global) -> Result<Command<'a>, AllocError> {
     let output = Arg::new(alloc, "output")
@@ -187,6 +216,38 @@ fn check(rt: &HostRuntime, words: &[&str]) -> Result<u8, Refused> {
     Ok(status)
 }
 
+/// The number that an option gives, where it is given.
+fn number_of(matches: &ArgMatches<'_>, name: &str) -> Result<Option<usize>, Refused> {
+    match matches.get_str(name) {
+        Some(word) => match word.parse::<usize>() {
+            Ok(number) => Ok(Some(number)),
+            Err(_) => Err(Refused::Words),
+        },
+        None => Ok(None),
+    }
+}
+
+/// A page of a parse. The words begin with the subcommand.
+fn page(rt: &HostRuntime, words: &[&str]) -> Result<u8, Refused> {
+    let alloc = rt.alloc();
+    let words = named(alloc, "ydebug page", words)?;
+    let matches = matches_by(alloc, page_command(alloc), &words)?;
+    let asked = page::Asked {
+        grammar: value_of(&matches, "grammar")?,
+        tokens: value_of(&matches, "tokens")?,
+        file: matches.get_str("file"),
+        part: Part {
+            from: number_of(&matches, "from")?.unwrap_or(0),
+            to: number_of(&matches, "to")?,
+        },
+        conflicts: is_given(&matches, "conflicts"),
+    };
+    let mut writer = BufWriter::new(alloc, rt.stdout())?;
+    let status = run_page(rt, asked, &mut writer, &mut rt.stderr())?;
+    writer.flush()?;
+    Ok(status)
+}
+
 /// An import. The words begin with the subcommand.
 fn import(rt: &HostRuntime, words: &[&str]) -> Result<u8, Refused> {
     let alloc = rt.alloc();
@@ -250,6 +311,7 @@ fn obey(rt: &HostRuntime, words: &[&str]) -> Result<u8, Refused> {
     match words {
         [_, rest @ ..] if rest.first() == Some(&"conflicts") => report(rt, rest),
         [_, rest @ ..] if rest.first() == Some(&"check") => check(rt, rest),
+        [_, rest @ ..] if rest.first() == Some(&"page") => page(rt, rest),
         [_, rest @ ..] if rest.first() == Some(&"import") => import(rt, rest),
         _ => debug_files(rt, words),
     }

@@ -1,0 +1,174 @@
+//! The conflicts of a grammar as the page shows them, each with its lists of tokens.
+
+use crate::cells::{text_of, why_of};
+use serde::Serialize;
+use std::alloc::{AllocError, Global};
+use std::io::{self, ErrorKind, Write};
+use std::rt::Files;
+use yconflicts::groups::{Conflicts, Group, Kind};
+use yconflicts::search::Finder;
+use yexplain::lines::Lines;
+use yfaults::opening::{Opened, open_grammar};
+use yparse::{Session, Tokens};
+use yreports::finding::{ALL_STEPS, Finding, List, Seeker};
+use yreports::list_text::{ListText, put_unfound};
+use ysymbols::Sym;
+use ytables::Tables;
+
+/// The most conflicts that a page shows.
+const MOST_CARDS: usize = 200;
+
+/// A conflict.
+#[derive(Drop, Serialize)]
+pub struct Card {
+    pub state: usize,
+    token: Sym,
+    /// How many states have it.
+    states: usize,
+    /// Whether the shift is taken; where it isn't, the first rule is.
+    shift: bool,
+    rules: Vec<usize>,
+    /// How many rules there are more.
+    more: usize,
+    why: String,
+    /// What is said of each list of tokens that gets there.
+    ways: Vec<String>,
+    /// What is said where lists are missing.
+    missing: String,
+}
+
+/// The conflicts of a grammar.
+#[derive(Drop, Serialize)]
+pub struct Cards {
+    pub kinds: Vec<Card>,
+    /// How many kinds there are more.
+    more: usize,
+}
+
+/// What cards are made with.
+#[derive(Clone, Copy)]
+struct Maker<'a> {
+    alloc: Global,
+    tables: &'a Tables,
+    lines: &'a Lines,
+    kind: &'a Kind,
+    group: Group,
+}
+
+impl Maker<'_> {
+    /// What is said of a list.
+    fn way(self, list: &List, lists: usize) -> io::Result<String> {
+        let text = ListText {
+            tables: self.tables,
+            lines: self.lines,
+            kind: self.kind,
+            group: self.group,
+            lists,
+        };
+        let mut bytes = Vec::new(self.alloc);
+        text.put_list(&mut bytes, list)?;
+        Ok(text_of(self.alloc, &bytes)?)
+    }
+
+    fn ways(self, finding: &Finding) -> io::Result<Vec<String>> {
+        let mut ways = Vec::new(self.alloc);
+        for list in &finding.lists {
+            let way = self.way(list, finding.lists.len())?;
+            ways.push(way).map_err(AllocError::from)?;
+        }
+        Ok(ways)
+    }
+
+    /// What is said where lists are missing.
+    fn missing(self, finding: &Finding) -> io::Result<String> {
+        let mut bytes = Vec::new(self.alloc);
+        put_unfound(&mut bytes, finding)?;
+        Ok(text_of(self.alloc, &bytes)?)
+    }
+
+    fn card(self, finding: &Finding) -> io::Result<Card> {
+        let rules = Vec::from_slice(self.alloc, self.kind.rules())?;
+        let all = self
+            .kind
+            .rivals
+            .saturating_add(if self.kind.shift { 0 } else { 1 });
+        let (state, token) = (self.group.state, self.kind.token);
+        Ok(Card {
+            state,
+            token,
+            states: self.group.states,
+            shift: self.kind.shift,
+            more: all.saturating_sub(rules.len()),
+            rules,
+            why: why_of(self.alloc, self.tables, self.lines, state, token)?,
+            ways: self.ways(finding)?,
+            missing: self.missing(finding)?,
+        })
+    }
+}
+
+/// The cards of conflicts.
+fn cards_of(
+    alloc: Global,
+    session: &mut Session,
+    lines: &Lines,
+    found: &Conflicts,
+) -> io::Result<Cards> {
+    let mut kinds = Vec::new(alloc);
+    let mut finder = Finder::new(alloc, session.tables().automaton())?;
+    let mut seeker = Seeker {
+        alloc,
+        finder: &mut finder,
+        session,
+        steps: ALL_STEPS,
+        steps_for_others: ALL_STEPS,
+    };
+    for (kind, group) in found.groups.iter().take(MOST_CARDS) {
+        let finding = seeker.find(kind, *group)?;
+        let maker = Maker {
+            alloc,
+            tables: seeker.session.tables(),
+            lines,
+            kind,
+            group: *group,
+        };
+        let card = maker.card(&finding)?;
+        kinds.push(card).map_err(AllocError::from)?;
+    }
+    Ok(Cards {
+        kinds,
+        more: found.groups.len().saturating_sub(MOST_CARDS),
+    })
+}
+
+/// The cards of a grammar, over a session without tokens.
+fn cards_over(alloc: Global, session: &mut Session, lines: &Lines) -> io::Result<Cards> {
+    let found = Conflicts::new(alloc, session.tables())?;
+    cards_of(alloc, session, lines, &found)
+}
+
+/// The cards of a grammar that is open.
+fn cards_in(alloc: Global, opened: Opened) -> io::Result<Cards> {
+    let Opened { tables, lines } = opened;
+    let tokens = Tokens {
+        symbols: Vec::new(alloc),
+    };
+    if !tokens.fits(&tables) {
+        return Err(io::Error::from(ErrorKind::Other));
+    }
+    let mut session = Session::new(alloc, tables, tokens);
+    cards_over(alloc, &mut session, &lines)
+}
+
+/// The cards of a grammar file. Where it is refused, that is written, and the exit status is the
+/// answer.
+pub fn open_cards<F: Files + AllocGlobal, E: Write>(
+    rt: &F,
+    path: &str,
+    errors: &mut E,
+) -> io::Result<Result<Cards, u8>> {
+    match open_grammar(rt, path, errors)? {
+        Ok(opened) => Ok(Ok(cards_in(rt.alloc(), opened)?)),
+        Err(status) => Ok(Err(status)),
+    }
+}

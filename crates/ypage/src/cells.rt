@@ -1,0 +1,54 @@
+//! The cells that the steps asked, with what settled each.
+
+use serde::Serialize;
+use std::alloc::{AllocError, Global};
+use std::{io, str};
+use yexplain::cells::survey_at;
+use yexplain::lines::Lines;
+use yexplain::why::explain_rivals;
+use ysymbols::Sym;
+use ytables::Tables;
+
+/// A cell: how many conflicts it counts, and why it says what it says.
+#[derive(Drop, Serialize)]
+pub struct Cell {
+    pub conflicts: usize,
+    pub why: String,
+}
+
+/// The text of these bytes, which are ASCII.
+pub fn text_of(alloc: Global, bytes: &[u8]) -> Result<String, AllocError> {
+    String::from_str(alloc, str::from_utf8(bytes).unwrap_or(""))
+}
+
+/// Why the cell of a state and a token says what it says.
+pub fn why_of(
+    alloc: Global,
+    tables: &Tables,
+    lines: &Lines,
+    state: usize,
+    token: Sym,
+) -> io::Result<String> {
+    let mut why = Vec::new(alloc);
+    explain_rivals(&mut why, tables, lines, state, token)?;
+    Ok(text_of(alloc, &why)?)
+}
+
+/// The cells of these states and tokens.
+pub fn cells_of(
+    alloc: Global,
+    tables: &Tables,
+    lines: &Lines,
+    asked: &[(usize, Sym)],
+) -> io::Result<Vec<Cell>> {
+    let mut cells = Vec::new(alloc);
+    for (state, token) in asked {
+        let survey = survey_at(tables.automaton(), *state, *token);
+        let cell = Cell {
+            conflicts: survey.conflicts(),
+            why: why_of(alloc, tables, lines, *state, *token)?,
+        };
+        cells.push(cell).map_err(AllocError::from)?;
+    }
+    Ok(cells)
+}

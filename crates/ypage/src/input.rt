@@ -1,0 +1,71 @@
+//! The tokens of a parse around those that its steps take.
+
+use crate::record::Record;
+use serde::Serialize;
+use std::alloc::{AllocError, Global};
+use ydebugger::parse::Parse;
+use yparse::machine::StepKind;
+use yshow::reading::upcoming_token;
+use ysymbols::Sym;
+
+/// How many tokens before the first position are shown.
+const BEFORE: usize = 100;
+/// How many upcoming tokens are shown at the last one.
+const BEHIND: usize = 1_000;
+
+/// Some tokens of the input.
+#[derive(Drop, Serialize)]
+pub struct Input {
+    /// How many tokens the file has.
+    count: usize,
+    /// How many were taken at the first position.
+    taken: usize,
+    /// How many are left out before those that follow.
+    skipped: usize,
+    symbols: Vec<Sym>,
+}
+
+/// The token that a step takes.
+fn taken_by(kind: StepKind) -> Option<Sym> {
+    match kind {
+        StepKind::Shift(token) | StepKind::Discard(token) => Some(token),
+        _ => None,
+    }
+}
+
+/// How many tokens some steps take.
+fn taken_in(kinds: &[StepKind]) -> usize {
+    kinds
+        .iter()
+        .filter(|kind| taken_by(**kind).is_some())
+        .count()
+}
+
+/// The tokens that some steps take, but for so many of the first.
+fn push_taken(tokens: &mut Vec<Sym>, kinds: &[StepKind], skipped: usize) -> Result<(), AllocError> {
+    let taken = kinds.iter().filter_map(|kind| taken_by(*kind));
+    for token in taken.skip(skipped) {
+        tokens.push(token)?;
+    }
+    Ok(())
+}
+
+impl Input {
+    /// The tokens around the steps of a record, at the end of which the parse stands.
+    pub fn new(alloc: Global, parse: &Parse, record: &Record) -> Result<Input, AllocError> {
+        let before = parse.past().get(..record.start.position);
+        let taken = taken_in(before.unwrap_or(&[]));
+        let skipped = taken.saturating_sub(BEFORE);
+        let mut symbols = Vec::new(alloc);
+        push_taken(&mut symbols, parse.past(), skipped)?;
+        for index in 0..parse.session().view().rest_len().min(BEHIND) {
+            symbols.push(upcoming_token(parse.session(), index).0)?;
+        }
+        Ok(Input {
+            count: parse.tokens(),
+            taken,
+            skipped,
+            symbols,
+        })
+    }
+}

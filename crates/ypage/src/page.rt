@@ -1,0 +1,180 @@
+//! `ydebug page`: the page of a parse, written to a file or to standard output.
+
+use crate::cards::{Cards, open_cards};
+use crate::data::Shown;
+use crate::frame::{BODY, END, FRONT};
+use crate::record::Record;
+use crate::script::SCRIPT;
+use crate::walk::{MOST_STEPS, Part, Walked, walk_part};
+use std::alloc::{AllocError, Global};
+use std::fs;
+use std::io::{self, ErrorKind, Write};
+use std::rt::Files;
+use ydebugger::parse::Parse;
+use ydebugger::parse_of;
+use ysymbols::Sym;
+
+/// What is asked for: the page of the parse of a tokens file by a grammar file, where it goes, the
+/// part that it shows, and whether it has the conflicts of the grammar.
+#[derive(Clone, Copy, Debug)]
+pub struct Asked<'a> {
+    pub grammar: &'a str,
+    pub tokens: &'a str,
+    pub file: Option<&'a str>,
+    pub part: Part,
+    pub conflicts: bool,
+}
+
+/// The steps of a parse, which stands behind them, and the cells that they asked.
+#[derive(Clone, Copy)]
+struct Steps<'a> {
+    parse: &'a Parse,
+    record: &'a Record,
+    cells: &'a [(usize, Sym)],
+}
+
+/// Adds JSON in which no `<` stands: where one stood in a text, its number does.
+fn push_json(page: &mut Vec<u8>, json: &[u8]) -> Result<(), AllocError> {
+    let mut pieces = json.split(|byte| *byte == b'<');
+    page.extend_from_slice(pieces.next().unwrap_or(&[]))?;
+    for piece in pieces {
+        page.extend_from_slice(b"\\u003c")?;
+        page.extend_from_slice(piece)?;
+    }
+    Ok(())
+}
+
+/// The whole page.
+fn page_of(alloc: Global, shown: Shown<'_>) -> io::Result<Vec<u8>> {
+    let json = shown.json(alloc)?;
+    let mut page = Vec::new(alloc);
+    for piece in [FRONT, SCRIPT, BODY] {
+        page.extend_from_slice(piece.as_bytes())?;
+    }
+    push_json(&mut page, &json)?;
+    page.extend_from_slice(END.as_bytes())?;
+    Ok(page)
+}
+
+/// Writes a page to where it is wanted, and gives the exit status.
+fn write_page<F: Files, W: Write, E: Write>(
+    rt: &F,
+    file: Option<&str>,
+    page: &[u8],
+    out: &mut W,
+    errors: &mut E,
+) -> io::Result<u8> {
+    let Some(path) = file else {
+        out.write_all(page)?;
+        return Ok(0);
+    };
+    match fs::write(rt, path, page) {
+        Ok(()) => Ok(0),
+        Err(error) if error.kind() == ErrorKind::OutOfMemory => Err(error),
+        Err(_) => {
+            writeln!(errors, "ydebug: cannot write {path}")?;
+            Ok(3)
+        }
+    }
+}
+
+/// Writes that there are more steps than a page shows.
+fn refuse_long<E: Write>(errors: &mut E, from: usize) -> io::Result<u8> {
+    let to = from.saturating_add(MOST_STEPS);
+    writeln!(
+        errors,
+        "ydebug: there are more than {MOST_STEPS} steps, the most that one page shows; choose a \
+         part with --from and --to, such as --from {from} --to {to}"
+    )?;
+    Ok(1)
+}
+
+/// Writes that the parse ends before the part.
+fn refuse_short<E: Write>(errors: &mut E, from: usize, end: usize) -> io::Result<u8> {
+    writeln!(
+        errors,
+        "ydebug: the parse ends at position {end}, before --from {from}"
+    )?;
+    Ok(1)
+}
+
+/// The cards of the grammar, where they are wanted; or the exit status where it can't be opened.
+fn cards_of<F: Files + AllocGlobal, E: Write>(
+    rt: &F,
+    asked: Asked<'_>,
+    errors: &mut E,
+) -> io::Result<Result<Option<Cards>, u8>> {
+    if asked.conflicts {
+        Ok(open_cards(rt, asked.grammar, errors)?.map(Some))
+    } else {
+        Ok(Ok(None))
+    }
+}
+
+/// Writes the page of these steps, and gives the exit status.
+fn put_steps<'a, F: Files + AllocGlobal, W: Write, E: Write>(
+    rt: &F,
+    asked: Asked<'a>,
+    steps: Steps<'a>,
+    out: &mut W,
+    errors: &mut E,
+) -> io::Result<u8> {
+    let cards = match cards_of(rt, asked, errors)? {
+        Ok(cards) => cards,
+        Err(status) => return Ok(status),
+    };
+    let shown = Shown {
+        files: (asked.grammar, asked.tokens),
+        parse: steps.parse,
+        record: steps.record,
+        asked: steps.cells,
+        conflicts: cards.as_ref(),
+    };
+    let page = page_of(rt.alloc(), shown)?;
+    write_page(rt, asked.file, &page, out, errors)
+}
+
+/// Writes the page of a parse at its start, and gives the exit status.
+fn put_parse<F: Files + AllocGlobal, W: Write, E: Write>(
+    rt: &F,
+    asked: Asked<'_>,
+    parse: &mut Parse,
+    out: &mut W,
+    errors: &mut E,
+) -> io::Result<u8> {
+    match walk_part(rt.alloc(), parse, asked.part)? {
+        Walked::Done(record, cells) => {
+            let steps = Steps {
+                parse,
+                record: &record,
+                cells: cells.as_slice(),
+            };
+            put_steps(rt, asked, steps, out, errors)
+        }
+        Walked::Long => refuse_long(errors, asked.part.from),
+        Walked::Short(end) => refuse_short(errors, asked.part.from, end),
+    }
+}
+
+/// Writes the page that is asked for, and gives the exit status: 0; 1 where a file is refused,
+/// there are more steps than a page shows, or the parse ends before the part; 2 where the part ends
+/// before it begins; 3 where a file can't be read or written, for too many states, or for want of
+/// memory.
+pub fn run_page<F: Files + AllocGlobal, W: Write, E: Write>(
+    rt: &F,
+    asked: Asked<'_>,
+    out: &mut W,
+    errors: &mut E,
+) -> io::Result<u8> {
+    let from = asked.part.from;
+    if let Some(to) = asked.part.to {
+        if to < from {
+            writeln!(errors, "ydebug: --to {to} stands before --from {from}")?;
+            return Ok(2);
+        }
+    }
+    match parse_of(rt, asked.grammar, asked.tokens, errors)? {
+        Ok(mut parse) => put_parse(rt, asked, &mut parse, out, errors),
+        Err(status) => Ok(status),
+    }
+}

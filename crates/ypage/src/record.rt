@@ -1,0 +1,109 @@
+//! The steps of a parse as the page has them. Its script makes stacks and trees of them again.
+
+use serde::Serialize;
+use std::alloc::{AllocError, Global};
+use yexplain::reads::goto_of;
+use yparse::Session;
+use yparse::machine::{Mode, StepKind};
+use yshow::reading::stack_symbol;
+use ysymbols::Sym;
+
+/// Where a parse stands at the first position of the page.
+#[derive(Drop, Serialize)]
+pub struct Start {
+    pub position: usize,
+    pub mode: &'static str,
+    /// The symbol of each entry of the stack from the bottom, and the state after it.
+    pub stack: Vec<(Sym, usize)>,
+    pub counter: usize,
+    pub errors: usize,
+}
+
+/// The steps that the page shows.
+#[derive(Drop, Serialize)]
+pub struct Record {
+    pub start: Start,
+    /// A letter for each step.
+    pub kinds: String,
+    /// The rule of each reduction.
+    pub rules: Vec<usize>,
+    /// The state after each reduction and each shift, that of `error` among them.
+    pub states: Vec<usize>,
+    /// The cell that says what is done next, for each position; none where no cell is asked.
+    pub cells: Vec<Option<usize>>,
+}
+
+/// The letter of a kind. A page has no edits.
+fn letter_of(kind: StepKind) -> char {
+    match kind {
+        StepKind::Shift(_) => 's',
+        StepKind::Reduce(_) => 'r',
+        StepKind::Accept => 'a',
+        StepKind::Detect => 'e',
+        StepKind::Pop(_) => 'p',
+        StepKind::ShiftError => 'x',
+        StepKind::Discard(_) => 'd',
+        StepKind::Fail => 'f',
+        StepKind::Insert(_) | StepKind::Drop(_) => 'i',
+    }
+}
+
+/// The word of a mode.
+fn mode_word(mode: Mode) -> &'static str {
+    match mode {
+        Mode::Running => "running",
+        Mode::Popping => "popping",
+        Mode::Accepted => "accepted",
+        Mode::Failed => "failed",
+    }
+}
+
+/// The entries of a stack from the bottom: each symbol, and the state after it.
+fn stack_of(alloc: Global, session: &Session) -> Result<Vec<(Sym, usize)>, AllocError> {
+    let mut stack = Vec::new(alloc);
+    let mut state = 0;
+    for index in 0..session.view().stack_len() {
+        let symbol = stack_symbol(session, index);
+        state = goto_of(session.tables().automaton(), state, symbol).unwrap_or(0);
+        stack.push((symbol, state))?;
+    }
+    Ok(stack)
+}
+
+impl Start {
+    /// Where a session stands.
+    pub fn of(alloc: Global, session: &Session) -> Result<Start, AllocError> {
+        Ok(Start {
+            position: session.position(),
+            mode: mode_word(session.view().mode()),
+            stack: stack_of(alloc, session)?,
+            counter: session.view().counter(),
+            errors: session.view().errors(),
+        })
+    }
+}
+
+impl Record {
+    /// No step from there yet.
+    pub fn new(alloc: Global, start: Start) -> Record {
+        Record {
+            start,
+            kinds: String::new(alloc),
+            rules: Vec::new(alloc),
+            states: Vec::new(alloc),
+            cells: Vec::new(alloc),
+        }
+    }
+
+    /// Notes a step, and the state after it.
+    pub fn note(&mut self, kind: StepKind, state: usize) -> Result<(), AllocError> {
+        self.kinds.push(letter_of(kind))?;
+        if let StepKind::Reduce(rule) = kind {
+            self.rules.push(rule)?;
+        }
+        if let StepKind::Reduce(_) | StepKind::Shift(_) | StepKind::ShiftError = kind {
+            self.states.push(state)?;
+        }
+        Ok(())
+    }
+}

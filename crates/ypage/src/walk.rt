@@ -1,0 +1,119 @@
+//! The walk over the steps that are shown.
+
+use crate::record::{Record, Start};
+use indexmap::IndexSet;
+use std::alloc::{AllocError, Global};
+use std::io::{self, ErrorKind};
+use ydebugger::parse::Parse;
+use yparse::machine::{StepFault, StepKind};
+use yshow::reading::{is_running, token_ahead};
+use ysymbols::Sym;
+
+/// The most steps that a page shows.
+pub const MOST_STEPS: usize = 20_000;
+
+/// The positions that are wanted: from one to another, or to the end.
+#[derive(Clone, Copy, Debug)]
+pub struct Part {
+    pub from: usize,
+    pub to: Option<usize>,
+}
+
+/// What a walk came to.
+#[derive(Drop)]
+pub enum Walked {
+    /// The steps, and the cells that they asked: each a state and a token.
+    Done(Record, IndexSet<(usize, Sym)>),
+    /// There are more steps than a page shows.
+    Long,
+    /// The parse ends at this position, before the first one that is wanted.
+    Short(usize),
+}
+
+/// A walk on its way.
+#[derive(Drop)]
+struct Walk<'a> {
+    parse: &'a mut Parse,
+    record: Record,
+    cells: IndexSet<(usize, Sym)>,
+}
+
+/// A step, where one can be made.
+fn step(parse: &mut Parse) -> io::Result<Option<StepKind>> {
+    match parse.step() {
+        Ok(kind) => Ok(Some(kind)),
+        Err(StepFault::Memory) => Err(io::Error::from(ErrorKind::OutOfMemory)),
+        Err(_) => Ok(None),
+    }
+}
+
+/// Goes on to a position, or to the end where that comes before it.
+fn skip(parse: &mut Parse, position: usize) -> io::Result<()> {
+    for _ in 0..position {
+        if step(parse)?.is_none() {
+            break;
+        }
+    }
+    Ok(())
+}
+
+impl Walk<'_> {
+    /// Notes the cell that says what is done next.
+    fn note_cell(&mut self) -> Result<(), AllocError> {
+        let session = self.parse.session();
+        let mut number = None;
+        if is_running(session) {
+            let cell = (session.state(), token_ahead(session));
+            number = Some(self.cells.insert_full(cell)?.0);
+        }
+        self.record.cells.push(number)?;
+        Ok(())
+    }
+
+    /// Makes a step and notes it, and says whether one could be made.
+    fn step(&mut self) -> io::Result<bool> {
+        let Some(kind) = step(self.parse)? else {
+            return Ok(false);
+        };
+        self.record.note(kind, self.parse.session().state())?;
+        self.note_cell()?;
+        Ok(true)
+    }
+
+    /// Makes so many steps at most, and says whether there are more.
+    fn go(&mut self, most: usize) -> io::Result<bool> {
+        for _ in 0..MOST_STEPS.min(most) {
+            if !self.step()? {
+                return Ok(false);
+            }
+        }
+        Ok(most > MOST_STEPS && step(self.parse)?.is_some())
+    }
+}
+
+/// Makes the steps that are wanted from where a parse stands.
+fn walk_on(alloc: Global, parse: &mut Parse, most: usize) -> io::Result<Walked> {
+    let start = Start::of(alloc, parse.session())?;
+    let mut walk = Walk {
+        parse,
+        record: Record::new(alloc, start),
+        cells: IndexSet::new(alloc),
+    };
+    walk.note_cell()?;
+    if walk.go(most)? {
+        return Ok(Walked::Long);
+    }
+    let Walk { record, cells, .. } = walk;
+    Ok(Walked::Done(record, cells))
+}
+
+/// Makes the steps of a part, from the start of a parse on.
+pub fn walk_part(alloc: Global, parse: &mut Parse, part: Part) -> io::Result<Walked> {
+    skip(parse, part.from)?;
+    let position = parse.session().position();
+    if position < part.from {
+        return Ok(Walked::Short(position));
+    }
+    let to = part.to.unwrap_or(usize::MAX);
+    walk_on(alloc, parse, to.saturating_sub(part.from))
+}

@@ -1,0 +1,28 @@
+"""The text of a page but for its data, from the sources of `ypage`."""
+import json
+import re
+from pathlib import Path
+
+SOURCES = Path(__file__).resolve().parent.parent / "crates" / "ypage" / "src"
+
+
+def constant(file, name):
+    """A text of the sources."""
+    source = (SOURCES / file).read_text()
+    raw = re.search(rf'pub const {name}: &str = r##"(.*?)"##;', source, re.S)
+    return raw[1] if raw else json.loads(re.search(rf"pub const {name}: &str = (.*);", source)[1])
+
+
+def script():
+    """The style and the script."""
+    return constant("script.rt", "SCRIPT")
+
+
+def before():
+    """What stands in front of the data."""
+    return constant("frame.rt", "FRONT") + script() + constant("frame.rt", "BODY")
+
+
+def behind():
+    """What stands behind the data."""
+    return constant("frame.rt", "END")
