@@ -70,15 +70,19 @@ fn put_rest<W: Write>(page: &mut Page<W>, found: &Conflicts) -> io::Result<()> {
     Ok(())
 }
 
-/// The conflicts of the tables by kinds: each with a cell, the first 20 explained.
-pub fn put_conflicts<W: Write>(alloc: Global, page: &mut Page<W>, parse: &Parse) -> io::Result<()> {
-    let found = Conflicts::new(alloc, parse.tables())?;
+/// Conflicts that were found.
+fn put_found<W: Write>(page: &mut Page<W>, parse: &Parse, found: &Conflicts) -> io::Result<()> {
     if found.cells == 0 {
         return page.line("The tables have no conflict.");
     }
-    put_counts(page, parse, &found)?;
+    put_counts(page, parse, found)?;
     for (number, (kind, group)) in found.groups.iter().take(NAMED).enumerate() {
         put_kind(page, parse, kind, *group, number)?;
     }
-    put_rest(page, &found)
+    put_rest(page, found)
+}
+
+/// The conflicts of the tables by kinds: each with a cell, the first 20 explained.
+pub fn put_conflicts<W: Write>(alloc: Global, page: &mut Page<W>, parse: &Parse) -> io::Result<()> {
+    put_found(page, parse, &Conflicts::new(alloc, parse.tables())?)
 }

@@ -52,21 +52,26 @@ fn text_of(alloc: Global, parse: &Parse) -> io::Result<Vec<u8>> {
     Ok(page.into_out())
 }
 
-/// Opens a file and writes the tokens to it. Without `over` there must be no such file.
-fn save_to<F: Files + AllocGlobal>(
+/// Opens a file and writes a text to it. Without `over` there must be no such file.
+fn save_to<F: Files>(rt: &F, text: &[u8], path: &str, over: bool) -> io::Result<()> {
+    let mut device = if over {
+        fs::create(rt, path)?
+    } else {
+        File::create_new(rt, path)?
+    };
+    device.write_all(text)?;
+    device.flush()
+}
+
+/// Writes the tokens as they stand to a file. Without `over` there must be no such file.
+fn save_tokens<F: Files + AllocGlobal>(
     rt: &F,
     parse: &Parse,
     path: &str,
     over: bool,
 ) -> io::Result<()> {
     let text = text_of(rt.alloc(), parse)?;
-    let mut device = if over {
-        fs::create(rt, path)?
-    } else {
-        File::create_new(rt, path)?
-    };
-    device.write_all(&text)?;
-    device.flush()
+    save_to(rt, &text, path, over)
 }
 
 /// Writes the tokens as they stand to a file, and says so, or why not.
@@ -77,7 +82,7 @@ pub fn save<F: Files + AllocGlobal, W: Write>(
     path: &str,
     over: bool,
 ) -> io::Result<()> {
-    let words = match save_to(rt, parse, path, over) {
+    let words = match save_tokens(rt, parse, path, over) {
         Ok(()) => " has the tokens as they stand.",
         Err(error) => match error.kind() {
             ErrorKind::AlreadyExists => " is there already; save! writes over it.",

@@ -241,6 +241,18 @@ fn tells_each(wanted: Move) -> bool {
     matches!(wanted, Move::Step(_) | Move::Back(_))
 }
 
+/// Makes a move, and tells it so.
+fn make_told<W: Write>(
+    parse: &mut Parse,
+    page: &mut Page<W>,
+    telling: &mut Telling,
+    wanted: Move,
+) -> io::Result<()> {
+    let end = go(parse, page, telling, wanted)?;
+    telling.finish(page, parse)?;
+    put_end(page, parse, wanted, end, telling.made)
+}
+
 /// Makes a move, and tells it. A long one tells its position on the way where `progress` is set.
 pub fn make_move<W: Write>(
     alloc: Global,
@@ -250,7 +262,5 @@ pub fn make_move<W: Write>(
     progress: bool,
 ) -> io::Result<()> {
     let mut telling = Telling::new(alloc, tells_each(wanted), progress)?;
-    let end = go(parse, page, &mut telling, wanted)?;
-    telling.finish(page, parse)?;
-    put_end(page, parse, wanted, end, telling.made)
+    make_told(parse, page, &mut telling, wanted)
 }

@@ -237,22 +237,39 @@ impl Seeker<'_> {
 
     /// Tries the next lists until the parse gets there.
     fn try_others(&mut self, goal: Goal, list: &mut List) -> io::Result<()> {
-        let mut left = allowance(self.steps_for_others, MOST_FOR_OTHERS);
         let automaton = self.session.tables().automaton();
         let mut others = Others::new(self.alloc, self.finder, automaton, goal.target, MOST_FORMS)?;
+        self.try_each(goal, &mut others, list)
+    }
+
+    /// Tries so many lists until the parse gets there.
+    fn try_each(&mut self, goal: Goal, others: &mut Others, list: &mut List) -> io::Result<()> {
+        let mut left = allowance(self.steps_for_others, MOST_FOR_OTHERS);
         for _ in 0..MOST_LISTS {
             let automaton = self.session.tables().automaton();
             let Some(tokens) = others.next(self.finder, automaton)? else {
                 break;
             };
-            if tokens.as_slice() != list.tokens.as_slice() {
-                left = left.saturating_sub(self.try_other(goal, tokens, left, list)?);
-            }
+            left = left.saturating_sub(self.try_new(goal, tokens, left, list)?);
             if left == 0 || list.other.is_some() {
                 break;
             }
         }
         Ok(())
+    }
+
+    /// Tries another list, where it isn't the first one, and gives the steps that it took.
+    fn try_new(
+        &mut self,
+        goal: Goal,
+        tokens: Vec<Sym>,
+        most: usize,
+        list: &mut List,
+    ) -> io::Result<usize> {
+        if tokens.as_slice() == list.tokens.as_slice() {
+            return Ok(0);
+        }
+        self.try_other(goal, tokens, most, list)
     }
 
     /// Tries another list, keeps it where the parse gets there, and gives the steps that it took.

@@ -57,12 +57,21 @@ impl<W: Write, F: Files + AllocGlobal + Clone + Drop> Report<'_, W, F> {
         };
         for (kind, group) in found.groups.iter().take(MOST_GROUPS) {
             number = number.saturating_add(1);
-            let finding = seeker.find(kind, *group)?;
-            let tables = seeker.session.tables();
-            self.put_group(tables, number, kind, *group)?;
-            self.put_finding(tables, number, kind, *group, &finding)?;
+            self.put_kind(&mut seeker, number, kind, *group)?;
         }
         Ok(())
+    }
+
+    /// Writes a kind of conflict, with the lists that are found for it.
+    fn put_kind(
+        &mut self,
+        seeker: &mut Seeker<'_>,
+        number: usize,
+        kind: &Kind,
+        group: Group,
+    ) -> io::Result<()> {
+        let finding = seeker.find(kind, group)?;
+        self.put_finding(seeker.session.tables(), number, kind, group, &finding)
     }
 
     /// Writes a kind of conflict and why it is settled so.
@@ -80,7 +89,7 @@ impl<W: Write, F: Files + AllocGlobal + Clone + Drop> Report<'_, W, F> {
         put_states(self.out, group)
     }
 
-    /// Writes the lists for a kind of conflict.
+    /// Writes a kind of conflict and the lists for it.
     fn put_finding(
         &mut self,
         tables: &Tables,
@@ -96,6 +105,7 @@ impl<W: Write, F: Files + AllocGlobal + Clone + Drop> Report<'_, W, F> {
             group,
             lists: finding.lists.len(),
         };
+        self.put_group(tables, number, kind, group)?;
         text.put_merged(self.out, finding)?;
         for (part, list) in finding.lists.iter().enumerate() {
             text.put_list(self.out, list)?;
@@ -121,6 +131,16 @@ impl<W: Write, F: Files + AllocGlobal + Clone + Drop> Report<'_, W, F> {
     }
 }
 
+/// Writes the conflicts of the first kinds, with lists of tokens.
+fn put_first<W: Write, F: Files + AllocGlobal + Clone + Drop>(
+    report: &mut Report<'_, W, F>,
+    session: &mut Session,
+    found: &Conflicts,
+) -> io::Result<()> {
+    let mut finder = Finder::new(report.alloc, session.tables().automaton())?;
+    report.put_groups(&mut finder, session, found)
+}
+
 /// Writes the conflicts, with lists of tokens.
 fn put_found<W: Write, F: Files + AllocGlobal + Clone + Drop>(
     report: &mut Report<'_, W, F>,
@@ -132,8 +152,7 @@ fn put_found<W: Write, F: Files + AllocGlobal + Clone + Drop>(
         return Ok(());
     }
     report.folder.make()?;
-    let mut finder = Finder::new(report.alloc, session.tables().automaton())?;
-    report.put_groups(&mut finder, session, found)?;
+    put_first(report, session, found)?;
     report.put_rest(session.tables(), found)
 }
 
@@ -175,6 +194,23 @@ fn put_lists<'a, W: Write, F: Files + AllocGlobal + Clone + Drop>(
     Ok(failed)
 }
 
+/// Writes these conflicts and the warnings of a session's grammar, and gives the exit status.
+fn put_both<W: Write, E: Write, F: Files + AllocGlobal + Clone + Drop>(
+    rt: &F,
+    out: &mut W,
+    errors: &mut E,
+    asked: Asked<'_>,
+    session: &mut Session,
+    lines: &Lines,
+    found: &Conflicts,
+) -> io::Result<u8> {
+    let failed = put_lists(rt, &mut *out, asked, session, lines, found)?;
+    let warnings = put_warnings(&mut *out, rt.alloc(), session.tables(), lines)?;
+    let is_bad = found.cells > 0 || warnings > 0;
+    let status = if asked.strict && is_bad { 1 } else { 0 };
+    put_failed(errors, failed.as_ref(), status)
+}
+
 /// Writes the conflicts and the warnings of a session's grammar, and gives the exit status.
 fn put_all<W: Write, E: Write, F: Files + AllocGlobal + Clone + Drop>(
     rt: &F,
@@ -185,11 +221,7 @@ fn put_all<W: Write, E: Write, F: Files + AllocGlobal + Clone + Drop>(
     lines: &Lines,
 ) -> io::Result<u8> {
     let found = Conflicts::new(rt.alloc(), session.tables())?;
-    let failed = put_lists(rt, &mut *out, asked, session, lines, &found)?;
-    let warnings = put_warnings(&mut *out, rt.alloc(), session.tables(), lines)?;
-    let is_bad = found.cells > 0 || warnings > 0;
-    let status = if asked.strict && is_bad { 1 } else { 0 };
-    put_failed(errors, failed.as_ref(), status)
+    put_both(rt, out, errors, asked, session, lines, &found)
 }
 
 /// Writes the conflicts and the warnings of a grammar that is open, and gives the exit status: 0; 1

@@ -16,25 +16,26 @@ pub struct Folder<'a, F> {
     pub failed: Option<String>,
 }
 
-/// The text of a tokens file: the tokens, and one more where there is one.
-fn text_of(
-    alloc: Global,
+/// Writes a line with tokens behind a space each, and one more where there is one.
+fn put_tokens<W: Write>(
+    out: &mut W,
     grammar: &Grammar,
     tokens: &[Sym],
     last: Option<Sym>,
-) -> io::Result<Vec<u8>> {
-    let mut all = Vec::from_slice(alloc, tokens)?;
-    if let Some(last) = last {
-        all.push(last)?;
+) -> io::Result<()> {
+    let names = Names(grammar, tokens);
+    match last.map(|last| Name(grammar, last)) {
+        Some(name) => writeln!(out, "{names} {name}"),
+        None => writeln!(out, "{names}"),
     }
-    let mut text = Vec::new(alloc);
-    if let Some((first, rest)) = all.split_first() {
-        let name = Name(grammar, *first);
-        let names = Names(grammar, rest);
-        write!(&mut text, "{name}{names}")?;
+}
+
+/// A text without a space at its beginning.
+fn unspaced(text: &[u8]) -> &[u8] {
+    match text {
+        [b' ', rest @ ..] => rest,
+        _ => text,
     }
-    writeln!(&mut text)?;
-    Ok(text)
 }
 
 /// Whether something was written; want of memory stays an error.
@@ -74,10 +75,7 @@ fn is_of_list(name: &str) -> bool {
 
 /// Removes a file of a folder, where its name is that of a list, and says whether that was done
 /// where it had to be.
-fn is_cleared<F: Files + Drop>(
-    rt: &F,
-    entry: io::Result<DirEntry<F, Global>>,
-) -> io::Result<bool> {
+fn is_cleared<F: Files + Drop>(rt: &F, entry: io::Result<DirEntry<F, Global>>) -> io::Result<bool> {
     match entry {
         Ok(entry) if is_of_list(entry.file_name()) => {
             is_written(fs::remove_file(rt, entry.path()))
@@ -141,13 +139,25 @@ impl<F: Files + AllocGlobal + Clone + Drop> Folder<'_, F> {
         let (Some(folder), None) = (self.path, &self.failed) else {
             return Ok(());
         };
-        let alloc: Global = self.rt.alloc();
-        let path = path_of(alloc, folder, name)?;
-        let text = text_of(alloc, grammar, tokens, last)?;
-        if is_written(fs::write(self.rt, path.as_str(), text.as_slice()))? {
-            return writeln!(out, "  saved   {path}");
+        let path = path_of(self.rt.alloc(), folder, name)?;
+        if !self.write(&path, grammar, tokens, last)? {
+            self.failed = Some(path);
+            return Ok(());
         }
-        self.failed = Some(path);
-        Ok(())
+        writeln!(out, "  saved   {path}")
+    }
+
+    /// Writes tokens to a file, and says whether that was done.
+    fn write(
+        &self,
+        path: &str,
+        grammar: &Grammar,
+        tokens: &[Sym],
+        last: Option<Sym>,
+    ) -> io::Result<bool> {
+        let alloc: Global = self.rt.alloc();
+        let mut text = Vec::new(alloc);
+        put_tokens(&mut text, grammar, tokens, last)?;
+        is_written(fs::write(self.rt, path, unspaced(&text)))
     }
 }

@@ -165,6 +165,17 @@ impl<W: Write> Warner<'_, W> {
     }
 }
 
+/// Writes a line for each warning by what is done and how symbols are named, and says how many there
+/// are.
+fn put_each<W: Write>(warner: &mut Warner<'_, W>, done: &Done, named: &Named) -> io::Result<usize> {
+    warner.put_lost(done)?;
+    warner.put_idle_tokens(done, named)?;
+    warner.put_idle_rules(done)?;
+    warner.put_unused(named)?;
+    warner.put_unreachable(named)?;
+    Ok(warner.count)
+}
+
 /// Writes a line for each warning, and says how many there are.
 pub fn put_warnings<W: Write>(
     out: &mut W,
@@ -182,10 +193,5 @@ pub fn put_warnings<W: Write>(
         lines,
         count: 0,
     };
-    warner.put_lost(&done)?;
-    warner.put_idle_tokens(&done, &named)?;
-    warner.put_idle_rules(&done)?;
-    warner.put_unused(&named)?;
-    warner.put_unreachable(&named)?;
-    Ok(warner.count)
+    put_each(&mut warner, &done, &named)
 }
