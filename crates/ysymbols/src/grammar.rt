@@ -17,17 +17,19 @@ use crate::texts::Texts;
 use std::alloc::{AllocError, Global};
 use std::marker::Model;
 
-/// A grammar. Every one is well formed; `symbols` tells so to its callers. It owns what it keeps:
-/// names, and the source once, of which kept texts are parts.
+/// A grammar. Every grammar is well formed; the contract of `symbols` says what that means. It
+/// owns its parts: the names, and one copy of the source, of which the kept texts are parts.
 #[derive(Drop)]
 pub struct Grammar {
     /// The symbols by their printed names, the tokens first.
     names: SymbolTable,
+    /// How many of the symbols are tokens.
     tokens: usize,
     /// The numbers of the tokens.
     numbers: Vec<u32>,
     /// The precedences of the tokens.
     precedences: Vec<Option<Precedence>>,
+    /// The rules by number.
     rules: Vec<Rule>,
     /// The texts of the actions of the rules.
     action_texts: Texts,
@@ -50,7 +52,7 @@ impl Model for Grammar {
 }
 
 impl Grammar {
-    /// A grammar of these parts.
+    /// The grammar of these parts, which must be whole: what `symbols` promises holds of them.
     pub fn of(
         names: SymbolTable,
         tokens: usize,
@@ -91,8 +93,8 @@ impl Grammar {
         self.names.len()
     }
 
-    /// Whether the symbol is a token. The tokens are the numbers from 0 on; the nonterminals and
-    /// all numbers above them are none.
+    /// Whether the symbol is a token. Tokens have the lowest numbers, from 0 on. Nonterminals, and
+    /// numbers of no symbol, are not tokens.
     pub fn is_token(&self, s: Sym) -> bool
         ensures { IsTrue result ↔ IsToken self.now.bare s }
     {
@@ -112,7 +114,7 @@ impl Grammar {
         }
     }
 
-    /// The symbol that is printed so, or `None` where there is none.
+    /// The symbol with this printed name, or `None` where no symbol has it.
     pub fn find(&self, name: &[u8]) -> Option<Sym>
         ensures { result ≡ find_in self.now.names name.now }
     {
@@ -164,7 +166,7 @@ impl Grammar {
     pub fn nullable(&self, alloc: Global) -> Result<Vec<bool>, AllocError>
         ensures { IfOk result (λ v. MarksNullable self.now.bare v.items) }
     {
-        // A list of tokens, where there are none, is the empty form.
+        // Where nothing counts as a token, the only list of tokens is the empty one.
         productive(alloc, &self.rules, 0, self.symbols())
     }
 
