@@ -80,11 +80,9 @@ impl Grammar {
         }
     }
 
-    /// How many symbols there are, 4 to 4,096; each is a number below this.
-    ///
     /// This call also says what every grammar keeps: its rules have symbols in range, rule 0 is
     /// `$accept : S $end`, every nonterminal derives a list of tokens, `$end` and `error` are the
-    /// first two tokens, no two symbols have one name and no two tokens one number.
+    /// first two tokens, no two symbols share a name and no two tokens share a number.
     pub fn symbols(&self) -> usize
         ensures value { result ≡ self.now.bare.symbols }
         ensures well_formed { WellFormed self.now.bare }
