@@ -29,10 +29,10 @@ pub enum Mistake {
 /// Why a syntax tree means no grammar.
 #[derive(Clone, Copy, Debug, PartialEq, Eq, Drop)]
 pub enum Refused {
-    Mistake { what: Mistake, at: usize },
     /// A mistake, and how many bytes stand before the place at fault.
-    Memory,
+    Mistake { what: Mistake, at: usize },
     /// Memory ran out.
+    Memory,
 }
 
 impl<T: Drop> From<AllocFailed<T>> for Refused {

@@ -1,5 +1,5 @@
--- Lookaheads in the making: what one more item adds is sound, and stays; and what the links make of
--- it.
+-- Lookaheads that are not complete yet: what one more item adds is sound, and stays; and what the
+-- links make of it.
 use Rattle.std.proofs.Common.{ℕ, zero, suc, ◌≡◌, ◌<◌, ◌≤◌, ◌+◌, ◌⊎◌, ◌↔◌, List, [], ◌∷◌, ◌++◌}
 use Rattle.std.proofs.Common.{length, drop, get_or, refl, sym, ◌∙◌, ap, subst, inl, inr, arith}
 use Rattle.std.proofs.Common.{Option, Some, None, MatchOption}
@@ -266,7 +266,7 @@ module _ (P : Lr0) (f : WellFormed P.grammar.bare) (fit : FitLr0 P) where
           let k = s.carried p t l in
           k.on q i c ip (go z k.state k.item k.place)
 
-  -- and closed
+  -- the rows with all that is passed on are closed
   pub spread_closed : (d : DraftValue) (m : BitRows) → SoundDraft P d → IsSpread d.links d.looks m →
       StartsDraft P d → ((q : ℕ) → q < length P.states.closures → ServesState P d q) →
       ClosedLooks P.grammar.bare (goto_of P.gotos) P.states P.item_rows m

@@ -1,5 +1,5 @@
-//! The rows of the items of all states: in each state the items of one left side with the dot at
-//! 0 share one.
+//! The rows of the items of all states. In each state, the items of one left side with the dot at
+//! 0 share a row; every other item has its own.
 
 ghost use Rattle.std.specs.Prelude.{◌≡◌, ◌<◌, ◌≤◌, ◌+◌, ◌^◌, length, IfOk, OnOk};
 ghost use Rattle.yrows.specs.Limits.{most_states};
@@ -59,7 +59,8 @@ fn rows_of(
 }
 
 impl ItemRows {
-    /// The rows of the items of the states, each state's after those of the state before.
+    /// The rows of the items of the states, each state's behind those of the state before. It
+    /// fails only when memory runs out.
     pub fn of(alloc: Global, grammar: &Grammar, states: &States) -> Result<ItemRows, AllocError>
         requires states { AreStates grammar.now.bare states.now }
         requires few { length states.now.closures ≤ most_states }
@@ -92,7 +93,7 @@ impl ItemRows {
     }
 }
 
-/// The row of an item of a state.
+/// The row of an item of state `q`, or `None` where the state doesn't have the item.
 pub fn item_row(states: &States, item_rows: &ItemRows, q: usize, item: Item) -> Option<usize>
     requires state { q < length states.now.closures }
     requires order { IsAscending (set_at states.now.closures q) }
