@@ -70,7 +70,7 @@ inserted b token c = if b then Some (
   record c { rest = (token, 0) ∷ c.rest },
 ) else None
 
--- an edit is told as one
+-- an edit is seen as an edit
 module _ (m : Machine) (c : Configuration) (k : StepKind) (n : Configuration) where
   by_inserted : (token : ℕ) (b : Bool) → inserted b token c ≡ Some (k, n) → is_edit k ≡ true
   by_inserted token true e = ap (λ (z : StepKind × Configuration). is_edit z.0) (sym (some_is e))
