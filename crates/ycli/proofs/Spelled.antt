@@ -1,4 +1,4 @@
--- Each command but the unknown one is told by its spelling.
+-- Each command but the unknown one is known by its spelling.
 use Rattle.std.proofs.Common.{ℕ, ◌≡◌, ◌≢◌, ◌≤◌, ◌∙◌, true, false, List, ◌++◌, length, take}
 use Rattle.std.proofs.Common.{drop, Option, Some, None, refl, sym, ap, subst, inl, inr, arith, codes}
 use Rattle.std.proofs.Common.{◌&&◌, ◌||◌, nat_le, nat_lt, length-append}

@@ -72,7 +72,8 @@ abbrev pub edit_text : Machine → History → Result StepKind StepFault → Lis
 edit_text m h (Ok kind) = step_line m (position h) (codes " ") kind
 edit_text m h (Err fault) = refusal false fault
 
--- the lines of at most n undos, each with the position after it; `at start` where there was none
+-- the lines of at most n undos, each with the position after it; `at start` where nothing could be
+-- undone
 abbrev pub undo_text : Machine → ℕ → Bool → List (StepKind × Configuration) → List ℕ
 undo_text m zero made past = []
 undo_text m (suc n) made [] = if made then [] else codes "at start\n"
