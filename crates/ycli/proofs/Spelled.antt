@@ -182,7 +182,7 @@ to_said n line is =
     (ap (λ (l : List ℕ). bytes_eq (take 5 l) (codes "back ")) is.parts))
     ∙ ap (λ (r : _). option_map_or To r Unknown) (number_says 0 n (codes "to ") line is)
 
--- a line that begins with the word of a number is none of the words alone
+-- a line that begins with a word before a number is not a word alone
 from_number : (word digits line : List ℕ) (c : Command) → line ≡ word ++ digits
     → command_of (word ++ digits) ≡ option_map_or Insert (text_after (codes "insert ") (word ++ digits))
     (number_command (word ++ digits)) → bytes_eq (take 7 (word ++ digits)) (codes "insert ") ≡ false

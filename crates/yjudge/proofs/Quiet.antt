@@ -99,7 +99,7 @@ module _ (m : Machine) (c : Configuration) (k : StepKind) (n : Configuration) wh
   by_step (inl s) u = s
   by_step (inr e) u = absurd (true_false (sym (is_edited e.0 e.1) ∙ u))
 
--- a history without edits goes by steps
+-- each configuration of a history without edits comes from a step
 pub steps_to : (m : Machine) (first now : Configuration) (earlier : List (StepKind × Configuration))
     → LeadsTo (next m) (edited m) first now earlier → NoEdits earlier → StepsTo m first now earlier
 steps_to m first now [] h u = h

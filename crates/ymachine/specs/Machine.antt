@@ -96,7 +96,7 @@ reduce_step m c r = (
   },
 )
 
--- the first upcoming token is dropped; where there is none the parse gives up
+-- the first upcoming token is dropped; where there is no token the parse gives up
 abbrev pub discard_step : Configuration → List (ℕ × ℕ) → StepKind × Configuration
 discard_step c [] = fail_step c
 discard_step c (token ∷ rest) = (kinds.Discard token.0, record c { rest = rest })

@@ -99,7 +99,7 @@ impl Grammar {
         s < self.tokens
     }
 
-    /// The printed name of a symbol below `symbols()`: a name as it stands in the file, a literal
+    /// The printed name of a symbol below `symbols()`: a name as the file has it, a literal
     /// by its value, so that it has one name in all its spellings (POSIX yacc, "Lexical Structure
     /// of the Grammar").
     pub fn name(&self, s: Sym) -> &[u8]

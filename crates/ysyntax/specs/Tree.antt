@@ -34,7 +34,7 @@ pub data BodyPart : Type 0 where
   symbol : Identifier → BodyPart
   action : List ℕ → BodyPart
 
--- a rule, as it stands in the file
+-- a rule of the file
 pub record RuleText : Type 0 where
   -- the name before the colon, or a bar
   pub left : Option (List ℕ)

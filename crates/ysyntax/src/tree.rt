@@ -111,7 +111,7 @@ pub enum BodyPart<'a> {
     Action(BracedText<'a>),
 }
 
-/// A rule, as it stands in the file.
+/// A rule of the file.
 #[derive(Drop)]
 pub struct RuleText<'a> {
     /// The name before the colon, unless the rule begins with a bar.

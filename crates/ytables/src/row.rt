@@ -59,7 +59,7 @@ fn shift_at(automaton: &Automaton, q: usize, t: Sym) -> Action
     }
 }
 
-/// The rule by which all filled cells of a row reduce, where there is one.
+/// The one rule that all filled cells of a row reduce by, where there is such a rule.
 fn common_rule(actions: &[Action]) -> Option<usize>
     ensures { result ≡ common (filter is_filled actions.now) }
 {
