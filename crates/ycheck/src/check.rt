@@ -20,8 +20,11 @@ const MOST_NAMED: usize = 20;
 /// choices.
 #[derive(Clone, Copy, Debug)]
 pub struct Check<'a> {
+    /// The path of the grammar file.
     pub grammar: &'a str,
+    /// The paths of the tokens files; `-` is standard input.
     pub tokens: &'a [&'a str],
+    /// Whether to say first if a cell of the tables has a choice.
     pub choice: bool,
 }
 

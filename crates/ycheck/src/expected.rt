@@ -16,7 +16,9 @@ const MOST_STEPS: usize = 1_000_000;
 /// Whether a token can come.
 #[derive(Clone, Copy, Debug, Drop, PartialEq, Eq)]
 pub enum Answer {
+    /// It can come.
     Can,
+    /// It can't come.
     Cannot,
     /// It takes too many reductions to tell.
     Unknown,
@@ -26,7 +28,9 @@ pub enum Answer {
 /// 100,000 for one token, or 10,000,000 for all that were tried up to it.
 #[derive(Drop)]
 pub struct Wanted {
+    /// The tokens that can come, by number.
     pub can: Vec<Sym>,
+    /// The tokens that take too many reductions, by number.
     pub unknown: Vec<Sym>,
 }
 

@@ -21,6 +21,7 @@ const MOST_KINDS: usize = 20_000;
 /// that is done, and the rules that don't lose to it, by their number and the first of them.
 #[derive(Clone, Copy, Drop, PartialEq, Eq, Hash)]
 pub struct Kind {
+    /// The token.
     pub token: Sym,
     shifted: u64,
     /// Whether the shift is taken.
@@ -33,14 +34,18 @@ pub struct Kind {
 /// The cells of one kind: the first state, how many states there are, and the last of them.
 #[derive(Clone, Copy, Drop)]
 pub struct Group {
+    /// The first state that has it.
     pub state: usize,
+    /// How many states have it.
     pub states: usize,
+    /// The last state that has it.
     pub last: usize,
 }
 
 /// All conflicts of tables.
 #[derive(Drop)]
 pub struct Conflicts {
+    /// The cells of each kind, in the order of the first states.
     pub groups: IndexMap<Kind, Group>,
     /// How many cells have a conflict.
     pub cells: usize,

@@ -30,17 +30,24 @@ const ALL_FOR_SEVERAL: usize = 1_000_000;
 /// A cell, and the rules that are all to be possible there; one that is left out is no condition.
 #[derive(Clone, Copy, Drop)]
 pub struct Target {
+    /// The state.
     pub state: usize,
+    /// The token.
     pub token: Sym,
+    /// A rule that has to be possible.
     pub first: Option<usize>,
+    /// Another rule that has to be possible.
     pub second: Option<usize>,
 }
 
 /// What a search comes to: a way by its symbols, that there is none, or that it took too long.
 #[derive(Drop)]
 pub enum Found {
+    /// The symbols of a shortest way, from the first state on.
     Way(Vec<Sym>),
+    /// There is no way.
     Nothing,
+    /// The search took too long.
     Late,
 }
 

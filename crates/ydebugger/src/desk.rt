@@ -29,9 +29,13 @@ use yshow::{Page, Paint};
 /// Where a session takes place: its files, and whether a person sits at a terminal.
 #[derive(Clone, Copy, Debug)]
 pub struct Setting<'a> {
+    /// The path of the grammar file.
     pub grammar: &'a str,
+    /// The path of the tokens file.
     pub tokens: &'a str,
+    /// Whether standard input and output are a terminal.
     pub terminal: bool,
+    /// Whether to write in colour.
     pub colour: bool,
 }
 

@@ -103,9 +103,11 @@ pub struct Survey {
     pub open: usize,
     /// How many of them don't lose to it, and the least of these.
     pub kept: usize,
+    /// The least of the rules that don't lose.
     pub least: Option<usize>,
     /// One that beats the shift, and one that forbids it.
     pub winner: Option<usize>,
+    /// A rule that forbids the shift.
     pub banning: Option<usize>,
 }
 

@@ -12,10 +12,13 @@ use ysyntax::fault::GrammarFault;
 /// A symbol that a line names.
 #[derive(Clone, Copy, Debug, Drop, PartialEq, Eq)]
 pub struct Mention {
+    /// The symbol.
     pub symbol: Sym,
+    /// The line, counted from 1.
     pub line: usize,
     /// How many bytes stand before the name.
     pub at: usize,
+    /// How the line names it.
     pub how: How,
 }
 

@@ -28,9 +28,13 @@ pub enum How {
 /// A lexeme, its line, how many bytes stand before it, and how it names a symbol, where it does.
 #[derive(Clone, Copy, Debug)]
 pub struct Role<'a> {
+    /// The lexeme.
     pub lexeme: Lexeme<'a>,
+    /// Its line, counted from 1.
     pub line: usize,
+    /// How many bytes of the file stand before it.
     pub at: usize,
+    /// How it names a symbol; `None` where it names no symbol.
     pub how: Option<How>,
 }
 

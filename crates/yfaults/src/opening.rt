@@ -21,7 +21,9 @@ const GRAMMAR_BYTES: u64 = LONGEST_FILE as u64 + 1;
 /// The tables of a grammar file, and where things stand in it.
 #[derive(Drop)]
 pub struct Opened {
+    /// The tables.
     pub tables: Tables,
+    /// Where rules and symbols stand in the file.
     pub lines: Lines,
 }
 

@@ -5,22 +5,39 @@ use crate::lexeme::Kind;
 /// A directive, by what is done with it.
 #[derive(Clone, Copy, Debug, Drop, PartialEq, Eq)]
 pub enum Directive {
+    /// `%token`.
     Token,
+    /// `%term`, byacc's word for `%token`.
     Term,
+    /// `%left`.
     Left,
+    /// `%right`.
     Right,
+    /// `%nonassoc`.
     Nonassoc,
+    /// `%binary`, byacc's word for `%nonassoc`.
     Binary,
+    /// `%precedence`: a level without a direction.
     Precedence,
+    /// `%type`.
     Type,
+    /// `%nterm`.
     Nterm,
+    /// `%start`.
     Start,
+    /// `%union`.
     Union,
+    /// `%prec`.
     Prec,
+    /// `%empty`.
     Empty,
+    /// `%expect`: how many shift/reduce conflicts there should be.
     Expect,
+    /// `%expect-rr`: how many reduce/reduce conflicts there should be.
     ExpectReduce,
+    /// `%define`.
     Define,
+    /// `%skeleton`.
     Skeleton,
     /// Taken out.
     Aside(Shape),
@@ -35,10 +52,15 @@ pub enum Directive {
 /// What may stand behind a directive that is taken out.
 #[derive(Clone, Copy, Debug, Drop, PartialEq, Eq)]
 pub enum Shape {
+    /// Nothing.
     Alone,
+    /// A word, a number or a string.
     Text,
+    /// Texts in braces.
     Braces,
+    /// A name, perhaps, and a text in braces.
     NamedBraces,
+    /// A text in braces, and symbols or tags.
     BracesAndSymbols,
 }
 

@@ -7,11 +7,15 @@ use std::alloc::{AllocError, Global};
 /// How a group begins.
 #[derive(Clone, Copy, Debug, Drop, PartialEq, Eq)]
 pub enum Head {
+    /// A directive.
     Word(Directive),
+    /// A code block.
     Code,
+    /// `%%`.
     Mark,
     /// The left side of a rule.
     Left,
+    /// A bar, which begins another rule with the same left side.
     Bar,
     /// What begins no group, at the start of the file.
     Stray,
@@ -20,8 +24,11 @@ pub enum Head {
 /// The lexemes of one declaration or alternative, and whether they stand between the marks.
 #[derive(Clone, Copy, Debug)]
 pub struct Group<'a> {
+    /// How it begins.
     pub head: Head,
+    /// Its lexemes, that of its head first.
     pub lexemes: &'a [Lexeme],
+    /// Whether it stands behind the first mark.
     pub in_rules: bool,
 }
 

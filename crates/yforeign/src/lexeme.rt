@@ -5,6 +5,7 @@ use std::alloc::{AllocError, AllocFailed};
 /// What a lexeme is.
 #[derive(Clone, Copy, Debug, Drop, PartialEq, Eq)]
 pub enum Kind {
+    /// A name, in which dashes may stand.
     Name,
     /// Digits, or hexadecimal ones behind `0x`.
     Number,
@@ -34,19 +35,28 @@ pub enum Kind {
     Predicate,
     /// `#line` up to the end of its line.
     LineMark,
+    /// `:`.
     Colon,
+    /// `|`.
     Bar,
+    /// `;`.
     Semicolon,
+    /// `,`.
     Comma,
+    /// `=`.
     Equals,
 }
 
 /// A lexeme: its first byte, the byte behind it, and its line.
 #[derive(Clone, Copy, Debug)]
 pub struct Lexeme {
+    /// What it is.
     pub kind: Kind,
+    /// How many bytes stand before it.
     pub from: usize,
+    /// How many bytes stand before the byte behind it.
     pub to: usize,
+    /// Its line, counted from 1.
     pub line: usize,
 }
 
@@ -70,6 +80,7 @@ pub enum Flaw {
 pub enum Uncut {
     /// A flaw, and its line.
     Flaw(Flaw, usize),
+    /// Memory ran out.
     Memory,
 }
 

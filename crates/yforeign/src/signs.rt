@@ -10,10 +10,13 @@ use ylexemes::part::LexicalFault;
 /// What stands at a place.
 #[derive(Clone, Copy, Debug)]
 pub enum Piece {
+    /// A blank.
     Blank,
+    /// A comment from `/*` to `*/`.
     Comment,
     /// A comment from two slashes to the end of its line.
     Remark,
+    /// A lexeme of this kind.
     Lexeme(Kind),
 }
 

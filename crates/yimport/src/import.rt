@@ -13,6 +13,7 @@ use yforeign::lexer::{Lexemes, lexemes_of};
 /// A file that `yacc` reads, and what was changed for it.
 #[derive(Drop)]
 pub struct Imported {
+    /// The file that `yacc` reads.
     pub text: Vec<u8>,
     /// What was changed, by lines of the file, which are those of the text too.
     pub notes: Vec<Note>,
@@ -22,6 +23,7 @@ pub struct Imported {
     pub levels: Vec<Option<usize>>,
     /// The conflicts that the file expects.
     pub shift_reduce: Option<Expected>,
+    /// The reduce/reduce conflicts that the file expects.
     pub reduce_reduce: Option<Expected>,
 }
 

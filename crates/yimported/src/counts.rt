@@ -9,7 +9,9 @@ use ysymbols::Sym;
 /// The conflicts of an automaton. Where a shift meets two reductions, there is one of each kind.
 #[derive(Clone, Copy, Debug, Drop)]
 pub struct Counts {
+    /// Shift/reduce conflicts.
     pub shift_reduce: usize,
+    /// Reduce/reduce conflicts.
     pub reduce_reduce: usize,
 }
 

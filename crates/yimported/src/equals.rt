@@ -7,9 +7,13 @@ use ysymbols::Sym;
 /// Such a cell, and the line of `%precedence`.
 #[derive(Clone, Copy, Debug)]
 pub struct Equal {
+    /// The line of `%precedence`, counted from 1.
     pub line: usize,
+    /// The state of the cell.
     pub state: usize,
+    /// The token of the cell.
     pub token: Sym,
+    /// The rule of the same level.
     pub rule: usize,
 }
 

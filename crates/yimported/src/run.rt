@@ -16,7 +16,9 @@ use ytables::Tables;
 /// What is asked for: the import of a file, to a file of this path or to standard output.
 #[derive(Clone, Copy)]
 pub struct Asked<'a> {
+    /// The path of the file.
     pub file: &'a str,
+    /// The path to which the import goes; `None` for standard output.
     pub output: Option<&'a str>,
 }
 

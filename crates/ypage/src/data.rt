@@ -29,10 +29,15 @@ struct Data<'a> {
 /// asked, and the conflicts.
 #[derive(Clone, Copy)]
 pub struct Shown<'a> {
+    /// The paths of the grammar file and the tokens file.
     pub files: (&'a str, &'a str),
+    /// The parse, at the last position of the page.
     pub parse: &'a Parse,
+    /// The steps of the page.
     pub record: &'a Record,
+    /// The cells that the steps asked, each a state and a token.
     pub asked: &'a [(usize, Sym)],
+    /// The conflicts, where they are wanted.
     pub conflicts: Option<&'a Cards>,
 }
 

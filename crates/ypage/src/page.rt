@@ -18,10 +18,15 @@ use ysymbols::Sym;
 /// part that it shows, and whether it has the conflicts of the grammar.
 #[derive(Clone, Copy, Debug)]
 pub struct Asked<'a> {
+    /// The path of the grammar file.
     pub grammar: &'a str,
+    /// The path of the tokens file.
     pub tokens: &'a str,
+    /// The path to which the page goes; `None` for standard output.
     pub file: Option<&'a str>,
+    /// The positions that the page shows.
     pub part: Part,
+    /// Whether the page has the conflicts of the grammar.
     pub conflicts: bool,
 }
 

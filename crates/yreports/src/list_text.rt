@@ -14,9 +14,13 @@ use ytables::Tables;
 /// The lists of a kind of conflict.
 #[derive(Clone, Copy)]
 pub struct ListText<'a> {
+    /// The tables.
     pub tables: &'a Tables,
+    /// Where rules stand in the file.
     pub lines: &'a Lines,
+    /// The kind of conflict.
     pub kind: &'a Kind,
+    /// Its cells.
     pub group: Group,
     /// How many lists there are.
     pub lists: usize,

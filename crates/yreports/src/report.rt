@@ -25,8 +25,11 @@ const MOST_GROUPS: usize = 200;
 /// conflict or a warning makes the status 1.
 #[derive(Clone, Copy)]
 pub struct Asked<'a> {
+    /// The path of the grammar file.
     pub grammar: &'a str,
+    /// The folder in which each list becomes a tokens file.
     pub save: Option<&'a str>,
+    /// Whether a conflict or a warning makes the status 1.
     pub strict: bool,
 }
 

@@ -10,7 +10,9 @@ use ysymbols::{Grammar, Sym};
 /// A folder for tokens files, where one is wanted.
 #[derive(Drop)]
 pub struct Folder<'a, F> {
+    /// What opens files.
     pub rt: &'a F,
+    /// The path of the folder.
     pub path: Option<&'a str>,
     /// What couldn't be written; nothing is kept behind that.
     pub failed: Option<String>,

@@ -36,8 +36,11 @@ impl Trial {
 /// The cell that a parse is to come to, and how many steps it may take.
 #[derive(Clone, Copy, Drop)]
 pub struct Goal {
+    /// The state.
     pub state: usize,
+    /// The token that has to be ahead there.
     pub token: Sym,
+    /// The most steps that the parse may take.
     pub most: usize,
 }
 

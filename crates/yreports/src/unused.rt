@@ -13,8 +13,11 @@ use ytables::{Action, Tables};
 /// What is done somewhere: which rules are reduced, which tokens and rules a precedence settled.
 #[derive(Drop)]
 pub struct Done {
+    /// For each rule, whether it is reduced anywhere.
     pub reduced: Vec<bool>,
+    /// For each token, whether its precedence settled a cell.
     pub by_token: Vec<bool>,
+    /// For each rule, whether its precedence settled a cell.
     pub by_rule: Vec<bool>,
     /// The complete items of a state.
     ready: Vec<Item>,
