@@ -13,12 +13,13 @@
 //! turn in a round; at first all wait, most in front of those to which they lead. So left sides
 //! get the first tokens and the first rules of what their bodies can begin with (`fronts`).
 //!
-//! Lookaheads go the same way, one bit for each token. In each state, every item of the kernel has
-//! a row of its own, and the items of one left side with the dot at 0, whose lookaheads are the
-//! same, share a row (`item_rows`, `lefts`). One pass over the items (`looks`) puts into the row
-//! of the left side after a dot what the form behind it begins with. It links an item's row to
-//! that of the item with its dot moved, in the state that the goto leads to; and where the form
-//! behind vanishes, to the row of the left side after its dot.
+//! Lookaheads go the same way, one bit for each token. In each state, the items of one left side
+//! with the dot at 0 share a row, since their lookaheads are the same; items of one left side with
+//! equal symbols before the dot can share one too, and every other item has its own (`item_rows`,
+//! `lefts`). One pass over the items (`looks`) puts into the row of the left side after a dot what
+//! the form behind it begins with. It links an item's row to that of the item with its dot moved,
+//! in the state that the goto leads to; and where the form behind vanishes, to the row of the left
+//! side after its dot.
 //!
 //! A call whose result is named `_well_formed` is made only for its clause: the grammar is well
 //! formed.
