@@ -5,7 +5,7 @@ use ylexemes::kind::Kind;
 use ysyntax::recogniser::State;
 
 /// A kind of lexeme, as it is told.
-#[derive(Clone, Copy, Debug)]
+#[derive(Clone, Copy)]
 struct Told {
     kind: Kind,
     words: &'static str,

@@ -3,7 +3,7 @@
 use crate::lexeme::Kind;
 
 /// A directive, by what is done with it.
-#[derive(Clone, Copy, Debug, Drop, PartialEq, Eq)]
+#[derive(Clone, Copy, Drop, PartialEq, Eq)]
 pub enum Directive {
     /// `%token`.
     Token,
@@ -50,7 +50,7 @@ pub enum Directive {
 }
 
 /// What may stand behind a directive that is taken out.
-#[derive(Clone, Copy, Debug, Drop, PartialEq, Eq)]
+#[derive(Clone, Copy, Drop, PartialEq, Eq)]
 pub enum Shape {
     /// Nothing.
     Alone,

@@ -6,7 +6,7 @@ use yforeign::lexeme::Lexeme;
 use yforeign::lexer::Remark;
 
 /// A part of a file that is replaced by a text, which stands among those written.
-#[derive(Clone, Copy, Debug, Drop)]
+#[derive(Clone, Copy, Drop)]
 pub struct Edit {
     /// How many bytes stand before the part.
     pub from: usize,
