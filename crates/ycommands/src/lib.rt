@@ -2,7 +2,7 @@
 //!
 //! `lines` reads a line, `words` finds a word in a table by a beginning of it and suggests another,
 //! `verb` has the commands and their help, `condition` is what a run stops at, and `refusal` says
-//! why a line isn't obeyed.
+//! why a line isn't followed.
 #![tactic(auto)]
 
 pub mod condition;

@@ -30,8 +30,8 @@ pub struct Shortest {
     rules: Vec<usize>,
 }
 
-/// A number by which lists of tokens are told apart, and what it is multiplied by where the list
-/// stands before another: two lists of one digest are very likely the same.
+/// A number for a list of tokens, and what it is multiplied by where the list stands before
+/// another: two lists with the same digest are very likely the same.
 #[derive(Clone, Copy, Drop, PartialEq, Eq, Hash)]
 pub struct Digest {
     sum: u64,
@@ -90,7 +90,7 @@ struct Part {
     length: u64,
 }
 
-/// Lengths in the making.
+/// Lengths that are being found.
 #[derive(Drop)]
 struct Making {
     parts: Vec<Part>,

@@ -40,7 +40,7 @@ pub struct Target {
     pub second: Option<usize>,
 }
 
-/// What a search comes to: a way by its symbols, that there is none, or that it took too long.
+/// What a search comes to.
 #[derive(Drop)]
 pub enum Found {
     /// The symbols of a shortest way, from the first state on.
@@ -108,7 +108,7 @@ pub struct Finder {
     left_for_several: usize,
 }
 
-/// How many spots a search may meet: a part of those that are left.
+/// How many spots a search may meet: a part of those that may still be met.
 fn allowance(left: usize, most: usize) -> usize {
     (left / 8).min(most).max(LEAST_SPOTS)
 }

@@ -1,4 +1,4 @@
-//! `ydebug page`: one HTML file by which a person goes through a parse, forward and back.
+//! `ydebug page`: one HTML file that shows a parse step by step, forward and back.
 //!
 //! `walk` makes the steps that are shown and `record` keeps them; `table`, `input`, `cells` and
 //! `cards` have what else the page says of the grammar and the parse, `data` all of it. `frame` and

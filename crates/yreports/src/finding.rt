@@ -100,13 +100,13 @@ pub struct Seeker<'a> {
     pub finder: &'a mut Finder,
     /// The session in which lists are tried.
     pub session: &'a mut Session,
-    /// How many steps first lists may still take, and further ones.
+    /// How many steps first lists may still take.
     pub steps: usize,
     /// How many steps further lists may still take.
     pub steps_for_others: usize,
 }
 
-/// How many steps a trial may take: a part of those that are left.
+/// How many steps a trial may take: a part of those that may still be made.
 fn allowance(left: usize, most: usize) -> usize {
     (left / 8).min(most).max(LEAST_STEPS)
 }

@@ -33,7 +33,7 @@ pub struct Asked<'a> {
     pub strict: bool,
 }
 
-/// What conflicts are written by.
+/// What conflicts are written with.
 #[derive(Drop)]
 struct Report<'a, W, F> {
     alloc: Global,
@@ -217,7 +217,7 @@ pub fn put_conflicts<W: Write, E: Write, F: Files + AllocGlobal>(
 
 /// Writes what is asked for, and gives the exit status: 0; 1 where the grammar is refused, or there
 /// is a conflict or a warning and that is to count; 3 where it can't be read or has too many
-/// states, where a list can't be written, or for want of memory. Faults of the grammar file go to
+/// states, a list can't be written, or memory runs out. Faults of the grammar file go to
 /// `errors`.
 pub fn run_conflicts<F: Files + AllocGlobal, W: Write, E: Write>(
     rt: &F,

@@ -39,7 +39,7 @@ fn text_of(
     Ok(text)
 }
 
-/// Whether something was written; want of memory stays an error.
+/// Whether something was written; only no memory stays an error.
 fn is_written(written: io::Result<()>) -> io::Result<bool> {
     match written {
         Ok(()) => Ok(true),

@@ -110,7 +110,7 @@ impl<W: Write> Page<W> {
         self.out.write_all(b"\n")
     }
 
-    /// A person has ended the line.
+    /// Notes that a person has ended the line.
     pub fn fresh(&mut self) {
         self.column = 0;
     }
@@ -140,7 +140,7 @@ impl<W: Write> Page<W> {
         self.put(if number == 1 { one } else { many })
     }
 
-    /// What follows looks so.
+    /// Sets how what follows looks.
     pub fn paint(&mut self, paint: Paint) -> io::Result<()> {
         if self.colour {
             self.out.write_all(paint.escape())?;
