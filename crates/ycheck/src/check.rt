@@ -151,12 +151,22 @@ impl Judge<'_> {
         match judge_bytes(self.alloc, self.tables, source) {
             Ok(judged) => self.put_verdict(out, path, &judged),
             Err(TokenFault::Memory) => put_memory(out, path),
-            Err(fault) => {
-                let grammar = grammar_of(self.tables);
-                put_token_fault(out, path, source, fault)?;
-                put_near_token(out, self.alloc, grammar, source, fault)?;
-                Ok(Said::Bad)
-            }
+            Err(fault) => self.put_refused(out, path, source, fault),
+        }
+    }
+
+    /// Writes why a tokens file of these bytes is refused, and which token could be meant.
+    fn put_refused<W: Write>(
+        self,
+        out: &mut W,
+        path: &str,
+        source: &[u8],
+        fault: TokenFault,
+    ) -> io::Result<Said> {
+        put_token_fault(out, path, source, fault)?;
+        match put_near_token(out, self.alloc, grammar_of(self.tables), source, fault) {
+            Err(error) if error.kind() == ErrorKind::OutOfMemory => put_memory(out, path),
+            told => told.map(|()| Said::Bad),
         }
     }
 

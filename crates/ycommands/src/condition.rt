@@ -2,7 +2,7 @@
 
 use crate::refusal::{Grouped, Refusal};
 use crate::words::{Found, Nearest, find, first_word, number_of};
-use std::alloc::Global;
+use std::alloc::{AllocError, Global};
 use std::io::{self, Write};
 use yexplain::reads::{grammar_of, left_of};
 use ylalr::{END, ERROR};
@@ -151,12 +151,12 @@ pub fn condition_of(session: &Session, tokens: usize, text: &str) -> Result<Cond
 }
 
 /// The condition whose word is near to this one.
-pub fn condition_near<'a>(alloc: Global, word: &'a str) -> Option<&'a str> {
+pub fn condition_near<'a>(alloc: Global, word: &'a str) -> Result<Option<&'a str>, AllocError> {
     let mut nearest = Nearest::new(word);
     for (name, _) in &WORDS {
-        nearest.offer(alloc, name);
+        nearest.offer(alloc, name)?;
     }
-    nearest.best()
+    Ok(nearest.best())
 }
 
 /// Whether a symbol is of the kind that was wanted where this was refused.
@@ -175,14 +175,14 @@ pub fn symbol_near<'a>(
     grammar: &'a Grammar,
     name: &'a str,
     refusal: Refusal,
-) -> Option<&'a str> {
+) -> Result<Option<&'a str>, AllocError> {
     let mut nearest = Nearest::new(name);
     for symbol in 0..grammar.symbols() {
         if is_wanted(grammar, symbol, refusal) {
-            nearest.offer(alloc, name_of(grammar, symbol));
+            nearest.offer(alloc, name_of(grammar, symbol))?;
         }
     }
-    nearest.best()
+    Ok(nearest.best())
 }
 
 impl Condition {

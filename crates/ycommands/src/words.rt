@@ -1,6 +1,6 @@
 //! Words: the first of a line, numbers, a word's place in a table, and the nearest other word.
 
-use std::alloc::Global;
+use std::alloc::{AllocError, Global};
 use strsim::osa_distance;
 
 /// The longest word for which another is suggested.
@@ -80,21 +80,16 @@ impl<'a> Nearest<'a> {
             }
     }
 
-    /// How far a word is away; `None` where one is too long, or for want of memory.
-    fn distance(&self, alloc: Global, name: &str) -> Option<usize> {
+    /// Looks at one more word; one that is too long is passed over.
+    pub fn offer(&mut self, alloc: Global, name: &'a str) -> Result<(), AllocError> {
         if self.word.len() > LONGEST || name.len() > LONGEST {
-            return None;
+            return Ok(());
         }
-        osa_distance(alloc, self.word, name).ok()
-    }
-
-    /// Looks at one more word. Where there is no memory for that, it isn't suggested.
-    pub fn offer(&mut self, alloc: Global, name: &'a str) {
-        if let Some(distance) = self.distance(alloc, name) {
-            if self.improves(distance) {
-                self.best = Some((distance, name));
-            }
+        let distance = osa_distance(alloc, self.word, name)?;
+        if self.improves(distance) {
+            self.best = Some((distance, name));
         }
+        Ok(())
     }
 
     /// The nearest of the words that were offered.

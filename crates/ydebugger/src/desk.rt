@@ -11,7 +11,7 @@ use crate::views::{
     refuse_name, show_derivation, show_history, show_rule, show_state, show_symbol, show_tree,
     show_why,
 };
-use std::alloc::Global;
+use std::alloc::{AllocError, Global};
 use std::io::{self, BufReader, ErrorKind, Read, Write};
 use std::rt::Files;
 use std::str;
@@ -79,15 +79,21 @@ fn put_candidates<W: Write>(page: &mut Page<W>, word: &str) -> io::Result<()> {
     page.end()
 }
 
-/// That a word is no command, and which one is near it.
-fn put_unknown<W: Write>(alloc: Global, page: &mut Page<W>, word: &str) -> io::Result<()> {
+/// The command whose word is near to this one.
+fn near_verb<'a>(alloc: Global, word: &'a str) -> Result<Option<&'a str>, AllocError> {
     let mut nearest = Nearest::new(word);
     for (name, _) in &VERBS {
-        nearest.offer(alloc, name);
+        nearest.offer(alloc, name)?;
     }
+    Ok(nearest.best())
+}
+
+/// That a word is no command, and which one is near it.
+fn put_unknown<W: Write>(alloc: Global, page: &mut Page<W>, word: &str) -> io::Result<()> {
+    let near = near_verb(alloc, word)?;
     page.painted(Paint::Bad, word)?;
     page.put(" is no command; ")?;
-    match nearest.best() {
+    match near {
         Some(best) => writeln!(page, "did you mean {best}?"),
         None => page.line("help lists them."),
     }

@@ -3,7 +3,7 @@
 use crate::history::{SOME_STEPS, put_history};
 use crate::moves::LAST;
 use crate::parse::Parse;
-use std::alloc::Global;
+use std::alloc::{AllocError, Global};
 use std::io::{self, Write};
 use ycommands::condition::{condition_near, number_in, symbol_named, symbol_near, token_named};
 use ycommands::refusal::{Refusal, misused, put_refusal};
@@ -87,13 +87,13 @@ fn nearest<'a>(
     session: &'a Session,
     name: &'a str,
     refusal: Refusal,
-) -> Option<&'a str> {
+) -> Result<Option<&'a str>, AllocError> {
     match refusal {
         Refusal::NoCondition => condition_near(alloc, name),
         Refusal::NoToken | Refusal::NoInput | Refusal::NoNonterminal | Refusal::NoSymbol => {
             symbol_near(alloc, grammar_of(session.tables()), name, refusal)
         }
-        _ => None,
+        _ => Ok(None),
     }
 }
 
@@ -105,8 +105,9 @@ pub fn refuse_name<W: Write>(
     name: &str,
     refusal: Refusal,
 ) -> io::Result<()> {
+    let near = nearest(alloc, session, name, refusal)?;
     put_refusal(page, refusal)?;
-    match nearest(alloc, session, name, refusal) {
+    match near {
         Some(best) => writeln!(page, "Did you mean {best}?"),
         None => Ok(()),
     }

@@ -4,7 +4,7 @@ use crate::place::word_place;
 use crate::shown::{Place, put_whole};
 use crate::told::{nearest_token, put_grammar_fault, put_question};
 use crate::words::{token_code, words_of};
-use std::alloc::Global;
+use std::alloc::{AllocError, Global};
 use std::fs;
 use std::io::{self, ErrorKind, Read, Write};
 use std::rt::Files;
@@ -148,15 +148,16 @@ fn near_token<'a>(
     grammar: &'a Grammar,
     source: &'a [u8],
     place: usize,
-) -> Option<&'a [u8]> {
-    let rest = source.get(word_place(source, place)?..)?;
-    match front_of(rest) {
-        Front::Word(word, _) => nearest_token(alloc, grammar, word).ok()?,
-        _ => None,
+) -> Result<Option<&'a [u8]>, AllocError> {
+    let at = word_place(source, place).unwrap_or(source.len());
+    match front_of(source.get(at..).unwrap_or(&[])) {
+        Front::Word(word, _) => nearest_token(alloc, grammar, word),
+        _ => Ok(None),
     }
 }
 
-/// Asks whether another token was meant, where a tokens file has a name that the grammar hasn't.
+/// Asks whether another token was meant, where a tokens file has a name that the grammar hasn't. Where
+/// memory is refused to that search, the error says so.
 pub fn put_near_token<W: Write>(
     out: &mut W,
     alloc: Global,
@@ -167,7 +168,7 @@ pub fn put_near_token<W: Write>(
     let TokenFault::Unknown(place) = fault else {
         return Ok(());
     };
-    match near_token(alloc, grammar, source, place) {
+    match near_token(alloc, grammar, source, place)? {
         Some(name) => put_question(out, name),
         None => Ok(()),
     }

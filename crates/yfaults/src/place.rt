@@ -218,17 +218,27 @@ fn meant_place(
     }
 }
 
+/// The lexemes of a file, each with what it is there for; none, where the file has no syntax.
+pub fn roles_in<'a>(alloc: Global, source: &'a [u8]) -> Result<Vec<Role<'a>>, AllocError> {
+    match roles_of(alloc, source) {
+        Ok(roles) => Ok(roles),
+        Err(GrammarFault::Memory) => Err(AllocError),
+        Err(_) => Ok(Vec::new(alloc)),
+    }
+}
+
 /// The place that a fault of a grammar file is about, where it can be found.
-pub fn grammar_place(alloc: Global, source: &[u8], fault: GrammarFault) -> Option<usize> {
+pub fn grammar_place(
+    alloc: Global,
+    source: &[u8],
+    fault: GrammarFault,
+) -> Result<Option<usize>, AllocError> {
     match fault {
         GrammarFault::Unfinished { .. }
         | GrammarFault::BadLiteral { .. }
         | GrammarFault::Foreign { .. }
-        | GrammarFault::Syntax { .. } => Some(syntax_stop(source).0),
-        _ => {
-            let roles = roles_of(alloc, source).ok()?;
-            meant_place(alloc, &roles, fault).ok()?
-        }
+        | GrammarFault::Syntax { .. } => Ok(Some(syntax_stop(source).0)),
+        _ => meant_place(alloc, &roles_in(alloc, source)?, fault),
     }
 }
 

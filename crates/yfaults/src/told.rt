@@ -3,13 +3,13 @@
 use crate::barren::barren;
 use crate::coming::Coming;
 use crate::nearest::Search;
-use crate::place::{grammar_place, syntax_stop};
+use crate::place::{grammar_place, roles_in, syntax_stop};
 use crate::shown::{Place, line_start, put_whole};
 use crate::words::{Words, grammar_code, grammar_line, words_at_end, words_of};
 use std::alloc::{AllocError, Global};
 use std::io::{self, Write};
 use yexplain::reads::name_of;
-use yexplain::roles::{How, Role, roles_of};
+use yexplain::roles::{How, Role};
 use yexplain::text::Bytes;
 use ygrammar::{Grammar, GrammarFault};
 use ylalr::token_count;
@@ -50,12 +50,22 @@ fn nearest_symbol<'a>(
     Ok(search.found())
 }
 
+/// The name that stands at a place.
+fn name_at<'a>(roles: &[Role<'a>], at: usize) -> Option<&'a [u8]> {
+    name_in(roles.iter().find(|role| role.at == at)?.lexeme)
+}
+
 /// The symbol of a file that the name at a place could mean.
-fn meant_symbol(alloc: Global, source: &[u8], at: usize) -> Option<&[u8]> {
-    let roles = roles_of(alloc, source).ok()?;
-    let named = roles.iter().find(|role| role.at == at)?;
-    let wanted = name_in(named.lexeme)?;
-    nearest_symbol(alloc, &roles, wanted).ok()?
+fn meant_symbol<'a>(
+    alloc: Global,
+    source: &'a [u8],
+    at: usize,
+) -> Result<Option<&'a [u8]>, AllocError> {
+    let roles = roles_in(alloc, source)?;
+    match name_at(&roles, at) {
+        Some(wanted) => nearest_symbol(alloc, &roles, wanted),
+        None => Ok(None),
+    }
 }
 
 /// The nearest to a word of the tokens that an input can have.
@@ -77,17 +87,14 @@ pub fn put_question<W: Write>(out: &mut W, name: &[u8]) -> io::Result<()> {
     writeln!(out, "  Did you mean {name}?")
 }
 
-/// The left sides of a file of which no list of tokens can be made; none, where that isn't found.
-fn barren_in<'a>(alloc: Global, source: &'a [u8]) -> Option<Vec<Role<'a>>> {
-    let roles = roles_of(alloc, source).ok()?;
-    barren(alloc, &roles).ok()
+/// The left sides of a file of which no list of tokens can be made.
+fn barren_in<'a>(alloc: Global, source: &'a [u8]) -> Result<Vec<Role<'a>>, AllocError> {
+    let roles = roles_in(alloc, source)?;
+    barren(alloc, &roles)
 }
 
 /// Writes of which nonterminals but the first no list of tokens can be made.
-fn put_others<W: Write>(out: &mut W, alloc: Global, source: &[u8]) -> io::Result<()> {
-    let Some(lefts) = barren_in(alloc, source) else {
-        return Ok(());
-    };
+fn put_others<W: Write>(out: &mut W, lefts: &[Role<'_>]) -> io::Result<()> {
     if lefts.len() < 2 {
         return Ok(());
     }
@@ -117,11 +124,11 @@ fn put_help<W: Write>(
             let coming = Coming(syntax_stop(source).1);
             writeln!(out, "  Here can come: {coming}")
         }
-        GrammarFault::Undefined { .. } => match meant_symbol(alloc, source, at) {
+        GrammarFault::Undefined { .. } => match meant_symbol(alloc, source, at)? {
             Some(name) => put_question(out, name),
             None => Ok(()),
         },
-        GrammarFault::Unproductive { .. } => put_others(out, alloc, source),
+        GrammarFault::Unproductive { .. } => put_others(out, &barren_in(alloc, source)?),
         _ => Ok(()),
     }
 }
@@ -158,7 +165,8 @@ fn put_at<W: Write>(
 }
 
 /// Writes a fault of a grammar file of these bytes: the line, what is wrong there, its text with a
-/// caret under the name at fault where that can be found, how to mend it, and what else helps.
+/// caret under the name at fault where that can be found, how to mend it, and what else helps. Where
+/// memory is refused to what finds these, the error says so.
 pub fn put_grammar_fault<'a, W: Write>(
     out: &mut W,
     alloc: Global,
@@ -172,7 +180,7 @@ pub fn put_grammar_fault<'a, W: Write>(
     let Some(line) = grammar_line(fault) else {
         return put_whole(out, path, words);
     };
-    if let Some(at) = grammar_place(alloc, source, fault) {
+    if let Some(at) = grammar_place(alloc, source, fault)? {
         return put_at(out, alloc, Place { path, source, at }, fault, words);
     }
     if is_limit(fault) {

@@ -42,7 +42,7 @@ struct Report<'a, W, F> {
     folder: Folder<'a, F>,
 }
 
-impl<W: Write, F: Files + AllocGlobal> Report<'_, W, F> {
+impl<W: Write, F: Files + AllocGlobal + Clone + Drop> Report<'_, W, F> {
     /// Writes the conflicts of the first kinds, with their lists.
     fn put_groups(
         &mut self,
@@ -125,11 +125,12 @@ impl<W: Write, F: Files + AllocGlobal> Report<'_, W, F> {
 }
 
 /// Writes the conflicts, with lists of tokens.
-fn put_found<W: Write, F: Files + AllocGlobal>(
+fn put_found<W: Write, F: Files + AllocGlobal + Clone + Drop>(
     report: &mut Report<'_, W, F>,
     session: &mut Session,
     found: &Conflicts,
 ) -> io::Result<()> {
+    report.folder.clear()?;
     if found.cells == 0 {
         return Ok(());
     }
@@ -152,7 +153,7 @@ fn put_failed<E: Write>(errors: &mut E, failed: Option<&String>, status: u8) -> 
 
 /// Writes the conflicts of a grammar, with lists of tokens, and says which file couldn't be written,
 /// if one couldn't.
-fn put_lists<'a, W: Write, F: Files + AllocGlobal>(
+fn put_lists<'a, W: Write, F: Files + AllocGlobal + Clone + Drop>(
     rt: &'a F,
     out: &'a mut W,
     asked: Asked<'a>,
@@ -178,7 +179,7 @@ fn put_lists<'a, W: Write, F: Files + AllocGlobal>(
 }
 
 /// Writes the conflicts and the warnings of a session's grammar, and gives the exit status.
-fn put_all<W: Write, E: Write, F: Files + AllocGlobal>(
+fn put_all<W: Write, E: Write, F: Files + AllocGlobal + Clone + Drop>(
     rt: &F,
     out: &mut W,
     errors: &mut E,
@@ -197,7 +198,7 @@ fn put_all<W: Write, E: Write, F: Files + AllocGlobal>(
 /// Writes the conflicts and the warnings of a grammar that is open, and gives the exit status: 0; 1
 /// where there is one of these and that is to count; 3 where a list can't be written, which is said
 /// on `errors`.
-pub fn put_conflicts<W: Write, E: Write, F: Files + AllocGlobal>(
+pub fn put_conflicts<W: Write, E: Write, F: Files + AllocGlobal + Clone + Drop>(
     rt: &F,
     out: &mut W,
     errors: &mut E,
@@ -219,7 +220,7 @@ pub fn put_conflicts<W: Write, E: Write, F: Files + AllocGlobal>(
 /// is a conflict or a warning and that is to count; 3 where it can't be read or has too many
 /// states, a list can't be written, or memory runs out. Faults of the grammar file go to
 /// `errors`.
-pub fn run_conflicts<F: Files + AllocGlobal, W: Write, E: Write>(
+pub fn run_conflicts<F: Files + AllocGlobal + Clone + Drop, W: Write, E: Write>(
     rt: &F,
     asked: Asked<'_>,
     out: &mut W,

@@ -1,7 +1,7 @@
 //! Lists of tokens kept as tokens files.
 
 use std::alloc::Global;
-use std::fs;
+use std::fs::{self, DirEntry};
 use std::io::{self, ErrorKind, Write};
 use std::rt::Files;
 use yexplain::text::{Name, Names};
@@ -60,7 +60,66 @@ fn path_of(alloc: Global, folder: &str, name: (usize, usize)) -> io::Result<Stri
     Ok(path)
 }
 
-impl<F: Files + AllocGlobal> Folder<'_, F> {
+/// Whether a text is a number from 1 on, as `path_of` writes one.
+fn is_number(text: &str) -> bool {
+    !text.is_empty() && !text.starts_with('0') && text.bytes().all(|b| b.is_ascii_digit())
+}
+
+/// Whether a file's name is one that `path_of` gives.
+fn is_of_list(name: &str) -> bool {
+    let numbers = name.strip_prefix("conflict-").unwrap_or("");
+    match numbers.split_once('-') {
+        Some((number, part)) => is_number(number) && is_number(part) && part != "1",
+        None => is_number(numbers),
+    }
+}
+
+/// Removes a file of a folder, where its name is that of a list, and says whether that was done
+/// where it had to be.
+fn is_cleared<F: Files + Drop>(
+    rt: &F,
+    entry: io::Result<DirEntry<F, Global>>,
+) -> io::Result<bool> {
+    match entry {
+        Ok(entry) if is_of_list(entry.file_name()) => {
+            is_written(fs::remove_file(rt, entry.path()))
+        }
+        Err(error) if error.kind() == ErrorKind::OutOfMemory => Err(error),
+        _ => Ok(true),
+    }
+}
+
+/// Removes the lists that stand in a folder, and says whether that was done; a folder that isn't
+/// there has none.
+fn are_cleared<F: Files + AllocGlobal + Clone + Drop>(rt: &F, path: &str) -> io::Result<bool> {
+    let entries = match fs::read_dir(rt, path) {
+        Ok(entries) => entries,
+        Err(error) => match error.kind() {
+            ErrorKind::NotFound => return Ok(true),
+            ErrorKind::OutOfMemory => return Err(error),
+            _ => return Ok(false),
+        },
+    };
+    let mut are_cleared = true;
+    for entry in entries {
+        are_cleared = is_cleared(rt, entry)? && are_cleared;
+    }
+    Ok(are_cleared)
+}
+
+impl<F: Files + AllocGlobal + Clone + Drop> Folder<'_, F> {
+    /// Removes the lists of an earlier run from the folder, where one is wanted: the files with the
+    /// names that lists get, and no others.
+    pub fn clear(&mut self) -> io::Result<()> {
+        let Some(path) = self.path else {
+            return Ok(());
+        };
+        if !are_cleared(self.rt, path)? {
+            self.failed = Some(String::from_str(self.rt.alloc(), path)?);
+        }
+        Ok(())
+    }
+
     /// Makes the folder, where one is wanted and isn't there.
     pub fn make(&mut self) -> io::Result<()> {
         let Some(path) = self.path else {
