@@ -80,7 +80,7 @@ impl<'a> Nearest<'a> {
             }
     }
 
-    /// Looks at one more word; one that is too long is passed over.
+    /// Looks at one more word; one that is too long is skipped.
     pub fn offer(&mut self, alloc: Global, name: &'a str) -> Result<(), AllocError> {
         if self.word.len() > LONGEST || name.len() > LONGEST {
             return Ok(());

@@ -63,8 +63,8 @@ fn parse_file<F: Files + AllocGlobal, E: Write>(
     }
 }
 
-/// A parse at its start, of a tokens file by a grammar file; the tokens file is read where the tables
-/// of the grammar stand. Where one is refused, that is written, and the exit status is the answer: 1
+/// A parse at its start, of a tokens file by a grammar file; the tokens file is read once there are
+/// tables of the grammar. Where one is refused, that is written, and the exit status is the answer: 1
 /// for a fault of a file, 3 where memory runs out, for too many states, and for a file that can't be
 /// read.
 pub fn parse_of<F: Files + AllocGlobal, E: Write>(

@@ -157,7 +157,7 @@ fn near_token<'a>(
 }
 
 /// Asks whether another token was meant, where a tokens file has a name that the grammar hasn't. Where
-/// memory is refused to that search, the error says so.
+/// memory runs out in that search, the error says so.
 pub fn put_near_token<W: Write>(
     out: &mut W,
     alloc: Global,

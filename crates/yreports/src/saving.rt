@@ -76,10 +76,7 @@ fn is_of_list(name: &str) -> bool {
 
 /// Removes a file of a folder, where its name is that of a list, and says whether that was done
 /// where it had to be.
-fn is_cleared<F: Files + Drop>(
-    rt: &F,
-    entry: io::Result<DirEntry<F, Global>>,
-) -> io::Result<bool> {
+fn is_cleared<F: Files + Drop>(rt: &F, entry: io::Result<DirEntry<F, Global>>) -> io::Result<bool> {
     match entry {
         Ok(entry) if is_of_list(entry.file_name()) => {
             is_written(fs::remove_file(rt, entry.path()))
