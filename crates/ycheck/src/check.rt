@@ -248,9 +248,9 @@ fn put_all<F: Files + AllocGlobal, R: Read, W: Write>(
     Ok(status)
 }
 
-/// Writes what is asked for, and gives the exit status: 0 where all files are accepted, 1 where the
-/// grammar or a tokens file is refused or one isn't accepted, 3 where one can't be read, or where
-/// memory runs out. Faults of the grammar file go to `errors`.
+/// Writes what is asked for, and gives the exit status: 0 where all files are accepted, 1 where
+/// the grammar or a tokens file is refused or one isn't accepted, 3 where one can't be read, or
+/// where memory runs out. Faults of the grammar file go to `errors`.
 pub fn run_check<F: Files + AllocGlobal, R: Read, W: Write, E: Write>(
     rt: &F,
     asked: Check<'_>,

@@ -34,7 +34,8 @@ pub enum Found<T> {
     Nothing,
 }
 
-/// Whether a word can stand for a name that it begins: one with a sign at its end is written whole.
+/// Whether a word can stand for a name that it begins: one with a sign at its end is written
+/// whole.
 pub fn begins(name: &str, word: &str) -> bool {
     name.starts_with(word) && !name.ends_with('!')
 }

@@ -21,8 +21,8 @@ const FACTOR: u64 = 0xd129_0d3a_7c6b_2f85;
 /// The most symbols that are taken while a sentence is written out.
 const MOST_TAKEN: usize = 100_000;
 
-/// The length of the shortest sentence of each symbol, at most 1,000,000,000,000, its digest, and the
-/// rule with which that of a nonterminal begins.
+/// The length of the shortest sentence of each symbol, at most 1,000,000,000,000, its digest, and
+/// the rule with which that of a nonterminal begins.
 #[derive(Drop)]
 pub struct Shortest {
     lengths: Vec<Option<u64>>,

@@ -354,8 +354,8 @@ impl Finder {
         Ok(stretch)
     }
 
-    /// Goes on from a spot: to what has to hold there for items with their dot at 0, or else to the
-    /// states before it.
+    /// Goes on from a spot: to what has to hold there for items with their dot at 0, or else to
+    /// the states before it.
     fn leave(
         &mut self,
         automaton: &Automaton,

@@ -156,8 +156,8 @@ fn near_token<'a>(
     }
 }
 
-/// Asks whether another token was meant, where a tokens file has a name that the grammar hasn't. Where
-/// memory runs out in that search, the error says so.
+/// Asks whether another token was meant, where a tokens file has a name that the grammar hasn't.
+/// Where memory runs out in that search, the error says so.
 pub fn put_near_token<W: Write>(
     out: &mut W,
     alloc: Global,

@@ -54,7 +54,8 @@ pub struct List {
     pub tokens: Vec<Sym>,
     /// What a session over it came to.
     pub trial: Trial,
-    /// Where the parse misses the state, the next list with which it doesn't, and in how many steps.
+    /// Where the parse misses the state, the next list with which it doesn't, and in how many
+    /// steps.
     pub other: Option<(Vec<Sym>, usize)>,
     /// How many further lists were tried.
     pub tried: usize,

@@ -105,8 +105,8 @@ fn are_cleared<F: Files + AllocGlobal + Clone + Drop>(rt: &F, path: &str) -> io:
 }
 
 impl<F: Files + AllocGlobal + Clone + Drop> Folder<'_, F> {
-    /// Removes the lists of an earlier run from the folder, where one is wanted: the files with the
-    /// names that lists get, and no others.
+    /// Removes the lists of an earlier run from the folder, where one is wanted: the files with
+    /// the names that lists get, and no others.
     pub fn clear(&mut self) -> io::Result<()> {
         let Some(path) = self.path else {
             return Ok(());

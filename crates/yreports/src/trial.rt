@@ -128,8 +128,8 @@ fn go_back(session: &mut Session) {
     }
 }
 
-/// Tries a list of tokens with the goal's token behind it, in a session at its start, which is left
-/// there. Gives what the parse comes to and how many steps and edits that took.
+/// Tries a list of tokens with the goal's token behind it, in a session at its start, which is
+/// left there. Gives what the parse comes to and how many steps and edits that took.
 pub fn try_list(session: &mut Session, tokens: &[Sym], goal: Goal) -> io::Result<(Trial, usize)> {
     let tried = put_and_go(session, tokens, goal);
     let steps = session.position();

@@ -121,8 +121,8 @@ impl<W: Write> Page<W> {
         self.end()
     }
 
-    /// Writes a word of a list behind a space. Where the line is full, the word begins another one,
-    /// behind so many spaces.
+    /// Writes a word of a list behind a space. Where the line is full, the word begins another
+    /// one, behind so many spaces.
     pub fn word(&mut self, indent: usize, word: &str) -> io::Result<()> {
         if self.column > indent && self.column.saturating_add(word.len()) >= WIDTH {
             self.end()?;
