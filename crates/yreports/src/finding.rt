@@ -64,7 +64,7 @@ pub struct List {
 /// What was found for the cells of one kind.
 #[derive(Drop)]
 pub struct Finding {
-    /// The lists, one for both rivals or one for each.
+    /// The lists: one that allows what is taken and a further rule, or one for each of them.
     pub lists: Vec<List>,
     /// Whether a list was found, but is too long to be shown.
     pub long: bool,
