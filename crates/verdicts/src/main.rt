@@ -1,5 +1,5 @@
-//! `verdicts grammar tokens..`: whether each tokens file is a sentence of a grammar file, and in how
-//! many steps that is found.
+//! `verdicts grammar tokens..`: whether each tokens file is a sentence of a grammar file, and in
+//! how many steps that is found.
 #![tactic(auto)]
 
 use std::alloc::{AllocError, Global};

@@ -35,7 +35,7 @@ enum Said {
     Good,
     /// It isn't, or is refused.
     Bad,
-    /// It can't be read, or memory was refused.
+    /// It can't be read, or memory ran out.
     Outside,
 }
 
@@ -56,7 +56,7 @@ struct Judged {
     verdict: Verdict,
 }
 
-/// What verdicts are written by.
+/// What verdicts are written with.
 #[derive(Clone, Copy)]
 struct Judge<'a> {
     alloc: Global,
@@ -248,9 +248,9 @@ fn put_all<F: Files + AllocGlobal, R: Read, W: Write>(
     Ok(status)
 }
 
-/// Writes what is asked for, and gives the exit status: 0 where all files are accepted, 1 where the
-/// grammar or a tokens file is refused or one isn't accepted, 3 where one can't be read, or for
-/// want of memory. Faults of the grammar file go to `errors`.
+/// Writes what is asked for, and gives the exit status: 0 where all files are accepted, 1 where
+/// the grammar or a tokens file is refused or one isn't accepted, 3 where one can't be read, or
+/// where memory runs out. Faults of the grammar file go to `errors`.
 pub fn run_check<F: Files + AllocGlobal, R: Read, W: Write, E: Write>(
     rt: &F,
     asked: Check<'_>,

@@ -8,13 +8,13 @@ use ylalr::{Automaton, Item, token_count};
 use ysymbols::Sym;
 use ytables::{Action, Tables};
 
-/// The most rivals by which kinds are told apart and which are shown.
+/// The most rivals that are shown; kinds are compared by these.
 pub const MOST_RIVALS: usize = 10;
 
 /// An odd number that mixes those of items.
 const SPREAD: u64 = 0x9e37_79b9_7f4a_7c15;
 
-/// The most kinds that are told apart.
+/// The most kinds that are kept apart.
 const MOST_KINDS: usize = 20_000;
 
 /// A kind of conflict: its token, the items that could shift it, by a number made of them, whether
@@ -114,7 +114,7 @@ fn first_rules(
     rules
 }
 
-/// A number made of the items that could shift a token; 0 where there is none.
+/// A number made of the items that could shift a token; 0 without such items.
 fn shifted(automaton: &Automaton, state: usize, token: Sym) -> u64 {
     let mut number: u64 = 0;
     for item in items_of(automaton, state) {

@@ -172,7 +172,7 @@ fn places_of(alloc: Global, grammar: &Grammar, roles: &[Role<'_>]) -> Result<Pla
 
 impl Lines {
     /// Where the rules and symbols of a grammar stand in the file that it was read from. The fault
-    /// is that of the file, where it is none of this grammar's, or want of memory.
+    /// is that of the file, where the file isn't that of this grammar, or memory ran out.
     pub fn new(alloc: Global, source: &[u8], grammar: &Grammar) -> Result<Lines, GrammarFault> {
         let roles = roles_of(alloc, source)?;
         let places = places_of(alloc, grammar, &roles)?;
@@ -183,8 +183,8 @@ impl Lines {
         Ok(Lines { rules, mentions })
     }
 
-    /// The line on which a rule begins: that of its name or its bar, or of its action where it is
-    /// the rule of an inner one. None for rule 0 and for a number that is no rule.
+    /// The line on which a rule begins, counted from 1: that of its name or its bar, or of its
+    /// action where it is the rule of an inner one. `None` for rule 0 and for a number of no rule.
     pub fn rule(&self, number: usize) -> Option<usize> {
         self.rules.get(number).and_then(|rule| rule.line)
     }

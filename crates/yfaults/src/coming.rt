@@ -4,14 +4,14 @@ use std::fmt;
 use ylexemes::kind::Kind;
 use ysyntax::recogniser::State;
 
-/// A kind of lexeme, as it is told.
-#[derive(Clone, Copy)]
+/// A kind of lexeme, and the words for it.
+#[derive(Clone, Copy, Debug)]
 struct Told {
     kind: Kind,
     words: &'static str,
 }
 
-/// What the syntax knows, in the order in which it is told.
+/// What the syntax knows, in the order in which it is listed.
 static KINDS: [Told; 19] = [
     Told {
         kind: Kind::Mark,

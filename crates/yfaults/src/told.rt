@@ -165,8 +165,8 @@ fn put_at<W: Write>(
 }
 
 /// Writes a fault of a grammar file of these bytes: the line, what is wrong there, its text with a
-/// caret under the name at fault where that can be found, how to mend it, and what else helps. Where
-/// memory is refused to what finds these, the error says so.
+/// caret under the name at fault where that can be found, how to mend it, and what else helps.
+/// Where memory runs out while these are sought, the error says so.
 pub fn put_grammar_fault<'a, W: Write>(
     out: &mut W,
     alloc: Global,

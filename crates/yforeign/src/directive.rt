@@ -7,7 +7,7 @@ use crate::lexeme::Kind;
 pub enum Directive {
     /// `%token`.
     Token,
-    /// `%term`, byacc's word for `%token`.
+    /// `%term`, another word for `%token`.
     Term,
     /// `%left`.
     Left,
@@ -15,7 +15,7 @@ pub enum Directive {
     Right,
     /// `%nonassoc`.
     Nonassoc,
-    /// `%binary`, byacc's word for `%nonassoc`.
+    /// `%binary`, another word for `%nonassoc`.
     Binary,
     /// `%precedence`: a level without a direction.
     Precedence,
@@ -45,7 +45,7 @@ pub enum Directive {
     OtherParser,
     /// Refused: rules without a precedence.
     NoDefault,
-    /// None that is known.
+    /// Any other word.
     Unknown,
 }
 
@@ -54,13 +54,13 @@ pub enum Directive {
 pub enum Shape {
     /// Nothing.
     Alone,
-    /// A word, a number or a string.
+    /// Strings, and `=` before them.
     Text,
     /// Texts in braces.
     Braces,
-    /// A name, perhaps, and a text in braces.
+    /// Names and texts in braces.
     NamedBraces,
-    /// A text in braces, and symbols or tags.
+    /// Texts in braces, symbols, tags and commas.
     BracesAndSymbols,
 }
 

@@ -5,8 +5,8 @@ use std::alloc::{AllocError, Global};
 use yforeign::lexeme::Lexeme;
 use yforeign::lexer::Remark;
 
-/// A part of a file that is replaced by a text, which stands among those written.
-#[derive(Clone, Copy, Drop)]
+/// A part of a file that is replaced by one of the texts written.
+#[derive(Clone, Copy, Debug, Drop)]
 pub struct Edit {
     /// How many bytes stand before the part.
     pub from: usize,

@@ -21,7 +21,7 @@ pub struct Imported {
     pub texts: Vec<u8>,
     /// The line of `%precedence` for each level that comes from one.
     pub levels: Vec<Option<usize>>,
-    /// The conflicts that the file expects.
+    /// The shift/reduce conflicts that the file expects.
     pub shift_reduce: Option<Expected>,
     /// The reduce/reduce conflicts that the file expects.
     pub reduce_reduce: Option<Expected>,
@@ -93,7 +93,7 @@ impl Work<'_> {
         self.import_all(&lexemes, &groups)
     }
 
-    /// What came of it.
+    /// The import, once all is taken in.
     fn imported(self) -> Imported {
         let Work {
             text,

@@ -35,11 +35,11 @@ pub enum Reason {
     OldWord,
     /// `%precedence`.
     Precedence,
-    /// A list of names with a tag, which has no nonterminal.
+    /// A `%type` list without a tag, or without a nonterminal.
     NoType,
-    /// A token in such a list.
+    /// A token in a `%type` list.
     TypedToken,
-    /// A name in such a list that is no left side.
+    /// A name in a `%type` list that no rule has as its left side.
     TypedUnknown,
     /// A string that is listed with its token.
     Alias,

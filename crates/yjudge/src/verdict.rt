@@ -133,8 +133,8 @@ pub fn judge(alloc: Global, tables: &Tables, tokens: &Tokens) -> Result<Verdict,
     ensures machine { IsMachineOf tables.now.built.grammar (machine_over tables.now) }
     // The verdict is what its steps come to.
     ensures verdict { IfOk result (IsVerdict (machine_over tables.now) (symbols_of tokens.now)) }
-    // By any tables, what is accepted is a sentence, and what stands before a rejected token begins
-    // one.
+    // By any tables, what is accepted is a sentence, and what stands before a rejected token
+    // begins one.
     ensures sound { IfOk result
         (IsSoundOf tables.now.built.grammar.bare (symbols_of tokens.now)) }
     // Where no cell has a choice, a sentence is accepted, and no sentence goes on by a rejected

@@ -58,7 +58,7 @@ refusal_of full NoToken = NoToken
 refusal_of full Limit = Limit
 refusal_of full Memory = if full then Limit else Memory
 
--- what a journal's step or edit answers and leaves: one of some kind, or why there is none
+-- what a journal's step or edit answers and leaves: one of some kind, or why it can't be made
 abbrev pub StepsOn : {K S : Type 0} → (S → Option (K × S)) → (S → Option (K × S)) → Past K S
     → Result (Unit {0}) StepFault → Past K S → Type 0
 StepsOn {K = K} next made h (Ok done) new = (kind : K) × Changes next made h (Ok kind) new

@@ -76,7 +76,7 @@ input_by now (step ∷ earlier) = input_after step.0 (input_by step.1 earlier)
 abbrev pub tokens_of : Input → List ℕ
 tokens_of i = i.read ++ i.upcoming
 
--- the whole input as it stands: the tokens first read, with the edits made
+-- the whole input: the tokens first read, with the edits made
 abbrev pub whole_input : History → List ℕ
 whole_input h = tokens_of (input_by h.now h.earlier)
 

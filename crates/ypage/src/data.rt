@@ -83,7 +83,7 @@ impl<'a> Shown<'a> {
         })
     }
 
-    /// The data as JSON. It is refused only where memory is.
+    /// The data as JSON. It fails only when memory runs out.
     pub fn json(self, alloc: Global) -> io::Result<Vec<u8>> {
         let data = self.data(alloc)?;
         match serde_json::to_vec(alloc, &data) {

@@ -162,9 +162,9 @@ fn put_parse<F: Files + AllocGlobal, W: Write, E: Write>(
 }
 
 /// Writes the page that is asked for, and gives the exit status: 0; 1 where a file is refused,
-/// there are more steps than a page shows, or the parse ends before the part; 2 where the part ends
-/// before it begins; 3 where a file can't be read or written, for too many states, or for want of
-/// memory.
+/// there are more steps than a page shows, or the parse ends before the part; 2 where the part
+/// ends before it begins; 3 where a file can't be read or written, there are too many states, or
+/// memory runs out.
 pub fn run_page<F: Files + AllocGlobal, W: Write, E: Write>(
     rt: &F,
     asked: Asked<'_>,

@@ -34,7 +34,7 @@ pub struct Record {
     pub rules: Vec<usize>,
     /// The state after each reduction and each shift, that of `error` among them.
     pub states: Vec<usize>,
-    /// The cell that says what is done next, for each position; none where no cell is asked.
+    /// The cell that says what is done next, for each position; `None` where no cell is asked.
     pub cells: Vec<Option<usize>>,
 }
 

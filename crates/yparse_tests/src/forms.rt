@@ -55,8 +55,8 @@ fn write(
     }
 }
 
-/// Makes all steps, and writes the trees or the forms into a writer of one byte a call that refuses
-/// this call; then goes on.
+/// Makes all steps, and writes the trees or the forms into a writer of one byte a call that
+/// refuses this call; then goes on.
 fn resume(alloc: Global, worked: Worked, written: Written, call: usize) -> Result<Resumed, Fail> {
     let mut session = session_of(alloc, worked)?;
     let mut before = Link::new(Sink::new(1, Refusal::Refuses(call)));

@@ -1,4 +1,4 @@
-//! How lists of tokens are told: which rivals a list allows, its tokens, what a parse comes to.
+//! How lists of tokens are written: which rivals a list allows, its tokens, what a parse comes to.
 
 use crate::finding::{Allows, Finding, List};
 use crate::kinds::Count;

@@ -39,7 +39,7 @@ fn text_of(
     Ok(text)
 }
 
-/// Whether something was written; want of memory stays an error.
+/// Whether something was written; only no memory stays an error.
 fn is_written(written: io::Result<()>) -> io::Result<bool> {
     match written {
         Ok(()) => Ok(true),
@@ -105,8 +105,8 @@ fn are_cleared<F: Files + AllocGlobal + Clone + Drop>(rt: &F, path: &str) -> io:
 }
 
 impl<F: Files + AllocGlobal + Clone + Drop> Folder<'_, F> {
-    /// Removes the lists of an earlier run from the folder, where one is wanted: the files with the
-    /// names that lists get, and no others.
+    /// Removes the lists of an earlier run from the folder, where one is wanted: the files with
+    /// the names that lists get, and no others.
     pub fn clear(&mut self) -> io::Result<()> {
         let Some(path) = self.path else {
             return Ok(());

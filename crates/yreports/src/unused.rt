@@ -1,4 +1,4 @@
-//! What a grammar has in vain: rules that are never reduced, precedences that settle nothing.
+//! What a grammar doesn't use: rules that are never reduced, precedences that settle nothing.
 
 use std::alloc::{AllocError, Global};
 use yexplain::cells::{reduces_at, standing_of};
@@ -104,7 +104,7 @@ impl Done {
         }
     }
 
-    /// Notes the tokens that gave a precedence to rules by which a cell was settled.
+    /// Notes the tokens that gave a precedence to rules that settled a cell.
     pub fn spread(&mut self, grammar: &Grammar, lines: &Lines) {
         for rule in 0..grammar.rules() {
             if self.by_rule.get(rule).copied().unwrap_or(false) {

@@ -157,8 +157,8 @@ fn put_rank<W: Write>(
     Ok(count)
 }
 
-/// The items of a state that are complete or about the token ahead, and then those that have begun:
-/// 12 of them.
+/// The items of a state that are complete or about the token ahead, and then those that have
+/// begun: 12 of them.
 pub fn put_kernel<W: Write>(
     page: &mut Page<W>,
     tables: &Tables,

@@ -67,7 +67,7 @@ pub struct Tally {
     pub rests: usize,
     /// How many are in another class than Lose.
     pub kept: usize,
-    /// The least of these, 0 where there are none.
+    /// The least of these, 0 before the first.
     pub first: usize,
     /// How many rules there are.
     pub all: usize,

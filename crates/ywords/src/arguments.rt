@@ -108,8 +108,8 @@ pub fn ystep_words<'a>(alloc: Global, words: &'a [&'a str]) -> Result<YstepWords
     Ok(YstepWords { grammar, tokens })
 }
 
-/// The words of `yacc`: the path of a grammar file, the prefix of the files to write, and whether a
-/// report is wanted.
+/// The words of `yacc`: the path of a grammar file, the prefix of the files to write, and whether
+/// a report is wanted.
 #[derive(Clone, Copy, Debug)]
 pub struct YaccWords<'a> {
     grammar: &'a str,
