@@ -11,6 +11,7 @@ use std::io::{self, Write};
 use yexplain::reads::name_of;
 use yexplain::roles::{How, Role, roles_of};
 use yexplain::text::Bytes;
+use yforeign::directive::is_imported;
 use ygrammar::{Grammar, GrammarFault};
 use ylalr::token_count;
 use ylexemes::part::Lexeme;
@@ -122,6 +123,13 @@ fn put_help<W: Write>(
             None => Ok(()),
         },
         GrammarFault::Unproductive { .. } => put_others(out, alloc, source),
+        GrammarFault::Foreign { .. } if is_imported(source.get(at..).unwrap_or(&[])) => {
+            writeln!(
+                out,
+                "  If the file is one of bison or byacc, --from bison reads it, and ydebug import makes it \
+                 one of yacc."
+            )
+        }
         _ => Ok(()),
     }
 }
