@@ -1,5 +1,5 @@
-//! Each call that takes memory, but for those of a session, with the name that it has where it is
-//! refused.
+//! Each call that takes memory, without those of a session, and the name that is written where it
+//! is refused memory.
 
 use crate::said::{say, say_refused};
 use clap::error::ErrorKind as WordsKind;
@@ -15,24 +15,30 @@ use ywords::arguments::{YstepWords, ystep_words};
 /// A call that takes memory.
 #[derive(Clone, Copy)]
 pub enum Call {
+    /// Reading the words.
     Words,
+    /// Reading a file.
     Read,
+    /// Reading the grammar of a file's bytes.
     ReadGrammar,
+    /// Building the automaton.
     Build,
+    /// Making the tables.
     Resolve,
+    /// Reading the tokens of a file's bytes.
     ReadTokens,
 }
 
 /// Why a call has made nothing.
 #[derive(Clone, Copy)]
 pub enum Refusal {
-    /// Memory was refused to this call.
+    /// This call ran out of memory.
     Memory(Call),
     /// This call refused what it was given.
     Fault(Call),
 }
 
-/// What a call has made.
+/// What a call has made, or why it has made nothing.
 pub type Made<T> = Result<T, Refusal>;
 
 impl Call {
@@ -64,7 +70,7 @@ impl Refusal {
     }
 }
 
-/// The two words.
+/// The words of the program, which are those of `ystep`.
 pub fn words_of<'a>(alloc: Global, words: &'a [&'a str]) -> Made<YstepWords<'a>> {
     match ystep_words(alloc, words) {
         Ok(words) => Ok(words),
@@ -109,12 +115,12 @@ fn resolved(alloc: Global, automaton: Automaton) -> Made<Tables> {
     }
 }
 
-/// The tables of the grammar that the bytes mean.
+/// The tables of the grammar that these bytes mean.
 pub fn tables_over(alloc: Global, source: &[u8]) -> Made<Tables> {
     resolved(alloc, automaton_of(alloc, grammar_over(alloc, source)?)?)
 }
 
-/// The tokens that the bytes mean.
+/// The tokens that these bytes mean.
 pub fn tokens_over(alloc: Global, tables: &Tables, source: &[u8]) -> Made<Tokens> {
     match read_tokens(alloc, tables, source) {
         Ok(tokens) => Ok(tokens),
@@ -123,8 +129,8 @@ pub fn tokens_over(alloc: Global, tables: &Tables, source: &[u8]) -> Made<Tokens
     }
 }
 
-/// What a call makes, which is made once more where memory was refused to it; `None` where it has
-/// made nothing then.
+/// What a call makes. Where memory ran out, the call is made once more; `None` where it has made
+/// nothing then.
 pub fn twice<T: Drop, F: FnMut() -> Made<T>>(rt: &HostRuntime, mut call: F) -> Option<T>
     requires { F.IsAlwaysCallable call }
 {

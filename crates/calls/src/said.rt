@@ -1,4 +1,4 @@
-//! What is told of calls, without memory. What can't be written is passed over.
+//! What is said of calls, without memory. Where it can't be written, nothing more is said.
 
 use std::io::Write;
 
@@ -18,7 +18,7 @@ pub fn say_at(rt: &HostRuntime, position: usize, parts: &[&[u8]]) {
     say(rt, parts);
 }
 
-/// Says that memory was refused to this call.
+/// Says that memory ran out in this call.
 pub fn say_refused(rt: &HostRuntime, call: &str) {
     say(rt, &[call.as_bytes(), b": no memory"]);
 }

@@ -8,14 +8,16 @@ const ROOM: usize = 8192;
 /// What a writer does at the call that a test picks.
 #[derive(Clone, Copy)]
 pub enum Refusal {
+    /// It fails at no call.
     Never,
     /// It refuses this call, a write or a flush, counted from 1.
     Refuses(usize),
-    /// It takes nothing at this call.
+    /// It takes no byte at this call, counted from 1.
     TakesNone(usize),
 }
 
-/// A writer over an array: at most so many bytes a call, and what a test says at one of its calls.
+/// A writer over an array of 8,192 bytes: it takes so many bytes a call at most, and fails where
+/// the test says.
 #[derive(Drop)]
 pub struct Sink {
     bytes: [u8; ROOM],
@@ -26,6 +28,7 @@ pub struct Sink {
 }
 
 impl Sink {
+    /// An empty writer that takes at most so many bytes a call, with this refusal.
     pub fn new(most: usize, refusal: Refusal) -> Sink {
         Sink {
             bytes: [0; ROOM],
@@ -36,7 +39,7 @@ impl Sink {
         }
     }
 
-    /// What was written.
+    /// What was written so far.
     pub fn text(&self) -> &[u8] {
         self.bytes.get(..self.len).unwrap_or(&[])
     }

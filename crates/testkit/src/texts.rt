@@ -2,7 +2,8 @@
 
 use std::alloc::{AllocError, Global};
 
-/// A text, a piece so many times, and what stands behind them.
+/// A text: the head, a piece so many times, and the end behind them. It fails only when memory
+/// runs out.
 pub fn repeated(
     alloc: Global,
     head: &[u8],

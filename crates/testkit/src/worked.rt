@@ -12,14 +12,17 @@ pub const SUMS: &[u8] = b"%token NUM %left '+' %left '*' %% e : e '+' e | e '*' 
 /// The dangling `ELSE`.
 pub const DANGLING: &[u8] = b"%token IF ELSE X %% s : IF s | IF s ELSE s | X ;";
 
-/// An empty rule that goes before the only token, without end.
+/// An empty rule that is reduced before the only token, without end.
 pub const ENDLESS: &[u8] = b"%left 'x' %left HI %% s : e s | 'x' ; e : %prec HI ;";
 
 /// Texts of a session, and the lines of all its steps, its trees and its forms.
 #[derive(Clone, Copy)]
 pub struct Worked {
+    /// The grammar.
     pub grammar: &'static [u8],
+    /// The tokens.
     pub tokens: &'static [u8],
+    /// What the steps, the trees and the forms write, in this order.
     pub text: &'static [u8],
 }
 
@@ -65,7 +68,7 @@ pub fn first_lines(text: &[u8], lines: usize) -> &[u8] {
     text
 }
 
-/// The part of a text behind so many lines.
+/// The part of a text behind its first lines; empty where it has no more of them.
 pub fn behind(text: &[u8], lines: usize) -> &[u8] {
     text.strip_prefix(first_lines(text, lines)).unwrap_or(b"")
 }

@@ -1,5 +1,5 @@
-//! `verdicts grammar tokens..`: whether each tokens file is a sentence of a grammar file, and in how
-//! many steps that is found.
+//! `verdicts grammar tokens..`: whether each tokens file is a sentence of a grammar file, and in
+//! how many steps that is found.
 #![tactic(auto)]
 
 use std::alloc::{AllocError, Global};
@@ -48,7 +48,7 @@ impl From<JudgeFault> for Trouble {
     }
 }
 
-/// As many bytes of a grammar file as decide that it is too long, also where it never ends.
+/// So many bytes of a grammar file show that it is too long, even where it never ends.
 const GRAMMAR_BYTES: u64 = LONGEST_FILE as u64 + 1;
 
 /// At most so many bytes of a file.
@@ -102,7 +102,7 @@ fn line_of(
     }
 }
 
-/// Writes a line to standard output, where there was memory for it.
+/// Writes a line to standard output, unless memory ran out for it.
 fn put(rt: &HostRuntime, line: Result<String, AllocError>) -> io::Result<()> {
     rt.stdout().write_all(line?.as_bytes())
 }

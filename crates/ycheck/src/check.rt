@@ -20,8 +20,11 @@ const MOST_NAMED: usize = 20;
 /// choices.
 #[derive(Clone, Copy)]
 pub struct Check<'a> {
+    /// The path of the grammar file.
     pub grammar: &'a str,
+    /// The paths of the tokens files; `-` is standard input.
     pub tokens: &'a [&'a str],
+    /// Whether to say first if a cell of the tables has a choice.
     pub choice: bool,
 }
 
@@ -32,7 +35,7 @@ enum Said {
     Good,
     /// It isn't, or is refused.
     Bad,
-    /// It can't be read, or memory was refused.
+    /// It can't be read, or memory ran out.
     Outside,
 }
 
@@ -53,7 +56,7 @@ struct Judged {
     verdict: Verdict,
 }
 
-/// What verdicts are written by.
+/// What verdicts are written with.
 #[derive(Clone, Copy)]
 struct Judge<'a> {
     alloc: Global,
@@ -245,9 +248,9 @@ fn put_all<F: Files + AllocGlobal, R: Read, W: Write>(
     Ok(status)
 }
 
-/// Writes what is asked for, and gives the exit status: 0 where all files are accepted, 1 where the
-/// grammar or a tokens file is refused or one isn't accepted, 3 where one can't be read, or for
-/// want of memory. Faults of the grammar file go to `errors`.
+/// Writes what is asked for, and gives the exit status: 0 where all files are accepted, 1 where
+/// the grammar or a tokens file is refused or one isn't accepted, 3 where one can't be read, or
+/// where memory runs out. Faults of the grammar file go to `errors`.
 pub fn run_check<F: Files + AllocGlobal, R: Read, W: Write, E: Write>(
     rt: &F,
     asked: Check<'_>,

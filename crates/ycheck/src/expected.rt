@@ -16,7 +16,9 @@ const MOST_STEPS: usize = 1_000_000;
 /// Whether a token can come.
 #[derive(Clone, Copy, Drop, PartialEq, Eq)]
 pub enum Answer {
+    /// It can come.
     Can,
+    /// It can't come.
     Cannot,
     /// It takes too many reductions to tell.
     Unknown,
@@ -26,12 +28,14 @@ pub enum Answer {
 /// 100,000 for one token, or 10,000,000 for all that were tried up to it.
 #[derive(Drop)]
 pub struct Wanted {
+    /// The tokens that can come, by number.
     pub can: Vec<Sym>,
+    /// The tokens that take too many reductions, by number.
     pub unknown: Vec<Sym>,
 }
 
-/// A stack of states in the making: some of those below, and others above them. So many reductions
-/// are left to be made.
+/// A stack of states that is tried: some of those given, and others above them; and how many more
+/// reductions may be made.
 #[derive(Drop)]
 struct Trial<'a> {
     tables: &'a Tables,
@@ -55,7 +59,7 @@ impl<'a> Trial<'a> {
         self.above.last().copied().unwrap_or(below)
     }
 
-    /// Takes so many states away.
+    /// Takes so many states off.
     fn take(&mut self, count: usize) {
         let deeper = count.saturating_sub(self.above.len());
         self.above.truncate(self.above.len().saturating_sub(count));
@@ -78,7 +82,7 @@ impl<'a> Trial<'a> {
         }
     }
 
-    /// What the cell on top says of a token; none where it reduces, which is done.
+    /// What the cell on top says of a token; `None` where it reduces, which is then done.
     fn ask(&mut self, token: Sym) -> Result<Option<Answer>, AllocError> {
         match action_of(self.tables, self.top(), token) {
             Action::Shift(_) | Action::Accept => Ok(Some(Answer::Can)),
@@ -136,7 +140,7 @@ pub fn expected(alloc: Global, tables: &Tables, states: &[usize]) -> Result<Want
 }
 
 /// The states of a parse once these tokens are shifted, before anything is reduced with the next
-/// one ahead; those that it has come to, where it doesn't get there.
+/// token ahead; where the parse doesn't get there, the states to which it has come.
 pub fn states_after(
     alloc: Global,
     tables: &Tables,

@@ -70,7 +70,7 @@ lives : (m : Machine) (edit : Edit) (c : Configuration) → IsSome (edited m edi
 unfolding next edited
 lives m edit c p = edit_lives m edit c c.mode refl p
 
--- an edit is answered, where memory is there
+-- an edit is answered, unless memory runs out
 edit_at : (m : Machine) (edit : Edit) (h : History) (o e : Option (StepKind × Configuration))
     → next m h.now ≡ o → edited m edit h.now ≡ e
     → (position h < most_steps) ⊎ (most_steps ≤ position h)

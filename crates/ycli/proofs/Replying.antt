@@ -31,7 +31,7 @@ module _ {W : Type 0} (contents : W → Option (List ℕ)) where
   answered old new true m h now command text r s = (text, r, s)
   answered old new false m h now command text r s = (text, now, r, s)
 
-  -- the configuration now was shown, or a line answered that is no command
+  -- the configuration now was shown, or an unknown command was answered
   pub told_show : (old new : Link W) (whole : Bool) (m : Machine) (h : History)
       → Sends contents old new whole (configuration_text m h) → Answers contents old new whole m h
       Show h
@@ -44,14 +44,14 @@ module _ {W : Type 0} (contents : W → Option (List ℕ)) where
   told_unknown old new whole m h s =
       answered old new whole m h h Unknown (codes "unknown command\n") (refl, refl) s
 
--- a front of a text was sent, and this is left of it
+-- a beginning of a text was sent, and this is the rest of it
 pub record Front {W : Type 0} (contents : W → Option (List ℕ)) (a b : Link W) (whole left : List ℕ)
     : Type 0 where
   pub text : List ℕ
   pub sent : Sends contents a b true text
   pub parts : whole ≡ text ++ left
 
--- lines of a reply were sent, and each text of those that are left completes it
+-- lines of a reply were sent, and each text of the remaining lines completes it
 pub record Replied {W : Type 0} (contents : W → Option (List ℕ)) (a b : Link W) (m : Machine)
     (h : History) (command : Command) (Left : List ℕ → History → Type 0) : Type 0 where
   pub text : List ℕ
@@ -133,7 +133,7 @@ module _ {W : Type 0} (contents : W → Option (List ℕ)) where
       )
   replied_cut a b c (Some y) m x h mid left now command Left between kind more r e s none l = cc
 
-  -- what is left was sent, or a beginning of it
+  -- the rest was sent, or a beginning of it
   pub replied_last : (a b c : Link W) (whole : Bool) (m : Machine) (h now : History)
       (command : Command) (Left : List ℕ → History → Type 0) (more : List ℕ)
       → Replied contents a b m h command Left → Sends contents b c whole more → Left more now
@@ -142,7 +142,7 @@ module _ {W : Type 0} (contents : W → Option (List ℕ)) where
       answered contents a c whole m h now command (r.text ++ more) (r.completes more now l)
       (Sends-then contents a b c whole r.text more r.sent s)
 
-  -- nothing is left
+  -- nothing remains to be sent
   pub replied_all : (a b : Link W) (m : Machine) (h now : History) (command : Command)
       (Left : List ℕ → History → Type 0) → Replied contents a b m h command Left → Left [] now
       → Answers contents a b true m h command now
@@ -170,7 +170,7 @@ undos_line m k n made h new kind e f more last (t, l) =
       l ∙ sym (ap (back_from (suc n) h.now) f),
     )
 
--- no step is left to undo
+-- there is no step to undo
 pub undos_none : (m : Machine) (k n : ℕ) (made b : Bool) (h new : History) → k ≡ suc n → made ≡ b
     → h.earlier ≡ [] → new ≡ h → Undos m k made h (if b then [] else codes "at start\n") new
 undos_none m k n made b h new e g f same =
@@ -187,7 +187,7 @@ undos_none m k n made b h new e g f same =
           earlier = p;
         } in x) (sym e)
 
--- none more is to be made
+-- no more undos are to be made
 pub undos_off : (m : Machine) (k : ℕ) (made : Bool) (h : History) → k ≡ 0 → Undos m k made h [] h
 undos_off m k made h e = subst (λ (j : ℕ). Undos m j made h [] h) (sym e) (refl, refl)
 
@@ -219,7 +219,7 @@ runs_fault m x k n made h mid fault e f s =
       (refl, refl),
     )
 
--- no step is left to make
+-- no more steps are to be made
 pub runs_off : (m : Machine) (k : ℕ) (made : Bool) (h : History) → k ≡ 0 → Runs m k made h [] h
 runs_off m k made h e = subst (λ (j : ℕ). Runs m j made h [] h) (sym e) (refl, refl)
 

@@ -1,4 +1,4 @@
--- What became of a run.
+-- How a run ended.
 use Rattle.std.proofs.Common.{ℕ, ◌≡◌, ◌∙◌, Bool, true, false, List, [], Option, Err, refl, sym}
 use Rattle.std.proofs.Common.{append-nil, if◌then◌else◌}
 use Rattle.std.specs.Borrow.{Bor}

@@ -1,4 +1,4 @@
--- Tables of a grammar's bytes, and of those that a reader tells first.
+-- Tables of a grammar's bytes, and of the first bytes of a reader.
 use Rattle.std.proofs.Common.{ℕ, suc, ◌≡◌, ◌<◌, ◌≤◌, ◌↔◌, List, Option, Some, None, Result, Err, IfSome}
 use Rattle.std.proofs.Common.{length, take, refl, subst, sym, ◌∙◌, inl, inr, arith}
 use Rattle.std.proofs.Common.{length-take-le}
@@ -77,7 +77,7 @@ fault_up (grammars.Limit line) all lacks =
     by_all (λ s. IsFaultOf s (grammars.Limit line)) all lacks.1.short lacks
 fault_up grammars.Memory all lacks = by_all (λ s. length s ≤ longest_file) all lacks lacks
 
--- why the first bytes have lacks tables is why all have none
+-- where the first bytes have no tables, all bytes have none for the same reason
 no_tables_up : (fault : SourceFault) (all : List ℕ) → NoTables (front all) fault
     → NoTables all fault
 no_tables_up (faults.Grammar fault) all lacks = fault_up fault all lacks
@@ -87,7 +87,7 @@ no_tables_up faults.Tables all lacks = by_all (λ s. NoTables s faults.Tables) a
 no_tables_up faults.Unread all lacks = absurd lacks
 no_tables_up faults.NoRoom all lacks = absurd lacks
 
--- ---- a reader that tells them
+-- ---- the bytes of a reader
 
 whole : (P : List ℕ → Type 0) (bytes : List ℕ) (known : Option (List ℕ))
     → ((all : List ℕ) → P (front all) → P all) → IfSome known (λ all. bytes ≡ front all) → P bytes
@@ -103,13 +103,13 @@ module _ {S D : Type 0} (opens : S → D → Type 0) (remaining : D → Option (
       let (source, tells, q) = whole P bytes (remaining reader) up is p in
       (source, (reader, opened, tells), q)
 
-  -- tables of the bytes that come first are tables of what the reader tells
+  -- tables of the first bytes are tables of all bytes of the reader
   pub told_tables : (t : Tables) (bytes : List ℕ)
       → TellsFront opens remaining opener (suc longest_file) bytes → AreTablesOf bytes t
       → (source : List ℕ) × Tells opens remaining opener source × AreTablesOf source t
   told_tables t bytes is are = told (λ s. AreTablesOf s t) bytes (tables_up t) is are
 
-  -- and so is why there are none
+  -- where the first bytes have no tables, the reader has none for the same reason
   pub told_fails : (fault : SourceFault) (bytes : List ℕ)
       → TellsFront opens remaining opener (suc longest_file) bytes → NoTables bytes fault
       → SourceFails (Tells opens remaining opener) fault

@@ -1,4 +1,4 @@
--- Each command but the unknown one is told by its spelling.
+-- Each command but the unknown one is known by its spelling.
 use Rattle.std.proofs.Common.{ℕ, ◌≡◌, ◌≢◌, ◌≤◌, ◌∙◌, true, false, List, ◌++◌, length, take}
 use Rattle.std.proofs.Common.{drop, Option, Some, None, refl, sym, ap, subst, inl, inr, arith, codes}
 use Rattle.std.proofs.Common.{◌&&◌, ◌||◌, nat_le, nat_lt, length-append}
@@ -182,7 +182,7 @@ to_said n line is =
     (ap (λ (l : List ℕ). bytes_eq (take 5 l) (codes "back ")) is.parts))
     ∙ ap (λ (r : _). option_map_or To r Unknown) (number_says 0 n (codes "to ") line is)
 
--- a line that begins with the word of a number is none of the words alone
+-- a line that begins with a word before a number is not a word alone
 from_number : (word digits line : List ℕ) (c : Command) → line ≡ word ++ digits
     → command_of (word ++ digits) ≡ option_map_or Insert (text_after (codes "insert ") (word ++ digits))
     (number_command (word ++ digits)) → bytes_eq (take 7 (word ++ digits)) (codes "insert ") ≡ false

@@ -1,4 +1,4 @@
--- What became of a run over files.
+-- How a run over files ended.
 use Rattle.std.proofs.Common.{ℕ, ◌≡◌, false, List, Option, Result, Ok, Err, inl, inr, refl}
 use Rattle.ylink.specs.declared.link.Link.{Link}
 use Rattle.ylink.specs.Link.{has_failed}
@@ -54,7 +54,7 @@ module _ (grammar tokens : List ℕ → Type 0) (unopened : Type 0) where
       write_fault = written;
     }
 
-    -- no session was: nothing was touched
+    -- no session was served: nothing was touched
     rest_end : (paths : YstepWords) (trouble : Trouble) → FilesFail paths trouble
         → IsUntouched r reader → IsUntouched w writer
         → FilesEnd remaining contents paths r reader w writer (Err trouble)

@@ -306,7 +306,7 @@ input_lines input taken left p =
     )
 
 module _ {W : Type 0} (contents : W → Option (List ℕ)) where
-  -- what was written tells the input, where the reader tells it
+  -- what was written is right for the input, where the input is known
   abbrev pub Told : Link W → Link W → Option (List ℕ) → Option (List ℕ) → Machine → History
       → Result (Unit {0}) SessionFault → Type 0
   Told old new before left m h r =

@@ -1,4 +1,4 @@
--- What became of writing the files of a grammar.
+-- How writing the files of a grammar ended.
 use Rattle.std.proofs.Common.{ℕ, ◌≡◌, ◌∙◌, Bool, true, List, Err, inl, inr, subst, sym}
 use Rattle.ytables.specs.Tables.{TablesValue as Tables}
 use Rattle.ywords.specs.declared.arguments.YaccWords.{YaccWords}
@@ -33,7 +33,7 @@ table_is_none e = cc
 
 module _ (grammar : List ℕ → Type 0) (table report : Tables → Bool → Type 0)
     (table_unopened report_unopened : Type 0) (verbose : Bool) where
-  -- not all was written of tables that stand
+  -- there are tables, and not all was written of them
   pub all_fail : (t : Tables) (fault : GenerateFault)
       → ((source : List ℕ) × grammar source × AreTablesOf source t)
       → AllFail (table t) (report t) report_unopened verbose fault

@@ -8,15 +8,15 @@ use Rattle.ycli.specs.declared.command.Command.{Command as CodeCommand}
 use Rattle.ycli.specs.declared.command.Command.TheVariants as code
 
 -- a command: at most so many steps, or undos; to a position; the configuration, the trees, or the
--- forms; an edit of the upcoming tokens,
--- by the bytes that spell the token to insert; and what is none
+-- forms; an edit of the upcoming tokens, by the bytes that spell the token to insert; or a line
+-- that is no command
 pub data Command : Type 0 where
   Run Back To : (n : ℕ) → Command
   Show Tree Unwind : Command
   Insert : (bytes : List ℕ) → Command
   Drop Unknown : Command
 
--- what the code has for a command
+-- a command of the code, as one of these
 abbrev pub command_view : CodeCommand → Command
 command_view (code.Run n) = Run n
 command_view (code.Back n) = Back n

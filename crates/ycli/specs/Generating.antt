@@ -1,4 +1,4 @@
--- What `yacc` does but for its exit: what became of a run, its message and its exit status.
+-- What `yacc` does, except its exit: how a run ended, its message and its exit status.
 use Rattle.std.specs.Prelude.{ℕ, ◌≡◌, ◌⊎◌, true, List, [], Option, Result, Ok, Err}
 use Rattle.ylink.specs.declared.link.Link.{Link}
 use Rattle.ytables.specs.declared.tables.Counts.{Counts}
@@ -38,7 +38,7 @@ pub record Generates (counts : Counts) : Type 0 where
   pub shift_reduce : counts.shift_reduce ≡ tables.shift_reduce
   pub reduce_reduce : counts.reduce_reduce ≡ tables.reduce_reduce
 
--- the words are taken, and say this
+-- the words are taken, and have this meaning
 abbrev pub Say : List (List ℕ) → YaccWords → Type 0
 Say words said = AreTaken yacc_app words × AreYaccWordsIn words said
 
@@ -48,7 +48,7 @@ NamesFile said text (CannotWrite prefix ending) =
     (prefix ≡ said.prefix) × (ending.now ≡ ending_of text)
 NamesFile said text _ = ⊥
 
--- what it means to `yacc` that not all was written
+-- why `yacc` ends where not all was written
 abbrev pub IsGenerating : YaccWords → GenerateFault → Trouble → Type 0
 IsGenerating said (faults.Source fault) trouble = trouble ≡ of_source said.grammar fault
 IsGenerating said (faults.NoRoom text) trouble = trouble ≡ NoMemory
@@ -62,13 +62,13 @@ IsAnswer said (Ok counts) (Err trouble) = ⊥
 IsAnswer said (Err fault) (Ok told) = ⊥
 IsAnswer said (Err fault) (Err trouble) = IsGenerating said fault trouble
 
--- the program passes on an answer of the generator that is so
+-- the program passes on such an answer of the generator
 abbrev pub PassesOn : (Result Counts GenerateFault → Type 0) → YaccWords → Result Counts Trouble
     → Type 0
 PassesOn generated said told =
     (answer : Result Counts GenerateFault) × generated answer × IsAnswer said answer told
 
--- why a file wasn't written: it is named, the report only where it was wanted; or no memory
+-- why a file wasn't written: it is named, the report only where it was wanted; or memory ran out
 abbrev pub FileFails : YaccWords → Trouble → Type 0
 FileFails said NoMemory = Unit {0}
 FileFails said trouble =
@@ -86,7 +86,7 @@ Fails words trouble = (said : YaccWords) × Say words said × FilesFail said tro
 
 module _ {W : Type 0} (contents : W → Option (List ℕ)) (words : List (List ℕ))
     (w : W) (writer : Link W) where
-  -- A run over these words ended so; but for help, nothing went to the writer.
+  -- how a run over these words ended; without help, nothing went to the writer
   abbrev pub EndsIn : Result Done Trouble → Type 0
   EndsIn (Ok Helped) = AskHelp yacc_app words × SaysSome contents w writer
   EndsIn (Ok (Wrote counts)) = ((said : YaccWords) × Say words said) × Generates counts

@@ -23,8 +23,8 @@ pub record AreTablesOf (source : List ℕ) (t : TablesValue) : Type 0 where
   pub guide : Guide
   pub guides : IsGuide t.built guide
 
--- why there are none: a fault of the grammar file, too many item sets, or lack of memory, which is
--- no answer to a file that is too long
+-- why there are no tables: a fault of the grammar file, too many item sets, or no memory; a file
+-- that is too long is never answered with no memory
 abbrev pub NoTables : List ℕ → SourceFault → Type 0
 NoTables source (Grammar grammars.Memory) = length source ≤ longest_file
 NoTables source (Grammar fault) = IsFaultOf source fault
@@ -33,7 +33,7 @@ NoTables source Tables = (v : GrammarValue) × IsGrammarOf source v
 NoTables source Unread = ⊥
 NoTables source NoRoom = ⊥
 
--- why there are none of what a reader tells: it can't be read, or of the bytes that it tells
+-- why there are no tables of what a reader has: it can't be read, or its bytes have no tables
 abbrev pub SourceFails : (List ℕ → Type 0) → SourceFault → Type 0
 SourceFails told Unread = Unit {0}
 SourceFails told NoRoom = Unit {0}

@@ -1,4 +1,4 @@
--- What the stepper promises from bytes to bytes: the headline.
+-- What the stepper promises of the bytes that it reads and writes.
 use Rattle.std.specs.Prelude.{ℕ, ◌≡◌, ◌<◌, ◌^◌, Bool, true, false, List, length, Option, IfSome}
 use Rattle.std.specs.Prelude.{Result, Ok, Err}
 use Rattle.ylink.specs.declared.link.Link.{Link}
@@ -25,7 +25,7 @@ pub record Begins (source tokens : List ℕ) (m : Machine) (h : History) : Type 
   pub machine : m ≡ machine_over tables
   pub parses : Parses tables.built.grammar tokens m h
 
--- why there are no tokens for these tables: they can't be read, or it is a fault of their text
+-- why there are no tokens for these tables: they can't be read, or their text has a fault
 abbrev pub TokensFail : (List ℕ → Type 0) → TablesValue → StepperFault → Type 0
 TokensFail tokens t Unread = Unit {0}
 TokensFail tokens t NoRoom = Unit {0}
@@ -35,7 +35,7 @@ TokensFail tokens t (Source fault) = ⊥
 TokensFail tokens t (Session fault) = ⊥
 
 module _ (grammar tokens : List ℕ → Type 0) where
-  -- a session begins so over texts that the readers tell
+  -- a session starts so over the texts that the readers have
   pub record Starts (m : Machine) (h : History) : Type 0 where
     pub source : List ℕ
     pub told : grammar source
@@ -65,9 +65,9 @@ pub record Rests {R W : Type 0} (r : R) (reader : Link R) (w : W) (writer : Link
 module _ (grammar tokens : List ℕ → Type 0) (unopened : Type 0) {R W : Type 0}
     (remaining : R → Option (List ℕ)) (contents : W → Option (List ℕ))
     (r : R) (reader : Link R) (w : W) (writer : Link W) where
-  -- A session was served from such a start: where the reader tells its bytes, what was written is a
-  -- text of the machine for them, after a fault a beginning of one. The text is a function of the
-  -- lines, unless memory runs out.
+  -- A session was served from such a start: where the bytes of the reader are known, what was
+  -- written is a text of the machine for them, and after a fault a beginning of one. The text is a
+  -- function of the lines, unless memory runs out.
   pub record Served (ending : Result (Unit {0}) SessionFault) : Type 0 where
     pub machine : Machine
     pub history : History

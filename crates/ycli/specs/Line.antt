@@ -12,7 +12,7 @@ pub data Line : Type 0 where
   Quit : Line
   Command : commands.Command → Line
 
--- what the code has for a line
+-- a line of the code, as one of these
 abbrev pub line_view : CodeLine → Line
 line_view code.Quit = Quit
 line_view (code.Command command) = Command (command_view command)
@@ -21,7 +21,7 @@ line_view (code.Command command) = Command (command_view command)
 abbrev pub longest_line : ℕ
 longest_line = 4096
 
--- the bytes of a line that tell what it says: one more tells a longer line from the longest
+-- so many bytes of a line decide what it says: one more than the longest has
 abbrev pub line_room : ℕ
 line_room = longest_line + 1
 
@@ -32,12 +32,12 @@ line_in line =
     else (if bytes_eq line (codes "quit") then Quit
     else Command (command_of line))
 
--- the lines that say so: `quit`, or a command's, of at most 4,096 bytes
+-- the lines with this meaning: `quit`, or a command's, of at most 4,096 bytes
 abbrev pub IsLineOf : Line → List ℕ → Type 0
 IsLineOf Quit line = line ≡ codes "quit"
 IsLineOf (Command command) line = IsSpelled command line × (length line ≤ longest_line)
 
--- each line but the unknown ones is told by its spelling, and no other line says the same
+-- each line but the unknown ones is known by its spelling, and no other line has the same meaning
 abbrev pub AreTold : Type 0
 AreTold = (line : List ℕ) (said : Line) → (said ≢ Command commands.Unknown)
     → (line_in line ≡ said) ↔ IsLineOf said line

@@ -20,7 +20,7 @@ abbrev pub name_of : Program → List ℕ
 name_of Yacc = codes "yacc"
 name_of Ystep = codes "ystep"
 
--- what is said of words that are refused
+-- the message where the words are refused
 abbrev pub usage_of : Program → List ℕ
 usage_of Yacc = codes "usage: yacc [-v] [-b prefix] grammar\n"
 usage_of Ystep = codes "usage: ystep grammar tokens\n"
@@ -75,7 +75,7 @@ token_place tokens.TooMany = None
 token_place tokens.Memory = None
 token_place (tokens.BadLiteral place) = Some place
 
--- what a fault of a session's streams is told as
+-- the words for a fault of a session's streams
 abbrev pub session_word : SessionFault → List ℕ
 session_word streams.Read = codes "read fault"
 session_word streams.Write = codes "write fault"
@@ -86,7 +86,7 @@ message_line p what where_ None = name_of p ++ (codes ": " ++ (what ++ codes "\n
 message_line p what where_ (Some n) =
     name_of p ++ (codes ": " ++ (what ++ (where_ ++ (decimal n ++ codes "\n"))))
 
--- the line that tells why a program ends
+-- the line that says why a program ends
 abbrev pub message : Program → Trouble → List ℕ
 message p Usage = usage_of p
 message p (Grammar fault) = message_line p (grammar_code fault) (codes " at line ")

@@ -16,7 +16,7 @@ use Rattle.ycli.specs.Transcript.{Transcript, TranscriptBy}
 abbrev pub PlainSteps : Machine → History → Result StepKind StepFault → History → Type 0
 PlainSteps m h result new = Steps (next m) h result new × (result ≢ Err Memory)
 
--- the same of an edit
+-- what an edit answers and leaves, where it isn't refused when memory runs out
 abbrev pub PlainEdits : Machine → Edit → History → Result StepKind StepFault → History → Type 0
 PlainEdits m edit h result new = Edits m edit h result new × (result ≢ Err Memory)
 

@@ -1,4 +1,4 @@
--- What a program does but for its exit: what it was asked for, its message and its exit status.
+-- What a program does, except its exit: what it was asked for, its message and its exit status.
 use Rattle.std.specs.Prelude.{ℕ, ◌≡◌, ◌≢◌, ◌<◌, ◌^◌, ◌⊎◌, false, List, [], length, Option, IfSome}
 use Rattle.std.specs.Prelude.{Result, Ok, Err}
 use Rattle.std.specs.Borrow.{Bor}
@@ -45,7 +45,7 @@ use Rattle.ywords.specs.Arguments.{ystep_app, ArePathsIn}
 
 -- ---- statuses, and what a fault is to a program
 
--- 1 for a file that is refused, 2 for words, 3 for what comes from outside and for limits
+-- 1 where a file is refused, 2 where the words are, 3 where a file or stream fails, and for limits
 abbrev pub status : Trouble → ℕ
 status (Grammar fault) = 1
 status (Tokens fault) = 1
@@ -108,7 +108,7 @@ abbrev pub AreMistaken : App → List (List ℕ) → Type 0
 AreMistaken app words =
     (kind : ErrorKind) × IsAmong kind (fault_of app words) × (kind ≢ kinds.DisplayHelp)
 
--- why words are refused: they are mistaken, or there is no memory
+-- why words are refused: they have a mistake, or memory ran out
 abbrev pub WordsFail : App → List (List ℕ) → Trouble → Type 0
 WordsFail app words Usage = AreMistaken app words
 WordsFail app words NoMemory = Unit {0}
@@ -120,7 +120,7 @@ Asks words (Ok (requests.Session paths)) = AreTaken ystep_app words × ArePathsI
 Asks words (Ok (requests.Help text)) = AskHelp ystep_app words
 Asks words (Err trouble) = WordsFail ystep_app words trouble
 
--- ---- what became of it
+-- ---- how a run ended
 
 -- why there are no tables of the grammar file at this path: a fault is one that some bytes have
 abbrev pub GrammarFails : Bor (List ℕ) → Trouble → Type 0
@@ -146,7 +146,7 @@ TokensFail path _ = ⊥
 abbrev pub FilesFail : YstepWords → Trouble → Type 0
 FilesFail paths trouble = GrammarFails paths.grammar trouble ⊎ TokensFail paths.tokens trouble
 
--- the files were opened and tell these bytes, which no clause knows
+-- the files were opened and have these bytes, which no clause knows
 abbrev pub some_bytes : List ℕ → Type 0
 some_bytes bytes = Unit {0}
 
@@ -169,7 +169,7 @@ pub record IsUntouched {D : Type 0} (d : D) (link : Link D) : Type 0 where
   pub stays : device_of link ≡ d
   pub clear : has_failed link ≡ false
 
--- a message went to a link: its whole, or a beginning of it where the link failed
+-- a message went to a link: all of it, or a beginning where the link failed
 pub record Says {E : Type 0} (contents : E → Option (List ℕ)) (e : E) (errors : Link E)
     (text : List ℕ) : Type 0 where
   pub begins : Begins (contents e) (contents (device_of errors)) text
@@ -181,7 +181,7 @@ SaysSome contents w writer = (text : List ℕ) × Says contents w writer text
 
 module _ {R W : Type 0} (remaining : R → Option (List ℕ)) (contents : W → Option (List ℕ))
     (paths : YstepWords) (r : R) (reader : Link R) (w : W) (writer : Link W) where
-  -- a run over these files ended so
+  -- how a run over these files ended
   abbrev pub FilesEnd : Result (Unit {0}) Trouble → Type 0
   FilesEnd (Ok done) = Serves remaining contents r reader w writer (Ok done)
   FilesEnd (Err (Session fault)) = Serves remaining contents r reader w writer (Err fault)
@@ -201,7 +201,7 @@ module _ {R W : Type 0} (remaining : R → Option (List ℕ)) (contents : W → 
   abbrev Rest : Type 0
   Rest = IsUntouched r reader × IsUntouched w writer
 
-  -- a run over these words ended so
+  -- how a run over these words ended
   abbrev pub EndsIn : Result (Unit {0}) Trouble → Type 0
   EndsIn (Ok done) =
       (AskHelp ystep_app words × IsUntouched r reader × SaysSome contents w writer)

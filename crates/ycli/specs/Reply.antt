@@ -72,7 +72,8 @@ abbrev pub edit_text : Machine → History → Result StepKind StepFault → Lis
 edit_text m h (Ok kind) = step_line m (position h) (codes " ") kind
 edit_text m h (Err fault) = refusal false fault
 
--- the lines of at most n undos, each with the position after it; `at start` where there was none
+-- the lines of at most n undos, each with the position after it; `at start` where nothing could be
+-- undone
 abbrev pub undo_text : Machine → ℕ → Bool → List (StepKind × Configuration) → List ℕ
 undo_text m zero made past = []
 undo_text m (suc n) made [] = if made then [] else codes "at start\n"
@@ -114,7 +115,7 @@ configuration_text m h =
     head_text h ++ (stack_text m h ++ (codes "\nrest:" ++ (rest_text m h ++ errors_text h)))
 
 -- the forms of an accepted parse without error steps, from the last to the first, and then its
--- start; else why there are none
+-- start; or why it can't be unwound
 abbrev pub Unwinds : Machine → History → List ℕ → History → Type 0
 Unwinds m h text new =
     ((h.now.mode ≢ Accepted) × (text ≡ codes "not accepted\n") × (new ≡ h))
@@ -138,7 +139,7 @@ module _ (takes : History → Result StepKind StepFault → History → Type 0) 
 
 module _ (takes : History → Result StepKind StepFault → History → Type 0) (edits : Edit → History
     → Result StepKind StepFault → History → Type 0) (m : Machine) where
-  -- an edit and its line, or why there is none
+  -- an edit and its line, or why the edit can't be made
   abbrev pub EditsBy : Edit → History → List ℕ → History → Type 0
   EditsBy edit h text new =
       (result : Result StepKind StepFault) × edits edit h result new

@@ -1,4 +1,4 @@
--- What a session writes: the words that its promise is read by.
+-- What a session writes: the words in which its promise is stated.
 use Rattle.std.specs.Prelude.{ℕ, ◌≡◌, Bool, true, false, List, [], ◌∷◌, ◌++◌, Option, Some}
 use Rattle.std.specs.Prelude.{Result, Ok, Err}
 use Rattle.std.specs.Io.KnownBytes.{Appends, Consumes}
@@ -33,9 +33,9 @@ module _ (replies : History → Command → List ℕ → History → Type 0) whe
 abbrev pub Transcript : Machine → History → List (List ℕ) → List ℕ → Type 0
 Transcript m h lines text = TranscriptBy (Reply m) h lines text
 
--- What was written from history h on, where the input and what the writer held are known: a text of
--- the session for the input; after a failed read one for the lines whose newline was read; after a
--- failed write a beginning of one for the input.
+-- What was written from history h on, where the input and what the writer held are known: a text
+-- of the session for the input; after a failed read, one for the lines whose newline was read;
+-- after a failed write, a beginning of one for the input.
 abbrev pub Tells : Machine → History → List ℕ → Option (List ℕ) → Option (List ℕ) → Option (List ℕ)
     → Result (Unit {0}) SessionFault → Type 0
 Tells m h input left old new (Ok done) =

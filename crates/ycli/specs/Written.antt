@@ -1,4 +1,4 @@
--- What the generator promises from bytes to bytes.
+-- What the generator promises of the bytes that it reads and writes.
 use Rattle.std.specs.Prelude.{ℕ, ◌≡◌, Bool, true, false, List, Option, Result, Ok, Err}
 use Rattle.std.specs.Prelude.{codes}
 use Rattle.ylalr.specs.Collection.{Guide, IsGuide}
@@ -24,18 +24,18 @@ abbrev pub ending_of : Text → List ℕ
 ending_of Table = codes ".tab"
 ending_of Report = codes ".output"
 
--- by the time that it was let go, the device had taken the whole text, or else a beginning of it
+-- when the device was let go, it had taken the whole text, or only a beginning of it
 abbrev pub Sent : {W : Type 0} → (W → Option (List ℕ)) → W → TablesValue → Text → Bool → Type 0
 Sent {W} contents device t text whole = (left : W) × ((u : Guide) → IsGuide t.built u
     → Grows (contents device) (contents left) whole (text_of t u text))
 
--- a device was opened, and took the whole text, or else a beginning of it
+-- a device was opened, and took the whole text, or only a beginning of it
 abbrev pub Writes : {S D : Type 0} → (S → D → Type 0) → (D → Option (List ℕ)) → S → TablesValue
     → Text → Bool → Type 0
 Writes {S} {D} opens contents opener t text whole =
     (device : D) × opens opener device × Sent contents device t text whole
 
--- why a text was not written whole: its device can't be opened, or its link failed
+-- why only a beginning of a text was written: its device can't be opened, or its link failed
 abbrev pub WriteFails : (Bool → Type 0) → Text → GenerateFault → Type 0
 WriteFails writes text (Source fault) = ⊥
 WriteFails writes text (Unopened failed) = failed ≡ text
@@ -48,8 +48,8 @@ module _ (table report : Bool → Type 0) (unopened : Type 0) where
   WritesAll true = table true × report true
   WritesAll false = table true × unopened
 
-  -- why not all was written: the table was not, and then the report was not opened; or it was, and
-  -- the report, which is wanted, was not
+  -- why not all was written: the table was not, and then the report was not opened; or the table
+  -- was, but the report, which is wanted, was not
   abbrev pub AllFail : Bool → GenerateFault → Type 0
   AllFail verbose (Source fault) = ⊥
   AllFail verbose (Unopened Table) = unopened
@@ -61,7 +61,7 @@ module _ (table report : Bool → Type 0) (unopened : Type 0) where
 
 module _ (grammar : List ℕ → Type 0) (table report : TablesValue → Bool → Type 0)
     (table_unopened report_unopened : Type 0) (verbose : Bool) where
-  -- the tables are those of the grammar that a reader tells
+  -- the tables are those of the grammar that a reader has
   abbrev Stand : TablesValue → Type 0
   Stand t = (source : List ℕ) × grammar source × AreTablesOf source t
 

@@ -20,18 +20,18 @@ const GREATEST_COUNT: usize = 1_000_000;
 pub enum Line<'a> {
     /// The end of the session.
     Quit,
-    /// What has a reply.
+    /// A command, which has a reply.
     Command(Command<'a>),
 }
 
 /// A command.
 #[derive(Clone, Copy, Debug, PartialEq, Eq)]
 pub enum Command<'a> {
-    /// At most so many steps forward.
+    /// At most so many steps forward, 1 to 1,000,000.
     Run(usize),
-    /// At most so many steps back.
+    /// At most so many steps back, 1 to 1,000,000.
     Back(usize),
-    /// Steps forward or back to this position.
+    /// Steps forward or back to this position, 0 to 1,000,000.
     To(usize),
     /// The configuration now.
     Show,
@@ -61,7 +61,7 @@ pub(crate) fn line_in(line: &[u8]) -> Line<'_>
     }
 }
 
-/// The command that a line is spelled as, exactly.
+/// The command that a line spells exactly, or `Unknown`.
 #[tactic(auto, unfolding(crate::specs::Command::command_of))]
 fn command_in(line: &[u8]) -> Command<'_>
     ensures { command_view result ≡ command_of line.now }
@@ -81,7 +81,7 @@ fn command_in(line: &[u8]) -> Command<'_>
     }
 }
 
-/// What follows a word.
+/// What follows a word at the front of a line. `None` where the line doesn't begin with it.
 fn text_after<'a>(word: &[u8], line: &'a [u8]) -> Option<&'a [u8]>
     ensures { option_map (λ text. text.now) result ≡ text_after word.now line.now }
 {
@@ -119,7 +119,7 @@ fn number_command(line: &[u8]) -> Command<'_>
     }
 }
 
-/// The number after a word, from the least one to 1,000,000.
+/// The number after a word, from `least` to 1,000,000. `None` where the line has another form.
 fn number_after(least: usize, word: &[u8], line: &[u8]) -> Option<usize>
     ensures { result ≡ number_after least word.now line.now }
 {
@@ -130,7 +130,7 @@ fn number_after(least: usize, word: &[u8], line: &[u8]) -> Option<usize>
     }
 }
 
-/// One to seven digits, with a value from the least one to 1,000,000.
+/// The value of one to seven digits, from `least` to 1,000,000. `None` for anything else.
 fn number_in(least: usize, digits: &[u8]) -> Option<usize>
     ensures { result ≡ number_in least digits.now }
 {

@@ -1,8 +1,8 @@
-//! What can go wrong in a session from the outside.
+//! What can go wrong with the links of a session.
 
 use thiserror::Error;
 
-/// Why a session ended before its input did.
+/// Why a session ended before the end of its input.
 #[derive(Clone, Copy, Debug, PartialEq, Eq, Error)]
 pub enum SessionFault {
     /// X1: the reader's link failed.

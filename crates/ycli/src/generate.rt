@@ -1,4 +1,4 @@
-//! The generator from bytes to bytes: a grammar in, its table and its report out.
+//! The generator between openers: a grammar in, its table and its report out.
 
 ghost use Rattle.std.specs.Prelude.{◌≡◌, true, IfErr, OnOk, is_some};
 ghost use Rattle.ylalr.specs.Collection.{Guide, IsGuide};
@@ -15,7 +15,7 @@ use thiserror::Error;
 use yopen::Open;
 use ytables::{Counts, Link, Tables};
 
-/// What is written of a grammar.
+/// The texts that can be written of a grammar.
 #[derive(Clone, Copy, Debug, PartialEq, Eq)]
 pub enum Text {
     /// The table.
@@ -36,16 +36,16 @@ impl Text {
     }
 }
 
-/// Why not all was written that is wanted of a grammar.
+/// Why not all that is wanted of a grammar was written.
 #[derive(Debug, Drop, Error)]
 pub enum GenerateFault {
-    /// There are no tables of it.
+    /// There are no tables of the grammar.
     #[error("{0}")]
     Source(SourceFault),
     /// The device of this text can't be opened.
     #[error("cannot open what is to be written")]
     Unopened(Text),
-    /// A growth was refused while the device of this text was opened.
+    /// Memory ran out while the device of this text was opened.
     #[error("no memory")]
     NoRoom(Text),
     /// The link to the device of this text failed.
@@ -53,7 +53,7 @@ pub enum GenerateFault {
     Unwritten(Text),
 }
 
-/// Writes a text whole, or a beginning of it where the link failed.
+/// Writes a text. `None` where the link failed: then only a beginning of it was written.
 fn put_text<W: Write>(tables: &Tables, text: Text, link: &mut Link<W>) -> Option<()>
     ensures { (u : Guide) → IsGuide tables.now.built u
         → Grows (W.contents (device_of link.old)) (W.contents (device_of link.new)) (is_some result)
@@ -65,7 +65,7 @@ fn put_text<W: Write>(tables: &Tables, text: Text, link: &mut Link<W>) -> Option
     }
 }
 
-/// Writes a text to a device and flushes it: the whole text, or else a beginning of it.
+/// Writes a text to a device and flushes it; false where only a beginning of it was written.
 fn send<W: Write + Drop>(tables: &Tables, text: Text, device: W) -> bool
     ensures { Sent W.contents device tables.now text result }
 {
@@ -125,12 +125,12 @@ where
     }
 }
 
-/// Generates from a grammar: opens and reads it, writes its table, and then its report where it is
-/// wanted (`verbose`). The answer counts the conflicts of all its cells.
+/// Generates from a grammar: opens and reads it, writes its table, and then its report where that
+/// is wanted (`verbose`). The answer counts the conflicts of all its cells.
 ///
-/// Each text is written whole, or a beginning of it exactly where the link to its device failed.
-/// Nothing is opened to be written before there are tables, and the report not before the table
-/// was written.
+/// Each text is written to its end, unless the link to its device failed: then only a beginning of
+/// it was written. Nothing is opened to be written before there are tables, and the report is
+/// opened only after the table was written.
 pub fn generate<G: Open, T: Open, P: Open>(
     alloc: Global,
     grammar: &mut G,

@@ -1,4 +1,4 @@
-//! What `yacc` does but for its exit.
+//! What `yacc` does, except its exit.
 
 ghost use Rattle.std.specs.Prelude.{◌≡◌, false, IfOk, IfErr, map, is_some};
 ghost use Rattle.ylink.specs.Link.{device_of, has_failed};
@@ -23,11 +23,11 @@ use ywords::arguments::{YaccWords, yacc_words};
 enum Request<'a> {
     /// The files of a grammar.
     Generate(YaccWords<'a>),
-    /// This text.
+    /// This text of help.
     Help(String),
 }
 
-/// What a run has done.
+/// What a run did.
 #[derive(Clone, Copy, Debug)]
 enum Done {
     /// It gave help.
@@ -65,7 +65,7 @@ fn request_of<'a>(alloc: Global, words: &'a [&'a str]) -> Result<Request<'a>, Tr
     }
 }
 
-/// Generates from what one opener opens to what the others do, as the words want it.
+/// Generates from what one opener opens to what the others open, as the words say.
 fn generate_as<'a, G: Open, T: Open, P: Open>(
     alloc: Global,
     words: YaccWords<'a>,
@@ -124,12 +124,12 @@ fn obey<'a, F: Files + AllocGlobal, W: Write>(
     }
 }
 
-/// All that `yacc` does but for its exit: `yacc [-v] [-b prefix] grammar` writes the table of the
-/// grammar to the file `prefix.tab`, with `-v` its report to `prefix.output`, and a line on
-/// conflicts, where there are some, to the last link, as it does messages. Help goes to the writer.
-/// The answer is the exit status: 0 where it is done, 1 where the grammar file is refused, 2 where
-/// the words are, 3 for what comes from outside, a lack of memory and too many item sets. A
-/// message or a help text that can't be written is passed over.
+/// All that `yacc` does, except its exit: `yacc [-v] [-b prefix] grammar` writes the table of the
+/// grammar to the file `prefix.tab`, with `-v` its report to `prefix.output`. A line on conflicts,
+/// where there are some, goes to the last link, as messages do. Help goes to the writer. The
+/// answer is the exit status: 0 where all was done, 1 where the grammar file is refused, 2 where
+/// the words are, 3 where a file can't be read or written, memory runs out, or there are too many
+/// item sets. Where a message or a help text can't be written, nothing more is said.
 pub fn yacc_run<'a, F: Files + AllocGlobal, W: Write, E: Write>(
     rt: &F,
     words: &'a [&'a str],

@@ -1,5 +1,5 @@
-//! The session engine of the parse stepper, and what a program does but for its exit. The words of
-//! the programs are handed on.
+//! The sessions of the stepper over links, the generator, and all that a program does except its
+//! exit. The words of the programs stand here too.
 #![tactic(auto)]
 
 mod command;

@@ -6,10 +6,10 @@ ghost use Rattle.ycli.specs.Line.{line_room};
 use crate::command::LONGEST_LINE;
 use std::marker::Model;
 
-/// Room for a command line and one byte more, which tells a longer line from the longest command.
+/// Room for the longest command line and one byte more, which shows that a line is longer.
 const ROOM: usize = LONGEST_LINE + 1;
 
-/// The first 4,097 bytes of a line; what goes past them is passed over.
+/// The first 4,097 bytes of a line; further bytes are dropped.
 #[derive(Drop)]
 pub(crate) struct LineBuffer {
     bytes: [u8; ROOM],

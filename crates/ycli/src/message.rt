@@ -1,4 +1,4 @@
-//! What the programs write to standard error, and the status that goes with it.
+//! What the programs write to standard error, and the exit status.
 
 ghost use Rattle.std.specs.Prelude.{◌≡◌, ◌++◌, ◌==◌, ◌&&◌, is_some, codes};
 ghost use Rattle.ylink.specs.Link.{device_of};
@@ -41,7 +41,7 @@ impl Program {
         }
     }
 
-    /// The message on words that are refused.
+    /// The message where the words are refused.
     fn usage(self) -> &'static [u8]
         ensures { result.now ≡ usage_of self }
     {
@@ -51,7 +51,7 @@ impl Program {
         }
     }
 
-    /// Says something, at a place where it has one.
+    /// Writes a message, with a place where it has one. `None` where the link failed.
     fn say<E: Write>(
         self,
         link: &mut Link<E>,
@@ -71,7 +71,7 @@ impl Program {
     }
 }
 
-/// Three pieces and a newline.
+/// Writes three pieces and a newline.
 fn put_line<'a, E: Write>(
     link: &mut Link<E>,
     name: &'a [u8],
@@ -84,7 +84,7 @@ fn put_line<'a, E: Write>(
     put_all(link, &[name, between, what, b"\n"])
 }
 
-/// A name, and the file that can't be written.
+/// Writes that the file of this prefix and ending can't be written.
 fn put_unwritten<'a, E: Write>(
     link: &mut Link<E>,
     name: &'a [u8],
@@ -97,7 +97,7 @@ fn put_unwritten<'a, E: Write>(
     put_all(link, &[name, b": cannot write ", prefix, ending, b"\n"])
 }
 
-/// The text that was asked for, where it can be written.
+/// Writes the help text; where the link fails, nothing more is said.
 pub(crate) fn put_help<W: Write>(writer: &mut Link<W>, text: &str)
     ensures { SaysSome W.contents (device_of writer.old) writer.new }
 {
@@ -105,14 +105,14 @@ pub(crate) fn put_help<W: Write>(writer: &mut Link<W>, text: &str)
     let _ = writer.flush();
 }
 
-/// Whether there are no conflicts.
+/// Whether both counts are 0.
 fn is_free(counts: Counts) -> bool
     ensures { result ≡ (counts.shift_reduce == 0 && counts.reduce_reduce == 0) }
 {
     counts.shift_reduce == 0 && counts.reduce_reduce == 0
 }
 
-/// The line on conflicts, where there are some.
+/// Writes the line on conflicts, where there are some. `None` where the link failed.
 pub(crate) fn put_conflicts<E: Write>(link: &mut Link<E>, counts: Counts) -> Option<()>
     ensures { Sends E.contents link.old link.new (is_some result) (conflicts_line counts) }
 {
@@ -128,7 +128,7 @@ pub(crate) fn put_conflicts<E: Write>(link: &mut Link<E>, counts: Counts) -> Opt
     )
 }
 
-/// That line, with its two counts.
+/// Writes that line, with its two counts.
 fn put_counts<'a, E: Write>(link: &mut Link<E>, first: &'a [u8], second: &'a [u8]) -> Option<()>
     ensures { Sends E.contents link.old link.new (is_some result)
         (codes "conflicts: " ++ (first.now ++ (codes " shift/reduce, "
@@ -146,7 +146,7 @@ fn put_counts<'a, E: Write>(link: &mut Link<E>, first: &'a [u8], second: &'a [u8
     )
 }
 
-/// A name, what is said, and the number of a place.
+/// Writes a name, what is said, and the number of a place.
 fn put_numbered<'a, E: Write>(
     link: &mut Link<E>,
     name: &'a [u8],
@@ -171,13 +171,13 @@ pub(crate) enum Trouble<'a> {
     Tokens(TokenFault),
     /// The grammar has too many item sets.
     TooManySets,
-    /// Want of memory.
+    /// Memory ran out.
     NoMemory,
     /// The file at this path can't be read.
     CannotRead(&'a str),
     /// The file of this prefix and ending can't be written.
     CannotWrite(&'a str, &'static str),
-    /// The session ended for a fault of a stream.
+    /// The session ended since a stream failed.
     Session(SessionFault),
 }
 
@@ -231,7 +231,7 @@ impl<'a> From<SessionFault> for Trouble<'a> {
 }
 
 impl<'a> Trouble<'a> {
-    /// What it means that there are no tables of the grammar file at this path.
+    /// Why the program ends, where there are no tables of the grammar file at this path.
     fn of_source(path: &'a str, fault: SourceFault) -> Trouble<'a>
         ensures { result ≡ of_source path.entry fault }
     {
@@ -243,7 +243,7 @@ impl<'a> Trouble<'a> {
         }
     }
 
-    /// What it means that a session over files did not start, or ended early.
+    /// Why the program ends, where a session over files did not start, or ended early.
     pub(crate) fn of_start(words: YstepWords<'a>, fault: StepperFault) -> Trouble<'a>
         ensures { result ≡ of_start words.entry fault }
     {
@@ -256,7 +256,7 @@ impl<'a> Trouble<'a> {
         }
     }
 
-    /// What it means that not all files of a grammar were written.
+    /// Why the program ends, where not all files of a grammar were written.
     pub(crate) fn of_generating(words: YaccWords<'a>, fault: GenerateFault) -> Trouble<'a>
         ensures { IsGenerating words.entry fault result }
     {
@@ -269,8 +269,8 @@ impl<'a> Trouble<'a> {
         }
     }
 
-    /// The exit status: 1 for a file that is refused, 2 for words, 3 for what comes from outside
-    /// and for limits.
+    /// The exit status: 1 where a file is refused, 2 where the words are, 3 where a file or stream
+    /// fails, memory runs out, or there are too many item sets.
     pub(crate) fn status(&self) -> u8
         ensures { result ≡ status self.now }
     {
@@ -286,7 +286,7 @@ impl<'a> Trouble<'a> {
         }
     }
 
-    /// Writes the program's message, one line.
+    /// Writes the program's message, one line. `None` where the link failed.
     pub(crate) fn put<E: Write>(&self, link: &mut Link<E>, program: Program) -> Option<()>
         ensures { Sends E.contents link.old link.new (is_some result) (message program self.now) }
     {
@@ -313,7 +313,7 @@ impl<'a> Trouble<'a> {
     }
 }
 
-/// What a fault of a session's streams is told as.
+/// The words for a fault of a session's streams.
 fn session_word(fault: SessionFault) -> &'static [u8]
     ensures { result.now ≡ session_word fault }
 {
@@ -379,7 +379,7 @@ fn token_code(fault: TokenFault) -> &'static [u8]
     }
 }
 
-/// The place of the token of such a fault, where it has one.
+/// The place of the token at fault, where the fault has one.
 fn token_place(fault: TokenFault) -> Option<usize>
     ensures { result ≡ token_place fault }
 {

@@ -1,4 +1,4 @@
-//! What the programs do but for their exit.
+//! What `ystep` does, except its exit.
 
 ghost use Rattle.std.specs.Prelude.{◌≡◌, false, map};
 ghost use Rattle.ylink.specs.Link.{device_of, has_failed};
@@ -18,7 +18,7 @@ use ywords::arguments::{YstepWords, ystep_words};
 enum Request<'a> {
     /// A session.
     Session(YstepWords<'a>),
-    /// This text.
+    /// This text of help.
     Help(String),
 }
 
@@ -78,11 +78,11 @@ fn obey<'a, F: Files + AllocGlobal, R: Read, W: Write>(
     }
 }
 
-/// All that `ystep` does but for its exit: `ystep grammar tokens` runs a session with command lines
-/// from the reader and replies to the writer. Messages go to the last link. The answer is the exit
-/// status: 0 where the session was served or help was asked for, 1 where a file is refused, 2 where
-/// the words are, 3 for what comes from outside, a lack of memory and too many item sets. A
-/// message or a help text that can't be written is passed over.
+/// All that `ystep` does, except its exit: `ystep grammar tokens` runs a session with command
+/// lines from the reader and replies to the writer. Messages go to the last link. The answer is
+/// the exit status: 0 where the session was served or help was asked for, 1 where a file is
+/// refused, 2 where the words are, 3 where a file or stream fails, memory runs out, or there are
+/// too many item sets. Where a message or a help text can't be written, nothing more is said.
 pub fn ystep_run<'a, F: Files + AllocGlobal, R: Read, W: Write, E: Write>(
     rt: &F,
     words: &'a [&'a str],

@@ -50,7 +50,7 @@ fn mode_word(mode: Mode) -> &'static [u8]
     }
 }
 
-/// What a refused step or edit writes, where steps were made before or not.
+/// What a refused step or edit writes; `made` says whether steps were made before it.
 fn refusal(made: bool, fault: StepFault) -> &'static [u8]
     ensures { result.now ≡ refusal made fault }
 {
@@ -63,7 +63,7 @@ fn refusal(made: bool, fault: StepFault) -> &'static [u8]
     }
 }
 
-/// The name or the rule number that follows the words of a step.
+/// The name or the rule number that follows the words of a step, where one does.
 fn kind_tail<'a>(session: &'a Session, kind: StepKind, digits: &'a mut itoa::Buffer) -> &'a [u8]
     ensures { result.now ≡ kind_tail (machine_of session.now) kind }
 {
@@ -81,7 +81,7 @@ fn kind_tail<'a>(session: &'a Session, kind: StepKind, digits: &'a mut itoa::Buf
     }
 }
 
-/// Four pieces and a newline.
+/// Writes four pieces and a newline.
 fn put_line<'a, W: Write>(
     writer: &mut Link<W>,
     at: &'a [u8],
@@ -95,7 +95,7 @@ fn put_line<'a, W: Write>(
     put_all(writer, &[at, between, words, tail, b"\n"])
 }
 
-/// The position, what stands between, and the words of a step.
+/// Writes the position, what stands between, and the words of a step.
 fn put_step<W: Write>(
     session: &Session,
     writer: &mut Link<W>,
@@ -112,7 +112,7 @@ fn put_step<W: Write>(
     put_line(writer, digits, between, kind_word(kind), tail)
 }
 
-/// At most so many steps, with a line for each, and the reason where there are fewer.
+/// Makes at most so many steps, and writes a line for each, and the reason where there are fewer.
 fn run<W: Write>(session: &mut Session, writer: &mut Link<W>, count: usize) -> Option<()>
     ensures answers { Answers W.contents writer.old writer.new (is_some result)
         (machine_of session.old) (history_of session.old) (commands.Run count)
@@ -130,7 +130,7 @@ fn run<W: Write>(session: &mut Session, writer: &mut Link<W>, count: usize) -> O
     Some(())
 }
 
-/// At most so many undos, with a line for each.
+/// Makes at most so many undos, and writes a line for each.
 fn back<W: Write>(session: &mut Session, writer: &mut Link<W>, count: usize) -> Option<()>
     ensures answers { Answers W.contents writer.old writer.new (is_some result)
         (machine_of session.old) (history_of session.old) (commands.Back count)
@@ -149,7 +149,7 @@ fn back<W: Write>(session: &mut Session, writer: &mut Link<W>, count: usize) -> 
     Some(())
 }
 
-/// Steps or undos to a position.
+/// Goes to a position, by steps or by undos.
 fn to<W: Write>(session: &mut Session, writer: &mut Link<W>, position: usize) -> Option<()>
     ensures answers { Answers W.contents writer.old writer.new (is_some result)
         (machine_of session.old) (history_of session.old) (commands.To position)
@@ -164,7 +164,7 @@ fn to<W: Write>(session: &mut Session, writer: &mut Link<W>, position: usize) ->
     }
 }
 
-/// The position and the mode.
+/// Writes the position and the mode.
 fn put_head<W: Write>(session: &Session, writer: &mut Link<W>) -> Option<()>
     ensures { Sends W.contents writer.old writer.new (is_some result)
         (head_text (history_of session.now)) }
@@ -177,7 +177,7 @@ fn put_head<W: Write>(session: &Session, writer: &mut Link<W>) -> Option<()>
     )
 }
 
-/// A space and a name.
+/// Writes a space and a name.
 fn put_name<W: Write>(session: &Session, writer: &mut Link<W>, symbol: Sym) -> Option<()>
     ensures { Sends W.contents writer.old writer.new (is_some result)
         (codes " " ++ (machine_of session.now).name symbol) }
@@ -185,7 +185,7 @@ fn put_name<W: Write>(session: &Session, writer: &mut Link<W>, symbol: Sym) -> O
     put_all(writer, &[b" ", session.name(symbol)])
 }
 
-/// The symbols of the stack from the bottom.
+/// Writes the symbols of the stack, from the bottom.
 fn put_stack<W: Write>(session: &Session, writer: &mut Link<W>) -> Option<()>
     ensures { Sends W.contents writer.old writer.new (is_some result)
         (stack_text (machine_of session.now) (history_of session.now)) }
@@ -197,7 +197,7 @@ fn put_stack<W: Write>(session: &Session, writer: &mut Link<W>) -> Option<()>
     Some(())
 }
 
-/// The upcoming tokens.
+/// Writes the upcoming tokens.
 fn put_rest<W: Write>(session: &Session, writer: &mut Link<W>) -> Option<()>
     ensures { Sends W.contents writer.old writer.new (is_some result)
         (rest_text (machine_of session.now) (history_of session.now)) }
@@ -210,7 +210,7 @@ fn put_rest<W: Write>(session: &Session, writer: &mut Link<W>) -> Option<()>
     Some(())
 }
 
-/// The recovery counter and the errors reported.
+/// Writes the recovery counter and the errors reported.
 fn put_errors<W: Write>(session: &Session, writer: &mut Link<W>) -> Option<()>
     ensures { Sends W.contents writer.old writer.new (is_some result)
         (errors_text (history_of session.now)) }
@@ -226,7 +226,7 @@ fn put_errors<W: Write>(session: &Session, writer: &mut Link<W>) -> Option<()>
     )
 }
 
-/// The five lines of the configuration now.
+/// Writes the five lines of the configuration now.
 fn put_configuration<W: Write>(session: &Session, writer: &mut Link<W>) -> Option<()>
     ensures { Sends W.contents writer.old writer.new (is_some result)
         (configuration_text (machine_of session.now) (history_of session.now)) }
@@ -238,7 +238,7 @@ fn put_configuration<W: Write>(session: &Session, writer: &mut Link<W>) -> Optio
     put_errors(session, writer)
 }
 
-/// A line for each tree of the stack.
+/// Writes a line for each tree of the stack.
 fn tree<W: Write>(session: &mut Session, writer: &mut Link<W>) -> Option<()>
     requires { has_failed writer.old ≡ false }
     ensures answers { Answers W.contents writer.old writer.new (is_some result)
@@ -251,7 +251,7 @@ fn tree<W: Write>(session: &mut Session, writer: &mut Link<W>) -> Option<()>
     }
 }
 
-/// The forms of an accepted parse without error steps, or why there are none.
+/// Unwinds an accepted parse without error steps, or writes why it can't.
 fn unwind<W: Write>(session: &mut Session, writer: &mut Link<W>) -> Option<()>
     requires { has_failed writer.old ≡ false }
     ensures answers { Answers W.contents writer.old writer.new (is_some result)
@@ -266,7 +266,7 @@ fn unwind<W: Write>(session: &mut Session, writer: &mut Link<W>) -> Option<()>
     }
 }
 
-/// The line of an edit that was made, or why it was not.
+/// Writes the line of an edit that was made, or why it was not.
 fn put_edit<W: Write>(
     session: &Session,
     writer: &mut Link<W>,
@@ -281,7 +281,7 @@ fn put_edit<W: Write>(
     }
 }
 
-/// The token that these bytes spell becomes the first of the upcoming ones.
+/// Inserts the token that these bytes spell, and writes what came of it.
 fn insert<W: Write>(session: &mut Session, writer: &mut Link<W>, bytes: &[u8]) -> Option<()>
     ensures answers { Answers W.contents writer.old writer.new (is_some result)
         (machine_of session.old) (history_of session.old) (commands.Insert bytes.now)
@@ -297,7 +297,7 @@ fn insert<W: Write>(session: &mut Session, writer: &mut Link<W>, bytes: &[u8]) -
     }
 }
 
-/// The first of the upcoming tokens is taken out.
+/// Takes out the first of the upcoming tokens, and writes what came of it.
 fn drop_next<W: Write>(session: &mut Session, writer: &mut Link<W>) -> Option<()>
     ensures answers { Answers W.contents writer.old writer.new (is_some result)
         (machine_of session.old) (history_of session.old) commands.Drop (history_of session.new) }
@@ -307,7 +307,7 @@ fn drop_next<W: Write>(session: &mut Session, writer: &mut Link<W>) -> Option<()
     put_edit(session, writer, made)
 }
 
-/// The reply to a command.
+/// Writes the reply to a command. `None` where the link failed.
 #[tactic(auto, using(crate::proofs::Replying::told_show, crate::proofs::Replying::told_unknown))]
 fn reply<W: Write>(session: &mut Session, command: Command<'_>, writer: &mut Link<W>) -> Option<()>
     requires { has_failed writer.old ≡ false }
@@ -329,7 +329,7 @@ fn reply<W: Write>(session: &mut Session, command: Command<'_>, writer: &mut Lin
     }
 }
 
-/// Answers a command, and flushes the writer.
+/// Answers a command, and flushes the writer. `None` where the link failed.
 pub(crate) fn answer<W: Write>(
     session: &mut Session,
     command: Command<'_>,

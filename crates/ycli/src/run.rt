@@ -1,4 +1,4 @@
-//! A session from bytes to bytes: command lines in, replies out.
+//! A session between links: command lines in, replies out.
 
 ghost use Rattle.std.specs.Prelude.{◌≡◌, ◌<◌, ◌^◌, List, [], ℕ, length, take, ◌||◌, true, false};
 ghost use Rattle.std.specs.Prelude.{is_some, IfSome, if◌then◌else◌};
@@ -23,14 +23,14 @@ const CHUNK: usize = 4096;
 /// Whether a session goes on after lines.
 #[derive(Clone, Copy, Debug)]
 enum Flow {
-    /// Further lines are to be answered.
+    /// Further lines are answered.
     GoesOn,
     /// A line was `quit`.
     Quit,
 }
 
-/// Answers each line that these bytes end, after what is held of the first. `None` is a fault of
-/// the writer.
+/// Answers each line that ends in these bytes; `held` is what came before of the first line.
+/// `None` where the writer failed.
 fn take_chunk<W: Write>(
     session: &mut Session,
     held: &mut LineBuffer,
@@ -92,7 +92,7 @@ fn read_lines<R: Read, W: Write>(
     Ok(Flow::GoesOn)
 }
 
-/// Answers a last line that lacks its newline.
+/// Answers a last line without its newline.
 fn answer_last<W: Write>(
     session: &mut Session,
     held: &LineBuffer,
@@ -143,8 +143,8 @@ fn serve<R: Read, W: Write>(
 
 /// Reads command lines and writes their replies, up to a `quit` or to the end of the input.
 ///
-/// X1 is answered exactly where the reader's link failed, and then the replies of all lines whose
-/// newline was read are written. X2 is answered exactly where the writer's link failed, and then a
+/// X1 is answered exactly where the reader's link failed; then the replies to all lines whose
+/// newline was read are written. X2 is answered exactly where the writer's link failed; then a
 /// beginning of the session's text is written.
 #[tactic(auto, using(crate::proofs::Plain::has_one_text, crate::proofs::Spelled::are_told))]
 pub fn run_session<R: Read, W: Write>(
@@ -152,14 +152,14 @@ pub fn run_session<R: Read, W: Write>(
     reader: &mut Link<R>,
     writer: &mut Link<W>,
 ) -> Result<(), SessionFault>
-    // What is written for an input that the reader tells.
+    // What is written, where the input of the reader is known.
     ensures tells { IfSome (R.remaining (device_of reader.old)) (λ input. length input < 2 ^ 63 →
         Tells (machine_of session) (history_of session) input (R.remaining (device_of reader.new))
         (W.contents (device_of writer.old)) (W.contents (device_of writer.new)) result) }
     // Where no step is refused when memory runs out, the text is a function of the lines.
     ensures plain { (lines : List (List ℕ)) →
         HasOneText (machine_of session) (history_of session) lines }
-    // What a line says is told by how it is spelled.
+    // Each command but the unknown one is known by its spelling.
     ensures told { AreTold }
     // A read fault exactly where the reader's link failed.
     ensures read_fault { has_failed reader.new ≡ failed_read result }

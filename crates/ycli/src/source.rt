@@ -1,4 +1,4 @@
-//! The tables of a grammar: of its bytes, and of what an opener's reader tells.
+//! The tables of a grammar: of its bytes, or of those that an opener's reader has.
 
 ghost use Rattle.std.specs.Prelude.{IfOk, IfErr, ℕ, List};
 ghost use Rattle.yopen.specs.Open.{Tells};
@@ -13,25 +13,25 @@ use yopen::Open;
 use yopen::bytes::first_bytes;
 use ytables::{Tables, resolve};
 
-/// As many bytes of a grammar as decide that it is too long, also where it never ends.
+/// So many bytes of a grammar show that it is too long, even where it never ends.
 const GRAMMAR_BYTES: u64 = LONGEST_FILE as u64 + 1;
 
 /// Why there are no tables of a grammar.
 #[derive(Debug, Drop, Error)]
 pub enum SourceFault {
-    /// Its text can't be opened or read.
+    /// The grammar can't be opened or read.
     #[error("cannot read the grammar")]
     Unread,
-    /// A growth was refused while its text was opened or read.
+    /// Memory ran out while the grammar was opened or read.
     #[error("no memory")]
     NoRoom,
-    /// The text is refused.
+    /// The grammar is refused.
     #[error("{0}")]
     Grammar(GrammarFault),
-    /// There are more than 16,384 item sets, or a growth was refused.
+    /// There are more than 16,384 item sets, or memory ran out for them.
     #[error("{0}")]
     Build(BuildFault),
-    /// A growth was refused for the tables.
+    /// Memory ran out for the tables.
     #[error("no memory")]
     Tables,
 }
@@ -56,7 +56,7 @@ pub(crate) fn tables_over(alloc: Global, source: &[u8]) -> Result<Tables, Source
     }
 }
 
-/// The tables of the grammar that an opener's reader tells.
+/// The tables of the grammar that an opener's reader has.
 pub(crate) fn tables_from<G: Open>(alloc: Global, grammar: &mut G) -> Result<Tables, SourceFault>
 where
     G::Device: Read,

@@ -1,4 +1,4 @@
-//! The stepper from bytes to bytes: a grammar, tokens and command lines in, replies out.
+//! The stepper between openers and links: a grammar, tokens and command lines in, replies out.
 
 ghost use Rattle.std.specs.Prelude.{IfOk, IfErr, ◌≡◌, ℕ, List, Ok};
 ghost use Rattle.yopen.specs.Open.{Tells};
@@ -26,13 +26,13 @@ pub enum StepperFault {
     /// There are no tables of the grammar.
     #[error("{0}")]
     Source(SourceFault),
-    /// The text of the tokens can't be opened or read.
+    /// The tokens can't be opened or read.
     #[error("cannot read the tokens")]
     Unread,
-    /// A growth was refused while the text of the tokens was opened or read.
+    /// Memory ran out while the tokens were opened or read.
     #[error("no memory")]
     NoRoom,
-    /// The text of the tokens is refused.
+    /// The tokens are refused.
     #[error("{0}")]
     Tokens(TokenFault),
     /// A link failed.
@@ -40,7 +40,7 @@ pub enum StepperFault {
     Session(SessionFault),
 }
 
-/// The tokens that an opener's reader tells.
+/// The tokens that an opener's reader has.
 fn tokens_from<T: Open>(
     alloc: Global,
     tables: &Tables,
@@ -67,8 +67,8 @@ where
     }
 }
 
-/// A session at its start, over a grammar and tokens. The tokens are opened only once the tables
-/// stand.
+/// A session at its start, over a grammar and tokens. The tokens are opened only once there are
+/// tables.
 fn session_from<G: Open, T: Open>(
     alloc: Global,
     grammar: &mut G,
@@ -103,8 +103,8 @@ where
 /// What is written is a text of the machine of the merged canonical LR(1) items of that grammar,
 /// which keeps all its past configurations; the forms of what it accepts without error steps are a
 /// rightmost derivation of those tokens. A fault of a link is answered exactly where that link
-/// failed. With any other fault nothing was read from or written to a link. The tokens are opened
-/// only where there are tables of the grammar.
+/// failed. With any other fault nothing was read from a link or written to one. The tokens are
+/// opened only where there are tables of the grammar.
 pub fn step_through<G: Open, T: Open, R: Read, W: Write>(
     alloc: Global,
     grammar: &mut G,

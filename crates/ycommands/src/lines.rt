@@ -5,12 +5,12 @@ use std::io::{self, BufRead, BufReader, Read};
 /// The longest line, with its newline.
 pub const LONGEST: usize = 4_096;
 
-/// What came of a reader.
+/// What reading a line came to.
 #[derive(Clone, Copy, PartialEq, Eq)]
 pub enum Came {
     /// A line.
     Line,
-    /// A line that is too long; it was passed over.
+    /// A line that is too long; it was skipped.
     Long,
     /// The end.
     End,

@@ -27,7 +27,7 @@ impl fmt::Display for Grouped {
 /// Why a command isn't obeyed. Nothing is changed then.
 #[derive(Clone, Copy, Debug, Error)]
 pub enum Refusal {
-    /// The words behind the command are not its own.
+    /// The words behind the command are not those that it takes.
     #[error("Usage: {0}")]
     Usage(&'static str),
     /// A number is out of range.
@@ -63,7 +63,7 @@ pub enum Refusal {
     /// A condition needs a name or a number.
     #[error("That condition needs a name or a number; help run lists them.")]
     Unfinished,
-    /// A growth was refused.
+    /// Memory ran out.
     #[error("There is no memory for that; the parse is as it was.")]
     Memory,
 }
@@ -74,7 +74,7 @@ impl From<AllocError> for Refusal {
     }
 }
 
-/// The words behind a command are not its own.
+/// The words behind a command are not those that it takes.
 pub fn misused(verb: Verb) -> Refusal {
     Refusal::Usage(verb.usage())
 }

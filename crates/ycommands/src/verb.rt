@@ -3,29 +3,53 @@
 /// A command.
 #[derive(Clone, Copy, PartialEq, Eq)]
 pub enum Verb {
+    /// One step forward, or more.
     Step,
+    /// One step back, or more, or to where a condition holds.
     Back,
+    /// To a position.
     To,
+    /// To the end, or to where a condition holds.
     Run,
+    /// Where the parse stands.
     Where,
+    /// The entries of the stack.
     Stack,
+    /// The upcoming tokens.
     Upcoming,
+    /// A state with its items, actions and gotos.
     State,
+    /// The tokens that can come.
     Expected,
+    /// Why a cell says what it says.
     Why,
+    /// A rule.
     Rule,
+    /// A symbol.
     Symbol,
+    /// All rules.
     Grammar,
+    /// The trees of the stack.
     Tree,
+    /// The rightmost derivation up to here.
     Derivation,
+    /// The last steps and edits.
     History,
+    /// Puts a token before the upcoming ones.
     Insert,
+    /// Takes out the first of the upcoming tokens.
     Drop,
+    /// Writes the input with its edits to a new file.
     Save,
+    /// Writes the input with its edits over a file.
     SaveOver,
+    /// The conflicts of the grammar.
     Conflicts,
+    /// Reads both files again.
     Reload,
+    /// The commands, or more on one of them.
     Help,
+    /// Ends the session.
     Quit,
 }
 

@@ -34,7 +34,8 @@ pub enum Found<T> {
     Nothing,
 }
 
-/// Whether a word can stand for a name that it begins: one with a sign at its end is written whole.
+/// Whether a word can stand for a name that it begins: one with a sign at its end is written
+/// whole.
 pub fn begins(name: &str, word: &str) -> bool {
     name.starts_with(word) && !name.ends_with('!')
 }
@@ -80,7 +81,7 @@ impl<'a> Nearest<'a> {
             }
     }
 
-    /// Looks at one more word; one that is too long is passed over.
+    /// Looks at one more word; one that is too long is skipped.
     pub fn offer(&mut self, alloc: Global, name: &'a str) -> Result<(), AllocError> {
         if self.word.len() > LONGEST || name.len() > LONGEST {
             return Ok(());

@@ -21,8 +21,8 @@ const FACTOR: u64 = 0xd129_0d3a_7c6b_2f85;
 /// The most symbols that are taken while a sentence is written out.
 const MOST_TAKEN: usize = 100_000;
 
-/// The length of the shortest sentence of each symbol, at most 1,000,000,000,000, its digest, and the
-/// rule with which that of a nonterminal begins.
+/// The length of the shortest sentence of each symbol, at most 1,000,000,000,000, its digest, and
+/// the rule with which that of a nonterminal begins.
 #[derive(Drop)]
 pub struct Shortest {
     lengths: Vec<Option<u64>>,
@@ -30,8 +30,8 @@ pub struct Shortest {
     rules: Vec<usize>,
 }
 
-/// A number by which lists of tokens are told apart, and what it is multiplied by where the list
-/// stands before another: two lists of one digest are very likely the same.
+/// A number for a list of tokens, and what it is multiplied by where the list stands before
+/// another: two lists with the same digest are very likely the same.
 #[derive(Clone, Copy, Drop, PartialEq, Eq, Hash)]
 pub struct Digest {
     sum: u64,
@@ -90,7 +90,7 @@ struct Part {
     length: u64,
 }
 
-/// Lengths in the making.
+/// Lengths that are being found.
 #[derive(Drop)]
 struct Making {
     parts: Vec<Part>,

@@ -8,19 +8,20 @@ use ylalr::{Automaton, Item, token_count};
 use ysymbols::Sym;
 use ytables::{Action, Tables};
 
-/// The most rivals by which kinds are told apart and which are shown.
+/// The most rivals that are shown; kinds are compared by these.
 pub const MOST_RIVALS: usize = 10;
 
 /// An odd number that mixes those of items.
 const SPREAD: u64 = 0x9e37_79b9_7f4a_7c15;
 
-/// The most kinds that are told apart.
+/// The most kinds that are kept apart.
 const MOST_KINDS: usize = 20_000;
 
 /// A kind of conflict: its token, the items that could shift it, by a number made of them, whether
 /// that is done, and the rules that don't lose to it, by their number and the first of them.
 #[derive(Clone, Copy, Drop, PartialEq, Eq, Hash)]
 pub struct Kind {
+    /// The token.
     pub token: Sym,
     shifted: u64,
     /// Whether the shift is taken.
@@ -33,14 +34,18 @@ pub struct Kind {
 /// The cells of one kind: the first state, how many states there are, and the last of them.
 #[derive(Clone, Copy, Drop)]
 pub struct Group {
+    /// The first state that has it.
     pub state: usize,
+    /// How many states have it.
     pub states: usize,
+    /// The last state that has it.
     pub last: usize,
 }
 
 /// All conflicts of tables.
 #[derive(Drop)]
 pub struct Conflicts {
+    /// The cells of each kind, in the order of the first states.
     pub groups: IndexMap<Kind, Group>,
     /// How many cells have a conflict.
     pub cells: usize,
@@ -109,7 +114,7 @@ fn first_rules(
     rules
 }
 
-/// A number made of the items that could shift a token; 0 where there is none.
+/// A number made of the items that could shift a token; 0 without such items.
 fn shifted(automaton: &Automaton, state: usize, token: Sym) -> u64 {
     let mut number: u64 = 0;
     for item in items_of(automaton, state) {

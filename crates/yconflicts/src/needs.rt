@@ -149,8 +149,8 @@ impl Needs {
         Ok(false)
     }
 
-    /// What has to hold in a state, so that this item of it has the token as its lookahead: any one
-    /// of these.
+    /// What has to hold in a state, so that this item of it has the token as its lookahead: any
+    /// one of these.
     pub fn of(
         &mut self,
         alloc: Global,

@@ -30,17 +30,24 @@ const ALL_FOR_SEVERAL: usize = 1_000_000;
 /// A cell, and the rules that are all to be possible there; one that is left out is no condition.
 #[derive(Clone, Copy, Drop)]
 pub struct Target {
+    /// The state.
     pub state: usize,
+    /// The token.
     pub token: Sym,
+    /// A rule that has to be possible.
     pub first: Option<usize>,
+    /// Another rule that has to be possible.
     pub second: Option<usize>,
 }
 
-/// What a search comes to: a way by its symbols, that there is none, or that it took too long.
+/// What a search comes to.
 #[derive(Drop)]
 pub enum Found {
+    /// The symbols of a shortest way, from the first state on.
     Way(Vec<Sym>),
+    /// There is no way.
     Nothing,
+    /// The search took too long.
     Late,
 }
 
@@ -101,7 +108,7 @@ pub struct Finder {
     left_for_several: usize,
 }
 
-/// How many spots a search may meet: a part of those that are left.
+/// How many spots a search may meet: a part of those that may still be met.
 fn allowance(left: usize, most: usize) -> usize {
     (left / 8).min(most).max(LEAST_SPOTS)
 }
@@ -347,8 +354,8 @@ impl Finder {
         Ok(stretch)
     }
 
-    /// Goes on from a spot: to what has to hold there for items with their dot at 0, or else to the
-    /// states before it.
+    /// Goes on from a spot: to what has to hold there for items with their dot at 0, or else to
+    /// the states before it.
     fn leave(
         &mut self,
         automaton: &Automaton,

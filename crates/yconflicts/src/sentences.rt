@@ -68,8 +68,8 @@ impl Sentences {
         Ok(())
     }
 
-    /// Takes the form of the shortest sentence: itself, where it is one; else the forms of its first
-    /// nonterminal's rules are taken in.
+    /// Takes the form of the shortest sentence: itself, where it is one; else the forms of its
+    /// first nonterminal's rules are taken in.
     pub fn take(
         &mut self,
         alloc: Global,

@@ -1,7 +1,7 @@
 //! `ydebug grammar tokens`: a debugger of parses for people. `ydebug conflicts grammar` explains
 //! the conflicts of a grammar, `ydebug check grammar tokens..` says what its sentences are, and
-//! `ydebug page grammar tokens` makes a page of a parse. `ydebug import file` makes a file of bison
-//! one that `yacc` reads.
+//! `ydebug page grammar tokens` makes a page of a parse. `ydebug import file` makes a grammar file
+//! that `yacc` reads out of one for bison.
 #![tactic(auto)]
 
 use clap::error::ErrorKind;
@@ -23,7 +23,7 @@ const FORMS: &str = "Other forms:\n\
     \x20 ydebug check grammar tokens.. [--choice]\n\
     \x20 ydebug page grammar tokens [-o FILE] [--from K] [--to K] [--conflicts]\n\
     \x20 ydebug import file [-o grammar]";
-/// What is said of words that are none of the program's.
+/// What is written where the words are not those of the program.
 const USAGE: &[u8] = b"usage: ydebug grammar tokens\n\
     \x20      ydebug conflicts grammar [--save FOLDER] [--strict]\n\
     \x20      ydebug check grammar tokens.. [--choice]\n\
@@ -31,13 +31,13 @@ const USAGE: &[u8] = b"usage: ydebug grammar tokens\n\
     \x20      ydebug import file [-o grammar]\n";
 
 /// Why nothing was done.
-#[derive(Debug, Drop)]
+#[derive(Drop)]
 enum Refused {
     /// The words are not those of the program.
     Words,
     /// Help was asked for.
     Help(String),
-    /// There is no memory.
+    /// Memory ran out.
     Memory,
     /// The standard streams fail.
     Outside,

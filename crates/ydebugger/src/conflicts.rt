@@ -1,4 +1,4 @@
-//! The conflicts of the tables by which a parse goes.
+//! The conflicts of the tables of a parse.
 
 use crate::parse::Parse;
 use std::alloc::Global;

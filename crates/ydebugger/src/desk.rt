@@ -29,9 +29,13 @@ use yshow::{Page, Paint};
 /// Where a session takes place: its files, and whether a person sits at a terminal.
 #[derive(Clone, Copy)]
 pub struct Setting<'a> {
+    /// The path of the grammar file.
     pub grammar: &'a str,
+    /// The path of the tokens file.
     pub tokens: &'a str,
+    /// Whether standard input and output are a terminal.
     pub terminal: bool,
+    /// Whether to write in colour.
     pub colour: bool,
 }
 
@@ -363,7 +367,7 @@ fn serve_all<F: Files + AllocGlobal, R: Read + Drop, W: Write>(
 /// A session over a parse: command lines from the reader, what they show to the writer, up to
 /// `quit` or the end of the input.
 ///
-/// An error is that of the reader or of the writer, or want of memory before the first line.
+/// An error is that of the reader or of the writer, or memory ran out before the first line.
 pub fn debug<F: Files + AllocGlobal, R: Read + Drop, W: Write + Drop>(
     rt: &F,
     setting: Setting<'_>,

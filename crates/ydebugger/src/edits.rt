@@ -12,7 +12,7 @@ use yparse::machine::{StepFault, StepKind};
 use yshow::page::Page;
 use yshow::step_line::{StepLine, put_made};
 
-/// Tells an edit, or why it wasn't made.
+/// Writes an edit, or why it wasn't made.
 fn put_edit<W: Write>(
     page: &mut Page<W>,
     parse: &Parse,
@@ -39,13 +39,13 @@ pub fn insert<W: Write>(
     }
 }
 
-/// Takes the first of the upcoming tokens out.
+/// Takes out the first of the upcoming tokens.
 pub fn drop_next<W: Write>(parse: &mut Parse, page: &mut Page<W>) -> io::Result<()> {
     let made = parse.drop_next();
     put_edit(page, parse, made)
 }
 
-/// The tokens as they stand, as the text of a tokens file.
+/// The whole input with its edits, as the text of a tokens file.
 fn text_of(alloc: Global, parse: &Parse) -> io::Result<Vec<u8>> {
     let mut page = Page::new(Vec::new(alloc), false);
     put_tokens(&mut page, parse)?;
@@ -74,7 +74,7 @@ fn save_tokens<F: Files + AllocGlobal>(
     save_to(rt, &text, path, over)
 }
 
-/// Writes the tokens as they stand to a file, and says so, or why not.
+/// Writes the whole input with its edits to a file, and says so, or why not.
 pub fn save<F: Files + AllocGlobal, W: Write>(
     rt: &F,
     parse: &Parse,

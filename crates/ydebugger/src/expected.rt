@@ -31,7 +31,7 @@ fn put_names<W: Write>(page: &mut Page<W>, grammar: &Grammar, tokens: &[Sym]) ->
     page.end()
 }
 
-/// The tokens that can come, and those of which that can't be told.
+/// The tokens that can come, and those that take too many reductions to say.
 fn put_found<W: Write>(page: &mut Page<W>, grammar: &Grammar, found: &Wanted) -> io::Result<()> {
     if !found.can.is_empty() {
         put_names(page, grammar, &found.can)?;

@@ -1,4 +1,4 @@
-//! The last steps and edits of a parse, and the tokens as they stand.
+//! The last steps and edits of a parse, and its whole input with the edits.
 
 use crate::parse::Parse;
 use std::io::{self, Write};
@@ -74,7 +74,7 @@ fn put_read<W: Write>(page: &mut Page<W>, parse: &Parse) -> io::Result<()> {
     Ok(())
 }
 
-/// The tokens as they stand, in the form of a tokens file.
+/// The whole input with its edits, in the form of a tokens file.
 pub fn put_tokens<W: Write>(page: &mut Page<W>, parse: &Parse) -> io::Result<()> {
     let grammar = grammar_of(parse.tables());
     put_read(page, parse)?;

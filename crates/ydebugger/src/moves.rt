@@ -14,7 +14,7 @@ use yshow::step_line::{StepLine, put_made};
 pub const LAST: usize = 1_000_000;
 /// More steps than can be made.
 const FARTHEST: usize = LAST + 1;
-/// After how many steps a long run tells its position.
+/// After how many steps a long run writes its position.
 const PROGRESS: usize = 50_000;
 
 /// A move.
@@ -47,7 +47,7 @@ enum End {
     AtStart,
 }
 
-/// How the steps of a move are told: each at once, or the last ones behind it.
+/// How the steps of a move are written: each at once, or the last ones at its end.
 #[derive(Drop)]
 struct Telling {
     each: bool,
@@ -57,7 +57,7 @@ struct Telling {
 }
 
 impl Telling {
-    /// Nothing was told yet.
+    /// Nothing was written yet.
     fn new(alloc: Global, each: bool, progress: bool) -> Result<Telling, AllocError> {
         Ok(Telling {
             each,
@@ -67,7 +67,7 @@ impl Telling {
         })
     }
 
-    /// Tells what was just done or undone, or keeps it to be told.
+    /// Writes what was just done or undone, or keeps it for the end.
     fn tell<W: Write>(
         &mut self,
         page: &mut Page<W>,
@@ -89,7 +89,7 @@ impl Telling {
         Ok(())
     }
 
-    /// Tells what was kept.
+    /// Writes what was kept.
     fn finish<W: Write>(&self, page: &mut Page<W>, parse: &Parse) -> io::Result<()> {
         if self.progress && self.made >= PROGRESS {
             page.passing("        ")?;
@@ -236,7 +236,7 @@ fn is_to(wanted: Move) -> bool {
     matches!(wanted, Move::To(_))
 }
 
-/// Whether each step of a move is told.
+/// Whether each step of a move is written.
 fn tells_each(wanted: Move) -> bool {
     matches!(wanted, Move::Step(_) | Move::Back(_))
 }

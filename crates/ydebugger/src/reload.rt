@@ -69,7 +69,7 @@ fn put_reached<W: Write>(
     }
 }
 
-/// Whether a step or an edit was refused for want of memory.
+/// Whether a step or an edit was refused since memory ran out.
 fn is_memory(reached: Result<(), Stopped>) -> bool {
     match reached {
         Err(Stopped::Fault(fault)) => fault == StepFault::Memory,

@@ -10,8 +10,8 @@ use yfaults::opening::{Opened, open_grammar, put_near_token, put_token_fault, pu
 use yparse::{Session, TokenFault, read_tokens};
 use ytables::Tables;
 
-/// Writes why a tokens file of these bytes is refused, and which token could be meant, and gives the
-/// exit status.
+/// Writes why a tokens file of these bytes is refused, and which token could be meant, and gives
+/// the exit status.
 fn refuse_tokens<E: Write>(
     alloc: Global,
     errors: &mut E,
@@ -29,8 +29,8 @@ fn refuse_tokens<E: Write>(
     Ok(1)
 }
 
-/// A parse of the tokens that the bytes mean. Where they are refused, that is written, and the exit
-/// status is the answer.
+/// A parse of the tokens that the bytes mean. Where they are refused, that is written, and the
+/// exit status is the answer.
 fn parse_over<E: Write>(
     alloc: Global,
     opened: Opened,
@@ -49,8 +49,8 @@ fn parse_over<E: Write>(
     }
 }
 
-/// A parse of a tokens file by a grammar that is open. Where the file is refused, that is written, and
-/// the exit status is the answer.
+/// A parse of a tokens file by a grammar that is open. Where the file is refused, that is written,
+/// and the exit status is the answer.
 fn parse_file<F: Files + AllocGlobal, E: Write>(
     rt: &F,
     opened: Opened,
@@ -63,10 +63,10 @@ fn parse_file<F: Files + AllocGlobal, E: Write>(
     }
 }
 
-/// A parse at its start, of a tokens file by a grammar file; the tokens file is read where the tables
-/// of the grammar stand. Where one is refused, that is written, and the exit status is the answer: 1
-/// for a fault of a file, 3 where memory runs out, for too many states, and for a file that can't be
-/// read.
+/// A parse at its start, of a tokens file by a grammar file; the tokens file is read once there
+/// are tables of the grammar. Where one is refused, that is written, and the exit status is the
+/// answer: 1 for a fault of a file, 3 where memory runs out, for too many states, and for a file
+/// that can't be read.
 pub fn parse_of<F: Files + AllocGlobal, E: Write>(
     rt: &F,
     grammar: &str,

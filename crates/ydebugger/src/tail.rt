@@ -34,7 +34,7 @@ impl Tail {
         let _ = self.lines.push(line);
     }
 
-    /// Writes the lines, two dots first where some are left out.
+    /// Writes the lines, with two dots first where some are left out.
     pub fn put<W: Write>(&self, page: &mut Page<W>, session: &Session) -> io::Result<()> {
         if self.left_out > 0 {
             page.line("   ..")?;

@@ -41,7 +41,7 @@ pub fn show_state<W: Write>(parse: &Parse, page: &mut Page<W>, text: &str) -> io
     }
 }
 
-/// Why the parse doesn't go by the cell, where it doesn't.
+/// Why the cell doesn't say the next step, where it doesn't.
 fn put_mode<W: Write>(page: &mut Page<W>, mode: Mode) -> io::Result<()> {
     match mode {
         Mode::Running => Ok(()),

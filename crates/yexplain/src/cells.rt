@@ -7,7 +7,7 @@ use ysymbols::{Associativity, Grammar, Precedence, Sym};
 use ytables::{Action, Tables};
 
 /// How a rule stands against the shift of a token.
-#[derive(Clone, Copy, Debug, Drop, PartialEq, Eq)]
+#[derive(Clone, Copy, Drop, PartialEq, Eq)]
 pub enum Standing {
     /// The rule binds tighter.
     Higher,
@@ -15,11 +15,11 @@ pub enum Standing {
     Lower,
     /// They have one level, of this kind.
     Level(Associativity),
-    /// The rule has a precedence, the token none.
+    /// The rule has a precedence, the token has none.
     NoToken,
-    /// The token has a precedence, the rule none.
+    /// The token has a precedence, the rule has none.
     NoRule,
-    /// Both have none.
+    /// Neither has a precedence.
     Neither,
 }
 
@@ -72,13 +72,13 @@ pub fn standing_of(grammar: &Grammar, rule: usize, token: Sym) -> Standing {
 }
 
 /// What settled a cell.
-#[derive(Clone, Copy, Debug, Drop, PartialEq, Eq)]
+#[derive(Clone, Copy, Drop, PartialEq, Eq)]
 pub enum Case {
-    /// There is no candidate.
+    /// The cell has no candidate.
     Empty,
-    /// The shift is the one candidate.
+    /// The shift is the only candidate.
     Shift,
-    /// This rule is the one candidate.
+    /// This rule is the only candidate.
     Reduce(usize),
     /// The shift and this rule have one level that is nonassociative.
     Banned(usize),
@@ -93,7 +93,7 @@ pub enum Case {
 }
 
 /// The candidates of a cell, counted.
-#[derive(Clone, Copy, Debug, Drop, PartialEq, Eq)]
+#[derive(Clone, Copy, Drop, PartialEq, Eq)]
 pub struct Survey {
     /// Whether an item has its dot before the token.
     pub shifts: bool,
@@ -101,11 +101,13 @@ pub struct Survey {
     pub rules: usize,
     /// How many of them stand open against the shift.
     pub open: usize,
-    /// How many of them don't lose to it, and the least of these.
+    /// How many of them don't lose to it.
     pub kept: usize,
+    /// The least of the rules that don't lose.
     pub least: Option<usize>,
-    /// One that beats the shift, and one that forbids it.
+    /// A rule that beats the shift.
     pub winner: Option<usize>,
+    /// A rule that forbids the shift.
     pub banning: Option<usize>,
 }
 

@@ -10,17 +10,20 @@ use ysymbols::{Grammar, Sym};
 use ysyntax::fault::GrammarFault;
 
 /// A symbol that a line names.
-#[derive(Clone, Copy, Debug, Drop, PartialEq, Eq)]
+#[derive(Clone, Copy, Drop, PartialEq, Eq)]
 pub struct Mention {
+    /// The symbol.
     pub symbol: Sym,
+    /// The line, counted from 1.
     pub line: usize,
     /// How many bytes stand before the name.
     pub at: usize,
+    /// How the line names it.
     pub how: How,
 }
 
 /// A rule of the file: its line, how many actions stand before it, and what its `%prec` names.
-#[derive(Clone, Copy, Debug, Drop)]
+#[derive(Clone, Copy, Drop)]
 struct Start {
     line: usize,
     actions: usize,
@@ -28,7 +31,7 @@ struct Start {
 }
 
 /// A rule of the grammar: the line on which it begins, and what its `%prec` names.
-#[derive(Clone, Copy, Debug, Drop)]
+#[derive(Clone, Copy, Drop)]
 struct Begun {
     line: Option<usize>,
     prec: Option<Sym>,
@@ -169,7 +172,7 @@ fn places_of(alloc: Global, grammar: &Grammar, roles: &[Role<'_>]) -> Result<Pla
 
 impl Lines {
     /// Where the rules and symbols of a grammar stand in the file that it was read from. The fault
-    /// is that of the file, where it is none of this grammar's, or want of memory.
+    /// is that of the file, where the file isn't that of this grammar, or memory ran out.
     pub fn new(alloc: Global, source: &[u8], grammar: &Grammar) -> Result<Lines, GrammarFault> {
         let roles = roles_of(alloc, source)?;
         let places = places_of(alloc, grammar, &roles)?;
@@ -180,8 +183,8 @@ impl Lines {
         Ok(Lines { rules, mentions })
     }
 
-    /// The line on which a rule begins: that of its name or its bar, or of its action where it is
-    /// the rule of an inner one. None for rule 0 and for a number that is no rule.
+    /// The line on which a rule begins, counted from 1: that of its name or its bar, or of its
+    /// action where it is the rule of an inner one. `None` for rule 0 and for a number of no rule.
     pub fn rule(&self, number: usize) -> Option<usize> {
         self.rules.get(number).and_then(|rule| rule.line)
     }

@@ -18,7 +18,7 @@ pub fn name_of(grammar: &Grammar, symbol: Sym) -> &[u8] {
     }
 }
 
-/// The rule of a number, where it is one.
+/// The rule of a number, or `None` for a number of no rule.
 pub fn rule_of(grammar: &Grammar, number: usize) -> Option<&Rule> {
     if number < grammar.rules() {
         Some(grammar.rule(number))
@@ -35,12 +35,12 @@ pub fn body_of(grammar: &Grammar, number: usize) -> &[Sym] {
     }
 }
 
-/// The left side of a rule, where the number is one.
+/// The left side of a rule, or `None` for a number of no rule.
 pub fn left_of(grammar: &Grammar, number: usize) -> Option<Sym> {
     rule_of(grammar, number).map(|rule| rule.left())
 }
 
-/// The precedence of a token. The end has none.
+/// The precedence of a token, where it has one; the end never has.
 pub fn level_of(grammar: &Grammar, token: Sym) -> Option<Precedence> {
     if token != END && token < grammar.symbols() {
         grammar.precedence(token)
@@ -54,7 +54,7 @@ pub fn is_reachable(grammar: &Grammar, symbol: Sym) -> bool {
     symbol < grammar.symbols() && grammar.reachable(symbol)
 }
 
-/// The items of a state; none for a number that is no state.
+/// The items of a state; empty for a number of no state.
 pub fn items_of(automaton: &Automaton, state: usize) -> &[Item] {
     if state < automaton.states() {
         automaton.items(state)
@@ -70,7 +70,7 @@ pub fn has_item(automaton: &Automaton, state: usize, item: Item) -> bool {
         .is_ok()
 }
 
-/// The symbol after the dot of an item.
+/// The symbol after the dot of an item, or `None` at the end of the body.
 pub fn next_of(grammar: &Grammar, item: Item) -> Option<Sym> {
     body_of(grammar, item.rule).get(item.dot).copied()
 }
@@ -80,7 +80,7 @@ pub fn is_complete(grammar: &Grammar, item: Item) -> bool {
     item.rule != 0 && next_of(grammar, item).is_none()
 }
 
-/// Where a symbol leads from a state.
+/// The state to which a symbol leads from a state, or `None` where it leads nowhere.
 pub fn goto_of(automaton: &Automaton, state: usize, symbol: Sym) -> Option<usize> {
     if state < automaton.states() && symbol < automaton.grammar().symbols() {
         automaton.goto(state, symbol)
@@ -107,7 +107,7 @@ pub fn begins_with(automaton: &Automaton, symbol: Sym, token: Sym) -> bool {
     symbol < symbols && token < symbols && automaton.in_first(symbol, token)
 }
 
-/// What is done in a state at a token; an error for numbers that are none.
+/// What is done in a state at a token; an error for a number of no state or no token.
 pub fn action_of(tables: &Tables, state: usize, token: Sym) -> Action {
     let automaton = tables.automaton();
     if state < automaton.states() && automaton.grammar().is_token(token) {
@@ -117,7 +117,7 @@ pub fn action_of(tables: &Tables, state: usize, token: Sym) -> Action {
     }
 }
 
-/// The rule by which a state reduces at every token, where there is one.
+/// The rule that a state reduces by at every token, where the state has a default rule.
 pub fn default_of(tables: &Tables, state: usize) -> Option<usize> {
     if state < tables.automaton().states() {
         tables.default_rule(state)

@@ -11,7 +11,7 @@ struct Told {
     words: &'static str,
 }
 
-/// What the syntax knows, in the order in which it is told.
+/// What the syntax knows, in the order in which it is listed.
 static KINDS: [Told; 19] = [
     Told {
         kind: Kind::Mark,

@@ -1,4 +1,4 @@
-//! The nearest of some names to one that is none of them, for a slip in spelling.
+//! The nearest of some names to another name, for a slip in spelling.
 
 use std::alloc::{AllocError, Global};
 use std::str;
@@ -24,7 +24,7 @@ fn unquoted(name: &[u8]) -> &[u8] {
     }
 }
 
-/// How many edits lead from one name to another; none, where they differ in case or quotes alone.
+/// How many edits lead from one name to another; 0 where they differ only in case or quotes.
 fn edits_between(alloc: Global, wanted: &[u8], name: &[u8]) -> Result<usize, AllocError> {
     if unquoted(wanted).eq_ignore_ascii_case(unquoted(name)) {
         return Ok(0);
@@ -39,7 +39,7 @@ fn edits_between(alloc: Global, wanted: &[u8], name: &[u8]) -> Result<usize, All
 }
 
 impl<'a> Search<'a> {
-    /// A search for a name to which at most an edit leads for every third byte of the wanted one.
+    /// A search for a name at most one edit away for each three bytes of the wanted name.
     pub fn new(wanted: &'a [u8]) -> Search<'a> {
         Search {
             wanted,

@@ -15,13 +15,15 @@ use ytables::{Tables, resolve};
 use ytokens::token_words::{Front, front_of};
 use ytokens::tokens::TokenFault;
 
-/// As many bytes of a grammar file as decide that it is too long.
+/// So many bytes of a grammar file show that it is too long.
 const GRAMMAR_BYTES: u64 = LONGEST_FILE as u64 + 1;
 
 /// The tables of a grammar file, and where things stand in it.
 #[derive(Drop)]
 pub struct Opened {
+    /// The tables.
     pub tables: Tables,
+    /// Where rules and symbols stand in the file.
     pub lines: Lines,
 }
 
@@ -30,7 +32,7 @@ pub struct Opened {
 pub enum Trouble {
     /// It can't be read.
     Unread,
-    /// Memory was refused.
+    /// Memory ran out.
     Memory,
     /// It has a fault.
     Grammar(GrammarFault),
@@ -39,8 +41,8 @@ pub enum Trouble {
 }
 
 impl Trouble {
-    /// The exit status of a run that ends by it: 1 for a fault of the file, 3 for want of memory,
-    /// too many states and what comes from outside.
+    /// The exit status of a run that ends with it: 1 for a fault of the file; 3 where memory runs
+    /// out, a file can't be read, or there are too many states.
     pub fn status(&self) -> u8 {
         match self {
             Trouble::Grammar(GrammarFault::Memory) => 3,
@@ -154,8 +156,8 @@ fn near_token<'a>(
     }
 }
 
-/// Asks whether another token was meant, where a tokens file has a name that the grammar hasn't. Where
-/// memory is refused to that search, the error says so.
+/// Asks whether another token was meant, where a tokens file has a name that the grammar hasn't.
+/// Where memory runs out in that search, the error says so.
 pub fn put_near_token<W: Write>(
     out: &mut W,
     alloc: Global,

@@ -13,8 +13,11 @@ const MOST_BEHIND: usize = 100;
 /// A place of a file: the file's path, its bytes, and how many of them stand before the place.
 #[derive(Clone, Copy)]
 pub struct Place<'a> {
+    /// The path of the file, as it is written.
     pub path: &'a str,
+    /// The bytes of the file.
     pub source: &'a [u8],
+    /// How many bytes stand before the place.
     pub at: usize,
 }
 

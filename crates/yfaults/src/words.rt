@@ -6,8 +6,11 @@ use ytokens::tokens::TokenFault;
 /// What a code says.
 #[derive(Clone, Copy)]
 pub struct Words {
+    /// The code, as `G7`.
     pub code: &'static str,
+    /// What is wrong.
     pub what: &'static str,
+    /// How to mend it.
     pub mend: &'static str,
 }
 

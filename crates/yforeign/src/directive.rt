@@ -1,26 +1,44 @@
 //! The directives of bison and byacc.
 
 use crate::lexeme::Kind;
+use crate::runs::word_length;
 
 /// A directive, by what is done with it.
-#[derive(Clone, Copy, Debug, Drop, PartialEq, Eq)]
+#[derive(Clone, Copy, Drop, PartialEq, Eq)]
 pub enum Directive {
+    /// `%token`.
     Token,
+    /// `%term`, another word for `%token`.
     Term,
+    /// `%left`.
     Left,
+    /// `%right`.
     Right,
+    /// `%nonassoc`.
     Nonassoc,
+    /// `%binary`, another word for `%nonassoc`.
     Binary,
+    /// `%precedence`: a level without a direction.
     Precedence,
+    /// `%type`.
     Type,
+    /// `%nterm`.
     Nterm,
+    /// `%start`.
     Start,
+    /// `%union`.
     Union,
+    /// `%prec`.
     Prec,
+    /// `%empty`.
     Empty,
+    /// `%expect`: how many shift/reduce conflicts there should be.
     Expect,
+    /// `%expect-rr`: how many reduce/reduce conflicts there should be.
     ExpectReduce,
+    /// `%define`.
     Define,
+    /// `%skeleton`.
     Skeleton,
     /// Taken out.
     Aside(Shape),
@@ -28,17 +46,22 @@ pub enum Directive {
     OtherParser,
     /// Refused: rules without a precedence.
     NoDefault,
-    /// None that is known.
+    /// Any other word.
     Unknown,
 }
 
 /// What may stand behind a directive that is taken out.
-#[derive(Clone, Copy, Debug, Drop, PartialEq, Eq)]
+#[derive(Clone, Copy, Drop, PartialEq, Eq)]
 pub enum Shape {
+    /// Nothing.
     Alone,
+    /// Strings, and `=` before them.
     Text,
+    /// Texts in braces.
     Braces,
+    /// Names and texts in braces.
     NamedBraces,
+    /// Texts in braces, symbols, tags and commas.
     BracesAndSymbols,
 }
 
@@ -118,6 +141,18 @@ pub fn directive_of(text: &[u8]) -> Directive {
         .iter()
         .find(|(name, _)| is_word(word, name))
         .map_or(Directive::Unknown, |(_, directive)| *directive)
+}
+
+/// Whether a directive or a string that an import takes stands at the front.
+pub fn is_imported(bytes: &[u8]) -> bool {
+    match bytes {
+        [b'"', ..] => true,
+        [b'%', word @ ..] => {
+            let length = word_length(word).saturating_add(1);
+            directive_of(bytes.get(..length).unwrap_or(bytes)) != Directive::Unknown
+        }
+        _ => false,
+    }
 }
 
 impl Directive {

@@ -5,23 +5,30 @@ use crate::lexeme::{Kind, Lexeme};
 use std::alloc::{AllocError, Global};
 
 /// How a group begins.
-#[derive(Clone, Copy, Debug, Drop, PartialEq, Eq)]
+#[derive(Clone, Copy, Drop, PartialEq, Eq)]
 pub enum Head {
+    /// A directive.
     Word(Directive),
+    /// A code block.
     Code,
+    /// `%%`.
     Mark,
     /// The left side of a rule.
     Left,
+    /// A bar, which begins another rule with the same left side.
     Bar,
     /// What begins no group, at the start of the file.
     Stray,
 }
 
 /// The lexemes of one declaration or alternative, and whether they stand between the marks.
-#[derive(Clone, Copy, Debug)]
+#[derive(Clone, Copy)]
 pub struct Group<'a> {
+    /// How it begins.
     pub head: Head,
+    /// Its lexemes, that of its head first.
     pub lexemes: &'a [Lexeme],
+    /// Whether it stands behind the first mark.
     pub in_rules: bool,
 }
 
@@ -57,7 +64,7 @@ fn head_of(source: &[u8], lexeme: &Lexeme, behind: &[Lexeme], in_rules: bool) ->
 }
 
 /// Where a group begins, and how.
-#[derive(Clone, Copy, Debug, Drop)]
+#[derive(Clone, Copy, Drop)]
 struct Start {
     head: Head,
     at: usize,

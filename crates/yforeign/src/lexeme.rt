@@ -3,8 +3,9 @@
 use std::alloc::{AllocError, AllocFailed};
 
 /// What a lexeme is.
-#[derive(Clone, Copy, Debug, Drop, PartialEq, Eq)]
+#[derive(Clone, Copy, Drop, PartialEq, Eq)]
 pub enum Kind {
+    /// A name, in which dashes may stand.
     Name,
     /// Digits, or hexadecimal ones behind `0x`.
     Number,
@@ -34,24 +35,33 @@ pub enum Kind {
     Predicate,
     /// `#line` up to the end of its line.
     LineMark,
+    /// `:`.
     Colon,
+    /// `|`.
     Bar,
+    /// `;`.
     Semicolon,
+    /// `,`.
     Comma,
+    /// `=`.
     Equals,
 }
 
 /// A lexeme: its first byte, the byte behind it, and its line.
-#[derive(Clone, Copy, Debug)]
+#[derive(Clone, Copy)]
 pub struct Lexeme {
+    /// What it is.
     pub kind: Kind,
+    /// How many bytes stand before it.
     pub from: usize,
+    /// How many bytes stand before the byte behind it.
     pub to: usize,
+    /// Its line, counted from 1.
     pub line: usize,
 }
 
 /// Why no lexeme stands at a place.
-#[derive(Clone, Copy, Debug, Drop, PartialEq, Eq)]
+#[derive(Clone, Copy, Drop, PartialEq, Eq)]
 pub enum Flaw {
     /// A comment, a quote, a bracket or a brace has no end.
     Unfinished,
@@ -66,10 +76,11 @@ pub enum Flaw {
 }
 
 /// Why a file isn't cut into lexemes.
-#[derive(Debug, Drop)]
+#[derive(Drop)]
 pub enum Uncut {
     /// A flaw, and its line.
     Flaw(Flaw, usize),
+    /// Memory ran out.
     Memory,
 }
 

@@ -6,17 +6,22 @@ use crate::signs::{Piece, piece_at};
 use std::alloc::Global;
 
 /// A comment from two slashes to the end of its line: where it stands, and its line.
-#[derive(Clone, Copy, Debug)]
+#[derive(Clone, Copy)]
 pub struct Remark {
+    /// How many bytes stand before it.
     pub from: usize,
+    /// How many bytes stand before the end of its line.
     pub to: usize,
+    /// Its line, counted from 1.
     pub line: usize,
 }
 
 /// The lexemes of a file up to its second mark, and its comments that begin with two slashes.
 #[derive(Drop)]
 pub struct Lexemes {
+    /// The lexemes, in the order of the file.
     pub all: Vec<Lexeme>,
+    /// The comments from two slashes, in the order of the file.
     pub remarks: Vec<Remark>,
 }
 

@@ -1,5 +1,5 @@
-//! Grammar files of bison and byacc: their lexemes with places and lines, these in groups, and what
-//! the names and strings of a file are.
+//! Grammar files of bison and byacc: their lexemes with places and lines, these in groups, and
+//! what the names and strings of a file are.
 #![tactic(auto)]
 
 pub mod directive;

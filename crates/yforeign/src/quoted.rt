@@ -4,8 +4,8 @@ use crate::lexeme::{Flaw, Kind};
 use ylexemes::bytes::{is_blank, is_name_byte, is_name_start};
 use ylexemes::literal::literal_at;
 
-/// How many bytes stand up to the closing quote, with both quotes. A backslash takes the byte that
-/// follows along, and a newline ends the search.
+/// How many bytes stand up to the closing quote, with both quotes. A backslash and the byte behind
+/// it belong together, and a newline ends the search.
 fn quoted_length(bytes: &[u8], quote: u8) -> Result<usize, Flaw> {
     let mut escaped = false;
     for (at, b) in bytes.iter().enumerate().skip(1) {
@@ -64,7 +64,7 @@ pub fn translated_at(bytes: &[u8]) -> Result<(Kind, usize), Flaw> {
     }
 }
 
-/// The tag that a `<` begins: brackets nest, and that of an arrow is none.
+/// The tag that a `<` begins: brackets nest, and the `>` of an arrow isn't one.
 pub fn tag_at(bytes: &[u8]) -> Result<(Kind, usize), Flaw> {
     let mut depth: usize = 0;
     let mut before = 0u8;

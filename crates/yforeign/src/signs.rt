@@ -8,12 +8,15 @@ use ylexemes::front::part_at;
 use ylexemes::part::LexicalFault;
 
 /// What stands at a place.
-#[derive(Clone, Copy, Debug)]
+#[derive(Clone, Copy)]
 pub enum Piece {
+    /// A blank.
     Blank,
+    /// A comment from `/*` to `*/`.
     Comment,
     /// A comment from two slashes to the end of its line.
     Remark,
+    /// A lexeme of this kind.
     Lexeme(Kind),
 }
 

@@ -54,7 +54,7 @@ pub fn is_macro(lexemes: &[Lexeme], at: usize) -> bool {
 }
 
 impl Survey {
-    /// What a file says of which nothing is known.
+    /// What is known of a file before it is read: nothing.
     pub fn new(alloc: Global) -> Survey {
         Survey {
             names: SymbolTable::new(alloc),

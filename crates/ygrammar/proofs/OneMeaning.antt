@@ -160,7 +160,7 @@ one_first t (f ∷ fs) m n (inl x) (inr y) = absurd (y.1 (subst (Holds t) (sym x
 one_first t (f ∷ fs) m n (inr x) (inl y) = absurd (x.1 (subst (Holds t) (sym y.0) y.1))
 one_first t (f ∷ fs) m n (inr x) (inr y) = one_first t fs m n x.2 y.2
 
--- where there is none, there is no first
+-- without a mistake, there is no first one
 pub none_first : (t : Tree) (fs : List Mistake) (m : Mistake) → HasNone t fs → IsFirst t fs m → ⊥
 none_first t [] m h x = x
 none_first t (f ∷ fs) m h (inl x) = h.0 (subst (Holds t) (sym x.0) x.1)

@@ -161,7 +161,7 @@ own_whole t ns d u given own e f s h =
     (subst (λ (x : List Name). OwnSoFar x given (usual_of (appearances t)) (own_number t)) (sym e)
     (own_start t given s)))))
 
--- the numbers given are told of the tree, or one of them is a mistake
+-- the numbers given are those of the tree, or one of them is a mistake
 pub told_here : (t : Tree) (ns : List Name) (ls : List Listing) (table : List (Option ℕ))
     (fault : Option ℕ) → ns ≡ tokens t → ls ≡ listings t → TellsNumbers ns [] ls table fault →
     TellsNumbers (tokens t) [] (listings t) table fault

@@ -244,7 +244,7 @@ pub printed_plain : (i : Identifier) → Named i → dollar (printed_name i) ≡
 printed_plain (named n) h = name_plain n h
 printed_plain (quoted v) h = literal_plain v
 
--- a name with a dollar sign in front is none without
+-- a name with a dollar sign in front is no name without one
 pub plain_other : (n m : Name) → dollar n ≡ false → dollar m ≡ true → n ≡ m → ⊥
 plain_other n m p q e = false_true (sym p ∙ ap dollar e ∙ q)
 

@@ -97,7 +97,7 @@ lefts t = flat_map left_of_rule t.rule_texts
 abbrev pub who_of : Entry → Identifier
 who_of e = e.who
 
--- the names and literals of a declaration; a tag is none
+-- the names and literals of a declaration, without its tag
 abbrev pub identifiers_of : Definition → List Identifier
 identifiers_of (start i) = i ∷ []
 identifiers_of (union t) = []
@@ -317,7 +317,7 @@ abbrev pub first_or : {A : Type 0} → List A → Option A → Option A
 first_or [] y = y
 first_or (x ∷ xs) y = Some x
 
--- the value of the literal that is printed so
+-- the value of the literal that has this printed name
 abbrev pub literal_value : List Identifier → Name → Option ℕ
 literal_value [] n = None
 literal_value (named m ∷ is) n = literal_value is n

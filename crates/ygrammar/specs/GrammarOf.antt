@@ -34,7 +34,7 @@ IsMistaken source m = (t : Tree) × HasTree source t × IsFirst t order m
 abbrev pub IsRefused : List ℕ → Refusal → Type 0
 IsRefused source r = (length source ≤ longest_file) × Outcome source (Err r)
 
--- the fault is one of the file; only lack of memory is no matter of the file
+-- the fault is one that the file has, or memory ran out
 abbrev pub IsFaultOf : List ℕ → GrammarFault → Type 0
 IsFaultOf source faults.TooLong = longest_file < length source
 IsFaultOf source (faults.Unfinished line) = IsRefused source (refusal unfinished line)

@@ -26,7 +26,7 @@ Holds t Undefined = (n : Name) × (is_among (symbols t) n ≡ false)
     × (Contains (map printed_name (uses t)) n ⊎ Contains (types_of t) n)
 -- a token is given a precedence twice
 Holds t TwicePrecedence = (n : Name) × (2 ≤ length (precedences_given t n))
--- a number is out of range, a token is given two, or two tokens have one
+-- a number is out of range, a token is given two, or two tokens have the same
 Holds t BadNumber = ((n : Name) × (m : ℕ) × Contains (numbers_given t n) m
     × ((m ≡ 0) ⊎ (greatest_number < m)))
     ⊎ (((n : Name) × (2 ≤ length (numbers_given t n)))

@@ -3,7 +3,7 @@
 use Rattle.ysymbols.specs.Names.{Name, printed_literal}
 use Rattle.ysyntax.specs.Tree.{Identifier, named, quoted}
 
--- a name as it stands, a literal by its value
+-- a name byte for byte, a literal by its value
 abbrev pub printed_name : Identifier → Name
 printed_name (named n) = n
 printed_name (quoted v) = printed_literal v

@@ -1,5 +1,5 @@
-//! Tests for mistakes, each over one list of the file. An answer is how many bytes stand before
-//! the first name at fault.
+//! Tests for mistakes, each over one list of the file. An answer is a place: how many bytes stand
+//! before the first name at fault; or `None` where there is no such mistake.
 
 ghost use Rattle.std.specs.Prelude.{◌≡◌, ◌||◌, ◌&&◌, None, Some, is_some, length, map, nat_le};
 ghost use Rattle.std.specs.Prelude.{nat_lt, not, IfSome};
@@ -19,7 +19,7 @@ use ysymbols::limits::LONGEST_BODY;
 use ysymbols::names::{SymbolTable, is_among};
 use ysyntax::tree::{Identifier, NameAt, Occurrence};
 
-/// The first of some names that is a token.
+/// The place of the first of these names that is a token.
 pub fn first_token(names: &[NameAt], tokens: &SymbolTable) -> Option<usize>
     ensures { result
         ≡ option_view (λ n. n.at) (find (λ n. is_among (texts tokens.now) (name_view n))
@@ -31,7 +31,7 @@ pub fn first_token(names: &[NameAt], tokens: &SymbolTable) -> Option<usize>
         .map(|name| name.at)
 }
 
-/// The first of some names that is no symbol.
+/// The place of the first of these names that is not a symbol.
 pub fn first_unknown(names: &[NameAt], symbols: &SymbolTable) -> Option<usize>
     ensures { result
         ≡ option_view (λ n. n.at) (find (λ n. not (is_among (texts symbols.now) (name_view n)))
@@ -43,7 +43,7 @@ pub fn first_unknown(names: &[NameAt], symbols: &SymbolTable) -> Option<usize>
         .map(|name| name.at)
 }
 
-/// The first of some names and literals that is no symbol.
+/// The place of the first of these names and literals that is not a symbol.
 pub fn first_undefined(occurrences: &[Occurrence], symbols: &SymbolTable) -> Option<usize>
     ensures { result
         ≡ option_view (λ m. m.at)
@@ -56,7 +56,7 @@ pub fn first_undefined(occurrences: &[Occurrence], symbols: &SymbolTable) -> Opt
         .map(|one| one.at)
 }
 
-/// Whether a name or literal is a symbol, but none of the first `tokens`.
+/// Whether a name or literal is a symbol, and not one of the first `tokens`.
 fn is_nonterminal(who: Identifier, symbols: &SymbolTable, tokens: usize) -> bool
     ensures { result
         ≡ is_between tokens (length (texts symbols.now))
@@ -66,7 +66,7 @@ fn is_nonterminal(who: Identifier, symbols: &SymbolTable, tokens: usize) -> bool
     tokens <= number && number < symbols.len()
 }
 
-/// The first of some names and literals that is a nonterminal.
+/// The place of the first of these names and literals that is a nonterminal.
 pub fn first_nonterminal(
     occurrences: &[Occurrence],
     symbols: &SymbolTable,
@@ -83,7 +83,7 @@ pub fn first_nonterminal(
         .map(|one| one.at)
 }
 
-/// The last `%start`, where one stands twice or names no nonterminal.
+/// The place of the last `%start`, where `%start` stands twice or names no nonterminal.
 pub fn bad_start(starts: &[Started], symbols: &SymbolTable, tokens: usize) -> Option<usize>
     ensures found { is_some result
         ≡ (nat_le 2 (length starts.now)
@@ -105,7 +105,7 @@ pub fn bad_start(starts: &[Started], symbols: &SymbolTable, tokens: usize) -> Op
     }
 }
 
-/// Whether the body of a rule is longer than the limit.
+/// Whether a rule's body is longer than the limit.
 pub fn any_long(rules: &[Rule]) -> bool
     ensures { result ≡ list_any is_long rules.now }
 {

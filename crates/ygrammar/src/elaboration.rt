@@ -37,13 +37,18 @@ use ysyntax::tree::{NameAt, Tree};
 /// The symbols by number, the tokens first, and what is given to the tokens.
 #[derive(Drop)]
 pub struct Named {
+    /// The names of all symbols, the tokens first.
     pub names: SymbolTable,
+    /// How many of them are tokens.
     pub tokens: usize,
+    /// The precedence of each token, where the file gives it one.
     pub given: Vec<Option<Precedence>>,
+    /// The number that each token has by itself, and which tokens hold each number.
     pub own: OwnTable,
 }
 
-/// The symbols of a tree, or the first of the mistakes that can stand in them.
+/// The symbols of a tree, or the first mistake that its names and its tokens' numbers and
+/// precedences can have.
 fn name_symbols(alloc: Global, tree: &Tree, outline: &Outline) -> Result<Named, Refused>
     requires outline { Outlines outline.now (tree_view tree.now) }
     requires counted { inner_after 1 (tree_view tree.now).rule_texts < 2 ^ 64 }
@@ -66,7 +71,8 @@ fn name_symbols(alloc: Global, tree: &Tree, outline: &Outline) -> Result<Named, 
     })
 }
 
-/// The place of the first left side that isn't marked.
+/// The place of the first left side that isn't marked: how many bytes stand before it, 0 where all
+/// are marked.
 fn unmarked_left(lefts: &[NameAt], names: &SymbolTable, marks: &[bool]) -> usize
     ensures { result
         ≡ unwrap_or (option_view (λ l. l.at)
@@ -82,7 +88,7 @@ fn unmarked_left(lefts: &[NameAt], names: &SymbolTable, marks: &[bool]) -> usize
     0
 }
 
-/// A nonterminal that derives no list of tokens, where there are so many tokens and symbols.
+/// Refuses a nonterminal that derives no list of tokens; the first `tokens` symbols are tokens.
 fn refuse_unproductive(
     alloc: Global,
     outline: &Outline,
@@ -107,7 +113,7 @@ fn refuse_unproductive(
     Ok(())
 }
 
-/// The grammar of symbols and rules in which no mistake stands.
+/// The grammar of these symbols and rules, where no mistake stands in them.
 fn grammar_of(
     alloc: Global,
     named: Named,

@@ -25,7 +25,7 @@ use ysymbols::limits::GREATEST_NUMBER;
 use ysymbols::names::{SymbolTable, number_in};
 use ysyntax::tree::{Identifier, Occurrence};
 
-/// The precedences of the tokens by number.
+/// The precedences of the tokens by number, or the second one of a token as a mistake.
 fn told_precedences(
     alloc: Global,
     tokens: &SymbolTable,
@@ -61,7 +61,8 @@ fn digit(b: u8) -> u32
     char::from(b).to_digit(36).unwrap_or(36)
 }
 
-/// The number that digits write, where it may be given to a token.
+/// The number that digits write, where a token may have it: 1 to 32,767. `None` where it is out of
+/// that range.
 pub fn fit_number(digits: &[u8]) -> Option<u32>
     ensures { MatchOption result
         (IsFit (digits_value 10 digits.now) → ⊥)
@@ -88,11 +89,13 @@ fn fill(table: &mut Vec<Option<u32>>, token: usize, number: u32)
     }
 }
 
-/// What the listings give: to each token its first number, or 0 where that is out of range; and how
-/// many listings stand before the first that gives a number out of range or a second one.
+/// What the listings give: to each token its first number, or 0 where that is out of range; and
+/// which listing is the first to give a number out of range or a second one.
 #[derive(Drop)]
 pub struct GivenNumbers {
+    /// The first number given to each token, 0 for one out of range.
     pub first: Vec<Option<u32>>,
+    /// How many listings stand before the first that is at fault.
     pub fault: Option<usize>,
 }
 
@@ -115,7 +118,7 @@ impl GivenNumbers {
     }
 }
 
-/// The numbers given to the tokens.
+/// The numbers that the listings give to the tokens. It fails only when memory runs out.
 pub fn given_numbers(
     alloc: Global,
     tokens: &SymbolTable,
@@ -164,7 +167,7 @@ fn fill_literals(table: &mut Vec<Option<u32>>, tokens: &SymbolTable, occurrences
 }
 
 /// The numbers that the tokens have by themselves: those given, that of the end, that of `error`,
-/// and the values of literals.
+/// and the values of literals. `None` for a token that has none.
 pub fn own_numbers(
     tokens: &SymbolTable,
     given: Vec<Option<u32>>,
@@ -185,7 +188,8 @@ pub fn own_numbers(
     own
 }
 
-/// The precedences of the tokens by number.
+/// The precedences of the tokens by number. An error is a second precedence of a token, or memory
+/// ran out.
 pub fn precedences(
     alloc: Global,
     tokens: &SymbolTable,

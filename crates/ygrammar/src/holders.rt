@@ -22,8 +22,11 @@ use ysymbols::names::SymbolTable;
 /// The tokens that hold a number.
 #[derive(Clone, Copy, Debug, Drop)]
 pub enum Holders {
+    /// No token.
     Nobody,
+    /// Only the token of this number.
     One(usize),
+    /// Two tokens or more.
     Several,
 }
 
@@ -42,7 +45,7 @@ impl Holders {
         matches!(self, Holders::Several)
     }
 
-    /// These, and a token.
+    /// The same tokens, and this one.
     fn with(self, token: usize) -> Holders
         ensures { result ≡ with_holder self token }
     {
@@ -70,7 +73,7 @@ fn hold(holders: &mut Vec<Holders>, token: usize, number: u32)
     holders[place] = holders[place].with(token);
 }
 
-/// One more than the greatest number that a token has by itself, 0 where none has one.
+/// One more than the greatest number that a token has by itself, 0 where no token has one.
 fn bound_of(own: &[Option<u32>]) -> usize
     requires { AllSmall own.now }
     ensures few { result ≤ number_bound }
@@ -85,7 +88,7 @@ fn bound_of(own: &[Option<u32>]) -> usize
     bound
 }
 
-/// Of each number below `count` the tokens that have it by themselves.
+/// For each number below `count`, the tokens that have it by themselves.
 fn own_holders(alloc: Global, own: &[Option<u32>], count: usize) -> Result<Vec<Holders>, AllocError>
     requires { (m : ℕ) → IsOwn own.now m → m < count }
     ensures { IfOk result (λ v. AreHolders count own.now v.items) }
@@ -113,7 +116,7 @@ fn has_shared(holders: &[Holders]) -> bool
     false
 }
 
-/// Adds the numbers that are given: a token given two holds both.
+/// Adds the numbers that are given; a token that is given two holds both.
 fn hold_given(holders: &mut Vec<Holders>, tokens: &SymbolTable, listed: &[Listed])
     requires { length holders.old.items ≡ number_bound }
     ensures { length holders.new.items ≡ number_bound }
@@ -127,8 +130,8 @@ fn hold_given(holders: &mut Vec<Holders>, tokens: &SymbolTable, listed: &[Listed
     }
 }
 
-/// How many bytes stand before the first number that is at fault: that of the listing behind
-/// `fault` others, or one before it that several tokens hold; 0 where there is none.
+/// How many bytes stand before the first number at fault: that of the listing behind `fault`
+/// others, or one before it that several tokens hold; 0 where no number is at fault.
 fn first_at_fault(listed: &[Listed], fault: Option<usize>, holders: &[Holders]) -> usize
     requires { length holders.now ≡ number_bound }
 {
@@ -149,12 +152,15 @@ fn first_at_fault(listed: &[Listed], fault: Option<usize>, holders: &[Holders]) 
 /// The numbers that tokens have by themselves, and who holds each number.
 #[derive(Drop)]
 pub struct OwnTable {
+    /// For each token, the number that it has by itself.
     pub numbers: Vec<Option<u32>>,
+    /// For each number, the tokens that have it by themselves.
     pub holders: Vec<Holders>,
 }
 
-/// The numbers that the tokens have by themselves; a mistake in them stands at the first number
-/// that is out of range, a second one for its token, or held by another token too.
+/// The numbers that the tokens have by themselves. The mistake in them is the first number that is
+/// out of range, a second one for its token, or also held by another token; memory may run out
+/// too.
 pub fn own_table(
     alloc: Global,
     tokens: &SymbolTable,

@@ -10,7 +10,7 @@ use std::alloc::{AllocError, Global};
 use ysymbols::names::{Printed, SymbolTable, intern, is_among, number_in};
 use ysyntax::tree::Identifier;
 
-/// The number of a name or literal, or how many names there are, where it isn't there.
+/// The number of a name or literal, or how many names there are where it is not among them.
 pub fn number_of(names: &SymbolTable, who: Identifier) -> usize
     ensures { result ≡ number_in (texts names.now) (printed_name (identifier_view who.entry)) }
 {
@@ -20,7 +20,7 @@ pub fn number_of(names: &SymbolTable, who: Identifier) -> usize
     }
 }
 
-/// Whether a name or literal is there.
+/// Whether a name or literal is among these names.
 pub fn is_named(names: &SymbolTable, who: Identifier) -> bool
     ensures { result ≡ is_among (texts names.now) (printed_name (identifier_view who.entry)) }
 {
@@ -30,7 +30,8 @@ pub fn is_named(names: &SymbolTable, who: Identifier) -> bool
     }
 }
 
-/// Interns a name or literal, unless it is there.
+/// Adds a name or literal behind the others, unless it is among them. It fails only when memory
+/// runs out.
 pub fn intern_identifier(
     alloc: Global,
     names: &mut SymbolTable,

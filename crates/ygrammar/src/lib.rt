@@ -1,5 +1,5 @@
-//! The reader of grammar files: bytes to the grammar that they mean, or the first fault. The value of
-//! a grammar is that of `ysymbols`, handed on.
+//! The reader of grammar files: from bytes it makes the grammar that they mean, or finds their
+//! first fault. The value of a grammar is that of `ysymbols`.
 #![tactic(auto)]
 
 mod checks;

@@ -8,7 +8,7 @@ use crate::mistake::{Mistake, Refused};
 use ysyntax::fault::GrammarFault;
 
 impl Mistake {
-    /// The fault of a file, on a line.
+    /// The fault that is this mistake, on a line.
     fn at_line(self, line: usize) -> GrammarFault
         ensures { result ≡ mistake_at self line }
     {
@@ -26,7 +26,7 @@ impl Mistake {
 }
 
 impl Refused {
-    /// The fault of a file of these bytes.
+    /// The fault of this refusal, in a file of these bytes.
     pub fn in_file(self, source: &[u8]) -> GrammarFault
         ensures { IsRefusal source.now self result }
     {
@@ -37,7 +37,7 @@ impl Refused {
     }
 }
 
-/// The line of the place with so many bytes before it: one more than the newlines among them.
+/// The line of the place with `at` bytes before it: one more than the newlines among them.
 fn line_at(source: &[u8], at: usize) -> usize
     ensures { result ≡ line_of source.now at }
 {

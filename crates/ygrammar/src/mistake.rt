@@ -5,7 +5,7 @@ ghost use Rattle.ygrammar.specs.declared.mistake.Refused.TheVariants.{Memory};
 
 use std::alloc::{AllocError, AllocFailed};
 
-/// A mistake in what a file means. Of those that hold, the first in this order is answered.
+/// A mistake in what a file means. Of those that a file has, the first in this order is answered.
 #[derive(Clone, Copy, Debug, PartialEq, Eq, Drop)]
 pub enum Mistake {
     /// A token is a left side, or is named by `%type`.
@@ -14,7 +14,7 @@ pub enum Mistake {
     Undefined,
     /// A token is given a precedence twice.
     TwicePrecedence,
-    /// A number is out of range, a token is given two, or two tokens have one.
+    /// A number is out of range, a token is given two, or two tokens have the same.
     BadNumber,
     /// `%start` names no nonterminal, or stands twice.
     BadStart,
@@ -26,11 +26,12 @@ pub enum Mistake {
     Limit,
 }
 
-/// Why a syntax means no grammar: a mistake, and how many bytes stand before the place at fault;
-/// or memory was refused.
+/// Why a syntax tree means no grammar.
 #[derive(Clone, Copy, Debug, PartialEq, Eq, Drop)]
 pub enum Refused {
+    /// A mistake, and how many bytes stand before the place at fault.
     Mistake { what: Mistake, at: usize },
+    /// Memory ran out.
     Memory,
 }
 

@@ -9,7 +9,7 @@ ghost use Rattle.ygrammar.specs.declared.holders.Holders.TheVariants.{Nobody};
 use crate::holders::Holders;
 use std::alloc::{AllocError, Global};
 
-/// The least number from `from` on that nobody has.
+/// The least number from `from` on that no token holds.
 fn next_free(holders: &[Holders], from: u32) -> u32
     requires low { from ≤ number_bound + most_symbols }
     requires few { length holders.now ≤ number_bound }
@@ -26,7 +26,8 @@ fn next_free(holders: &[Holders], from: u32) -> u32
     number
 }
 
-/// The numbers of the tokens: their own, or the least that is free.
+/// The numbers of the tokens: their own, or else the least that is free from 257 on. It fails only
+/// when memory runs out.
 pub fn numbers(
     alloc: Global,
     own: &[Option<u32>],

@@ -23,32 +23,39 @@ use ysyntax::tree::{
 /// A token that a line lists: the precedence that the line gives, and the digits behind the token.
 #[derive(Clone, Copy, Debug, Drop)]
 pub struct Listed<'a> {
+    /// The precedence that the line gives its tokens; `None` for a `%token` line.
     pub gives: Option<Precedence>,
+    /// The token.
     pub who: Occurrence<'a>,
+    /// The digits behind it.
     pub digits: Option<Digits<'a>>,
 }
 
 /// The symbol that a `%start` names, and how many bytes stand before that `%start`.
 #[derive(Clone, Copy, Debug, Drop)]
 pub struct Started<'a> {
+    /// The symbol.
     pub who: Occurrence<'a>,
+    /// How many bytes stand before the `%start`.
     pub at: usize,
 }
 
 /// What stands in a file, list by list, each in the order of the file.
 #[derive(Drop)]
 pub struct Outline<'a> {
+    /// The tokens that are listed.
     pub listed: Vec<Listed<'a>>,
+    /// The symbols that `%start` names.
     pub starts: Vec<Started<'a>>,
-    /// The names that `%type` lists.
+    /// The names that stand in `%type` lines.
     pub typed: Vec<NameAt<'a>>,
     /// The names and literals of the declarations.
     pub declared: Vec<Occurrence<'a>>,
     /// The left sides.
     pub lefts: Vec<NameAt<'a>>,
-    /// The names and literals of the rules, those behind `%prec` among them.
+    /// The names and literals of the rules, also those behind `%prec`.
     pub used: Vec<Occurrence<'a>>,
-    /// Those behind `%prec`.
+    /// The names and literals behind `%prec`.
     pub precs: Vec<Occurrence<'a>>,
 }
 
@@ -218,7 +225,7 @@ fn push_items<'a>(found: &mut Vec<Occurrence<'a>>, items: &[BodyPart<'a>]) -> Re
     Ok(())
 }
 
-/// Adds the name or literal behind a `%prec`, where there is one.
+/// Adds the name or literal behind a `%prec`, where the rule has one.
 fn push_prec<'a>(
     found: &mut Vec<Occurrence<'a>>,
     prec: Option<Occurrence<'a>>,
@@ -263,7 +270,7 @@ fn all_precs<'a>(
 }
 
 impl<'a> Outline<'a> {
-    /// The lists of a tree.
+    /// The lists of a tree. It fails only when memory runs out.
     pub fn new(alloc: Global, tree: &Tree<'a>) -> Result<Outline<'a>, AllocError>
         ensures { IfOk result (λ o. Outlines o (tree_view tree.now)) }
     {

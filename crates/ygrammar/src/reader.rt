@@ -23,17 +23,17 @@ use ysyntax::tree_builder::build_tree;
 /// line. A file with a syntax has the first of the faults from `TokenLeft` to `Limit` that holds.
 /// `Memory` may come in place of any answer but `TooLong`.
 pub fn read_grammar(alloc: Global, source: &[u8]) -> Result<Grammar, GrammarFault>
-    // It comes before every other answer, and for no other file.
+    // This comes before every other answer, and for no other file.
     ensures too_long { IsErrOf result GrammarFault.TooLong ↔ (longest_file < length source.now) }
     // What is read is the grammar of the file.
     ensures found { IfOk result (λ g. IsGrammarOf source.now g) }
-    // A file that has a grammar is read.
+    // A file that means a grammar is read.
     ensures only { (g : GrammarValue) → IsGrammarOf source.now g → AnswersGrammar result g }
     // Where a file has no syntax, the first reason is answered, with its line.
     ensures refused { (r : Refusal) → IsRefused source.now r → AnswersRefusal result r }
     // Where it has a syntax and a mistake, the first mistake is answered.
     ensures mistaken { (m : Mistake) → IsMistaken source.now m → AnswersMistake result m }
-    // A fault is one of the file.
+    // A fault that is answered is one that the file has.
     ensures fault { IfErr result (λ f. IsFaultOf source.now f) }
     // There is no other answer.
     ensures exact { GivesGrammar source.now result }

@@ -1,4 +1,5 @@
-//! The mistakes of a file, one by one: each call answers its own, or says that there is none.
+//! The mistakes of a file: each call answers one kind of mistake, or `Ok` where the file has none
+//! of it.
 
 ghost use Rattle.std.specs.Prelude.{◌≡◌, ◌∷◌, length, map};
 ghost use Rattle.ygrammar.specs.Elaboration.{rules as rules_of_tree, symbols as symbols_of_tree};
@@ -21,7 +22,7 @@ use ysymbols::Rule;
 use ysymbols::limits::{MOST_RULES, MOST_SYMBOLS};
 use ysymbols::names::SymbolTable;
 
-/// A token that is a left side, or is named by `%type`.
+/// Refuses a token that is a left side, or is named by `%type`.
 pub fn refuse_token_left(outline: &Outline, tokens: &SymbolTable) -> Result<(), Refused>
     ensures { (t : TreeOf) → Outlines outline.now t → texts tokens.now ≡ tokens_of_tree t →
         Clears t TokenLeft result }
@@ -36,7 +37,7 @@ pub fn refuse_token_left(outline: &Outline, tokens: &SymbolTable) -> Result<(), 
     }
 }
 
-/// A name in a body, a `%prec` or a `%type` that is no symbol.
+/// Refuses a name in a body, a `%prec` or a `%type` that is not a symbol.
 pub fn refuse_undefined(outline: &Outline, symbols: &SymbolTable) -> Result<(), Refused>
     ensures { (t : TreeOf) → Outlines outline.now t → texts symbols.now ≡ symbols_of_tree t →
         Clears t Undefined result }
@@ -51,7 +52,7 @@ pub fn refuse_undefined(outline: &Outline, symbols: &SymbolTable) -> Result<(), 
     }
 }
 
-/// A `%start` that stands twice or names no nonterminal.
+/// Refuses a `%start` that stands twice or names no nonterminal.
 pub fn refuse_start(outline: &Outline, symbols: &SymbolTable, tokens: usize) -> Result<(), Refused>
     ensures { (t : TreeOf) → Outlines outline.now t → texts symbols.now ≡ symbols_of_tree t →
         tokens ≡ length (tokens_of_tree t) → Clears t BadStart result }
@@ -65,7 +66,7 @@ pub fn refuse_start(outline: &Outline, symbols: &SymbolTable, tokens: usize) -> 
     }
 }
 
-/// A `%prec` that names a nonterminal.
+/// Refuses a `%prec` that names a nonterminal.
 pub fn refuse_prec(outline: &Outline, symbols: &SymbolTable, tokens: usize) -> Result<(), Refused>
     ensures { (t : TreeOf) → Outlines outline.now t → texts symbols.now ≡ symbols_of_tree t →
         tokens ≡ length (tokens_of_tree t) → Clears t BadPrec result }
@@ -79,7 +80,7 @@ pub fn refuse_prec(outline: &Outline, symbols: &SymbolTable, tokens: usize) -> R
     }
 }
 
-/// More symbols, rules or symbols in a body than the limits.
+/// Refuses more symbols, rules or symbols in a body than the limits.
 pub fn refuse_limit(symbols: &SymbolTable, rules: &[Rule]) -> Result<(), Refused>
     ensures { (t : TreeOf) → texts symbols.now ≡ symbols_of_tree t →
         rules.now

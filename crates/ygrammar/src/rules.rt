@@ -61,7 +61,7 @@ fn final_parts<'t, 'a>(rule_text: &'t RuleText<'a>) -> (&'t [BodyPart<'a>], Opti
     }
 }
 
-/// Interns the nonterminals of the inner actions, numbered from `k` on, and answers the next such
+/// Adds the nonterminals of the inner actions, numbered from `k` on, and answers the next such
 /// number.
 fn intern_inner(
     alloc: Global,
@@ -117,7 +117,7 @@ fn intern_lefts(
     Ok(())
 }
 
-/// Interns the nonterminals in the order of their first rules.
+/// Adds the nonterminals in the order of their first rules. It fails only when memory runs out.
 pub fn intern_nonterminals(
     alloc: Global,
     names: &mut SymbolTable,
@@ -188,7 +188,7 @@ fn number_body(
     Ok(NumberedBody { symbols, next })
 }
 
-/// The last token of a body, where there are so many tokens.
+/// The last token of a body, where the first `tokens` symbols are tokens.
 fn last_token(tokens: usize, body: &[Sym]) -> Option<Sym>
     ensures { result ≡ last_token tokens body.now }
 {
@@ -301,7 +301,7 @@ fn push_texts(rule_texts: &[RuleText], texts: &mut Texts) -> Result<(), AllocErr
     Ok(())
 }
 
-/// The kept texts of the rules of a file.
+/// The kept texts of the rules of a file. It fails only when memory runs out.
 pub fn kept_texts(alloc: Global, source: &[u8], tree: &Tree) -> Result<Texts, AllocError>
     requires { AllByRecursion (RuleTextStands source.now) tree.now.rule_texts.items }
     ensures { IfOk result (λ t. t.texts ≡ map kept_text (rules (tree_view tree.now))) }
@@ -347,7 +347,8 @@ fn first_rule(
     Ok(Rule::of(left, body, precedence))
 }
 
-/// The rules of a file by number, with the precedences given to its tokens.
+/// The rules of a file by number, with the precedences given to its tokens. It fails only when
+/// memory runs out.
 pub fn number_rules(
     alloc: Global,
     names: &SymbolTable,

@@ -70,7 +70,7 @@ fn token_names(alloc: Global, outline: &Outline) -> Result<SymbolTable, AllocErr
     Ok(names)
 }
 
-/// Interns those names and literals that are among some names.
+/// Adds those of some names and literals that are among `names`.
 fn intern_those(
     alloc: Global,
     tokens: &mut SymbolTable,
@@ -91,6 +91,7 @@ fn intern_those(
 }
 
 /// The tokens by number: the end, `error`, and the others in the order of their first appearance.
+/// It fails only when memory runs out.
 pub fn tokens(alloc: Global, outline: &Outline) -> Result<SymbolTable, AllocError>
     ensures { IfOk result (λ v. texts v
         ≡ tokens_of (map listed_view outline.now.listed.items)

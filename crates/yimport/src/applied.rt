@@ -11,7 +11,7 @@ struct Page<'a> {
     source: &'a [u8],
     out: Vec<u8>,
     at: usize,
-    /// Whether blanks that come next are passed over.
+    /// Whether blanks that come next are left out.
     passing: bool,
 }
 

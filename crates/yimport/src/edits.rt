@@ -5,20 +5,27 @@ use std::alloc::{AllocError, Global};
 use yforeign::lexeme::Lexeme;
 use yforeign::lexer::Remark;
 
-/// A part of a file that is replaced by a text, which stands among those written.
-#[derive(Clone, Copy, Debug, Drop)]
+/// A part of a file that is replaced by one of the texts written.
+#[derive(Clone, Copy, Drop)]
 pub struct Edit {
+    /// How many bytes stand before the part.
     pub from: usize,
+    /// How many bytes stand before what follows it.
     pub to: usize,
+    /// Where the text begins and ends among those written.
     pub text: (usize, usize),
 }
 
 /// All changes of a file.
 #[derive(Drop)]
 pub struct Edits<'a> {
+    /// The file.
     pub source: &'a [u8],
+    /// The changes, in the order of the file.
     pub edits: Vec<Edit>,
+    /// The texts written, one behind the other.
     pub texts: Vec<u8>,
+    /// What is said of each change.
     pub notes: Vec<Note>,
     /// The declarations that go in front of the first mark.
     pub moved: Vec<u8>,

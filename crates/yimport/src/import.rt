@@ -13,6 +13,7 @@ use yforeign::lexer::{Lexemes, lexemes_of};
 /// A file that `yacc` reads, and what was changed for it.
 #[derive(Drop)]
 pub struct Imported {
+    /// The file that `yacc` reads.
     pub text: Vec<u8>,
     /// What was changed, by lines of the file, which are those of the text too.
     pub notes: Vec<Note>,
@@ -20,8 +21,9 @@ pub struct Imported {
     pub texts: Vec<u8>,
     /// The line of `%precedence` for each level that comes from one.
     pub levels: Vec<Option<usize>>,
-    /// The conflicts that the file expects.
+    /// The shift/reduce conflicts that the file expects.
     pub shift_reduce: Option<Expected>,
+    /// The reduce/reduce conflicts that the file expects.
     pub reduce_reduce: Option<Expected>,
 }
 
@@ -91,7 +93,7 @@ impl Work<'_> {
         self.import_all(&lexemes, &groups)
     }
 
-    /// What came of it.
+    /// The import, once all is taken in.
     fn imported(self) -> Imported {
         let Work {
             text,

@@ -1,4 +1,4 @@
-//! A grammar file of bison or byacc made one that `yacc` reads, with what is changed.
+//! A grammar file that `yacc` reads, made of one for bison or byacc, with what is changed.
 #![tactic(auto)]
 
 pub mod applied;

@@ -4,36 +4,55 @@ use std::alloc::{AllocError, AllocFailed};
 use yforeign::lexeme::{Flaw, Lexeme, Uncut};
 
 /// What a file has that can't be imported.
-#[derive(Clone, Copy, Debug, Drop, PartialEq, Eq)]
+#[derive(Clone, Copy, Drop, PartialEq, Eq)]
 pub enum Refusal {
+    /// No lexeme begins at a place.
     Flaw(Flaw),
+    /// A directive that isn't known.
     UnknownWord,
+    /// A directive that asks for another kind of parser.
     OtherParser,
+    /// `%no-default-prec`.
     NoDefault,
+    /// A second start symbol.
     SeveralStarts,
+    /// A lexeme that can't stand where it does.
     Misplaced,
+    /// A directive whose list is empty.
     NothingListed,
+    /// A code block between rules.
     CodeBetween,
+    /// The end where `yacc` can't put it.
     EndElsewhere,
+    /// The end, where the start symbol stands in a body.
     EndAndStart,
+    /// The end behind an action that would become the last of its rule.
     EndBehindAction,
+    /// A second `%prec` in a rule.
     SecondPrec,
+    /// A name with dashes that would become one that is there.
     NameTaken,
 }
 
 /// What is refused, its line, and where it stands; at no place, where it is no lexeme.
-#[derive(Clone, Copy, Debug, Drop)]
+#[derive(Clone, Copy, Drop)]
 pub struct Refused {
+    /// What is refused.
     pub refusal: Refusal,
+    /// Its line, counted from 1.
     pub line: usize,
+    /// How many bytes stand before it.
     pub from: usize,
+    /// How many bytes stand before what follows it.
     pub to: usize,
 }
 
 /// Why there is no import.
-#[derive(Debug, Drop)]
+#[derive(Drop)]
 pub enum Trouble {
+    /// The file is refused.
     Refused(Refused),
+    /// Memory ran out.
     Memory,
 }
 

@@ -11,18 +11,24 @@ use yforeign::survey::{Survey, inside, is_text};
 use ysymbols::names::{Printed, is_among};
 
 /// A number of conflicts that a file expects, and the line that says so.
-#[derive(Clone, Copy, Debug, Drop)]
+#[derive(Clone, Copy, Drop)]
 pub struct Expected {
+    /// The line, counted from 1.
     pub line: usize,
+    /// The number.
     pub number: usize,
 }
 
 /// A file while it is imported.
 #[derive(Drop)]
 pub struct Work<'a> {
+    /// The allocator.
     pub alloc: Global,
+    /// The file.
     pub source: &'a [u8],
+    /// What its names and strings are.
     pub survey: Survey,
+    /// The changes so far.
     pub edits: Edits<'a>,
     /// The number of the name made for each string that stands for no token.
     made: IndexMap<Vec<u8>, usize>,
@@ -30,10 +36,13 @@ pub struct Work<'a> {
     renamed: IndexMap<Vec<u8>, Vec<u8>>,
     /// The line of `%precedence` for each level that comes from one.
     pub levels: Vec<Option<usize>>,
+    /// The shift/reduce conflicts that the file expects.
     pub shift_reduce: Option<Expected>,
+    /// The reduce/reduce conflicts that the file expects.
     pub reduce_reduce: Option<Expected>,
     /// The left side of the rule.
     pub left: Option<Lexeme>,
+    /// Whether a `%start` was met.
     pub has_start: bool,
     /// The file with its changes.
     pub text: Vec<u8>,

@@ -7,20 +7,22 @@ use ylalr::{Automaton, END, Item, token_count};
 use ysymbols::Sym;
 
 /// The conflicts of an automaton. Where a shift meets two reductions, there is one of each kind.
-#[derive(Clone, Copy, Debug, Drop)]
+#[derive(Clone, Copy, Drop)]
 pub struct Counts {
+    /// Shift/reduce conflicts.
     pub shift_reduce: usize,
+    /// Reduce/reduce conflicts.
     pub reduce_reduce: usize,
 }
 
 /// What bison leaves in a cell: whether the shift, and how many reductions.
-#[derive(Clone, Copy, Debug)]
+#[derive(Clone, Copy)]
 struct Left {
     shift: bool,
     reductions: usize,
 }
 
-/// A walk over the states that can be reached by what is left in the cells.
+/// A walk over the states that can be reached by what bison leaves in the cells.
 #[derive(Drop)]
 struct Walk<'a> {
     automaton: &'a Automaton,
@@ -54,7 +56,7 @@ fn ready_items(
     Ok(ready)
 }
 
-/// How a rule stands against the shift, where that is still left.
+/// How a rule stands against the shift, where the shift is still there.
 fn standing(automaton: &Automaton, shift: bool, rule: usize, token: Sym) -> Standing {
     if shift {
         standing_of(automaton.grammar(), rule, token)
@@ -63,8 +65,8 @@ fn standing(automaton: &Automaton, shift: bool, rule: usize, token: Sym) -> Stan
     }
 }
 
-/// What is left in a cell: bison compares the rules with the shift in their order, while that is
-/// left.
+/// What is left in a cell: bison compares the rules with the shift in their order, as long as the
+/// shift is there.
 fn left_in(automaton: &Automaton, state: usize, token: Sym, ready: &[Item]) -> Left {
     let mut left = Left {
         shift: shifts(automaton, state, token),

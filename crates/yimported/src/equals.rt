@@ -5,11 +5,15 @@ use ylalr::{Automaton, Item, token_count};
 use ysymbols::Sym;
 
 /// Such a cell, and the line of `%precedence`.
-#[derive(Clone, Copy, Debug)]
+#[derive(Clone, Copy)]
 pub struct Equal {
+    /// The line of `%precedence`, counted from 1.
     pub line: usize,
+    /// The state of the cell.
     pub state: usize,
+    /// The token of the cell.
     pub token: Sym,
+    /// The rule of the same level.
     pub rule: usize,
 }
 
@@ -29,7 +33,7 @@ fn level_of_rule(automaton: &Automaton, levels: &[Option<usize>], rule: usize) -
 }
 
 /// A level that comes from `%precedence`.
-#[derive(Clone, Copy, Debug)]
+#[derive(Clone, Copy)]
 struct Level {
     number: usize,
     line: usize,

@@ -16,7 +16,9 @@ use ytables::Tables;
 /// What is asked for: the import of a file, to a file of this path or to standard output.
 #[derive(Clone, Copy)]
 pub struct Asked<'a> {
+    /// The path of the file.
     pub file: &'a str,
+    /// The path to which the import goes; `None` for standard output.
     pub output: Option<&'a str>,
 }
 
@@ -149,8 +151,8 @@ fn import_bytes<F: Files + AllocGlobal, W: Write, E: Write>(
     }
 }
 
-/// Writes what is asked for, with a line on `errors` for each change, and gives the exit status: 0;
-/// 1 where the file is refused; 3 where a file can't be read or written, or for want of memory.
+/// Writes what is asked for, with a line on `errors` for each change, and gives the exit status:
+/// 0; 1 where the file is refused; 3 where a file can't be read or written, or memory runs out.
 pub fn run_import<F: Files + AllocGlobal, W: Write, E: Write>(
     rt: &F,
     asked: Asked<'_>,

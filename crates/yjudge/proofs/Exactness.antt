@@ -69,7 +69,7 @@ same_below b d y e =
 
 module _ (g : ContextFree) (m : Machine) (w : WellFormed g) (s : IsSound g m)
     (f : IsComplete g m) where
-  -- The cell that the wanted step has.
+  -- The cell of the step that is needed.
   data Cell (c : Configuration) (p u : List ℕ) : Type 0 where
     cell_shift : (t : ℕ) (rest : List ℕ) → u ≡ t ∷ rest
         → m.cell (symbols c.stack) (lookahead c.rest) ≡ Shift → Along g (t ∷ p) rest → Cell c p u
@@ -115,7 +115,7 @@ module _ (g : ContextFree) (m : Machine) (w : WellFormed g) (s : IsSound g m)
         all_back (IsToken g) t.word (tokens_left now.rest)
         (subst (All (IsToken g)) (shifted_all t.shifted) input)
 
-    -- what is left of the tokens up to the cutting, with the sentence's tokens behind
+    -- the upcoming tokens up to the cutting, with the sentence's tokens behind
     abbrev Goes : Configuration → Type 0
     Goes c = (e : List ℕ) → tokens_left c.rest ≡ e ++ back → Along g (prefix_of c) (e ++ other_back)
 

@@ -39,7 +39,7 @@ abbrev pub HaltedLaw : Type 0
 HaltedLaw = (m : Machine) (w : List ℕ) (h : History) → IsQuiet m w h → next m h.now ≡ None
     → (h.now.mode ≡ modes.Accepted → ⊥) → Says m w Limit
 
--- With no error detected, the place ahead tells how many tokens are left.
+-- With no error detected, the place ahead tells how many tokens are upcoming.
 abbrev pub PlaceLaw : Type 0
 PlaceLaw = (m : Machine) (w : List ℕ) (h : History) → IsQuiet m w h
     → place_ahead w h.now.rest + length h.now.rest ≡ length w + 1

@@ -87,7 +87,7 @@ onward m b a P (s ∷ []) h x l = record {
 onward m b a P (s ∷ (t ∷ extra)) h x l =
     onward m b s.1 P (t ∷ extra) h.1 (All-tail P s (t ∷ extra) x) (omega arith)
 
--- a run that detects no error goes not beyond where one is detected
+-- a run that detects no error does not go beyond where one is detected
 not_beyond : (m : Machine) (first a b after : Configuration) (p q : Steps) → StepsTo m first a p
     → StepsTo m first b q → NoDetect p → next m b ≡ Some (kinds.Detect, after) → length q < length p
     → ⊥
@@ -136,7 +136,7 @@ one_history m w h other q k e =
     same_history h other r.0 r.1
 
 module _ (m : Machine) (w : List ℕ) where
-  -- a history that detects no error goes not beyond where one is accepted
+  -- a history that detects no error does not go beyond where one is accepted
   pub accepted_last : (h a : History) → IsQuiet m w h → IsQuiet m w a → a.now.mode ≡ modes.Accepted
       → position a ≤ position h → h ≡ a
   accepted_last h a q k d l =
@@ -153,7 +153,7 @@ module _ (m : Machine) (w : List ℕ) where
       by (inl l) = accepted_last h other q k e l
       by (inr l) = sym (accepted_last other h k q d (omega (arith, l)))
 
-  -- nor beyond where an error is detected
+  -- nor does it go beyond where an error is detected
   pub rejected_last : {place : ℕ} (h : History) (r : RejectedAt m w place) → IsQuiet m w h
       → position r.h < position h → ⊥
   rejected_last h r q l =

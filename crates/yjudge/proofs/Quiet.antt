@@ -70,7 +70,7 @@ inserted b token c = if b then Some (
   record c { rest = (token, 0) ∷ c.rest },
 ) else None
 
--- an edit is told as one
+-- an edit is seen as an edit
 module _ (m : Machine) (c : Configuration) (k : StepKind) (n : Configuration) where
   by_inserted : (token : ℕ) (b : Bool) → inserted b token c ≡ Some (k, n) → is_edit k ≡ true
   by_inserted token true e = ap (λ (z : StepKind × Configuration). is_edit z.0) (sym (some_is e))
@@ -99,7 +99,7 @@ module _ (m : Machine) (c : Configuration) (k : StepKind) (n : Configuration) wh
   by_step (inl s) u = s
   by_step (inr e) u = absurd (true_false (sym (is_edited e.0 e.1) ∙ u))
 
--- a history without edits goes by steps
+-- each configuration of a history without edits comes from a step
 pub steps_to : (m : Machine) (first now : Configuration) (earlier : List (StepKind × Configuration))
     → LeadsTo (next m) (edited m) first now earlier → NoEdits earlier → StepsTo m first now earlier
 steps_to m first now [] h u = h

@@ -182,7 +182,7 @@ module _ (t : Tables) (b : Basis t) where
           ∙ (ap (λ (q : Option ℕ). found (move_of (cell_in t q token))) top
           ∙ ap (λ (x : Action). found (move_of x)) (cell a e)))
 
-      -- where a token is left
+      -- where there is an upcoming token
       record IsLeft : Type 0 where
         pub within : taken < length tokens
         pub rest : c.rest ≡ (token, 1 + taken) ∷ drop (suc taken) (places_from 1 tokens)

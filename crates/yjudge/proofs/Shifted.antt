@@ -14,7 +14,7 @@ use Rattle.yjudge.proofs.Laws.{PlaceLaw}
 use Rattle.yjudge.proofs.Quiet.{Plain, plain_shift, plain_reduce, plain_accept, plain_fail, PlainTo}
 use Rattle.yjudge.proofs.Quiet.{apart, quiet_plain}
 
--- The tokens are those shifted and those left, with their places.
+-- The tokens are those shifted and the upcoming ones, with their places.
 pub record Shifted (tokens word : List ℕ) (rest : List (ℕ × ℕ)) : Type 0 where
   pub back : List ℕ
   pub parts : tokens ≡ word ++ back
@@ -90,7 +90,7 @@ shifted_to m tokens now (step ∷ earlier) h = by h.0 (shifted_to m tokens step.
     by (plain_accept d k st re mo) y = (y.0, subst (Shifted tokens y.0) (sym re) y.1)
     by (plain_fail k st re mo) y = (y.0, subst (Shifted tokens y.0) (sym re) y.1)
 
--- so the place ahead tells how many tokens are left
+-- so the place ahead tells how many tokens are upcoming
 pub place_left : PlaceLaw
 place_left m w h q =
     let t = shifted_to m w h.now h.earlier (quiet_plain m w h q) in

@@ -1,4 +1,4 @@
--- A configuration on the way of a rightmost derivation read backward, and the step that it wants
+-- A configuration on the way of a rightmost derivation read backward, and the step that it needs
 -- (Aho, Sethi and Ullman, 4.5: handle pruning).
 use Rattle.std.proofs.Common.{ℕ, suc, ◌≡◌, ◌≢◌, ◌<◌, List, [], ◌∷◌, ◌++◌, length, drop, reverse}
 use Rattle.std.proofs.Common.{refl, sym, ◌∙◌, ap, subst, append_assoc, append-nil, inl, inr, arith}
@@ -14,13 +14,13 @@ use Rattle.yjudge.proofs.Yields.{all_middle, no_middle, Cut, cut, Uses, yields_s
 use Rattle.yjudge.proofs.Sentential.{Sent, begins, goes, listed, replacements, ended, not_first}
 use Rattle.yjudge.proofs.Sentential.{ahead, slide, expects_within, valid_new}
 
--- the stack p and the tokens u left lie on the way: the last replaced body isn't covered yet
+-- the stack p and the upcoming tokens u lie on the way: the last replaced body isn't covered yet
 abbrev pub Ready : {g : ContextFree} {x : List ℕ} → Sent g x → List ℕ → List ℕ → Type 0
 Ready (begins e) p u = u ≡ []
 Ready {g = g} (goes d s k) p u =
     (part : List ℕ) × (u ≡ part ++ s.after) × (s.before ++ body_of g s.rule ≡ reverse p ++ part)
 
--- The step that the derivation wants, and that it leads on the way again.
+-- The step that the derivation needs, and that it leads on the way again.
 pub data Wants (g : ContextFree) {x : List ℕ} (d : Sent g x) (p u : List ℕ) : Type 0 where
   wants_shift : (t : ℕ) (rest : List ℕ) → u ≡ t ∷ rest → Expects g p t → Ready d (t ∷ p) rest
       → Wants g d p u

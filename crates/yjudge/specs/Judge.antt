@@ -15,7 +15,7 @@ use Rattle.ymachine.specs.History.{History, places_from}
 use Rattle.ymachine.specs.Sound.{Sound}
 use Rattle.yjudge.specs.Verdict.{IsQuiet}
 
--- the state on top, or 0 where there is none
+-- the state on top, or 0 where there are no states
 abbrev pub top_of : List ℕ → ℕ
 top_of states = slice_index_or states (length states - 1) 0
 

@@ -17,7 +17,7 @@ use ysymbols::Sym;
 use ytables::{Action, Tables};
 use ytokens::tokens::Tokens;
 
-/// How many steps may stand.
+/// The most steps that may stand.
 const MOST_STEPS: usize = 1_000_000;
 
 /// What the steps of a parse come to, from its first configuration on (Aho, Sethi and Ullman, 4.7,
@@ -38,7 +38,7 @@ pub enum Verdict {
 /// Why there is no verdict.
 #[derive(Clone, Copy, Debug, PartialEq, Eq, Error)]
 pub enum JudgeFault {
-    /// J1: a growth was refused. It may stand in place of any verdict.
+    /// J1: memory ran out. It may come in place of any verdict.
     #[error("no memory")]
     Memory,
 }
@@ -49,7 +49,7 @@ impl<T: Drop> From<AllocFailed<T>> for JudgeFault {
     }
 }
 
-/// What a parse by tables rests on. The call does nothing else.
+/// This call does nothing. It says what a parse by tables rests on.
 fn basis(tables: &Tables)
     ensures { Basis tables.now }
 {
@@ -114,10 +114,10 @@ fn verdict_on(alloc: Global, tables: &Tables, tokens: &Tokens) -> Result<Verdict
 /// stopped at the first acceptance, at the first error that is detected, or at position 1,000,000
 /// (Aho, Sethi and Ullman, 4.7, the LR parsing algorithm).
 ///
-/// The tokens were read for these tables, or fit them (`Tokens::fits`). Tables and tokens are lent,
-/// so that one pair of tables serves many lists of tokens. No past, no trees and no places are
-/// kept: the one list that grows has a number for each symbol on the stack. The one fault is J1: a
-/// growth was refused.
+/// The tokens were read for these tables, or fit them (`Tokens::fits`). Tables and tokens are
+/// lent, so one pair of tables serves many lists of tokens. No past, no trees and no places are
+/// kept: the only list that grows has a number for each symbol on the stack. The only fault is J1:
+/// memory ran out.
 ///
 /// ```
 /// let grammar = b"%token NUM %% list : | list NUM ';' ;";
@@ -133,8 +133,8 @@ pub fn judge(alloc: Global, tables: &Tables, tokens: &Tokens) -> Result<Verdict,
     ensures machine { IsMachineOf tables.now.built.grammar (machine_over tables.now) }
     // The verdict is what its steps come to.
     ensures verdict { IfOk result (IsVerdict (machine_over tables.now) (symbols_of tokens.now)) }
-    // By any tables, what is accepted is a sentence, and what stands before a rejected token begins
-    // one.
+    // By any tables, what is accepted is a sentence, and what stands before a rejected token
+    // begins one.
     ensures sound { IfOk result
         (IsSoundOf tables.now.built.grammar.bare (symbols_of tokens.now)) }
     // Where no cell has a choice, a sentence is accepted, and no sentence goes on by a rejected

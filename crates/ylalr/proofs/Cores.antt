@@ -140,7 +140,7 @@ module _ (g : ContextFree) (t : StateLists) (are : AreStates g t) (p : List ℕ)
       closed_moved (((are.each n b).closure i).0
       ((e i).1 ((c i).0 (((are.each q a).closure i).1 (given k))))) h
 
-  -- a state other than the first is none with the items of the first
+  -- no state but the first has the items of the first
   not_first : (n : ℕ) → 0 < n → n < length t.closures → IsCore g p (set_at t.closures 0) →
       IsCore g p (set_at t.closures n) → ⊥
   not_first n l b c e =

@@ -1,8 +1,8 @@
--- Lookaheads in the making: what one more item adds is sound, and stays; and what the links make of
--- it.
+-- Lookaheads that are not complete yet: what one more item adds is sound, and stays; and what the
+-- links make of it.
 use Rattle.std.proofs.Common.{ℕ, zero, suc, ◌≡◌, ◌<◌, ◌≤◌, ◌+◌, ◌⊎◌, ◌↔◌, List, [], ◌∷◌, ◌++◌}
-use Rattle.std.proofs.Common.{length, drop, get_or, refl, sym, ◌∙◌, ap, subst, inl, inr, arith}
-use Rattle.std.proofs.Common.{Option, Some, None, MatchOption}
+use Rattle.std.proofs.Common.{length, drop, take, get_or, refl, sym, ◌∙◌, ap, subst, inl, inr}
+use Rattle.std.proofs.Common.{arith, Option, Some, None, MatchOption}
 use Rattle.std.proofs.Math.ListN.{set}
 use Rattle.std.specs.List.{All}
 use Rattle.ysymbols.specs.Grammar.{ContextFree, left_of, body_of, IsToken, end_token}
@@ -73,6 +73,29 @@ below_dot zero (s ∷ b) x y e = omega arith
 below_dot (suc d) [] x y e = absurd (cc)
 below_dot (suc d) (s ∷ b) x y e = let z = below_dot d b x y e in omega arith
 
+-- forms with equal beginnings have equal symbols behind a shorter one
+before_dot : (d : ℕ) (b c : List ℕ) (x : ℕ) (y : List ℕ) → take (suc d) b ≡ take (suc d) c →
+    drop d b ≡ x ∷ y → (take d b ≡ take d c) × ((z : List ℕ) × (drop d c ≡ x ∷ z))
+before_dot zero [] c x y e h = absurd (cc)
+before_dot zero (v ∷ b) [] x y e h = absurd (cc)
+before_dot zero (v ∷ b) (w ∷ c) x y e h = (
+  refl,
+  (
+    c,
+    let k : v ≡ x = heads v x b y (v ∷ b) refl h in
+        let j : v ≡ w = heads v w [] [] (v ∷ []) refl e in
+        ap (λ u. u ∷ c) (sym j ∙ k),
+  ),
+)
+before_dot (suc d) [] c x y e h = absurd (cc)
+before_dot (suc d) (v ∷ b) [] x y e h = absurd (cc)
+before_dot (suc d) (v ∷ b) (w ∷ c) x y e h =
+    let j : v ≡ w = heads v w (take (suc d) b) (take (suc d) c) (v ∷ take (suc d) b) refl e in
+    let t : take (suc d) b ≡ take (suc d) c = tails v w (take (suc d) b) (take (suc d) c)
+    (v ∷ take (suc d) b) refl e in
+    let z = before_dot d b c x y t h in
+    (ap (λ u. u ∷ take d b) j ∙ ap (λ u. w ∷ u) z.0, z.1)
+
 pub step_is : (i : Item) → ◌≡◌ {A = Item} (record { rule = i.rule; dot = i.dot + 1 }) (step_of i)
 step_is i = let e : i.dot + 1 ≡ suc i.dot = omega arith in λ j. record { rule = i.rule; dot = e j }
 
@@ -126,6 +149,31 @@ module _ (P : Lr0) (f : WellFormed P.grammar.bare) (fit : FitLr0 P) where
   rule_below q i p x = subst (λ (v : Item). v.rule < length P.grammar.bare.rules) x.at.here
       ((fit.states.each q x.state).range x.at.index i x.at.within).0
 
+  first_rule : (r : ℕ) → r < length P.grammar.bare.rules → left_of P.grammar.bare r ≡ left_of
+      P.grammar.bare 0 → r ≡ 0
+  first_rule zero h e = refl
+  first_rule (suc r) h e = absurd (f.accept_once (suc r) (omega arith) h e)
+
+  -- whatever the rules give to one item, they give to all that may share its row
+  shared_spread : {q r d a : ℕ} → Spread P.grammar.bare (goto_of P.gotos) q r d a → (k : Item) →
+      k.rule < length P.grammar.bare.rules → Shares P.grammar.bare (record { rule = r; dot = d }) k →
+      SpreadIn P q k a
+  shared_spread starts k h s =
+      let e : k.rule ≡ 0 = first_rule k.rule h (sym s.left) in
+      subst (λ v. Spread P.grammar.bare (goto_of P.gotos) 0 v k.dot end_token) (sym e)
+      (subst (λ v. Spread P.grammar.bare (goto_of P.gotos) 0 0 v end_token) s.dot starts)
+  shared_spread (closes {q = q} {b = b} {y = y} z e n w) k h s =
+      subst (λ v. Spread P.grammar.bare (goto_of P.gotos) q k.rule v b) s.dot
+      (closes z (e ∙ ap (λ v. v ∷ y) s.left) h w)
+  shared_spread (moves {n = n} {r = r} {d = d} {a = a} {x = x} {y = y} z e u w) k h s =
+      let j : Item = record { rule = k.rule; dot = d } in
+      let t : take (suc d) (body_of P.grammar.bare r) ≡ take (suc d) (body_of P.grammar.bare k.rule) =
+      s.before ∙ ap (λ v. take v (body_of P.grammar.bare k.rule)) (sym s.dot) in
+      let p = before_dot d (body_of P.grammar.bare r) (body_of P.grammar.bare k.rule) x y t e in
+      let before = shared_spread z j h (record { left = s.left; dot = refl; before = p.0 }) in
+      subst (λ v. Spread P.grammar.bare (goto_of P.gotos) n k.rule v a) s.dot
+      (moves before p.1.1 u w)
+
   -- what the closure rule gives to one item, it gives to all that share its row
   opened_on : (q n t a : ℕ) (i k j : Item) (s : ℕ) (y : List ℕ) (b : ℕ) → SpreadIn P q i a →
       drop i.dot (body_of P.grammar.bare i.rule) ≡ s ∷ y → First P.grammar.bare (y ++ a ∷ []) b →
@@ -139,8 +187,7 @@ module _ (P : Lr0) (f : WellFormed P.grammar.bare) (fit : FitLr0 P) where
       (subst (λ d. Spread P.grammar.bare (goto_of P.gotos) q j.rule d b) (sym oj.0) r)
     where
       both : Shares P.grammar.bare k j → Starts P.grammar.bare s j
-      both (inl h) = subst (Starts P.grammar.bare s) h o
-      both (inr h) = (h.1.0, h.1.1 ∙ o.1)
+      both h = (sym h.dot ∙ o.0, sym h.left ∙ o.1)
 
   -- the dot stands in front of a symbol and then the form y, and `to` is the row of the items of
   -- that symbol with the dot at 0
@@ -191,17 +238,12 @@ module _ (P : Lr0) (f : WellFormed P.grammar.bare) (fit : FitLr0 P) where
   pub carries_shift : (h : Here) (t : ℕ) → IsHere P h → IsMoved P h t → Carries P h.row t
   carries_shift h t ih m = record { state = h.state; item = h.item; place = ih; on = on }
     where
-      same : (k : Item) → Shares P.grammar.bare (step_of h.item) k → step_of h.item ≡ k
-      same k (inl e) = e
-      same k (inr e) = absurd (let z = e.0 in omega arith)
-
       on : (n : ℕ) (k : Item) (a : ℕ) → RowIn P n k t → SpreadIn P h.state h.item a →
           SpreadIn P n k a
       on n k a pk sp =
           let z = same_row m.target n (step_of h.item) k t m.place pk in
           let r : SpreadIn P m.target (step_of h.item) a = moves sp m.moves.1 m.moves.2 m.leads in
-          subst (λ v. SpreadIn P v k a) z.0 (subst (λ (v : Item). SpreadIn P m.target v a)
-          (same k z.1) r)
+          subst (λ v. SpreadIn P v k a) z.0 (shared_spread r k (rule_below n k t pk) z.1)
 
   -- other items of the row that is opened
   pub opens_by : (d : DraftValue) (h : Here) (to : ℕ) (y : List ℕ) → Opening h to y →
@@ -266,7 +308,7 @@ module _ (P : Lr0) (f : WellFormed P.grammar.bare) (fit : FitLr0 P) where
           let k = s.carried p t l in
           k.on q i c ip (go z k.state k.item k.place)
 
-  -- and closed
+  -- the rows with all that is passed on are closed
   pub spread_closed : (d : DraftValue) (m : BitRows) → SoundDraft P d → IsSpread d.links d.looks m →
       StartsDraft P d → ((q : ℕ) → q < length P.states.closures → ServesState P d q) →
       ClosedLooks P.grammar.bare (goto_of P.gotos) P.states P.item_rows m
@@ -309,28 +351,13 @@ module _ (P : Lr0) (f : WellFormed P.grammar.bare) (fit : FitLr0 P) where
       SoundLooks P.grammar.bare (goto_of P.gotos) P.states P.item_rows o
   sound_start m o t none it x q i p b ip z = go ((x p b).0 z)
     where
-      first_rule : (r : ℕ) → r < length P.grammar.bare.rules → left_of P.grammar.bare r ≡ left_of
-          P.grammar.bare 0 → r ≡ 0
-      first_rule zero h e = refl
-      first_rule (suc r) h e = absurd (f.accept_once (suc r) (omega arith) h e)
-
-      on : Shares P.grammar.bare start_item i → i.rule < length P.grammar.bare.rules →
-          Spread P.grammar.bare (goto_of P.gotos) 0 i.rule i.dot end_token
-      on (inl e) h = subst (λ (v : Item). Spread P.grammar.bare (goto_of P.gotos) 0 v.rule v.dot
-          end_token) e starts
-      on (inr e) h =
-          let r : i.rule ≡ 0 = first_rule i.rule h e.1.1 in
-          subst (λ v. Spread P.grammar.bare (goto_of P.gotos) 0 v i.dot end_token) (sym r)
-          (subst (λ v. Spread P.grammar.bare (goto_of P.gotos) 0 0 v end_token)
-          (sym e.1.0) starts)
-
       go : Holds m p b ⊎ ((p ≡ t) × (b ≡ end_token)) → SpreadIn P q i b
       go (inl w) = absurd (none p b w)
       go (inr w) =
           let s = same_row 0 q start_item i t it (subst (RowIn P q i) w.0 ip) in
           subst (λ v. SpreadIn P v i b) s.0
           (subst (λ v. Spread P.grammar.bare (goto_of P.gotos) 0 i.rule i.dot v) (sym w.1)
-          (on s.1 (rule_below q i p ip)))
+          (shared_spread starts i (rule_below q i p ip) s.1))
 
   pub start_marked : (m o : BitRows) (t : ℕ) → RowIn P 0 start_item t →
       ((r c : ℕ) → Holds o r c ↔ (Holds m r c ⊎ ((r ≡ t) × (c ≡ end_token)))) →

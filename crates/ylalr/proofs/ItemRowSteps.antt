@@ -1,16 +1,16 @@
 -- The rows of the items of a state, one item more; and those of the states, one state more.
 use Rattle.std.proofs.Common.{ℕ, zero, suc, ◌≡◌, ◌≢◌, ◌<◌, ◌≤◌, ◌+◌, ◌*◌, ◌⊎◌, List, [], ◌∷◌, ◌++◌}
-use Rattle.std.proofs.Common.{length, get_or, refl, sym, ◌∙◌, ap, subst, inl, inr, arith, Option}
-use Rattle.std.proofs.Common.{Some, None, get_or-set_same, get_or-set_other}
+use Rattle.std.proofs.Common.{length, get_or, take, refl, sym, ◌∙◌, ap, subst, inl, inr, arith}
+use Rattle.std.proofs.Common.{Option, Some, None, get_or-set_same, get_or-set_other}
 use Rattle.std.proofs.Math.ListN.{set, length-set}
-use Rattle.ysymbols.specs.Grammar.{ContextFree, left_of}
+use Rattle.ysymbols.specs.Grammar.{ContextFree, left_of, body_of}
 use Rattle.ysymbols.specs.WellFormed.{WellFormed}
 use Rattle.ylalr.specs.declared.items.Item.{Item}
 use Rattle.yrows.specs.Limits.{most_states}
 use Rattle.ylalr.specs.Sets.{Before, IsAscending, InRange}
 use Rattle.ylalr.specs.States.{StateLists, set_at, start_item}
 use Rattle.ylalr.specs.ItemRows.{ItemRows, At, Starts, Shares, AreRows, FillRows, AreLefts, TakesRow}
-use Rattle.ylalr.specs.ItemRows.{AreItemRows}
+use Rattle.ylalr.specs.ItemRows.{AreItemRows, HasTwin, TakesOne}
 use Rattle.ylalr.proofs.StateSteps.{push_old, push_new, push_length, last_or}
 
 same_or : (a b : ℕ) → (a ≡ b) ⊎ (a ≢ b)
@@ -56,6 +56,32 @@ at_new xs rows x p e = record {
 no_items : (rows : List ℕ) (i : Item) (p : ℕ) → At [] rows i p → ⊥
 no_items rows i p a = let h = a.within in omega arith
 
+-- sharing is an equivalence
+shares_itself : (g : ContextFree) (i : Item) → Shares g i i
+shares_itself g i = record { left = refl; dot = refl; before = refl }
+
+shares_back : (g : ContextFree) (i k : Item) → Shares g i k → Shares g k i
+shares_back g i k s = record { left = sym s.left; dot = sym s.dot; before = sym s.before }
+
+shares_on : (g : ContextFree) (i k x : Item) → Shares g i k → Shares g k x → Shares g i x
+shares_on g i k x s t = record {
+  left = s.left ∙ t.left;
+  dot = s.dot ∙ t.dot;
+  before = s.before ∙ t.before;
+}
+
+-- items of one left side with the dot at 0 have nothing before it
+pub starts_share : (g : ContextFree) (i k : Item) → i.dot ≡ 0 → k.dot ≡ 0 →
+    left_of g i.rule ≡ left_of g k.rule → Shares g i k
+starts_share g i k d e l = record {
+  left = l;
+  dot = d ∙ sym e;
+  before = nothing i d ∙ sym (nothing k e);
+}
+  where
+    nothing : (v : Item) → v.dot ≡ 0 → take v.dot (body_of g v.rule) ≡ []
+    nothing v z = ap (λ n. take n (body_of g v.rule)) z
+
 -- the rows and left sides of some items of a state
 pub record Filling (g : ContextFree) (xs : List Item) (rows : List ℕ) (first end : ℕ)
     (lefts : List (Option ℕ)) : Type 0 where
@@ -88,41 +114,36 @@ filling_none g first lefts e none = record {
 
 module _ (g : ContextFree) (xs : List Item) (rows : List ℕ) (first end next p : ℕ) (x : Item)
     (old new : List (Option ℕ)) (f : Filling g xs rows first end old)
-    (hx : left_of g x.rule < g.symbols) (takes : TakesRow g x end old new p)
+    (hx : left_of g x.rule < g.symbols) (takes_one : TakesOne g xs rows x end old new p)
     (same : p ≡ end → next ≡ end + 1) (other : p ≢ end → next ≡ end) where
   ex : length rows ≡ length xs
   ex = f.filled.are.sized
 
-  -- the row is that of an item before, or a new one
-  again : (p ≡ end) ⊎ ((k : Item) × At xs rows k p × Starts g (left_of g x.rule) k × (x.dot ≡ 0))
-  again = go takes
+  -- the row is that of an item before, which may share it, or a new one
+  again : (p ≡ end) ⊎ HasTwin g xs rows x p
+  again = go takes_one
     where
-      go : TakesRow g x end old new p → (p ≡ end) ⊎
-          ((k : Item) × At xs rows k p × Starts g (left_of g x.rule) k × (x.dot ≡ 0))
-      go (inl t) = let z = f.by_left.found (left_of g x.rule) p t.1 in inr (z.0, z.1, z.2, t.0)
-      go (inr t) = inl t.0
+      go : TakesOne g xs rows x end old new p → (p ≡ end) ⊎ HasTwin g xs rows x p
+      go (inl (inl t)) =
+          let z = f.by_left.found (left_of g x.rule) p t.1 in
+          inr (record {
+            twin = z.0;
+            at = z.1;
+            shares = starts_share g z.0 x z.2.0 t.0 z.2.1;
+          })
+      go (inl (inr t)) = inl t.0
+      go (inr t) = inr t.2
 
   far : (i : Item) → At xs rows i p → p ≡ end → ⊥
   far i a e = let z = (f.filled.bounds i p a).1 in omega arith
 
   -- an item before has the same row: both share it
-  meets : (i : Item) → At xs rows i p → (i.dot ≡ 0) × Starts g (left_of g i.rule) x ×
-      (left_of g i.rule ≡ left_of g x.rule)
+  meets : (i : Item) → At xs rows i p → Shares g i x
   meets i a = go again
     where
-      two : (k : Item) → Starts g (left_of g x.rule) k → (x.dot ≡ 0) → Shares g i k →
-          (i.dot ≡ 0) × Starts g (left_of g i.rule) x × (left_of g i.rule ≡ left_of g x.rule)
-      two k o d (inl e) =
-          let el : left_of g i.rule ≡ left_of g x.rule = ap (λ (v : Item). left_of g v.rule) e ∙
-          o.1 in
-          (ap (λ (v : Item). v.dot) e ∙ o.0, (d, sym el), el)
-      two k o d (inr e) = let el : left_of g i.rule ≡ left_of g x.rule = sym e.1.1 ∙ o.1 in
-          (e.0, (d, sym el), el)
-
-      go : (p ≡ end) ⊎ ((k : Item) × At xs rows k p × Starts g (left_of g x.rule) k × (x.dot ≡ 0)) →
-          (i.dot ≡ 0) × Starts g (left_of g i.rule) x × (left_of g i.rule ≡ left_of g x.rule)
+      go : (p ≡ end) ⊎ HasTwin g xs rows x p → Shares g i x
       go (inl e) = absurd (far i a e)
-      go (inr z) = two z.0 z.2 z.3 (f.filled.are.apart i z.0 p a z.1)
+      go (inr z) = shares_on g i z.twin x (f.filled.are.apart i z.twin p a z.at) z.shares
 
   some_same : (o : Option ℕ) (a b : ℕ) → o ≡ Some a → o ≡ Some b → a ≡ b
   some_same o a b e h = cc
@@ -130,10 +151,18 @@ module _ (g : ContextFree) (xs : List Item) (rows : List ℕ) (first end next p 
   some_none : (o : Option ℕ) (a : ℕ) → o ≡ Some a → o ≡ None → ⊥
   some_none o a e h = cc
 
+  -- what an item with the dot at 0 takes
+  at_start : x.dot ≡ 0 → TakesRow g x end old new p
+  at_start d = go takes_one
+    where
+      go : TakesOne g xs rows x end old new p → TakesRow g x end old new p
+      go (inl t) = t
+      go (inr t) = absurd (let w = t.0 in omega (arith, w, d))
+
   -- an item before that could share the row has it
   joined : (i : Item) (t : ℕ) → At xs rows i t → i.dot ≡ 0 → left_of g i.rule ≡ left_of g x.rule →
       x.dot ≡ 0 → t ≡ p
-  joined i t a d el dx = go takes
+  joined i t a d el dx = go (at_start dx)
     where
       known : get_or old (left_of g x.rule) None ≡ Some t
       known = subst (λ s. get_or old s None ≡ Some t) el (f.by_left.every i t a d)
@@ -146,15 +175,10 @@ module _ (g : ContextFree) (xs : List Item) (rows : List ℕ) (first end next p 
   apart : (i k : Item) (t : ℕ) → At xs rows i t ⊎ ((i ≡ x) × (t ≡ p)) → At xs rows k t ⊎
       ((k ≡ x) × (t ≡ p)) → Shares g i k
   apart i k t (inl a) (inl b) = f.filled.are.apart i k t a b
-  apart i k t (inl a) (inr b) = let z = meets i (subst (At xs rows i) b.1 a) in
-      inr (z.0, subst (Starts g (left_of g i.rule)) (sym b.0) z.1)
-  apart i k t (inr a) (inl b) =
-      let z = meets k (subst (At xs rows k) a.1 b) in
-      inr (
-        ap (λ (v : Item). v.dot) a.0 ∙ z.1.0,
-        (z.0, z.2 ∙ ap (λ (v : Item). left_of g v.rule) (sym a.0)),
-      )
-  apart i k t (inr a) (inr b) = inl (a.0 ∙ sym b.0)
+  apart i k t (inl a) (inr b) = subst (Shares g i) (sym b.0) (meets i (subst (At xs rows i) b.1 a))
+  apart i k t (inr a) (inl b) = subst (λ (v : Item). Shares g v k) (sym a.0)
+      (shares_back g k x (meets k (subst (At xs rows k) a.1 b)))
+  apart i k t (inr a) (inr b) = subst (Shares g i) (a.0 ∙ sym b.0) (shares_itself g i)
 
   shared : (i k : Item) (t u : ℕ) → At xs rows i t ⊎ ((i ≡ x) × (t ≡ p)) → At xs rows k u ⊎
       ((k ≡ x) × (u ≡ p)) → i.dot ≡ 0 → Starts g (left_of g i.rule) k → t ≡ u
@@ -186,16 +210,15 @@ module _ (g : ContextFree) (xs : List Item) (rows : List ℕ) (first end next p 
       (z.0, (let w = z.1 in omega arith))
   bounds i t (inr a) = go again
     where
-      go : (p ≡ end) ⊎ ((k : Item) × At xs rows k p × Starts g (left_of g x.rule) k × (x.dot ≡ 0)) →
-          (first ≤ t) × (t < next)
+      go : (p ≡ end) ⊎ HasTwin g xs rows x p → (first ≤ t) × (t < next)
       go (inl e) = let z = same e in let r = f.filled.rising in let h = a.1 in
           (omega arith, omega arith)
-      go (inr z) = let w = f.filled.bounds z.0 p z.1 in let u = w.0 in let v = w.1 in
+      go (inr z) = let w = f.filled.bounds z.twin p z.at in let u = w.0 in let v = w.1 in
           let y = grown in let h = a.1 in (omega arith, omega arith)
 
   found : (s t : ℕ) → get_or new s None ≡ Some t → (i : Item) × At (xs ++ x ∷ []) (rows ++ p ∷ []) i
       t × Starts g s i
-  found s t e = go takes
+  found s t e = go takes_one
     where
       kept : get_or old s None ≡ Some t → (i : Item) × At (xs ++ x ∷ []) (rows ++ p ∷ []) i t ×
           Starts g s i
@@ -213,29 +236,33 @@ module _ (g : ContextFree) (xs : List Item) (rows : List ℕ) (first end next p 
       given ep d (inr q) h = kept (sym (get_or-set_other old (left_of g x.rule) s (Some end) None q)
           ∙ h)
 
-      go : TakesRow g x end old new p → (i : Item) × At (xs ++ x ∷ []) (rows ++ p ∷ []) i t ×
-          Starts g s i
-      go (inl z) = kept (subst (λ (l : List (Option ℕ)). get_or l s None ≡ Some t) z.2 e)
-      go (inr (ep, inl z)) = kept (subst (λ (l : List (Option ℕ)). get_or l s None ≡ Some t) z.1 e)
-      go (inr (ep, inr z)) = given ep z.0 (same_or s (left_of g x.rule))
+      go : TakesOne g xs rows x end old new p → (i : Item) × At (xs ++ x ∷ []) (rows ++ p ∷ []) i
+          t × Starts g s i
+      go (inr z) = kept (subst (λ (l : List (Option ℕ)). get_or l s None ≡ Some t) z.1 e)
+      go (inl (inl z)) = kept (subst (λ (l : List (Option ℕ)). get_or l s None ≡ Some t) z.2 e)
+      go (inl (inr (ep, inl z))) =
+          kept (subst (λ (l : List (Option ℕ)). get_or l s None ≡ Some t) z.1 e)
+      go (inl (inr (ep, inr z))) = given ep z.0 (same_or s (left_of g x.rule))
           (subst (λ (l : List (Option ℕ)). get_or l s None ≡ Some t) z.2 e)
 
   every : (i : Item) (t : ℕ) → At xs rows i t ⊎ ((i ≡ x) × (t ≡ p)) → i.dot ≡ 0 →
       get_or new (left_of g i.rule) None ≡ Some t
-  every i t (inl a) d = go takes
+  every i t (inl a) d = go takes_one
     where
-      go : TakesRow g x end old new p → get_or new (left_of g i.rule) None ≡ Some t
-      go (inl z) = subst (λ (l : List (Option ℕ)). get_or l (left_of g i.rule) None ≡ Some t)
+      go : TakesOne g xs rows x end old new p → get_or new (left_of g i.rule) None ≡ Some t
+      go (inr z) = subst (λ (l : List (Option ℕ)). get_or l (left_of g i.rule) None ≡ Some t)
+          (sym z.1) (f.by_left.every i t a d)
+      go (inl (inl z)) = subst (λ (l : List (Option ℕ)). get_or l (left_of g i.rule) None ≡ Some t)
           (sym z.2) (f.by_left.every i t a d)
-      go (inr (ep, inl z)) = subst (λ (l : List (Option ℕ)). get_or l (left_of g i.rule) None ≡ Some
-          t) (sym z.1) (f.by_left.every i t a d)
-      go (inr (ep, inr z)) = subst (λ (l : List (Option ℕ)). get_or l (left_of g i.rule) None ≡ Some
-          t) (sym z.2) (get_or-set_other old (left_of g x.rule) (left_of g i.rule) (Some end) None
+      go (inl (inr (ep, inl z))) = subst (λ (l : List (Option ℕ)). get_or l (left_of g i.rule) None
+          ≡ Some t) (sym z.1) (f.by_left.every i t a d)
+      go (inl (inr (ep, inr z))) = subst (λ (l : List (Option ℕ)). get_or l (left_of g i.rule) None
+          ≡ Some t) (sym z.2) (get_or-set_other old (left_of g x.rule) (left_of g i.rule) (Some end) None
           (λ q. some_none (get_or old (left_of g x.rule) None) t
           (subst (λ s. get_or old s None ≡ Some t) q (f.by_left.every i t a d)) z.1) ∙
           f.by_left.every i t a d)
   every i t (inr a) d = subst (λ (v : Item). get_or new (left_of g v.rule) None ≡ Some t) (sym a.0)
-      (subst (λ k. get_or new (left_of g x.rule) None ≡ Some k) (sym a.1) (go takes))
+      (subst (λ k. get_or new (left_of g x.rule) None ≡ Some k) (sym a.1) (go (at_start dx)))
     where
       dx : x.dot ≡ 0
       dx = ap (λ (v : Item). v.dot) (sym a.0) ∙ d
@@ -249,12 +276,13 @@ module _ (g : ContextFree) (xs : List Item) (rows : List ℕ) (first end next p 
           (subst (λ k. left_of g x.rule < k) (sym f.by_left.sized) hx) ∙ ap (λ k. Some k) (sym ep))
 
   size : length new ≡ g.symbols
-  size = go takes
+  size = go takes_one
     where
-      go : TakesRow g x end old new p → length new ≡ g.symbols
-      go (inl z) = ap (λ (l : List (Option ℕ)). length l) z.2 ∙ f.by_left.sized
-      go (inr (ep, inl z)) = ap (λ (l : List (Option ℕ)). length l) z.1 ∙ f.by_left.sized
-      go (inr (ep, inr z)) = ap (λ (l : List (Option ℕ)). length l) z.2 ∙ length-set old
+      go : TakesOne g xs rows x end old new p → length new ≡ g.symbols
+      go (inr z) = ap (λ (l : List (Option ℕ)). length l) z.1 ∙ f.by_left.sized
+      go (inl (inl z)) = ap (λ (l : List (Option ℕ)). length l) z.2 ∙ f.by_left.sized
+      go (inl (inr (ep, inl z))) = ap (λ (l : List (Option ℕ)). length l) z.1 ∙ f.by_left.sized
+      go (inl (inr (ep, inr z))) = ap (λ (l : List (Option ℕ)). length l) z.2 ∙ length-set old
           (left_of g x.rule) (Some end) ∙ f.by_left.sized
 
   pub filling_push : Filling g (xs ++ x ∷ []) (rows ++ p ∷ []) first next new

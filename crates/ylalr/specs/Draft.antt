@@ -1,4 +1,5 @@
--- Lookaheads in the making: what rows have by themselves, and the links along which they give.
+-- Lookaheads that are not complete yet: what rows have from the start, and the links along which
+-- they give.
 use Rattle.std.specs.Prelude.{ℕ, ◌≡◌, ◌≢◌, ◌<◌, ◌⊎◌, List, ◌∷◌, length, drop, All, Option, Some}
 use Rattle.ysymbols.specs.Grammar.{left_of, body_of, end_token}
 use Rattle.ylalr.specs.declared.items.Item.{Item}
@@ -22,7 +23,7 @@ pub record DraftValue : Type 0 where
 abbrev pub RowIn : Lr0 → ℕ → Item → ℕ → Type 0
 RowIn P q i p = IsRowOf P.states P.item_rows q i p
 
--- the row that is said is that of the item
+-- the row that is given is that of the item
 abbrev pub IsHere : Lr0 → Here → Type 0
 IsHere P h = IsRowOf P.states P.item_rows h.state h.item h.row
 
@@ -64,18 +65,18 @@ OpensAt P d q i p =
     (n t : ℕ) (y : List ℕ) → drop i.dot (body_of P.grammar.bare i.rule) ≡ left_of P.grammar.bare n ∷
     y → RowIn P q (record { rule = n; dot = 0 }) t → GivesForm P d y p t
 
--- the goto rule is kept from there
+-- the goto rule is kept from that item
 abbrev pub ShiftsAt : Lr0 → DraftValue → ℕ → Item → ℕ → Type 0
 ShiftsAt P d q i p =
     (x n t : ℕ) (y : List ℕ) → drop i.dot (body_of P.grammar.bare i.rule) ≡ x ∷ y → x ≢ end_token →
     goto_of P.gotos q x ≡ Some n → RowIn P n (step_of i) t → Link d.links p t
 
--- both are
+-- both rules are kept from that item
 pub record ServesAt (P : Lr0) (d : DraftValue) (q : ℕ) (i : Item) (p : ℕ) : Type 0 where
   pub opens : OpensAt P d q i p
   pub shifts : ShiftsAt P d q i p
 
--- from each item of state q
+-- both rules are kept from each item of state q
 abbrev pub ServesState : Lr0 → DraftValue → ℕ → Type 0
 ServesState P d q = (i : Item) (p : ℕ) → RowIn P q i p → ServesAt P d q i p
 

@@ -1,8 +1,8 @@
 -- The rows of the items of numbered states: in each state the items of one left side with the dot
--- at 0 share one.
+-- at 0 share one, and items with equal symbols before the dot may.
 use Rattle.std.specs.Prelude.{ℕ, ◌≡◌, ◌<◌, ◌≤◌, ◌+◌, ◌⊎◌, List, [], length, slice_index_or}
-use Rattle.std.specs.Prelude.{slice_set, Option, Some, None, MatchOption}
-use Rattle.ysymbols.specs.Grammar.{ContextFree, left_of}
+use Rattle.std.specs.Prelude.{slice_set, take, Option, Some, None, MatchOption}
+use Rattle.ysymbols.specs.Grammar.{ContextFree, left_of, body_of}
 use Rattle.ylalr.specs.declared.items.Item.{Item}
 use Rattle.yrows.specs.Rows.{BitRows, Holds, IsSized}
 use Rattle.yrows.specs.Limits.{most_rows}
@@ -28,11 +28,15 @@ pub record At (items : List Item) (rows : List ℕ) (i : Item) (p : ℕ) : Type 
 abbrev pub Starts : ContextFree → ℕ → Item → Type 0
 Starts g s i = (i.dot ≡ 0) × (left_of g i.rule ≡ s)
 
--- the items i and k are one, or both are of one left side with the dot at 0
-abbrev pub Shares : ContextFree → Item → Item → Type 0
-Shares g i k = (i ≡ k) ⊎ ((i.dot ≡ 0) × Starts g (left_of g i.rule) k)
+-- the items i and k are of one left side and have equal symbols before the dot, so whatever prefix
+-- gives a lookahead to one gives it to the other
+pub record Shares (g : ContextFree) (i k : Item) : Type 0 where
+  pub left : left_of g i.rule ≡ left_of g k.rule
+  pub dot : i.dot ≡ k.dot
+  pub before : take i.dot (body_of g i.rule) ≡ take k.dot (body_of g k.rule)
 
--- the rows of the items of one state: two items have one row where they share it, and only there
+-- the rows of the items of one state: two items have one row only where they may share it, and
+-- those of one left side with the dot at 0 do
 pub record AreRows (g : ContextFree) (items : List Item) (rows : List ℕ) : Type 0 where
   pub sized : length rows ≡ length items
   pub apart : (i k : Item) (p : ℕ) → At items rows i p → At items rows k p → Shares g i k
@@ -69,6 +73,19 @@ TakesRow g i fresh old new p =
     ⊎ ((p ≡ fresh) × (((0 < i.dot) × (new ≡ old)) ⊎
     ((i.dot ≡ 0) × (slice_index_or old (left_of g i.rule) None ≡ None) ×
     (new ≡ slice_set old (left_of g i.rule) (Some fresh)))))
+
+-- the item i may share the row p, which one of these items has
+pub record HasTwin (g : ContextFree) (items : List Item) (rows : List ℕ) (i : Item) (p : ℕ) : Type 0
+  where
+    pub twin : Item
+    pub at : At items rows twin p
+    pub shares : Shares g twin i
+
+-- the item i, behind these, gets the row p: that of one of them, or one by its left side
+abbrev pub TakesOne : ContextFree → List Item → List ℕ → Item → ℕ → List (Option ℕ) →
+    List (Option ℕ) → ℕ → Type 0
+TakesOne g items rows i fresh old new p =
+    TakesRow g i fresh old new p ⊎ ((0 < i.dot) × (new ≡ old) × HasTwin g items rows i p)
 
 -- p is the row of the item i of state q
 pub record IsRowOf (s : StateLists) (l : ItemRows) (q : ℕ) (i : Item) (p : ℕ) : Type 0 where

@@ -38,7 +38,7 @@ ClosesBy g s l m q i p n =
     (y : List ℕ) (a b t : ℕ) → Holds m p a → drop i.dot (body_of g i.rule) ≡ left_of g n ∷ y →
     First g (y ++ a ∷ []) b → IsRowOf s l q (record { rule = n; dot = 0 }) t → Holds m t b
 
--- nor by any rule
+-- the closure rule adds nothing by any rule from there
 abbrev pub ClosesAt : ContextFree → StateLists → ItemRows → BitRows → ℕ → Item → ℕ → Type 0
 ClosesAt g s l m q i p = (n : ℕ) → n < length g.rules → ClosesBy g s l m q i p n
 

@@ -33,9 +33,13 @@ IsClosure g k v = (i : Item) → Contains v i ↔ Closure g (ItemsOf k) i.rule i
 abbrev pub IsAdvanced : ContextFree → List Item → ℕ → List Item → Type 0
 IsAdvanced g v x k = (i : Item) → Contains k i ↔ Kernel g (ItemsOf v) x i.rule i.dot
 
--- rules of the grammar, the dot in the body or at its end
+-- a rule of the grammar, the dot in its body or at the end
+abbrev pub IsWithin : ContextFree → Item → Type 0
+IsWithin g i = (i.rule < length g.rules) × (i.dot ≤ length (body_of g i.rule))
+
+-- each of the items is one
 abbrev pub InRange : ContextFree → List Item → Type 0
-InRange g k = All (λ i. (i.rule < length g.rules) × (i.dot ≤ length (body_of g i.rule))) k
+InRange g k = All (λ i. IsWithin g i) k
 
 -- by rule and then by dot
 abbrev pub Before : Item → Item → Type 0

@@ -39,7 +39,7 @@ impl Model for Automaton {
     ghost invariant = { λ a. Whole a.lr0 a.looks };
 }
 
-/// What the lookaheads are made from, for a grammar.
+/// The LR(0) automaton of a grammar, with what its lookaheads are made from.
 fn prepare(alloc: Global, grammar: Grammar) -> Result<Lr0, BuildFault>
     ensures grammar { IfOk result (λ p. p.grammar ≡ grammar) }
     ensures fit { IfOk result (λ p. FitLr0 p) }
@@ -61,9 +61,8 @@ fn prepare(alloc: Global, grammar: Grammar) -> Result<Lr0, BuildFault>
 }
 
 /// The automaton of a grammar: the canonical collection of its sets of LR(0) items with merged
-/// LR(1) lookaheads (Aho, Sethi, Ullman, section 4.7). B1 comes only where the grammar has more
-/// than 16,384 states, and no automaton has more; B2 stands for a growth that was refused, and
-/// comes for nothing else.
+/// LR(1) lookaheads (Aho, Sethi, Ullman, section 4.7). The fault B1 comes only where the grammar
+/// has more than 16,384 states, and no automaton has more; B2 comes only when memory runs out.
 pub fn build(alloc: Global, grammar: Grammar) -> Result<Automaton, BuildFault>
     ensures grammar { IfOk result (λ a. a.grammar ≡ grammar) }
     ensures states { IfOk result (λ a. HasStates a) }
@@ -76,17 +75,17 @@ pub fn build(alloc: Global, grammar: Grammar) -> Result<Automaton, BuildFault>
 }
 
 impl Automaton {
-    /// The grammar that the automaton was built from, as it was.
+    /// The grammar that was given to `build`, unchanged.
     pub fn grammar(&self) -> &Grammar
         ensures { result.now ≡ self.now.grammar }
     {
         &self.lr0.grammar
     }
 
-    /// How many states there are, from 1 to 16,384. They are the numbers below this, and state 0
+    /// How many states there are, from 1 to 16,384. States are the numbers below this, and state 0
     /// is the core of the empty prefix. This call also says that states and gotos are right, and
-    /// that there is a pair of functions with the gotos and the lookaheads (Aho, Sethi, Ullman,
-    /// section 4.7, the canonical collection).
+    /// that a pair of functions has the gotos and the lookaheads (Aho, Sethi, Ullman, section 4.7,
+    /// the canonical collection).
     pub fn states(&self) -> usize
         ensures count { result ≡ length self.now.states }
         ensures states { HasStates self.now }
@@ -95,8 +94,8 @@ impl Automaton {
         self.lr0.states.count()
     }
 
-    /// All items of a state, each once, by rule and then dot; `q` is below the number of states
-    /// (section 4.7, closure).
+    /// All items of state `q`, each once, by rule and then by dot; `q` is below the number of
+    /// states (section 4.7, closure).
     pub fn items(&self, q: usize) -> &[Item]
         requires { q < length self.now.states }
         ensures { result.now ≡ state_of self.now q }
@@ -104,9 +103,9 @@ impl Automaton {
         self.lr0.states.items(q)
     }
 
-    /// The state of a prefix of state `q` followed by `x`, or `None` where no item moves over
-    /// `x`; none moves over `$end`. `q` is below the number of states, and `x` is any symbol of
-    /// the grammar (section 4.7, goto).
+    /// The state of a prefix of state `q` followed by `x`, or `None` where no item moves over `x`;
+    /// no item moves over `$end`. `q` is below the number of states, and `x` is any symbol of the
+    /// grammar (section 4.7, goto).
     pub fn goto(&self, q: usize, x: Sym) -> Option<usize>
         requires state { q < length self.now.states }
         requires symbol { x < (bare_of self.now).symbols }
@@ -129,8 +128,9 @@ impl Automaton {
     }
 
     /// The first token from `t` on that is a lookahead of the item at `index` among `items(q)`, or
-    /// the number of tokens where there is none. `q` is below the number of states, `index` below
-    /// that of its items, and `t` at most the number of tokens (section 4.7, LALR(1) lookaheads).
+    /// the number of tokens where no such token follows. `q` is below the number of states,
+    /// `index` below the number of its items, and `t` at most the number of tokens (section 4.7,
+    /// LALR(1) lookaheads).
     pub fn next_look(&self, q: usize, index: usize, t: Sym) -> Sym
         requires state { q < length self.now.states }
         requires index { index < length (state_of self.now q) }
@@ -141,8 +141,8 @@ impl Automaton {
         next_in_row(&self.lr0, &self.looks, q, index, t)
     }
 
-    /// Whether the symbol derives the empty form; `s` is any symbol of the grammar, and no token
-    /// does (section 4.4).
+    /// Whether the symbol `s` derives the empty form; a token never does. `s` is any symbol of the
+    /// grammar (section 4.4).
     pub fn nullable(&self, s: Sym) -> bool
         requires { s < (bare_of self.now).symbols }
         ensures { IsTrue result ↔ Nullable (bare_of self.now) (s ∷ []) }

@@ -12,7 +12,7 @@ use yrows::list::Sequence;
 use yrows::rows::Rows;
 use ysymbols::Grammar;
 
-/// Sets the row of rules that the kernel's items lead to.
+/// Sets the row of the rules that the kernel's items lead to.
 fn want(grammar: &Grammar, first_rules: &Rows, kernel: &[Item], wanted: &mut Rows)
     requires first_rules { AreFirstRules grammar.now.bare first_rules.now }
     requires range { InRange grammar.now.bare kernel.now }
@@ -56,7 +56,7 @@ fn push_first_items(
     Ok(())
 }
 
-/// Up to which rule first items come before this item of a kernel.
+/// Up to which rule the first items stand before this item of a kernel.
 fn until(item: Item) -> usize
     requires { item.rule < 2 ^ 63 }
     ensures first { item.dot ≡ 0 → result ≡ item.rule }
@@ -94,7 +94,8 @@ fn merge(
     Ok(items)
 }
 
-/// The closure of a kernel. `wanted` is a row of rules to work in.
+/// The closure of a kernel: its items, and the first items of the rules that they lead to, by rule
+/// and then by dot. `wanted` is a row of rules to work in. It fails only when memory runs out.
 pub fn closure(
     alloc: Global,
     grammar: &Grammar,

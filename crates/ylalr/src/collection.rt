@@ -20,12 +20,14 @@ use yrows::list::Sequence;
 use yrows::rows::Rows;
 use ysymbols::Grammar;
 
-/// The states so far, and what finds more: the rules that each symbol leads to, and a row of
-/// rules to work in.
+/// The states so far, and what finds more.
 #[derive(Drop)]
 pub struct Finder {
+    /// For each symbol, the rules that it leads to.
     pub first_rules: Rows,
+    /// A row of rules to work in.
     pub wanted: Rows,
+    /// The states, each with its kernel and its items.
     pub states: States,
 }
 
@@ -160,8 +162,9 @@ fn start_finder(alloc: Global, grammar: &Grammar) -> Result<Finder, AllocError>
     })
 }
 
-/// All states of the grammar, and the gotos of each: states are taken by number, and for each the
-/// symbols by number, and a kernel that is new gets the next number.
+/// All states of the grammar, and the gotos of each. States are taken by number, and for each the
+/// symbols by number; a kernel that is new gets the next number. The fault is B1 where there are
+/// more than 16,384 states, or B2 when memory runs out.
 pub fn all_states(alloc: Global, grammar: &Grammar) -> Result<(States, Gotos), BuildFault>
     ensures collected { IfOk result (λ r. AreCollected grammar.now.bare r.0 r.1) }
     ensures fault { IfErr result (λ e. IsFault grammar.now.bare e) }

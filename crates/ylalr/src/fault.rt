@@ -9,7 +9,7 @@ pub enum BuildFault {
     /// B1: the grammar has more than 16,384 states.
     #[error("too many item sets")]
     TooManySets,
-    /// B2: a growth was refused.
+    /// B2: memory ran out.
     #[error("no memory")]
     Memory,
 }

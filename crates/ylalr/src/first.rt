@@ -14,7 +14,7 @@ use yrows::rows::Rows;
 use yrows::spread::spread;
 use ysymbols::Grammar;
 
-/// The symbols that derive the empty form.
+/// The symbols that derive the empty form. It fails only when memory runs out.
 pub fn nullable_symbols(alloc: Global, grammar: &Grammar) -> Result<Marks, AllocError>
     ensures sized { IfOk result (λ marks. length marks ≡ grammar.now.bare.symbols) }
     ensures exact { IfOk result (λ marks. IsNullable grammar.now.bare marks) }
@@ -37,7 +37,8 @@ fn own_tokens(alloc: Global, grammar: &Grammar) -> Result<Rows, AllocError>
     Ok(first)
 }
 
-/// The tokens that each symbol can begin with.
+/// The tokens that each symbol can begin with, a row for each symbol. It fails only when memory
+/// runs out.
 pub fn first_tokens(alloc: Global, grammar: &Grammar, nullable: &Marks) -> Result<Rows, AllocError>
     requires marks { length nullable.now ≡ grammar.now.bare.symbols }
     requires exact { IsNullable grammar.now.bare nullable.now }

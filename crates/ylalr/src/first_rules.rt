@@ -26,7 +26,7 @@ fn own_rules(alloc: Global, grammar: &Grammar) -> Result<Rows, AllocError>
     Ok(rows)
 }
 
-/// The rules that each symbol leads to.
+/// The rules that each symbol leads to, a row for each symbol. It fails only when memory runs out.
 pub fn first_rules(alloc: Global, grammar: &Grammar) -> Result<Rows, AllocError>
     ensures { IfOk result (λ m. AreFirstRules grammar.now.bare m) }
 {

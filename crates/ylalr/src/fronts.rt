@@ -8,7 +8,8 @@ use yrows::links::Links;
 use yrows::marks::Marks;
 use ysymbols::{Grammar, Sym};
 
-/// Links to `to` from each symbol of a form, up to the first one that isn't marked.
+/// Links to `to` from each symbol of a form, up to the first one that isn't marked. It fails only
+/// when memory runs out.
 pub fn link_front(
     links: &mut Links,
     form: &[Sym],
@@ -30,7 +31,7 @@ pub fn link_front(
 }
 
 /// Links to the left side of each rule from each symbol of its body, up to the first one that
-/// isn't marked.
+/// isn't marked. It fails only when memory runs out.
 pub fn front_links(alloc: Global, grammar: &Grammar, passed: &Marks) -> Result<Links, AllocError>
     requires { length passed.now ≡ grammar.now.bare.symbols }
     ensures { IfOk result (λ l.

@@ -8,10 +8,12 @@ use std::marker::Model;
 use yrows::list::Sequence;
 use ysymbols::Sym;
 
-/// Over this symbol to this state.
+/// A goto of a state.
 #[derive(Clone, Copy, Debug, Drop, PartialEq, Eq)]
 pub struct Goto {
+    /// The symbol over which it goes.
     pub symbol: Sym,
+    /// The state to which it leads.
     pub state: usize,
 }
 
@@ -31,7 +33,7 @@ impl Model for Gotos {
 }
 
 impl Gotos {
-    /// No states.
+    /// The gotos of no states.
     pub fn new(alloc: Global) -> Gotos
         ensures { result ≡ [] }
     {
@@ -40,14 +42,14 @@ impl Gotos {
         }
     }
 
-    /// Of how many states these are.
+    /// How many states have their gotos here.
     pub fn count(&self) -> usize
         ensures { result ≡ length self.now }
     {
         self.rows.len()
     }
 
-    /// The goto from state `q` over `x`.
+    /// The state to which state `q` goes over `x`, or `None` where it has no such goto.
     pub fn get(&self, q: usize, x: Sym) -> Option<usize>
         requires state { q < length self.now }
         requires order { IsAscendingRow (slice_index_or self.now q []) }
@@ -56,7 +58,7 @@ impl Gotos {
         seek(self.rows[q].as_slice(), x)
     }
 
-    /// Adds the gotos of the next state.
+    /// Adds the gotos of the next state, by rising symbols. It fails only when memory runs out.
     pub fn push(&mut self, row: Sequence<Goto>) -> Result<(), AllocError>
         ensures { OnOk result (self.new ≡ self.old ++ row ∷ []) }
     {

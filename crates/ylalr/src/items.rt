@@ -9,10 +9,12 @@ ghost use Rattle.ylalr.specs.Sets.{Moves, IsAscending, IsNext, IsMove, IsAt};
 use crate::tokens::END;
 use ysymbols::{Grammar, Sym};
 
-/// A rule and how many symbols of its body stand before the dot.
+/// An item: a rule with a dot in its body (Aho, Sethi, Ullman, section 4.7).
 #[derive(Clone, Copy, Debug, Default, Drop, PartialEq, Eq, Hash)]
 pub struct Item {
+    /// The number of the rule.
     pub rule: usize,
+    /// How many symbols of its body stand before the dot.
     pub dot: usize,
 }
 
@@ -31,7 +33,7 @@ pub fn symbol_after(grammar: &Grammar, item: Item) -> Option<Sym>
     }
 }
 
-/// What stands after the symbol after the dot.
+/// What stands behind the symbol after the dot.
 pub fn form_after(grammar: &Grammar, item: Item) -> &[Sym]
     requires rule { item.rule < length grammar.now.bare.rules }
     requires dot { item.dot < length (body_of grammar.now.bare item.rule) }
@@ -43,7 +45,8 @@ pub fn form_after(grammar: &Grammar, item: Item) -> &[Sym]
     &body[item.dot + 1..]
 }
 
-/// The symbol over which the dot can move: the one after it, unless that is `$end`.
+/// The symbol over which the dot can move: the one after it, or `None` at the end and before
+/// `$end`.
 pub fn moves_over(grammar: &Grammar, item: Item) -> Option<Sym>
     requires { item.rule < length grammar.now.bare.rules }
     ensures { MatchOption result ((z : ℕ) → Moves grammar.now.bare item z → ⊥)
@@ -54,7 +57,7 @@ pub fn moves_over(grammar: &Grammar, item: Item) -> Option<Sym>
     if next == END { None } else { Some(next) }
 }
 
-/// Where the item stands in an ascending list.
+/// Where the item stands in a list of items by rule and dot, counted from 0, or `None`.
 pub fn find(items: &[Item], item: Item) -> Option<usize>
     requires { IsAscending items.now }
     ensures { MatchOption result (Contains items.now item → ⊥) (λ k. IsAt items.now item k) }

@@ -1,4 +1,4 @@
-//! The rows that the left sides of one state have: each is that of all items of the left side
+//! The rows that the left sides of one state have: each is the row of all items of the left side
 //! with the dot at 0.
 
 ghost use Rattle.std.specs.Prelude.{ℕ, ◌≡◌, ◌<◌, ◌≤◌, Some, None, length, slice_index_or};
@@ -13,8 +13,8 @@ use std::marker::Model;
 use yrows::rows::Rows;
 use ysymbols::{Grammar, Sym};
 
-/// For each symbol the row of the items that it is the left side of, and a row of bits with all
-/// symbols that have one: there are many more symbols than left sides in a state.
+/// For each symbol, the row of the items that it is the left side of; and a row of bits with the
+/// symbols that have one, since a state has far fewer left sides than there are symbols.
 #[derive(Drop)]
 pub struct Lefts {
     rows: Vec<Option<usize>>,
@@ -33,7 +33,7 @@ impl Model for Lefts {
 }
 
 impl Lefts {
-    /// No rows, for so many symbols.
+    /// No rows, for so many symbols. It fails only when memory runs out.
     pub fn new(alloc: Global, symbols: usize) -> Result<Lefts, AllocError>
         requires { symbols ≤ most_symbols }
         ensures { IfOk result (λ l. length l ≡ symbols) }
@@ -43,7 +43,7 @@ impl Lefts {
         Ok(Lefts { rows, used })
     }
 
-    /// A symbol behind `s`, such that none between has a row.
+    /// A symbol behind `s`, such that no symbol between has a row.
     fn after(&self, s: Sym) -> Sym
         requires { s < length self.now }
         ensures further { s < result }
@@ -70,7 +70,7 @@ impl Lefts {
         self.used.clear();
     }
 
-    /// The row of the items with this left side.
+    /// The row of the items with this left side, or `None` where it has no row.
     pub fn get(&self, s: Sym) -> Option<usize>
         requires { s < length self.now }
         ensures { result ≡ slice_index_or self.now s None }
@@ -87,8 +87,8 @@ impl Lefts {
         self.rows[s] = Some(row);
     }
 
-    /// The row of an item: that of its left side, where the dot is at 0 and the left side has
-    /// one; or else `fresh`, which the left side of an item with the dot at 0 then has.
+    /// The row of an item: that of its left side, where the dot is at 0 and the left side has a
+    /// row; or else `fresh`. The left side of an item with the dot at 0 then has that row.
     pub fn row_of(&mut self, grammar: &Grammar, item: Item, fresh: usize) -> usize
         requires sized { length self.old ≡ grammar.now.bare.symbols }
         requires rule { item.rule < length grammar.now.bare.rules }
@@ -120,7 +120,7 @@ impl Lefts {
         }
     }
 
-    /// Has each left side of a state the row of its items with the dot at 0.
+    /// Gives each left side of a state the row of its items with the dot at 0.
     pub fn fill(&mut self, grammar: &Grammar, items: &[Item], rows: &[usize])
         requires sized { length self.old ≡ grammar.now.bare.symbols }
         requires range { InRange grammar.now.bare items.now }

@@ -1,4 +1,4 @@
-//! The lookaheads of the items of all states: what their rows have by themselves, and the links
+//! The lookaheads of the items of all states: what their rows have from the start, and the links
 //! along which they give.
 
 ghost use Rattle.std.specs.Prelude.{ℕ, ◌≡◌, ◌<◌, ◌↔◌, length, All, IfOk, OnOk, IsTrue, MatchOption};
@@ -26,26 +26,36 @@ use yrows::rows::Rows;
 use yrows::spread::spread;
 use ysymbols::{Grammar, Sym};
 
-/// The LR(0) automaton of a grammar, and what its lookaheads are made from beside it.
+/// The LR(0) automaton of a grammar, and beside it what its lookaheads are made from.
 #[derive(Drop)]
 pub struct Lr0 {
+    /// The grammar.
     pub grammar: Grammar,
+    /// Which symbols derive the empty form.
     pub nullable: Marks,
+    /// The tokens that each symbol can begin with.
     pub first: Rows,
+    /// The states.
     pub states: States,
+    /// The gotos of each state.
     pub gotos: Gotos,
+    /// The rows of the items of each state.
     pub item_rows: ItemRows,
 }
 
 /// An item of a state, and its row.
 #[derive(Clone, Copy, Drop)]
 pub struct Here {
+    /// The number of the state.
     pub state: usize,
+    /// The item.
     pub item: Item,
+    /// The number of its row among those of all states.
     pub row: usize,
 }
 
-/// Lookaheads in the making: what rows have by themselves, and the links along which they give.
+/// Lookaheads that are not complete yet: what rows have from the start, and the links along which
+/// they give.
 #[derive(Drop)]
 pub struct Draft {
     looks: Rows,
@@ -205,7 +215,7 @@ fn draft_of(alloc: Global, lr0: &Lr0) -> Result<Draft, AllocError>
     Ok(draft)
 }
 
-/// The lookaheads of all items of all states.
+/// The lookaheads of all items of all states. It fails only when memory runs out.
 pub fn all_looks(alloc: Global, lr0: &Lr0) -> Result<Rows, AllocError>
     requires { FitLr0 lr0.now }
     ensures { IfOk result (λ m. Whole lr0.now m) }
@@ -233,7 +243,7 @@ pub fn has_look(lr0: &Lr0, looks: &Rows, q: usize, item: Item, t: Sym) -> bool
 }
 
 /// The first token from `t` on that is a lookahead of the item at `index` among those of state
-/// `q`, or the number of tokens where there is none.
+/// `q`, or the number of tokens where no such token follows.
 pub fn next_in_row(lr0: &Lr0, looks: &Rows, q: usize, index: usize, t: Sym) -> Sym
     requires whole { Whole lr0.now looks.now }
     requires state { q < length lr0.now.states.closures }

@@ -10,10 +10,10 @@ use std::alloc::{AllocError, Global};
 use std::marker::Model;
 use yrows::list::Sequence;
 
-/// How many states there may be.
+/// The most states that an automaton may have.
 pub const MOST_STATES: usize = 16_384;
 
-/// A kernel as a key: most have few items.
+/// A kernel as a key: most kernels have few items.
 pub type Kernel = SmallVec<Item, 4>;
 
 /// The states so far: the kernel of each, and its items.
@@ -34,7 +34,7 @@ impl Model for States {
 }
 
 impl States {
-    /// No states.
+    /// No states. It fails only when memory runs out.
     pub fn new(alloc: Global) -> Result<States, AllocError>
         ensures none { IfOk result (λ s. length s.closures ≡ 0) }
         ensures no_kernel { IfOk result (λ s. length s.kernels ≡ 0) }
@@ -52,7 +52,7 @@ impl States {
         self.closures.len()
     }
 
-    /// The items of a state.
+    /// The items of state `q`, by rule and then by dot.
     pub fn items(&self, q: usize) -> &[Item]
         requires { q < length self.now.closures }
         ensures { result.now ≡ set_at self.now.closures q }
@@ -60,7 +60,7 @@ impl States {
         self.closures[q].as_slice()
     }
 
-    /// The state with this kernel.
+    /// The number of the state with this kernel, or `None` where no state has it.
     pub fn find(&self, kernel: &Kernel) -> Option<usize>
         ensures found { IfSome result (λ n. HasKernel self.now kernel.now.items n) }
         ensures fresh { IfNone result (IsFresh self.now kernel.now.items) }
@@ -68,7 +68,7 @@ impl States {
         self.kernels.get_index_of(kernel)
     }
 
-    /// Adds a state.
+    /// Adds a state, with a kernel that no state has. It fails only when memory runs out.
     pub fn push(&mut self, kernel: Kernel, items: Sequence<Item>) -> Result<(), AllocError>
         requires { IsFresh self.old kernel.items }
         ensures { OnOk result (self.new ≡ with_state self.old kernel.items items) }

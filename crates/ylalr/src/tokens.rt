@@ -10,7 +10,7 @@ pub const END: Sym = 0;
 /// The number of `error`.
 pub const ERROR: Sym = 1;
 
-/// How many of the symbols are tokens. They are the numbers below this.
+/// How many of the symbols are tokens. Tokens are the numbers below this.
 pub fn token_count(grammar: &Grammar) -> usize
     ensures { result ≡ grammar.now.bare.tokens }
 {

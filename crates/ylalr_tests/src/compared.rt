@@ -13,7 +13,7 @@ pub fn automaton(alloc: Global, source: &[u8]) -> Result<Automaton, Fail> {
     Ok(build(alloc, read_grammar(alloc, source)?)?)
 }
 
-/// The number of states, where the lookaheads are those of the reference.
+/// The number of states, or `None` where the lookaheads are not those of the reference.
 fn checked_of(alloc: Global, m: &Automaton) -> Result<Option<usize>, AllocError> {
     let Some(facts) = lookaheads(alloc, m)? else {
         return Ok(None);
@@ -23,7 +23,8 @@ fn checked_of(alloc: Global, m: &Automaton) -> Result<Option<usize>, AllocError>
     Ok(right.then_some(m.states()))
 }
 
-/// The number of states, where the lookaheads of the file's grammar are those of the reference.
+/// The number of states, or `None` where the lookaheads of the file's grammar are not those of the
+/// reference.
 fn checked(alloc: Global, source: &[u8]) -> Result<Option<usize>, Fail> {
     let m = automaton(alloc, source)?;
     let states = checked_of(alloc, &m);
@@ -31,7 +32,7 @@ fn checked(alloc: Global, source: &[u8]) -> Result<Option<usize>, Fail> {
     Ok(states?)
 }
 
-/// The numbers of states of the files, where the lookaheads are those of the reference.
+/// The numbers of states of those files whose lookaheads are those of the reference.
 fn checked_each(alloc: Global, sources: &[&[u8]]) -> Result<Vec<usize>, Fail> {
     let mut states = Vec::new(alloc);
     for source in sources {
@@ -112,7 +113,7 @@ fn one_state_more(rt: HostRuntime) -> Result<(), Fail> {
     Ok(())
 }
 
-/// A file of as many names as there may be.
+/// A file with as many names as a grammar may have.
 fn most_names(alloc: Global) -> Result<Vec<u8>, AllocError> {
     let mut file = Vec::from_slice(alloc, b"%token")?;
     for n in 0..4_092 {
@@ -123,7 +124,7 @@ fn most_names(alloc: Global) -> Result<Vec<u8>, AllocError> {
     Ok(file)
 }
 
-// As many bars, as many names, as long a body as there may be.
+// As many bars, as many names and as long a body as a grammar may have.
 #[test]
 fn the_largest_files(rt: HostRuntime) -> Result<(), Fail> {
     let alloc = rt.alloc();

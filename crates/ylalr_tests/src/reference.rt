@@ -1,6 +1,6 @@
 //! The reference for lookaheads: plain saturation over single facts, a flag for each item of each
-//! state and token. It goes by the states and gotos that callers see and by nothing of how rows
-//! are kept.
+//! state and token. It reads the states and gotos that callers see, and nothing of how rows are
+//! kept.
 
 use std::alloc::{AllocError, Global};
 use ygrammar::Sym;
@@ -13,7 +13,7 @@ pub struct Facts {
 }
 
 impl Facts {
-    /// No lookaheads.
+    /// No lookaheads yet.
     fn none(alloc: Global, automaton: &Automaton) -> Result<Facts, AllocError> {
         let mut flags = Vec::new(alloc);
         for q in 0..automaton.states() {
@@ -165,8 +165,8 @@ fn pass(automaton: &Automaton, facts: &mut Facts) -> bool {
     grew
 }
 
-/// The least lookaheads that both rules lead to from the first item's, or `None` where many
-/// passes don't reach them.
+/// The least lookaheads that both rules lead to from those of the first item, or `None` where many
+/// passes are not enough.
 pub fn lookaheads(alloc: Global, automaton: &Automaton) -> Result<Option<Facts>, AllocError> {
     let mut facts = Facts::none(alloc, automaton)?;
     facts.set(0, 0, END);

@@ -20,12 +20,12 @@ is_name_start b = (nat_le 65 b && nat_le b 90) || (nat_le 97 b && nat_le b 122) 
 abbrev pub is_name_byte : ℕ → Bool
 is_name_byte b = is_name_start b || is_digit b
 
--- every byte passes
+-- every byte passes the test
 abbrev pub all_pass : (ℕ → Bool) → List ℕ → Bool
 all_pass p [] = true
 all_pass p (b ∷ bs) = p b && all_pass p bs
 
--- the first byte is there and passes
+-- there is a first byte, and it passes the test
 abbrev pub begins : (ℕ → Bool) → List ℕ → Bool
 begins p [] = false
 begins p (b ∷ bs) = p b

@@ -45,7 +45,7 @@ fault_view faults.Unfinished = unfinished
 fault_view faults.BadLiteral = bad_literal
 fault_view faults.Foreign = foreign
 
--- the part at the front of the bytes is read, or why there is none
+-- the part at the front of the bytes is read, or why no part is there
 abbrev pub Reads : List ℕ → Result (CodePart × Bor (List ℕ)) LexicalFault → Type 0
 Reads bytes (Ok (part, rest)) = PartAt bytes (part_view part) rest.now
 Reads bytes (Err fault) = FaultAt bytes (fault_view fault)

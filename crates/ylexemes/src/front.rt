@@ -48,7 +48,8 @@ fn name_at<'a>(bytes: &'a [u8]) -> Result<(Part<'a>, &'a [u8]), LexicalFault>
     }
 }
 
-/// The part at the front, and what follows it.
+/// The part at the front of bytes that are not empty, as long as it can be, and what follows it;
+/// or why no part begins there.
 pub fn part_at<'a>(bytes: &'a [u8]) -> Result<(Part<'a>, &'a [u8]), LexicalFault>
     requires { 0 < length bytes.now }
     ensures { Reads bytes.now result }

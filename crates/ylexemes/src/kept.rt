@@ -10,6 +10,7 @@ use crate::part::{Lexeme, LexicalFault, Part};
 /// What the next byte of a kept text is part of.
 #[derive(Clone, Copy, Debug)]
 pub enum Mode {
+    /// No string, character constant or comment.
     Outside,
     /// A string or a character constant, by its quote.
     Quoted(u8),
@@ -17,6 +18,7 @@ pub enum Mode {
     Escaped(u8),
     /// The star of `/*`.
     Opening,
+    /// A comment between `/*` and `*/`.
     Commented,
     /// The slash of `*/`.
     Closing,
@@ -111,7 +113,8 @@ fn after_kept<'a>(bytes: &'a [u8]) -> Option<&'a [u8]>
     None
 }
 
-/// The kept text at the front.
+/// The kept text at the front, which begins with a brace, and what follows it. It is `Unfinished`
+/// where its last brace is missing.
 pub fn braced_at<'a>(bytes: &'a [u8]) -> Result<(Part<'a>, &'a [u8]), LexicalFault>
     requires { begins_brace bytes.now ≡ true }
     ensures { Reads bytes.now result }

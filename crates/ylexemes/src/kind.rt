@@ -10,44 +10,70 @@ pub enum Kind {
     Name,
     /// A name with its colon, which POSIX calls C_IDENTIFIER.
     CIdentifier,
+    /// A literal, as `'+'`.
     Literal,
+    /// A number.
     Number,
-    /// `%%`
+    /// `%%`.
     Mark,
+    /// `%token`.
     Token,
+    /// `%left`.
     Left,
+    /// `%right`.
     Right,
+    /// `%nonassoc`.
     Nonassoc,
-    /// `%type`
+    /// `%type`.
     Types,
+    /// `%start`.
     Start,
+    /// `%union`.
     Union,
+    /// `%prec`.
     Prec,
-    /// `%{` to `%}`
+    /// `%{` to `%}`.
     Code,
     /// A kept text in braces.
     Braced,
+    /// `<`.
     Less,
+    /// `>`.
     Greater,
+    /// `|`.
     Bar,
+    /// `;`.
     Semicolon,
 }
 
-/// The lexemes that have one spelling.
+/// The lexemes with one spelling.
 #[derive(Clone, Copy, Debug, PartialEq, Eq)]
 pub enum Sign {
+    /// `%%`.
     Mark,
+    /// `%token`.
     Token,
+    /// `%left`.
     Left,
+    /// `%right`.
     Right,
+    /// `%nonassoc`.
     Nonassoc,
+    /// `%type`.
     Types,
+    /// `%start`.
     Start,
+    /// `%union`.
     Union,
+    /// `%prec`.
     Prec,
+    /// `<`.
     Less,
+    /// `>`.
     Greater,
+    /// `|`.
     Bar,
+    /// `;`.
     Semicolon,
 }
 

@@ -13,7 +13,9 @@ use crate::part::{Lexeme, LexicalFault, Part};
 /// How far a literal has been read, behind its first quote.
 #[derive(Clone, Copy, Debug)]
 pub enum Stage {
+    /// Nothing but the first quote.
     Opened,
+    /// Behind a backslash.
     Backslash,
     /// Only the last quote is missing.
     Shut(u8),
@@ -21,6 +23,7 @@ pub enum Stage {
     Octals(u8, u8),
     /// Behind `\x`.
     HexMark,
+    /// Behind `\x` and hexadecimal digits of this value.
     Hexed(u8),
 }
 
@@ -175,7 +178,7 @@ fn scan_literal<'a>(bytes: &'a [u8]) -> Scan<'a>
     Scan::Short
 }
 
-/// What a byte that belongs to no character makes of a literal.
+/// What a byte that can't belong to the character makes of a literal.
 fn shut<'a>(stage: Stage, b: u8, rest: &'a [u8]) -> Scan<'a>
     ensures { scan_view result ≡ shut_scan stage b rest.now }
 {

@@ -9,6 +9,7 @@ use crate::kind::{Kind, Sign};
 /// A lexeme of a grammar file. Texts are parts of the file.
 #[derive(Clone, Copy, Debug)]
 pub enum Lexeme<'a> {
+    /// A name that no colon follows.
     Name(&'a [u8]),
     /// A name that a colon follows, over blanks and comments.
     CIdentifier(&'a [u8]),
@@ -18,7 +19,9 @@ pub enum Lexeme<'a> {
     Number(&'a [u8]),
     /// A kept text, with its braces.
     Braced(&'a [u8]),
+    /// A code block, `%{` to `%}`, without its text.
     Code,
+    /// A lexeme with one spelling.
     Fixed(Sign),
 }
 
@@ -42,15 +45,21 @@ impl Lexeme<'_> {
 /// What stands at a place of a grammar file.
 #[derive(Clone, Copy, Debug)]
 pub enum Part<'a> {
+    /// One blank.
     Blank,
+    /// A comment, `/*` to `*/`.
     Comment,
+    /// A lexeme.
     Lexeme(Lexeme<'a>),
 }
 
 /// Why no part begins at a place.
 #[derive(Clone, Copy, Debug)]
 pub enum LexicalFault {
+    /// The file ends within a comment, a code block, a kept text or a literal.
     Unfinished,
+    /// A quote stands there, and no literal begins.
     BadLiteral,
+    /// Any other byte, or percent word, that begins no part.
     Foreign,
 }

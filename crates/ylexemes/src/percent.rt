@@ -32,7 +32,8 @@ fn keyword(word: &[u8]) -> Option<Sign>
     }
 }
 
-/// The lexeme at the front, a percent sign being its first byte.
+/// The lexeme at the front, which begins with a percent sign, and what follows it; or why there is
+/// none.
 pub fn percent_at<'a>(bytes: &'a [u8]) -> Result<(Part<'a>, &'a [u8]), LexicalFault>
     requires { begins_percent bytes.now ≡ true }
     ensures { Reads bytes.now result }

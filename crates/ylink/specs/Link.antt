@@ -1,4 +1,4 @@
--- What a link holds, and what its calls do to the bytes that are known of its device.
+-- What a link holds, and what its calls do to those bytes of its device that are known.
 use Rattle.std.specs.Prelude.{ℕ, ◌≡◌, ◌<◌, ◌≤◌, Bool, List, length, take, Option, Some, None}
 use Rattle.std.specs.Io.KnownBytes.{Keeps, Appends, Consumes, IsAtEnd}
 use Rattle.ylink.specs.declared.link.Link.{Link}
@@ -11,13 +11,13 @@ device_of link = link.device
 abbrev pub has_failed : {D : Type 0} → Link D → Bool
 has_failed link = link.failed
 
--- a read took n bytes, none only at the end or with no room; a failed one took nothing
+-- a read took n bytes, 0 only at the end or with no room; a failed one took nothing
 abbrev pub LinkReads : Option (List ℕ) → Option (List ℕ) → Option ℕ → List ℕ → Type 0
 LinkReads old new None buf = Keeps old new
 LinkReads old new (Some n) buf = (n ≤ length buf) × Consumes old new (take n buf) ×
     (n ≡ 0 → 0 < length buf → IsAtEnd new)
 
--- a write took n bytes, some where there were some; a failed one took nothing
+-- a write took n bytes, 0 only where there were none to write; a failed one took nothing
 abbrev pub LinkWrites : Option (List ℕ) → Option (List ℕ) → Option ℕ → List ℕ → Type 0
 LinkWrites old new None bytes = Keeps old new
 LinkWrites old new (Some n) bytes = (n ≤ length bytes) × Appends old new (take n bytes) ×

@@ -1,4 +1,4 @@
--- A text that goes through a link: the whole of it, or a beginning of it where the link failed.
+-- A text that goes through a link: all of it, or a beginning where the link failed.
 use Rattle.std.specs.Prelude.{ℕ, ◌≡◌, ◌++◌, Bool, true, false, List, Option, if◌then◌else◌}
 use Rattle.std.specs.Io.KnownBytes.{Appends}
 use Rattle.ylink.specs.declared.link.Link.{Link}
@@ -11,7 +11,7 @@ pub record Begins (old new : Option (List ℕ)) (text : List ℕ) : Type 0 where
   pub parts : text ≡ front ++ back
   pub written : Appends old new front
 
--- the known bytes grow by the text, or where that is not so by a beginning of it
+-- the known bytes grow by the text, or else by a beginning of it
 abbrev pub Grows : Option (List ℕ) → Option (List ℕ) → Bool → List ℕ → Type 0
 Grows old new true text = Appends old new text
 Grows old new false text = Begins old new text

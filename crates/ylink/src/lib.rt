@@ -1,4 +1,4 @@
-//! Links: readers and writers that tell whether they have failed, and text through them.
+//! Links: readers and writers that say whether a call of theirs failed, and text through them.
 #![tactic(auto)]
 
 pub mod link;

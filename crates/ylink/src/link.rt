@@ -9,8 +9,8 @@ use std::io::{self, Read, Write};
 
 /// A reader or a writer, and whether a call of it failed since the flag was cleared.
 ///
-/// Every byte that the product reads or writes goes through `read`, `write` and `flush`, one call
-/// of the device each. Nothing else sets the flag.
+/// Every byte that a program reads or writes through it goes through `read`, `write` and `flush`,
+/// one call of the device each. Nothing else sets the flag.
 #[derive(Drop)]
 pub struct Link<D> {
     device: D,
@@ -29,7 +29,7 @@ impl<D> Link<D> {
         }
     }
 
-    /// The device.
+    /// Takes the device out; whether it failed is lost.
     pub fn into_inner(self) -> D
         ensures { result ≡ device_of self }
     {
@@ -45,7 +45,7 @@ impl<D> Link<D> {
         *failed
     }
 
-    /// Unsets the flag.
+    /// Clears the flag: no call has failed from here on.
     pub fn clear(&mut self)
         ensures device { device_of self.new ≡ device_of self.old }
         ensures failed { has_failed self.new ≡ false }
@@ -55,8 +55,8 @@ impl<D> Link<D> {
 }
 
 impl<R: Read> Link<R> {
-    /// One read of the device: how many bytes it gave, none only at its end or where there is no
-    /// room. `None` where it refuses.
+    /// One read of the device: how many bytes it gave. That is 0 only at its end, or where `buf`
+    /// is empty. `None` where the device refuses.
     pub fn read(&mut self, buf: &mut [u8]) -> Option<usize>
         ensures bytes { LinkReads (R.remaining (device_of self.old)) (R.remaining
             (device_of self.new)) result buf.new }
@@ -73,7 +73,7 @@ impl<R: Read> Link<R> {
     }
 }
 
-/// A link to a reader is a reader, which tells why a call was refused.
+/// A link to a reader is a reader itself, one that passes on why a call was refused.
 impl<R: Read> Read for Link<R> {
     ghost remaining = { λ link. R.remaining (device_of link) };
 
@@ -96,8 +96,8 @@ impl<R: Read> Read for Link<R> {
 }
 
 impl<W: Write> Link<W> {
-    /// One write of the device: how many bytes it took. `None` where it refuses, or takes nothing
-    /// of some bytes.
+    /// One write of the device: how many bytes it took. `None` where the device refuses, or where
+    /// it takes none of some bytes.
     pub fn write(&mut self, bytes: &[u8]) -> Option<usize>
         ensures bytes { LinkWrites (W.contents (device_of self.old)) (W.contents
             (device_of self.new)) result bytes.now }
@@ -113,7 +113,7 @@ impl<W: Write> Link<W> {
         }
     }
 
-    /// One flush of the device. `false` where it refuses.
+    /// One flush of the device: `false` where it refuses.
     pub fn flush(&mut self) -> bool
         ensures bytes { Keeps (W.contents (device_of self.old)) (W.contents (device_of self.new)) }
         ensures failed { has_failed self.new ≡ (if result then has_failed self.old else true) }

@@ -1,5 +1,4 @@
-//! Text through a link: the whole of it is sent, or a beginning of it exactly where the link
-//! failed.
+//! Text through a link: all of it is sent, or only its beginning where the link failed.
 
 ghost use Rattle.std.specs.Prelude.{List, ℕ, ◌++◌, is_some, flat_map};
 ghost use Rattle.ylink.specs.Sends.{Sends};
@@ -7,7 +6,7 @@ ghost use Rattle.ylink.specs.Sends.{Sends};
 use crate::link::Link;
 use std::io::Write;
 
-/// Writes the whole text, or a beginning of it where the link failed.
+/// Writes the text. `None` where the link failed: then only a beginning of it was written.
 pub fn put<W: Write>(link: &mut Link<W>, text: &[u8]) -> Option<()>
     ensures { Sends W.contents link.old link.new (is_some result) text.now }
 {
@@ -18,7 +17,8 @@ pub fn put<W: Write>(link: &mut Link<W>, text: &[u8]) -> Option<()>
     Some(())
 }
 
-/// Writes the pieces, one after another.
+/// Writes the pieces, one after another. `None` where the link failed: then only a beginning of
+/// them was written.
 pub fn put_all<W: Write>(link: &mut Link<W>, pieces: &[&[u8]]) -> Option<()>
     ensures { Sends W.contents link.old link.new (is_some result) (flat_map
         (λ piece. piece.now) pieces.now) }

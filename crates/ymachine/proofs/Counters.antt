@@ -21,7 +21,7 @@ use Rattle.ymachine.specs.Machine.{edited_rest}
 use Rattle.ymachine.specs.Past.{Comes, LeadsTo}
 use Rattle.ymachine.specs.History.{History, IsHistory, CountsToThree, first_configuration}
 
--- the counter of what is left
+-- the counter of what a step leaves
 abbrev counts : Option (StepKind × Configuration) → Type 0
 counts None = Unit {0}
 counts (Some step) = step.1.counter ≤ 3

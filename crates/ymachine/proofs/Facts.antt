@@ -167,7 +167,7 @@ module _ (t : Tables) (tokens : List ℕ) (stack : List StackEntry) (ns : List N
         read = f.read;
       }
 
-  -- other tokens are left
+  -- other tokens are upcoming
   pub advance : (left : Rest) → rest_fits tokens left ≡ true
       → Facts t tokens stack ns children left errors steps
   advance left h = record {

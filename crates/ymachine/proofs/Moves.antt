@@ -115,7 +115,7 @@ at_top : (p : Place) → FactsOf p
     → state_after p.tables (map symbol_of p.content.stack) ≡ Some (top_state p.content.stack)
 at_top p f = leads_walk p.tables 0 p.content.stack f.states
 
--- and so is that of the shown stack
+-- the state of the shown stack is that of the stack
 pub shown_state : (p : Place) → FactsOf p
     → state_after p.tables (symbols (configuration_of p).stack) ≡ Some (top_state p.content.stack)
 shown_state p f =
@@ -506,7 +506,7 @@ module _ (p : Place) (s : Sound p.tables) (f : FactsOf p) where
       (rest_of p.tokens p.content)
   goes_on kind e edit = goes_on_by p.content.mode refl kind e edit
 
-  -- what stays but for the upcoming tokens
+  -- all but the upcoming tokens stays
   abbrev still : Facts p.tables p.tokens p.content.stack p.content.nodes p.content.children
       p.content.rest p.content.errors (p.content.steps + 1)
   still = stay p.tables p.tokens p.content.stack p.content.nodes p.content.children p.content.rest

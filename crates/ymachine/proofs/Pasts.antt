@@ -47,8 +47,7 @@ pub kinds_before : {S C K : Type 0} (before : C → S → S) (kind : C → K) (n
     (states_before before kind now changes)
 kinds_before before kind now changes = kinds_from before kind now (reverse changes)
 
--- what is kept of a step or an edit that was made from the content old, and is in hand with the
--- content now
+-- what is kept of a step or an edit that was made from the content old and led to the content now
 module _ {S C K : Type 0} (next what : S → Option (K × S)) (before : C → S → S) (kind : C
     → K) (fits : C → S → Bool) (old now : S) (items : List C) (made : Result C StepFault)
     (j : IsJournal before fits old items) (a : Advances next what before kind fits old made now)

@@ -43,7 +43,7 @@ lookahead_at n (suc i) [] = refl
 lookahead_at n zero (x ∷ xs) = refl
 lookahead_at n (suc i) (x ∷ xs) = lookahead_at (suc n) i xs
 
--- where the token ahead isn't the end, one is left
+-- where the token ahead isn't the end, there is an upcoming token
 pub left_by_token : (i : ℕ) (xs : List ℕ) → (get_or xs i 0 ≡ 0 → ⊥) → i < length xs
 left_by_token i [] h = absurd (h (nothing i))
   where
@@ -91,7 +91,7 @@ not_zero n h = by (n == 0) refl
     by true e = let z = eqb-true n 0 e in absurd (omega (arith, h, z))
     by false e = e
 
--- what goes by whether no token is inserted
+-- what depends on whether a token is inserted
 abbrev ahead_by : Bool → List ℕ → List ℕ → ℕ → ℕ
 ahead_by b tokens inserted at =
     if b then get_or tokens at 0 else get_or inserted (length inserted - 1) 0
@@ -106,7 +106,7 @@ taken_by b inserted at edits =
 some_inserted : (x : ℕ) (xs : List ℕ) → (length (x ∷ xs) == 0) ≡ false
 some_inserted x xs = not_zero (length (x ∷ xs)) (omega arith)
 
--- a token inserted is left
+-- a token that is inserted is upcoming
 some_left : (tokens : List ℕ) (x : ℕ) (xs : List ℕ) (at edits : ℕ)
     → is_left tokens (held (x ∷ xs) at edits) ≡ true
 some_left tokens x xs at edits =
@@ -171,7 +171,7 @@ left_here : (tokens inserted : List ℕ) (at edits : ℕ)
 left_here tokens [] at edits h = lt-ltb at (length tokens) (left_by_token at tokens h)
 left_here tokens (x ∷ xs) at edits h = some_left tokens x xs at edits
 
--- where the token ahead isn't the end, one is left
+-- where the token ahead isn't the end, there is an upcoming token
 pub left_by_ahead : (tokens : List ℕ) (r : Rest) → (ahead tokens r ≡ 0 → ⊥)
     → is_left tokens r ≡ true
 left_by_ahead tokens r h = left_here tokens r.inserted r.at r.edits h

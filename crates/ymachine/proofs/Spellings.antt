@@ -131,7 +131,7 @@ module _ (m : Machine) where
       by true e = (None, λ z sp. let bad : false ≡ true = sym sp.0 ∙ e in cc)
       by false e = let (s, a) = said 0 bytes in first_says e s a
 
-  -- and no other
+  -- the bytes spell no other token
   pub one_spelled : (bytes : List ℕ) (x y : ℕ) → IsSpelled m bytes x → IsSpelled m bytes y → x ≡ y
   one_spelled bytes x y a b =
       let same : Ok (x ∷ []) ≡ Ok (y ∷ []) = one_outcome m.find m.tokens 0 bytes _ _ a.1 b.1 in cc

@@ -211,12 +211,12 @@ module _ (g : ContextFree) (m : Machine) (w : WellFormed g) (s : IsSound g m) wh
   input_token t h = let l = ltb-true t m.tokens (second (nat_lt 1 t) (nat_lt t m.tokens) h) in
       let e = s.tokens in omega (arith, l, e)
 
-  -- and not the end
+  -- an input token is not the end
   input_within : (t : ℕ) → is_input m.tokens t ≡ true → t ≢ end_token
   input_within t h e = let l = ltb-true 1 t (first (nat_lt 1 t) (nat_lt t m.tokens) h) in
       omega (arith, l, e)
 
-  -- without an error step or an edit, the tokens shifted and those left stay
+  -- without an error step or an edit, the tokens shifted and the upcoming ones stay
   whole_kept : {c n : Configuration} {k : StepKind} → Stepped m c k n → is_error_step k ≡ false
       → is_edit k ≡ false → shifts_from k (tokens_left n.rest) ≡ tokens_left c.rest
   whole_kept {n = n} (shifts t rest r h e k st re mo) x y =
@@ -236,8 +236,8 @@ module _ (g : ContextFree) (m : Machine) (w : WellFormed g) (s : IsSound g m) wh
   whole_kept (inserts t d i k st re mo) x y = absurd (true_false (sym (ap is_edit k) ∙ y))
   whole_kept (drops t rest d e k st re mo) x y = absurd (true_false (sym (ap is_edit k) ∙ y))
 
-  -- What a deed that is no error step makes of an input, which had the upcoming tokens: those left
-  -- are upcoming, and what was read has grown by the token shifted.
+  -- What a step or an edit other than an error step makes of an input: the upcoming tokens are those
+  -- that it leaves, and what was read has grown by the token shifted.
   record Reads (i : Input) (n : Configuration) (k : StepKind) : Type 0 where
     pub upcoming : (input_after k i).upcoming ≡ tokens_left n.rest
     pub read : (later : List ℕ) → i.read ++ shifts_from k later ≡ (input_after k i).read ++ later
@@ -278,7 +278,7 @@ module _ (g : ContextFree) (m : Machine) (w : WellFormed g) (s : IsSound g m) wh
       })
 
   module _ (first : Configuration) (empty : first.stack ≡ []) where
-    -- without error steps, the tokens that were read are those shifted, and those left are upcoming
+    -- without error steps, the tokens that were read are those shifted, and the others are upcoming
     record AllRead (now : Configuration) (earlier : List (StepKind × Configuration)) : Type 0 where
       pub upcoming : (input_by now earlier).upcoming ≡ tokens_left now.rest
       pub read : (later : List ℕ) → shifts_before earlier later
@@ -296,7 +296,7 @@ module _ (g : ContextFree) (m : Machine) (w : WellFormed g) (s : IsSound g m) wh
           read = λ later. before.read (shifts_from step.0 later) ∙ one.read later;
         }
 
-    -- what holds of all tokens, and of each that may be inserted, holds of those left
+    -- what holds of all tokens, and of each that may be inserted, holds of the upcoming ones
     pub rest_history : (P : ℕ → Type 0) → ((t : ℕ) → is_input m.tokens t ≡ true → P t)
         → (now : Configuration) (earlier : List (StepKind × Configuration))
         → LeadsTo (next m) (edited m) first now earlier → All P (tokens_left first.rest)

@@ -31,8 +31,9 @@ use Rattle.ymachine.specs.Tables.{goto_at, cell_at, rule_of}
 use Rattle.ytokens.specs.Symbols.{is_input, token_count}
 use Rattle.ymachine.specs.MachineOver.{machine_over}
 
--- the stack from the bottom, the nodes, the entries that became children, the upcoming tokens, the
--- counter, the errors reported, the mode, and the steps that stand
+-- what a parse in place holds: the stack from the bottom, the nodes, the entries that became
+-- children, the upcoming tokens, the counter, the errors reported, the mode, and the steps that
+-- stand
 pub record Content : Type 0 where
   pub stack : List StackEntry
   pub nodes : List Node
@@ -116,11 +117,11 @@ content_after t kinds.Fail c = record c { mode = Failed }
 content_after t (kinds.Insert token) c = record c { rest = with_insertion token c.rest }
 content_after t (kinds.Drop token) c = record c { rest = without_first c.rest }
 
--- one step more stands
+-- one more step stands
 abbrev pub one_step : Content → Content
 one_step c = record c { steps = c.steps + 1 }
 
--- what a step of a kind makes of a content with what stays, one step more standing
+-- what a step of a kind makes of a content with what stays, where one more step stands
 abbrev pub place_after : StepKind → Place → Place
 place_after kind p = record p { content = one_step (content_after p.tables kind p.content) }
 
@@ -136,7 +137,7 @@ without_parent c width = record c {
   children = without_last width c.children;
 }
 
--- what a change was made of, but for the counter, the mode and the steps
+-- what was before a change, without its counter, its mode and its steps
 abbrev pub content_before : Tables → PlaceChange → StepKind → Content → Content
 content_before t change (kinds.Shift token) c =
     record (without_entry c) { rest = with_first_back change.place token c.rest }
@@ -226,7 +227,7 @@ place_deed deeds.Step = place_next
 place_deed (deeds.Edit edit) = place_edited edit
 
 -- the kind of the step from a running content, by the cell, the token ahead, the counter, and
--- whether a token is left
+-- whether there is an upcoming token
 abbrev pub kind_running : Action → ℕ → ℕ → Bool → StepKind
 kind_running (actions.Shift q) token counter left = kinds.Shift token
 kind_running (actions.Reduce rule) token counter left = kinds.Reduce rule
@@ -295,7 +296,7 @@ node_fits children i nodes.ErrorLeaf = true
 node_fits children i (nodes.Rule rule from count) =
     nat_le (from + count) (length children) && all_below i (take count (drop from children))
 
--- the same of all nodes, counted from i
+-- each node's children lie in the list, and are below it; nodes are counted from i
 abbrev pub nodes_fit : List StackEntry → ℕ → List Node → Bool
 nodes_fit children i [] = true
 nodes_fit children i (n ∷ ns) = node_fits children i n && nodes_fit children (suc i) ns
@@ -305,8 +306,8 @@ abbrev pub counts_fit : Content → Bool
 counts_fit c = nat_le (length c.nodes) c.steps
     && nat_le (length c.stack + length c.children) (length c.nodes)
 
--- whether no more inserted tokens are left than insertions stand, and no more tokens were taken
--- than were read
+-- whether there are no more inserted tokens than insertions, and no more tokens were taken than
+-- were read
 abbrev pub rest_fits : List ℕ → Rest → Bool
 rest_fits tokens r = nat_le (length r.inserted) r.edits && nat_le r.at (length tokens)
 

@@ -32,10 +32,10 @@ move_by v looks k t =
     move_of (by_default (default_by v (λ symbol. Some 0) looks k)
     (cell_by v (λ symbol. Some 0) looks k t).action)
 
--- The machine goes by the grammar: at each stack and token its cell is that of the stack's valid
--- items and their merged lookaheads, and an error where there are none or at no token; its rules,
--- names and tokens are the grammar's. Each stack has valid items in one order or none, so a grammar
--- has one machine.
+-- The machine agrees with the grammar: at each stack and token its cell is that of the stack's
+-- valid items and their merged lookaheads, and an error where no item is valid or the number is no
+-- token; its rules, names and tokens are the grammar's. The valid items of a stack have only one
+-- order, so a grammar has one machine.
 pub record IsMachineOf (v : GrammarValue) (m : Machine) : Type 0 where
   pub state : (stack : List ℕ) → IsDead v.bare stack ⊎ ((k : List Item) × IsStateOf v.bare stack k)
   pub cell : (stack : List ℕ) (k : List Item) (t : ℕ) → IsStateOf v.bare stack k

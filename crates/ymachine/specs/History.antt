@@ -1,5 +1,5 @@
--- The history of a parse: its configurations from the first one on, each the next of the one before
--- or an edit of it.
+-- The history of a parse: its configurations from the first one on, each made from the one before
+-- by a step or an edit.
 use Rattle.std.specs.Prelude.{ℕ, suc, ◌≤◌, List, [], ◌∷◌}
 use Rattle.std.specs.List.{All}
 use Rattle.ymachine.specs.declared.machine.Mode.TheVariants.{Running}
@@ -30,8 +30,8 @@ first_configuration tokens = record {
 abbrev pub first_history : List ℕ → History
 first_history tokens = first_past (first_configuration tokens)
 
--- the history begins with the first configuration for these tokens, and each later one is the next
--- of the one before or an edit of it
+-- the history begins with the first configuration for these tokens, and each later one is made
+-- from the one before by a step or an edit
 abbrev pub IsHistory : Machine → List ℕ → History → Type 0
 IsHistory m tokens h = IsPast (next m) (edited m) (first_configuration tokens) h
 

@@ -21,8 +21,8 @@ pub data Move : Type 0 where
   Accept : Move
   Error : Move
 
--- what a parse goes by: the cell of a stack's symbols and a token, the rules, the names, the symbol
--- of a name, and how many tokens there are, which have the lowest numbers
+-- what a machine reads: the cell of a stack's symbols and a token, the rules, the names, the
+-- symbol of a name, and how many tokens there are, which have the lowest numbers
 pub record Machine : Type 0 where
   pub cell : List ℕ → ℕ → Move
   pub rule : ℕ → Production
@@ -96,7 +96,7 @@ reduce_step m c r = (
   },
 )
 
--- the first upcoming token is dropped; where there is none the parse gives up
+-- the first upcoming token is dropped; where there is no token the parse gives up
 abbrev pub discard_step : Configuration → List (ℕ × ℕ) → StepKind × Configuration
 discard_step c [] = fail_step c
 discard_step c (token ∷ rest) = (kinds.Discard token.0, record c { rest = rest })
@@ -112,8 +112,8 @@ detect_step c = (
   },
 )
 
--- an error: where no token was shifted since the last one a token is discarded, else the error is
--- detected
+-- an error: where no token was shifted since the last one, a token is discarded, or else the error
+-- is detected
 abbrev pub error_step : Configuration → StepKind × Configuration
 error_step c = if c.counter == 3 then discard_step c c.rest else detect_step c
 
@@ -156,7 +156,7 @@ unfoldable pub next : Machine → Configuration → Option (StepKind × Configur
 next m c = next_in m c c.mode
 
 -- what an edit makes of the upcoming tokens: an input token comes first, which has no place in the
--- file, or the first one goes
+-- file, or the first one is taken out
 abbrev pub edited_rest : Machine → Edit → Configuration → List (ℕ × ℕ)
     → Option (StepKind × Configuration)
 edited_rest m (edits.Insert token) c rest =
@@ -165,7 +165,7 @@ edited_rest m (edits.Insert token) c rest =
 edited_rest m edits.Drop c [] = None
 edited_rest m edits.Drop c (token ∷ rest) = Some (kinds.Drop token.0, record c { rest = rest })
 
--- while the parse goes on
+-- the same in a mode, where the parse has not halted
 abbrev pub edited_in : Machine → Edit → Configuration → Mode → Option (StepKind × Configuration)
 edited_in m edit c Running = edited_rest m edit c c.rest
 edited_in m edit c Popping = edited_rest m edit c c.rest

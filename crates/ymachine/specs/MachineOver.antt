@@ -14,7 +14,7 @@ move_of (actions.Reduce r) = Reduce r
 move_of actions.Accept = Accept
 move_of actions.Error = Error
 
--- the machine that goes by these tables
+-- the machine that these tables make
 unfoldable pub machine_over : Tables → Machine
 machine_over t = record {
   cell = λ stack token. move_of (cell_in t (state_after t stack) token);

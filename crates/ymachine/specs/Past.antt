@@ -1,4 +1,5 @@
--- The past of anything that goes by steps and edits: whole contents, each coming of the one before.
+-- The past of anything that changes by steps and edits: whole contents, each made from the one
+-- before.
 use Rattle.std.specs.Prelude.{ℕ, suc, ◌≡◌, ◌⊎◌, ◌<◌, ◌≤◌, List, [], ◌∷◌, length, Option, Some, None}
 use Rattle.std.specs.Prelude.{IsSome, Result, Ok, Err}
 use Prim.Native.Nat.{zero}
@@ -46,7 +47,7 @@ abbrev pub Comes : {K S E : Type 0} → (S → Option (K × S)) → (E → S →
 Comes {E = E} next edited before kind after =
     Follows next before kind after ⊎ ((edit : E) × Follows (edited edit) before kind after)
 
--- from the first content on, each one comes of the one before
+-- from the first content on, each content is made from the one before
 abbrev pub LeadsTo : {K S E : Type 0} → (S → Option (K × S)) → (E → S → Option (K × S)) → S → S
     → List (K × S) → Type 0
 LeadsTo next edited first now [] = now ≡ first
@@ -62,9 +63,9 @@ IsPast next edited first h = LeadsTo next edited first h.now h.earlier
 abbrev pub Makes : {K S : Type 0} → (S → Option (K × S)) → K → Past K S → Past K S → Type 0
 Makes next kind h new = Follows next h.now kind new.now × (new.earlier ≡ (kind, h.now) ∷ h.earlier)
 
--- why a step or an edit is refused, where one function says what a step makes and the other what is
--- to be made: it can't be made, halted where no step follows either; or else as many stand as may,
--- or else there is no memory
+-- why a step or an edit is refused, where one function says what a step makes and the other what
+-- is to be made: it can't be made, and the parse has halted where no step follows either; or else
+-- as many stand as may, or else memory ran out
 abbrev pub Refuses : {K S : Type 0} → (S → Option (K × S)) → (S → Option (K × S)) → Past K S
     → StepFault → Type 0
 Refuses next made h Halted = (next h.now ≡ None) × (made h.now ≡ None)

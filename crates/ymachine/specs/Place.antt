@@ -16,7 +16,7 @@ place_of t tokens parts = record {
   content = content_of parts;
 }
 
--- with room for a walk over so many open nodes
+-- there is room for a walk over so many open nodes
 pub record IsPlace (t : Tables) (tokens : Tokens) (parts : Parts) (most : ℕ) : Type 0 where
   pub input : Fits t.built.grammar (symbols_of tokens)
   pub valid : IsTrue (valid (place_of t tokens parts))

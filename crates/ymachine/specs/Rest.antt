@@ -1,5 +1,5 @@
--- The upcoming tokens of a parse in place: those inserted, and of those first read the ones that
--- were not taken.
+-- The upcoming tokens of a parse in place: those inserted, and those first read that were not
+-- taken.
 use Rattle.std.specs.Prelude.{ℕ, ◌+◌, ◌-◌, ◌==◌, ◌||◌, nat_lt, Bool, List, [], ◌∷◌, ◌++◌, length}
 use Rattle.std.specs.Prelude.{drop, map, reverse, slice_index_or, if◌then◌else◌}
 use Rattle.ymachine.specs.declared.rest.Remaining.{Remaining}
@@ -31,7 +31,7 @@ ahead tokens r =
     if length r.inserted == 0 then slice_index_or tokens r.at 0
     else slice_index_or r.inserted (length r.inserted - 1) 0
 
--- whether a token is left
+-- whether there is an upcoming token
 abbrev pub is_left : List ℕ → Rest → Bool
 is_left tokens r = nat_lt 0 (length r.inserted) || nat_lt r.at (length tokens)
 
@@ -39,7 +39,7 @@ is_left tokens r = nat_lt 0 (length r.inserted) || nat_lt r.at (length tokens)
 abbrev pub place_left : Rest → ℕ
 place_left r = if length r.inserted == 0 then r.at + 1 else 0
 
--- the first upcoming token goes
+-- the first upcoming token is taken
 abbrev pub without_first : Rest → Rest
 without_first r =
     if length r.inserted == 0 then record r { at = r.at + 1 }
@@ -51,7 +51,7 @@ with_first_back place token r =
     if place == 0 then record r { inserted = r.inserted ++ token ∷ [] }
     else record r { at = r.at - 1 }
 
--- a token comes first
+-- a token becomes the first upcoming one
 abbrev pub with_insertion : ℕ → Rest → Rest
 with_insertion token r = record r { inserted = r.inserted ++ token ∷ []; edits = r.edits + 1 }
 

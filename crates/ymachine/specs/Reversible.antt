@@ -8,7 +8,7 @@ use Rattle.ymachine.specs.Past.{Past, Follows, Changes, most_steps}
 
 -- What a step or an edit answers and leaves, where one function says what a step makes and the
 -- other what is to be made: a change that leads to it and back; or no change, where it can't be
--- made, halted where no step follows either, or else there is no memory.
+-- made (the parse has halted where no step follows either), or else where memory ran out.
 abbrev pub Advances : {S C K : Type 0} → (S → Option (K × S)) → (S → Option (K × S)) → (C → S → S)
     → (C → K) → (C → S → Bool) → S → Result C StepFault → S → Type 0
 Advances next made before kind fits old (Ok change) new =
@@ -51,14 +51,14 @@ pub record IsJournal {S C : Type 0} (before : C → S → S) (fits : C → S
   pub few : length changes ≤ most_steps
   pub fitting : IsTrue (all_fit before fits now changes)
 
--- why nothing is made where so many stand or not: the limit comes before lack of memory
+-- why nothing is made: where as many stand as may, that is the reason, and not memory
 abbrev pub refusal_of : Bool → StepFault → StepFault
 refusal_of full Halted = Halted
 refusal_of full NoToken = NoToken
 refusal_of full Limit = Limit
 refusal_of full Memory = if full then Limit else Memory
 
--- what a journal's step or edit answers and leaves: one of some kind, or why there is none
+-- what a journal's step or edit answers and leaves: one of some kind, or why it can't be made
 abbrev pub StepsOn : {K S : Type 0} → (S → Option (K × S)) → (S → Option (K × S)) → Past K S
     → Result (Unit {0}) StepFault → Past K S → Type 0
 StepsOn {K = K} next made h (Ok done) new = (kind : K) × Changes next made h (Ok kind) new

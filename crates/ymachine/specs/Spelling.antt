@@ -9,7 +9,7 @@ abbrev pub IsSpelled : Machine → List ℕ → ℕ → Type 0
 IsSpelled m bytes token = (has_blank_end bytes ≡ false)
     × Outcome m.find m.tokens 0 bytes (Ok (token ∷ []))
 
--- the token that the bytes spell, or that they spell none
+-- the token that the bytes spell, or that they spell no token
 abbrev pub Spells : Machine → List ℕ → Option ℕ → Type 0
 Spells m bytes (Some token) = IsSpelled m bytes token
 Spells m bytes None = (token : ℕ) → IsSpelled m bytes token → ⊥

@@ -12,7 +12,8 @@ use Rattle.ymachine.specs.History.{History}
 abbrev pub tokens_left : List (ℕ × ℕ) → List ℕ
 tokens_left rest = map (λ (token : ℕ × ℕ). token.0) rest
 
--- the tokens that are shifted from before a step of this kind on, where these are shifted after it
+-- the tokens that are shifted after what is before a step of this kind, where these are shifted
+-- after the step
 abbrev pub shifts_from : StepKind → List ℕ → List ℕ
 shifts_from (kinds.Shift token) later = token ∷ later
 shifts_from _ later = later
@@ -57,8 +58,8 @@ pub record Input : Type 0 where
 abbrev pub read_on : Input → Input
 read_on i = record { read = i.read ++ take 1 i.upcoming; upcoming = drop 1 i.upcoming }
 
--- what a deed makes of the input: a shift or a discard reads the first of the upcoming tokens, an
--- insertion puts a token before them, a drop takes the first of them out
+-- what a step or an edit makes of the input: a shift or a discard reads the first of the upcoming
+-- tokens, an insertion puts a token before them, a drop takes the first of them out
 abbrev pub input_after : StepKind → Input → Input
 input_after (kinds.Shift token) i = read_on i
 input_after (kinds.Discard token) i = read_on i
@@ -66,16 +67,16 @@ input_after (kinds.Insert token) i = record i { upcoming = token ∷ i.upcoming 
 input_after (kinds.Drop token) i = record i { upcoming = drop 1 i.upcoming }
 input_after _ i = i
 
--- the input after the deeds of the past; before the first one nothing was read
+-- the input after the steps and edits of the past; before the first one nothing was read
 abbrev pub input_by : Configuration → List (StepKind × Configuration) → Input
 input_by now [] = record { read = []; upcoming = tokens_left now.rest }
 input_by now (step ∷ earlier) = input_after step.0 (input_by step.1 earlier)
 
--- all its tokens, in their order
+-- all tokens of an input, in their order
 abbrev pub tokens_of : Input → List ℕ
 tokens_of i = i.read ++ i.upcoming
 
--- the whole input as it stands: the tokens first read, with the edits made
+-- the whole input: the tokens first read, with the edits made
 abbrev pub whole_input : History → List ℕ
 whole_input h = tokens_of (input_by h.now h.earlier)
 
@@ -88,7 +89,7 @@ forms_before later (step ∷ earlier) =
     ∷ forms_before (shifts_from step.0 later) earlier
     else forms_before (shifts_from step.0 later) earlier
 
--- the forms that unwinding goes through from where these tokens are shifted later
+-- the forms that unwinding goes through, starting where these tokens are shifted later
 abbrev pub forms_from : List ℕ → History → List (List ℕ)
 forms_from later h = form_of h.now later ∷ forms_before later h.earlier
 

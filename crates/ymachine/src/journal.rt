@@ -10,12 +10,13 @@ use crate::reversible::Reversible;
 use std::alloc::Global;
 use std::marker::Model;
 
-/// How many steps may stand.
+/// The most steps and edits that may stand.
 const MOST_STEPS: usize = 1_000_000;
 
-/// A machine, and the changes of the steps that stand, the newest last.
+/// A machine, and the changes of the steps and edits that stand, the newest last.
 #[derive(Drop)]
 pub struct Journal<M: Reversible> {
+    /// The machine as it is now.
     pub machine: M,
     changes: Vec<M::Change>,
 }
@@ -31,7 +32,7 @@ impl<M: Reversible> Model for Journal<M> {
     ghost invariant = { λ j. IsJournal M.before M.fits j.machine j.changes.items };
 }
 
-/// Why nothing is made: where so many stand, the limit comes before lack of memory.
+/// Why nothing is made. Where 1,000,000 steps and edits stand, that is the reason, and not memory.
 fn refusal(full: bool, fault: StepFault) -> StepFault
     ensures { result ≡ refusal_of full fault }
 {
@@ -41,7 +42,7 @@ fn refusal(full: bool, fault: StepFault) -> StepFault
     }
 }
 
-/// Keeps the change that was made. Where 1,000,000 stand or a growth is refused, it is taken back.
+/// Keeps the change that was made. Where 1,000,000 stand or memory runs out, it is taken back.
 fn keep<M: Reversible>(
     machine: &mut M,
     changes: &mut Vec<M::Change>,
@@ -79,7 +80,7 @@ impl<M: Reversible> Journal<M> {
     ghost use Rattle.ymachine.specs.Past.{first_past, position};
     ghost use Rattle.ymachine.specs.Reversible.{StepsBack};
 
-    /// The machine as it is, with no step.
+    /// The machine as it is, before its first step.
     pub fn new(alloc: Global, machine: M) -> Self
         ensures { result ≡ first_past machine }
     {
@@ -89,7 +90,7 @@ impl<M: Reversible> Journal<M> {
         }
     }
 
-    /// How many steps stand, 0 to 1,000,000.
+    /// How many steps and edits stand, 0 to 1,000,000.
     pub fn position(&self) -> usize
         ensures few { result ≤ most_steps }
         ensures position { result ≡ position self.now }
@@ -104,15 +105,15 @@ impl<M: Reversible> Journal<M> {
         &self.machine
     }
 
-    /// The changes of the steps that stand, the newest last.
+    /// The changes of the steps and edits that stand, the newest last.
     pub fn changes(&self) -> &[M::Change]
         ensures { map M.kind (reverse result.now) ≡ map (λ step. step.0) self.now.earlier }
     {
         &self.changes
     }
 
-    /// The newest change, where one stands: of the kind of the newest step, and taken back from
-    /// the machine as it is now, it leads to what was before that step.
+    /// The newest change, where one stands. It has the kind of the newest step or edit; taken back
+    /// from the machine as it is now, it leads to what was before.
     pub fn last(&self) -> Option<&M::Change>
         ensures kind { option_map (λ change. M.kind change.now) result
             ≡ option_map (λ step. step.0) (slice_get self.now.earlier 0) }
@@ -122,8 +123,8 @@ impl<M: Reversible> Journal<M> {
         self.changes.last()
     }
 
-    /// One step. S1 where none follows, else S2 where 1,000,000 stand, else S3 where a growth is
-    /// refused. An `Err` changes nothing.
+    /// One step. S1 where no step follows, else S2 where 1,000,000 stand, else S3 when memory runs
+    /// out. An `Err` changes nothing.
     pub fn step(&mut self) -> Result<(), StepFault>
         ensures { StepsOn M.next M.next self.old result self.new }
     {
@@ -131,9 +132,9 @@ impl<M: Reversible> Journal<M> {
         keep(&mut self.machine, &mut self.changes, made)
     }
 
-    /// One edit of the input. S1 or S4 exactly where the edit can't be made, S1 where no step
-    /// follows either; else S2 where 1,000,000 steps and edits stand, else S3 where a growth is
-    /// refused. An `Err` changes nothing.
+    /// One edit of the input. S1 or S4 exactly where the edit can't be made: S1 where no step
+    /// follows either, else S4. Else S2 where 1,000,000 steps and edits stand, else S3 when memory
+    /// runs out. An `Err` changes nothing.
     pub fn edit(&mut self, edit: M::Edit) -> Result<(), StepFault>
         ensures { StepsOn M.next (M.edited edit) self.old result self.new }
     {
@@ -141,8 +142,8 @@ impl<M: Reversible> Journal<M> {
         keep(&mut self.machine, &mut self.changes, made)
     }
 
-    /// One step back, to the whole earlier content. It takes no memory, and is refused at position
-    /// 0 alone.
+    /// One step or edit back, to the whole earlier content. It takes no memory, and is refused
+    /// only at position 0.
     pub fn back(&mut self) -> Result<(), AtStart>
         ensures { StepsBack self.old result self.new }
     {

@@ -47,7 +47,7 @@ fn kind_popping(tables: &Tables, parts: &Parts, state: usize) -> StepKind
     }
 }
 
-/// The kind of an edit, where it can be made.
+/// The kind of an edit, or `None` where the edit can't be made.
 fn edit_kind(tables: &Tables, tokens: &Tokens, parts: &Parts, edit: Edit) -> Option<StepKind>
     ensures { result
         ≡ edit_kind tables.now (symbols_of tokens.now) (content_of parts.now) edit }
@@ -62,7 +62,7 @@ fn edit_kind(tables: &Tables, tokens: &Tokens, parts: &Parts, edit: Edit) -> Opt
     }
 }
 
-/// The kind of the next step, where there is one.
+/// The kind of the next step, or `None` where no step follows.
 fn next_kind(tables: &Tables, tokens: &Tokens, parts: &Parts) -> Option<StepKind>
     ensures { result
         ≡ kind_in tables.now (symbols_of tokens.now) (content_of parts.now) parts.now.mode }

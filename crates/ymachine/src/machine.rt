@@ -9,7 +9,7 @@ use ysymbols::Sym;
 /// What a parse is doing.
 #[derive(Clone, Copy, Debug, PartialEq, Eq)]
 pub enum Mode {
-    /// It goes by the cells.
+    /// It does what the cells say.
     Running,
     /// It looks for a state in which `error` can be shifted.
     Popping,
@@ -19,7 +19,7 @@ pub enum Mode {
     Failed,
 }
 
-/// The kind of a step (Aho, Sethi and Ullman, 4.7; POSIX yacc, "Error Handling").
+/// The kind of a step or an edit (Aho, Sethi and Ullman, 4.7; POSIX yacc, "Error Handling").
 #[derive(Clone, Copy, Debug, PartialEq, Eq)]
 pub enum StepKind {
     /// This token went to the stack.
@@ -47,13 +47,13 @@ pub enum StepKind {
 /// An edit of the upcoming tokens.
 #[derive(Clone, Copy, Debug, PartialEq, Eq)]
 pub enum Edit {
-    /// This token comes before the upcoming ones.
+    /// This token comes before the upcoming tokens.
     Insert(Sym),
-    /// The first of the upcoming ones is taken out.
+    /// The first of the upcoming tokens is taken out.
     Drop,
 }
 
-/// What may be made of a parse.
+/// What can be done to a parse.
 #[derive(Clone, Copy, Debug, PartialEq, Eq)]
 pub enum Deed {
     /// Its next step.
@@ -68,13 +68,13 @@ pub enum StepFault {
     /// S1: the mode is accepted or failed.
     #[error("the parse has halted")]
     Halted,
-    /// S4: no token is left that could be taken out.
+    /// S4: no upcoming token can be taken out, or what is to be inserted is no input token.
     #[error("no token")]
     NoToken,
     /// S2: the position is 1,000,000.
     #[error("the position is at its limit")]
     Limit,
-    /// S3: a growth was refused.
+    /// S3: memory ran out.
     #[error("no memory")]
     Memory,
 }
@@ -94,7 +94,7 @@ impl From<AllocError> for StepFault {
 #[error("the parse is at its start")]
 pub struct AtStart;
 
-/// Why nothing more is written of a parse.
+/// Why a text of a parse isn't written, or is cut off.
 #[derive(Clone, Copy, Debug, PartialEq, Eq, Error)]
 pub enum UnwindFault {
     /// U1: the parse isn't accepted.
@@ -103,7 +103,7 @@ pub enum UnwindFault {
     /// U2: an error step is in the history.
     #[error("had error")]
     HadError,
-    /// U3: the writer's link failed.
+    /// U3: the writer's link failed; the text is cut off.
     #[error("write fault")]
     Write,
 }

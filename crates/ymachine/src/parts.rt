@@ -1,4 +1,4 @@
-//! The content of a parse as flat lists, and the steps on them, forward and backward.
+//! What a parse in place holds, as flat lists, and the steps on them, forward and backward.
 
 ghost use Rattle.std.specs.Prelude.{◌≡◌, ◌<◌, ◌≤◌, ◌+◌, ◌-◌, ◌^◌, length, drop, OnOk, vec_len};
 ghost use Rattle.std.specs.Prelude.{vec_capacity};
@@ -21,51 +21,69 @@ use ytables::Tables;
 /// A symbol of the stack, the state to which the stack up to it leads, and its node.
 #[derive(Clone, Copy, Debug, Drop, PartialEq, Eq)]
 pub struct StackEntry {
+    /// The state.
     pub(crate) state: usize,
+    /// The symbol.
     pub(crate) symbol: Sym,
+    /// The number of its node.
     pub(crate) node: usize,
 }
 
-/// A node of a tree: a token with its place, an error, or a rule with where its children begin in
-/// the list of children, and how many they are.
+/// A node of a tree.
 #[derive(Clone, Copy, Debug, Drop, PartialEq, Eq)]
 pub enum Node {
+    /// A token, and its place in the input.
     Leaf(Sym, usize),
+    /// An error that recovery shifted.
     ErrorLeaf,
+    /// A rule, where its children begin in the list of children, and how many they are.
     Rule(usize, usize, usize),
 }
 
-/// What a parse holds now: the stack from the bottom; the nodes, each behind its children; the
-/// entries that became children; the upcoming tokens; the recovery counter; the errors reported;
-/// the mode; and how many steps stand.
+/// What a parse holds now.
 #[derive(Drop)]
 pub struct Parts {
+    /// The stack, from the bottom.
     pub(crate) stack: Vec<StackEntry>,
+    /// The nodes, each behind its children.
     pub(crate) nodes: Vec<Node>,
+    /// The entries that became children.
     pub(crate) children: Vec<StackEntry>,
+    /// The upcoming tokens.
     pub(crate) rest: Remaining,
+    /// The recovery counter, 0 to 3.
     pub(crate) counter: usize,
+    /// How many errors were reported.
     pub(crate) errors: usize,
+    /// What the parse is doing.
     pub(crate) mode: Mode,
+    /// How many steps and edits stand.
     pub(crate) steps: usize,
 }
 
-/// What a step or an edit has changed: its kind, the counter and the mode before it, the state and
-/// the node of the entry that was on top, and the place of the token that was ahead.
+/// What a step or an edit has changed.
 #[derive(Clone, Copy, Debug, Drop, PartialEq, Eq)]
 pub struct PlaceChange {
+    /// Its kind.
     pub kind: StepKind,
+    /// The recovery counter before it.
     pub(crate) counter: usize,
+    /// The mode before it.
     pub(crate) mode: Mode,
+    /// The state of the entry that was on top.
     pub(crate) state: usize,
+    /// The node of that entry.
     pub(crate) node: usize,
+    /// The place of the token that was ahead.
     pub(crate) place: usize,
 }
 
-/// An open node: which of its children is next, and where they end, in the list of children.
+/// A node whose children are being written.
 #[derive(Clone, Copy, Debug, Drop, PartialEq, Eq)]
 pub struct Frame {
+    /// Which entry in the list of children is next.
     pub(crate) next: usize,
+    /// Where its entries end in that list.
     pub(crate) end: usize,
 }
 
@@ -87,7 +105,8 @@ impl Parts {
     }
 }
 
-/// Room for one step or edit more, which takes so many children, and for a walk over its trees.
+/// Makes room for one step or edit more, which has `count` entries become children, and for a walk
+/// over the trees.
 pub(crate) fn make_room(
     parts: &mut Parts,
     walk: &mut Vec<Frame>,
@@ -111,7 +130,7 @@ pub(crate) fn make_room(
     parts.children.reserve(count)
 }
 
-/// The state after the first entries.
+/// The state after the first `count` entries of the stack.
 #[tactic(auto, using(crate::proofs::States::state_rules))]
 pub(crate) fn state_below(stack: &[StackEntry], count: usize) -> usize
     requires { count ≤ length stack.now }
@@ -208,7 +227,7 @@ fn change_for(parts: &Parts, kind: StepKind) -> PlaceChange
     }
 }
 
-/// How many entries become children at a step of this kind.
+/// How many entries become children in a step of this kind.
 pub(crate) fn children_of(tables: &Tables, kind: StepKind) -> usize
     ensures { result ≡ taken_by tables.now kind }
 {

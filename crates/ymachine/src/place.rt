@@ -1,4 +1,4 @@
-//! A parse that goes by tables, and steps forward and back in place.
+//! A parse by tables that steps forward and back in place.
 
 ghost use Rattle.std.specs.Prelude.{◌≡◌, ◌<◌, IsTrue, IfSome, Option, is_some, length};
 ghost use Rattle.std.specs.Prelude.{slice_index_or, Some};
@@ -39,8 +39,8 @@ use ytables::{Link, Tables};
 use ytokens::tokens::{Tokens, has_blank_end, only_token};
 
 /// A parse of some tokens by some tables, as it is now. Trees lie in flat lists, and a step back
-/// cuts their ends off. The walk has room for all nodes that a tree may have open; a step reserves
-/// it, so that trees are written without memory.
+/// cuts off their ends. The walk has room for all nodes of a tree that may be open at once; each
+/// step makes that room, so trees are written without memory.
 #[derive(Drop)]
 pub struct PlaceParser {
     tables: Tables,
@@ -76,14 +76,14 @@ impl PlaceParser {
         }
     }
 
-    /// The tables that it goes by.
+    /// The tables of the parse.
     pub fn tables(&self) -> &Tables
         ensures { result.now ≡ self.now.tables }
     {
         &self.tables
     }
 
-    /// The state to which the gotos lead over the stack's symbols.
+    /// The state to which the gotos lead over the stack's symbols: the one on top.
     pub fn state(&self) -> usize
         ensures { state_after self.now.tables (symbols (configuration_of self.now).stack)
             ≡ Some result }
@@ -99,7 +99,8 @@ impl PlaceParser {
         name_of(grammar_of(&self.tables), symbol)
     }
 
-    /// The input token that these bytes spell.
+    /// The input token that these bytes spell, or `None` where they spell none. It takes no
+    /// memory.
     #[tactic(auto, unfolding(crate::specs::MachineOver::machine_over))]
     pub fn token(&self, bytes: &[u8]) -> Option<Sym>
         ensures spells { Spells (machine_over self.now.tables) bytes.now result }
@@ -120,7 +121,7 @@ impl PlaceParser {
         View::new(&self.parts, &self.tokens.symbols)
     }
 
-    /// The tree of an entry of the stack, counted from the bottom.
+    /// The tree of the entry of the stack at this index, counted from 0 at the bottom.
     pub fn tree_at(&self, index: usize) -> TreeView<'_>
         requires { index < length self.now.content.stack }
         ensures { tree_by result
@@ -130,7 +131,8 @@ impl PlaceParser {
         TreeView::new(&parts.nodes, &parts.children, parts.stack[index].node)
     }
 
-    /// Writes a line for each entry of the stack, from the bottom: its tree.
+    /// Writes a line for each entry of the stack, from the bottom: its tree. `None` where the link
+    /// failed. It takes no memory.
     pub fn write_trees<W: Write>(&mut self, link: &mut Link<W>) -> Option<()>
         ensures text { Sends W.contents link.old link.new (is_some result)
             (tree_lines (machine_over self.old.tables) (configuration_of self.old).stack) }
@@ -159,8 +161,8 @@ impl PlaceParser {
         Ok(make(&self.tables, &mut self.parts, kind))
     }
 
-    /// That what is accepted without error steps unwinds to a rightmost derivation. The call does
-    /// nothing.
+    /// This call does nothing. It says that what is accepted without error steps unwinds to a
+    /// rightmost derivation.
     pub fn unwinds(&self)
         ensures { (h : History) → UnwindsRight self.now.tables.built.grammar.bare
             (machine_over self.now.tables) self.now.tokens h }
@@ -169,7 +171,8 @@ impl PlaceParser {
         let _ = &self.tokens;
     }
 
-    /// That its steps and edits are those of the machine of its tables. The call does nothing.
+    /// This call does nothing. It says that the steps and edits are those of the machine of the
+    /// tables.
     pub fn goes(&self)
         ensures { GoesByMachine self.now }
     {
@@ -177,8 +180,8 @@ impl PlaceParser {
         let _ = &self.tokens;
     }
 
-    /// What every parse keeps, among it that there are never more nodes than steps that stand, nor
-    /// more stack entries and children together than nodes. The call does nothing.
+    /// This call does nothing. It says what every parse keeps: among it, that there are never more
+    /// nodes than steps that stand, nor more stack entries and children together than nodes.
     pub fn kept(&self)
         ensures { IsKept self.now }
     {
@@ -228,7 +231,7 @@ impl Journal<PlaceParser> {
     ghost use Rattle.ymachine.specs.MachineOver.{machine_over};
     ghost use Rattle.ymachine.specs.Unwinding.{tree_lines};
 
-    /// Writes the trees of a parse as it is now.
+    /// Writes the trees of a parse as it is now. `None` where the link failed.
     pub fn write_trees<W: Write>(&mut self, link: &mut Link<W>) -> Option<()>
         ensures text { Sends W.contents link.old link.new (is_some result)
             (tree_lines (machine_over self.old.now.tables) (configuration_of self.old.now).stack) }

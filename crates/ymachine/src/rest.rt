@@ -1,4 +1,4 @@
-//! The upcoming tokens of a parse: those inserted, and of those first read the ones not taken.
+//! The upcoming tokens of a parse: those inserted, and those first read that were not taken.
 
 ghost use Rattle.std.specs.Prelude.{◌≡◌, ◌<◌, ◌≤◌, ◌^◌, length, slice_index_or};
 ghost use Rattle.std.specs.Prelude.{IfOk, OnOk, vec_len, vec_capacity};
@@ -10,12 +10,14 @@ use std::alloc::{AllocError, Global};
 use ylalr::END;
 use ysymbols::Sym;
 
-/// The tokens inserted and not taken, the next one last; how many of those first read were taken;
-/// and how many insertions stand, for which there is room.
+/// The upcoming tokens of a parse.
 #[derive(Drop)]
 pub struct Remaining {
+    /// The tokens inserted and not taken, the next one last.
     pub(crate) inserted: Vec<Sym>,
+    /// How many of the tokens first read were taken.
     pub(crate) at: usize,
+    /// How many insertions stand; there is room for as many tokens.
     pub(crate) edits: usize,
 }
 
@@ -30,7 +32,7 @@ pub(crate) fn first_rest(alloc: Global) -> Remaining
     }
 }
 
-/// A copy.
+/// A copy. It fails only when memory runs out.
 pub(crate) fn copy_of(rest: &Remaining) -> Result<Remaining, AllocError>
     ensures { IfOk result (λ copy. rest_in copy ≡ rest_in rest.now) }
 {
@@ -53,7 +55,7 @@ pub(crate) fn token_ahead(tokens: &[Sym], rest: &Remaining) -> Sym
     }
 }
 
-/// Whether a token is left.
+/// Whether there is an upcoming token.
 pub(crate) fn is_left(tokens: &[Sym], rest: &Remaining) -> bool
     ensures { result ≡ is_left tokens.now (rest_in rest.now) }
 {
@@ -67,7 +69,7 @@ pub(crate) fn left_len(tokens: &[Sym], rest: &Remaining) -> usize
     rest.inserted.len() + tokens.len().saturating_sub(rest.at)
 }
 
-/// An upcoming token, and its place.
+/// The upcoming token at this index, counted from 0, and its place.
 pub(crate) fn left_at(tokens: &[Sym], rest: &Remaining, index: usize) -> (Sym, usize)
     requires { index < length (rest_left tokens.now (rest_in rest.now)) }
     ensures { result ≡ slice_index_or (rest_left tokens.now (rest_in rest.now)) index (0, 0) }
@@ -80,7 +82,7 @@ pub(crate) fn left_at(tokens: &[Sym], rest: &Remaining, index: usize) -> (Sym, u
     (tokens[at], at + 1)
 }
 
-/// The place of the first upcoming token: 0 for one that was inserted.
+/// The place of the first upcoming token, counted from 1; 0 for one that was inserted.
 pub(crate) fn place_left(rest: &Remaining) -> usize
     requires { rest.now.at < 2 ^ 63 }
     ensures { result ≡ place_left (rest_in rest.now) }
@@ -92,7 +94,7 @@ pub(crate) fn place_left(rest: &Remaining) -> usize
     }
 }
 
-/// The first upcoming token goes.
+/// The first upcoming token is taken.
 pub(crate) fn take(rest: &mut Remaining)
     requires { rest.old.at < 2 ^ 63 }
     ensures rest { rest_in rest.new ≡ without_first (rest_in rest.old) }
@@ -119,7 +121,7 @@ pub(crate) fn give_back(rest: &mut Remaining, place: usize, token: Sym)
     rest.at = rest.at.saturating_sub(1);
 }
 
-/// Room for one insertion more, while all those that stand can be given back.
+/// Makes room for one insertion more, and for all inserted tokens to come back.
 pub(crate) fn make_room(rest: &mut Remaining) -> Result<(), AllocError>
     requires few { vec_len rest.old.inserted ≤ rest.old.edits }
     requires edits { rest.old.edits < 2 ^ 63 }
@@ -130,7 +132,7 @@ pub(crate) fn make_room(rest: &mut Remaining) -> Result<(), AllocError>
     rest.inserted.reserve(rest.edits + 1 - rest.inserted.len())
 }
 
-/// A token comes first.
+/// This token becomes the first upcoming one.
 pub(crate) fn insert(rest: &mut Remaining, token: Sym)
     requires room { rest.old.edits < vec_capacity rest.old.inserted }
     requires few { vec_len rest.old.inserted ≤ rest.old.edits }

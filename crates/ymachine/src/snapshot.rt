@@ -1,4 +1,4 @@
-//! A parse that goes by tables, and keeps each earlier configuration whole.
+//! A parse by tables that keeps each earlier configuration whole.
 
 ghost use Rattle.std.specs.Prelude.{◌≡◌, ◌≤◌, ◌+◌, IsTrue, IfOk, Option, vec_len, vec_capacity};
 ghost use Rattle.ymachine.specs.Ahead.{LeadsOn};
@@ -24,16 +24,18 @@ use std::mem;
 use ytables::Tables;
 use ytokens::tokens::Tokens;
 
-/// What a step has changed: its kind, and all that the parse held before it.
+/// What a step or an edit has changed.
 #[derive(Drop)]
 pub struct SnapshotChange {
+    /// Its kind.
     pub kind: StepKind,
+    /// All that the parse held before it.
     pub(crate) earlier: Parts,
     ghost room: { HasRoom earlier },
 }
 
-/// A parse of some tokens by some tables, as it is now. A step is made on a copy, and leaves what
-/// it was made of as it is.
+/// A parse of some tokens by some tables, as it is now. A step is made on a copy, so what was
+/// before it stays unchanged.
 #[derive(Drop)]
 pub struct SnapshotParser {
     tables: Tables,
@@ -54,7 +56,7 @@ impl Model for SnapshotParser {
     ghost invariant = { λ p. IsSnapshot p.tables p.tokens p.parts };
 }
 
-/// A copy of what a parse holds.
+/// A copy of what a parse holds. It fails only when memory runs out.
 fn copy_of(parts: &Parts) -> Result<Parts, AllocError>
     ensures { IfOk result (λ copy. content_of copy ≡ content_of parts.now) }
 {
@@ -70,7 +72,7 @@ fn copy_of(parts: &Parts) -> Result<Parts, AllocError>
     })
 }
 
-/// A copy with room for one step more, which takes so many children.
+/// A copy with room for one step more, which has `count` entries become children.
 fn roomy_copy(parts: &Parts, count: usize) -> Result<Parts, AllocError>
     requires room { HasRoom parts.now }
     requires stack { vec_len parts.now.stack ≤ parts.now.steps }
@@ -111,7 +113,8 @@ impl SnapshotParser {
         View::new(&self.parts, &self.tokens.symbols)
     }
 
-    /// That its steps and edits are those of the machine of its tables. The call does nothing.
+    /// This call does nothing. It says that the steps and edits are those of the machine of the
+    /// tables.
     pub fn goes(&self)
         ensures { GoesByMachine self.now }
     {
@@ -119,8 +122,8 @@ impl SnapshotParser {
         let _ = &self.tokens;
     }
 
-    /// Makes on a copy a step or an edit of this kind, which leads on, and keeps what was before.
-    /// An `Err` changes nothing.
+    /// Makes a step or an edit of this kind on a copy, and keeps what was before. An `Err` changes
+    /// nothing.
     fn change(&mut self, kind: StepKind) -> Result<SnapshotChange, StepFault>
         requires { IsTrue (valid (place_after kind self.old)) }
         ensures { (found : Place → Option (Kind × Place)) → LeadsOn self.old (found self.old) kind →

@@ -1,4 +1,4 @@
-//! What a parse reads off tables: names, rules, gotos and cells, and what it rests on.
+//! What a parse reads in tables: names, rules, gotos and cells; and what it rests on.
 
 ghost use Rattle.std.specs.Prelude.{ℕ, ◌≡◌, false, List};
 ghost use Rattle.ysymbols.specs.WellFormed.{WellFormed};
@@ -20,7 +20,7 @@ ghost use Rattle.ymachine.specs.Tables.{rule_of, goto_at, cell_at};
 use ysymbols::{Grammar, Sym};
 use ytables::{Action, Tables};
 
-/// The grammar that tables were made for.
+/// The grammar of the tables.
 pub fn grammar_of(tables: &Tables) -> &Grammar
     ensures { result.now ≡ tables.now.built.grammar }
 {
@@ -52,8 +52,8 @@ pub(crate) fn rule_of(tables: &Tables, number: usize) -> (Sym, &[Sym])
     }
 }
 
-/// Where a symbol leads from a state; nowhere from a number that is no state, or for one that is no
-/// symbol.
+/// The state to which a symbol leads from a state; `None` for a number of no state or no symbol,
+/// and where no item moves over the symbol.
 pub(crate) fn goto(tables: &Tables, state: usize, symbol: Sym) -> Option<usize>
     ensures { result ≡ goto_at tables.now state symbol }
 {
@@ -65,7 +65,7 @@ pub(crate) fn goto(tables: &Tables, state: usize, symbol: Sym) -> Option<usize>
     }
 }
 
-/// What the cell of a state and a token says; an error for numbers that are none.
+/// What the cell of a state and a token says; an error for a number of no state or no token.
 pub(crate) fn cell(tables: &Tables, state: usize, token: Sym) -> Action
     ensures { result ≡ cell_at tables.now state token }
 {
@@ -92,11 +92,11 @@ fn promised(tables: &Tables)
     let _symbols = automaton.grammar().symbols();
 }
 
-/// What a parse by tables rests on. The machine of the tables is the one machine of their grammar;
-/// a cell says only what a valid item allows, so each shift has its goto, each reduction its body
-/// on the stack and its goto; where no cell has a choice, it says whatever a valid item allows;
-/// what is accepted without error steps unwinds to a rightmost derivation (Aho, Sethi and Ullman,
-/// 4.7). The call does nothing else.
+/// This call does nothing. It says what a parse by tables rests on. The machine of the tables is
+/// the one machine of their grammar. A cell says only what a valid item allows, so each shift has
+/// its goto, and each reduction its body on the stack and its goto. Where no cell has a choice, it
+/// says whatever a valid item allows. What is accepted without error steps unwinds to a rightmost
+/// derivation (Aho, Sethi and Ullman, 4.7).
 pub fn known(tables: &Tables)
     ensures grammar { WellFormed tables.now.built.grammar.bare }
     ensures machine { IsMachineOf tables.now.built.grammar (machine_over tables.now) }

@@ -9,11 +9,11 @@ use ysymbols::Sym;
 /// What stands at the root of a tree.
 #[derive(Clone, Copy, Debug, PartialEq, Eq)]
 pub enum TreeNode {
-    /// A token, and its place in the input, counted from 1.
+    /// A token, and its place in the input, counted from 1; 0 for one that was inserted.
     Leaf(Sym, usize),
     /// An error that recovery shifted.
     ErrorLeaf,
-    /// A rule, whose body is the children.
+    /// A rule, by its number; its body is the children.
     Rule(usize),
 }
 

@@ -37,7 +37,7 @@ impl<'a> View<'a> {
         self.parts.stack.len()
     }
 
-    /// A symbol of the stack, counted from the bottom.
+    /// The symbol of the stack at this index, counted from 0 at the bottom.
     #[tactic(auto, unfolding(crate::specs::View::configuration_by))]
     pub fn stack(&self, index: usize) -> Sym
         requires { index < length (configuration_by self.now).stack }
@@ -54,8 +54,8 @@ impl<'a> View<'a> {
         left_len(self.tokens, &self.parts.rest)
     }
 
-    /// An upcoming token, and its place among the tokens first read, counted from 1; 0 is the
-    /// place of one that was inserted.
+    /// The upcoming token at this index, counted from 0, and its place among the tokens first
+    /// read, counted from 1; 0 for one that was inserted.
     #[tactic(auto, unfolding(crate::specs::View::configuration_by))]
     pub fn rest(&self, index: usize) -> (Sym, usize)
         requires { index < length (configuration_by self.now).rest }

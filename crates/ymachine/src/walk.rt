@@ -49,7 +49,7 @@ fn open_node<W: Write>(
     }
 }
 
-/// Writes what is left of the open nodes.
+/// Writes what is still to be written of the open nodes.
 fn write_open<W: Write>(
     link: &mut Link<W>,
     tables: &Tables,
@@ -107,7 +107,8 @@ fn write_tree<W: Write>(
     put(link, b"\n")
 }
 
-/// Writes a line for each entry of the stack, from the bottom.
+/// Writes a line for each entry of the stack, from the bottom: its tree. `None` where the link
+/// failed.
 pub(crate) fn write_lines<W: Write>(
     link: &mut Link<W>,
     tables: &Tables,

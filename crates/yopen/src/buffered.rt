@@ -16,8 +16,8 @@ pub struct Buffered<W: Write + Drop> {
 }
 
 impl<W: Write + Drop> Buffered<W> {
-    /// An empty buffer in front of a device. An error says that a growth was refused; the device
-    /// is dropped then.
+    /// An empty buffer in front of a device. An error means that memory ran out; the device is
+    /// dropped then.
     pub fn new(alloc: Global, device: W) -> io::Result<Self>
         ensures device { IfOk result (λ it. writer_inner (buffer_of it) ≡ device) }
         ensures empty { IfOk result (λ it. writer_buffer (buffer_of it) ≡ []) }

@@ -1,4 +1,4 @@
-//! The bytes that a reader tells, read through a link.
+//! The bytes of a reader, read through a link.
 
 ghost use Rattle.std.specs.Prelude.{IfOk};
 ghost use Rattle.yopen.specs.Open.{Tells, TellsFront};
@@ -10,7 +10,7 @@ use ylink::Link;
 
 /// All bytes of the reader that is opened.
 ///
-/// An error is that of the opener or of the reader, or a growth was refused.
+/// An error is the opener's or the reader's, or memory ran out.
 pub fn bytes_of<O: Open>(alloc: Global, opener: &mut O) -> io::Result<Vec<u8>>
 where
     O::Device: Read,
@@ -22,9 +22,9 @@ where
     Ok(bytes)
 }
 
-/// At most so many bytes of the reader that is opened: those that it tells first.
+/// The first bytes of the reader that is opened, at most so many.
 ///
-/// An error is that of the opener or of the reader, or a growth was refused.
+/// An error is the opener's or the reader's, or memory ran out.
 pub fn first_bytes<O: Open>(alloc: Global, opener: &mut O, most: u64) -> io::Result<Vec<u8>>
 where
     O::Device: Read,

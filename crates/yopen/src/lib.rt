@@ -1,5 +1,5 @@
-//! What opens readers and writers when they are due, the bytes that a reader tells, and writers
-//! through a buffer.
+//! What opens readers and writers when they are needed, the bytes of a reader, and writers through
+//! a buffer.
 #![tactic(auto)]
 
 pub mod buffered;

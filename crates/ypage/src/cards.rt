@@ -21,6 +21,7 @@ const MOST_CARDS: usize = 200;
 /// A conflict.
 #[derive(Drop, Serialize)]
 pub struct Card {
+    /// The first state that has it.
     pub state: usize,
     token: Sym,
     /// How many states have it.
@@ -40,6 +41,7 @@ pub struct Card {
 /// The conflicts of a grammar.
 #[derive(Drop, Serialize)]
 pub struct Cards {
+    /// The kinds of conflicts, 200 at most.
     pub kinds: Vec<Card>,
     /// How many kinds there are more.
     more: usize,

@@ -12,7 +12,9 @@ use ytables::Tables;
 /// A cell: how many conflicts it counts, and why it says what it says.
 #[derive(Drop, Serialize)]
 pub struct Cell {
+    /// How many conflicts it counts.
     pub conflicts: usize,
+    /// Why it says what it says, in lines.
     pub why: String,
 }
 

@@ -29,10 +29,15 @@ struct Data<'a> {
 /// asked, and the conflicts.
 #[derive(Clone, Copy)]
 pub struct Shown<'a> {
+    /// The paths of the grammar file and the tokens file.
     pub files: (&'a str, &'a str),
+    /// The parse, at the last position of the page.
     pub parse: &'a Parse,
+    /// The steps of the page.
     pub record: &'a Record,
+    /// The cells that the steps asked, each a state and a token.
     pub asked: &'a [(usize, Sym)],
+    /// The conflicts, where they are wanted.
     pub conflicts: Option<&'a Cards>,
 }
 
@@ -78,7 +83,7 @@ impl<'a> Shown<'a> {
         })
     }
 
-    /// The data as JSON. It is refused only where memory is.
+    /// The data as JSON. It fails only when memory runs out.
     pub fn json(self, alloc: Global) -> io::Result<Vec<u8>> {
         let data = self.data(alloc)?;
         match serde_json::to_vec(alloc, &data) {

@@ -20,7 +20,7 @@ pub struct Input {
     count: usize,
     /// How many were taken at the first position.
     taken: usize,
-    /// How many are left out before those that follow.
+    /// How many tokens are left out before those that follow.
     skipped: usize,
     symbols: Vec<Sym>,
 }

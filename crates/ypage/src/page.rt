@@ -16,12 +16,17 @@ use ysymbols::Sym;
 
 /// What is asked for: the page of the parse of a tokens file by a grammar file, where it goes, the
 /// part that it shows, and whether it has the conflicts of the grammar.
-#[derive(Clone, Copy, Debug)]
+#[derive(Clone, Copy)]
 pub struct Asked<'a> {
+    /// The path of the grammar file.
     pub grammar: &'a str,
+    /// The path of the tokens file.
     pub tokens: &'a str,
+    /// The path to which the page goes; `None` for standard output.
     pub file: Option<&'a str>,
+    /// The positions that the page shows.
     pub part: Part,
+    /// Whether the page has the conflicts of the grammar.
     pub conflicts: bool,
 }
 
@@ -157,9 +162,9 @@ fn put_parse<F: Files + AllocGlobal, W: Write, E: Write>(
 }
 
 /// Writes the page that is asked for, and gives the exit status: 0; 1 where a file is refused,
-/// there are more steps than a page shows, or the parse ends before the part; 2 where the part ends
-/// before it begins; 3 where a file can't be read or written, for too many states, or for want of
-/// memory.
+/// there are more steps than a page shows, or the parse ends before the part; 2 where the part
+/// ends before it begins; 3 where a file can't be read or written, there are too many states, or
+/// memory runs out.
 pub fn run_page<F: Files + AllocGlobal, W: Write, E: Write>(
     rt: &F,
     asked: Asked<'_>,

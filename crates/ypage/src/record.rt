@@ -11,17 +11,22 @@ use ysymbols::Sym;
 /// Where a parse stands at the first position of the page.
 #[derive(Drop, Serialize)]
 pub struct Start {
+    /// The position.
     pub position: usize,
+    /// The word for what the parse is doing.
     pub mode: &'static str,
     /// The symbol of each entry of the stack from the bottom, and the state after it.
     pub stack: Vec<(Sym, usize)>,
+    /// The recovery counter, 0 to 3.
     pub counter: usize,
+    /// How many errors were reported.
     pub errors: usize,
 }
 
 /// The steps that the page shows.
 #[derive(Drop, Serialize)]
 pub struct Record {
+    /// Where the parse stands before the first step of the page.
     pub start: Start,
     /// A letter for each step.
     pub kinds: String,
@@ -29,7 +34,7 @@ pub struct Record {
     pub rules: Vec<usize>,
     /// The state after each reduction and each shift, that of `error` among them.
     pub states: Vec<usize>,
-    /// The cell that says what is done next, for each position; none where no cell is asked.
+    /// The cell that says what is done next, for each position; `None` where no cell is asked.
     pub cells: Vec<Option<usize>>,
 }
 

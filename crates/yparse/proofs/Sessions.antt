@@ -28,8 +28,8 @@ use Rattle.ymachine.specs.Shown.{KeepsGround, step_view, past_view}
 use Rattle.ymachine.proofs.Places.{onward, step_reaches, edit_reaches}
 use Rattle.ymachine.proofs.Shown.{length-map}
 
--- the history that is shown begins with the first configuration, and goes by the machine of the
--- tables
+-- the history that is shown begins with the first configuration, and its steps are those of the
+-- machine of the tables
 abbrev pub IsShown : Past StepKind Place → Type 0
 IsShown h = IsHistory (machine_over h.now.tables) h.now.tokens (past_view h)
 
@@ -208,7 +208,7 @@ module _ (what : Place → Option (StepKind × Place)) (found : Option (StepKind
         subst (λ (x : Past StepKind Place). All (KeepsGround x.now) x.earlier) (sym same) g,
       )
 
-  -- a growth was refused to what was made and taken back
+  -- what was made is taken back since memory ran out
   pub wanting : (shown : Configuration → Option (StepKind × Configuration))
       → shown (configuration_of h.now) ≡ found → (after : Past StepKind Place)
       → StepsOn place_next what h (Ok tt) new → StepsBack {E = AtStart} new (Ok tt) after
@@ -277,7 +277,7 @@ shorter_room (Err e) h new back later r =
     subst (λ (x : Past StepKind Place). vec_len later + length x.earlier ≤ vec_capacity later)
     (sym back.1) r
 
--- no newest step, no step
+-- where there is no newest step, there is no step
 pub no_step : (earlier : List (StepKind × Place))
     → option_map (λ (step : StepKind × Place). step.0) (slice_get earlier 0) ≡ None
     → map step_view earlier ≡ []

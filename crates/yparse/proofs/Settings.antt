@@ -1,4 +1,4 @@
--- Sessions that go by the same setting.
+-- Sessions with the same setting.
 use Rattle.std.proofs.Common.{◌≡◌, ap}
 use Rattle.yparse.specs.Session.{Setting}
 

@@ -206,7 +206,7 @@ at_form h mid new n kind e f u r =
     a_reduction (kinds.Insert t) r = cc
     a_reduction (kinds.Drop t) r = cc
 
--- an answer that is none comes of a link that failed
+-- where there is no answer, the link has failed
 pub goes_back-none : {X : Type 0} (a c : Option (List ℕ)) (m : Machine) (h new : History)
     (o : Option X) → o ≡ None → Stops a c m h new → GoesBack a c m h (is_some o) new
 goes_back-none a c m h new None e s = s

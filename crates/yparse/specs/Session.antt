@@ -11,12 +11,12 @@ use Rattle.ymachine.specs.MachineOver.{machine_over}
 use Rattle.ymachine.specs.Content.{Place}
 use Rattle.ymachine.specs.Shown.{past_view}
 
--- the contents of a parse, now and before
+-- the contents of a session, now and before
 abbrev pub past_of : Session → Past StepKind Place
 past_of s = s.journal
 
--- what a session goes by from its first step to its last: tables, their grammar and machine, and
--- the tokens first read
+-- what stays the same in a session from its first step to its last: tables, their grammar and
+-- machine, and the tokens first read
 pub record Setting : Type 0 where
   pub tables : Tables
   pub grammar : GrammarValue
@@ -36,7 +36,7 @@ setting_at p = record {
 unfoldable pub setting_of : Session → Setting
 setting_of s = setting_at s.journal.now
 
--- its tables
+-- the tables of a session
 abbrev pub tables_of : Session → Tables
 tables_of s = (setting_of s).tables
 

@@ -58,8 +58,8 @@ GoesBack old known m h true new =
     Appends old known (forms_text m h) × (new ≡ to_first h) × (position new ≡ 0)
 GoesBack old known m h false new = Stops old known m h new
 
--- What unwinding answers, and leaves of the known bytes and the history. It is refused where the
--- parse isn't accepted, else where an error step was made, and then changes nothing.
+-- What unwinding answers, and what it leaves of the known bytes and the history. It is refused
+-- where the parse isn't accepted, else where an error step was made; then nothing changes.
 abbrev pub Unwinds : Option (List ℕ) → Option (List ℕ) → Machine → History
     → Result (Unit {0}) UnwindFault → History → Type 0
 Unwinds old known m h (Ok done) new =

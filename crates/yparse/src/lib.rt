@@ -1,5 +1,5 @@
-//! Sessions: a parse that goes forward and backward, what it shows, and its unwinding. The machine,
-//! verdicts and the tokens below are handed on.
+//! Sessions: a parse that goes forward and backward, what it shows, and its unwinding. What
+//! callers need of the machine, of verdicts and of tokens stands here too.
 #![tactic(auto)]
 
 pub mod session;

@@ -17,7 +17,7 @@ use ysymbols::Sym;
 use ytables::Tables;
 use ytokens::tokens::Tokens;
 
-/// The configuration of a parse now, and each one before it.
+/// A session: the configuration of a parse now, and each one before it.
 #[derive(Drop)]
 pub struct Session {
     pub(crate) journal: Journal<PlaceParser>,
@@ -40,8 +40,8 @@ fn make(journal: &mut Journal<PlaceParser>, deed: Deed) -> Result<(), StepFault>
     }
 }
 
-/// The kind of what was made last, with room for a token for each step. Where the room is refused,
-/// it is taken back.
+/// The kind of what was made last, once there is room for a token for each step. Where memory runs
+/// out, the step is taken back.
 fn settle(journal: &mut Journal<PlaceParser>, later: &mut Vec<Sym>) -> Option<StepKind>
     requires made { 0 < length journal.old.earlier }
     requires room { length journal.old.earlier ≤ vec_capacity later.old + 1 }
@@ -84,7 +84,8 @@ impl Session {
     ghost use Rattle.yparse.specs.Session.{grammar_of, tables_of};
     ghost use Rattle.yparse.specs.Session.{past_of};
 
-    /// The first configuration alone: an empty stack, all tokens, no error. It takes no memory.
+    /// The first configuration alone: an empty stack, all tokens, no error. The tokens fit the
+    /// tables (`Tokens::fits`). It takes no memory.
     pub fn new(alloc: Global, tables: Tables, tokens: Tokens) -> Session
         requires { Fits tables.built.grammar (symbols_of tokens) }
         ensures tables { tables_of result ≡ tables }
@@ -105,7 +106,7 @@ impl Session {
         }
     }
 
-    /// The kind of the newest step.
+    /// The kind of the newest step or edit.
     fn last_kind(&self) -> Option<StepKind>
         ensures { result ≡ option_map (λ step. step.0) (slice_get (past_of self.now).earlier 0) }
     {
@@ -113,7 +114,7 @@ impl Session {
     }
 
     /// One step forward, and its kind. An `Err` changes nothing: S1 where the parse has halted,
-    /// else S2 where the position is 1,000,000, else S3 where a growth is refused.
+    /// else S2 where the position is 1,000,000, else S3 when memory runs out.
     pub fn step(&mut self) -> Result<StepKind, StepFault>
         ensures steps { Steps (next (machine_of self.old)) (history_of self.old) result
             (history_of self.new) }
@@ -138,9 +139,9 @@ impl Session {
         }
     }
 
-    /// This token becomes the first of the upcoming ones, with place 0: one position more. An `Err`
-    /// changes nothing: S1 where the parse has halted, else S2 where the position is 1,000,000,
-    /// else S3 where a growth is refused.
+    /// Inserts a token: it becomes the first upcoming one, with the place 0, and the position is
+    /// one more. An `Err` changes nothing: S1 where the parse has halted, else S2 where the
+    /// position is 1,000,000, else S3 when memory runs out.
     pub fn insert(&mut self, token: Sym) -> Result<StepKind, StepFault>
         requires { IsTrue (is_input (machine_of self.old).tokens token) }
         ensures edits { Changes (next (machine_of self.old))
@@ -151,9 +152,9 @@ impl Session {
         self.change(Deed::Edit(Edit::Insert(token)))
     }
 
-    /// The first of the upcoming tokens is taken out: one position more. An `Err` changes nothing:
-    /// S1 where the parse has halted, else S4 where no token is left, else S2 where the position is
-    /// 1,000,000, else S3 where a growth is refused.
+    /// Takes out the first of the upcoming tokens; the position is one more. An `Err` changes
+    /// nothing: S1 where the parse has halted, else S4 where there is no upcoming token, else S2
+    /// where the position is 1,000,000, else S3 when memory runs out.
     pub fn drop_next(&mut self) -> Result<StepKind, StepFault>
         ensures edits { Changes (next (machine_of self.old))
             (edited (machine_of self.old) edits.Drop) (history_of self.old) result
@@ -177,8 +178,8 @@ impl Session {
         Ok(kind)
     }
 
-    /// One step or edit back, to the whole earlier configuration, and the kind of what is undone.
-    /// It takes no memory, and is refused at position 0 alone.
+    /// One step or edit back, to the whole earlier configuration; the answer is the kind of what
+    /// is undone. It takes no memory, and is refused only at position 0.
     pub fn back(&mut self) -> Result<StepKind, AtStart>
         ensures undoes { Undoes (history_of self.old) result (history_of self.new) }
         ensures setting { setting_of self.new ≡ setting_of self.old }
@@ -186,9 +187,9 @@ impl Session {
         self.undo()
     }
 
-    /// How many steps and edits stand, 0 to 1,000,000. Each configuration is the next of the one
-    /// before it or an edit of it, from the first one on; the recovery counter of each is at most
-    /// 3.
+    /// How many steps and edits stand, 0 to 1,000,000. This call also says that each configuration
+    /// is made from the one before by a step or an edit, from the first one on, and that the
+    /// recovery counter of each is at most 3.
     pub fn position(&self) -> usize
         ensures position { result ≡ position (history_of self.now) }
         ensures few { result ≤ most_steps }
@@ -207,7 +208,7 @@ impl Session {
     }
 
     /// The input token that these bytes spell: one literal or one word, as in a tokens file, with
-    /// no blank before or after it. `None` where they spell none. It takes no memory.
+    /// no blank before or after it. `None` where they spell no such token. It takes no memory.
     pub fn token(&self, bytes: &[u8]) -> Option<Sym>
         ensures spells { Spells (machine_of self.now) bytes.now result }
         ensures input { IfSome result (λ token. IsTrue

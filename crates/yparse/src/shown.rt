@@ -18,7 +18,7 @@ use ymachine::{TreeView, View};
 use ytables::{Link, Tables};
 
 impl Session {
-    /// The tables that the session goes by. It takes no memory.
+    /// The tables of the session. It takes no memory.
     #[tactic(auto, unfolding(crate::specs::Session::setting_of))]
     pub fn tables(&self) -> &Tables
         ensures { result.now ≡ tables_of self.now }
@@ -26,8 +26,8 @@ impl Session {
         self.journal.machine().tables()
     }
 
-    /// The number of the state to which the gotos of the tables lead over the stack's symbols. It
-    /// takes no memory.
+    /// The state on top of the stack: the one to which the gotos of the tables lead over the
+    /// stack's symbols. It takes no memory.
     #[tactic(auto, unfolding(crate::specs::Session::setting_of, crate::specs::Session::history_of))]
     pub fn state(&self) -> usize
         ensures { state_after (tables_of self.now) (symbols (history_of self.now).now.stack)
@@ -44,7 +44,8 @@ impl Session {
         self.journal.machine().view()
     }
 
-    /// The tree of an entry of the stack, counted from the bottom. It takes no memory.
+    /// The tree of the entry of the stack at this index, counted from 0 at the bottom. It takes no
+    /// memory.
     #[tactic(auto, unfolding(crate::specs::Session::history_of))]
     pub fn tree_at(&self, index: usize) -> TreeView<'_>
         requires { index < length (history_of self.now).now.stack }
@@ -56,8 +57,8 @@ impl Session {
 
     /// Writes a line for each entry of the stack, from the bottom: its tree. A leaf is its token's
     /// name, `@` and its place; a rule is its number and its children, each after a space, in
-    /// parentheses; an error is `error`. U3 exactly where the link failed. The configuration
-    /// stays. It takes no memory.
+    /// parentheses; an error is `error`. U3 exactly where the link failed; the text is cut off
+    /// then. The configuration stays. It takes no memory.
     #[tactic(auto, unfolding(crate::specs::Session::setting_of, crate::specs::Session::history_of))]
     pub fn write_trees<W: Write>(&mut self, link: &mut Link<W>) -> Result<(), UnwindFault>
         ensures text { Grows (W.contents (device_of link.old)) (W.contents (device_of link.new))

@@ -40,7 +40,7 @@ fn is_reduction(kind: StepKind) -> bool
     matches!(kind, StepKind::Reduce(_))
 }
 
-/// Whether none of the changes is of a step of recovery.
+/// Whether none of the changes is one of recovery.
 fn are_quiet(changes: &[PlaceChange]) -> bool
     ensures { IsTrue result ↔ All (λ change. is_error_step change.kind ≡ false) changes.now }
 {
@@ -211,7 +211,7 @@ impl Session {
         Ok(kind)
     }
 
-    /// Whether no step that stands is one of recovery.
+    /// Whether none of the steps that stand is one of recovery.
     #[tactic(auto, unfolding(crate::specs::Session::history_of))]
     fn is_quiet(&self) -> bool
         ensures { IsTrue result ↔ NoErrors (history_of self.now).earlier }
@@ -219,8 +219,8 @@ impl Session {
         are_quiet(self.journal.changes())
     }
 
-    /// That a history begins with the first configuration, and unwinds to a rightmost derivation
-    /// where it is accepted without error steps. The call does nothing.
+    /// This call does nothing. It says that a history begins with the first configuration, and
+    /// that it unwinds to a rightmost derivation where it is accepted without error steps.
     fn derivation(&self)
         ensures first { ∥ to_first (history_of self.now) ≡ first_history (tokens_of self.now) ∥₁ }
         ensures derives { (history_of self.now).now.mode ≡ Accepted
@@ -232,14 +232,16 @@ impl Session {
         self.journal.machine().unwinds();
     }
 
-    /// Writes the form of the accepted configuration, and undoes all steps, writing the form that
-    /// stands after each undone reduction: the parse as a rightmost derivation, the last form
-    /// first. A form is the stack's symbols and the tokens that are shifted after it, their names
-    /// with one space between, on a line of its own. Edits are undone too, and have no form.
+    /// Unwinds an accepted parse: writes the form of the accepted configuration, and undoes all
+    /// steps, writing the form that stands after each undone reduction. This is the parse as a
+    /// rightmost derivation, the last form first. A form stands on a line of its own: the names of
+    /// the stack's symbols and of the tokens that are shifted after it, with one space between.
+    /// Edits are undone too, and have no form.
     ///
-    /// U1 where the parse isn't accepted, else U2 where an error step was made, both changing
-    /// nothing; U3 exactly where the link failed, at the configuration whose form was being
-    /// written, with a beginning of its line written that lacks the end. It takes no memory.
+    /// U1 where the parse isn't accepted, else U2 where an error step was made; both change
+    /// nothing. U3 exactly where the link failed: the session then stands at the configuration
+    /// whose form was being written, and only a beginning of its line was written. It takes no
+    /// memory.
     pub fn unwind<W: Write>(&mut self, link: &mut Link<W>) -> Result<(), UnwindFault>
         ensures unwinds { Unwinds (W.contents (device_of link.old))
             (W.contents (device_of link.new)) (machine_of self.old) (history_of self.old) result

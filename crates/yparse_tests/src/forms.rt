@@ -55,8 +55,8 @@ fn write(
     }
 }
 
-/// Makes all steps, and writes the trees or the forms into a writer of one byte a call that refuses
-/// this call; then goes on.
+/// Makes all steps, and writes the trees or the forms into a writer of one byte a call that
+/// refuses this call; then goes on.
 fn resume(alloc: Global, worked: Worked, written: Written, call: usize) -> Result<Resumed, Fail> {
     let mut session = session_of(alloc, worked)?;
     let mut before = Link::new(Sink::new(1, Refusal::Refuses(call)));
@@ -86,8 +86,8 @@ fn stepping_goes_on_behind_a_refused_form(rt: HostRuntime) -> Result<(), Fail> {
     Ok(())
 }
 
-/// Whether the sum stands, behind a refusal at this call of its forms, at the form that was being
-/// written, and comes from there to its end again.
+/// Whether a sum whose forms were refused at this call stands at the form that was being written,
+/// and goes on from there to its end.
 fn resumes(alloc: Global, call: usize) -> Result<bool, Fail> {
     // Where the forms stand, the last first.
     let positions = [11usize, 9, 8, 7, 4, 1];
@@ -115,8 +115,7 @@ fn a_refusal_at_each_call_of_the_forms(rt: HostRuntime) -> Result<(), Fail> {
     Ok(())
 }
 
-/// Whether a refusal at this call of the trees, which stand behind so many steps, leaves the
-/// session as it was.
+/// Whether a refusal of the trees at this call, after so many steps, leaves the session as it was.
 fn keeps_its_trees(alloc: Global, worked: Worked, steps: usize, call: usize) -> Result<bool, Fail> {
     let resumed = resume(alloc, worked, Written::Trees, call)?;
     let trees = behind(first_lines(worked.text, steps.saturating_add(1)), steps);

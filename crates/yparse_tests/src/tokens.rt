@@ -7,7 +7,8 @@ use testkit::worked::{ONE, SUMS};
 use yparse::read_tokens;
 use ytables::Tables;
 
-/// Whether the tokens of a text for tables fit these, and fit others; nothing where it has none.
+/// Whether the tokens of a text for tables fit these, and fit others; `None` where the text has no
+/// tokens.
 fn fit(alloc: Global, tables: &Tables, others: &Tables, text: &[u8]) -> Option<(bool, bool)> {
     let tokens = read_tokens(alloc, tables, text).ok()?;
     Some((tokens.fits(tables), tokens.fits(others)))

@@ -46,12 +46,16 @@ pub enum Allows {
 /// A list of tokens before the token of the conflict.
 #[derive(Drop)]
 pub struct List {
+    /// Which of the rivals it allows.
     pub allows: Allows,
     /// The rules that it is for.
     pub rules: Vec<usize>,
+    /// The tokens, up to the token of the conflict.
     pub tokens: Vec<Sym>,
+    /// What a session over it came to.
     pub trial: Trial,
-    /// Where the parse misses the state, the next list with which it doesn't, and in how many steps.
+    /// Where the parse misses the state, the next list with which it doesn't, and in how many
+    /// steps.
     pub other: Option<(Vec<Sym>, usize)>,
     /// How many further lists were tried.
     pub tried: usize,
@@ -60,6 +64,7 @@ pub struct List {
 /// What was found for the cells of one kind.
 #[derive(Drop)]
 pub struct Finding {
+    /// The lists: one that allows what is taken and a further rule, or one for each of them.
     pub lists: Vec<List>,
     /// Whether a list was found, but is too long to be shown.
     pub long: bool,
@@ -90,15 +95,19 @@ impl Finding {
 /// What lists are sought with.
 #[derive(Drop)]
 pub struct Seeker<'a> {
+    /// The allocator.
     pub alloc: Global,
+    /// What searches for lists.
     pub finder: &'a mut Finder,
+    /// The session in which lists are tried.
     pub session: &'a mut Session,
-    /// How many steps first lists may still take, and further ones.
+    /// How many steps first lists may still take.
     pub steps: usize,
+    /// How many steps further lists may still take.
     pub steps_for_others: usize,
 }
 
-/// How many steps a trial may take: a part of those that are left.
+/// How many steps a trial may take: a part of those that may still be made.
 fn allowance(left: usize, most: usize) -> usize {
     (left / 8).min(most).max(LEAST_STEPS)
 }

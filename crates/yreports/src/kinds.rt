@@ -1,4 +1,4 @@
-//! The conflicts of tables, told in short.
+//! The conflicts of tables, in short.
 
 use std::alloc::Global;
 use std::fmt;
@@ -58,7 +58,8 @@ pub fn put_states<W: Write>(out: &mut W, group: Group) -> io::Result<()> {
     )
 }
 
-/// Writes a cell of each kind behind the first ones, of at most 1,000, and how many are left.
+/// Writes a cell of each kind behind the first ones, of at most 1,000, and how many more there
+/// are.
 pub fn put_named<W: Write>(
     out: &mut W,
     tables: &Tables,

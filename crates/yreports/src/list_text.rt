@@ -1,4 +1,4 @@
-//! How lists of tokens are told: which rivals a list allows, its tokens, what a parse comes to.
+//! How lists of tokens are written: which rivals a list allows, its tokens, what a parse comes to.
 
 use crate::finding::{Allows, Finding, List};
 use crate::kinds::Count;
@@ -14,9 +14,13 @@ use ytables::Tables;
 /// The lists of a kind of conflict.
 #[derive(Clone, Copy)]
 pub struct ListText<'a> {
+    /// The tables.
     pub tables: &'a Tables,
+    /// Where rules stand in the file.
     pub lines: &'a Lines,
+    /// The kind of conflict.
     pub kind: &'a Kind,
+    /// Its cells.
     pub group: Group,
     /// How many lists there are.
     pub lists: usize,

@@ -25,12 +25,15 @@ const MOST_GROUPS: usize = 200;
 /// conflict or a warning makes the status 1.
 #[derive(Clone, Copy)]
 pub struct Asked<'a> {
+    /// The path of the grammar file.
     pub grammar: &'a str,
+    /// The folder in which each list becomes a tokens file.
     pub save: Option<&'a str>,
+    /// Whether a conflict or a warning makes the status 1.
     pub strict: bool,
 }
 
-/// What conflicts are written by.
+/// What conflicts are written with.
 #[derive(Drop)]
 struct Report<'a, W, F> {
     alloc: Global,
@@ -167,8 +170,8 @@ fn put_failed<E: Write>(errors: &mut E, failed: Option<&String>, status: u8) -> 
     }
 }
 
-/// Writes the conflicts of a grammar, with lists of tokens, and says which file couldn't be written,
-/// if one couldn't.
+/// Writes the conflicts of a grammar, with lists of tokens, and says which file couldn't be
+/// written, if one couldn't.
 fn put_lists<'a, W: Write, F: Files + AllocGlobal + Clone + Drop>(
     rt: &'a F,
     out: &'a mut W,
@@ -224,9 +227,9 @@ fn put_all<W: Write, E: Write, F: Files + AllocGlobal + Clone + Drop>(
     put_both(rt, out, errors, asked, session, lines, &found)
 }
 
-/// Writes the conflicts and the warnings of a grammar that is open, and gives the exit status: 0; 1
-/// where there is one of these and that is to count; 3 where a list can't be written, which is said
-/// on `errors`.
+/// Writes the conflicts and the warnings of a grammar that is open, and gives the exit status: 0;
+/// 1 where there is one of these and that is to count; 3 where a list can't be written, which is
+/// said on `errors`.
 pub fn put_conflicts<W: Write, E: Write, F: Files + AllocGlobal + Clone + Drop>(
     rt: &F,
     out: &mut W,
@@ -245,10 +248,9 @@ pub fn put_conflicts<W: Write, E: Write, F: Files + AllocGlobal + Clone + Drop>(
     put_all(rt, out, errors, asked, &mut session, &lines)
 }
 
-/// Writes what is asked for, and gives the exit status: 0; 1 where the grammar is refused, or there
-/// is a conflict or a warning and that is to count; 3 where it can't be read or has too many
-/// states, where a list can't be written, or for want of memory. Faults of the grammar file go to
-/// `errors`.
+/// Writes what is asked for, and gives the exit status: 0; 1 where the grammar is refused, or
+/// there is a conflict or a warning and that is to count; 3 where it can't be read or has too many
+/// states, a list can't be written, or memory runs out. Faults of the grammar file go to `errors`.
 pub fn run_conflicts<F: Files + AllocGlobal + Clone + Drop, W: Write, E: Write>(
     rt: &F,
     asked: Asked<'_>,

@@ -10,7 +10,9 @@ use ysymbols::{Grammar, Sym};
 /// A folder for tokens files, where one is wanted.
 #[derive(Drop)]
 pub struct Folder<'a, F> {
+    /// What opens files.
     pub rt: &'a F,
+    /// The path of the folder.
     pub path: Option<&'a str>,
     /// What couldn't be written; nothing is kept behind that.
     pub failed: Option<String>,
@@ -38,7 +40,7 @@ fn unspaced(text: &[u8]) -> &[u8] {
     }
 }
 
-/// Whether something was written; want of memory stays an error.
+/// Whether something was written; only no memory stays an error.
 fn is_written(written: io::Result<()>) -> io::Result<bool> {
     match written {
         Ok(()) => Ok(true),
@@ -104,8 +106,8 @@ fn are_cleared<F: Files + AllocGlobal + Clone + Drop>(rt: &F, path: &str) -> io:
 }
 
 impl<F: Files + AllocGlobal + Clone + Drop> Folder<'_, F> {
-    /// Removes the lists of an earlier run from the folder, where one is wanted: the files with the
-    /// names that lists get, and no others.
+    /// Removes the lists of an earlier run from the folder, where one is wanted: the files with
+    /// the names that lists get, and no others.
     pub fn clear(&mut self) -> io::Result<()> {
         let Some(path) = self.path else {
             return Ok(());

@@ -36,18 +36,21 @@ impl Trial {
 /// The cell that a parse is to come to, and how many steps it may take.
 #[derive(Clone, Copy, Drop)]
 pub struct Goal {
+    /// The state.
     pub state: usize,
+    /// The token that has to be ahead there.
     pub token: Sym,
+    /// The most steps that the parse may take.
     pub most: usize,
 }
 
 impl Goal {
-    /// How many tokens are left where the parse comes to it.
+    /// How many tokens are upcoming where the parse comes to it.
     fn left(self) -> usize {
         if self.token == END { 0 } else { 1 }
     }
 
-    /// What the parse has come to after so many steps; none where it may go on.
+    /// What the parse has come to after so many steps; `None` where it may go on.
     fn reached(self, session: &Session, steps: usize) -> Option<Trial> {
         let rest = session.view().rest_len();
         if rest < self.left() || session.view().mode() != Mode::Running {
@@ -89,7 +92,8 @@ fn put_all(session: &mut Session, tokens: &[Sym]) -> io::Result<bool> {
     Ok(true)
 }
 
-/// Makes a step, and says whether it is a shift; none where the parse can't go on without an error.
+/// Makes a step, and says whether it is a shift; `None` where the parse can't go on without an
+/// error.
 fn step(session: &mut Session) -> io::Result<Option<bool>> {
     match session.step() {
         Ok(StepKind::Detect) => Ok(None),
@@ -124,8 +128,8 @@ fn go_back(session: &mut Session) {
     }
 }
 
-/// Tries a list of tokens with the goal's token behind it, in a session at its start, which is left
-/// there. Gives what the parse comes to and how many steps and edits that took.
+/// Tries a list of tokens with the goal's token behind it, in a session at its start, which is
+/// left there. Gives what the parse comes to and how many steps and edits that took.
 pub fn try_list(session: &mut Session, tokens: &[Sym], goal: Goal) -> io::Result<(Trial, usize)> {
     let tried = put_and_go(session, tokens, goal);
     let steps = session.position();

@@ -1,4 +1,4 @@
-//! What a grammar has in vain: rules that are never reduced, precedences that settle nothing.
+//! What a grammar doesn't use: rules that are never reduced, precedences that settle nothing.
 
 use std::alloc::{AllocError, Global};
 use yexplain::cells::{reduces_at, standing_of};
@@ -13,8 +13,11 @@ use ytables::{Action, Tables};
 /// What is done somewhere: which rules are reduced, which tokens and rules a precedence settled.
 #[derive(Drop)]
 pub struct Done {
+    /// For each rule, whether it is reduced anywhere.
     pub reduced: Vec<bool>,
+    /// For each token, whether its precedence settled a cell.
     pub by_token: Vec<bool>,
+    /// For each rule, whether its precedence settled a cell.
     pub by_rule: Vec<bool>,
     /// The complete items of a state.
     ready: Vec<Item>,
@@ -101,7 +104,7 @@ impl Done {
         }
     }
 
-    /// Notes the tokens that gave a precedence to rules by which a cell was settled.
+    /// Notes the tokens that gave a precedence to rules that settled a cell.
     pub fn spread(&mut self, grammar: &Grammar, lines: &Lines) {
         for rule in 0..grammar.rules() {
             if self.by_rule.get(rule).copied().unwrap_or(false) {

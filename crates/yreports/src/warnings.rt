@@ -21,7 +21,7 @@ struct Named {
     in_body: Vec<bool>,
 }
 
-/// What warnings are written by.
+/// What warnings are written with.
 #[derive(Drop)]
 struct Warner<'a, W> {
     out: &'a mut W,
@@ -103,7 +103,7 @@ impl<W: Write> Warner<'_, W> {
         left_of(self.grammar, rule).map_or(false, |left| is_reachable(self.grammar, left))
     }
 
-    /// Precedences of tokens that are used, by which no cell was settled.
+    /// Precedences of tokens that are used, but settled no cell.
     fn put_idle_tokens(&mut self, done: &Done, named: &Named) -> io::Result<()> {
         for token in 0..self.grammar.symbols() {
             let settles = done.by_token.get(token).copied().unwrap_or(true);
@@ -117,7 +117,7 @@ impl<W: Write> Warner<'_, W> {
         Ok(())
     }
 
-    /// Precedences behind `%prec` by which no cell was settled.
+    /// Precedences behind `%prec` that settled no cell.
     fn put_idle_rules(&mut self, done: &Done) -> io::Result<()> {
         for rule in 1..self.grammar.rules() {
             let settles = done.by_rule.get(rule).copied().unwrap_or(true);

@@ -4,7 +4,7 @@ use Rattle.std.specs.Prelude.{is_some, if◌then◌else◌, nat_eq, nat_lt, slic
 use Rattle.std.specs.List.{range_with_len}
 use Rattle.ysymbols.specs.Grammar.{most_symbols}
 
--- rows of so many columns, each with an entry or none at a column
+-- rows of so many columns; at each column a row has an entry or none
 pub record PackedRows (T : Type 0) : Type 0 where
   pub width : ℕ
   pub rows : List (List (Option T))
@@ -33,7 +33,7 @@ unpack cells owners displacements width =
 abbrev pub AreOwners : List ℕ → ℕ → Type 0
 AreOwners owners n = (k : ℕ) → slice_index owners k ≤ n
 
--- each filled place of the row is free, from column t on
+-- each filled place of the row, from column t on, is free
 abbrev pub FitsFrom : {T : Type 0} → ℕ → List ℕ → List (Option T) → ℕ → Type 0
 FitsFrom t owners row d = (s : ℕ) → t ≤ s → s < length row → is_some (slice_index_or row s None) ≡
     true → slice_index owners (d + s) ≡ 0

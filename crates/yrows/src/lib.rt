@@ -1,5 +1,5 @@
-//! Rows: of bits with links between them, along which they are spread by worklists; and rows
-//! packed over one list of cells.
+//! Rows of bits with links between them, along which worklists spread them; and rows packed over
+//! one list of cells.
 #![tactic(auto)]
 
 pub mod links;

@@ -7,7 +7,7 @@ use crate::list::Sequence;
 use std::alloc::{AllocError, Global};
 use std::marker::Model;
 
-/// For each row those to which it gives.
+/// For each row, the rows to which it gives what it has.
 #[derive(Drop)]
 pub struct Links {
     lists: Vec<Sequence<usize>>,
@@ -22,7 +22,7 @@ impl Model for Links {
 }
 
 impl Links {
-    /// No links between `count` rows.
+    /// No links between `count` rows. It fails only when memory runs out.
     pub fn new(alloc: Global, count: usize) -> Result<Links, AllocError>
         ensures sized { IfOk result (λ l. length l ≡ count) }
         ensures empty { IfOk result (λ l. All (λ r. r ≡ []) l) }
@@ -34,7 +34,8 @@ impl Links {
         Ok(Links { lists })
     }
 
-    /// Adds a link.
+    /// Adds a link from row `from`, below the count of rows, to row `to`. It fails only when
+    /// memory runs out.
     pub fn push(&mut self, from: usize, to: usize) -> Result<(), AllocError>
         requires { from < length self.old }
         ensures { OnOk result

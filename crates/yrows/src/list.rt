@@ -5,7 +5,7 @@ ghost use Rattle.std.specs.Prelude.{◌≡◌, ◌++◌, [], ◌∷◌, OnOk};
 use std::alloc::{AllocError, Global};
 use std::marker::Model;
 
-/// A list of numbers, items or gotos.
+/// A list of numbers, items or gotos, whose value in contracts is that of its elements.
 #[derive(Drop)]
 pub struct Sequence<T: Copy> {
     list: Vec<T>,
@@ -36,7 +36,7 @@ impl<T: Copy> Sequence<T> {
         self.list.as_slice()
     }
 
-    /// Adds an element at the end.
+    /// Adds an element at the end. It fails only when memory runs out.
     pub fn push(&mut self, element: T) -> Result<(), AllocError>
         ensures { OnOk result (self.new ≡ self.old ++ element ∷ []) }
     {
@@ -44,7 +44,7 @@ impl<T: Copy> Sequence<T> {
         Ok(())
     }
 
-    /// Takes all elements out.
+    /// Takes all elements out; the room for them is kept.
     pub fn clear(&mut self)
         ensures { self.new ≡ [] }
     {

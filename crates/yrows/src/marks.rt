@@ -7,7 +7,7 @@ ghost use Rattle.yrows.specs.Marks.{gaps};
 use std::alloc::{AllocError, Global};
 use std::marker::Model;
 
-/// Marks by number.
+/// Marks of the numbers below a bound.
 #[derive(Drop)]
 pub struct Marks {
     places: Vec<bool>,
@@ -22,7 +22,7 @@ impl Model for Marks {
 }
 
 impl Marks {
-    /// `n` places, none marked.
+    /// `n` places, none marked. It fails only when memory runs out.
     pub fn new(alloc: Global, n: usize) -> Result<Marks, AllocError>
         ensures { IfOk result (λ m. m ≡ replicate n false) }
     {
@@ -30,7 +30,7 @@ impl Marks {
         Ok(Marks { places })
     }
 
-    /// The marks of a list.
+    /// The marks that a list of them says.
     pub fn of(places: Vec<bool>) -> Marks
         ensures { result ≡ places.items }
     {

@@ -11,14 +11,17 @@ use crate::links::Links;
 use crate::marks::Marks;
 use std::alloc::{AllocError, Global};
 
-/// What is to come of a row: it is entered, or it is left, once all to which it leads were.
+/// What is to be done with a row: enter it, or leave it, once all rows to which it leads were
+/// entered.
 #[derive(Clone, Copy, Drop)]
 pub enum Turn {
+    /// Enter this row.
     Enter(usize),
+    /// Leave this row.
     Leave(usize),
 }
 
-/// Has row `p` be left, and before that those entered to which it has a link.
+/// Lets row `p` be left later, and before that the rows entered to which it has a link.
 fn enter(links: &Links, p: usize, turns: &mut Vec<Turn>) -> Result<(), AllocError>
     requires { p < length links.now }
     ensures { OnOk result
@@ -31,8 +34,8 @@ fn enter(links: &Links, p: usize, turns: &mut Vec<Turn>) -> Result<(), AllocErro
     Ok(())
 }
 
-/// Takes the turns, the last one first, and those that come of them. Each row that is left goes to
-/// the end of the order.
+/// Takes the turns, the last one first, and those that follow from them. Each row that is left
+/// goes to the end of the order.
 fn walk(
     links: &Links,
     turns: &mut Vec<Turn>,
@@ -59,7 +62,8 @@ fn walk(
     Ok(())
 }
 
-/// All rows, each behind those to which it leads, as far as links don't lead back.
+/// All rows, each behind those to which it leads, unless links lead back. It fails only when
+/// memory runs out.
 pub fn order_of(alloc: Global, links: &Links, count: usize) -> Result<Vec<usize>, AllocError>
     requires { AreLinks count links.now }
     ensures within { IfOk result (λ v. All (λ p. p < count) v.items) }

@@ -37,7 +37,7 @@ impl<T: Copy> Model for Packed<T> {
     ghost invariant = { λ p. IsPacked p.cells.items p.owners.items p.displacements.items p.width };
 }
 
-/// Whether each filled place of the row is free.
+/// Whether no filled place of the row meets a cell that has an owner.
 fn fits<T: Copy>(owners: &[usize], row: &[Option<T>], d: usize) -> bool
     requires { d ≤ length owners.now }
     ensures fits { result ≡ true → FitsAt owners.now row.now d }
@@ -64,8 +64,8 @@ fn columns_of<T: Copy>(alloc: Global, row: &[Option<T>]) -> Result<Vec<usize>, A
     Ok(columns)
 }
 
-/// The least displacement, not below one where the search may start, at which the row meets no
-/// other: 64 at a time.
+/// The least displacement at which the row meets no other, from where the search may start on; 64
+/// are tried at a time.
 fn displacement_for<T: Copy>(
     slots: &Slots,
     owners: &[usize],
@@ -88,7 +88,7 @@ fn displacement_for<T: Copy>(
     owners.len()
 }
 
-/// Makes room for all places below `end`.
+/// Makes room for all cells below `end`.
 fn grow<T: Copy>(
     cells: &mut Vec<Option<T>>,
     owners: &mut Vec<usize>,
@@ -142,7 +142,7 @@ fn held<T: Copy>(cells: &[Option<T>], owners: &[usize], q: usize, k: usize) -> O
 }
 
 impl<T: Copy> Packed<T> {
-    /// No rows, of so many columns.
+    /// No rows, of `width` columns each.
     pub fn new(alloc: Global, width: usize) -> Packed<T>
         requires { width ≤ most_symbols }
         ensures { result ≡ record { width = width; rows = [] } }
@@ -163,14 +163,14 @@ impl<T: Copy> Packed<T> {
         self.width
     }
 
-    /// Where the columns of each row begin. Which displacement a row gets is no part of a promise.
+    /// Where the columns of each row begin. No contract says which displacement a row gets.
     pub fn displacements(&self) -> &[usize]
         ensures { length result.now ≡ length self.now.rows }
     {
         self.displacements.as_slice()
     }
 
-    /// The entry of row `q` at the column `t`.
+    /// The entry of row `q` at column `t`, or `None` where it has none.
     pub fn get(&self, q: usize, t: usize) -> Option<T>
         requires { q < length self.now.rows }
         ensures { result ≡ entry_of self.now.rows q t }
@@ -181,7 +181,8 @@ impl<T: Copy> Packed<T> {
         held(&self.cells, &self.owners, q, self.displacements[q] + t)
     }
 
-    /// Adds a row at the least displacement at which it fits.
+    /// Adds a row at the least displacement at which it fits. It fails only when memory runs out;
+    /// what is in the rows then is not said.
     pub fn push(&mut self, alloc: Global, row: &[Option<T>]) -> Result<(), AllocError>
         requires { length row.now ≡ self.old.width }
         ensures { OnOk result (IsPushed self.old self.new row.now) }

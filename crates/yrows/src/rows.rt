@@ -12,7 +12,7 @@ use std::marker::Model;
 /// Bits in each word.
 const BITS: usize = 64;
 
-/// Rows of bits that are only ever set, but for `clear`.
+/// Rows of bits. Bits are only ever set; `clear` alone unsets them.
 #[derive(Drop)]
 pub struct Rows {
     height: usize,
@@ -34,7 +34,7 @@ impl Model for Rows {
 }
 
 impl Rows {
-    /// Rows with no bit set.
+    /// Rows with no bit set. It fails only when memory runs out.
     pub fn new(alloc: Global, height: usize, width: usize) -> Result<Rows, AllocError>
         requires tall { height ≤ most_rows }
         requires wide { width ≤ most_rules }
@@ -68,8 +68,8 @@ impl Rows {
         (word >> (c % BITS)) & 1 == 1
     }
 
-    /// A column behind `c`, which row `r` lacks, such that the row has none from `c` up to it:
-    /// the next one that it has in the word, or else where the word ends.
+    /// A column behind `c`, a column that row `r` lacks. The row has no column between them: it is
+    /// the next one that the row has in the same word, or else where the word ends.
     pub fn after(&self, r: usize, c: usize) -> usize
         requires row { r < self.now.height }
         requires column { c < self.now.width }
@@ -83,7 +83,7 @@ impl Rows {
         c + step.min(self.width - c)
     }
 
-    /// The first column from `c` on that row `r` has, or the width where there is none.
+    /// The first column from `c` on that row `r` has, or the width where it has no more.
     pub fn next(&self, r: usize, c: usize) -> usize
         requires row { r < self.now.height }
         requires column { c ≤ self.now.width }

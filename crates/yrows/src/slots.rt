@@ -1,5 +1,5 @@
-//! Where rows may go: the slots that are taken, 64 to a word. Nothing is claimed of what is found
-//! here but its bounds; whoever writes a row looks at the owners.
+//! Where rows may go: the slots that are taken, 64 to a word. No contract says more of what is
+//! found here than its bounds: whoever writes a row looks at the owners.
 
 ghost use Rattle.std.specs.Prelude.{◌<◌, ◌≤◌, ◌+◌, ◌^◌, All, length};
 
@@ -27,7 +27,8 @@ fn window(words: &[u64], at: usize) -> u64 {
     low | (high << 1 << (BITS - 1 - at % BITS))
 }
 
-/// For which of the 64 displacements from `d` on some column meets a slot that is taken.
+/// For each of the 64 displacements from `d` on a bit: set where some column meets a slot that is
+/// taken.
 pub fn blocked(words: &[u64], columns: &[usize], d: usize) -> u64
     requires near { d < 2 ^ 63 }
     requires columns { All (λ t. t < 2 ^ 63) columns.now }
@@ -61,7 +62,7 @@ impl Slots {
         }
     }
 
-    /// The words of bits.
+    /// The words of bits: slot `k` is bit `k % 64` of word `k / 64`.
     pub fn words(&self) -> &[u64] {
         self.words.as_slice()
     }
@@ -86,7 +87,7 @@ impl Slots {
         Ok(())
     }
 
-    /// Marks the slots of these columns at a displacement.
+    /// Marks the slots of these columns at a displacement. It fails only when memory runs out.
     pub fn take(&mut self, columns: &[usize], d: usize) -> Result<(), AllocError>
         requires near { d < 2 ^ 63 }
         requires columns { All (λ t. t < 2 ^ 63) columns.now }

@@ -1,6 +1,6 @@
-//! Rows that give what they have along links, until nothing is new. Rows wait in rounds: the first
-//! has rows in front of those to which they lead, and each round goes against the one before, so
-//! that what runs down a chain of links and up again takes two rounds, however long the chain.
+//! Rows that give what they have along links, until nothing is new. Rows wait in rounds. In the
+//! first, rows stand in front of those to which they lead; each further round goes the other way.
+//! So what runs down a chain of links and up again takes two rounds, however long the chain.
 
 ghost use Rattle.std.specs.Prelude.{◌≡◌, ◌<◌, ◌≤◌, [], length, slice_index_or, OnOk};
 ghost use Rattle.yrows.specs.Rows.{IsSized};
@@ -13,7 +13,8 @@ use crate::rows::Rows;
 use crate::waiting::Waiting;
 use std::alloc::{AllocError, Global};
 
-/// Has row `p` give what it has to each row to which it has a link. Each that grows has to wait.
+/// Lets row `p` give what it has to each row to which it has a link. Each row that grows has to
+/// wait.
 fn give(links: &Links, p: usize, rows: &mut Rows, waiting: &mut Waiting) -> Result<(), AllocError>
     requires links { AreLinks rows.old.height links.now }
     requires row { p < rows.old.height }
@@ -29,9 +30,9 @@ fn give(links: &Links, p: usize, rows: &mut Rows, waiting: &mut Waiting) -> Resu
     Ok(())
 }
 
-/// Has each row give along its links, until no row grows any more. A row that grew waits until it
-/// is taken, at most once at a time. At first all wait, in an order in which only links that lead
-/// back have rows given to that were taken.
+/// Lets each row give along its links, until no row grows any more. A row that grew waits until it
+/// is taken, at most once at a time. At first all rows wait, in such an order that only links that
+/// lead back give to rows that were taken. It fails only when memory runs out.
 pub fn spread(alloc: Global, links: &Links, rows: &mut Rows) -> Result<(), AllocError>
     requires { AreLinks rows.old.height links.now }
     ensures sized { OnOk result (IsSized rows.old.height rows.old.width rows.new) }

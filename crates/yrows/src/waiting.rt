@@ -1,6 +1,6 @@
-//! Numbers that wait, none twice. Those put while a round of them is taken make the next round, and
-//! each round is taken from its end: where the numbers of one round were put in an order, those of
-//! the next are taken against it.
+//! Numbers that wait, none twice. Those put while one round is taken make the next round. Each
+//! round is taken from its end: where the numbers of one round were put in an order, those of the
+//! next are taken against it.
 
 ghost use Rattle.std.specs.Prelude.{ℕ, ◌≡◌, ◌<◌, true, false, [], All, IfOk, OnOk, length};
 ghost use Rattle.std.specs.Prelude.{MatchOption, slice_set};
@@ -32,7 +32,7 @@ impl Model for Waiting {
     ghost invariant = { λ w. AreListed w.marks w.round.items w.next.items };
 }
 
-/// The number at the end of the round, or of the next one where this one is over.
+/// The number at the end of the round; where that is empty, at the end of the next one.
 fn pop(round: &mut Vec<usize>, next: &mut Vec<usize>) -> Option<usize>
     ensures { MatchOption result (AreOut round.old.items next.old.items
         × AreOut round.new.items next.new.items)
@@ -47,7 +47,7 @@ fn pop(round: &mut Vec<usize>, next: &mut Vec<usize>) -> Option<usize>
 }
 
 impl Waiting {
-    /// None of the numbers below `n`.
+    /// No number waits, of those below `n`.
     fn none(alloc: Global, n: usize) -> Result<Waiting, AllocError>
         ensures { IfOk result (λ w. length w ≡ n) }
     {
@@ -58,7 +58,8 @@ impl Waiting {
         })
     }
 
-    /// The numbers of a list, all below `n`, the last one first.
+    /// The numbers of a list wait, all below `n`; the last one is taken first. It fails only when
+    /// memory runs out.
     pub fn from_back(alloc: Global, n: usize, list: &[usize]) -> Result<Waiting, AllocError>
         requires { All (λ p. p < n) list.now }
         ensures sized { IfOk result (λ w. length w ≡ n) }
@@ -71,7 +72,7 @@ impl Waiting {
         Ok(waiting)
     }
 
-    /// Takes a number that waits; from then on it can be put back.
+    /// Takes a number that waits, or `None` where none waits. From then on it can be put back.
     pub fn take(&mut self) -> Option<usize>
         ensures { MatchOption result ((p : ℕ) → Has self.old p → ⊥)
             (λ p. Has self.old p × (self.new ≡ slice_set self.old p false)) }
@@ -85,7 +86,7 @@ impl Waiting {
         None
     }
 
-    /// Has a number wait, unless it does.
+    /// Lets a number wait, unless it does. It fails only when memory runs out.
     pub fn put(&mut self, p: usize) -> Result<(), AllocError>
         requires { p < length self.old }
         ensures { OnOk result (self.new ≡ slice_set self.old p true) }

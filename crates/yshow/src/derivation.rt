@@ -71,7 +71,7 @@ impl<'a> Form<'a> {
     }
 
     /// Takes the last tree: a rule is replaced by its body, which makes another form, and anything
-    /// else moves behind. `None` where no tree is left.
+    /// else moves behind. `None` where there are no more trees.
     fn expand(&mut self, grammar: &Grammar) -> Result<Option<bool>, AllocError> {
         let Some(tree) = self.trees.pop() else {
             return Ok(None);

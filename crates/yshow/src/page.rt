@@ -10,7 +10,7 @@ const SPACES: &[u8; 80] =
 const WIDTH: usize = 78;
 
 /// How a piece of text looks where there is colour.
-#[derive(Clone, Copy, Debug, PartialEq, Eq)]
+#[derive(Clone, Copy, PartialEq, Eq)]
 pub enum Paint {
     /// As any text.
     Plain,
@@ -110,7 +110,7 @@ impl<W: Write> Page<W> {
         self.out.write_all(b"\n")
     }
 
-    /// A person has ended the line.
+    /// Notes that a person has ended the line.
     pub fn fresh(&mut self) {
         self.column = 0;
     }
@@ -121,8 +121,8 @@ impl<W: Write> Page<W> {
         self.end()
     }
 
-    /// Writes a word of a list behind a space. Where the line is full, the word begins another one,
-    /// behind so many spaces.
+    /// Writes a word of a list behind a space. Where the line is full, the word begins another
+    /// one, behind so many spaces.
     pub fn word(&mut self, indent: usize, word: &str) -> io::Result<()> {
         if self.column > indent && self.column.saturating_add(word.len()) >= WIDTH {
             self.end()?;
@@ -140,7 +140,7 @@ impl<W: Write> Page<W> {
         self.put(if number == 1 { one } else { many })
     }
 
-    /// What follows looks so.
+    /// Sets how what follows looks.
     pub fn paint(&mut self, paint: Paint) -> io::Result<()> {
         if self.colour {
             self.out.write_all(paint.escape())?;

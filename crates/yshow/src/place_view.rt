@@ -130,7 +130,7 @@ pub fn put_where<W: Write>(page: &mut Page<W>, session: &Session, tokens: usize)
     )
 }
 
-/// That so many of what was asked for are left out.
+/// Writes how many of what was asked for are left out.
 fn put_more<W: Write>(page: &mut Page<W>, count: usize, what: &str) -> io::Result<()> {
     if count == 0 {
         return Ok(());

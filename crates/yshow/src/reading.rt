@@ -9,7 +9,7 @@ use yparse::{Session, TreeView};
 use ysymbols::{Grammar, Precedence, Sym};
 use ytables::Tables;
 
-/// The printed name of a symbol; empty for a number that is none.
+/// The printed name of a symbol; empty for a number that is no symbol.
 pub fn name_of(grammar: &Grammar, symbol: Sym) -> &str {
     str::from_utf8(reads::name_of(grammar, symbol)).unwrap_or("?")
 }
@@ -59,7 +59,7 @@ pub fn upcoming_token(session: &Session, index: usize) -> (Sym, usize) {
     }
 }
 
-/// The token ahead; `$end` where none is left.
+/// The token ahead; `$end` behind the last token.
 pub fn token_ahead(session: &Session) -> Sym {
     upcoming_token(session, 0).0
 }
@@ -82,7 +82,7 @@ pub fn child_of<'a>(tree: &TreeView<'a>, index: usize) -> Option<TreeView<'a>> {
     }
 }
 
-/// Whether the parse goes by the cells now.
+/// Whether the parse is running: the cells say its next step.
 pub fn is_running(session: &Session) -> bool {
     session.view().mode() == Mode::Running
 }

@@ -99,7 +99,7 @@ fn put_noted<W: Write>(
 }
 
 /// How much an item matters in a short list.
-#[derive(Clone, Copy, Debug, PartialEq, Eq)]
+#[derive(Clone, Copy, PartialEq, Eq)]
 enum Rank {
     /// It is complete, or about the token ahead.
     First,
@@ -157,8 +157,8 @@ fn put_rank<W: Write>(
     Ok(count)
 }
 
-/// The items of a state that are complete or about the token ahead, and then those that have begun:
-/// 12 of them.
+/// The items of a state that are complete or about the token ahead, and then those that have
+/// begun: 12 of them.
 pub fn put_kernel<W: Write>(
     page: &mut Page<W>,
     tables: &Tables,

@@ -14,8 +14,8 @@ const RULES: usize = 58;
 
 const STATES: usize = 69;
 
-/// A step or an undo that was made, as it is told.
-#[derive(Clone, Copy, Debug)]
+/// A step or an undo that was made, as its line shows it.
+#[derive(Clone, Copy)]
 pub struct StepLine {
     /// The position after it.
     pub position: usize,

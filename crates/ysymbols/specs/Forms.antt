@@ -52,13 +52,13 @@ abbrev pub IsRun : ContextFree → List ℕ → List (List ℕ) → Type 0
 IsRun g x [] = Unit {0}
 IsRun g x (y ∷ more) = Replaces (IsRule g) x y × IsRun g y more
 
--- such a list, in which only tokens stand behind each replaced nonterminal
+-- such a run, in which only tokens stand behind each replaced nonterminal
 abbrev pub IsRightmostRun : ContextFree → List ℕ → List (List ℕ) → Type 0
 IsRightmostRun g x [] = Unit {0}
 IsRightmostRun g x (y ∷ more) = ((s : Replaces (IsRule g) x y) × All (IsToken g) s.after)
     × IsRightmostRun g y more
 
--- A list of forms and `Derives` say the same.
+-- A run of forms and `Derives` say the same.
 pub derives_from_run : (g : ContextFree) (x : List ℕ) (more : List (List ℕ)) → IsRun g x more →
     Derives (IsRule g) x (last_of x more)
 derives_from_run g x [] h = done

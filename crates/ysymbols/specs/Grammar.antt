@@ -33,19 +33,19 @@ pub record GrammarValue : Type 0 where
   -- which symbols can be reached from the first rule
   pub reachable : List Bool
 
--- the limits of this project's profile: the symbols of a grammar
+-- the most symbols of a grammar; this and the next four are limits of this project's profile
 abbrev pub most_symbols : ℕ
 most_symbols = 4096
 
--- its rules
+-- the most rules of a grammar
 abbrev pub most_rules : ℕ
 most_rules = 8192
 
--- the symbols in the body of a rule
+-- the most symbols in the body of a rule
 abbrev pub longest_body : ℕ
 longest_body = 255
 
--- the number of a token
+-- the greatest number of a token
 abbrev pub greatest_number : ℕ
 greatest_number = 32767
 
@@ -53,7 +53,7 @@ greatest_number = 32767
 abbrev pub number_bound : ℕ
 number_bound = 32768
 
--- the bytes of a grammar file
+-- the most bytes of a grammar file
 abbrev pub longest_file : ℕ
 longest_file = 1048576
 

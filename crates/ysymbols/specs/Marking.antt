@@ -23,7 +23,7 @@ pub record RuleIn (symbols : ℕ) (p : Production) : Type 0 where
   pub left : p.left < symbols
   pub body : EachIndex p.body (λ k. slice_index p.body k < symbols)
 
--- so of every rule
+-- each symbol of every rule is below the bound
 abbrev pub AreIn : ℕ → List RuleValue → Type 0
 AreIn symbols rules = (r : ℕ) → r < length rules → RuleIn symbols (rule_at rules r)
 
@@ -83,7 +83,7 @@ pub record DotFits (body : List ℕ) (m : List Bool) (dot : ℕ) : Type 0 where
   pub within : dot ≤ length body
   pub before : (k : ℕ) → k < dot → IsMarked m (slice_index body k)
 
--- so in every rule
+-- the dot of every rule fits
 pub record AreDots (rules : List RuleValue) (dots : List ℕ) (m : List Bool) : Type 0 where
   pub sized : length dots ≡ length rules
   pub fits : (r : ℕ) → r < length rules → DotFits (rule_at rules r).body m (slice_index dots r)

@@ -6,8 +6,8 @@ use Rattle.ysymbols.specs.Grammar.{ContextFree, GrammarValue, IsToken, left_of, 
 use Rattle.ysymbols.specs.Grammar.{end_token, error_token, longest_body, most_rules, most_symbols}
 use Rattle.ysymbols.specs.Forms.{Productive}
 
--- The bare grammar is `$accept : S $end` and rules by which every nonterminal derives a list of
--- tokens.
+-- The bare grammar has `$accept : S $end` and further rules, and every nonterminal derives a list
+-- of tokens.
 pub record WellFormed (g : ContextFree) : Type 0 where
   -- the tokens come first, `$end` and `error` among them: there are at least two
   pub ends : IsToken g end_token

@@ -17,17 +17,19 @@ use crate::texts::Texts;
 use std::alloc::{AllocError, Global};
 use std::marker::Model;
 
-/// A grammar. Every one is well formed; `symbols` tells so to its callers. It owns what it keeps:
-/// names, and the source once, of which kept texts are parts.
+/// A grammar. Every grammar is well formed; the contract of `symbols` says what that means. It
+/// owns its parts: the names, and one copy of the source, of which the kept texts are parts.
 #[derive(Drop)]
 pub struct Grammar {
     /// The symbols by their printed names, the tokens first.
     names: SymbolTable,
+    /// How many of the symbols are tokens.
     tokens: usize,
     /// The numbers of the tokens.
     numbers: Vec<u32>,
     /// The precedences of the tokens.
     precedences: Vec<Option<Precedence>>,
+    /// The rules by number.
     rules: Vec<Rule>,
     /// The texts of the actions of the rules.
     action_texts: Texts,
@@ -50,7 +52,7 @@ impl Model for Grammar {
 }
 
 impl Grammar {
-    /// A grammar of these parts.
+    /// The grammar of these parts, which must be whole: what `symbols` promises holds of them.
     pub fn of(
         names: SymbolTable,
         tokens: usize,
@@ -78,11 +80,9 @@ impl Grammar {
         }
     }
 
-    /// How many symbols there are, 4 to 4,096; each is a number below this.
-    ///
     /// This call also says what every grammar keeps: its rules have symbols in range, rule 0 is
     /// `$accept : S $end`, every nonterminal derives a list of tokens, `$end` and `error` are the
-    /// first two tokens, no two symbols have one name and no two tokens one number.
+    /// first two tokens, no two symbols share a name and no two tokens share a number.
     pub fn symbols(&self) -> usize
         ensures value { result ≡ self.now.bare.symbols }
         ensures well_formed { WellFormed self.now.bare }
@@ -91,15 +91,15 @@ impl Grammar {
         self.names.len()
     }
 
-    /// Whether the symbol is a token. The tokens are the numbers from 0 on; the nonterminals and
-    /// all numbers above them are none.
+    /// Whether the symbol is a token. Tokens have the lowest numbers, from 0 on. Nonterminals, and
+    /// numbers of no symbol, are not tokens.
     pub fn is_token(&self, s: Sym) -> bool
         ensures { IsTrue result ↔ IsToken self.now.bare s }
     {
         s < self.tokens
     }
 
-    /// The printed name of a symbol below `symbols()`: a name as it stands in the file, a literal
+    /// The printed name of a symbol below `symbols()`: a name as the file has it, a literal
     /// by its value, so that it has one name in all its spellings (POSIX yacc, "Lexical Structure
     /// of the Grammar").
     pub fn name(&self, s: Sym) -> &[u8]
@@ -112,7 +112,7 @@ impl Grammar {
         }
     }
 
-    /// The symbol that is printed so, or `None` where there is none.
+    /// The symbol with this printed name, or `None` where no symbol has it.
     pub fn find(&self, name: &[u8]) -> Option<Sym>
         ensures { result ≡ find_in self.now.names name.now }
     {
@@ -164,7 +164,7 @@ impl Grammar {
     pub fn nullable(&self, alloc: Global) -> Result<Vec<bool>, AllocError>
         ensures { IfOk result (λ v. MarksNullable self.now.bare v.items) }
     {
-        // A list of tokens, where there are none, is the empty form.
+        // Where nothing counts as a token, the only list of tokens is the empty one.
         productive(alloc, &self.rules, 0, self.symbols())
     }
 

@@ -1,4 +1,5 @@
-//! Grammars: symbols by number, rules, and what every grammar keeps; marks and worklists over rules.
+//! Grammars: symbols by number, rules, and what every grammar keeps; marks and worklists over
+//! rules.
 #![tactic(auto)]
 
 pub mod grammar;

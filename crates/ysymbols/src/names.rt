@@ -9,7 +9,7 @@ use indexmap::IndexSet;
 use std::alloc::{AllocError, Global};
 use std::marker::Model;
 
-/// Printed names by number.
+/// Printed names by number: symbol `s` has the name at place `s`, counted from 0.
 pub type SymbolTable = IndexSet<Vec<u8>>;
 
 /// A literal as it is printed.
@@ -28,7 +28,8 @@ impl Model for Printed {
 }
 
 impl Printed {
-    /// A literal of this value: its byte between quotes, or a backslash and three octal digits.
+    /// The literal of this value: its byte between quotes, or a backslash and three octal digits
+    /// there.
     pub fn new(value: u8) -> Printed
         ensures { result ≡ printed_literal value }
     {
@@ -52,6 +53,7 @@ impl Printed {
         }
     }
 
+    /// Its bytes, 3 or 6 of them, with both quotes.
     pub fn as_slice(&self) -> &[u8]
         ensures { result.now ≡ self.now }
     {
@@ -59,21 +61,21 @@ impl Printed {
     }
 }
 
-/// Whether the name is there.
+/// Whether the name is among them.
 pub fn is_among(names: &SymbolTable, name: &[u8]) -> bool
     ensures { result ≡ is_among (texts names.now) name.now }
 {
     names.contains(name)
 }
 
-/// The number of the name, or how many names there are, where it isn't there.
+/// The number of the name, or how many names there are where it is not among them.
 pub fn number_in(names: &SymbolTable, name: &[u8]) -> usize
     ensures { result ≡ number_in (texts names.now) name.now }
 {
     names.get_index_of(name).unwrap_or(names.len())
 }
 
-/// Interns a name, unless it is there.
+/// Adds a name behind the others, unless it is among them. It fails only when memory runs out.
 pub fn intern(alloc: Global, names: &mut SymbolTable, name: &[u8]) -> Result<(), AllocError>
     ensures { OnOk result (texts names.new ≡ with_name (texts names.old) name.now) }
 {

@@ -8,7 +8,7 @@ ghost use Rattle.ysymbols.specs.Marking.{list_at, lists_of, rule_at};
 use crate::rule::{Rule, Sym};
 use std::alloc::{AllocError, Global};
 
-/// The left side of a rule.
+/// The left side of the rule of this number.
 pub fn left_at(rules: &[Rule], r: usize) -> Sym
     requires { r < length rules.now }
     ensures { result ≡ (rule_at rules.now r).left }
@@ -16,7 +16,7 @@ pub fn left_at(rules: &[Rule], r: usize) -> Sym
     rules[r].left()
 }
 
-/// The body of a rule.
+/// The body of the rule of this number.
 pub fn body_at<'r>(rules: &'r [Rule], r: usize) -> &'r [Sym]
     requires { r < length rules.now }
     ensures { result.now ≡ (rule_at rules.now r).body }
@@ -59,7 +59,7 @@ fn file_body(lists: &mut Vec<Vec<usize>>, body: &[Sym], r: usize) -> Result<(), 
     Ok(())
 }
 
-/// For each symbol the rules in whose bodies it stands.
+/// For each symbol, the rules in whose bodies it stands. It fails only when memory runs out.
 pub fn occurrences(
     alloc: Global,
     rules: &[Rule],
@@ -75,7 +75,7 @@ pub fn occurrences(
     Ok(lists)
 }
 
-/// For each symbol the rules of which it is the left side.
+/// For each symbol, the rules of which it is the left side. It fails only when memory runs out.
 pub fn rules_by_left(
     alloc: Global,
     rules: &[Rule],

@@ -3,8 +3,11 @@
 /// What follows where two levels are equal: the reduction, the shift, or an error.
 #[derive(Clone, Copy, Debug, Drop, PartialEq, Eq)]
 pub enum Associativity {
+    /// `%left`: the reduction.
     Left,
+    /// `%right`: the shift.
     Right,
+    /// `%nonassoc`: an error.
     Nonassoc,
 }
 
@@ -13,5 +16,6 @@ pub enum Associativity {
 pub struct Precedence {
     /// Which line of precedences gave it, counted from 1: a later line binds tighter.
     pub level: usize,
+    /// What is done where this level meets an equal one.
     pub kind: Associativity,
 }

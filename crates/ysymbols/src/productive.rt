@@ -12,7 +12,7 @@ use crate::rule::{Rule, Sym};
 use crate::worklist::Worklist;
 use std::alloc::{AllocError, Global};
 
-/// Where the dot of a body comes to, past the marked symbols.
+/// Where the dot of a body stands once it has moved past the marked symbols.
 fn advance(body: &[Sym], marks: &[bool], dot: usize) -> usize
     requires body { EachIndex body.now (λ k. slice_index body.now k < length marks.now) }
     requires dot { DotFits body.now marks.now dot }
@@ -133,7 +133,8 @@ fn token_marks(alloc: Global, tokens: usize, symbols: usize) -> Result<Vec<bool>
     Ok(marks)
 }
 
-/// For each symbol whether it derives a list of tokens, in time linear in the length of the rules.
+/// For each symbol, whether it derives a list of tokens, in time linear in the length of the
+/// rules. It fails only when memory runs out.
 pub fn productive(
     alloc: Global,
     rules: &[Rule],

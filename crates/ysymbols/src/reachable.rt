@@ -68,8 +68,8 @@ fn spread(alloc: Global, rules: &[Rule], list: &mut Worklist) -> Result<(), Allo
     Ok(())
 }
 
-/// For each symbol whether it can be reached from the first rule, in time linear in the length of
-/// the rules.
+/// For each symbol, whether it can be reached from the first rule, in time linear in the length of
+/// the rules. It fails only when memory runs out.
 pub fn reachable(alloc: Global, rules: &[Rule], symbols: usize) -> Result<Vec<bool>, AllocError>
     requires some { 0 < length rules.now }
     requires in_range { AreIn symbols rules.now }

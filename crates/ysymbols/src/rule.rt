@@ -32,7 +32,7 @@ impl Model for Rule {
 }
 
 impl Rule {
-    /// A rule of these parts.
+    /// The rule of these parts.
     pub fn of(left: Sym, body: Vec<Sym>, precedence: Option<Precedence>) -> Rule
         ensures { result
             ≡ record {
@@ -47,7 +47,7 @@ impl Rule {
         }
     }
 
-    /// The nonterminal that the rule replaces: a symbol of its grammar that is no token.
+    /// The nonterminal that the rule replaces: a symbol of its grammar that is not a token.
     pub fn left(&self) -> Sym
         ensures { result ≡ self.now.production.left }
     {

@@ -10,7 +10,9 @@ use std::marker::Model;
 /// Where a text stands in a source.
 #[derive(Clone, Copy, Debug, Drop)]
 pub struct Span {
+    /// How many bytes of the source stand before it.
     pub start: usize,
+    /// How many bytes it has.
     pub len: usize,
 }
 
@@ -51,7 +53,7 @@ impl Model for Texts {
 }
 
 impl Texts {
-    /// No texts yet, of a source.
+    /// No texts yet, of a copy of this source. It fails only when memory runs out.
     pub fn new(alloc: Global, source: &[u8]) -> Result<Texts, AllocError>
         ensures { IfOk result (λ t. t ≡ record { source = source.now; texts = [] }) }
     {
@@ -61,7 +63,8 @@ impl Texts {
         })
     }
 
-    /// Adds the place of the text of the next rule, where it has one.
+    /// Adds the place of the text of the next rule, or `None` where it has no text. It fails only
+    /// when memory runs out.
     pub fn push(&mut self, span: Option<Span>) -> Result<(), AllocError>
         ensures { OnOk result (self.new
             ≡ record self.old {
@@ -72,7 +75,7 @@ impl Texts {
         Ok(())
     }
 
-    /// The text of the rule of this number, where it has one.
+    /// The text of the rule of this number, or `None` where it has no text.
     pub fn get(&self, r: usize) -> Option<&[u8]>
         ensures { text_view result ≡ slice_index_or self.now.texts r None }
     {

@@ -8,7 +8,8 @@ use crate::rule::Sym;
 use std::alloc::{AllocError, Global};
 use std::marker::Model;
 
-/// Marks of symbols; those marked since the start, in their order; and how many of these are taken.
+/// Marks of symbols; those marked since the start, in their order; and how many of these are
+/// taken.
 #[derive(Drop)]
 pub struct Worklist {
     marks: Vec<bool>,

@@ -261,7 +261,7 @@ word_one Word.right _ e = cc
 word_one Word.nonassoc Word.token e = cc
 word_one Word.nonassoc _ e = cc
 
--- the words of listings are none of the other words
+-- the words of listings differ from the other words
 abbrev is_listing : Sign → Bool
 is_listing sign.Token = true
 is_listing sign.Left = true

@@ -56,7 +56,7 @@ abbrev pub StandsIn : List ℕ → Placed → Type 0
 StandsIn source p = (rest : List ℕ)
     × PartAt (drop p.at source) (lexeme (lexeme_view p.lexeme)) rest
 
--- so of each
+-- each lexeme stands in the file
 abbrev pub StandIn : List ℕ → List Placed → Type 0
 StandIn source ls = AllByRecursion (StandsIn source) ls
 

@@ -80,7 +80,7 @@ pub data Stops (ls : List Lexeme) (rest : List ℕ) (line : ℕ) : Result (List 
       IsSpec (kinds (ls ++ fixed sign.Mark ∷ [])) →
       Stops ls rest line (Ok (ls ++ fixed sign.Mark ∷ []))
   lexical : {fault : Fault} → FaultAt rest fault → Stops ls rest line (Err (refusal fault line))
-  -- with the lexeme there they begin no grammar file
+  -- a lexeme stands there, and with it the lexemes begin no grammar file
   stray : {l : Lexeme} {after : List ℕ} → PartAt rest (lexeme l) after →
       (BeginsSpec (kinds (ls ++ l ∷ [])) → ⊥) → Stops ls rest line (Err (refusal syntax line))
   -- the file ends too early

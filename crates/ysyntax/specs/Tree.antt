@@ -34,7 +34,7 @@ pub data BodyPart : Type 0 where
   symbol : Identifier → BodyPart
   action : List ℕ → BodyPart
 
--- a rule, as it stands in the file
+-- a rule of the file
 pub record RuleText : Type 0 where
   -- the name before the colon, or a bar
   pub left : Option (List ℕ)
@@ -112,7 +112,7 @@ IsDefinition (listing w tag es) = 0 < length es
 IsDefinition (types tag ns) = 0 < length ns
 IsDefinition _ = Unit {0}
 
--- an action behind a precedence wants that precedence
+-- an action stands behind a precedence only where there is one
 abbrev pub IsRuleText : RuleText → Type 0
 IsRuleText c = IsSome c.last → IsSome c.prec
 
@@ -120,8 +120,8 @@ abbrev pub BeginsWithName : List RuleText → Type 0
 BeginsWithName [] = ⊥
 BeginsWithName (c ∷ cs) = IsSome c.left
 
--- a list has no empty listing, an action stands behind a precedence alone, and the first rule
--- has a name
+-- no listing is empty, an action stands behind a precedence only where there is one, and the first
+-- rule has a name
 pub record IsTree (t : Tree) : Type 0 where
   pub definitions : AllByRecursion IsDefinition t.definitions
   pub rule_texts : AllByRecursion IsRuleText t.rule_texts

@@ -10,12 +10,12 @@ use Rattle.ysyntax.specs.declared.tree.BodyPart.TheVariants as items
 abbrev pub StandsAt : List ℕ → BracedText → Type 0
 StandsAt source b = take (length b.text.now) (drop b.at source) ≡ b.text.now
 
--- so does the action that a part of a body is
+-- the action that a part of a body is stands at its place
 abbrev pub BodyPartStands : List ℕ → CodeBodyPart → Type 0
 BodyPartStands source (items.Symbol m) = Unit {0}
 BodyPartStands source (items.Action b) = StandsAt source b
 
--- so do the actions of a rule
+-- the actions of a rule stand at their places
 pub record RuleTextStands (source : List ℕ) (c : CodeRuleText) : Type 0 where
   pub body : AllByRecursion (BodyPartStands source) c.body.items
   pub last : IfSome c.last (λ b. StandsAt source b)

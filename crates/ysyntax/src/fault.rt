@@ -1,4 +1,4 @@
-//! Why a grammar file is refused.
+//! Why a grammar file is refused: the codes of docs/FORMATS.md.
 
 ghost use Rattle.std.specs.Prelude.{◌≡◌};
 ghost use Rattle.ysyntax.specs.declared.fault.GrammarFault.TheVariants.{Memory};
@@ -6,7 +6,8 @@ ghost use Rattle.ysyntax.specs.declared.fault.GrammarFault.TheVariants.{Memory};
 use std::alloc::{AllocError, AllocFailed};
 use thiserror::Error;
 
-/// The fault of a grammar file. A line is one more than the newlines before the place at fault.
+/// The fault of a grammar file, and its line: one more than the newlines before the place at
+/// fault.
 #[derive(Clone, Copy, Debug, PartialEq, Eq, Drop, Error)]
 pub enum GrammarFault {
     /// G1: the file has more than 1,048,576 bytes.
@@ -15,10 +16,10 @@ pub enum GrammarFault {
     /// G2: a comment, literal, code block or kept text has no end.
     #[error("G2 at line {line}")]
     Unfinished { line: usize },
-    /// G3: no literal begins at a quote, and none would with more bytes.
+    /// G3: no literal begins at a quote, and none would with further bytes.
     #[error("G3 at line {line}")]
     BadLiteral { line: usize },
-    /// G4: a byte or percent word that begins no lexeme.
+    /// G4: a byte or percent word that can't begin a lexeme.
     #[error("G4 at line {line}")]
     Foreign { line: usize },
     /// G5: the lexemes up to here begin no grammar file, or the file ends too early.
@@ -33,8 +34,8 @@ pub enum GrammarFault {
     /// G8: a token is given a precedence twice.
     #[error("G8 at line {line}")]
     TwicePrecedence { line: usize },
-    /// G9: a number that is given is not in 1 to 32,767, a token is given two, or two tokens have
-    /// one.
+    /// G9: a number given is not in 1 to 32,767, a token is given two, or two tokens have the
+    /// same.
     #[error("G9 at line {line}")]
     BadNumber { line: usize },
     /// G10: `%start` names no nonterminal, or stands twice.
@@ -49,7 +50,7 @@ pub enum GrammarFault {
     /// G13: more than 4,096 symbols, 8,192 rules, or 255 symbols in a body; on line 1.
     #[error("G13 at line {line}")]
     Limit { line: usize },
-    /// G14: memory was refused.
+    /// G14: memory ran out.
     #[error("no memory")]
     Memory,
 }

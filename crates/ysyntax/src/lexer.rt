@@ -18,7 +18,9 @@ use ysymbols::limits::LONGEST_FILE;
 /// A lexeme, and how many bytes stand before it.
 #[derive(Clone, Copy, Debug)]
 pub struct Placed<'a> {
+    /// The lexeme.
     pub lexeme: Lexeme<'a>,
+    /// How many bytes of the file stand before it.
     pub at: usize,
 }
 
@@ -42,7 +44,8 @@ fn at_line(fault: LexicalFault, line: usize) -> GrammarFault
     }
 }
 
-/// The lexemes of a grammar file.
+/// The lexemes of a grammar file, up to the second `%%` or the end, or its first fault; memory may
+/// run out in place of any answer.
 pub fn read_lexemes<'a>(alloc: Global, bytes: &'a [u8]) -> Result<Vec<Placed<'a>>, GrammarFault>
     ensures outcome { Gives bytes.now result }
     ensures placed { IfOk result (λ v. StandIn bytes.now v.items) }
@@ -83,11 +86,11 @@ pub fn read_lexemes<'a>(alloc: Global, bytes: &'a [u8]) -> Result<Vec<Placed<'a>
     }
 }
 
-/// The lexemes of a grammar file, or its first fault.
+/// The lexemes of a grammar file of at most 1,048,576 bytes, or its first fault.
 ///
-/// Want of memory may come in place of any answer but `TooLong`.
+/// Memory may run out in place of any answer but `TooLong`.
 pub fn read_syntax<'a>(alloc: Global, bytes: &'a [u8]) -> Result<Vec<Placed<'a>>, GrammarFault>
-    // It comes before every other answer.
+    // This comes before every other answer.
     ensures too_long { IsErrOf result GrammarFault.TooLong ↔ (longest_file < length bytes.now) }
     // What is read is spelled.
     ensures found { IfOk result (λ v. SpellsSyntax bytes.now (views v.items)) }

@@ -9,35 +9,53 @@ ghost use Rattle.ysyntax.specs.Recogniser.{after_body, after_prec, next_state, i
 
 use ylexemes::kind::Kind;
 
-/// What has been read of a grammar file's syntax.
+/// How far a grammar file's syntax has been read: behind which lexeme.
 #[derive(Clone, Copy, Debug, PartialEq, Eq)]
 pub enum State {
     /// Between two declarations.
     Declarations,
+    /// Behind `%start`.
     StartWord,
+    /// Behind `%union`.
     UnionWord,
+    /// Behind `%token`, `%left`, `%right` or `%nonassoc`.
     ListWord,
+    /// Behind the `<` of a tag in a line that lists tokens.
     ListTagOpen,
+    /// Behind the name of that tag.
     ListTagName,
+    /// Behind the `>` of that tag.
     ListTagged,
+    /// Behind a token that is listed.
     Listed,
+    /// Behind the number of a token that is listed.
     Numbered,
+    /// Behind `%type`.
     TypeWord,
+    /// Behind the `<` of its tag.
     TypeTagOpen,
+    /// Behind the name of its tag.
     TypeTagName,
+    /// Behind the `>` of its tag.
     TypeTagged,
+    /// Behind a name that `%type` lists.
     Typed,
+    /// Behind the first `%%`.
     RulesMark,
+    /// Within the body of a rule, also at its beginning.
     Body,
+    /// Behind `%prec`.
     PrecWord,
+    /// Behind the name or literal of `%prec`.
     PrecNamed,
+    /// Behind the action that follows a `%prec`, or behind a semicolon.
     Semicolons,
-    /// Behind the second mark.
+    /// Behind the second `%%`.
     End,
 }
 
 impl State {
-    /// The state after a lexeme of the kind, unless none may stand here.
+    /// The state after a lexeme of this kind, or `None` where it may not stand here.
     pub fn next(self, kind: Kind) -> Option<State>
         ensures { result ≡ next_state self kind }
     {
@@ -65,7 +83,7 @@ impl State {
         }
     }
 
-    /// Whether the lexemes read are a grammar file.
+    /// Whether the lexemes read so far are those of a grammar file.
     pub fn is_final(self) -> bool
         ensures { result ≡ is_final self }
     {
@@ -75,7 +93,7 @@ impl State {
         )
     }
 
-    /// Whether the second mark has been read.
+    /// Whether the second `%%` has been read.
     pub fn is_end(self) -> bool
         ensures { result ≡ is_end self }
     {

@@ -1,69 +1,89 @@
-//! The syntax tree of a grammar file: its declarations and its rules, as they stand.
+//! The syntax tree of a grammar file: its declarations and its rules, in their order.
 
 /// A name or a literal.
 #[derive(Clone, Copy, Debug, Drop)]
 pub enum Identifier<'a> {
+    /// A name, byte for byte.
     Named(&'a [u8]),
-    /// A literal, by the value of its character.
+    /// A literal, by the value of its character, 1 to 255.
     Quoted(u8),
 }
 
 /// An identifier, and how many bytes stand before it.
 #[derive(Clone, Copy, Debug, Drop)]
 pub struct Occurrence<'a> {
+    /// The name or literal.
     pub who: Identifier<'a>,
+    /// How many bytes of the file stand before it.
     pub at: usize,
 }
 
 /// A name, and how many bytes stand before it.
 #[derive(Clone, Copy, Debug, Drop)]
 pub struct NameAt<'a> {
+    /// The name, byte for byte.
     pub name: &'a [u8],
+    /// How many bytes of the file stand before it.
     pub at: usize,
 }
 
 /// A number's digits, and how many bytes stand before them.
 #[derive(Clone, Copy, Debug, Drop)]
 pub struct Digits<'a> {
+    /// The digits, one or more.
     pub digits: &'a [u8],
+    /// How many bytes of the file stand before them.
     pub at: usize,
 }
 
 /// A text in braces, and how many bytes stand before it.
 #[derive(Clone, Copy, Debug, Drop)]
 pub struct BracedText<'a> {
+    /// The text, byte for byte, with its braces.
     pub text: &'a [u8],
+    /// How many bytes of the file stand before it.
     pub at: usize,
 }
 
-/// The words of a line that lists tokens.
+/// The words that begin a line of tokens.
 #[derive(Clone, Copy, Debug, Drop, PartialEq, Eq)]
 pub enum Word {
+    /// `%token`.
     Token,
+    /// `%left`.
     Left,
+    /// `%right`.
     Right,
+    /// `%nonassoc`.
     Nonassoc,
 }
 
-/// A token of a listing, with the number that may stand behind it.
+/// A token in a listing, and the number behind it, where one stands there.
 #[derive(Clone, Copy, Debug, Drop)]
 pub struct Entry<'a> {
+    /// The token.
     pub who: Occurrence<'a>,
+    /// The digits of its number.
     pub digits: Option<Digits<'a>>,
 }
 
-/// A line that lists tokens, with its tag.
+/// A line that lists tokens, and its tag, where it has one.
 #[derive(Drop)]
 pub struct Listing<'a> {
+    /// The word that begins the line.
     pub word: Word,
+    /// The name of the tag.
     pub tag: Option<&'a [u8]>,
+    /// The tokens, one or more.
     pub entries: Vec<Entry<'a>>,
 }
 
-/// A line that gives names a tag.
+/// A `%type` line: a tag, and the names that it is given to.
 #[derive(Drop)]
 pub struct Types<'a> {
+    /// The name of the tag.
     pub tag: &'a [u8],
+    /// The names, one or more.
     pub names: Vec<NameAt<'a>>,
 }
 
@@ -72,36 +92,47 @@ pub struct Types<'a> {
 pub enum Definition<'a> {
     /// The start symbol, and how many bytes stand before its `%start`.
     Start(Occurrence<'a>, usize),
+    /// `%union`, with its text.
     Union(BracedText<'a>),
-    /// A code block.
+    /// A code block, `%{` to `%}`.
     Block,
+    /// A line that lists tokens.
     Listing(Listing<'a>),
+    /// A `%type` line.
     Types(Types<'a>),
 }
 
 /// A part of a rule's body.
 #[derive(Clone, Copy, Debug, Drop)]
 pub enum BodyPart<'a> {
+    /// A name or a literal.
     Symbol(Occurrence<'a>),
+    /// An action, final or inner.
     Action(BracedText<'a>),
 }
 
-/// A rule, as it stands in the file.
+/// A rule of the file.
 #[derive(Drop)]
 pub struct RuleText<'a> {
     /// The name before the colon, unless the rule begins with a bar.
     pub left: Option<NameAt<'a>>,
+    /// The parts between the colon or bar and what ends the rule; none for an empty rule.
     pub body: Vec<BodyPart<'a>>,
+    /// The name or literal behind `%prec`.
     pub prec: Option<Occurrence<'a>>,
-    /// The action behind the precedence.
+    /// The action behind the `%prec`.
     pub last: Option<BracedText<'a>>,
+    /// How many semicolons stand behind it.
     pub semicolons: usize,
 }
 
 /// A whole file.
 #[derive(Drop)]
 pub struct Tree<'a> {
+    /// The declarations.
     pub definitions: Vec<Definition<'a>>,
+    /// The rules, one or more; the first has a left side.
     pub rule_texts: Vec<RuleText<'a>>,
+    /// Whether a second `%%` ends the rules.
     pub second_mark: bool,
 }

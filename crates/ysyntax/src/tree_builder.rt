@@ -1,8 +1,8 @@
 //! The syntax tree of a grammar file's lexemes.
 //!
-//! Each function takes what it makes off the front of the lexemes, or answers none where another
-//! piece stands there. Those for declarations and rules ask that the lexemes go on with a grammar
-//! file. So no lexeme can be one that doesn't fit, and only memory can be wanting.
+//! Each function takes what it makes off the front of the lexemes, or answers `None` where another
+//! piece stands there. Those for declarations and rules require that the lexemes go on as a
+//! grammar file. So every lexeme fits, and only memory can run out.
 
 ghost use Rattle.std.specs.Prelude.{ℕ, ◌≡◌, ◌++◌, ◌∷◌, ◌<◌, Bool, true, List, Option, map};
 ghost use Rattle.std.specs.Prelude.{length, replicate, IfOk, IfSome, IsSome};
@@ -62,7 +62,8 @@ impl<'s, 'a> Model for TreeBuilder<'s, 'a> {
     ghost view = { λ l. l.rest.now };
 }
 
-// Lexemes that may stand in front: each function takes one, unless another stands there.
+// Lexemes that may stand in front: each function takes one, unless a lexeme of another kind stands
+// there.
 impl<'a> TreeBuilder<'_, 'a> {
     fn name(&mut self) -> Option<NameAt<'a>>
         ensures place { IfSome result (λ n. n.at ≡ place_of self.old) }
@@ -291,7 +292,8 @@ impl<'a> TreeBuilder<'_, 'a> {
         Some(Definition::Union(text))
     }
 
-    /// A declaration, behind its word, which stands at the place; none where the word is the mark.
+    /// A declaration, behind its word, which stands at this place; `None` where the word is the
+    /// mark.
     fn declaration(
         &mut self,
         alloc: Global,
@@ -314,7 +316,7 @@ impl<'a> TreeBuilder<'_, 'a> {
         }
     }
 
-    /// The declaration in front, or none where the mark stands there, which is then taken.
+    /// The declaration in front, or `None` where the mark stands there; either is taken.
     fn definition(&mut self, alloc: Global) -> Result<Option<Definition<'a>>, AllocError>
         requires { GoesOn Declarations self.old }
         ensures place { IfOk result (λ o. IfSome o (λ d. DefinitionAt (place_of self.old) d)) }
@@ -430,7 +432,7 @@ impl<'a> TreeBuilder<'_, 'a> {
         })
     }
 
-    /// The rules. Behind them nothing is left, or the second mark.
+    /// The rules. Behind them stands nothing, or the second mark.
     fn rule_texts(&mut self, alloc: Global) -> Result<Vec<RuleText<'a>>, AllocError>
         requires { GoesOn RulesMark self.old }
         ensures whole { IfOk result (λ v. views self.old

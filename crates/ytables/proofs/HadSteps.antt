@@ -57,7 +57,7 @@ module _ (class : ℕ → Class) where
   lone_shift s rules = settled s rules (filter (λ r. not (is_lose (class r))) rules)
       (list_any (λ r. is_ban (class r)) rules) (list_any (λ r. is_beat (class r)) rules)
 
-  -- and a rule is alone, and reduced by
+  -- without a choice a rule is alone, and the reduction is by it
   lone_rule : (shift : Option Action) (rules : List ℕ) (r : ℕ) →
       (cell_of class shift rules).choice ≡ false → Among r rules →
       (cell_of class shift rules).action ≡ Reduce r
@@ -121,7 +121,7 @@ module _ (v : GrammarValue) (to : ℕ → Option ℕ) (looks : Item → ℕ → 
       (cell_of (class_in v t) o rules).action ≡ shift_of to t) (sym s)
       (λ c. (lone_shift (class_in v t) (shift_of to t) rules c).1) h
 
-  -- and with the default rule, of which there is none
+  -- the same with the default rule, which the state does not have
   shift_done : (t : ℕ) → IsToken v.bare t → has_before v.bare k t ≡ true →
       (cell_by v to looks k t).choice ≡ false →
       by_default (default_by v to looks k) (cell_by v to looks k t).action ≡ shift_of to t

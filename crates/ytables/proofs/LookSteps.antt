@@ -48,7 +48,7 @@ module _ (v : TablesValue) (u : Guide) (h : IsGuide v.built u) (q : ℕ) (i : It
   next_said t n next = skip_to (look_text v u q i) t n next.further
       (λ a x y. no_look a (let w = next.within in omega (arith, w, y)) (next.none a x y))
 
-  -- and that one is told
+  -- the text of that lookahead is written
   pub next_looks : (t n : ℕ) → IsNextLook (bare_of v.built) (state_of v.built q) i t n →
       n < v.built.grammar.bare.tokens → u.looks q i n ≡ true
   next_looks t n next s = (h.looks q i n l s).1 (next.looks s)

@@ -181,7 +181,7 @@ all_stops r (x ∷ front) back a h = ap (λ b. is_reduce r x && b) (all_stops r 
     go true = refl
     go false = refl
 
--- the action is none by which the ones before reduce
+-- the action is no reduction by the rule of those before
 abbrev pub Breaks : Option ℕ → Action → Type 0
 Breaks found a = MatchOption found ((r : ℕ) → a ≡ Reduce r → ⊥) (λ r. is_reduce r a ≡ false)
 
@@ -351,7 +351,7 @@ conflicts_at_tokens m u q n = go 0 n (omega arith)
         (flat_map f (range_with_len (a + 1) r)) (one a (cell_in m u q a) (omega arith))
         (go (a + 1) r (omega arith))
 
--- what stands in a list doesn't hang on what is read beside it
+-- what stands in a list doesn't depend on the default that is read beside it
 pub same_at : {X : Type 0} (xs : List X) (i : ℕ) (d e : X) → i < length xs →
     get_or xs i d ≡ get_or xs i e
 same_at [] i d e h = absurd (omega arith)

@@ -93,7 +93,7 @@ pub record Tallied (m : Collection) (q n : ℕ) (levels : List (Option Precedenc
       (rules_by (λ i. is_ready m.grammar.bare i && u.looks q i t) (take n (state_of m q)))
       (get_or ys t no_tally)
 
--- none
+-- before the first item no tally has a rule
 pub tallied_none : (m : Collection) (q : ℕ) (levels : List (Option Precedence)) (ys : List Tally) →
     length ys ≡ length levels → ((t : ℕ) → t < length ys → get_or ys t no_tally ≡ no_tally) →
     Tallied m q 0 levels ys

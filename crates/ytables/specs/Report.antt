@@ -74,7 +74,7 @@ item_line v u q i = item_front v.built.grammar i ++ item_back v u q i
 abbrev pub line_for : GrammarValue → ℕ → List ℕ → List ℕ
 line_for v s words = codes "  " ++ (name_of v s ++ words)
 
--- the line of an action, none for an error
+-- the line of an action; nothing for an error
 abbrev pub action_line : GrammarValue → ℕ → Action → List ℕ
 action_line v t (Shift n) = line_for v t (count_line (codes " shift ") n)
 action_line v t (Reduce r) = line_for v t (count_line (codes " reduce ") r)

@@ -36,7 +36,7 @@ action_text (Reduce r) = count_line (codes " r ") r
 action_text Accept = codes " acc\n"
 action_text Error = []
 
--- the line of an action, none for an error
+-- the line of an action; nothing for an error
 abbrev pub action_line : ℕ → ℕ → Action → List ℕ
 action_line q t (Shift n) = place_text (codes "a ") q t ++ action_text (Shift n)
 action_line q t (Reduce r) = place_text (codes "a ") q t ++ action_text (Reduce r)

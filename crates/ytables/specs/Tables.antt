@@ -95,7 +95,7 @@ default_by v to looks k =
     if list_any (has_before v.bare k) (tokens_of v) then None else common
     (filter is_filled (row_by v to looks k))
 
--- the same by number
+-- the cell of state q at the token t
 abbrev pub cell_in : Collection → Guide → ℕ → ℕ → Cell
 cell_in m u q t = cell_by m.grammar (goto_in m q) (u.looks q) (state_of m q) t
 
@@ -107,11 +107,11 @@ default_in m u q = default_by m.grammar (goto_in m q) (u.looks q) (state_of m q)
 abbrev pub action_in : Collection → Guide → ℕ → ℕ → Action
 action_in m u q t = by_default (default_in m u q) (cell_in m u q t).action
 
--- the conflicts of one state, which default reductions leave as they are
+-- the shift/reduce conflicts of one state; default reductions leave them as they are
 abbrev pub row_shift_reduce : Collection → Guide → ℕ → ℕ
 row_shift_reduce m u q = sum_by (λ t. (cell_in m u q t).shift_reduce) (tokens_of m.grammar)
 
--- those of reductions with one another
+-- its reduce/reduce conflicts
 abbrev pub row_reduce_reduce : Collection → Guide → ℕ → ℕ
 row_reduce_reduce m u q = sum_by (λ t. (cell_in m u q t).reduce_reduce) (tokens_of m.grammar)
 
@@ -123,7 +123,7 @@ row_choice m u q = list_any (λ t. (cell_in m u q t).choice) (tokens_of m.gramma
 abbrev pub states_of : Collection → List ℕ
 states_of m = range_with_len 0 (length m.states)
 
--- The value of tables: rows of actions, where none is an error, and default rules.
+-- The value of tables: rows of actions, in which an error has no entry, and default rules.
 pub record TablesValue : Type 0 where
   pub built : Collection
   pub actions : List (List (Option Action))
@@ -132,7 +132,7 @@ pub record TablesValue : Type 0 where
   pub reduce_reduce : ℕ
   pub choice : Bool
 
--- the default rule of state q, and its action at t, by lists of them
+-- the default rule of state q, by a list of them
 abbrev pub rule_at : List (Option ℕ) → ℕ → Option ℕ
 rule_at defaults q = slice_index_or defaults q None
 
@@ -180,8 +180,8 @@ conflicts_in m u q = conflicts_to m u q m.grammar.bare.tokens
 abbrev pub AreConflicts : Collection → Guide → ℕ → List (List Conflict) → Type 0
 AreConflicts m u n lists = (q : ℕ) → q < n → slice_index_or lists q [] ≡ conflicts_in m u q
 
--- The tables go by these gotos and lookaheads: all cells, and the sums over all states and all
--- tokens.
+-- The tables agree with these gotos and lookaheads: all cells, and the sums over all states and
+-- all tokens.
 pub record FollowsGuide (v : TablesValue) (u : Guide) : Type 0 where
   pub rows : AreRowsTo v.built u (length v.built.states) (action_at v) (default_at v)
   pub sums : AreSumsTo v.built u (length v.built.states) v.shift_reduce v.reduce_reduce v.choice

@@ -10,7 +10,7 @@ use Rattle.ytables.specs.Cell.{class_of}
 use Rattle.ytables.specs.Tables.{level_of, class_at, is_ready, rules_by}
 use Rattle.ytables.specs.Tally.{no_tally, tally_more, IsTally}
 
--- what a rule is held against at the token t, where it can be shifted or not
+-- what a rule is compared with at the token t, where it can be shifted or not
 abbrev pub against : GrammarValue → Bool → ℕ → Option Precedence
 against v shifts t = if shifts then level_of v t else None
 
@@ -30,14 +30,14 @@ AreSmall n ys = (t : ℕ) → t < length ys → ((slice_index_or ys t no_tally).
     ≤ (slice_index_or ys t no_tally).all) × ((slice_index_or ys t no_tally).kept
     ≤ (slice_index_or ys t no_tally).all) × ((slice_index_or ys t no_tally).all ≤ n)
 
--- the tally at the token t with the rule of the item one more, where the item looks at t
+-- the tally at the token t, with one more rule, that of the item, where the item looks at t
 abbrev pub added : Collection → Guide → ℕ → Item → List (Option Precedence) → List Tally → ℕ → Tally
 added m u q i levels old t =
     if u.looks q i t then tally_more (slice_index_or old t no_tally) i.rule
     (class_of (slice_index_or levels t None) (slice_index_or m.grammar.rule_precedences i.rule None))
     else slice_index_or old t no_tally
 
--- the rule of the item at the index is one more in the tally of each token that the item looks at
+-- each token that the item at the index looks at has one more rule in its tally, that of the item
 abbrev pub AddsAt : Collection → Guide → ℕ → ℕ → List (Option Precedence) → List Tally →
     List Tally → Type 0
 AddsAt m u q index levels old new = (d : Item) (t : ℕ) → t < length old →

@@ -19,25 +19,32 @@ pub enum Action {
     Error,
 }
 
-/// An action, the conflicts that it counts, and whether it was chosen among several.
+/// A cell of a state and a token: its action, what it counts, and whether it was chosen among
+/// several.
 #[derive(Clone, Copy, Debug, Drop, PartialEq, Eq)]
 pub struct Cell {
+    /// What is done.
     pub action: Action,
+    /// How many rules could be reduced beside the shift.
     pub shift_reduce: usize,
+    /// How many rules could be reduced beside the rule that is.
     pub reduce_reduce: usize,
+    /// Whether the action was one of several candidates.
     pub choice: bool,
 }
 
-/// What a cell counts, where it counts something: how many rules could be reduced at this token
-/// beside its shift, and how many beside the rule by which it reduces.
+/// What a cell counts, where it counts something.
 #[derive(Clone, Copy, Debug, Drop, PartialEq, Eq)]
 pub struct Conflict {
+    /// The number of the token.
     pub token: usize,
+    /// How many rules could be reduced at this token beside its shift.
     pub shift_reduce: usize,
+    /// How many rules could be reduced beside the rule that is.
     pub reduce_reduce: usize,
 }
 
-/// A cell that counts nothing.
+/// A cell that counts no conflict.
 fn lone(action: Action, choice: bool) -> Cell
     ensures { result ≡ lone action choice }
 {
@@ -58,15 +65,16 @@ pub struct Tally {
     pub beaten: bool,
     /// How many are in the class Rest.
     pub rests: usize,
-    /// How many are in another class than Lose, and the least of these.
+    /// How many are in another class than Lose.
     pub kept: usize,
+    /// The least of these, 0 before the first.
     pub first: usize,
-    /// How many there are.
+    /// How many rules there are.
     pub all: usize,
 }
 
 impl Tally {
-    /// What no rules give.
+    /// The tally of no rules.
     pub fn new() -> Tally
         ensures { result ≡ no_tally }
     {
@@ -118,7 +126,7 @@ impl Tally {
         }
     }
 
-    /// The cell, where there is a shift or none.
+    /// The cell of these rules and this shift, or `None` where the token can't be shifted.
     pub fn settle(&self, shift: Option<Action>) -> Cell
         ensures { result ≡ settle self.now shift }
     {

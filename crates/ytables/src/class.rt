@@ -8,13 +8,13 @@ use ysymbols::{Associativity, Precedence};
 /// How a rule stands against the shift of a token.
 #[derive(Clone, Copy, Debug, Drop, PartialEq, Eq)]
 pub enum Class {
-    /// The rule wins.
+    /// The reduction is done.
     Beat,
-    /// The shift wins.
+    /// The shift is done.
     Lose,
-    /// Neither may be done.
+    /// Neither is done: an error.
     Ban,
-    /// A precedence is missing.
+    /// A precedence is missing: the shift is done, and a conflict is counted.
     Rest,
 }
 
@@ -29,7 +29,7 @@ fn class_of_kind(kind: Associativity) -> Class
     }
 }
 
-/// A rule against the shift, by the precedences of the token and of the rule.
+/// The class of a rule, by the precedences of the token and of the rule.
 pub fn class_between(token: Option<Precedence>, rule: Option<Precedence>) -> Class
     ensures { result ≡ class_of token rule }
 {

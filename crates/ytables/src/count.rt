@@ -1,4 +1,4 @@
-//! The lines of counts that the report and the table share.
+//! The line of a count, which the report and the table share.
 
 ghost use Rattle.std.specs.Prelude.{is_some};
 ghost use Rattle.ylink.specs.Sends.{Sends};
@@ -8,7 +8,7 @@ use std::io::Write;
 use ylink::link::Link;
 use ylink::put::put_all;
 
-/// Writes words, a number and a newline.
+/// Writes words, a number and a newline. `None` where the link failed.
 pub fn put_count<W: Write>(link: &mut Link<W>, words: &[u8], number: usize) -> Option<()>
     ensures { Sends W.contents link.old link.new (is_some result) (count_line words.now number) }
 {

@@ -7,7 +7,7 @@ ghost use Rattle.ytables.specs.Tables.{after_dot, is_ready};
 use ylalr::Item;
 use ysymbols::{Grammar, Sym};
 
-/// The symbol after the dot.
+/// The symbol after the dot, or `None` where the dot is at the end.
 pub fn next_symbol(grammar: &Grammar, item: Item) -> Option<Sym>
     requires { item.rule < length grammar.now.bare.rules }
     ensures { MatchOption result (after_dot grammar.now.bare item ≡ [])

@@ -3,13 +3,13 @@
 use std::alloc::AllocError;
 use thiserror::Error;
 
-/// Why there are no tables, or why a text of them was not written whole.
+/// Why there are no tables, or why a text of them was cut off.
 #[derive(Clone, Copy, Debug, PartialEq, Eq, Drop, Error)]
 pub enum TableFault {
-    /// T1: a growth was refused.
+    /// T1: memory ran out.
     #[error("no memory")]
     Memory,
-    /// T2: the link failed.
+    /// T2: the link failed, after a beginning of the text.
     #[error("write fault")]
     Write,
 }

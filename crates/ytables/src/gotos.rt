@@ -9,8 +9,8 @@ use std::alloc::{AllocError, Global};
 use ylalr::{Automaton, token_count};
 use yrows::packed::Packed;
 
-/// The gotos of a state over nonterminals, that of the first one in the first column. A symbol
-/// has none where no item has the dot before it.
+/// The gotos of a state over nonterminals; the first nonterminal has the first column. A symbol
+/// has no goto where no item has the dot before it.
 fn gotos_of(
     alloc: Global,
     automaton: &Automaton,
@@ -38,7 +38,7 @@ fn gotos_of(
     Ok(row)
 }
 
-/// The gotos of all states over nonterminals.
+/// The gotos of all states over nonterminals. It fails only when memory runs out.
 pub fn all_gotos(alloc: Global, automaton: &Automaton) -> Result<Packed<usize>, AllocError>
     ensures { IfOk result (AreGotos automaton.now) }
 {

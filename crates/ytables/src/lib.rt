@@ -1,7 +1,8 @@
 //! The tables of an automaton: cells, their conflicts, and the report and the table as texts.
 //!
-//! A call whose result is `_well_formed` or `_guide` is made for its clause alone: that the grammar
-//! is well formed, or that the states are right and a pair of functions agrees with the automaton.
+//! A call whose result is named `_well_formed` or `_guide` is made only for its clause: the
+//! grammar is well formed, or the states are right and a pair of functions agrees with the
+//! automaton.
 #![tactic(auto)]
 
 mod cell;

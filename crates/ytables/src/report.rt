@@ -89,7 +89,7 @@ fn put_rules<W: Write>(link: &mut Link<W>, grammar: &Grammar) -> Option<()>
     Some(())
 }
 
-/// The line of a rule whose left side can't be reached, none for another.
+/// The line of a rule whose left side can't be reached; nothing for another rule.
 fn put_unreachable<W: Write>(link: &mut Link<W>, grammar: &Grammar, r: usize) -> Option<()>
     requires { r < length grammar.now.bare.rules }
     ensures { Sends W.contents link.old link.new (is_some result)
@@ -134,7 +134,7 @@ fn put_tokens<W: Write>(link: &mut Link<W>, grammar: &Grammar) -> Option<()>
     Some(())
 }
 
-/// The lookaheads of the item at an index, each after a space.
+/// The lookaheads of the item at `index`, each after a space.
 fn put_looks<W: Write>(link: &mut Link<W>, tables: &Tables, q: usize, index: usize) -> Option<()>
     requires state { q < length tables.now.built.states }
     requires index { index < length (state_of tables.now.built q) }
@@ -251,7 +251,7 @@ fn put_items<W: Write>(link: &mut Link<W>, tables: &Tables, q: usize) -> Option<
     Some(())
 }
 
-/// The line of an action, none for an error.
+/// The line of an action; nothing for an error.
 fn put_action<W: Write>(link: &mut Link<W>, grammar: &Grammar, t: Sym, action: Action) -> Option<()>
     requires { t < grammar.now.bare.symbols }
     ensures { Sends W.contents link.old link.new (is_some result)
@@ -297,7 +297,7 @@ fn put_rule_or_actions<W: Write>(link: &mut Link<W>, tables: &Tables, q: usize) 
     }
 }
 
-/// The line of a goto, none where there is none.
+/// The line of a goto, where there is one.
 fn put_goto<W: Write>(
     link: &mut Link<W>,
     grammar: &Grammar,
@@ -451,8 +451,8 @@ fn put_report<W: Write>(link: &mut Link<W>, tables: &Tables) -> Option<()>
 }
 
 impl Tables {
-    /// Writes the report. The fault T2 comes exactly where the link failed, after a beginning of
-    /// the text.
+    /// Writes the report, whose text docs/FORMATS.md describes. The fault T2 comes exactly where
+    /// the link failed: then only a beginning of the text was written.
     pub fn write_report<W: Write>(&self, link: &mut Link<W>) -> Result<(), TableFault>
         ensures text { (u : Guide) → IsGuide self.now.built u
             → Grows (W.contents (device_of link.old)) (W.contents (device_of link.new))

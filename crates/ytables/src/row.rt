@@ -59,7 +59,7 @@ fn shift_at(automaton: &Automaton, q: usize, t: Sym) -> Action
     }
 }
 
-/// The rule by which all filled cells of a row reduce, where there is one.
+/// The one rule that all filled cells of a row reduce by, where there is such a rule.
 fn common_rule(actions: &[Action]) -> Option<usize>
     ensures { result ≡ common (filter is_filled actions.now) }
 {
@@ -89,7 +89,7 @@ fn keep(conflicts: &mut Sequence<Conflict>, t: Sym, cell: Cell) -> Result<(), Al
     })
 }
 
-/// The actions of one state by its cells, and what these count.
+/// The actions of one state's cells, and what the cells count.
 #[derive(Drop)]
 struct Cells {
     actions: Vec<Action>,
@@ -99,7 +99,8 @@ struct Cells {
     choice: bool,
 }
 
-/// The cell of a state and a token, where it can be shifted or not, by the tally of its rules.
+/// The cell of a state and a token, by the tally of its rules; `shifts` says whether the token can
+/// be shifted.
 fn settled(automaton: &Automaton, q: usize, t: Sym, shifts: bool, tally: &Tally) -> Cell
     requires state { q < length automaton.now.states }
     requires token { t < automaton.now.grammar.bare.tokens }
@@ -116,7 +117,7 @@ fn settled(automaton: &Automaton, q: usize, t: Sym, shifts: bool, tally: &Tally)
     tally.settle(None)
 }
 
-/// The cells of one state, by the tokens before which a dot stands.
+/// The cells of one state; `before` says before which tokens a dot stands.
 fn cells_of(
     alloc: Global,
     automaton: &Automaton,
@@ -161,8 +162,8 @@ fn cells_of(
     })
 }
 
-/// The rule of a consistent state: no dot stands before a token, and all filled cells reduce by
-/// it.
+/// The default rule of a state, where the state is consistent: no dot stands before a token, and
+/// all filled cells reduce by this rule.
 fn default_of(before: &[bool], actions: &[Action]) -> Option<usize>
     ensures { result ≡ (if list_any (λ b. b) before.now then None else common
         (filter is_filled actions.now)) }
@@ -173,18 +174,24 @@ fn default_of(before: &[bool], actions: &[Action]) -> Option<usize>
     common_rule(actions)
 }
 
-/// What the tables keep of one state, and what its cells count.
+/// What the tables keep of one state, and what the state's cells count.
 #[derive(Drop)]
 pub struct Row {
+    /// The action at each token, by number.
     pub actions: Vec<Action>,
+    /// The conflicts, by rising tokens.
     pub conflicts: Sequence<Conflict>,
+    /// The default rule, where the state is consistent.
     pub default: Option<usize>,
+    /// How many shift/reduce conflicts the cells count.
     pub shift_reduce: u64,
+    /// How many reduce/reduce conflicts the cells count.
     pub reduce_reduce: u64,
+    /// Whether a cell was chosen among several candidates.
     pub choice: bool,
 }
 
-/// The row of one state.
+/// The row of state `q`, with `tokens` columns. It fails only when memory runs out.
 pub fn row_of(
     alloc: Global,
     automaton: &Automaton,

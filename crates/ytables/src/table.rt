@@ -71,7 +71,7 @@ fn put_rules<W: Write>(link: &mut Link<W>, grammar: &Grammar) -> Option<()>
     Some(())
 }
 
-/// The line of an action, none for an error.
+/// The line of an action; nothing for an error.
 fn put_action<W: Write>(link: &mut Link<W>, q: usize, t: Sym, action: Action) -> Option<()>
     ensures { Sends W.contents link.old link.new (is_some result) (action_line q t action) }
 {
@@ -120,7 +120,7 @@ fn put_rule_or_actions<W: Write>(link: &mut Link<W>, tables: &Tables, q: usize) 
     put_all(link, &[b"d ", state, b" ", number, b"\n"])
 }
 
-/// The line of a goto, none where there is none.
+/// The line of a goto, where there is one.
 fn put_goto<W: Write>(link: &mut Link<W>, q: usize, x: Sym, to: Option<usize>) -> Option<()>
     ensures { Sends W.contents link.old link.new (is_some result) (goto_line q x to) }
 {
@@ -191,8 +191,8 @@ fn put_table<W: Write>(link: &mut Link<W>, tables: &Tables) -> Option<()>
 }
 
 impl Tables {
-    /// Writes the table. The fault T2 comes exactly where the link failed, after a beginning of
-    /// the text.
+    /// Writes the table, whose text docs/FORMATS.md describes. The fault T2 comes exactly where
+    /// the link failed: then only a beginning of the text was written.
     pub fn write_table<W: Write>(&self, link: &mut Link<W>) -> Result<(), TableFault>
         ensures text { Grows (W.contents (device_of link.old)) (W.contents (device_of link.new))
             (is_ok result) (table_of self.now) }

@@ -26,10 +26,12 @@ use yrows::list::Sequence;
 use yrows::packed::Packed;
 use ysymbols::{Grammar, Sym};
 
-/// How many conflicts the cells count.
+/// How many conflicts the cells of all states count.
 #[derive(Clone, Copy, Debug, Drop, PartialEq, Eq)]
 pub struct Counts {
+    /// Shift/reduce conflicts: one for each rule that could be reduced beside a shift.
     pub shift_reduce: u64,
+    /// Reduce/reduce conflicts: one for each rule that could be reduced beside the rule that is.
     pub reduce_reduce: u64,
 }
 
@@ -69,8 +71,8 @@ impl Model for Tables {
     }) t.actions.width t.gotos t.conflicts.items };
 }
 
-/// The entries of a row: its actions but for errors, and none where a default rule stands in for
-/// them.
+/// The entries of a row: its actions without errors; no entries at all where a default rule stands
+/// for them.
 fn entries_of(
     alloc: Global,
     actions: &[Action],
@@ -152,7 +154,7 @@ fn all_rows(alloc: Global, automaton: &Automaton) -> Result<Found, AllocError>
     })
 }
 
-/// The tables of an automaton. The one fault is T1: a growth was refused.
+/// The tables of an automaton. The only fault is T1: memory ran out.
 pub fn resolve(alloc: Global, automaton: Automaton) -> Result<Tables, TableFault>
     ensures automaton { IfOk result (λ t. t.built ≡ automaton) }
     ensures tables { IfOk result (λ t. AreTables t) }
@@ -183,7 +185,7 @@ pub fn resolve(alloc: Global, automaton: Automaton) -> Result<Tables, TableFault
 }
 
 impl Tables {
-    /// The automaton that the tables were made from, as it was. This call also says that they are
+    /// The automaton that was given to `resolve`, unchanged. This call also says that these are
     /// its tables, and that each action is one that the items of its state allow.
     pub fn automaton(&self) -> &Automaton
         ensures value { result.now ≡ self.now.built }
@@ -195,7 +197,7 @@ impl Tables {
         &self.automaton
     }
 
-    /// The grammar that the tables were made for, as it was.
+    /// The grammar of the automaton.
     pub(crate) fn grammar(&self) -> &Grammar
         ensures { result.now ≡ self.now.built.grammar }
     {
@@ -203,7 +205,7 @@ impl Tables {
     }
 
     /// What is done in state `q` at the token `t`: by the default rule of the state, where it is
-    /// consistent, and else by the cell. `q` is below the number of states, and `t` is a token.
+    /// consistent, or else by the cell. `q` is below the number of states, and `t` is a token.
     pub fn action(&self, q: usize, t: Sym) -> Action
         requires state { q < length self.now.built.states }
         requires token { t < self.now.built.grammar.bare.tokens }
@@ -217,7 +219,8 @@ impl Tables {
         }
     }
 
-    /// The goto of the automaton from state `q` over `x`, a nonterminal.
+    /// The state to which state `q` goes over `x`, or `None` where it has no such goto. `q` is
+    /// below the number of states, and `x` is a nonterminal.
     pub fn goto(&self, q: usize, x: Sym) -> Option<usize>
         requires state { q < length self.now.built.states }
         requires nonterminal { self.now.built.grammar.bare.tokens ≤ x }
@@ -229,9 +232,9 @@ impl Tables {
         self.gotos.get(q, x - self.actions.width())
     }
 
-    /// The rule by which state `q` reduces at every token, where the state is consistent: none of
-    /// its items has the dot before a token, and all its filled cells, of which there are some,
-    /// reduce by this rule.
+    /// The rule by which state `q` reduces at every token, where the state is consistent: no item
+    /// of the state has the dot before a token, and all its filled cells, at least one, reduce by
+    /// this rule.
     pub fn default_rule(&self, q: usize) -> Option<usize>
         requires { q < length self.now.built.states }
         ensures value { result ≡ default_at self.now q }
@@ -254,7 +257,7 @@ impl Tables {
         self.counts
     }
 
-    /// What the cells of state `q` count, by rising tokens, those left out that count nothing;
+    /// What the cells of state `q` count, by rising tokens; cells that count nothing are left out.
     /// `q` is below the number of states.
     pub fn conflicts_in(&self, q: usize) -> &[Conflict]
         requires { q < length self.now.built.states }
@@ -264,9 +267,9 @@ impl Tables {
         self.conflicts[q].as_slice()
     }
 
-    /// Whether no cell has a choice between two candidates. Where that is so, each candidate that
-    /// the items of a state and their lookaheads give is what the cell says, and default reductions
-    /// take none away.
+    /// Whether no cell has a choice between two candidates. Then each candidate that the items of
+    /// a state and their lookaheads give is what the cell says, and default reductions take none
+    /// away.
     pub fn choice_free(&self) -> bool
         ensures value { IsTrue result ↔ (self.now.choice ≡ false) }
         ensures exact { (u : Guide) → IsGuide self.now.built u

@@ -15,7 +15,7 @@ use std::alloc::{AllocError, Global};
 use ylalr::{Automaton, END};
 use ysymbols::{Grammar, Precedence, Sym};
 
-/// The precedence of a token; the end has none.
+/// The precedence of a token, where it has one; the end has none.
 fn level_of(grammar: &Grammar, t: Sym) -> Option<Precedence>
     requires { t < grammar.now.bare.tokens }
     ensures { result ≡ level_of grammar.now t }
@@ -28,7 +28,8 @@ fn level_of(grammar: &Grammar, t: Sym) -> Option<Precedence>
     }
 }
 
-/// What a rule is held against at each token: the token's precedence, where it can be shifted.
+/// What a rule is compared with at each token: the token's precedence, where the token can be
+/// shifted.
 fn levels_of(
     alloc: Global,
     grammar: &Grammar,
@@ -102,7 +103,8 @@ fn add_items(automaton: &Automaton, q: usize, levels: &[Option<Precedence>], tal
     }
 }
 
-/// The tallies of the cells of a state, by the tokens before which a dot stands.
+/// The tallies of the cells of state `q`; `before` says before which tokens a dot stands. It fails
+/// only when memory runs out.
 pub fn tallies_of(
     alloc: Global,
     automaton: &Automaton,

@@ -1,5 +1,5 @@
-//! Cells of states with a default rule, by the numbers of states, symbols and rules. Their rules
-//! are reduced at every token, `error`, which is 1, and the end, which is 0, among them.
+//! Cells of states with a default rule, by the numbers of states, symbols and rules. These rules
+//! are reduced at every token, also at `error`, which is 1, and at the end, which is 0.
 
 use std::alloc::Global;
 use std::test::Fail;
@@ -17,7 +17,7 @@ fn action_in(tables: &Tables, q: usize, t: Sym) -> Option<Action> {
     }
 }
 
-/// What is done in a state at a token; nothing where there is no such state or token.
+/// What is done in a state at a token; `None` where there is no such state or token.
 fn action(alloc: Global, grammar: &[u8], q: usize, t: Sym) -> Result<Option<Action>, Fail> {
     Ok(action_in(&tables_of(alloc, grammar)?, q, t))
 }

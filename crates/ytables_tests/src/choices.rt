@@ -1,4 +1,5 @@
-//! Grammars with cells that have a choice and without, and as many conflicts as there may be.
+//! Grammars with and without cells that have a choice, and one with the greatest number of
+//! conflicts.
 
 use std::alloc::Global;
 use std::test::Fail;
@@ -29,7 +30,7 @@ fn no_choices(rt: HostRuntime) -> Result<(), Fail> {
     Ok(())
 }
 
-// A choice that precedences settle is one too.
+// A choice that precedences settle is a choice too.
 #[test]
 fn choices(rt: HostRuntime) -> Result<(), Fail> {
     let grammars: [&[u8]; 10] = [

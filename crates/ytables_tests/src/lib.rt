@@ -1,5 +1,5 @@
-//! Tests of tables that need code: cells and choices by the public calls, as many conflicts as
-//! there may be, where packed rows go, and writers that take a byte a call or fail.
+//! Tests of tables that need code: cells and choices by the public calls, the greatest number of
+//! conflicts, where packed rows go, and writers that take a byte a call or fail.
 #![tactic(auto)]
 
 #[cfg(test)]

@@ -37,7 +37,7 @@ fn is_cut(tables: &Tables, text: Text, whole: &[u8], n: usize, refusal: Refusal)
     answer == Err(TableFault::Write) && failed && whole.get(..n) == Some(sink.text())
 }
 
-/// Whether a text is cut so at each of its bytes, and is whole where none is refused.
+/// Whether a text is cut off at each of its bytes, and complete where no call fails.
 fn is_sent(alloc: Global, tables: &Tables, text: Text) -> bool {
     let mut link = Link::new(Vec::new(alloc));
     let written = write(tables, text, &mut link);

@@ -162,7 +162,7 @@ agrees t bytes (Err faults.Memory) a r b = tt
 agrees t bytes (Err (faults.BadLiteral place)) a r b =
     one_outcome (symbol_named t) (token_count t) 0 bytes r _ b a
 
--- a fault other than lack of memory, which ends the file where it is read
+-- a fault other than no memory, which ends the file where it is read
 pub gives_fault : (t : GrammarValue) (bytes : List ℕ) (fault : TokenFault)
     → TokensOf t bytes (Err fault) → Gives t bytes (Err fault)
 gives_fault t bytes (faults.Unknown place) a = a

@@ -26,7 +26,7 @@ Gives v bytes (Err faults.TooMany) = TokensOf v bytes (Err faults.TooMany)
 Gives v bytes (Err faults.Memory) = Unit {0}
 Gives v bytes (Err (faults.BadLiteral place)) = TokensOf v bytes (Err (faults.BadLiteral place))
 
--- what the file has is the answer, unless there is no memory
+-- what the file has is the answer, unless memory runs out
 abbrev pub Agrees : Result Tokens TokenFault → Result (List ℕ) TokenFault → Type 0
 Agrees (Ok tokens) r = r ≡ Ok (symbols_of tokens)
 Agrees (Err (faults.Unknown place)) r = r ≡ Err (faults.Unknown place)

@@ -10,7 +10,7 @@ use Rattle.ytokens.specs.declared.tokens.TokenFault.{TokenFault}
 use Rattle.ytokens.specs.declared.tokens.TokenFault.TheVariants as faults
 use Rattle.ytokens.specs.Symbols.{is_input}
 
--- a byte of a word that is no literal: neither a blank nor a quote
+-- a byte of a word other than a literal: neither a blank nor a quote
 abbrev pub is_word_byte : ℕ → Bool
 is_word_byte b = not (is_blank b || b == 39)
 
@@ -45,13 +45,14 @@ pub record FrontIs (bytes : List ℕ) (front : Front) : Type 0 where
   pub no_blank : begins is_blank here ≡ false
   pub stands : FrontAt here front
 
--- what a front says behind some tokens: one more token, and what follows it, or the answer for what
--- is left
+-- what a front says behind some tokens: one more token and what follows it, or the answer for the
+-- rest
 pub data Says : Type 0 where
   token : (symbol : ℕ) (rest : List ℕ) → Says
   answer : Result (List ℕ) TokenFault → Says
 
--- the symbol that a word names: none is K1, and one that is no input K2
+-- what the symbol that a word names says: K1 where there is no symbol, K2 where it is no input
+-- token
 abbrev pub by_name : ℕ → ℕ → Option ℕ → List ℕ → Says
 by_name tokens place None rest = answer (Err (faults.Unknown place))
 by_name tokens place (Some symbol) rest =
@@ -90,7 +91,7 @@ Reads find tokens (suc k) n bytes result =
     × Comes find tokens n bytes (token symbol rest) × Reads find tokens k (suc n) rest more
     × (result ≡ with_token symbol more)
 
--- the tokens of what is left behind n tokens, or its first fault
+-- the tokens that are still to be read behind n tokens, or the first fault among them
 abbrev pub Outcome : (List ℕ → Option ℕ) → ℕ → ℕ → List ℕ → Result (List ℕ) TokenFault → Type 0
 Outcome find tokens n bytes result = (k : ℕ) × Reads find tokens k n bytes result
 

@@ -1,4 +1,4 @@
-//! Tokens files: words between blanks, and the input tokens that they name.
+//! Tokens files: words between blanks, and the tokens that they name.
 #![tactic(auto)]
 
 pub mod token_words;

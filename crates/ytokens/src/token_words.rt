@@ -9,12 +9,12 @@ ghost use Rattle.ytokens.specs.Reading.{front_view};
 use ylexemes::bytes::is_blank;
 use ylexemes::literal::literal_at;
 
-/// What stands at the front of a tokens file, behind blanks.
+/// What stands at the front of a tokens file, once blanks are skipped.
 #[derive(Clone, Copy)]
 pub enum Front<'a> {
     /// The end of the file.
     Nothing,
-    /// A word that is no literal, and what follows it.
+    /// A word other than a literal, and what follows it.
     Word(&'a [u8], &'a [u8]),
     /// A literal by its value, and what follows it.
     Literal(u8, &'a [u8]),
@@ -82,7 +82,7 @@ fn front_here(bytes: &[u8]) -> Front<'_>
     Front::Word(&bytes[..len], &bytes[len..])
 }
 
-/// What stands at the front, behind blanks.
+/// What stands at the front, once blanks are skipped.
 pub fn front_of(bytes: &[u8]) -> Front<'_>
     ensures { FrontIs bytes.now (front_view result) }
 {

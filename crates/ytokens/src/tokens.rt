@@ -21,10 +21,10 @@ use ytables::Tables;
 /// The most tokens of an input.
 const MOST_TOKENS: usize = 1_000_000;
 
-/// Why a tokens file is refused. A place is counted from 1.
+/// Why a tokens file is refused. A place is that of a word, counted from 1.
 #[derive(Clone, Copy, Debug, PartialEq, Eq, Error)]
 pub enum TokenFault {
-    /// K1: the word at this place is no symbol of the grammar.
+    /// K1: the word at this place names no symbol of the grammar.
     #[error("K1 at token {0}")]
     Unknown(usize),
     /// K2: the word at this place is `error`, `$end` or a nonterminal.
@@ -33,7 +33,7 @@ pub enum TokenFault {
     /// K3: a further word comes after 1,000,000 tokens.
     #[error("K3")]
     TooMany,
-    /// K4: a growth was refused.
+    /// K4: memory ran out.
     #[error("no memory")]
     Memory,
     /// K5: the quote at this place begins no literal.
@@ -58,9 +58,10 @@ pub fn is_input(grammar: &Grammar, symbol: Sym) -> bool
     ERROR < symbol && grammar.is_token(symbol)
 }
 
-/// The tokens of an input, each a symbol of the tables that it was read for.
+/// The tokens of an input, each a symbol of the tables for which it was read.
 #[derive(Drop)]
 pub struct Tokens {
+    /// The symbols, in the order of the input.
     pub symbols: Vec<Sym>,
 }
 
@@ -72,14 +73,14 @@ impl Tokens {
         self.symbols.len()
     }
 
-    /// Whether there are none.
+    /// Whether there are no tokens.
     pub fn is_empty(&self) -> bool
         ensures { IsTrue result ↔ (length (symbols_of self.now) ≡ 0) }
     {
         self.symbols.is_empty()
     }
 
-    /// A token, counted from 0.
+    /// The token at this index, counted from 0.
     pub fn get(&self, index: usize) -> Sym
         requires { index < length (symbols_of self.now) }
         ensures { result ≡ slice_index (symbols_of self.now) index }
@@ -107,7 +108,7 @@ pub enum Next<'a> {
     Fault(TokenFault),
 }
 
-/// The symbol that was found, where it is an input token, and what follows it; else K1 or K2 at
+/// The symbol that was found, where it is an input token, and what follows it; or else K1 or K2 at
 /// this place.
 fn next_by_name<'a>(
     grammar: &Grammar,
@@ -124,7 +125,7 @@ fn next_by_name<'a>(
     }
 }
 
-/// What comes next behind so many tokens.
+/// What comes next behind the tokens that were read.
 fn next_in<'a>(grammar: &Grammar, read: usize, bytes: &'a [u8]) -> Next<'a>
     requires { read ≤ most_tokens }
     ensures { Comes (symbol_named grammar.now) (token_count grammar.now) read bytes.entry.now
@@ -165,10 +166,10 @@ fn read_all(alloc: Global, grammar: &Grammar, bytes: &[u8]) -> Result<Tokens, To
 /// Reads a tokens file: words between blanks, each the printed name of a token other than `error`
 /// and `$end`.
 ///
-/// A literal is looked up by its value, so its spelling is free; what follows it may touch it. The
-/// first place at fault decides: K1 for a word that is no symbol, K2 for one that is no input
-/// token, K5 for a quote that begins no literal; K3 at the start of a further word after 1,000,000
-/// tokens. K4 may stand in place of any answer.
+/// A literal is looked up by its value, so it may be spelled in any way, and what follows may
+/// touch it. The first place at fault decides: K1 for a word that names no symbol, K2 for a symbol
+/// that is no input token, K5 for a quote that begins no literal; K3 where a further word begins
+/// after 1,000,000 tokens. K4 may come in place of any answer.
 pub fn read_tokens(alloc: Global, tables: &Tables, bytes: &[u8]) -> Result<Tokens, TokenFault>
     // What is answered is what the file has.
     ensures exact { Gives tables.now.built.grammar bytes.now result }
@@ -180,7 +181,7 @@ pub fn read_tokens(alloc: Global, tables: &Tables, bytes: &[u8]) -> Result<Token
     read_all(alloc, tables.automaton().grammar(), bytes)
 }
 
-/// The token that these bytes name, where they name exactly one.
+/// The token that these bytes name, or `None` where they don't name exactly one.
 pub fn only_token(grammar: &Grammar, bytes: &[u8]) -> Option<Sym>
     ensures found { IfSome result (λ token. TokensOf grammar.now bytes.now (Ok (token ∷ []))) }
     ensures none { is_some result ≡ false
@@ -197,7 +198,7 @@ pub fn only_token(grammar: &Grammar, bytes: &[u8]) -> Option<Sym>
     }
 }
 
-/// Whether the first byte or the last one is a blank.
+/// Whether the first byte or the last one is a blank; false where there are no bytes.
 pub fn has_blank_end(bytes: &[u8]) -> bool
     ensures { result ≡ has_blank_end bytes.now }
 {

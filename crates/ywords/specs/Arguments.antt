@@ -24,8 +24,8 @@ pub record IsNewCommand (name : List ℕ) (c : Command) : Type 0 where
   pub globals : (out-Command c).has_globals ≡ false
   pub negates : (out-Command c).subcommand_negates_reqs ≡ false
 
--- an argument of this rule, which excludes no other, is its command's alone, and whose value isn't
--- split
+-- an argument of this rule; it excludes no other, belongs to its command alone, and its value
+-- isn't split
 pub record IsArgument (rule : Rule) (a : Arg) : Type 0 where
   pub rule_is : rule_of a ≡ rule
   pub plain : IsPlainArg a
@@ -33,14 +33,14 @@ pub record IsArgument (rule : Rule) (a : Arg) : Type 0 where
   pub delimiter : a.val_delim ≡ None
 
 -- what a command line gives for words: the values that they give each argument, or their first
--- fault, and where it takes them no error but a lack of memory
+-- fault; where it takes the words, the only error is that memory ran out
 pub record ReadsAs (app : App) (words : List (List ℕ)) (r : Result ArgMatches Error) : Type 0 where
   pub values : IfOk r (λ found. (id : List ℕ)
       → first_of id (matches_of app words) ≡ first_value (found_of found) id)
   pub faults : FailsBy (fault_of app words) r
   pub taken : IfErr r (λ e. takes app words ≡ true → kind_of e ≡ OutOfMemory)
 
--- a required argument, by its place, of one value
+-- a required argument with one value, found by its place
 abbrev pub required_argument : List ℕ → Rule
 required_argument id = record (new_rule id) { action = Some Set; required = true }
 
@@ -62,7 +62,7 @@ HasBoth found =
     (is_some (first_value (found_of found) (codes "grammar")) ≡ true)
     × (is_some (first_value (found_of found) (codes "tokens")) ≡ true)
 
--- a flag of one letter with a value
+-- an option of one letter, with a value
 abbrev pub short_option : List ℕ → ℕ → Rule
 short_option id letter = record (new_rule id) { action = Some Set; short = Some letter }
 

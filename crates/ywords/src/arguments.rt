@@ -76,7 +76,7 @@ fn ystep_command<'a>(alloc: Global) -> Result<Command<'a>, AllocError>
         .arg(tokens_argument(alloc))
 }
 
-/// What a command line makes of words, the program's name first among them.
+/// What a command line makes of words, of which the first is the program's name.
 fn matches_by<'a>(
     command: Result<Command<'a>, AllocError>,
     words: &'a [&'a str],
@@ -90,17 +90,15 @@ fn matches_by<'a>(
     command?.try_get_matches_from(words)
 }
 
-/// Reads the words of `ystep`, the program's name first among them.
+/// Reads the words of `ystep`, of which the first is the program's name.
 ///
-/// The error is that of the command line's own crate: a request for help, a mistake in the words,
-/// or no memory.
+/// An error is one of `clap`: a request for help, a mistake in the words, or no memory.
 pub fn ystep_words<'a>(alloc: Global, words: &'a [&'a str]) -> Result<YstepWords<'a>, Error>
     // The paths are the values that the words give the two arguments.
     ensures paths { IfOk result (ArePathsIn (map (λ word. word.now) words.entry.now)) }
-    // An error is the first fault of the words or no memory, and words with a fault are
-    // refused.
+    // An error is the first fault of the words, or no memory; words with a fault are refused.
     ensures faults { FailsBy (fault_of ystep_app (map (λ word. word.now) words.entry.now)) result }
-    // Where the command line takes the words, lack of memory is the one error.
+    // Where the command line takes the words, the only error is that memory ran out.
     ensures taken { IfErr result (λ e.
         takes ystep_app (map (λ word. word.now) words.entry.now) ≡ true → kind_of e ≡ OutOfMemory) }
 {
@@ -110,8 +108,8 @@ pub fn ystep_words<'a>(alloc: Global, words: &'a [&'a str]) -> Result<YstepWords
     Ok(YstepWords { grammar, tokens })
 }
 
-/// The words of `yacc`: the path of a grammar file, the prefix of the files to write, and whether a
-/// report is wanted.
+/// The words of `yacc`: the path of a grammar file, the prefix of the files to write, and whether
+/// a report is wanted.
 #[derive(Clone, Copy, Debug)]
 pub struct YaccWords<'a> {
     grammar: &'a str,
@@ -127,7 +125,7 @@ impl<'a> YaccWords<'a> {
         self.grammar
     }
 
-    /// What the names of the files to write begin with; `y` unless it was given.
+    /// The beginning of the names of the files to write; `y` where none was given.
     pub fn prefix(&self) -> &'a str
         ensures { result ≡ self.now.prefix }
     {
@@ -173,7 +171,7 @@ fn yacc_command<'a>(alloc: Global) -> Result<Command<'a>, AllocError>
         .arg(grammar_argument(alloc))
 }
 
-/// Whether the value of a flag says that it was given.
+/// Whether this value of a flag means that the flag was given.
 fn is_set(value: Option<&str>) -> bool
     ensures { result ≡ option_map_or (λ (word : Bor (List ℕ)). bytes_eq word.now (codes "true"))
         value.entry false }
@@ -184,17 +182,15 @@ fn is_set(value: Option<&str>) -> bool
     }
 }
 
-/// Reads the words of `yacc`, the program's name first among them.
+/// Reads the words of `yacc`, of which the first is the program's name.
 ///
-/// The error is that of the command line's own crate: a request for help, a mistake in the words,
-/// or no memory.
+/// An error is one of `clap`: a request for help, a mistake in the words, or no memory.
 pub fn yacc_words<'a>(alloc: Global, words: &'a [&'a str]) -> Result<YaccWords<'a>, Error>
     // The values are those that the words give.
     ensures values { IfOk result (AreYaccWordsIn (map (λ word. word.now) words.entry.now)) }
-    // An error is the first fault of the words or no memory, and words with a fault are
-    // refused.
+    // An error is the first fault of the words, or no memory; words with a fault are refused.
     ensures faults { FailsBy (fault_of yacc_app (map (λ word. word.now) words.entry.now)) result }
-    // Where the command line takes the words, lack of memory is the one error.
+    // Where the command line takes the words, the only error is that memory ran out.
     ensures taken { IfErr result (λ e.
         takes yacc_app (map (λ word. word.now) words.entry.now) ≡ true → kind_of e ≡ OutOfMemory) }
 {

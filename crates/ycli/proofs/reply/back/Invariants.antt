@@ -4,7 +4,7 @@ use Rattle.ycli.specs.Command as commands
 use Rattle.ycli.proofs.Replying.{Replied, Undos}
 use Rattle.ycli.proofs.reply.back.Given as goal
 
--- whatever the undos left reply completes the whole reply
+-- whatever the remaining undos reply completes the whole reply
 abbrev pub invariant-loop-i : goal.invariant-loop-i
 invariant-loop-i g l = record {
   machine : machine_of l.session ≡ machine_of l.initial.session;

@@ -5,7 +5,7 @@ use Rattle.ycli.specs.Reply.{Runs}
 use Rattle.ycli.proofs.Replying.{Replied}
 use Rattle.ycli.proofs.reply.run.Given as goal
 
--- whatever the steps left reply completes the whole reply
+-- whatever the remaining steps reply completes the whole reply
 abbrev pub invariant-loop-i : goal.invariant-loop-i
 invariant-loop-i g l = record {
   machine : machine_of l.session ≡ machine_of l.initial.session;

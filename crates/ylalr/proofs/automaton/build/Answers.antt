@@ -16,7 +16,7 @@ returns-clause-states c =
 false_true : false ≡ true → ⊥
 false_true h = grind (arith)
 
--- lack of memory is not the other fault
+-- that memory ran out is not the other fault
 other : (b : BuildFault) → b ≡ Memory → b ≡ TooManySets → ⊥
 other b e f = false_true (ap (λ (x : BuildFault). elim x [ Memory ↦ false | TooManySets ↦ true ])
     (sym e ∙ f))
