@@ -129,12 +129,11 @@ fn put_help<W: Write>(
             Some(name) => put_question(out, name),
             None => Ok(()),
         },
-        GrammarFault::Unproductive { .. } => put_others(out, alloc, source),
+        GrammarFault::Unproductive { .. } => put_others(out, &barren_in(alloc, source)?),
         GrammarFault::Foreign { .. } if is_imported(source.get(at..).unwrap_or(&[])) => {
             writeln!(
                 out,
-                "  If the file is one of bison or byacc, --from bison reads it, and ydebug import makes it \
-                 one of yacc."
+                "  If the file is one of bison or byacc, ydebug import makes it one that can be read."
             )
         }
         _ => Ok(()),
