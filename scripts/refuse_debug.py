@@ -7,9 +7,8 @@ Each session below gives command lines over an example or a scenario. Behind eve
 mark, a word that is no command and too long to be compared with one, and `where`. A run must end
 with `ydebug: no memory`, status 3 and nothing on standard output, or go on: then each answer is as
 usual for the parse as it stands, or says that there is no memory, and the parse behind it is as it
-was, or, behind a move, where the steps that were told have led. Sessions in which a refusal lacks its
-suggestion, or makes another, and nothing says that there was no memory, are counted by themselves:
-that is a shortcoming of `ydebug`. The last line is `N passed, M failed`.
+was, or, behind a move, where the steps that were told have led. A suggestion that is missing, or is
+another one, fails. The last line is `N passed, M failed`.
 """
 import os
 import re
@@ -47,7 +46,6 @@ MARK = "#" * 50
 MOVE = re.compile(r"(s|step|b|back|to|r|run)( |$)")
 PLACE = re.compile(r"^ *(\d+)  \S")
 NO_MEMORY = "no memory"
-SUGGESTION = re.compile(r"; (did you mean [^?]*\?|help lists them\.)|Did you mean [^?]*\?\n")
 
 
 def spelled(lines):
@@ -109,12 +107,6 @@ def as_moves(lines):
         yield line or last
 
 
-def is_plainer(made, wanted):
-    """Whether an answer is a usual one, but for what it suggests."""
-    bare = [SUGGESTION.sub("", answer) for answer, _ in (made, wanted)]
-    return bare[0] == bare[1] and made[1] == wanted[1]
-
-
 def fault_of(text, ydebug, source, lines):
     """What is wrong with what a session that went on has said; nothing where all is well."""
     made = answers(text)
@@ -122,7 +114,7 @@ def fault_of(text, ydebug, source, lines):
         return "a line isn't answered"
     obeyed = []
     for line, (answer, place) in zip(as_moves(lines), made):
-        if is_plainer((answer, place), usual(ydebug, source, [*obeyed, line])):
+        if (answer, place) == usual(ydebug, source, [*obeyed, line]):
             obeyed.append(line)
             continue
         if NO_MEMORY in place:
@@ -133,15 +125,6 @@ def fault_of(text, ydebug, source, lines):
         if obeyed is None:
             return f"behind {line!r} the parse is another one: {answer!r} {place!r}"
     return None
-
-
-def way_of(text, ydebug, source, lines):
-    """How a session went on in which nothing is wrong."""
-    if NO_MEMORY in text:
-        return "go on and say no memory"
-    if text == run(ydebug, source, spelled(lines))[1]:
-        return "as usual"
-    return "lack or change a suggestion"
 
 
 def refused_once(number, last, ydebug, source, lines, library):
@@ -159,8 +142,8 @@ def refused_once(number, last, ydebug, source, lines, library):
     if status != 0 or message:
         return "wrong", f"status {status}: {message}", calls
     fault = fault_of(text, ydebug, source, lines)
-    way = "wrong" if fault else way_of(text, ydebug, source, lines)
-    return way, fault, calls
+    went_on = "go on and say no memory" if NO_MEMORY in text else "as usual"
+    return "wrong" if fault else went_on, fault, calls
 
 
 def refused_in_turn(name, from_there_on, ydebug, library, pool):

@@ -18,7 +18,7 @@ const MOST_NAMED: usize = 20;
 
 /// What is asked for: verdicts on tokens files by a grammar file, and whether to say if it has
 /// choices.
-#[derive(Clone, Copy, Debug)]
+#[derive(Clone, Copy)]
 pub struct Check<'a> {
     /// The path of the grammar file.
     pub grammar: &'a str,
@@ -29,7 +29,7 @@ pub struct Check<'a> {
 }
 
 /// What is said of a tokens file: what came of it, for the exit status.
-#[derive(Clone, Copy, Debug, Drop, PartialEq, Eq)]
+#[derive(Clone, Copy, Drop, PartialEq, Eq)]
 enum Said {
     /// It is accepted.
     Good,

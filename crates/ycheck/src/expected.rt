@@ -14,7 +14,7 @@ const MOST_OF_ALL: usize = 10_000_000;
 const MOST_STEPS: usize = 1_000_000;
 
 /// Whether a token can come.
-#[derive(Clone, Copy, Debug, Drop, PartialEq, Eq)]
+#[derive(Clone, Copy, Drop, PartialEq, Eq)]
 pub enum Answer {
     /// It can come.
     Can,

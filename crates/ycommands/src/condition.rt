@@ -19,7 +19,7 @@ use ytables::Tables;
 const DEEPEST: usize = 1_000_000;
 
 /// What a run stops at.
-#[derive(Clone, Copy, Debug)]
+#[derive(Clone, Copy)]
 pub enum Condition {
     /// This token was shifted.
     Shift(Sym),
@@ -42,7 +42,7 @@ pub enum Condition {
 }
 
 /// The word of a condition.
-#[derive(Clone, Copy, Debug)]
+#[derive(Clone, Copy)]
 enum Word {
     Shift,
     Reduce,

@@ -6,7 +6,7 @@ use std::io::{self, BufRead, BufReader, Read};
 pub const LONGEST: usize = 4_096;
 
 /// What reading a line came to.
-#[derive(Clone, Copy, Debug, PartialEq, Eq)]
+#[derive(Clone, Copy, PartialEq, Eq)]
 pub enum Came {
     /// A line.
     Line,

@@ -1,7 +1,7 @@
 //! The commands: their words, how they are used, and what they do.
 
 /// A command.
-#[derive(Clone, Copy, Debug, PartialEq, Eq)]
+#[derive(Clone, Copy, PartialEq, Eq)]
 pub enum Verb {
     /// One step forward, or more.
     Step,

@@ -24,7 +24,7 @@ pub fn number_of(word: &str) -> Option<usize> {
 }
 
 /// What a word means in a table.
-#[derive(Clone, Copy, Debug, PartialEq, Eq)]
+#[derive(Clone, Copy, PartialEq, Eq)]
 pub enum Found<T> {
     /// This entry alone.
     One(T),
@@ -58,7 +58,7 @@ pub fn find<T: Copy>(table: &[(&'static str, T)], word: &str) -> Found<T> {
 }
 
 /// The search for the nearest word.
-#[derive(Clone, Copy, Debug)]
+#[derive(Clone, Copy)]
 pub struct Nearest<'a> {
     word: &'a str,
     best: Option<(usize, &'a str)>,

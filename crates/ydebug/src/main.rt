@@ -31,7 +31,7 @@ const USAGE: &[u8] = b"usage: ydebug grammar tokens\n\
     \x20      ydebug import file [-o grammar]\n";
 
 /// Why nothing was done.
-#[derive(Debug, Drop)]
+#[derive(Drop)]
 enum Refused {
     /// The words are not those of the program.
     Words,

@@ -27,7 +27,7 @@ use yshow::reading::{last_rule, states_of};
 use yshow::{Page, Paint};
 
 /// Where a session takes place: its files, and whether a person sits at a terminal.
-#[derive(Clone, Copy, Debug)]
+#[derive(Clone, Copy)]
 pub struct Setting<'a> {
     /// The path of the grammar file.
     pub grammar: &'a str,
@@ -40,7 +40,7 @@ pub struct Setting<'a> {
 }
 
 /// Whether a session goes on.
-#[derive(Clone, Copy, Debug, PartialEq, Eq)]
+#[derive(Clone, Copy, PartialEq, Eq)]
 enum Flow {
     GoesOn,
     Quits,

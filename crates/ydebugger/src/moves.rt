@@ -18,7 +18,7 @@ const FARTHEST: usize = LAST + 1;
 const PROGRESS: usize = 50_000;
 
 /// A move.
-#[derive(Clone, Copy, Debug)]
+#[derive(Clone, Copy)]
 pub enum Move {
     /// So many steps forward, each told.
     Step(usize),
@@ -35,7 +35,7 @@ pub enum Move {
 }
 
 /// How a move ended.
-#[derive(Clone, Copy, Debug)]
+#[derive(Clone, Copy)]
 enum End {
     /// As many steps were made as were wanted.
     Done,

@@ -13,7 +13,7 @@ use yshow::reading::name_of;
 use ysymbols::Grammar;
 
 /// Why the past isn't made again.
-#[derive(Clone, Copy, Debug)]
+#[derive(Clone, Copy)]
 enum Stopped {
     /// A step or an edit was refused.
     Fault(StepFault),

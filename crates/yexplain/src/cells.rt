@@ -7,7 +7,7 @@ use ysymbols::{Associativity, Grammar, Precedence, Sym};
 use ytables::{Action, Tables};
 
 /// How a rule stands against the shift of a token.
-#[derive(Clone, Copy, Debug, Drop, PartialEq, Eq)]
+#[derive(Clone, Copy, Drop, PartialEq, Eq)]
 pub enum Standing {
     /// The rule binds tighter.
     Higher,
@@ -72,7 +72,7 @@ pub fn standing_of(grammar: &Grammar, rule: usize, token: Sym) -> Standing {
 }
 
 /// What settled a cell.
-#[derive(Clone, Copy, Debug, Drop, PartialEq, Eq)]
+#[derive(Clone, Copy, Drop, PartialEq, Eq)]
 pub enum Case {
     /// The cell has no candidate.
     Empty,
@@ -93,7 +93,7 @@ pub enum Case {
 }
 
 /// The candidates of a cell, counted.
-#[derive(Clone, Copy, Debug, Drop, PartialEq, Eq)]
+#[derive(Clone, Copy, Drop, PartialEq, Eq)]
 pub struct Survey {
     /// Whether an item has its dot before the token.
     pub shifts: bool,

@@ -10,7 +10,7 @@ use ysymbols::{Grammar, Sym};
 use ysyntax::fault::GrammarFault;
 
 /// A symbol that a line names.
-#[derive(Clone, Copy, Debug, Drop, PartialEq, Eq)]
+#[derive(Clone, Copy, Drop, PartialEq, Eq)]
 pub struct Mention {
     /// The symbol.
     pub symbol: Sym,
@@ -23,7 +23,7 @@ pub struct Mention {
 }
 
 /// A rule of the file: its line, how many actions stand before it, and what its `%prec` names.
-#[derive(Clone, Copy, Debug, Drop)]
+#[derive(Clone, Copy, Drop)]
 struct Start {
     line: usize,
     actions: usize,
@@ -31,7 +31,7 @@ struct Start {
 }
 
 /// A rule of the grammar: the line on which it begins, and what its `%prec` names.
-#[derive(Clone, Copy, Debug, Drop)]
+#[derive(Clone, Copy, Drop)]
 struct Begun {
     line: Option<usize>,
     prec: Option<Sym>,

@@ -7,7 +7,7 @@ use ysyntax::fault::GrammarFault;
 use ysyntax::lexer::{Placed, read_syntax};
 
 /// How a symbol is named.
-#[derive(Clone, Copy, Debug, Drop, PartialEq, Eq)]
+#[derive(Clone, Copy, Drop, PartialEq, Eq)]
 pub enum How {
     /// Behind `%token`.
     Declared,
@@ -26,7 +26,7 @@ pub enum How {
 }
 
 /// A lexeme, its line, how many bytes stand before it, and how it names a symbol, where it does.
-#[derive(Clone, Copy, Debug)]
+#[derive(Clone, Copy)]
 pub struct Role<'a> {
     /// The lexeme.
     pub lexeme: Lexeme<'a>,
@@ -39,7 +39,7 @@ pub struct Role<'a> {
 }
 
 /// A walk over the lexemes of a file.
-#[derive(Clone, Copy, Debug)]
+#[derive(Clone, Copy)]
 struct Walk {
     /// The word that says what is listed; the mark, once the rules have begun.
     heading: Kind,

@@ -7,7 +7,7 @@ use ylexemes::kind::Kind;
 use ysymbols::names::SymbolTable;
 
 /// A rule: the number of its left side, and where the numbers of those in its body stand.
-#[derive(Clone, Copy, Debug, Drop)]
+#[derive(Clone, Copy, Drop)]
 struct Rule {
     left: usize,
     from: usize,

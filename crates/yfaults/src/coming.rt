@@ -4,8 +4,8 @@ use std::fmt;
 use ylexemes::kind::Kind;
 use ysyntax::recogniser::State;
 
-/// A kind of lexeme, and the words for it.
-#[derive(Clone, Copy, Debug)]
+/// A kind of lexeme, as it is told.
+#[derive(Clone, Copy)]
 struct Told {
     kind: Kind,
     words: &'static str,

@@ -8,7 +8,7 @@ use strsim::osa_distance;
 const LONGEST: usize = 64;
 
 /// A search among names for the one that is nearest to a wanted name.
-#[derive(Clone, Copy, Debug, Drop)]
+#[derive(Clone, Copy, Drop)]
 pub struct Search<'a> {
     wanted: &'a [u8],
     found: Option<&'a [u8]>,

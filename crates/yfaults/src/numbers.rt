@@ -11,7 +11,7 @@ use ysymbols::names::SymbolTable;
 const ERROR_NUMBER: usize = 256;
 
 /// Who has a number.
-#[derive(Clone, Copy, Debug, PartialEq, Eq, Drop)]
+#[derive(Clone, Copy, PartialEq, Eq, Drop)]
 enum Holder {
     Nobody,
     One(usize),
@@ -19,7 +19,7 @@ enum Holder {
 }
 
 /// A number behind a token: its value, where it is in range, its place, and the token's number.
-#[derive(Clone, Copy, Debug, Drop)]
+#[derive(Clone, Copy, Drop)]
 struct Given {
     value: Option<usize>,
     at: usize,

@@ -28,7 +28,7 @@ pub struct Opened {
 }
 
 /// Why a file isn't opened.
-#[derive(Debug, Drop)]
+#[derive(Drop)]
 pub enum Trouble {
     /// It can't be read.
     Unread,

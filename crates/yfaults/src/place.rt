@@ -153,7 +153,7 @@ fn barren_place(alloc: Global, roles: &[Role<'_>]) -> Result<Option<usize>, Allo
 
 /// A rule being counted: where it begins, how many symbols its body has, and whether the last part
 /// is an action, which is a symbol only where more follows.
-#[derive(Clone, Copy, Debug)]
+#[derive(Clone, Copy)]
 struct Counted {
     at: usize,
     symbols: usize,

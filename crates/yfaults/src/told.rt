@@ -11,6 +11,7 @@ use std::io::{self, Write};
 use yexplain::reads::name_of;
 use yexplain::roles::{How, Role};
 use yexplain::text::Bytes;
+use yforeign::directive::is_imported;
 use ygrammar::{Grammar, GrammarFault};
 use ylalr::token_count;
 use ylexemes::part::Lexeme;
@@ -128,7 +129,14 @@ fn put_help<W: Write>(
             Some(name) => put_question(out, name),
             None => Ok(()),
         },
-        GrammarFault::Unproductive { .. } => put_others(out, &barren_in(alloc, source)?),
+        GrammarFault::Unproductive { .. } => put_others(out, alloc, source),
+        GrammarFault::Foreign { .. } if is_imported(source.get(at..).unwrap_or(&[])) => {
+            writeln!(
+                out,
+                "  If the file is one of bison or byacc, --from bison reads it, and ydebug import makes it \
+                 one of yacc."
+            )
+        }
         _ => Ok(()),
     }
 }

@@ -4,7 +4,7 @@ use ygrammar::GrammarFault;
 use ytokens::tokens::TokenFault;
 
 /// What a code says.
-#[derive(Clone, Copy, Debug)]
+#[derive(Clone, Copy)]
 pub struct Words {
     /// The code, as `G7`.
     pub code: &'static str,

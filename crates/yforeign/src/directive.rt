@@ -1,9 +1,10 @@
 //! The directives of bison and byacc.
 
 use crate::lexeme::Kind;
+use crate::runs::word_length;
 
 /// A directive, by what is done with it.
-#[derive(Clone, Copy, Debug, Drop, PartialEq, Eq)]
+#[derive(Clone, Copy, Drop, PartialEq, Eq)]
 pub enum Directive {
     /// `%token`.
     Token,
@@ -50,7 +51,7 @@ pub enum Directive {
 }
 
 /// What may stand behind a directive that is taken out.
-#[derive(Clone, Copy, Debug, Drop, PartialEq, Eq)]
+#[derive(Clone, Copy, Drop, PartialEq, Eq)]
 pub enum Shape {
     /// Nothing.
     Alone,
@@ -140,6 +141,18 @@ pub fn directive_of(text: &[u8]) -> Directive {
         .iter()
         .find(|(name, _)| is_word(word, name))
         .map_or(Directive::Unknown, |(_, directive)| *directive)
+}
+
+/// Whether a directive or a string that an import takes stands at the front.
+pub fn is_imported(bytes: &[u8]) -> bool {
+    match bytes {
+        [b'"', ..] => true,
+        [b'%', word @ ..] => {
+            let length = word_length(word).saturating_add(1);
+            directive_of(bytes.get(..length).unwrap_or(bytes)) != Directive::Unknown
+        }
+        _ => false,
+    }
 }
 
 impl Directive {

@@ -5,7 +5,7 @@ use crate::lexeme::{Kind, Lexeme};
 use std::alloc::{AllocError, Global};
 
 /// How a group begins.
-#[derive(Clone, Copy, Debug, Drop, PartialEq, Eq)]
+#[derive(Clone, Copy, Drop, PartialEq, Eq)]
 pub enum Head {
     /// A directive.
     Word(Directive),
@@ -22,7 +22,7 @@ pub enum Head {
 }
 
 /// The lexemes of one declaration or alternative, and whether they stand between the marks.
-#[derive(Clone, Copy, Debug)]
+#[derive(Clone, Copy)]
 pub struct Group<'a> {
     /// How it begins.
     pub head: Head,
@@ -64,7 +64,7 @@ fn head_of(source: &[u8], lexeme: &Lexeme, behind: &[Lexeme], in_rules: bool) ->
 }
 
 /// Where a group begins, and how.
-#[derive(Clone, Copy, Debug, Drop)]
+#[derive(Clone, Copy, Drop)]
 struct Start {
     head: Head,
     at: usize,

@@ -3,7 +3,7 @@
 use std::alloc::{AllocError, AllocFailed};
 
 /// What a lexeme is.
-#[derive(Clone, Copy, Debug, Drop, PartialEq, Eq)]
+#[derive(Clone, Copy, Drop, PartialEq, Eq)]
 pub enum Kind {
     /// A name, in which dashes may stand.
     Name,
@@ -48,7 +48,7 @@ pub enum Kind {
 }
 
 /// A lexeme: its first byte, the byte behind it, and its line.
-#[derive(Clone, Copy, Debug)]
+#[derive(Clone, Copy)]
 pub struct Lexeme {
     /// What it is.
     pub kind: Kind,
@@ -61,7 +61,7 @@ pub struct Lexeme {
 }
 
 /// Why no lexeme stands at a place.
-#[derive(Clone, Copy, Debug, Drop, PartialEq, Eq)]
+#[derive(Clone, Copy, Drop, PartialEq, Eq)]
 pub enum Flaw {
     /// A comment, a quote, a bracket or a brace has no end.
     Unfinished,
@@ -76,7 +76,7 @@ pub enum Flaw {
 }
 
 /// Why a file isn't cut into lexemes.
-#[derive(Debug, Drop)]
+#[derive(Drop)]
 pub enum Uncut {
     /// A flaw, and its line.
     Flaw(Flaw, usize),

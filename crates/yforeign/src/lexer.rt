@@ -6,7 +6,7 @@ use crate::signs::{Piece, piece_at};
 use std::alloc::Global;
 
 /// A comment from two slashes to the end of its line: where it stands, and its line.
-#[derive(Clone, Copy, Debug)]
+#[derive(Clone, Copy)]
 pub struct Remark {
     /// How many bytes stand before it.
     pub from: usize,

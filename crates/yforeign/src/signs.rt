@@ -8,7 +8,7 @@ use ylexemes::front::part_at;
 use ylexemes::part::LexicalFault;
 
 /// What stands at a place.
-#[derive(Clone, Copy, Debug)]
+#[derive(Clone, Copy)]
 pub enum Piece {
     /// A blank.
     Blank,

@@ -30,7 +30,7 @@ fn has_to_move(behind: &[Lexeme]) -> bool {
 }
 
 /// Where a body stands.
-#[derive(Clone, Copy, Debug)]
+#[derive(Clone, Copy)]
 struct Place {
     /// The symbol behind `%prec`.
     prec: Option<Lexeme>,
@@ -41,7 +41,7 @@ struct Place {
 }
 
 /// What stands around a lexeme of a body.
-#[derive(Clone, Copy, Debug)]
+#[derive(Clone, Copy)]
 struct Around<'a> {
     before: Option<Kind>,
     behind: &'a [Lexeme],

@@ -6,7 +6,7 @@ use yforeign::lexeme::Lexeme;
 use yforeign::lexer::Remark;
 
 /// A part of a file that is replaced by one of the texts written.
-#[derive(Clone, Copy, Debug, Drop)]
+#[derive(Clone, Copy, Drop)]
 pub struct Edit {
     /// How many bytes stand before the part.
     pub from: usize,

@@ -12,7 +12,7 @@ use yforeign::survey::{is_macro, is_text};
 use ylexemes::bytes::{is_name_byte, is_name_start};
 
 /// Where a list stands.
-#[derive(Clone, Copy, Debug)]
+#[derive(Clone, Copy)]
 struct Place {
     directive: Directive,
     /// The token that a number or a string would belong to.

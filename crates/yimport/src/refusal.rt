@@ -4,7 +4,7 @@ use std::alloc::{AllocError, AllocFailed};
 use yforeign::lexeme::{Flaw, Lexeme, Uncut};
 
 /// What a file has that can't be imported.
-#[derive(Clone, Copy, Debug, Drop, PartialEq, Eq)]
+#[derive(Clone, Copy, Drop, PartialEq, Eq)]
 pub enum Refusal {
     /// No lexeme begins at a place.
     Flaw(Flaw),
@@ -35,7 +35,7 @@ pub enum Refusal {
 }
 
 /// What is refused, its line, and where it stands; at no place, where it is no lexeme.
-#[derive(Clone, Copy, Debug, Drop)]
+#[derive(Clone, Copy, Drop)]
 pub struct Refused {
     /// What is refused.
     pub refusal: Refusal,
@@ -48,7 +48,7 @@ pub struct Refused {
 }
 
 /// Why there is no import.
-#[derive(Debug, Drop)]
+#[derive(Drop)]
 pub enum Trouble {
     /// The file is refused.
     Refused(Refused),

@@ -11,7 +11,7 @@ use yforeign::survey::{Survey, inside, is_text};
 use ysymbols::names::{Printed, is_among};
 
 /// A number of conflicts that a file expects, and the line that says so.
-#[derive(Clone, Copy, Debug, Drop)]
+#[derive(Clone, Copy, Drop)]
 pub struct Expected {
     /// The line, counted from 1.
     pub line: usize,

@@ -7,7 +7,7 @@ use ylalr::{Automaton, END, Item, token_count};
 use ysymbols::Sym;
 
 /// The conflicts of an automaton. Where a shift meets two reductions, there is one of each kind.
-#[derive(Clone, Copy, Debug, Drop)]
+#[derive(Clone, Copy, Drop)]
 pub struct Counts {
     /// Shift/reduce conflicts.
     pub shift_reduce: usize,
@@ -16,7 +16,7 @@ pub struct Counts {
 }
 
 /// What bison leaves in a cell: whether the shift, and how many reductions.
-#[derive(Clone, Copy, Debug)]
+#[derive(Clone, Copy)]
 struct Left {
     shift: bool,
     reductions: usize,

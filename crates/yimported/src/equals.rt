@@ -5,7 +5,7 @@ use ylalr::{Automaton, Item, token_count};
 use ysymbols::Sym;
 
 /// Such a cell, and the line of `%precedence`.
-#[derive(Clone, Copy, Debug)]
+#[derive(Clone, Copy)]
 pub struct Equal {
     /// The line of `%precedence`, counted from 1.
     pub line: usize,
@@ -33,7 +33,7 @@ fn level_of_rule(automaton: &Automaton, levels: &[Option<usize>], rule: usize) -
 }
 
 /// A level that comes from `%precedence`.
-#[derive(Clone, Copy, Debug)]
+#[derive(Clone, Copy)]
 struct Level {
     number: usize,
     line: usize,

@@ -16,7 +16,7 @@ use ysymbols::Sym;
 
 /// What is asked for: the page of the parse of a tokens file by a grammar file, where it goes, the
 /// part that it shows, and whether it has the conflicts of the grammar.
-#[derive(Clone, Copy, Debug)]
+#[derive(Clone, Copy)]
 pub struct Asked<'a> {
     /// The path of the grammar file.
     pub grammar: &'a str,

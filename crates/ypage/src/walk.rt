@@ -13,7 +13,7 @@ use ysymbols::Sym;
 pub const MOST_STEPS: usize = 20_000;
 
 /// The positions that are wanted: from one to another, or to the end.
-#[derive(Clone, Copy, Debug)]
+#[derive(Clone, Copy)]
 pub struct Part {
     /// The first position.
     pub from: usize,

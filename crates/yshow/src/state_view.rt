@@ -99,7 +99,7 @@ fn put_noted<W: Write>(
 }
 
 /// How much an item matters in a short list.
-#[derive(Clone, Copy, Debug, PartialEq, Eq)]
+#[derive(Clone, Copy, PartialEq, Eq)]
 enum Rank {
     /// It is complete, or about the token ahead.
     First,

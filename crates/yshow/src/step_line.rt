@@ -15,7 +15,7 @@ const RULES: usize = 58;
 const STATES: usize = 69;
 
 /// A step or an undo that was made, as its line shows it.
-#[derive(Clone, Copy, Debug)]
+#[derive(Clone, Copy)]
 pub struct StepLine {
     /// The position after it.
     pub position: usize,

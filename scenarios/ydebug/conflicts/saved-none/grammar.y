@@ -1,0 +1,6 @@
+%token NUM
+%left '+'
+%%
+e : e '+' e
+  | NUM
+  ;

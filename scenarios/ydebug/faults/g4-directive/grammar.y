@@ -1,0 +1,4 @@
+%token A
+%expect 1
+%%
+s : A ;
