@@ -1,5 +1,5 @@
 //! `calls grammar tokens`: makes each public call that takes memory by itself, and once more where
-//! memory was refused to it, and tells what came of it. `make refuse` refuses it memory.
+//! it ran out of memory, and says what it came to. In `make refuse` its allocations fail.
 #![tactic(auto)]
 
 ghost use Rattle.yparse.specs.Tokens.{Fits, symbols_of};

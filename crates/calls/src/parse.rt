@@ -24,7 +24,7 @@ enum Call {
 enum Came {
     Made(StepKind),
     Halted,
-    /// Memory was refused twice.
+    /// Memory ran out twice.
     Starved,
 }
 
@@ -58,7 +58,7 @@ fn make(session: &mut Session, call: Call) -> Result<StepKind, StepFault> {
     }
 }
 
-/// Makes a call, once more where memory was refused to it.
+/// Makes a call, and once more where it ran out of memory.
 fn make_twice(rt: &HostRuntime, session: &mut Session, call: Call) -> Came {
     for _ in 0..2 {
         match make(session, call) {

@@ -313,7 +313,7 @@ module _ {W : Type 0} (contents : W → Option (List ℕ)) where
       IfSome before (λ input. length input < 2 ^ 63
       → Tells m h input left (contents (device_of old)) (contents (device_of new)) r)
 
-  -- how a session ends where its last text was sent whole, or cut
+  -- how a session ends where its last text was sent to its end, or cut off
   abbrev pub ending : Bool → Result (Unit {0}) SessionFault
   ending true = Ok tt
   ending false = Err faults.Write

@@ -55,7 +55,7 @@ with_number table k v =
     cond (nat_lt k (length table) && not (is_some (slice_index_or table k None)))
     (slice_set table k (Some v)) table
 
--- the mistake is this one, and it holds; or memory was refused
+-- the mistake is this one, and it holds; or memory ran out
 abbrev pub Refuses : Tree → Mistake → Refused → Type 0
 Refuses t m (refused.Mistake what at) = (what ≡ m) × Holds t m
 Refuses t m refused.Memory = Unit {0}

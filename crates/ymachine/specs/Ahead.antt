@@ -12,7 +12,7 @@ pub record LeadsOn (p : Place) (found : Option (StepKind × Place)) (kind : Step
   pub fits : IsTrue (place_fits (change_at kind p.content) (place_after kind p))
   pub valid : IsTrue (valid (place_after kind p))
 
--- The kind of what is found, or why there is none: it can't be made, and the parse has halted
+-- The kind of what is found, or why nothing is: it can't be made, and the parse has halted
 -- where no step follows either.
 abbrev pub Ahead : (Place → Option (StepKind × Place)) → (Place → Option (StepKind × Place))
     → Place → Result StepKind StepFault → Type 0

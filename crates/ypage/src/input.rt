@@ -41,7 +41,7 @@ fn taken_in(kinds: &[StepKind]) -> usize {
         .count()
 }
 
-/// The tokens that some steps take, but for so many of the first.
+/// The tokens that some steps take, without so many of the first.
 fn push_taken(tokens: &mut Vec<Sym>, kinds: &[StepKind], skipped: usize) -> Result<(), AllocError> {
     let taken = kinds.iter().filter_map(|kind| taken_by(*kind));
     for token in taken.skip(skipped) {

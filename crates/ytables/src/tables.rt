@@ -232,7 +232,7 @@ impl Tables {
         self.gotos.get(q, x - self.actions.width())
     }
 
-    /// The rule by which state `q` reduces at every token, where the state is consistent: no item
+    /// The rule that state `q` reduces by at every token, where the state is consistent: no item
     /// of the state has the dot before a token, and all its filled cells, at least one, reduce by
     /// this rule.
     pub fn default_rule(&self, q: usize) -> Option<usize>
