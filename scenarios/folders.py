@@ -6,7 +6,7 @@ from pathlib import Path
 
 SUM = "stdout.sum"
 BACK = ("stdout", SUM, "message", "status")
-OWN = {"words", "stdin", "about", "links", "streams", "left", *BACK}
+OWN = {"words", "stdin", "about", "links", "streams", "left", "gone", *BACK}
 UNREAD = "unread"
 TIMES = ".times"
 REPEATED = re.compile(rb"\*(\d+) (.*)\n?")
@@ -115,6 +115,10 @@ def wanted_of(held, inputs):
     """What is wanted back: both streams, the status, and every file that lies there then."""
     wanted = {"stdout": b"", "message": b"", "status": b"0\n"}
     wanted.update((f"left/{path}", text) for path, text in inputs.items())
+    for path in held.get("gone", b"").decode().splitlines():
+        if path not in inputs:
+            raise Fault(f"{path} is to be gone, and isn't there at first")
+        del wanted[f"left/{path}"]
     back = {path: it for path, it in held.items() if path in BACK or path.startswith("left/")}
     if SUM in back:
         del wanted["stdout"]
@@ -165,9 +169,9 @@ def fill_in(scenario, made):
     folder, plain = scenario.folder, wanted_of({}, scenario.inputs)
     if not folder.is_dir():
         raise Fault("what a page tells is written by hand")
-    lost = plain.keys() - made.keys() - {"stdout"}
+    lost = (plain.keys() & scenario.wanted.keys()) - made.keys() - {"stdout"}
     if lost:
-        raise Fault(f"it takes {min(lost)} away, which no scenario can want")
+        raise Fault(f"it takes {min(lost)} away: a file that is removed is a line of the file gone")
     for path in files_below(folder):
         if path in BACK or path.startswith("left/"):
             (folder / path).unlink()

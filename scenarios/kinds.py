@@ -28,6 +28,7 @@ PASS = {
     "links": {**GOOD, "stdin": "cat null >&2\n", "links": "null /dev/null\n"},
     "reads-no-file": {**GOOD, "streams": "stdin /dev/null\n"},
     "writes-nowhere": {**ECHO, "streams": "stdout /dev/null\n", "message": "told\n", "status": "3\n"},
+    "removes": {**GOOD, "stdin": "rm given\n", "given": "old\n", "gone": "given\n"},
     "overwrites": {**GOOD, "stdin": "echo new > given\n", "given": "old\n", "left/given": "new\n"},
 }
 FAIL = {
@@ -45,6 +46,8 @@ FAIL = {
     "stream-of-no-file": {**GOOD, "streams": "stdin absent\n"},
     "changed-input": {**GOOD, "stdin": "echo new > given\n", "given": "old\n"},
     "vanished-input": {**GOOD, "stdin": "rm given\n", "given": "old\n"},
+    "still-there": {**GOOD, "given": "old\n", "gone": "given\n"},
+    "never-there": {**GOOD, "gone": "absent\n"},
     "unread": {**GOOD, "about": "unread\nOne sentence.\n"},
     "no-about": {"words": "p\n"},
     "blank-about": {**GOOD, "about": "\n"},
