@@ -172,8 +172,8 @@ impl Shortest {
                 rules: vec![in alloc; 0usize; symbols]?,
             },
         };
-        settle_tokens(grammar, places, &mut making)?;
-        settle_rules(grammar, places, &mut making)?;
+        making.settle_tokens(grammar, places)?;
+        making.settle_rules(grammar, places)?;
         let Making { found, .. } = making;
         Ok(found)
     }
@@ -230,37 +230,31 @@ fn push_back(open: &mut Vec<Sym>, form: &[Sym]) -> Result<(), AllocError> {
     Ok(())
 }
 
-/// The lengths of the tokens.
-fn settle_tokens(
-    grammar: &Grammar,
-    places: &Lists<Item>,
-    making: &mut Making,
-) -> Result<(), AllocError> {
-    for token in 0..grammar.symbols() {
-        let length = token_length(token);
-        if grammar.is_token(token) && making.note(token, length, Digest::of(token), 0) {
-            making.spread(places.of(token), length)?;
-        }
-    }
-    Ok(())
-}
-
-/// The lengths of the nonterminals, the shortest first. Each rule waits at most once.
-fn settle_rules(
-    grammar: &Grammar,
-    places: &Lists<Item>,
-    making: &mut Making,
-) -> Result<(), AllocError> {
-    for _ in 0..grammar.rules() {
-        let Some((length, rule)) = making.queue.take() else {
-            break;
-        };
-        if let Some(left) = left_of(grammar, rule) {
-            let digest = making.found.digest_of(body_of(grammar, rule));
-            if making.note(left, length, digest, rule) {
-                making.spread(places.of(left), length)?;
+impl Making {
+    /// The lengths of the tokens.
+    fn settle_tokens(&mut self, grammar: &Grammar, places: &Lists<Item>) -> Result<(), AllocError> {
+        for token in 0..grammar.symbols() {
+            let length = token_length(token);
+            if grammar.is_token(token) && self.note(token, length, Digest::of(token), 0) {
+                self.spread(places.of(token), length)?;
             }
         }
+        Ok(())
     }
-    Ok(())
+
+    /// The lengths of the nonterminals, the shortest first. Each rule waits at most once.
+    fn settle_rules(&mut self, grammar: &Grammar, places: &Lists<Item>) -> Result<(), AllocError> {
+        for _ in 0..grammar.rules() {
+            let Some((length, rule)) = self.queue.take() else {
+                break;
+            };
+            if let Some(left) = left_of(grammar, rule) {
+                let digest = self.found.digest_of(body_of(grammar, rule));
+                if self.note(left, length, digest, rule) {
+                    self.spread(places.of(left), length)?;
+                }
+            }
+        }
+        Ok(())
+    }
 }

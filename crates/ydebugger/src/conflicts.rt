@@ -4,7 +4,7 @@ use crate::parse::Parse;
 use std::alloc::Global;
 use std::io::{self, Write};
 use yconflicts::groups::{Conflicts, Group, Kind};
-use yexplain::why::{explain, put_cell};
+use yexplain::why::{Question, explain, put_cell};
 use yshow::page::Page;
 
 /// How many kinds of conflicts are explained, and how many are named at most.
@@ -45,11 +45,16 @@ fn put_kind<W: Write>(
     group: Group,
     number: usize,
 ) -> io::Result<()> {
-    let (tables, lines) = (parse.tables(), parse.lines());
+    let asked = Question {
+        tables: parse.tables(),
+        lines: parse.lines(),
+        state: group.state,
+        token: kind.token,
+    };
     if number < EXPLAINED {
-        explain(page, tables, lines, group.state, kind.token)?;
+        explain(page, asked)?;
     } else {
-        put_cell(page, tables, lines, group.state, kind.token)?;
+        put_cell(page, asked)?;
     }
     put_states(page, group)
 }

@@ -63,7 +63,7 @@ fn save_to<F: Files>(rt: &F, text: &[u8], path: &str, over: bool) -> io::Result<
     device.flush()
 }
 
-/// Writes the tokens as they stand to a file. Without `over` there must be no such file.
+/// Writes the tokens, edits included, to a file. Without `over` there must be no such file.
 fn save_tokens<F: Files + AllocGlobal>(
     rt: &F,
     parse: &Parse,
@@ -83,7 +83,7 @@ pub fn save<F: Files + AllocGlobal, W: Write>(
     over: bool,
 ) -> io::Result<()> {
     let words = match save_tokens(rt, parse, path, over) {
-        Ok(()) => " has the tokens as they stand.",
+        Ok(()) => " has the tokens, edits included.",
         Err(error) => match error.kind() {
             ErrorKind::AlreadyExists => " is there already; save! writes over it.",
             ErrorKind::OutOfMemory => " isn't written: there is no memory.",

@@ -10,7 +10,7 @@ use ycommands::refusal::{Refusal, misused, put_refusal};
 use ycommands::verb::Verb;
 use ycommands::words::first_word;
 use yexplain::reads::grammar_of;
-use yexplain::why::explain;
+use yexplain::why::{Question, explain};
 use yparse::Session;
 use yparse::machine::Mode;
 use yshow::derivation::{SOME_FORMS, put_derivation};
@@ -61,13 +61,18 @@ pub fn show_why<W: Write>(
     text: &str,
 ) -> io::Result<()> {
     let session = parse.session();
-    let (tables, state) = (session.tables(), session.state());
+    let asked = Question {
+        tables: session.tables(),
+        lines: parse.lines(),
+        state: session.state(),
+        token: token_ahead(session),
+    };
     if text.is_empty() {
-        explain(page, tables, parse.lines(), state, token_ahead(session))?;
+        explain(page, asked)?;
         return put_mode(page, session.view().mode());
     }
     match token_named(session, text) {
-        Some(token) => explain(page, tables, parse.lines(), state, token),
+        Some(token) => explain(page, Question { token, ..asked }),
         None => refuse_name(alloc, session, page, text, Refusal::NoToken),
     }
 }

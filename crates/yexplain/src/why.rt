@@ -12,29 +12,28 @@ use ytables::{Action, Tables};
 /// The most candidates of one kind that are shown.
 const MOST_SHOWN: usize = 10;
 
-/// A cell to be explained.
+/// A cell to be explained: that of a state and a token.
 #[derive(Clone, Copy)]
-struct Asked<'a> {
-    tables: &'a Tables,
-    lines: &'a Lines,
-    state: usize,
-    token: Sym,
+pub struct Question<'a> {
+    /// The tables.
+    pub tables: &'a Tables,
+    /// Where rules stand in the grammar's file.
+    pub lines: &'a Lines,
+    /// The state.
+    pub state: usize,
+    /// The token.
+    pub token: Sym,
 }
 
 /// Writes what a cell says: `state 33 on ELSE: shift, to state 35`.
-pub fn put_cell<W: Write>(
-    out: &mut W,
-    tables: &Tables,
-    lines: &Lines,
-    state: usize,
-    token: Sym,
-) -> io::Result<()> {
-    let name = Name(tables.automaton().grammar(), token);
+pub fn put_cell<W: Write>(out: &mut W, asked: Question<'_>) -> io::Result<()> {
+    let state = asked.state;
+    let name = asked.name();
     write!(out, "state {state} on {name}: ")?;
-    match action_of(tables, state, token) {
+    match action_of(asked.tables, state, asked.token) {
         Action::Shift(to) => writeln!(out, "shift, to state {to}"),
         Action::Reduce(rule) => {
-            let rule = Numbered(lines, rule);
+            let rule = Numbered(asked.lines, rule);
             writeln!(out, "reduce by {rule}")
         }
         Action::Accept => writeln!(out, "accept"),
@@ -42,43 +41,19 @@ pub fn put_cell<W: Write>(
     }
 }
 
-/// Writes why the cell of a state and a token says what it says: its candidates, what settled it,
-/// and how to choose otherwise. `lines` are those of the grammar's file.
-pub fn explain<W: Write>(
-    out: &mut W,
-    tables: &Tables,
-    lines: &Lines,
-    state: usize,
-    token: Sym,
-) -> io::Result<()> {
-    let asked = Asked {
-        tables,
-        lines,
-        state,
-        token,
-    };
-    put_cell(out, tables, lines, state, token)?;
+/// Writes why a cell says what it says: its candidates, what settled it, and how to choose
+/// otherwise.
+pub fn explain<W: Write>(out: &mut W, asked: Question<'_>) -> io::Result<()> {
+    put_cell(out, asked)?;
     asked.put_reason(out)
 }
 
 /// Writes the candidates of a cell, what settled it, and how to choose otherwise.
-pub fn explain_rivals<W: Write>(
-    out: &mut W,
-    tables: &Tables,
-    lines: &Lines,
-    state: usize,
-    token: Sym,
-) -> io::Result<()> {
-    let asked = Asked {
-        tables,
-        lines,
-        state,
-        token,
-    };
+pub fn explain_rivals<W: Write>(out: &mut W, asked: Question<'_>) -> io::Result<()> {
     asked.put_reason(out)
 }
 
-impl<'a> Asked<'a> {
+impl<'a> Question<'a> {
     fn grammar(self) -> &'a Grammar {
         self.tables.automaton().grammar()
     }

@@ -53,6 +53,21 @@ pub fn is_macro(lexemes: &[Lexeme], at: usize) -> bool {
     kind == Some(Kind::Name) && next.map(|next| next.kind) == Some(Kind::Arguments)
 }
 
+/// Takes the names among lexemes into a table.
+fn intern_names(
+    alloc: Global,
+    table: &mut SymbolTable,
+    source: &[u8],
+    lexemes: &[Lexeme],
+) -> Result<(), AllocError> {
+    for lexeme in lexemes {
+        if lexeme.kind == Kind::Name {
+            intern(alloc, table, lexeme.text(source))?;
+        }
+    }
+    Ok(())
+}
+
 impl Survey {
     /// What is known of a file before it is read: nothing.
     pub fn new(alloc: Global) -> Survey {
@@ -85,7 +100,7 @@ impl Survey {
 
     /// Takes in a group.
     fn take(&mut self, alloc: Global, source: &[u8], group: &Group<'_>) -> Result<(), AllocError> {
-        self.take_names(alloc, source, group.lexemes)?;
+        intern_names(alloc, &mut self.names, source, group.lexemes)?;
         match group.head {
             Head::Word(directive) if directive.lists_tokens() => {
                 self.take_list(alloc, source, directive, group.lexemes)
@@ -95,24 +110,9 @@ impl Survey {
                 Ok(())
             }
             Head::Left => self.take_rule(alloc, source, group.lexemes),
-            Head::Bar => self.take_body(alloc, source, group.lexemes),
+            Head::Bar => intern_names(alloc, &mut self.used, source, group.lexemes),
             _ => Ok(()),
         }
-    }
-
-    /// Takes in all names.
-    fn take_names(
-        &mut self,
-        alloc: Global,
-        source: &[u8],
-        lexemes: &[Lexeme],
-    ) -> Result<(), AllocError> {
-        for lexeme in lexemes {
-            if lexeme.kind == Kind::Name {
-                intern(alloc, &mut self.names, lexeme.text(source))?;
-            }
-        }
-        Ok(())
     }
 
     /// Takes in a rule from its left side.
@@ -129,22 +129,7 @@ impl Survey {
             self.first = Some(*left);
         }
         intern(alloc, &mut self.lefts, left.text(source))?;
-        self.take_body(alloc, source, body)
-    }
-
-    /// Takes in a body.
-    fn take_body(
-        &mut self,
-        alloc: Global,
-        source: &[u8],
-        lexemes: &[Lexeme],
-    ) -> Result<(), AllocError> {
-        for lexeme in lexemes {
-            if lexeme.kind == Kind::Name {
-                intern(alloc, &mut self.used, lexeme.text(source))?;
-            }
-        }
-        Ok(())
+        intern_names(alloc, &mut self.used, source, body)
     }
 
     /// Takes in a list of tokens.

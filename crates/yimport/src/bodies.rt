@@ -40,10 +40,11 @@ struct Place {
     closed: bool,
 }
 
-/// What stands around a lexeme of a body.
+/// A lexeme of a body, with what stands around it.
 #[derive(Clone, Copy)]
 struct Around<'a> {
     before: Option<Kind>,
+    lexeme: &'a Lexeme,
     behind: &'a [Lexeme],
 }
 
@@ -65,7 +66,8 @@ impl Work<'_> {
     }
 
     /// Takes the end out of a body of the start symbol.
-    fn take_end(&mut self, lexeme: &Lexeme, around: Around<'_>) -> Result<(), Trouble> {
+    fn take_end(&mut self, around: Around<'_>) -> Result<(), Trouble> {
+        let lexeme = around.lexeme;
         let (symbols, actions) = counts(around.behind);
         if symbols > 0 || !self.is_of_start() {
             return Err(Refusal::EndElsewhere.at(lexeme));
@@ -93,28 +95,20 @@ impl Work<'_> {
     }
 
     /// Takes in a symbol of a body.
-    fn import_symbol(
-        &mut self,
-        place: &Place,
-        lexeme: &Lexeme,
-        around: Around<'_>,
-    ) -> Result<(), Trouble> {
+    fn import_symbol(&mut self, place: &Place, around: Around<'_>) -> Result<(), Trouble> {
+        let lexeme = around.lexeme;
         if around.before == Some(Kind::Word) && is_same(place.prec, lexeme) {
             self.import_prec_symbol(place, lexeme)
         } else if self.is_end(lexeme) {
-            self.take_end(lexeme, around)
+            self.take_end(around)
         } else {
             self.keep_symbol(lexeme)
         }
     }
 
     /// Takes in `%prec`.
-    fn import_prec(
-        &mut self,
-        place: &mut Place,
-        lexeme: &Lexeme,
-        around: Around<'_>,
-    ) -> Result<(), Trouble> {
+    fn import_prec(&mut self, place: &mut Place, around: Around<'_>) -> Result<(), Trouble> {
+        let lexeme = around.lexeme;
         let Some((symbol, behind)) = around.behind.split_first() else {
             return Err(Refusal::Misplaced.at(lexeme));
         };
@@ -135,14 +129,10 @@ impl Work<'_> {
     }
 
     /// Takes in a percent word of a body.
-    fn import_word(
-        &mut self,
-        place: &mut Place,
-        lexeme: &Lexeme,
-        around: Around<'_>,
-    ) -> Result<(), Trouble> {
+    fn import_word(&mut self, place: &mut Place, around: Around<'_>) -> Result<(), Trouble> {
+        let lexeme = around.lexeme;
         match directive_of(lexeme.text(self.source)) {
-            Directive::Prec => self.import_prec(place, lexeme, around),
+            Directive::Prec => self.import_prec(place, around),
             Directive::Empty => Ok(self.edits.take_out(lexeme, Reason::EmptyWord)?),
             _ if around.is_before(Kind::Number) => {
                 Ok(self.edits.take_out(lexeme, Reason::Expected)?)
@@ -152,26 +142,17 @@ impl Work<'_> {
     }
 
     /// Takes in a sign that stands before an action.
-    fn import_sign(
-        &mut self,
-        lexeme: &Lexeme,
-        around: Around<'_>,
-        reason: Reason,
-    ) -> Result<(), Trouble> {
+    fn import_sign(&mut self, around: Around<'_>, reason: Reason) -> Result<(), Trouble> {
         if !around.is_before(Kind::Braced) {
-            return Err(Refusal::Misplaced.at(lexeme));
+            return Err(Refusal::Misplaced.at(around.lexeme));
         }
-        self.edits.take_out(lexeme, reason)?;
+        self.edits.take_out(around.lexeme, reason)?;
         Ok(())
     }
 
     /// Takes in one lexeme of a body.
-    fn import_part(
-        &mut self,
-        place: &mut Place,
-        lexeme: &Lexeme,
-        around: Around<'_>,
-    ) -> Result<(), Trouble> {
+    fn import_part(&mut self, place: &mut Place, around: Around<'_>) -> Result<(), Trouble> {
+        let lexeme = around.lexeme;
         match lexeme.kind {
             Kind::LineMark => Ok(self.edits.take_out(lexeme, Reason::LineMark)?),
             Kind::Semicolon => {
@@ -179,12 +160,12 @@ impl Work<'_> {
                 Ok(())
             }
             _ if place.closed => Err(Refusal::Misplaced.at(lexeme)),
-            kind if is_symbol(kind) => self.import_symbol(place, lexeme, around),
+            kind if is_symbol(kind) => self.import_symbol(place, around),
             Kind::Braced => Ok(()),
-            Kind::Word => self.import_word(place, lexeme, around),
+            Kind::Word => self.import_word(place, around),
             Kind::Reference => Ok(self.edits.take_out(lexeme, Reason::Reference)?),
-            Kind::Tag => self.import_sign(lexeme, around, Reason::InnerType),
-            Kind::Equals => self.import_sign(lexeme, around, Reason::Equals),
+            Kind::Tag => self.import_sign(around, Reason::InnerType),
+            Kind::Equals => self.import_sign(around, Reason::Equals),
             Kind::Number if around.before == Some(Kind::Word) => Ok(self.edits.remove(lexeme)?),
             Kind::Predicate => Err(Refusal::OtherParser.at(lexeme)),
             _ => Err(Refusal::Misplaced.at(lexeme)),
@@ -216,8 +197,12 @@ impl Work<'_> {
         let mut before = None;
         for (at, lexeme) in body.iter().enumerate() {
             let behind = body.get(at.saturating_add(1)..).unwrap_or(&[]);
-            let around = Around { before, behind };
-            self.import_part(&mut place, lexeme, around)?;
+            let around = Around {
+                before,
+                lexeme,
+                behind,
+            };
+            self.import_part(&mut place, around)?;
             before = Some(lexeme.kind);
         }
         self.put_prec(&place, body)

@@ -126,7 +126,7 @@ impl Reason {
     pub fn text(self) -> &'static str {
         match self {
             Reason::ForItsParser => "it's for the parser that is written",
-            Reason::Expected => "conflicts are counted anew",
+            Reason::Expected => "yacc counts conflicts itself",
             Reason::TablesAsked => "yacc makes LALR(1) tables alone",
             Reason::OldWord => "it's yacc's word for this",
             Reason::Precedence => "yacc has no %precedence, and no cell meets equal levels of it",

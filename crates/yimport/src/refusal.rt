@@ -72,7 +72,7 @@ impl Refusal {
     pub fn text(self) -> &'static str {
         match self {
             Refusal::Flaw(flaw) => flaw_text(flaw),
-            Refusal::UnknownWord => "no directive that is known",
+            Refusal::UnknownWord => "an unknown directive",
             Refusal::OtherParser => "it asks for another kind of parser",
             Refusal::NoDefault => "rules of yacc have a precedence without %prec",
             Refusal::SeveralStarts => "yacc has one start symbol",
@@ -88,7 +88,7 @@ impl Refusal {
                 "it is the end, and without it the action before it would be the rule's last"
             }
             Refusal::SecondPrec => "a rule has one %prec",
-            Refusal::NameTaken => "yacc's names have no dashes, and the one without is taken",
+            Refusal::NameTaken => "yacc's names have no dashes, and the name without them is taken",
         }
     }
 

@@ -103,14 +103,9 @@ pub fn put_equal<W: Write>(
     grammar: &Grammar,
     equal: Equal,
 ) -> io::Result<()> {
-    let Equal {
-        line,
-        state,
-        token,
-        rule,
-    } = equal;
-    let name = Name(grammar, token);
-    let text = RuleText(grammar, rule);
+    let (line, state) = (equal.line, equal.state);
+    let name = Name(grammar, equal.token);
+    let text = RuleText(grammar, equal.rule);
     writeln!(
         out,
         "{path}:{line}: %precedence: refused: {name} and the rule {text} have one level of it, and \

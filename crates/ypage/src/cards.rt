@@ -8,6 +8,7 @@ use std::rt::Files;
 use yconflicts::groups::{Conflicts, Group, Kind};
 use yconflicts::search::Finder;
 use yexplain::lines::Lines;
+use yexplain::why::Question;
 use yfaults::opening::{Opened, open_grammar};
 use yparse::{Session, Tokens};
 use yreports::finding::{ALL_STEPS, Finding, List, Seeker};
@@ -94,15 +95,20 @@ impl Maker<'_> {
             .kind
             .rivals
             .saturating_add(if self.kind.shift { 0 } else { 1 });
-        let (state, token) = (self.group.state, self.kind.token);
+        let cell = Question {
+            tables: self.tables,
+            lines: self.lines,
+            state: self.group.state,
+            token: self.kind.token,
+        };
         Ok(Card {
-            state,
-            token,
+            state: cell.state,
+            token: cell.token,
             states: self.group.states,
             shift: self.kind.shift,
             more: all.saturating_sub(rules.len()),
             rules,
-            why: why_of(self.alloc, self.tables, self.lines, state, token)?,
+            why: why_of(self.alloc, cell)?,
             ways: self.ways(finding)?,
             missing: self.missing(finding)?,
         })

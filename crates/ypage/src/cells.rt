@@ -5,7 +5,7 @@ use std::alloc::{AllocError, Global};
 use std::{io, str};
 use yexplain::cells::survey_at;
 use yexplain::lines::Lines;
-use yexplain::why::explain_rivals;
+use yexplain::why::{Question, explain_rivals};
 use ysymbols::Sym;
 use ytables::Tables;
 
@@ -24,15 +24,9 @@ pub fn text_of(alloc: Global, bytes: &[u8]) -> Result<String, AllocError> {
 }
 
 /// Why the cell of a state and a token says what it says.
-pub fn why_of(
-    alloc: Global,
-    tables: &Tables,
-    lines: &Lines,
-    state: usize,
-    token: Sym,
-) -> io::Result<String> {
+pub fn why_of(alloc: Global, asked: Question<'_>) -> io::Result<String> {
     let mut why = Vec::new(alloc);
-    explain_rivals(&mut why, tables, lines, state, token)?;
+    explain_rivals(&mut why, asked)?;
     Ok(text_of(alloc, &why)?)
 }
 
@@ -46,9 +40,15 @@ pub fn cells_of(
     let mut cells = Vec::new(alloc);
     for (state, token) in asked {
         let survey = survey_at(tables.automaton(), *state, *token);
+        let asked = Question {
+            tables,
+            lines,
+            state: *state,
+            token: *token,
+        };
         let cell = Cell {
             conflicts: survey.conflicts(),
-            why: why_of(alloc, tables, lines, *state, *token)?,
+            why: why_of(alloc, asked)?,
         };
         cells.push(cell).map_err(AllocError::from)?;
     }

@@ -5,7 +5,7 @@ use std::fmt;
 use std::io::{self, Write};
 use yconflicts::groups::{Conflicts, Group};
 use yexplain::lines::Lines;
-use yexplain::why::put_cell;
+use yexplain::why::{Question, put_cell};
 use ytables::Tables;
 
 /// The most kinds that are named.
@@ -68,7 +68,13 @@ pub fn put_named<W: Write>(
     first: usize,
 ) -> io::Result<()> {
     for (kind, group) in found.groups.iter().skip(first).take(MOST_NAMED) {
-        put_cell(out, tables, lines, group.state, kind.token)?;
+        let asked = Question {
+            tables,
+            lines,
+            state: group.state,
+            token: kind.token,
+        };
+        put_cell(out, asked)?;
         put_states(out, *group)?;
     }
     let named = first.saturating_add(MOST_NAMED);

@@ -13,7 +13,7 @@ use yconflicts::groups::{Conflicts, Group, Kind};
 use yconflicts::search::Finder;
 use yexplain::lines::Lines;
 use yexplain::reads::grammar_of;
-use yexplain::why::{explain_rivals, put_cell};
+use yexplain::why::{Question, explain};
 use yfaults::opening::{Opened, open_grammar};
 use yparse::{Session, Tokens};
 use ytables::Tables;
@@ -87,8 +87,13 @@ impl<W: Write, F: Files + AllocGlobal + Clone + Drop> Report<'_, W, F> {
     ) -> io::Result<()> {
         writeln!(self.out)?;
         write!(self.out, "conflict {number}: ")?;
-        put_cell(self.out, tables, self.lines, group.state, kind.token)?;
-        explain_rivals(self.out, tables, self.lines, group.state, kind.token)?;
+        let cell = Question {
+            tables,
+            lines: self.lines,
+            state: group.state,
+            token: kind.token,
+        };
+        explain(self.out, cell)?;
         put_states(self.out, group)
     }
 

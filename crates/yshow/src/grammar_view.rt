@@ -32,27 +32,33 @@ pub fn put_precedence<W: Write>(
     page.put(associativity_word(precedence.kind))
 }
 
-/// The number of a rule, its text, and its line.
-pub fn put_numbered<W: Write>(
-    page: &mut Page<W>,
-    grammar: &Grammar,
-    lines: &Lines,
-    rule: usize,
-) -> io::Result<()> {
-    page.number_to(7, rule)?;
-    write!(page, "  {}", RuleText(grammar, rule))?;
-    if let Some(line) = lines.rule(rule) {
-        page.tab(58)?;
-        write!(page, "line {line}")?;
+/// The rules of a grammar, with their lines in its file.
+#[derive(Clone, Copy)]
+pub struct Rules<'a> {
+    /// The grammar.
+    pub grammar: &'a Grammar,
+    /// The lines.
+    pub lines: &'a Lines,
+}
+
+impl Rules<'_> {
+    /// The number of a rule, its text, and its line.
+    pub fn put<W: Write>(self, page: &mut Page<W>, rule: usize) -> io::Result<()> {
+        page.number_to(7, rule)?;
+        write!(page, "  {}", RuleText(self.grammar, rule))?;
+        if let Some(line) = self.lines.rule(rule) {
+            page.tab(58)?;
+            write!(page, "line {line}")?;
+        }
+        page.end()
     }
-    page.end()
 }
 
 /// Every rule with its number.
 pub fn put_grammar<W: Write>(page: &mut Page<W>, tables: &Tables, lines: &Lines) -> io::Result<()> {
     let grammar = grammar_of(tables);
     for rule in 0..grammar.rules() {
-        put_numbered(page, grammar, lines, rule)?;
+        Rules { grammar, lines }.put(page, rule)?;
     }
     Ok(())
 }

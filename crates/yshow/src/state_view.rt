@@ -28,74 +28,12 @@ fn item_width(grammar: &Grammar, item: Item) -> usize {
     }
 }
 
-/// The lookaheads of an item, at most so many.
-fn put_looks<W: Write>(
-    page: &mut Page<W>,
-    tables: &Tables,
-    state: usize,
-    item: Item,
-    most: usize,
-) -> io::Result<()> {
-    let grammar = grammar_of(tables);
-    let mut count = 0usize;
-    for token in 0..token_count(grammar) {
-        if looks_at(tables.automaton(), state, item, token) {
-            count = count.saturating_add(1);
-            if count > most {
-                return page.put(" ..");
-            }
-            page.word(6, name_of(grammar, token))?;
-        }
-    }
-    Ok(())
-}
-
-/// What an item lets the state do: reduce, shift a token, or nothing by itself.
-fn put_note<W: Write>(
-    page: &mut Page<W>,
-    tables: &Tables,
-    state: usize,
-    item: Item,
-    most: usize,
-) -> io::Result<()> {
-    let grammar = grammar_of(tables);
-    match next_of(grammar, item) {
-        None => {
-            page.put("reduce on")?;
-            put_looks(page, tables, state, item, most)
-        }
-        Some(END) => page.put("accept"),
-        Some(token) if grammar.is_token(token) => {
-            page.put("shift ")?;
-            page.put(name_of(grammar, token))
-        }
-        Some(_) => Ok(()),
-    }
-}
-
 /// Whether an item is complete or has its dot before a token.
 fn is_noted(grammar: &Grammar, item: Item) -> bool {
     match next_of(grammar, item) {
         None => true,
         Some(symbol) => grammar.is_token(symbol),
     }
-}
-
-/// An item and what it lets the state do.
-fn put_noted<W: Write>(
-    page: &mut Page<W>,
-    tables: &Tables,
-    state: usize,
-    item: Item,
-    width: usize,
-    most: usize,
-) -> io::Result<()> {
-    write!(page, "   {}", ItemText(grammar_of(tables), item))?;
-    if is_noted(grammar_of(tables), item) {
-        page.tab(width.saturating_add(5))?;
-        put_note(page, tables, state, item, most)?;
-    }
-    page.end()
 }
 
 /// How much an item matters in a short list.
@@ -110,8 +48,7 @@ enum Rank {
 }
 
 /// How much an item matters.
-fn rank_of(tables: &Tables, item: Item, ahead: Sym) -> Rank {
-    let grammar = grammar_of(tables);
+fn rank_of(grammar: &Grammar, item: Item, ahead: Sym) -> Rank {
     if is_complete(grammar, item) || next_of(grammar, item) == Some(ahead) {
         Rank::First
     } else if item.dot > 0 || item.rule == 0 {
@@ -119,76 +56,6 @@ fn rank_of(tables: &Tables, item: Item, ahead: Sym) -> Rank {
     } else {
         Rank::Third
     }
-}
-
-/// The greatest width of the items that are wanted, at most 64.
-fn widest<F: Fn(Item) -> bool + Drop>(tables: &Tables, state: usize, wanted: F) -> usize
-    requires { F.IsAlwaysCallable wanted }
-{
-    let grammar = grammar_of(tables);
-    let mut width = 0;
-    for item in items_of(tables.automaton(), state) {
-        if wanted(*item) {
-            width = item_width(grammar, *item).min(WIDEST).max(width);
-        }
-    }
-    width
-}
-
-/// The items that matter so much, so many at most; the answer is how many there are.
-fn put_rank<W: Write>(
-    page: &mut Page<W>,
-    tables: &Tables,
-    state: usize,
-    ahead: Sym,
-    rank: Rank,
-    width: usize,
-    most: usize,
-) -> io::Result<usize> {
-    let mut count = 0usize;
-    for item in items_of(tables.automaton(), state) {
-        if rank_of(tables, *item, ahead) == rank {
-            count = count.saturating_add(1);
-            if count <= most {
-                put_noted(page, tables, state, *item, width, SOME_LOOKS)?;
-            }
-        }
-    }
-    Ok(count)
-}
-
-/// The items of a state that are complete or about the token ahead, and then those that have
-/// begun: 12 of them.
-pub fn put_kernel<W: Write>(
-    page: &mut Page<W>,
-    tables: &Tables,
-    state: usize,
-    ahead: Sym,
-) -> io::Result<()> {
-    let width = widest(
-        tables,
-        state,
-        |item| rank_of(tables, item, ahead) != Rank::Third,
-    );
-    let first = put_rank(page, tables, state, ahead, Rank::First, width, FEW)?;
-    let left = FEW.saturating_sub(first);
-    let second = put_rank(page, tables, state, ahead, Rank::Second, width, left)?;
-    let more = first.saturating_add(second).saturating_sub(FEW);
-    if more > 0 {
-        page.put("   .. ")?;
-        page.number(more)?;
-        page.line(" more; state shows them")?;
-    }
-    Ok(())
-}
-
-/// All items of a state.
-fn put_items<W: Write>(page: &mut Page<W>, tables: &Tables, state: usize) -> io::Result<()> {
-    let width = widest(tables, state, |_| true);
-    for item in items_of(tables.automaton(), state) {
-        put_noted(page, tables, state, *item, width, usize::MAX)?;
-    }
-    Ok(())
 }
 
 /// What is done at a token.
@@ -207,100 +74,243 @@ pub fn put_action<W: Write>(page: &mut Page<W>, action: Action) -> io::Result<()
     }
 }
 
-/// The line of a token's action.
-fn put_cell<W: Write>(
-    page: &mut Page<W>,
-    tables: &Tables,
+/// How many items of one rank are wanted, and how wide they are at most.
+#[derive(Clone, Copy)]
+struct Listed {
+    rank: Rank,
+    most: usize,
+    width: usize,
+}
+
+/// A state of tables.
+#[derive(Clone, Copy)]
+struct Shown<'a> {
+    tables: &'a Tables,
     state: usize,
-    token: Sym,
-    action: Action,
-) -> io::Result<()> {
-    page.put("   ")?;
-    page.put(name_of(grammar_of(tables), token))?;
-    page.tab(20)?;
-    put_action(page, action)?;
-    if has_conflict(tables, state, token) {
-        page.painted(Paint::Bad, "  (conflict)")?;
-    }
-    page.end()
 }
 
-/// Whether a cell has a line of its own: what isn't a reduction, and what was settled.
-fn is_apart(tables: &Tables, state: usize, token: Sym, action: Action) -> bool {
-    let survey = survey_at(tables.automaton(), state, token);
-    match action {
-        Action::Shift(_) | Action::Accept => true,
-        Action::Error => survey.rules > 0,
-        Action::Reduce(_) => survey.conflicts() > 0,
+impl<'a> Shown<'a> {
+    fn grammar(self) -> &'a Grammar {
+        grammar_of(self.tables)
     }
-}
 
-/// The actions of a state that have lines of their own, by token.
-fn put_cells<W: Write>(page: &mut Page<W>, tables: &Tables, state: usize) -> io::Result<()> {
-    for token in 0..token_count(grammar_of(tables)) {
-        let action = action_of(tables, state, token);
-        if is_apart(tables, state, token, action) {
-            put_cell(page, tables, state, token, action)?;
-        }
+    fn items(self) -> &'a [Item] {
+        items_of(self.tables.automaton(), self.state)
     }
-    Ok(())
-}
 
-/// The tokens at which a rule is reduced without a conflict, where there are any.
-fn put_reduction<W: Write>(
-    page: &mut Page<W>,
-    tables: &Tables,
-    state: usize,
-    rule: usize,
-) -> io::Result<()> {
-    let mut begun = false;
-    for token in 0..token_count(grammar_of(tables)) {
-        let action = Action::Reduce(rule);
-        if action_of(tables, state, token) == action && !is_apart(tables, state, token, action) {
-            if !begun {
-                begun = true;
-                page.put("   ")?;
-                put_action(page, action)?;
-                page.put(" on")?;
+    /// The lookaheads of an item, at most so many.
+    fn put_looks<W: Write>(self, page: &mut Page<W>, item: Item, most: usize) -> io::Result<()> {
+        let mut count = 0usize;
+        for token in 0..token_count(self.grammar()) {
+            if looks_at(self.tables.automaton(), self.state, item, token) {
+                count = count.saturating_add(1);
+                if count > most {
+                    return page.put(" ..");
+                }
+                page.word(6, name_of(self.grammar(), token))?;
             }
-            page.word(6, name_of(grammar_of(tables), token))?;
+        }
+        Ok(())
+    }
+
+    /// What an item lets the state do: reduce, shift a token, or nothing by itself.
+    fn put_note<W: Write>(self, page: &mut Page<W>, item: Item, most: usize) -> io::Result<()> {
+        let grammar = self.grammar();
+        match next_of(grammar, item) {
+            None => {
+                page.put("reduce on")?;
+                self.put_looks(page, item, most)
+            }
+            Some(END) => page.put("accept"),
+            Some(token) if grammar.is_token(token) => {
+                page.put("shift ")?;
+                page.put(name_of(grammar, token))
+            }
+            Some(_) => Ok(()),
         }
     }
-    if begun {
-        page.end()?;
-    }
-    Ok(())
-}
 
-/// The actions of a state: shifts and what was settled by token, and then reductions by rule; one
-/// line where it reduces at every token.
-fn put_actions<W: Write>(page: &mut Page<W>, tables: &Tables, state: usize) -> io::Result<()> {
-    if let Some(rule) = default_of(tables, state) {
-        page.put("   any token         ")?;
-        put_action(page, Action::Reduce(rule))?;
-        return page.end();
+    /// An item and what it lets the state do.
+    fn put_noted<W: Write>(
+        self,
+        page: &mut Page<W>,
+        item: Item,
+        width: usize,
+        most: usize,
+    ) -> io::Result<()> {
+        write!(page, "   {}", ItemText(self.grammar(), item))?;
+        if is_noted(self.grammar(), item) {
+            page.tab(width.saturating_add(5))?;
+            self.put_note(page, item, most)?;
+        }
+        page.end()
     }
-    put_cells(page, tables, state)?;
-    for item in items_of(tables.automaton(), state) {
-        if is_complete(grammar_of(tables), *item) {
-            put_reduction(page, tables, state, item.rule)?;
+
+    /// The greatest width of the items that are wanted, at most 64.
+    fn widest<F: Fn(Item) -> bool + Drop>(self, wanted: F) -> usize
+        requires { F.IsAlwaysCallable wanted }
+    {
+        let mut width = 0;
+        for item in self.items() {
+            if wanted(*item) {
+                width = item_width(self.grammar(), *item).min(WIDEST).max(width);
+            }
+        }
+        width
+    }
+
+    /// The items that matter so much; the answer is how many there are.
+    fn put_rank<W: Write>(
+        self,
+        page: &mut Page<W>,
+        ahead: Sym,
+        listed: Listed,
+    ) -> io::Result<usize> {
+        let mut count = 0usize;
+        for item in self.items() {
+            if rank_of(self.grammar(), *item, ahead) == listed.rank {
+                count = count.saturating_add(1);
+                if count <= listed.most {
+                    self.put_noted(page, *item, listed.width, SOME_LOOKS)?;
+                }
+            }
+        }
+        Ok(count)
+    }
+
+    /// The items that are complete or about the token ahead, and then those that have begun: 12
+    /// of them. The answer is how many more there are.
+    fn put_ranks<W: Write>(self, page: &mut Page<W>, ahead: Sym) -> io::Result<usize> {
+        let grammar = self.grammar();
+        let first = Listed {
+            rank: Rank::First,
+            most: FEW,
+            width: self.widest(|item| rank_of(grammar, item, ahead) != Rank::Third),
+        };
+        let begun = self.put_rank(page, ahead, first)?;
+        let second = Listed {
+            rank: Rank::Second,
+            most: FEW.saturating_sub(begun),
+            ..first
+        };
+        let count = self.put_rank(page, ahead, second)?;
+        Ok(begun.saturating_add(count).saturating_sub(FEW))
+    }
+
+    /// All items.
+    fn put_items<W: Write>(self, page: &mut Page<W>) -> io::Result<()> {
+        let width = self.widest(|_| true);
+        for item in self.items() {
+            self.put_noted(page, *item, width, usize::MAX)?;
+        }
+        Ok(())
+    }
+
+    /// The line of a token's action.
+    fn put_cell<W: Write>(self, page: &mut Page<W>, token: Sym, action: Action) -> io::Result<()> {
+        page.put("   ")?;
+        page.put(name_of(self.grammar(), token))?;
+        page.tab(20)?;
+        put_action(page, action)?;
+        if has_conflict(self.tables, self.state, token) {
+            page.painted(Paint::Bad, "  (conflict)")?;
+        }
+        page.end()
+    }
+
+    fn action(self, token: Sym) -> Action {
+        action_of(self.tables, self.state, token)
+    }
+
+    /// Whether a cell has a line of its own: what isn't a reduction, and what was settled.
+    fn is_apart(self, token: Sym, action: Action) -> bool {
+        let survey = survey_at(self.tables.automaton(), self.state, token);
+        match action {
+            Action::Shift(_) | Action::Accept => true,
+            Action::Error => survey.rules > 0,
+            Action::Reduce(_) => survey.conflicts() > 0,
         }
     }
-    Ok(())
-}
 
-/// Where the nonterminals lead from a state.
-fn put_gotos<W: Write>(page: &mut Page<W>, tables: &Tables, state: usize) -> io::Result<()> {
-    let grammar = grammar_of(tables);
-    for symbol in token_count(grammar)..grammar.symbols() {
-        if let Some(next) = goto_of(tables.automaton(), state, symbol) {
-            page.put("   ")?;
-            page.put(name_of(grammar, symbol))?;
-            page.tab(20)?;
-            page.put("to state ")?;
-            page.number(next)?;
+    /// The actions that have lines of their own, by token.
+    fn put_cells<W: Write>(self, page: &mut Page<W>) -> io::Result<()> {
+        for token in 0..token_count(self.grammar()) {
+            let action = self.action(token);
+            if self.is_apart(token, action) {
+                self.put_cell(page, token, action)?;
+            }
+        }
+        Ok(())
+    }
+
+    /// The tokens at which a rule is reduced without a conflict, where there are any.
+    fn put_reduction<W: Write>(self, page: &mut Page<W>, rule: usize) -> io::Result<()> {
+        let mut begun = false;
+        let reduction = Action::Reduce(rule);
+        for token in 0..token_count(self.grammar()) {
+            if self.action(token) == reduction && !self.is_apart(token, reduction) {
+                if !begun {
+                    begun = true;
+                    page.put("   ")?;
+                    put_action(page, reduction)?;
+                    page.put(" on")?;
+                }
+                page.word(6, name_of(self.grammar(), token))?;
+            }
+        }
+        if begun {
             page.end()?;
         }
+        Ok(())
+    }
+
+    /// The actions: shifts and what was settled by token, and then reductions by rule; one line
+    /// where the state reduces at every token.
+    fn put_actions<W: Write>(self, page: &mut Page<W>) -> io::Result<()> {
+        if let Some(rule) = default_of(self.tables, self.state) {
+            page.put("   any token         ")?;
+            put_action(page, Action::Reduce(rule))?;
+            return page.end();
+        }
+        self.put_cells(page)?;
+        for item in self.items() {
+            if is_complete(self.grammar(), *item) {
+                self.put_reduction(page, item.rule)?;
+            }
+        }
+        Ok(())
+    }
+
+    /// Where the nonterminals lead.
+    fn put_gotos<W: Write>(self, page: &mut Page<W>) -> io::Result<()> {
+        let grammar = self.grammar();
+        for symbol in token_count(grammar)..grammar.symbols() {
+            if let Some(next) = goto_of(self.tables.automaton(), self.state, symbol) {
+                page.put("   ")?;
+                page.put(name_of(grammar, symbol))?;
+                page.tab(20)?;
+                page.put("to state ")?;
+                page.number(next)?;
+                page.end()?;
+            }
+        }
+        Ok(())
+    }
+}
+
+/// The items of a state that are complete or about the token ahead, and then those that have
+/// begun: 12 of them.
+pub fn put_kernel<W: Write>(
+    page: &mut Page<W>,
+    tables: &Tables,
+    state: usize,
+    ahead: Sym,
+) -> io::Result<()> {
+    let more = Shown { tables, state }.put_ranks(page, ahead)?;
+    if more > 0 {
+        page.put("   .. ")?;
+        page.number(more)?;
+        page.line(" more; state shows them")?;
     }
     Ok(())
 }
@@ -310,7 +320,8 @@ pub fn put_state<W: Write>(page: &mut Page<W>, tables: &Tables, state: usize) ->
     page.put("state ")?;
     page.number(state)?;
     page.end()?;
-    put_items(page, tables, state)?;
-    put_actions(page, tables, state)?;
-    put_gotos(page, tables, state)
+    let shown = Shown { tables, state };
+    shown.put_items(page)?;
+    shown.put_actions(page)?;
+    shown.put_gotos(page)
 }

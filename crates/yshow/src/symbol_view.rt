@@ -1,6 +1,6 @@
 //! A symbol: what it is, where it is defined and used, and what it begins with.
 
-use crate::grammar_view::{put_numbered, put_precedence};
+use crate::grammar_view::{Rules, put_precedence};
 use crate::page::Page;
 use crate::reading::name_of;
 use std::io::{self, Write};
@@ -15,37 +15,27 @@ use ytables::Tables;
 const SOME_RULES: usize = 40;
 
 /// The rules of a nonterminal.
-fn put_rules<W: Write>(
-    page: &mut Page<W>,
-    grammar: &Grammar,
-    lines: &Lines,
-    symbol: Sym,
-) -> io::Result<()> {
+fn put_rules<W: Write>(page: &mut Page<W>, rules: Rules<'_>, symbol: Sym) -> io::Result<()> {
     page.line("defined by")?;
-    for rule in 0..grammar.rules() {
-        if left_of(grammar, rule) == Some(symbol) {
-            put_numbered(page, grammar, lines, rule)?;
+    for rule in 0..rules.grammar.rules() {
+        if left_of(rules.grammar, rule) == Some(symbol) {
+            rules.put(page, rule)?;
         }
     }
     Ok(())
 }
 
 /// The rules whose bodies have a symbol: the first 40 of them.
-fn put_uses<W: Write>(
-    page: &mut Page<W>,
-    grammar: &Grammar,
-    lines: &Lines,
-    symbol: Sym,
-) -> io::Result<()> {
+fn put_uses<W: Write>(page: &mut Page<W>, rules: Rules<'_>, symbol: Sym) -> io::Result<()> {
     page.line("used in")?;
     let mut count = 0usize;
-    for rule in 0..grammar.rules() {
-        if body_of(grammar, rule).contains(&symbol) {
+    for rule in 0..rules.grammar.rules() {
+        if body_of(rules.grammar, rule).contains(&symbol) {
             count = count.saturating_add(1);
             if count > SOME_RULES {
                 return page.line("     ..");
             }
-            put_numbered(page, grammar, lines, rule)?;
+            rules.put(page, rule)?;
         }
     }
     if count == 0 {
@@ -124,14 +114,15 @@ pub fn put_symbol<W: Write>(
     symbol: Sym,
 ) -> io::Result<()> {
     let grammar = grammar_of(tables);
+    let rules = Rules { grammar, lines };
     page.put(name_of(grammar, symbol))?;
     if grammar.is_token(symbol) {
         put_token(page, grammar, symbol)?;
     } else {
         page.line(": a nonterminal")?;
-        put_rules(page, grammar, lines, symbol)?;
+        put_rules(page, rules, symbol)?;
         put_first(page, tables, symbol)?;
     }
     put_mentions(page, lines, symbol)?;
-    put_uses(page, grammar, lines, symbol)
+    put_uses(page, rules, symbol)
 }
