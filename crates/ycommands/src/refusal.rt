@@ -103,7 +103,7 @@ pub fn fault_words(fault: StepFault, mode: Mode) -> &'static str {
     match (fault, mode) {
         (StepFault::Halted, Mode::Accepted) => "The input is accepted: there is no further step.",
         (StepFault::Halted, _) => "The parse has given up: there is no further step.",
-        (StepFault::NoToken, _) => "No token is left.",
+        (StepFault::NoToken, _) => "There is no upcoming token.",
         (StepFault::Limit, _) => "The position is at its limit, 1,000,000.",
         (StepFault::Memory, _) => "There is no memory for one more step or edit.",
     }

@@ -194,7 +194,7 @@ fn put_token<W: Write>(page: &mut Page<W>, session: &Session, index: usize) -> i
 pub fn put_upcoming<W: Write>(page: &mut Page<W>, session: &Session) -> io::Result<()> {
     let len = session.view().rest_len();
     if len == 0 {
-        return page.line("No token is left.");
+        return page.line("There is no upcoming token.");
     }
     for index in 0..len.min(MANY) {
         put_token(page, session, index)?;
