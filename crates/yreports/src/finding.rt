@@ -128,10 +128,16 @@ impl Seeker<'_> {
             long: false,
             late: false,
         };
-        for rule in kind.others() {
-            self.find_pair(kind, group, *rule, &mut finding)?;
-        }
+        self.find_each(kind, group, &mut finding)?;
         Ok(finding)
+    }
+
+    /// The lists for what is taken and each other rule that is shown.
+    fn find_each(&mut self, kind: &Kind, group: Group, finding: &mut Finding) -> io::Result<()> {
+        for rule in kind.others() {
+            self.find_pair(kind, group, *rule, finding)?;
+        }
+        Ok(())
     }
 
     /// The list for what is taken and a rule, or else a list for each.
@@ -215,23 +221,29 @@ impl Seeker<'_> {
 
     /// A list, tried.
     fn tried(&mut self, goal: Goal, tokens: Vec<Sym>) -> io::Result<List> {
-        let most = allowance(self.steps, MOST_STEPS);
-        let (trial, steps) = self.trial(goal, &tokens, most)?;
-        self.steps = self.steps.saturating_sub(steps);
-        let mut rules = Vec::new(self.alloc);
-        rules.push(goal.rule).map_err(AllocError::from)?;
         let mut list = List {
             allows: goal.allows,
-            rules,
+            rules: Vec::new(self.alloc),
             tokens,
-            trial,
+            trial: Trial::Missed,
             other: None,
             tried: 0,
         };
-        if trial.is_missed() {
-            self.try_others(goal, &mut list)?;
-        }
+        self.try_first(goal, &mut list)?;
         Ok(list)
+    }
+
+    /// Tries a list, and others where its parse misses the state.
+    fn try_first(&mut self, goal: Goal, list: &mut List) -> io::Result<()> {
+        list.rules.push(goal.rule).map_err(AllocError::from)?;
+        let most = allowance(self.steps, MOST_STEPS);
+        let (trial, steps) = self.trial(goal, &list.tokens, most)?;
+        self.steps = self.steps.saturating_sub(steps);
+        list.trial = trial;
+        if trial.is_missed() {
+            self.try_others(goal, list)?;
+        }
+        Ok(())
     }
 
     /// What a parse over tokens comes to in so many steps, and in how many it does.

@@ -5,6 +5,7 @@ use crate::finding::{ALL_STEPS, Finding, Seeker, file_tokens};
 use crate::kinds::{Count, put_counts, put_named, put_states};
 use crate::list_text::{ListText, put_unfound};
 use crate::saving::Folder;
+use crate::trial::bare_session;
 use crate::warnings::put_warnings;
 use std::alloc::Global;
 use std::io::{self, Write};
@@ -15,7 +16,7 @@ use yexplain::lines::Lines;
 use yexplain::reads::grammar_of;
 use yexplain::why::{Question, explain};
 use yfaults::opening::{Opened, open_grammar};
-use yparse::{Session, Tokens};
+use yparse::Session;
 use ytables::Tables;
 
 /// The most kinds for which lists are made.
@@ -243,13 +244,7 @@ pub fn put_conflicts<W: Write, E: Write, F: Files + AllocGlobal + Clone + Drop>(
     opened: Opened,
 ) -> io::Result<u8> {
     let Opened { tables, lines } = opened;
-    let tokens = Tokens {
-        symbols: Vec::new(rt.alloc()),
-    };
-    if !tokens.fits(&tables) {
-        return Ok(3);
-    }
-    let mut session = Session::new(rt.alloc(), tables, tokens);
+    let mut session = bare_session(rt.alloc(), tables);
     put_all(rt, out, errors, asked, &mut session, &lines)
 }
 

@@ -40,10 +40,16 @@ impl Done {
             by_rule: vec![in alloc; false; grammar.rules()]?,
             ready: Vec::new(alloc),
         };
-        for state in 0..tables.automaton().states() {
-            done.look_at(tables, state)?;
-        }
+        done.look_at_all(tables)?;
         Ok(done)
+    }
+
+    /// Notes what is done in the cells of all states.
+    fn look_at_all(&mut self, tables: &Tables) -> Result<(), AllocError> {
+        for state in 0..tables.automaton().states() {
+            self.look_at(tables, state)?;
+        }
+        Ok(())
     }
 
     /// Notes what is done in the cells of a state.
