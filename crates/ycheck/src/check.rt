@@ -7,7 +7,7 @@ use std::io::{self, ErrorKind, Read, Write};
 use std::rt::Files;
 use yexplain::reads::grammar_of;
 use yexplain::text::{Name, Names};
-use yfaults::opening::{open_grammar, put_near_token, put_token_fault};
+use yfaults::opening::{put_near_token, put_token_fault};
 use ylalr::END;
 use yparse::{TokenFault, Tokens, Verdict, judge, read_tokens};
 use ysymbols::{Grammar, Sym};
@@ -63,8 +63,8 @@ struct Judge<'a> {
     tables: &'a Tables,
 }
 
-/// All bytes of a tokens file, or of standard input.
-fn bytes_of<F: Files + AllocGlobal, R: Read>(
+/// All bytes of a file, or of standard input where the path is a dash.
+pub fn bytes_of<F: Files + AllocGlobal, R: Read>(
     rt: &F,
     input: &mut R,
     path: &str,
@@ -211,21 +211,21 @@ impl Judge<'_> {
         let states = states_after(self.alloc, self.tables, before)?;
         expected(self.alloc, self.tables, &states)
     }
+}
 
-    /// Writes whether the grammar has choices.
-    fn put_choice<W: Write>(self, out: &mut W, path: &str) -> io::Result<()> {
-        if self.tables.choice_free() {
-            writeln!(
-                out,
-                "{path}: no cell has a choice, so the answers are those of the grammar's language"
-            )
-        } else {
-            writeln!(
-                out,
-                "{path}: cells have choices, so a list that is bad here may be in the grammar's \
-                 language"
-            )
-        }
+/// Writes whether the grammar has choices.
+pub fn put_choice<W: Write>(out: &mut W, tables: &Tables, path: &str) -> io::Result<()> {
+    if tables.choice_free() {
+        writeln!(
+            out,
+            "{path}: no cell has a choice, so the answers are those of the grammar's language"
+        )
+    } else {
+        writeln!(
+            out,
+            "{path}: cells have choices, so a list that is bad here may be in the grammar's \
+             language"
+        )
     }
 }
 
@@ -248,26 +248,21 @@ fn put_all<F: Files + AllocGlobal, R: Read, W: Write>(
     Ok(status)
 }
 
-/// Writes what is asked for, and gives the exit status: 0 where all files are accepted, 1 where
-/// the grammar or a tokens file is refused or one isn't accepted, 3 where one can't be read, or
-/// where memory runs out. Faults of the grammar file go to `errors`.
-pub fn run_check<F: Files + AllocGlobal, R: Read, W: Write, E: Write>(
+/// Writes what is asked for, and gives the exit status: 0 where all files are accepted, 1 where a
+/// tokens file is refused or one isn't accepted, 3 where one can't be read, or where memory runs out.
+pub fn run_check<F: Files + AllocGlobal, R: Read, W: Write>(
     rt: &F,
     asked: Check<'_>,
+    tables: &Tables,
     input: &mut R,
     out: &mut W,
-    errors: &mut E,
 ) -> io::Result<u8> {
-    let opened = match open_grammar(rt, asked.grammar, errors)? {
-        Ok(opened) => opened,
-        Err(status) => return Ok(status),
-    };
     let judge = Judge {
         alloc: rt.alloc(),
-        tables: &opened.tables,
+        tables,
     };
     if asked.choice {
-        judge.put_choice(out, asked.grammar)?;
+        put_choice(out, tables, asked.grammar)?;
     }
     put_all(rt, input, out, judge, asked.tokens)
 }

@@ -10,25 +10,33 @@ use std::alloc::{AllocError, Global};
 use std::env;
 use std::io::{self, BufWriter, IsTerminal, Write};
 use std::process::ExitCode;
-use ycheck::check::{Check, run_check};
-use ydebugger::{Setting, debug, parse_of};
+use ydebugger::{Opens, Setting, debug};
 use yimported::run::{Asked as Import, run_import};
 use ypage::page::{self, run_page};
 use ypage::walk::Part;
-use yreports::report::{Asked, run_conflicts};
+use yreports::report::{Asked, put_conflicts};
+use ysources::check::{self, check_inputs};
+use ysources::grammars::{GrammarFile, open_file};
+use ysources::sketch::run_sketch;
+use ysources::source::Source;
+use ysources::tokens::run_tokens;
 
 /// The forms of the command line.
 const FORMS: &str = "Other forms:\n\
     \x20 ydebug conflicts grammar [--save FOLDER] [--strict]\n\
-    \x20 ydebug check grammar tokens.. [--choice]\n\
-    \x20 ydebug page grammar tokens [-o FILE] [--from K] [--to K] [--conflicts]\n\
-    \x20 ydebug import file [-o grammar]";
+    \x20 ydebug check grammar tokens.. [--lex SPEC] [--choice]\n\
+    \x20 ydebug page grammar tokens [--lex SPEC] [-o FILE] [--from K] [--to K] [--conflicts]\n\
+    \x20 ydebug import file [-o grammar]\n\
+    \x20 ydebug tokens grammar --lex SPEC input\n\
+    \x20 ydebug lex-spec grammar";
 /// What is written where the words are not those of the program.
-const USAGE: &[u8] = b"usage: ydebug grammar tokens\n\
+const USAGE: &[u8] = b"usage: ydebug grammar tokens [--lex SPEC] [--from bison]\n\
     \x20      ydebug conflicts grammar [--save FOLDER] [--strict]\n\
-    \x20      ydebug check grammar tokens.. [--choice]\n\
-    \x20      ydebug page grammar tokens [-o FILE] [--from K] [--to K] [--conflicts]\n\
-    \x20      ydebug import file [-o grammar]\n";
+    \x20      ydebug check grammar tokens.. [--lex SPEC] [--choice]\n\
+    \x20      ydebug page grammar tokens [--lex SPEC] [-o FILE] [--from K] [--to K] [--conflicts]\n\
+    \x20      ydebug import file [-o grammar]\n\
+    \x20      ydebug tokens grammar --lex SPEC input\n\
+    \x20      ydebug lex-spec grammar\n";
 
 /// Why nothing was done.
 #[derive(Drop)]
@@ -74,13 +82,41 @@ fn flag<'a>(alloc: Global, name: &'a str, help: &'a str) -> Arg<'a> {
         .help(help)
 }
 
+/// An option with a value behind two dashes.
+fn option<'a>(alloc: Global, name: &'a str, help: &'a str) -> Arg<'a> {
+    Arg::new(alloc, name)
+        .long(name)
+        .action(ArgAction::Set)
+        .help(help)
+}
+
+/// The option for files of bison.
+fn from_option<'a>(alloc: Global) -> Arg<'a> {
+    option(
+        alloc,
+        "from",
+        "bison: the grammar is a file of bison or byacc",
+    )
+}
+
+/// The option for texts.
+fn lex_option<'a>(alloc: Global) -> Arg<'a> {
+    option(
+        alloc,
+        "lex",
+        "The file that says how the tokens of a text look",
+    )
+}
+
 /// The command line of a session.
 fn debug_command<'a>(alloc: Global) -> Result<Command<'a>, AllocError> {
     Command::new(alloc, "ydebug")
         .about("Steps a parse forward and back for a person at a terminal")
         .after_help(FORMS)
         .arg(file_argument(alloc, "grammar", "The grammar file"))?
-        .arg(file_argument(alloc, "tokens", "The tokens file"))
+        .arg(file_argument(alloc, "tokens", "The tokens file"))?
+        .arg(lex_option(alloc))?
+        .arg(from_option(alloc))
 }
 
 /// The command line of the report on conflicts.
@@ -93,6 +129,7 @@ fn conflicts_command<'a>(alloc: Global) -> Result<Command<'a>, AllocError> {
         .about("Explains the conflicts of a grammar, and warns of what it has in vain")
         .arg(file_argument(alloc, "grammar", "The grammar file"))?
         .arg(save)?
+        .arg(from_option(alloc))?
         .arg(flag(
             alloc,
             "strict",
@@ -107,19 +144,13 @@ fn check_command<'a>(alloc: Global) -> Result<Command<'a>, AllocError> {
         .about("Says of each tokens file whether it is a sentence of a grammar")
         .arg(file_argument(alloc, "grammar", "The grammar file"))?
         .arg(tokens.num_args(1..))?
+        .arg(lex_option(alloc))?
+        .arg(from_option(alloc))?
         .arg(flag(
             alloc,
             "choice",
             "Says whether the grammar is free of choices",
         ))
-}
-
-/// An option with a value behind two dashes.
-fn option<'a>(alloc: Global, name: &'a str, help: &'a str) -> Arg<'a> {
-    Arg::new(alloc, name)
-        .long(name)
-        .action(ArgAction::Set)
-        .help(help)
 }
 
 /// The command line of a page.
@@ -128,14 +159,38 @@ fn page_command<'a>(alloc: Global) -> Result<Command<'a>, AllocError> {
         .short('o')
         .action(ArgAction::Set)
         .help("The file that the page goes to; without it, standard output");
+    let from = option(
+        alloc,
+        "from",
+        "The first position that it shows; bison: as elsewhere",
+    );
     Command::new(alloc, "ydebug page")
         .about("Makes a page in HTML of a parse, to be looked at in a browser")
         .arg(file_argument(alloc, "grammar", "The grammar file"))?
         .arg(file_argument(alloc, "tokens", "The tokens file"))?
         .arg(file)?
-        .arg(option(alloc, "from", "The first position that it shows"))?
+        .arg(lex_option(alloc))?
+        .arg(from.action(ArgAction::Append))?
         .arg(option(alloc, "to", "The last position that it shows"))?
         .arg(flag(alloc, "conflicts", "Shows the conflicts of the grammar too"))
+}
+
+/// The command line of tokens.
+fn tokens_command<'a>(alloc: Global) -> Result<Command<'a>, AllocError> {
+    Command::new(alloc, "ydebug tokens")
+        .about("Writes the tokens of a text as a tokens file")
+        .arg(file_argument(alloc, "grammar", "The grammar file"))?
+        .arg(file_argument(alloc, "tokens", "The text"))?
+        .arg(lex_option(alloc).required(true))?
+        .arg(from_option(alloc))
+}
+
+/// The command line of a sketch.
+fn sketch_command<'a>(alloc: Global) -> Result<Command<'a>, AllocError> {
+    Command::new(alloc, "ydebug lex-spec")
+        .about("Sketches the file that says how the tokens of a text look")
+        .arg(file_argument(alloc, "grammar", "The grammar file"))?
+        .arg(from_option(alloc))
 }
 
 /// The command line of an import.
@@ -184,20 +239,63 @@ fn is_given(matches: &ArgMatches<'_>, name: &str) -> bool {
     matches.get_str(name) == Some("true")
 }
 
+/// The grammar file, and whether it is one of bison.
+fn grammar_in<'a>(matches: &ArgMatches<'a>) -> Result<GrammarFile<'a>, Refused> {
+    let path = value_of(matches, "grammar")?;
+    match matches.get_str("from") {
+        None => Ok(GrammarFile { path, bison: false }),
+        Some("bison") => Ok(GrammarFile { path, bison: true }),
+        Some(_) => Err(Refused::Words),
+    }
+}
+
+/// The number that a word is.
+fn number_in(word: &str) -> Result<usize, Refused> {
+    word.parse::<usize>().map_err(|_| Refused::Words)
+}
+
+/// The number that an option gives, where it is given.
+fn number_of(matches: &ArgMatches<'_>, name: &str) -> Result<Option<usize>, Refused> {
+    match matches.get_str(name) {
+        Some(word) => number_in(word).map(Some),
+        None => Ok(None),
+    }
+}
+
+/// What stands behind each `--from` of a page: `bison`, and a first position, each once at most.
+fn page_from(words: &[&str]) -> Result<(bool, usize), Refused> {
+    match words {
+        [] => Ok((false, 0)),
+        ["bison"] => Ok((true, 0)),
+        ["bison", number] | [number, "bison"] => Ok((true, number_in(number)?)),
+        [number] => Ok((false, number_in(number)?)),
+        _ => Err(Refused::Words),
+    }
+}
+
+/// Opens a grammar and reports on its conflicts.
+fn report_on(rt: &HostRuntime, file: GrammarFile<'_>, asked: Asked<'_>) -> io::Result<u8> {
+    let mut writer = BufWriter::new(rt.alloc(), rt.stdout())?;
+    let status = match open_file(rt, file, &mut rt.stderr())? {
+        Ok(opened) => put_conflicts(rt, &mut writer, &mut rt.stderr(), asked, opened)?,
+        Err(status) => status,
+    };
+    writer.flush()?;
+    Ok(status)
+}
+
 /// A report on conflicts. The words begin with the subcommand.
 fn report(rt: &HostRuntime, words: &[&str]) -> Result<u8, Refused> {
     let alloc = rt.alloc();
     let words = named(alloc, "ydebug conflicts", words)?;
     let matches = matches_by(alloc, conflicts_command(alloc), &words)?;
+    let file = grammar_in(&matches)?;
     let asked = Asked {
-        grammar: value_of(&matches, "grammar")?,
+        grammar: file.path,
         save: matches.get_str("save"),
         strict: is_given(&matches, "strict"),
     };
-    let mut writer = BufWriter::new(alloc, rt.stdout())?;
-    let status = run_conflicts(rt, asked, &mut writer, &mut rt.stderr())?;
-    writer.flush()?;
-    Ok(status)
+    Ok(report_on(rt, file, asked)?)
 }
 
 /// Verdicts on tokens files. The words begin with the subcommand.
@@ -205,26 +303,16 @@ fn check(rt: &HostRuntime, words: &[&str]) -> Result<u8, Refused> {
     let alloc = rt.alloc();
     let words = named(alloc, "ydebug check", words)?;
     let matches = matches_by(alloc, check_command(alloc), &words)?;
-    let asked = Check {
-        grammar: value_of(&matches, "grammar")?,
-        tokens: matches.get_strs("tokens").unwrap_or(&[]),
+    let asked = check::Asked {
+        grammar: grammar_in(&matches)?,
+        inputs: matches.get_strs("tokens").unwrap_or(&[]),
+        spec: matches.get_str("lex"),
         choice: is_given(&matches, "choice"),
     };
     let mut writer = BufWriter::new(alloc, rt.stdout())?;
-    let status = run_check(rt, asked, &mut rt.stdin(), &mut writer, &mut rt.stderr())?;
+    let status = check_inputs(rt, asked, (&mut rt.stdin(), &mut writer), &mut rt.stderr())?;
     writer.flush()?;
     Ok(status)
-}
-
-/// The number that an option gives, where it is given.
-fn number_of(matches: &ArgMatches<'_>, name: &str) -> Result<Option<usize>, Refused> {
-    match matches.get_str(name) {
-        Some(word) => match word.parse::<usize>() {
-            Ok(number) => Ok(Some(number)),
-            Err(_) => Err(Refused::Words),
-        },
-        None => Ok(None),
-    }
 }
 
 /// A page of a parse. The words begin with the subcommand.
@@ -232,18 +320,26 @@ fn page(rt: &HostRuntime, words: &[&str]) -> Result<u8, Refused> {
     let alloc = rt.alloc();
     let words = named(alloc, "ydebug page", words)?;
     let matches = matches_by(alloc, page_command(alloc), &words)?;
+    let (bison, from) = page_from(matches.get_strs("from").unwrap_or(&[]))?;
+    let path = value_of(&matches, "grammar")?;
+    let source = Source {
+        rt,
+        grammar: GrammarFile { path, bison },
+        input: value_of(&matches, "tokens")?,
+        spec: matches.get_str("lex"),
+    };
     let asked = page::Asked {
-        grammar: value_of(&matches, "grammar")?,
-        tokens: value_of(&matches, "tokens")?,
+        grammar: path,
+        tokens: source.input,
         file: matches.get_str("file"),
         part: Part {
-            from: number_of(&matches, "from")?.unwrap_or(0),
+            from,
             to: number_of(&matches, "to")?,
         },
         conflicts: is_given(&matches, "conflicts"),
     };
     let mut writer = BufWriter::new(alloc, rt.stdout())?;
-    let status = run_page(rt, asked, &mut writer, &mut rt.stderr())?;
+    let status = run_page(rt, &source, asked, &mut writer, &mut rt.stderr())?;
     writer.flush()?;
     Ok(status)
 }
@@ -280,11 +376,9 @@ fn is_dumb(rt: &HostRuntime) -> bool {
 }
 
 /// Where a session takes place.
-fn setting_of<'a>(rt: &HostRuntime, grammar: &'a str, tokens: &'a str) -> Setting<'a> {
+fn setting_of(rt: &HostRuntime) -> Setting {
     let shown = rt.stdout().is_terminal();
     Setting {
-        grammar,
-        tokens,
         terminal: shown && rt.stdin().is_terminal(),
         colour: shown && !is_set(rt, "NO_COLOR") && !is_dumb(rt),
     }
@@ -293,17 +387,45 @@ fn setting_of<'a>(rt: &HostRuntime, grammar: &'a str, tokens: &'a str) -> Settin
 /// A session with the standard streams.
 fn debug_files(rt: &HostRuntime, words: &[&str]) -> Result<u8, Refused> {
     let matches = matches_by(rt.alloc(), debug_command(rt.alloc()), words)?;
-    let grammar = value_of(&matches, "grammar")?;
-    let tokens = value_of(&matches, "tokens")?;
+    let source = Source {
+        rt,
+        grammar: grammar_in(&matches)?,
+        input: value_of(&matches, "tokens")?,
+        spec: matches.get_str("lex"),
+    };
     let writer = BufWriter::new(rt.alloc(), rt.stdout())?;
-    match parse_of(rt, grammar, tokens, &mut rt.stderr())? {
+    match source.open(&mut rt.stderr())? {
         Ok(parse) => {
-            let setting = setting_of(rt, grammar, tokens);
-            let ended = debug(rt, setting, parse, rt.stdin(), writer);
+            let ended = debug(rt, &source, setting_of(rt), parse, rt.stdin(), writer);
             ended.map(|()| 0).map_err(Refused::from)
         }
         Err(status) => Ok(status),
     }
+}
+
+/// The tokens of a text. The words begin with the subcommand.
+fn tokens(rt: &HostRuntime, words: &[&str]) -> Result<u8, Refused> {
+    let alloc = rt.alloc();
+    let words = named(alloc, "ydebug tokens", words)?;
+    let matches = matches_by(alloc, tokens_command(alloc), &words)?;
+    let file = grammar_in(&matches)?;
+    let paths = (value_of(&matches, "lex")?, value_of(&matches, "tokens")?);
+    let mut writer = BufWriter::new(alloc, rt.stdout())?;
+    let status = run_tokens(rt, file, paths, &mut writer, &mut rt.stderr())?;
+    writer.flush()?;
+    Ok(status)
+}
+
+/// A sketch of how tokens look. The words begin with the subcommand.
+fn sketch(rt: &HostRuntime, words: &[&str]) -> Result<u8, Refused> {
+    let alloc = rt.alloc();
+    let words = named(alloc, "ydebug lex-spec", words)?;
+    let matches = matches_by(alloc, sketch_command(alloc), &words)?;
+    let file = grammar_in(&matches)?;
+    let mut writer = BufWriter::new(alloc, rt.stdout())?;
+    let status = run_sketch(rt, file, &mut writer, &mut rt.stderr())?;
+    writer.flush()?;
+    Ok(status)
 }
 
 /// Does what the words ask for, and gives the exit status. The first word is the program's name.
@@ -313,6 +435,8 @@ fn obey(rt: &HostRuntime, words: &[&str]) -> Result<u8, Refused> {
         [_, rest @ ..] if rest.first() == Some(&"check") => check(rt, rest),
         [_, rest @ ..] if rest.first() == Some(&"page") => page(rt, rest),
         [_, rest @ ..] if rest.first() == Some(&"import") => import(rt, rest),
+        [_, rest @ ..] if rest.first() == Some(&"tokens") => tokens(rt, rest),
+        [_, rest @ ..] if rest.first() == Some(&"lex-spec") => sketch(rt, rest),
         _ => debug_files(rt, words),
     }
 }

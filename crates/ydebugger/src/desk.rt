@@ -7,6 +7,8 @@ use crate::help::{put_command, put_commands};
 use crate::moves::{LAST, Move, make_move};
 use crate::parse::Parse;
 use crate::reload::reload;
+use crate::start::Opens;
+use crate::text::{put_ahead, put_upcoming_texts};
 use crate::views::{
     refuse_name, show_derivation, show_history, show_rule, show_state, show_symbol, show_tree,
     show_why,
@@ -26,13 +28,9 @@ use yshow::place_view::{put_stack, put_upcoming, put_where};
 use yshow::reading::{last_rule, states_of};
 use yshow::{Page, Paint};
 
-/// Where a session takes place: its files, and whether a person sits at a terminal.
+/// Where a session takes place: whether a person sits at a terminal.
 #[derive(Clone, Copy)]
-pub struct Setting<'a> {
-    /// The path of the grammar file.
-    pub grammar: &'a str,
-    /// The path of the tokens file.
-    pub tokens: &'a str,
+pub struct Setting {
     /// Whether standard input and output are a terminal.
     pub terminal: bool,
     /// Whether to write in colour.
@@ -48,9 +46,10 @@ enum Flow {
 
 /// A session with a person.
 #[derive(Drop)]
-struct Desk<'a, F> {
+struct Desk<'a, F, S> {
     rt: &'a F,
-    setting: Setting<'a>,
+    source: &'a S,
+    setting: Setting,
     parse: Parse,
     last: Option<Move>,
 }
@@ -152,7 +151,7 @@ fn show_help<W: Write>(alloc: Global, page: &mut Page<W>, text: &str) -> io::Res
     }
 }
 
-impl<'a, F: Files + AllocGlobal> Desk<'a, F> {
+impl<'a, F: Files + AllocGlobal, S: Opens> Desk<'a, F, S> {
     /// Makes a move, which an empty line then repeats.
     fn go<W: Write>(&mut self, page: &mut Page<W>, wanted: Move) -> io::Result<()> {
         self.last = Some(wanted);
@@ -195,11 +194,15 @@ impl<'a, F: Files + AllocGlobal> Desk<'a, F> {
         let parse = &self.parse;
         match verb {
             Verb::Stack => put_stack(page, parse.session()),
+            Verb::Upcoming if parse.text().is_some() => put_upcoming_texts(page, parse),
             Verb::Upcoming => put_upcoming(page, parse.session()),
             Verb::Expected => put_expected(self.rt.alloc(), page, parse.session()),
             Verb::Grammar => put_grammar(page, parse.tables(), parse.lines()),
             Verb::Conflicts => put_conflicts(self.rt.alloc(), page, parse),
-            _ => put_where(page, parse.session(), parse.tokens()),
+            _ => {
+                put_where(page, parse.session(), parse.tokens())?;
+                put_ahead(page, parse)
+            }
         }
     }
 
@@ -227,13 +230,7 @@ impl<'a, F: Files + AllocGlobal> Desk<'a, F> {
             return put_refusal(page, misused(Verb::Reload));
         }
         self.last = None;
-        reload(
-            self.rt,
-            page,
-            &mut self.parse,
-            self.setting.grammar,
-            self.setting.tokens,
-        )
+        reload(page, &mut self.parse, self.source)
     }
 
     /// Does what a command and the words behind it say.
@@ -337,8 +334,8 @@ impl<'a, F: Files + AllocGlobal> Desk<'a, F> {
 }
 
 /// Greets, and answers lines up to `quit` or the end of the input.
-fn turns<F: Files + AllocGlobal, R: Read, W: Write>(
-    desk: &mut Desk<'_, F>,
+fn turns<F: Files + AllocGlobal, S: Opens, R: Read, W: Write>(
+    desk: &mut Desk<'_, F, S>,
     page: &mut Page<W>,
     reader: &mut BufReader<R>,
     line: &mut Vec<u8>,
@@ -353,8 +350,8 @@ fn turns<F: Files + AllocGlobal, R: Read, W: Write>(
 }
 
 /// Makes room for lines, and answers them.
-fn serve_all<F: Files + AllocGlobal, R: Read + Drop, W: Write>(
-    desk: &mut Desk<'_, F>,
+fn serve_all<F: Files + AllocGlobal, S: Opens, R: Read + Drop, W: Write>(
+    desk: &mut Desk<'_, F, S>,
     page: &mut Page<W>,
     reader: R,
 ) -> io::Result<()> {
@@ -368,9 +365,10 @@ fn serve_all<F: Files + AllocGlobal, R: Read + Drop, W: Write>(
 /// `quit` or the end of the input.
 ///
 /// An error is that of the reader or of the writer, or memory ran out before the first line.
-pub fn debug<F: Files + AllocGlobal, R: Read + Drop, W: Write + Drop>(
+pub fn debug<F: Files + AllocGlobal, S: Opens, R: Read + Drop, W: Write + Drop>(
     rt: &F,
-    setting: Setting<'_>,
+    source: &S,
+    setting: Setting,
     parse: Parse,
     reader: R,
     writer: W,
@@ -378,6 +376,7 @@ pub fn debug<F: Files + AllocGlobal, R: Read + Drop, W: Write + Drop>(
     let mut page = Page::new(writer, setting.colour);
     let mut desk = Desk {
         rt,
+        source,
         setting,
         parse,
         last: None,

@@ -2,6 +2,7 @@
 
 use crate::parse::Parse;
 use crate::tail::Tail;
+use crate::text::put_ahead;
 use std::alloc::{AllocError, Global};
 use std::io::{self, Write};
 use ycommands::condition::{Condition, put_cell};
@@ -262,5 +263,9 @@ pub fn make_move<W: Write>(
     progress: bool,
 ) -> io::Result<()> {
     let mut telling = Telling::new(alloc, tells_each(wanted), progress)?;
-    make_told(parse, page, &mut telling, wanted)
+    make_told(parse, page, &mut telling, wanted)?;
+    if tells_each(wanted) {
+        return Ok(());
+    }
+    put_ahead(page, parse)
 }

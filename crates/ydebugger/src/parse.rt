@@ -1,5 +1,6 @@
 //! A session with the kinds of its steps and edits.
 
+use crate::source::Text;
 use std::alloc::Global;
 use yexplain::lines::Lines;
 use yparse::Session;
@@ -14,6 +15,7 @@ pub struct Parse {
     lines: Lines,
     past: Vec<StepKind>,
     tokens: usize,
+    text: Option<Text>,
 }
 
 impl Parse {
@@ -24,7 +26,18 @@ impl Parse {
             lines,
             past: Vec::new(alloc),
             tokens,
+            text: None,
         }
+    }
+
+    /// Keeps the text that the tokens were read from.
+    pub fn keep_text(&mut self, text: Text) {
+        self.text = Some(text);
+    }
+
+    /// The text that the tokens were read from, where it was one.
+    pub fn text(&self) -> Option<&Text> {
+        self.text.as_ref()
     }
 
     /// The session.

@@ -174,6 +174,23 @@ pub fn put_near_token<W: Write>(
     }
 }
 
+/// Opens the grammar file of these bytes. Where it is refused, that is written, and the exit status
+/// is the answer.
+pub fn open_text<W: Write>(
+    alloc: Global,
+    path: &str,
+    source: &[u8],
+    errors: &mut W,
+) -> io::Result<Result<Opened, u8>> {
+    match open_bytes(alloc, source) {
+        Ok(opened) => Ok(Ok(opened)),
+        Err(trouble) => {
+            put_trouble(errors, alloc, path, source, &trouble)?;
+            Ok(Err(trouble.status()))
+        }
+    }
+}
+
 /// Opens a grammar file. Where it is refused, that is written, and the exit status is the answer.
 pub fn open_grammar<F: Files + AllocGlobal, W: Write>(
     rt: &F,
@@ -184,11 +201,5 @@ pub fn open_grammar<F: Files + AllocGlobal, W: Write>(
         Ok(source) => source,
         Err(error) => return Ok(Err(put_unread(errors, path, &error)?)),
     };
-    match open_bytes(rt.alloc(), &source) {
-        Ok(opened) => Ok(Ok(opened)),
-        Err(trouble) => {
-            put_trouble(errors, rt.alloc(), path, &source, &trouble)?;
-            Ok(Err(trouble.status()))
-        }
-    }
+    open_text(rt.alloc(), path, &source, errors)
 }

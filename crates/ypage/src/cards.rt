@@ -7,8 +7,9 @@ use std::io::{self, ErrorKind, Write};
 use std::rt::Files;
 use yconflicts::groups::{Conflicts, Group, Kind};
 use yconflicts::search::Finder;
+use ydebugger::Opens;
 use yexplain::lines::Lines;
-use yfaults::opening::{Opened, open_grammar};
+use yfaults::opening::Opened;
 use yparse::{Session, Tokens};
 use yreports::finding::{ALL_STEPS, Finding, List, Seeker};
 use yreports::list_text::{ListText, put_unfound};
@@ -164,12 +165,12 @@ fn cards_in(alloc: Global, opened: Opened) -> io::Result<Cards> {
 
 /// The cards of a grammar file. Where it is refused, that is written, and the exit status is the
 /// answer.
-pub fn open_cards<F: Files + AllocGlobal, E: Write>(
+pub fn open_cards<F: Files + AllocGlobal, S: Opens, E: Write>(
     rt: &F,
-    path: &str,
+    source: &S,
     errors: &mut E,
 ) -> io::Result<Result<Cards, u8>> {
-    match open_grammar(rt, path, errors)? {
+    match source.open_grammar(errors)? {
         Ok(opened) => Ok(Ok(cards_in(rt.alloc(), opened)?)),
         Err(status) => Ok(Err(status)),
     }
