@@ -9,7 +9,6 @@ pub mod conflicts;
 pub mod desk;
 pub mod edits;
 pub mod expected;
-pub mod help;
 pub mod history;
 pub mod moves;
 pub mod parse;

@@ -1,10 +1,11 @@
 //! What is shown of the text that tokens were read from.
 
 use crate::parse::Parse;
+use crate::source::{Spots, Text};
 use std::io::{self, Write};
 use yexplain::reads::grammar_of;
-use yfaults::shown::Place;
 use yshow::page::Page;
+use yshow::place_view::put_upcoming;
 use yshow::reading::{name_of, upcoming_token};
 
 /// How many upcoming tokens are shown at most.
@@ -30,32 +31,43 @@ pub fn put_ahead<W: Write>(page: &mut Page<W>, parse: &Parse) -> io::Result<()> 
     place.put_text(page, true)
 }
 
-/// An upcoming token: its line and column, and its name.
-fn put_token<W: Write>(page: &mut Page<W>, parse: &Parse, index: usize) -> io::Result<()> {
+/// An upcoming token: its place, its name, and its line and column; or that it was inserted.
+fn put_token<W: Write>(
+    page: &mut Page<W>,
+    parse: &Parse,
+    text: &Text,
+    spots: &mut Spots<'_>,
+    index: usize,
+) -> io::Result<()> {
     let (token, number) = upcoming_token(parse.session(), index);
     let name = name_of(grammar_of(parse.tables()), token);
-    match parse.text() {
-        Some(text) if number > 0 => {
-            let place: Place<'_> = text.place(number);
-            let (line, column) = (place.line(), place.column());
-            writeln!(page, "  {line}:{column}  {name}")
-        }
-        _ => writeln!(page, "  +  {name}"),
+    if number == 0 {
+        return writeln!(page, "      +  {name}");
     }
+    let (line, column) = spots.next(text.at(number));
+    write!(page, "{number:>7}  {name}")?;
+    page.tab(40)?;
+    writeln!(page, "{line}:{column}")
 }
 
 /// The upcoming tokens with their lines and columns: the first 1,000 of them.
-pub fn put_upcoming_texts<W: Write>(page: &mut Page<W>, parse: &Parse) -> io::Result<()> {
+fn put_lines<W: Write>(page: &mut Page<W>, parse: &Parse, text: &Text) -> io::Result<()> {
     let count = parse.session().view().rest_len();
-    if count == 0 {
-        return page.line("No token is left.");
-    }
+    let mut spots = text.spots();
     for index in 0..count.min(MANY) {
-        put_token(page, parse, index)?;
+        put_token(page, parse, text, &mut spots, index)?;
     }
     if count > MANY {
         let more = count.saturating_sub(MANY);
         writeln!(page, "  .. {more} tokens behind")?;
     }
     Ok(())
+}
+
+/// The upcoming tokens; with their lines and columns, where they were read from a text.
+pub fn put_ahead_all<W: Write>(page: &mut Page<W>, parse: &Parse) -> io::Result<()> {
+    match parse.text() {
+        Some(text) if parse.session().view().rest_len() > 0 => put_lines(page, parse, text),
+        _ => put_upcoming(page, parse.session()),
+    }
 }

@@ -5,6 +5,7 @@ use crate::data::Shown;
 use crate::frame::{BODY, END, FRONT};
 use crate::record::Record;
 use crate::script::SCRIPT;
+use crate::style::STYLE;
 use crate::walk::{MOST_STEPS, Part, Walked, walk_part};
 use std::alloc::{AllocError, Global};
 use std::fs;
@@ -53,7 +54,7 @@ fn push_json(page: &mut Vec<u8>, json: &[u8]) -> Result<(), AllocError> {
 fn page_of(alloc: Global, shown: Shown<'_>) -> io::Result<Vec<u8>> {
     let json = shown.json(alloc)?;
     let mut page = Vec::new(alloc);
-    for piece in [FRONT, SCRIPT, BODY] {
+    for piece in [FRONT, STYLE, SCRIPT, BODY] {
         page.extend_from_slice(piece.as_bytes())?;
     }
     push_json(&mut page, &json)?;
