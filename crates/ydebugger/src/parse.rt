@@ -7,8 +7,8 @@ use yparse::Session;
 use yparse::machine::{AtStart, StepFault, StepKind};
 use ytables::Tables;
 
-/// A session, what was done in it, the lines of its grammar's file, and how many tokens its own
-/// file has.
+/// A session, what was done in it, the lines of its grammar's file, how many tokens its own file
+/// has, and that file, where it is a text.
 #[derive(Drop)]
 pub struct Parse {
     session: Session,
@@ -19,20 +19,21 @@ pub struct Parse {
 }
 
 impl Parse {
-    /// A session at its start.
-    pub fn new(alloc: Global, session: Session, lines: Lines, tokens: usize) -> Parse {
+    /// A session at its start, with the text that its tokens were read from, where it was one.
+    pub fn new(
+        alloc: Global,
+        session: Session,
+        lines: Lines,
+        tokens: usize,
+        text: Option<Text>,
+    ) -> Parse {
         Parse {
             session,
             lines,
             past: Vec::new(alloc),
             tokens,
-            text: None,
+            text,
         }
-    }
-
-    /// Keeps the text that the tokens were read from.
-    pub fn keep_text(&mut self, text: Text) {
-        self.text = Some(text);
     }
 
     /// The text that the tokens were read from, where it was one.

@@ -41,7 +41,7 @@ pub fn parse_over<E: Write>(
         Ok(tokens) => {
             let count = tokens.len();
             let session = Session::new(alloc, tables, tokens);
-            Ok(Ok(Parse::new(alloc, session, lines, count)))
+            Ok(Ok(Parse::new(alloc, session, lines, count, None)))
         }
         Err(fault) => refuse_tokens(alloc, errors, &tables, path, source, fault).map(Err),
     }
@@ -50,8 +50,8 @@ pub fn parse_over<E: Write>(
 /// What opens the files of a parse, as often as they are read.
 pub trait Opens {
     /// A parse at its start. Where a file is refused, that is written, and the exit status is the
-    /// answer: 1 for a fault of a file, 3 where memory runs out, for too many states, and for a file
-    /// that can't be read.
+    /// answer: 1 for a fault of a file, 3 where memory runs out, for too many states, and for a
+    /// file that can't be read.
     fn open<E: Write>(&self, errors: &mut E) -> io::Result<Result<Parse, u8>>;
 
     /// The grammar file alone, opened once more.

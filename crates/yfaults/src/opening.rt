@@ -190,16 +190,3 @@ pub fn open_text<W: Write>(
         }
     }
 }
-
-/// Opens a grammar file. Where it is refused, that is written, and the exit status is the answer.
-pub fn open_grammar<F: Files + AllocGlobal, W: Write>(
-    rt: &F,
-    path: &str,
-    errors: &mut W,
-) -> io::Result<Result<Opened, u8>> {
-    let source = match grammar_bytes(rt, path) {
-        Ok(source) => source,
-        Err(error) => return Ok(Err(put_unread(errors, path, &error)?)),
-    };
-    open_text(rt.alloc(), path, &source, errors)
-}

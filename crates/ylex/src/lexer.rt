@@ -7,6 +7,7 @@ use regex::Error;
 use regex::bytes::{Matcher, Regex};
 use std::alloc::{AllocError, Global};
 use ysymbols::{Grammar, Sym};
+use ytokens::tokens::Tokens;
 
 /// The most tokens of a text.
 pub const MOST_TOKENS: usize = 1_000_000;
@@ -15,7 +16,7 @@ pub const MOST_TOKENS: usize = 1_000_000;
 /// the last one.
 #[derive(Drop)]
 pub struct Lexed {
-    pub symbols: Vec<Sym>,
+    pub tokens: Tokens,
     pub places: Vec<usize>,
     pub end: usize,
 }
@@ -101,11 +102,16 @@ pub fn compile(alloc: Global, rules: &[Rule<'_>]) -> Result<Vec<Regex>, SpecFaul
     Ok(all)
 }
 
-/// The literal of each byte.
-fn literals_of(alloc: Global, grammar: &Grammar) -> Result<Vec<Option<Sym>>, AllocError> {
+/// The literal of each byte, but for those that no text has.
+fn literals_of(
+    alloc: Global,
+    grammar: &Grammar,
+    absent: &[bool],
+) -> Result<Vec<Option<Sym>>, AllocError> {
     let mut literals = Vec::new(alloc);
     for value in 0..=255u8 {
-        literals.push(grammar.find_literal(value))?;
+        let literal = grammar.find_literal(value);
+        literals.push(literal.filter(|token| absent.get(*token) != Some(&true)))?;
     }
     Ok(literals)
 }
@@ -140,7 +146,7 @@ impl<'a> Lexer<'a> {
         Ok(Lexer {
             words: &spec.words,
             rules: &spec.rules,
-            literals: literals_of(alloc, grammar)?,
+            literals: literals_of(alloc, grammar, &spec.absent)?,
             matchers: matchers_of(alloc, regexes)?,
         })
     }
@@ -186,8 +192,9 @@ impl<'a> Lexer<'a> {
         Ok(end)
     }
 
-    /// The tokens of a text.
+    /// Cuts a text into tokens, in place of those that were there.
     pub fn lex(&mut self, lexed: &mut Lexed, bytes: &[u8]) -> Result<(), TextFault> {
+        lexed.clear();
         let mut at = 0;
         for _ in 0..bytes.len() {
             if at >= bytes.len() {
@@ -203,17 +210,25 @@ impl Lexed {
     /// No token yet.
     pub fn new(alloc: Global) -> Lexed {
         Lexed {
-            symbols: Vec::new(alloc),
+            tokens: Tokens {
+                symbols: Vec::new(alloc),
+            },
             places: Vec::new(alloc),
             end: 0,
         }
     }
 
+    fn clear(&mut self) {
+        self.tokens.symbols.clear();
+        self.places.clear();
+        self.end = 0;
+    }
+
     fn push(&mut self, token: Sym, at: usize, end: usize) -> Result<(), TextFault> {
-        if self.symbols.len() >= MOST_TOKENS {
+        if self.places.len() >= MOST_TOKENS {
             return Err(TextFault::TooMany(at));
         }
-        self.symbols.push(token).map_err(AllocError::from)?;
+        self.tokens.symbols.push(token).map_err(AllocError::from)?;
         self.places.push(at).map_err(AllocError::from)?;
         self.end = end;
         Ok(())

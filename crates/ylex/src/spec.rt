@@ -25,12 +25,14 @@ pub struct Word<'a> {
     pub folded: bool,
 }
 
-/// What a SPEC says, and which symbols of the grammar it names.
+/// What a SPEC says: its lines with expressions, its words, and which symbols of the grammar it
+/// names at all, and as those that no text has.
 #[derive(Drop)]
 pub struct Spec<'a> {
     pub rules: Vec<Rule<'a>>,
     pub words: Vec<Word<'a>>,
     pub named: Vec<bool>,
+    pub absent: Vec<bool>,
 }
 
 /// What names behind a directive are.
@@ -110,14 +112,19 @@ fn token_of(grammar: &Grammar, piece: Piece<'_>) -> Result<Sym, SpecFault> {
     }
 }
 
-impl<'a> Spec<'a> {
-    /// Notes that a token is named.
-    fn note(&mut self, token: Sym) {
-        if let Some(named) = self.named.get_mut(token) {
-            *named = true;
-        }
-    }
+/// Whether a symbol is a literal.
+fn is_literal(grammar: &Grammar, symbol: Sym) -> bool {
+    symbol < grammar.symbols() && grammar.name(symbol).first() == Some(&b'\'')
+}
 
+/// Marks a symbol.
+fn mark(marks: &mut [bool], symbol: Sym) {
+    if let Some(mark) = marks.get_mut(symbol) {
+        *mark = true;
+    }
+}
+
+impl<'a> Spec<'a> {
     /// Adds a line with an expression.
     fn add_rule(&mut self, token: Option<Sym>, rest: Piece<'a>) -> Result<(), SpecFault> {
         if rest.bytes.is_empty() {
@@ -136,7 +143,7 @@ impl<'a> Spec<'a> {
         Ok(())
     }
 
-    /// Adds the name at the front of a piece.
+    /// Adds the name at the front of a piece. A literal stands for itself without it.
     fn add_name(
         &mut self,
         grammar: &Grammar,
@@ -144,8 +151,11 @@ impl<'a> Spec<'a> {
         listed: Listed,
     ) -> Result<(), SpecFault> {
         let token = token_of(grammar, piece)?;
-        self.note(token);
+        mark(&mut self.named, token);
         if listed == Listed::Absent {
+            mark(&mut self.absent, token);
+        }
+        if listed == Listed::Absent || is_literal(grammar, token) {
             return Ok(());
         }
         let word = Word {
@@ -200,7 +210,7 @@ impl<'a> Spec<'a> {
             Some(b'%') => self.add_directive(grammar, line),
             Some(_) => {
                 let token = token_of(grammar, line)?;
-                self.note(token);
+                mark(&mut self.named, token);
                 self.add_rule(Some(token), line.behind(line.word()))
             }
         }
@@ -224,6 +234,7 @@ fn empty_spec<'a>(alloc: Global, grammar: &Grammar) -> Result<Spec<'a>, AllocErr
         rules: Vec::new(alloc),
         words: Vec::new(alloc),
         named: vec![in alloc; false; grammar.symbols()]?,
+        absent: vec![in alloc; false; grammar.symbols()]?,
     })
 }
 
@@ -242,7 +253,5 @@ pub fn read_spec<'a>(
 
 /// Whether a token of a body needs a line: it is an input token and no literal.
 pub fn needs_line(grammar: &Grammar, token: Sym) -> bool {
-    token < grammar.symbols()
-        && is_input(grammar, token)
-        && grammar.name(token).first() != Some(&b'\'')
+    is_input(grammar, token) && !is_literal(grammar, token)
 }

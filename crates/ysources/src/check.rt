@@ -1,21 +1,24 @@
 //! `ydebug check` over tokens files, and over texts with a SPEC.
 
-use crate::grammars::{GrammarFile, open_file};
-use crate::reading::{SpecText, Uses, with_lexer};
+use crate::grammars::{GrammarFile, SpecFile, open_file};
+use crate::reading::{Uses, with_lexer};
 use crate::told::put_text_fault;
-use std::alloc::{AllocError, Global};
-use std::fs;
+use std::alloc::Global;
 use std::io::{self, ErrorKind, Read, Write};
 use std::rt::Files;
-use ycheck::check::{Check, bytes_of, put_choice, run_check};
-use ycheck::expected::{Wanted, expected, states_after};
+use ycheck::check::{
+    Check, Said, bytes_of, put_accepted, put_choice, put_limit, put_memory, put_unread, run_check,
+    wanted_after,
+};
+use ycheck::expected::Wanted;
 use yexplain::reads::grammar_of;
 use yexplain::text::Name;
-use yfaults::opening::{Opened, put_unread};
+use yfaults::opening::Opened;
 use yfaults::shown::Place;
 use ylalr::END;
+use ylex::fault::TextFault;
 use ylex::lexer::{Lexed, Lexer};
-use yparse::{Tokens, Verdict, judge};
+use yparse::{Verdict, judge};
 use ysymbols::{Grammar, Sym};
 use ytables::Tables;
 
@@ -31,14 +34,23 @@ pub struct Asked<'a> {
     pub choice: bool,
 }
 
-/// Texts that are judged.
+/// Texts that are judged, each cut into the same list of tokens.
 #[derive(Drop)]
 struct Texts<'a, F, R, W> {
     rt: &'a F,
     tables: &'a Tables,
     paths: &'a [&'a str],
+    lexed: &'a mut Lexed,
     input: &'a mut R,
     out: &'a mut W,
+}
+
+/// A text that was cut.
+#[derive(Clone, Copy)]
+struct Text<'a> {
+    path: &'a str,
+    bytes: &'a [u8],
+    lexed: &'a Lexed,
 }
 
 /// Writes some tokens with commas between them, and dots where there are more.
@@ -70,89 +82,87 @@ fn put_wanted<W: Write>(out: &mut W, grammar: &Grammar, wanted: &Wanted) -> io::
     writeln!(out)
 }
 
-/// The tokens that can come behind some others.
-fn wanted_after(alloc: Global, tables: &Tables, before: &[Sym]) -> Result<Wanted, AllocError> {
-    let states = states_after(alloc, tables, before)?;
-    expected(alloc, tables, &states)
-}
-
-/// Writes that a token can't come at a place of a text, and which can.
-fn put_rejected<W: Write>(
+/// Writes that a token can't come at a place, and which can.
+fn put_mistake<W: Write>(
     out: &mut W,
-    alloc: Global,
-    tables: &Tables,
+    grammar: &Grammar,
     place: Place<'_>,
-    (before, token): (&[Sym], Sym),
-) -> io::Result<u8> {
-    let wanted = wanted_after(alloc, tables, before)?;
-    let grammar = grammar_of(tables);
+    token: Sym,
+    wanted: &Wanted,
+) -> io::Result<Said> {
     let name = Name(grammar, token);
     let (path, line, column) = (place.path, place.line(), place.column());
     write!(out, "{path}:{line}:{column}: {name} can't come here")?;
-    put_wanted(out, grammar, &wanted)?;
+    put_wanted(out, grammar, wanted)?;
     place.put_text(out, true)?;
-    Ok(1)
+    Ok(Said::Bad)
 }
 
-/// Writes the verdict on the tokens of a text, and gives the exit status.
-fn put_verdict<W: Write>(
-    out: &mut W,
-    alloc: Global,
-    tables: &Tables,
-    (path, source): (&str, &[u8]),
-    lexed: Lexed,
-) -> io::Result<u8> {
-    let Lexed {
-        symbols,
-        places,
-        end,
-    } = lexed;
-    let tokens = Tokens { symbols };
-    if !tokens.fits(tables) {
-        return Err(io::Error::from(ErrorKind::Other));
+impl Text<'_> {
+    /// The place behind so many tokens.
+    fn place(&self, taken: usize) -> Place<'_> {
+        let at = self.lexed.places.get(taken).copied();
+        Place {
+            path: self.path,
+            source: self.bytes,
+            at: at.unwrap_or(self.lexed.end),
+        }
     }
-    match judge(alloc, tables, &tokens) {
-        Ok(Verdict::Accepted(steps)) => {
-            writeln!(out, "{path}: good: accepted in {steps} steps")?;
-            Ok(0)
+
+    /// Writes that the token behind so many can't come, and which can.
+    fn put_rejected<W: Write>(
+        &self,
+        out: &mut W,
+        alloc: Global,
+        tables: &Tables,
+        taken: usize,
+    ) -> io::Result<Said> {
+        let symbols = self.lexed.tokens.symbols.as_slice();
+        let token = symbols.get(taken).copied().unwrap_or(END);
+        let before = symbols.get(..taken).unwrap_or(symbols);
+        match wanted_after(alloc, tables, before) {
+            Ok(wanted) => {
+                put_mistake(out, grammar_of(tables), self.place(taken), token, &wanted)
+            }
+            Err(_) => put_memory(out, self.path),
         }
-        Ok(Verdict::Rejected(place)) => {
-            let taken = place.saturating_sub(1);
-            let symbols = tokens.symbols.as_slice();
-            let before = symbols.get(..taken).unwrap_or(symbols);
-            let token = symbols.get(taken).copied().unwrap_or(END);
-            let at = places.get(taken).copied().unwrap_or(end);
-            let place = Place { path, source, at };
-            put_rejected(out, alloc, tables, place, (before, token))
+    }
+
+    /// Writes the verdict.
+    fn put<W: Write>(&self, out: &mut W, alloc: Global, tables: &Tables) -> io::Result<Said> {
+        if !self.lexed.tokens.fits(tables) {
+            return Err(io::Error::from(ErrorKind::Other));
         }
-        Ok(Verdict::Limit) => {
-            writeln!(out, "{path}: deep: more than 1,000,000 steps")?;
-            Ok(1)
+        match judge(alloc, tables, &self.lexed.tokens) {
+            Ok(Verdict::Accepted(steps)) => put_accepted(out, self.path, steps),
+            Ok(Verdict::Rejected(place)) => {
+                self.put_rejected(out, alloc, tables, place.saturating_sub(1))
+            }
+            Ok(Verdict::Limit) => put_limit(out, self.path),
+            Err(_) => put_memory(out, self.path),
         }
-        Err(_) => Err(io::Error::from(ErrorKind::OutOfMemory)),
     }
 }
 
 impl<F: Files + AllocGlobal, R: Read, W: Write> Texts<'_, F, R, W> {
-    /// Writes the verdict on a text of these bytes, and gives the exit status.
-    fn put_text(&mut self, lexer: &mut Lexer<'_>, path: &str, bytes: &[u8]) -> io::Result<u8> {
-        let alloc = self.rt.alloc();
-        let mut lexed = Lexed::new(alloc);
-        match lexer.lex(&mut lexed, bytes) {
-            Ok(()) => put_verdict(self.out, alloc, self.tables, (path, bytes), lexed),
-            Err(fault) => put_text_fault(self.out, path, bytes, fault),
+    /// Cuts a text of these bytes, and writes the verdict on it.
+    fn put_text(&mut self, lexer: &mut Lexer<'_>, path: &str, bytes: &[u8]) -> io::Result<Said> {
+        match lexer.lex(self.lexed, bytes) {
+            Ok(()) => {
+                let lexed: &Lexed = self.lexed;
+                let text = Text { path, bytes, lexed };
+                text.put(self.out, self.rt.alloc(), self.tables)
+            }
+            Err(TextFault::Memory) => put_memory(self.out, path),
+            Err(fault) => put_text_fault(self.out, path, bytes, fault).map(|_| Said::Bad),
         }
     }
 
-    /// Writes the verdict on a text, and gives the exit status.
-    fn put_file(&mut self, lexer: &mut Lexer<'_>, path: &str) -> io::Result<u8> {
+    /// Writes the verdict on a text.
+    fn put_file(&mut self, lexer: &mut Lexer<'_>, path: &str) -> io::Result<Said> {
         match bytes_of(self.rt, self.input, path) {
             Ok(bytes) => self.put_text(lexer, path, &bytes),
-            Err(error) if error.kind() == ErrorKind::OutOfMemory => Err(error),
-            Err(_) => {
-                writeln!(self.out, "{path}: cannot read it")?;
-                Ok(3)
-            }
+            Err(error) => put_unread(self.out, path, &error),
         }
     }
 }
@@ -161,7 +171,8 @@ impl<F: Files + AllocGlobal, R: Read, W: Write> Uses for Texts<'_, F, R, W> {
     fn use_lexer<E: Write>(&mut self, lexer: &mut Lexer<'_>, _errors: &mut E) -> io::Result<u8> {
         let mut status = 0;
         for path in self.paths {
-            status = self.put_file(lexer, path)?.max(status);
+            let said = self.put_file(lexer, path)?;
+            status = said.status().max(status);
         }
         Ok(status)
     }
@@ -169,26 +180,30 @@ impl<F: Files + AllocGlobal, R: Read, W: Write> Uses for Texts<'_, F, R, W> {
 
 /// Writes verdicts on texts by a SPEC, and gives the exit status.
 fn check_texts<F: Files + AllocGlobal, R: Read, W: Write, E: Write>(
+    rt: &F,
     asked: Asked<'_>,
     spec: &str,
     opened: &Opened,
-    texts: &mut Texts<'_, F, R, W>,
+    (input, out): (&mut R, &mut W),
     errors: &mut E,
 ) -> io::Result<u8> {
+    let file = SpecFile {
+        path: spec,
+        grammar: asked.grammar.path,
+    };
     if asked.choice {
-        put_choice(texts.out, &opened.tables, asked.grammar.path)?;
+        put_choice(out, &opened.tables, asked.grammar.path)?;
     }
-    match fs::read(texts.rt, spec) {
-        Ok(bytes) => {
-            let text = SpecText {
-                path: spec,
-                bytes: &bytes,
-                grammar: asked.grammar.path,
-            };
-            with_lexer(texts.rt.alloc(), opened, text, texts, errors)
-        }
-        Err(error) => put_unread(errors, spec, &error),
-    }
+    let mut lexed = Lexed::new(rt.alloc());
+    let mut texts = Texts {
+        rt,
+        tables: &opened.tables,
+        paths: asked.inputs,
+        lexed: &mut lexed,
+        input,
+        out,
+    };
+    with_lexer(rt, opened, file, &mut texts, errors)
 }
 
 /// Writes verdicts by a grammar that is open, and gives the exit status.
@@ -199,27 +214,22 @@ fn check_opened<F: Files + AllocGlobal, R: Read, W: Write, E: Write>(
     (input, out): (&mut R, &mut W),
     errors: &mut E,
 ) -> io::Result<u8> {
-    let Some(spec) = asked.spec else {
-        let check = Check {
-            grammar: asked.grammar.path,
-            tokens: asked.inputs,
-            choice: asked.choice,
-        };
-        return run_check(rt, check, &opened.tables, input, out);
-    };
-    let mut texts = Texts {
-        rt,
-        tables: &opened.tables,
-        paths: asked.inputs,
-        input,
-        out,
-    };
-    check_texts(asked, spec, opened, &mut texts, errors)
+    match asked.spec {
+        Some(spec) => check_texts(rt, asked, spec, opened, (input, out), errors),
+        None => {
+            let check = Check {
+                grammar: asked.grammar.path,
+                tokens: asked.inputs,
+                choice: asked.choice,
+            };
+            run_check(rt, check, &opened.tables, input, out)
+        }
+    }
 }
 
 /// Writes what is asked for, and gives the exit status: 0 where all inputs are accepted, 1 where
-/// the grammar, the SPEC or an input is refused or one isn't accepted, 3 where one can't be read, or
-/// memory runs out. Faults of the grammar and of the SPEC go to `errors`.
+/// the grammar, the SPEC or an input is refused or one isn't accepted, 3 where one can't be read,
+/// or memory runs out. Faults of the grammar and of the SPEC go to `errors`.
 pub fn check_inputs<F: Files + AllocGlobal, R: Read, W: Write, E: Write>(
     rt: &F,
     asked: Asked<'_>,

@@ -15,6 +15,13 @@ pub struct GrammarFile<'a> {
     pub bison: bool,
 }
 
+/// The path of a SPEC, and that of the grammar file.
+#[derive(Clone, Copy)]
+pub struct SpecFile<'a> {
+    pub path: &'a str,
+    pub grammar: &'a str,
+}
+
 /// Opens a grammar file. Where it is refused, that is written, and the exit status is the answer.
 pub fn open_file<F: Files + AllocGlobal, E: Write>(
     rt: &F,

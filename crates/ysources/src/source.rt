@@ -1,7 +1,7 @@
 //! Parses from the files that a command is given.
 
-use crate::grammars::{GrammarFile, open_file};
-use crate::tokens::cut_by;
+use crate::cut::{Cut, cut_file};
+use crate::grammars::{GrammarFile, SpecFile, open_file};
 use std::alloc::Global;
 use std::fs;
 use std::io::{self, ErrorKind, Write};
@@ -10,8 +10,7 @@ use ydebugger::parse::Parse;
 use ydebugger::source::Text;
 use ydebugger::start::{Opens, parse_over};
 use yfaults::opening::{Opened, put_unread};
-use ylex::lexer::Lexed;
-use yparse::{Session, Tokens};
+use yparse::Session;
 
 /// The files of a parse: a grammar file, an input, and the SPEC by which it is cut; it is a tokens
 /// file where there is none.
@@ -23,75 +22,82 @@ pub struct Source<'a, F> {
     pub spec: Option<&'a str>,
 }
 
-/// A parse of tokens that were cut from a text, which it keeps.
-fn parse_of(
-    alloc: Global,
-    opened: Opened,
-    path: &str,
-    bytes: Vec<u8>,
-    lexed: Lexed,
-) -> io::Result<Parse> {
+/// A parse of the tokens of a text, which it keeps; `None` where one of them is no token of the
+/// tables.
+fn parse_of(alloc: Global, opened: Opened, path: String, cut: Cut) -> Option<Parse> {
     let Opened { tables, lines } = opened;
-    let Lexed {
-        symbols,
-        places,
-        end,
-    } = lexed;
-    let tokens = Tokens { symbols };
+    let Cut { bytes, lexed } = cut;
+    let (tokens, places, end) = (lexed.tokens, lexed.places, lexed.end);
     if !tokens.fits(&tables) {
-        return Err(io::Error::from(ErrorKind::Other));
+        return None;
     }
-    let path = String::from_str(alloc, path)?;
-    let count = places.len();
-    let session = Session::new(alloc, tables, tokens);
-    let mut parse = Parse::new(alloc, session, lines, count);
-    parse.keep_text(Text {
+    let count = tokens.len();
+    let text = Text {
         path,
         bytes,
         places,
         end,
-    });
-    Ok(parse)
+    };
+    let session = Session::new(alloc, tables, tokens);
+    Some(Parse::new(alloc, session, lines, count, Some(text)))
 }
 
 impl<F: Files + AllocGlobal> Source<'_, F> {
+    /// Cuts the text by a SPEC. The exit status is the answer.
+    fn cut<E: Write>(
+        &self,
+        opened: &Opened,
+        spec: &str,
+        path: &mut String,
+        cut: &mut Cut,
+        errors: &mut E,
+    ) -> io::Result<u8> {
+        path.push_str(self.input)?;
+        let file = SpecFile {
+            path: spec,
+            grammar: self.grammar.path,
+        };
+        cut_file(self.rt, opened, file, self.input, cut, errors)
+    }
+
     /// A parse of a text by a SPEC.
-    fn open_cut<E: Write>(
+    fn open_text<E: Write>(
         &self,
         opened: Opened,
         spec: &str,
-        bytes: Vec<u8>,
         errors: &mut E,
     ) -> io::Result<Result<Parse, u8>> {
         let alloc = self.rt.alloc();
-        let mut lexed = Lexed::new(alloc);
-        let paths = (self.grammar.path, spec);
-        let text = (self.input, bytes.as_slice());
-        match cut_by(self.rt, &opened, paths, text, &mut lexed, errors)? {
-            0 => parse_of(alloc, opened, self.input, bytes, lexed).map(Ok),
+        let mut cut = Cut::new(alloc);
+        let mut path = String::new(alloc);
+        match self.cut(&opened, spec, &mut path, &mut cut, errors)? {
+            0 => match parse_of(alloc, opened, path, cut) {
+                Some(parse) => Ok(Ok(parse)),
+                None => Err(io::Error::from(ErrorKind::Other)),
+            },
             status => Ok(Err(status)),
         }
     }
 
-    /// A parse of the input by a grammar that is open.
-    fn open_input<E: Write>(
+    /// A parse of a tokens file.
+    fn open_tokens<E: Write>(
         &self,
         opened: Opened,
         errors: &mut E,
     ) -> io::Result<Result<Parse, u8>> {
-        match (fs::read(self.rt, self.input), self.spec) {
-            (Ok(bytes), Some(spec)) => self.open_cut(opened, spec, bytes, errors),
-            (Ok(bytes), None) => { parse_over(self.rt.alloc(), opened, self.input, &bytes, errors) }
-            (Err(error), _) => put_unread(errors, self.input, &error).map(Err),
+        match fs::read(self.rt, self.input) {
+            Ok(bytes) => parse_over(self.rt.alloc(), opened, self.input, &bytes, errors),
+            Err(error) => put_unread(errors, self.input, &error).map(Err),
         }
     }
 }
 
 impl<F: Files + AllocGlobal> Opens for Source<'_, F> {
     fn open<E: Write>(&self, errors: &mut E) -> io::Result<Result<Parse, u8>> {
-        match open_file(self.rt, self.grammar, errors)? {
-            Ok(opened) => self.open_input(opened, errors),
-            Err(status) => Ok(Err(status)),
+        match (open_file(self.rt, self.grammar, errors)?, self.spec) {
+            (Ok(opened), Some(spec)) => self.open_text(opened, spec, errors),
+            (Ok(opened), None) => self.open_tokens(opened, errors),
+            (Err(status), _) => Ok(Err(status)),
         }
     }
 

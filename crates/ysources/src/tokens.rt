@@ -1,75 +1,13 @@
 //! `ydebug tokens`: the tokens of a text as a tokens file.
 
-use crate::grammars::{GrammarFile, open_file};
-use crate::reading::{SpecText, Uses, with_lexer};
-use crate::told::put_text_fault;
-use std::alloc::Global;
-use std::fs;
+use crate::cut::{Cut, cut_file};
+use crate::grammars::{GrammarFile, SpecFile, open_file};
 use std::io::{self, Write};
 use std::rt::Files;
 use yexplain::reads::grammar_of;
 use yexplain::text::Name;
-use yfaults::opening::{Opened, put_unread};
-use ylex::lexer::{Lexed, Lexer};
-use ysymbols::{Grammar, Sym};
-
-/// A text, and where its tokens go.
-#[derive(Drop)]
-struct Cut<'a> {
-    alloc: Global,
-    path: &'a str,
-    bytes: &'a [u8],
-    lexed: &'a mut Lexed,
-}
-
-impl Uses for Cut<'_> {
-    fn use_lexer<E: Write>(&mut self, lexer: &mut Lexer<'_>, errors: &mut E) -> io::Result<u8> {
-        match lexer.lex(self.lexed, self.bytes) {
-            Ok(()) => Ok(0),
-            Err(fault) => put_text_fault(errors, self.path, self.bytes, fault),
-        }
-    }
-}
-
-/// Cuts a text by a SPEC; where one is refused, that is written. The exit status is the answer.
-pub fn cut_text<E: Write>(
-    alloc: Global,
-    opened: &Opened,
-    spec: SpecText<'_>,
-    (path, bytes): (&str, &[u8]),
-    lexed: &mut Lexed,
-    errors: &mut E,
-) -> io::Result<u8> {
-    let mut cut = Cut {
-        alloc,
-        path,
-        bytes,
-        lexed,
-    };
-    with_lexer(cut.alloc, opened, spec, &mut cut, errors)
-}
-
-/// Reads a SPEC, and cuts a text by it.
-pub fn cut_by<F: Files + AllocGlobal, E: Write>(
-    rt: &F,
-    opened: &Opened,
-    (grammar, spec): (&str, &str),
-    text: (&str, &[u8]),
-    lexed: &mut Lexed,
-    errors: &mut E,
-) -> io::Result<u8> {
-    match fs::read(rt, spec) {
-        Ok(bytes) => {
-            let spec = SpecText {
-                path: spec,
-                bytes: &bytes,
-                grammar,
-            };
-            cut_text(rt.alloc(), opened, spec, text, lexed, errors)
-        }
-        Err(error) => put_unread(errors, spec, &error),
-    }
-}
+use yfaults::opening::Opened;
+use ysymbols::Grammar;
 
 /// Writes as many newlines as stand between two tokens, or a space where none does.
 fn put_between<W: Write>(out: &mut W, between: &[u8]) -> io::Result<()> {
@@ -83,17 +21,13 @@ fn put_between<W: Write>(out: &mut W, between: &[u8]) -> io::Result<()> {
     Ok(())
 }
 
-/// Writes tokens, each on the line that it has in the text.
-fn put_tokens<W: Write>(
-    out: &mut W,
-    grammar: &Grammar,
-    bytes: &[u8],
-    tokens: (&[Sym], &[usize]),
-) -> io::Result<()> {
+/// Writes the tokens of a text, each on the line that it has there.
+fn put_tokens<W: Write>(out: &mut W, grammar: &Grammar, cut: &Cut) -> io::Result<()> {
     let mut before = 0;
-    for (symbol, place) in tokens.0.iter().zip(tokens.1) {
-        let between = bytes.get(before..*place).unwrap_or(&[]);
-        if before > 0 || between.contains(&b'\n') {
+    let tokens = cut.lexed.tokens.symbols.iter().zip(&cut.lexed.places);
+    for (index, (symbol, place)) in tokens.enumerate() {
+        let between = cut.bytes.get(before..*place).unwrap_or(&[]);
+        if index > 0 || between.contains(&b'\n') {
             put_between(out, between)?;
         }
         let name = Name(grammar, *symbol);
@@ -103,25 +37,25 @@ fn put_tokens<W: Write>(
     writeln!(out)
 }
 
-/// Writes the tokens of a text, and gives the exit status.
-fn put_text<F: Files + AllocGlobal, W: Write, E: Write>(
+/// Writes the tokens of a text by a grammar that is open, and gives the exit status.
+fn put_file<F: Files + AllocGlobal, W: Write, E: Write>(
     rt: &F,
     opened: &Opened,
-    paths: (&str, &str),
-    text: (&str, &[u8]),
+    spec: SpecFile<'_>,
+    path: &str,
     out: &mut W,
     errors: &mut E,
 ) -> io::Result<u8> {
-    let mut lexed = Lexed::new(rt.alloc());
-    let status = cut_by(rt, opened, paths, text, &mut lexed, errors)?;
+    let mut cut = Cut::new(rt.alloc());
+    let status = cut_file(rt, opened, spec, path, &mut cut, errors)?;
     if status == 0 {
-        let tokens = (lexed.symbols.as_slice(), lexed.places.as_slice());
-        put_tokens(out, grammar_of(&opened.tables), text.1, tokens)?;
+        put_tokens(out, grammar_of(&opened.tables), &cut)?;
     }
     Ok(status)
 }
 
-/// Writes a tokens file of a text that a SPEC cuts, and gives the exit status.
+/// Writes a tokens file of a text that a SPEC cuts, and gives the exit status: 1 where the grammar,
+/// the SPEC or the text is refused, 3 where one can't be read or memory runs out.
 pub fn run_tokens<F: Files + AllocGlobal, W: Write, E: Write>(
     rt: &F,
     file: GrammarFile<'_>,
@@ -129,12 +63,14 @@ pub fn run_tokens<F: Files + AllocGlobal, W: Write, E: Write>(
     out: &mut W,
     errors: &mut E,
 ) -> io::Result<u8> {
-    let bytes = match fs::read(rt, path) {
-        Ok(bytes) => bytes,
-        Err(error) => return put_unread(errors, path, &error),
-    };
     match open_file(rt, file, errors)? {
-        Ok(opened) => put_text(rt, &opened, (file.path, spec), (path, &bytes), out, errors),
+        Ok(opened) => {
+            let spec = SpecFile {
+                path: spec,
+                grammar: file.path,
+            };
+            put_file(rt, &opened, spec, path, out, errors)
+        }
         Err(status) => Ok(status),
     }
 }

@@ -1,6 +1,7 @@
 //! What is said of a SPEC or a text that is refused.
 
-use std::io::{self, Write};
+use crate::grammars::SpecFile;
+use std::io::{self, ErrorKind, Write};
 use yexplain::lines::Lines;
 use yexplain::text::Name;
 use yfaults::shown::Place;
@@ -10,16 +11,15 @@ use ysymbols::{Grammar, Sym};
 /// The most bytes that are shown of what nothing matches.
 const MOST_BYTES: usize = 8;
 
-/// Writes that memory runs out, and gives the exit status.
-pub fn put_memory<W: Write>(out: &mut W) -> io::Result<u8> {
-    writeln!(out, "ydebug: no memory")?;
-    Ok(3)
+/// That memory ran out.
+fn no_memory() -> io::Error {
+    io::Error::from(ErrorKind::OutOfMemory)
 }
 
 /// Writes that a token of the grammar can't come from a text, with its line in the grammar file.
 pub fn put_ungiven<W: Write>(
     out: &mut W,
-    (path, spec): (&str, &str),
+    file: SpecFile<'_>,
     grammar: &Grammar,
     lines: &Lines,
     token: Sym,
@@ -27,6 +27,10 @@ pub fn put_ungiven<W: Write>(
     let mention = lines.mentions().iter().find(|it| it.symbol == token);
     let line = mention.map_or(1, |it| it.line);
     let name = Name(grammar, token);
+    let SpecFile {
+        path: spec,
+        grammar: path,
+    } = file;
     writeln!(
         out,
         "{path}:{line}: {name}: no line of {spec} gives this token; write one, or name it behind \
@@ -43,7 +47,7 @@ pub fn put_spec_fault<W: Write>(
     fault: SpecFault,
 ) -> io::Result<u8> {
     let SpecFault::At(at, wrong) = fault else {
-        return put_memory(out);
+        return Err(no_memory());
     };
     let place = Place { path, source, at };
     let (line, column, what) = (place.line(), place.column(), wrong.text());
@@ -86,7 +90,7 @@ pub fn put_text_fault<W: Write>(
     fault: TextFault,
 ) -> io::Result<u8> {
     let (at, what) = match fault {
-        TextFault::Memory => return put_memory(out),
+        TextFault::Memory => return Err(no_memory()),
         TextFault::Unmatched(at) => (at, "no line of the SPEC matches here: "),
         TextFault::TooMany(at) => (at, "more than 1,000,000 tokens; this is one more: "),
     };
