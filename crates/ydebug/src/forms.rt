@@ -3,22 +3,23 @@
 use clap::{Arg, ArgAction, Command};
 use std::alloc::{AllocError, Global};
 
-/// The forms of the command line.
+/// The other forms, as the help text has them.
 const FORMS: &str = "Other forms:\n\
     \x20 ydebug conflicts grammar [--save FOLDER] [--strict]\n\
     \x20 ydebug check grammar tokens.. [--lex SPEC] [--choice]\n\
     \x20 ydebug page grammar tokens [--lex SPEC] [-o FILE] [--from K] [--to K] [--conflicts]\n\
-    \x20 ydebug import file [-o grammar]\n\
     \x20 ydebug tokens grammar --lex SPEC input\n\
-    \x20 ydebug lex-spec grammar";
+    \x20 ydebug lex-spec grammar\n\
+    \x20 ydebug import file [-o grammar]";
 /// What is written where the words are not those of the program.
-pub const USAGE: &[u8] = b"usage: ydebug grammar tokens [--lex SPEC] [--from bison]\n\
+pub const USAGE: &[u8] = b"usage: ydebug grammar tokens [--lex SPEC]\n\
     \x20      ydebug conflicts grammar [--save FOLDER] [--strict]\n\
     \x20      ydebug check grammar tokens.. [--lex SPEC] [--choice]\n\
     \x20      ydebug page grammar tokens [--lex SPEC] [-o FILE] [--from K] [--to K] [--conflicts]\n\
-    \x20      ydebug import file [-o grammar]\n\
     \x20      ydebug tokens grammar --lex SPEC input\n\
-    \x20      ydebug lex-spec grammar\n";
+    \x20      ydebug lex-spec grammar\n\
+    \x20      ydebug import file [-o grammar]\n\
+    With --from bison the grammar is a file of bison or byacc.\n";
 
 /// A form of the command line.
 #[derive(Clone, Copy)]
@@ -61,6 +62,11 @@ fn flag<'a>(alloc: Global, name: &'a str, help: &'a str) -> Arg<'a> {
         .help(help)
 }
 
+/// The tokens file, or a text.
+fn input_argument<'a>(alloc: Global) -> Arg<'a> {
+    file_argument(alloc, "tokens", "The tokens file; with --lex, a text")
+}
+
 /// An option with a value behind two dashes.
 fn option<'a>(alloc: Global, name: &'a str, help: &'a str) -> Arg<'a> {
     Arg::new(alloc, name)
@@ -71,20 +77,14 @@ fn option<'a>(alloc: Global, name: &'a str, help: &'a str) -> Arg<'a> {
 
 /// The option for files of bison.
 fn from_option<'a>(alloc: Global) -> Arg<'a> {
-    option(
-        alloc,
-        "from",
-        "bison: the grammar is a file of bison or byacc",
-    )
+    let help = "bison: the grammar is a file of bison or byacc";
+    option(alloc, "from", help).value_name("FORM")
 }
 
 /// The option for texts.
 fn lex_option<'a>(alloc: Global) -> Arg<'a> {
-    option(
-        alloc,
-        "lex",
-        "The file that says how the tokens of a text look",
-    )
+    let help = "The file that says how the tokens of a text look";
+    option(alloc, "lex", help).value_name("SPEC")
 }
 
 /// The command line of a session.
@@ -93,7 +93,7 @@ fn debug_command<'a>(alloc: Global) -> Result<Command<'a>, AllocError> {
         .about("Steps a parse forward and back for a person at a terminal")
         .after_help(FORMS)
         .arg(file_argument(alloc, "grammar", "The grammar file"))?
-        .arg(file_argument(alloc, "tokens", "The tokens file"))?
+        .arg(input_argument(alloc))?
         .arg(lex_option(alloc))?
         .arg(from_option(alloc))
 }
@@ -118,9 +118,13 @@ fn conflicts_command<'a>(alloc: Global) -> Result<Command<'a>, AllocError> {
 
 /// The command line of verdicts.
 fn check_command<'a>(alloc: Global) -> Result<Command<'a>, AllocError> {
-    let tokens = file_argument(alloc, "tokens", "The tokens files; - is standard input");
+    let tokens = file_argument(
+        alloc,
+        "tokens",
+        "The tokens files, or with --lex texts; - is standard input",
+    );
     Command::new(alloc, "ydebug check")
-        .about("Says of each tokens file whether it is a sentence of a grammar")
+        .about("Says of each input whether it is a sentence of a grammar")
         .arg(file_argument(alloc, "grammar", "The grammar file"))?
         .arg(tokens.num_args(1..))?
         .arg(lex_option(alloc))?
@@ -146,7 +150,7 @@ fn page_command<'a>(alloc: Global) -> Result<Command<'a>, AllocError> {
     Command::new(alloc, "ydebug page")
         .about("Makes a page in HTML of a parse, to be looked at in a browser")
         .arg(file_argument(alloc, "grammar", "The grammar file"))?
-        .arg(file_argument(alloc, "tokens", "The tokens file"))?
+        .arg(input_argument(alloc))?
         .arg(file)?
         .arg(lex_option(alloc))?
         .arg(from.action(ArgAction::Append))?
@@ -159,7 +163,7 @@ fn tokens_command<'a>(alloc: Global) -> Result<Command<'a>, AllocError> {
     Command::new(alloc, "ydebug tokens")
         .about("Writes the tokens of a text as a tokens file")
         .arg(file_argument(alloc, "grammar", "The grammar file"))?
-        .arg(file_argument(alloc, "tokens", "The text"))?
+        .arg(file_argument(alloc, "tokens", "The text").value_name("input"))?
         .arg(lex_option(alloc).required(true))?
         .arg(from_option(alloc))
 }

@@ -52,7 +52,7 @@ impl Text {
 impl Spots<'_> {
     /// The line and the column of a place, both counted from 1. It stands behind the place that was
     /// asked for before.
-    pub fn next(&mut self, at: usize) -> (usize, usize) {
+    pub fn reach(&mut self, at: usize) -> (usize, usize) {
         let passed = self.bytes.get(self.at..at).unwrap_or(&[]);
         self.line = self.line.saturating_add(newlines(passed));
         if let Some(last) = passed.iter().rposition(|b| *b == b'\n') {

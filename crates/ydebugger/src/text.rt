@@ -44,7 +44,7 @@ fn put_token<W: Write>(
     if number == 0 {
         return writeln!(page, "      +  {name}");
     }
-    let (line, column) = spots.next(text.at(number));
+    let (line, column) = spots.reach(text.at(number));
     write!(page, "{number:>7}  {name}")?;
     page.tab(40)?;
     writeln!(page, "{line}:{column}")

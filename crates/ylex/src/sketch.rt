@@ -5,8 +5,11 @@ use std::io::{self, Write};
 use std::str;
 use ysymbols::{Grammar, Sym};
 
-/// Expressions for tokens by what begins or ends their names.
-const GUESSES: [(&str, &str); 21] = [
+/// How many keywords stand in a line.
+const SOME_WORDS: usize = 8;
+
+/// Expressions for tokens by their names.
+const GUESSES: [(&str, &str); 22] = [
     ("INT", "[0-9]+"),
     ("INTEGER", "[0-9]+"),
     ("NUM", "[0-9]+(\\.[0-9]+)?"),
@@ -20,6 +23,7 @@ const GUESSES: [(&str, &str); 21] = [
     ("VAR", "[A-Za-z_][A-Za-z_0-9]*"),
     ("STRING", "\"([^\"\\\\\\n]|\\\\.)*\""),
     ("STR", "\"([^\"\\\\\\n]|\\\\.)*\""),
+    ("TEXT", "\"([^\"\\\\\\n]|\\\\.)*\""),
     ("NEWLINE", "\\n+"),
     ("NL", "\\n+"),
     ("LE", "<="),
@@ -32,7 +36,8 @@ const GUESSES: [(&str, &str); 21] = [
 
 /// The expression that is guessed for a token.
 fn guess(name: &[u8]) -> Option<&'static str> {
-    let found = GUESSES.iter().find(|(word, _)| word.as_bytes() == name)?;
+    let mut guesses = GUESSES.iter();
+    let found = guesses.find(|(word, _)| word.as_bytes().eq_ignore_ascii_case(name))?;
     Some(found.1)
 }
 
@@ -82,16 +87,20 @@ fn shown(grammar: &Grammar, symbol: Sym) -> &str {
 
 /// Writes the keywords.
 fn put_keywords<W: Write>(out: &mut W, grammar: &Grammar, used: &[bool]) -> io::Result<()> {
-    let mut some = false;
+    let mut count: usize = 0;
     for token in 0..grammar.symbols() {
         if is_of(grammar, used, token, Kind::Keyword) {
             let name = shown(grammar, token);
-            let front = if some { "" } else { "%keywords -i" };
+            let front = match (count, count % SOME_WORDS) {
+                (0, _) => "%keywords -i",
+                (_, 0) => "\n%keywords -i",
+                _ => "",
+            };
             write!(out, "{front} {name}")?;
-            some = true;
+            count = count.saturating_add(1);
         }
     }
-    if some { writeln!(out) } else { Ok(()) }
+    if count > 0 { writeln!(out) } else { Ok(()) }
 }
 
 /// Writes a line for each token of which an expression is guessed.

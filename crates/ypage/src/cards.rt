@@ -163,15 +163,19 @@ fn cards_in(alloc: Global, opened: Opened) -> io::Result<Cards> {
     cards_over(alloc, &mut session, &lines)
 }
 
-/// The cards of a grammar file. Where it is refused, that is written, and the exit status is the
-/// answer.
+/// The cards of a grammar file, which was opened before. Where it is refused now, that is written,
+/// and the exit status is the answer.
 pub fn open_cards<F: Files + AllocGlobal, S: Opens, E: Write>(
     rt: &F,
     source: &S,
     errors: &mut E,
 ) -> io::Result<Result<Cards, u8>> {
-    match source.open_grammar(errors)? {
+    let mut told = Vec::new(rt.alloc());
+    match source.open_grammar(&mut told)? {
         Ok(opened) => Ok(Ok(cards_in(rt.alloc(), opened)?)),
-        Err(status) => Ok(Err(status)),
+        Err(status) => {
+            errors.write_all(&told)?;
+            Ok(Err(status))
+        }
     }
 }

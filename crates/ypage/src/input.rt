@@ -66,7 +66,7 @@ fn places_of(
     let mut spots = text.spots();
     for index in 0..=count {
         let number = skipped.saturating_add(index).saturating_add(1);
-        places.push(spots.next(text.at(number)))?;
+        places.push(spots.reach(text.at(number)))?;
     }
     Ok(places)
 }
