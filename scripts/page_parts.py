@@ -13,14 +13,17 @@ def constant(file, name):
     return raw[1] if raw else json.loads(re.search(rf"pub const {name}: &str = (.*);", source)[1])
 
 
+def style():
+    return constant("style.rt", "STYLE")
+
+
 def script():
-    """The style and the script."""
     return constant("script.rt", "SCRIPT")
 
 
 def before():
     """What stands in front of the data."""
-    return constant("frame.rt", "FRONT") + script() + constant("frame.rt", "BODY")
+    return constant("frame.rt", "FRONT") + style() + script() + constant("frame.rt", "BODY")
 
 
 def behind():

@@ -21,7 +21,7 @@ from pathlib import Path
 sys.dont_write_bytecode = True
 
 from browser import Browser, Driver, Fault
-from page_parts import before, behind, script
+from page_parts import before, behind, script, style
 
 TOP = Path(__file__).resolve().parent.parent
 PACKAGES = {"chromium": "chromium", "chromedriver": "chromium-driver"}
@@ -40,7 +40,8 @@ const seen = {
   position: parseInt(text("place")),
   mode: text("mode"), errors: text("errors"), counter: text("counter"),
   stack: all("#stack .entry").map((it) => it.children[1].textContent).reverse(),
-  rest: tokens.slice(ahead).filter((it) => it.title !== "the end").map((it) => it.textContent),
+  rest: tokens.slice(ahead).filter((it) => !it.title.startsWith("the end"))
+    .map((it) => it.textContent),
   tree: all("[role=treeitem]").map((it) => [Number(it.ariaLevel),
     it.childNodes[1].textContent.trim(), it.childNodes[2].textContent.trim()]),
 };
@@ -80,14 +81,19 @@ class Count:
             print(f"--- {what} FAILED {found}", flush=True)
 
 
+def lint_text(count, name, text):
+    lines = text.splitlines()
+    count.hold(f"{name}: under 500 lines", len(lines) < 500, len(lines))
+    for number, line in enumerate(lines, 1):
+        count.hold(f"{name}: line {number} has at most 100 columns", len(line) <= 100)
+        count.hold(f"{name}: line {number} ends in no blank", line == line.rstrip())
+        count.hold(f"{name}: line {number} is plain", not re.search(FORBIDDEN, line), line)
+
+
 def lint(count):
     """The style and the script are small, plain, and take nothing from elsewhere."""
-    lines = script().splitlines()
-    count.hold("script: under 500 lines", len(lines) < 500, len(lines))
-    for number, line in enumerate(lines, 1):
-        count.hold(f"script: line {number} has at most 100 columns", len(line) <= 100)
-        count.hold(f"script: line {number} ends in no blank", line == line.rstrip())
-        count.hold(f"script: line {number} is plain", not re.search(FORBIDDEN, line), line)
+    lint_text(count, "style", style())
+    lint_text(count, "script", script())
 
 
 def make_page(ydebug, folder, words, target):

@@ -7,7 +7,7 @@ use std::io::{self, ErrorKind, Read, Write};
 use std::rt::Files;
 use yexplain::reads::grammar_of;
 use yexplain::text::{Name, Names};
-use yfaults::opening::{open_grammar, put_near_token, put_token_fault};
+use yfaults::opening::{put_near_token, put_token_fault};
 use ylalr::END;
 use yparse::{TokenFault, Tokens, Verdict, judge, read_tokens};
 use ysymbols::{Grammar, Sym};
@@ -30,7 +30,7 @@ pub struct Check<'a> {
 
 /// What is said of a tokens file: what came of it, for the exit status.
 #[derive(Clone, Copy, Drop, PartialEq, Eq)]
-enum Said {
+pub enum Said {
     /// It is accepted.
     Good,
     /// It isn't, or is refused.
@@ -40,7 +40,8 @@ enum Said {
 }
 
 impl Said {
-    fn status(self) -> u8 {
+    /// The exit status where nothing else is said.
+    pub fn status(self) -> u8 {
         match self {
             Said::Good => 0,
             Said::Bad => 1,
@@ -63,8 +64,8 @@ struct Judge<'a> {
     tables: &'a Tables,
 }
 
-/// All bytes of a tokens file, or of standard input.
-fn bytes_of<F: Files + AllocGlobal, R: Read>(
+/// All bytes of a file, or of standard input where the path is a dash.
+pub fn bytes_of<F: Files + AllocGlobal, R: Read>(
     rt: &F,
     input: &mut R,
     path: &str,
@@ -87,7 +88,7 @@ fn judge_bytes(alloc: Global, tables: &Tables, source: &[u8]) -> Result<Judged, 
 }
 
 /// Writes that a tokens file can't be read, or that there is no memory.
-fn put_unread<W: Write>(out: &mut W, path: &str, error: &io::Error) -> io::Result<Said> {
+pub fn put_unread<W: Write>(out: &mut W, path: &str, error: &io::Error) -> io::Result<Said> {
     match error.kind() {
         ErrorKind::OutOfMemory => put_memory(out, path),
         _ => {
@@ -98,7 +99,7 @@ fn put_unread<W: Write>(out: &mut W, path: &str, error: &io::Error) -> io::Resul
 }
 
 /// Writes that there is no memory for a tokens file.
-fn put_memory<W: Write>(out: &mut W, path: &str) -> io::Result<Said> {
+pub fn put_memory<W: Write>(out: &mut W, path: &str) -> io::Result<Said> {
     writeln!(out, "{path}: no memory")?;
     Ok(Said::Outside)
 }
@@ -145,6 +146,24 @@ fn put_before<W: Write>(out: &mut W, grammar: &Grammar, before: &[Sym]) -> io::R
     writeln!(out)
 }
 
+/// The tokens that can come behind some others.
+pub fn wanted_after(alloc: Global, tables: &Tables, before: &[Sym]) -> Result<Wanted, AllocError> {
+    let states = states_after(alloc, tables, before)?;
+    expected(alloc, tables, &states)
+}
+
+/// Writes that an input is accepted.
+pub fn put_accepted<W: Write>(out: &mut W, path: &str, steps: usize) -> io::Result<Said> {
+    writeln!(out, "{path}: good: accepted in {steps} steps")?;
+    Ok(Said::Good)
+}
+
+/// Writes that a parse takes too many steps.
+pub fn put_limit<W: Write>(out: &mut W, path: &str) -> io::Result<Said> {
+    writeln!(out, "{path}: deep: more than 1,000,000 steps")?;
+    Ok(Said::Bad)
+}
+
 impl Judge<'_> {
     /// Writes the verdict on a tokens file of these bytes.
     fn put_file<W: Write>(self, out: &mut W, path: &str, source: &[u8]) -> io::Result<Said> {
@@ -172,15 +191,9 @@ impl Judge<'_> {
 
     fn put_verdict<W: Write>(self, out: &mut W, path: &str, judged: &Judged) -> io::Result<Said> {
         match judged.verdict {
-            Verdict::Accepted(steps) => {
-                writeln!(out, "{path}: good: accepted in {steps} steps")?;
-                Ok(Said::Good)
-            }
+            Verdict::Accepted(steps) => put_accepted(out, path, steps),
             Verdict::Rejected(place) => self.put_rejected(out, path, &judged.tokens.symbols, place),
-            Verdict::Limit => {
-                writeln!(out, "{path}: deep: more than 1,000,000 steps")?;
-                Ok(Said::Bad)
-            }
+            Verdict::Limit => put_limit(out, path),
         }
     }
 
@@ -195,7 +208,7 @@ impl Judge<'_> {
         let taken = place.saturating_sub(1);
         let before = tokens.get(..taken).unwrap_or(tokens);
         let token = tokens.get(taken).copied().unwrap_or(END);
-        let Ok(wanted) = self.wanted(before) else {
+        let Ok(wanted) = wanted_after(self.alloc, self.tables, before) else {
             return put_memory(out, path);
         };
         let grammar = grammar_of(self.tables);
@@ -205,27 +218,21 @@ impl Judge<'_> {
         put_before(out, grammar, before)?;
         Ok(Said::Bad)
     }
+}
 
-    /// The tokens that can come behind some others.
-    fn wanted(self, before: &[Sym]) -> Result<Wanted, AllocError> {
-        let states = states_after(self.alloc, self.tables, before)?;
-        expected(self.alloc, self.tables, &states)
-    }
-
-    /// Writes whether the grammar has choices.
-    fn put_choice<W: Write>(self, out: &mut W, path: &str) -> io::Result<()> {
-        if self.tables.choice_free() {
-            writeln!(
-                out,
-                "{path}: no cell has a choice, so the answers are those of the grammar's language"
-            )
-        } else {
-            writeln!(
-                out,
-                "{path}: cells have choices, so a list that is bad here may be in the grammar's \
-                 language"
-            )
-        }
+/// Writes whether the grammar has choices.
+pub fn put_choice<W: Write>(out: &mut W, tables: &Tables, path: &str) -> io::Result<()> {
+    if tables.choice_free() {
+        writeln!(
+            out,
+            "{path}: no cell has a choice, so the answers are those of the grammar's language"
+        )
+    } else {
+        writeln!(
+            out,
+            "{path}: cells have choices, so a list that is bad here may be in the grammar's \
+             language"
+        )
     }
 }
 
@@ -249,25 +256,20 @@ fn put_all<F: Files + AllocGlobal, R: Read, W: Write>(
 }
 
 /// Writes what is asked for, and gives the exit status: 0 where all files are accepted, 1 where
-/// the grammar or a tokens file is refused or one isn't accepted, 3 where one can't be read, or
-/// where memory runs out. Faults of the grammar file go to `errors`.
-pub fn run_check<F: Files + AllocGlobal, R: Read, W: Write, E: Write>(
+/// one is refused or isn't accepted, 3 where one can't be read, or where memory runs out.
+pub fn run_check<F: Files + AllocGlobal, R: Read, W: Write>(
     rt: &F,
     asked: Check<'_>,
+    tables: &Tables,
     input: &mut R,
     out: &mut W,
-    errors: &mut E,
 ) -> io::Result<u8> {
-    let opened = match open_grammar(rt, asked.grammar, errors)? {
-        Ok(opened) => opened,
-        Err(status) => return Ok(status),
-    };
     let judge = Judge {
         alloc: rt.alloc(),
-        tables: &opened.tables,
+        tables,
     };
     if asked.choice {
-        judge.put_choice(out, asked.grammar)?;
+        put_choice(out, tables, asked.grammar)?;
     }
     put_all(rt, input, out, judge, asked.tokens)
 }

@@ -1,34 +1,29 @@
 //! `ydebug grammar tokens`: a debugger of parses for people. `ydebug conflicts grammar` explains
 //! the conflicts of a grammar, `ydebug check grammar tokens..` says what its sentences are, and
 //! `ydebug page grammar tokens` makes a page of a parse. `ydebug import file` makes a grammar file
-//! that `yacc` reads out of one for bison.
+//! that `yacc` reads out of one for bison. With `--lex SPEC` a text stands in place of a tokens
+//! file; `ydebug tokens` writes the tokens of one, and `ydebug lex-spec` sketches a SPEC.
 #![tactic(auto)]
 
+mod forms;
+
+use crate::forms::{Form, USAGE, command_of, form_of};
 use clap::error::ErrorKind;
-use clap::{Arg, ArgAction, ArgMatches, Command};
+use clap::{ArgMatches, Command};
 use std::alloc::{AllocError, Global};
 use std::env;
 use std::io::{self, BufWriter, IsTerminal, Write};
 use std::process::ExitCode;
-use ycheck::check::{Check, run_check};
-use ydebugger::{Setting, debug, parse_of};
+use ydebugger::{Opens, Setting, debug};
 use yimported::run::{Asked as Import, run_import};
 use ypage::page::{self, run_page};
 use ypage::walk::Part;
-use yreports::report::{Asked, run_conflicts};
-
-/// The forms of the command line.
-const FORMS: &str = "Other forms:\n\
-    \x20 ydebug conflicts grammar [--save FOLDER] [--strict]\n\
-    \x20 ydebug check grammar tokens.. [--choice]\n\
-    \x20 ydebug page grammar tokens [-o FILE] [--from K] [--to K] [--conflicts]\n\
-    \x20 ydebug import file [-o grammar]";
-/// What is written where the words are not those of the program.
-const USAGE: &[u8] = b"usage: ydebug grammar tokens\n\
-    \x20      ydebug conflicts grammar [--save FOLDER] [--strict]\n\
-    \x20      ydebug check grammar tokens.. [--choice]\n\
-    \x20      ydebug page grammar tokens [-o FILE] [--from K] [--to K] [--conflicts]\n\
-    \x20      ydebug import file [-o grammar]\n";
+use yreports::report::{Asked, put_conflicts};
+use ysources::check::{self, check_inputs};
+use ysources::grammars::{GrammarFile, open_file};
+use ysources::sketch::run_sketch;
+use ysources::source::Source;
+use ysources::tokens::run_tokens;
 
 /// Why nothing was done.
 #[derive(Drop)]
@@ -58,98 +53,6 @@ impl From<io::Error> for Refused {
     }
 }
 
-/// A file among the words.
-fn file_argument<'a>(alloc: Global, name: &'a str, help: &'a str) -> Arg<'a> {
-    Arg::new(alloc, name)
-        .required(true)
-        .action(ArgAction::Set)
-        .help(help)
-}
-
-/// A flag of two dashes.
-fn flag<'a>(alloc: Global, name: &'a str, help: &'a str) -> Arg<'a> {
-    Arg::new(alloc, name)
-        .long(name)
-        .action(ArgAction::SetTrue)
-        .help(help)
-}
-
-/// The command line of a session.
-fn debug_command<'a>(alloc: Global) -> Result<Command<'a>, AllocError> {
-    Command::new(alloc, "ydebug")
-        .about("Steps a parse forward and back for a person at a terminal")
-        .after_help(FORMS)
-        .arg(file_argument(alloc, "grammar", "The grammar file"))?
-        .arg(file_argument(alloc, "tokens", "The tokens file"))
-}
-
-/// The command line of the report on conflicts.
-fn conflicts_command<'a>(alloc: Global) -> Result<Command<'a>, AllocError> {
-    let save = Arg::new(alloc, "save")
-        .long("save")
-        .action(ArgAction::Set)
-        .help("Writes the tokens of each conflict to a file of this folder");
-    Command::new(alloc, "ydebug conflicts")
-        .about("Explains the conflicts of a grammar, and warns of what it has in vain")
-        .arg(file_argument(alloc, "grammar", "The grammar file"))?
-        .arg(save)?
-        .arg(flag(
-            alloc,
-            "strict",
-            "Ends with 1 where there is a conflict or a warning",
-        ))
-}
-
-/// The command line of verdicts.
-fn check_command<'a>(alloc: Global) -> Result<Command<'a>, AllocError> {
-    let tokens = file_argument(alloc, "tokens", "The tokens files; - is standard input");
-    Command::new(alloc, "ydebug check")
-        .about("Says of each tokens file whether it is a sentence of a grammar")
-        .arg(file_argument(alloc, "grammar", "The grammar file"))?
-        .arg(tokens.num_args(1..))?
-        .arg(flag(
-            alloc,
-            "choice",
-            "Says whether the grammar is free of choices",
-        ))
-}
-
-/// An option with a value behind two dashes.
-fn option<'a>(alloc: Global, name: &'a str, help: &'a str) -> Arg<'a> {
-    Arg::new(alloc, name)
-        .long(name)
-        .action(ArgAction::Set)
-        .help(help)
-}
-
-/// The command line of a page.
-fn page_command<'a>(alloc: Global) -> Result<Command<'a>, AllocError> {
-    let file = Arg::new(alloc, "file")
-        .short('o')
-        .action(ArgAction::Set)
-        .help("The file that the page goes to; without it, standard output");
-    Command::new(alloc, "ydebug page")
-        .about("Makes a page in HTML of a parse, to be looked at in a browser")
-        .arg(file_argument(alloc, "grammar", "The grammar file"))?
-        .arg(file_argument(alloc, "tokens", "The tokens file"))?
-        .arg(file)?
-        .arg(option(alloc, "from", "The first position that it shows"))?
-        .arg(option(alloc, "to", "The last position that it shows"))?
-        .arg(flag(alloc, "conflicts", "Shows the conflicts of the grammar too"))
-}
-
-/// The command line of an import.
-fn import_command<'a>(alloc: Global) -> Result<Command<'a>, AllocError> {
-    let output = Arg::new(alloc, "output")
-        .short('o')
-        .action(ArgAction::Set)
-        .help("Writes the grammar to this file");
-    Command::new(alloc, "ydebug import")
-        .about("Makes a grammar file of bison or byacc one that yacc reads")
-        .arg(file_argument(alloc, "file", "The file of bison or byacc"))?
-        .arg(output)
-}
-
 /// What a command line makes of words.
 fn matches_by<'a>(
     alloc: Global,
@@ -166,14 +69,6 @@ fn matches_by<'a>(
     }
 }
 
-/// The words of a subcommand, with its whole name in place of the first, for the help text.
-fn named<'a>(alloc: Global, name: &'a str, words: &[&'a str]) -> Result<Vec<&'a str>, AllocError> {
-    let mut named = Vec::with_capacity(alloc, words.len())?;
-    named.push(name)?;
-    named.extend_from_slice(words.get(1..).unwrap_or(&[]))?;
-    Ok(named)
-}
-
 /// The value of an argument that is required.
 fn value_of<'a>(matches: &ArgMatches<'a>, name: &str) -> Result<&'a str, Refused> {
     matches.get_str(name).ok_or(Refused::Words)
@@ -184,83 +79,131 @@ fn is_given(matches: &ArgMatches<'_>, name: &str) -> bool {
     matches.get_str(name) == Some("true")
 }
 
-/// A report on conflicts. The words begin with the subcommand.
-fn report(rt: &HostRuntime, words: &[&str]) -> Result<u8, Refused> {
-    let alloc = rt.alloc();
-    let words = named(alloc, "ydebug conflicts", words)?;
-    let matches = matches_by(alloc, conflicts_command(alloc), &words)?;
-    let asked = Asked {
-        grammar: value_of(&matches, "grammar")?,
-        save: matches.get_str("save"),
-        strict: is_given(&matches, "strict"),
-    };
-    let mut writer = BufWriter::new(alloc, rt.stdout())?;
-    let status = run_conflicts(rt, asked, &mut writer, &mut rt.stderr())?;
-    writer.flush()?;
-    Ok(status)
+/// The grammar file, and whether it is one of bison.
+fn grammar_in<'a>(matches: &ArgMatches<'a>) -> Result<GrammarFile<'a>, Refused> {
+    let path = value_of(matches, "grammar")?;
+    match matches.get_str("from") {
+        None => Ok(GrammarFile { path, bison: false }),
+        Some("bison") => Ok(GrammarFile { path, bison: true }),
+        Some(_) => Err(Refused::Words),
+    }
 }
 
-/// Verdicts on tokens files. The words begin with the subcommand.
-fn check(rt: &HostRuntime, words: &[&str]) -> Result<u8, Refused> {
-    let alloc = rt.alloc();
-    let words = named(alloc, "ydebug check", words)?;
-    let matches = matches_by(alloc, check_command(alloc), &words)?;
-    let asked = Check {
-        grammar: value_of(&matches, "grammar")?,
-        tokens: matches.get_strs("tokens").unwrap_or(&[]),
-        choice: is_given(&matches, "choice"),
-    };
-    let mut writer = BufWriter::new(alloc, rt.stdout())?;
-    let status = run_check(rt, asked, &mut rt.stdin(), &mut writer, &mut rt.stderr())?;
-    writer.flush()?;
-    Ok(status)
+/// The number that a word is.
+fn number_in(word: &str) -> Result<usize, Refused> {
+    word.parse::<usize>().map_err(|_| Refused::Words)
 }
 
 /// The number that an option gives, where it is given.
 fn number_of(matches: &ArgMatches<'_>, name: &str) -> Result<Option<usize>, Refused> {
     match matches.get_str(name) {
-        Some(word) => match word.parse::<usize>() {
-            Ok(number) => Ok(Some(number)),
-            Err(_) => Err(Refused::Words),
-        },
+        Some(word) => number_in(word).map(Some),
         None => Ok(None),
     }
 }
 
-/// A page of a parse. The words begin with the subcommand.
-fn page(rt: &HostRuntime, words: &[&str]) -> Result<u8, Refused> {
-    let alloc = rt.alloc();
-    let words = named(alloc, "ydebug page", words)?;
-    let matches = matches_by(alloc, page_command(alloc), &words)?;
-    let asked = page::Asked {
-        grammar: value_of(&matches, "grammar")?,
-        tokens: value_of(&matches, "tokens")?,
-        file: matches.get_str("file"),
-        part: Part {
-            from: number_of(&matches, "from")?.unwrap_or(0),
-            to: number_of(&matches, "to")?,
-        },
-        conflicts: is_given(&matches, "conflicts"),
-    };
-    let mut writer = BufWriter::new(alloc, rt.stdout())?;
-    let status = run_page(rt, asked, &mut writer, &mut rt.stderr())?;
-    writer.flush()?;
-    Ok(status)
+/// What stands behind each `--from` of a page: `bison`, and a first position, each once at most.
+fn page_from(words: &[&str]) -> Result<(bool, usize), Refused> {
+    match words {
+        [] => Ok((false, 0)),
+        [word] if *word == "bison" => Ok((true, 0)),
+        [word] => Ok((false, number_in(word)?)),
+        [word, number] | [number, word] if *word == "bison" => Ok((true, number_in(number)?)),
+        _ => Err(Refused::Words),
+    }
 }
 
-/// An import. The words begin with the subcommand.
-fn import(rt: &HostRuntime, words: &[&str]) -> Result<u8, Refused> {
-    let alloc = rt.alloc();
-    let words = named(alloc, "ydebug import", words)?;
-    let matches = matches_by(alloc, import_command(alloc), &words)?;
+/// A report on conflicts.
+fn report<W: Write>(
+    rt: &HostRuntime,
+    matches: &ArgMatches<'_>,
+    out: &mut W,
+) -> Result<u8, Refused> {
+    let file = grammar_in(matches)?;
+    let asked = Asked {
+        grammar: file.path,
+        save: matches.get_str("save"),
+        strict: is_given(matches, "strict"),
+    };
+    match open_file(rt, file, &mut rt.stderr())? {
+        Ok(opened) => Ok(put_conflicts(rt, out, &mut rt.stderr(), asked, opened)?),
+        Err(status) => Ok(status),
+    }
+}
+
+/// Verdicts on inputs.
+fn check<W: Write>(rt: &HostRuntime, matches: &ArgMatches<'_>, out: &mut W) -> Result<u8, Refused> {
+    let asked = check::Asked {
+        grammar: grammar_in(matches)?,
+        inputs: matches.get_strs("tokens").unwrap_or(&[]),
+        spec: matches.get_str("lex"),
+        choice: is_given(matches, "choice"),
+    };
+    let streams = (&mut rt.stdin(), out);
+    Ok(check_inputs(rt, asked, streams, &mut rt.stderr())?)
+}
+
+/// What is asked of a page, and whether its grammar is a file of bison.
+fn page_asked<'a>(matches: &ArgMatches<'a>) -> Result<(page::Asked<'a>, bool), Refused> {
+    let (bison, from) = page_from(matches.get_strs("from").unwrap_or(&[]))?;
+    let asked = page::Asked {
+        grammar: value_of(matches, "grammar")?,
+        tokens: value_of(matches, "tokens")?,
+        file: matches.get_str("file"),
+        part: Part {
+            from,
+            to: number_of(matches, "to")?,
+        },
+        conflicts: is_given(matches, "conflicts"),
+    };
+    Ok((asked, bison))
+}
+
+/// A page of a parse.
+fn page<W: Write>(rt: &HostRuntime, matches: &ArgMatches<'_>, out: &mut W) -> Result<u8, Refused> {
+    let (asked, bison) = page_asked(matches)?;
+    let path = asked.grammar;
+    let source = Source {
+        rt,
+        grammar: GrammarFile { path, bison },
+        input: asked.tokens,
+        spec: matches.get_str("lex"),
+    };
+    Ok(run_page(rt, &source, asked, out, &mut rt.stderr())?)
+}
+
+/// An import.
+fn import<W: Write>(
+    rt: &HostRuntime,
+    matches: &ArgMatches<'_>,
+    out: &mut W,
+) -> Result<u8, Refused> {
     let asked = Import {
-        file: value_of(&matches, "file")?,
+        file: value_of(matches, "file")?,
         output: matches.get_str("output"),
     };
-    let mut writer = BufWriter::new(alloc, rt.stdout())?;
-    let status = run_import(rt, asked, &mut writer, &mut rt.stderr())?;
-    writer.flush()?;
-    Ok(status)
+    Ok(run_import(rt, asked, out, &mut rt.stderr())?)
+}
+
+/// The tokens of a text.
+fn tokens<W: Write>(
+    rt: &HostRuntime,
+    matches: &ArgMatches<'_>,
+    out: &mut W,
+) -> Result<u8, Refused> {
+    let file = grammar_in(matches)?;
+    let paths = (value_of(matches, "lex")?, value_of(matches, "tokens")?);
+    Ok(run_tokens(rt, file, paths, out, &mut rt.stderr())?)
+}
+
+/// A sketch of how tokens look.
+fn sketch<W: Write>(
+    rt: &HostRuntime,
+    matches: &ArgMatches<'_>,
+    out: &mut W,
+) -> Result<u8, Refused> {
+    let file = grammar_in(matches)?;
+    Ok(run_sketch(rt, file, out, &mut rt.stderr())?)
 }
 
 /// Whether an environment variable is set to something that counts.
@@ -280,41 +223,87 @@ fn is_dumb(rt: &HostRuntime) -> bool {
 }
 
 /// Where a session takes place.
-fn setting_of<'a>(rt: &HostRuntime, grammar: &'a str, tokens: &'a str) -> Setting<'a> {
+fn setting_of(rt: &HostRuntime) -> Setting {
     let shown = rt.stdout().is_terminal();
     Setting {
-        grammar,
-        tokens,
         terminal: shown && rt.stdin().is_terminal(),
         colour: shown && !is_set(rt, "NO_COLOR") && !is_dumb(rt),
     }
 }
 
 /// A session with the standard streams.
-fn debug_files(rt: &HostRuntime, words: &[&str]) -> Result<u8, Refused> {
-    let matches = matches_by(rt.alloc(), debug_command(rt.alloc()), words)?;
-    let grammar = value_of(&matches, "grammar")?;
-    let tokens = value_of(&matches, "tokens")?;
-    let writer = BufWriter::new(rt.alloc(), rt.stdout())?;
-    match parse_of(rt, grammar, tokens, &mut rt.stderr())? {
+fn debug_files<W: Write>(
+    rt: &HostRuntime,
+    matches: &ArgMatches<'_>,
+    out: &mut W,
+) -> Result<u8, Refused> {
+    let source = Source {
+        rt,
+        grammar: grammar_in(matches)?,
+        input: value_of(matches, "tokens")?,
+        spec: matches.get_str("lex"),
+    };
+    match source.open(&mut rt.stderr())? {
         Ok(parse) => {
-            let setting = setting_of(rt, grammar, tokens);
-            let ended = debug(rt, setting, parse, rt.stdin(), writer);
+            let ended = debug(rt, &source, setting_of(rt), parse, rt.stdin(), out);
             ended.map(|()| 0).map_err(Refused::from)
         }
         Err(status) => Ok(status),
     }
 }
 
-/// Does what the words ask for, and gives the exit status. The first word is the program's name.
-fn obey(rt: &HostRuntime, words: &[&str]) -> Result<u8, Refused> {
-    match words {
-        [_, rest @ ..] if rest.first() == Some(&"conflicts") => report(rt, rest),
-        [_, rest @ ..] if rest.first() == Some(&"check") => check(rt, rest),
-        [_, rest @ ..] if rest.first() == Some(&"page") => page(rt, rest),
-        [_, rest @ ..] if rest.first() == Some(&"import") => import(rt, rest),
-        _ => debug_files(rt, words),
+/// Does what a form and what stands behind it ask for, and gives the exit status.
+fn obey<W: Write>(
+    rt: &HostRuntime,
+    form: Form,
+    matches: &ArgMatches<'_>,
+    out: &mut W,
+) -> Result<u8, Refused> {
+    match form {
+        Form::Debug => debug_files(rt, matches, out),
+        Form::Conflicts => report(rt, matches, out),
+        Form::Check => check(rt, matches, out),
+        Form::Page => page(rt, matches, out),
+        Form::Import => import(rt, matches, out),
+        Form::Tokens => tokens(rt, matches, out),
+        Form::Sketch => sketch(rt, matches, out),
     }
+}
+
+/// Does so, and writes all that is left in the buffer.
+fn obey_all<W: Write>(
+    rt: &HostRuntime,
+    form: Form,
+    matches: &ArgMatches<'_>,
+    out: &mut W,
+) -> Result<u8, Refused> {
+    let status = obey(rt, form, matches, out)?;
+    out.flush()?;
+    Ok(status)
+}
+
+/// Does what words ask for, and gives the exit status. The first one is the name of the program.
+fn obey_words(rt: &HostRuntime, form: Form, words: &[&str]) -> Result<u8, Refused> {
+    let alloc = rt.alloc();
+    let matches = matches_by(alloc, command_of(alloc, form), words)?;
+    let mut out = BufWriter::new(alloc, rt.stdout())?;
+    obey_all(rt, form, &matches, &mut out)
+}
+
+/// The words of a form behind the name of the program with it, for the help text.
+fn named<'a>(alloc: Global, name: &'a str, words: &[&'a str]) -> Result<Vec<&'a str>, AllocError> {
+    let mut named = Vec::with_capacity(alloc, words.len())?;
+    named.push(name)?;
+    named.extend_from_slice(words)?;
+    Ok(named)
+}
+
+/// Finds the form, and does what the words behind it ask for.
+fn obey_given(rt: &HostRuntime, words: &[&str]) -> Result<u8, Refused> {
+    let (form, name) = form_of(words.get(1));
+    let first = if name == "ydebug" { 1 } else { 2 };
+    let words = named(rt.alloc(), name, words.get(first..).unwrap_or(&[]))?;
+    obey_words(rt, form, &words)
 }
 
 /// Reads the words and does what they ask for.
@@ -324,7 +313,7 @@ fn run(rt: &HostRuntime) -> Result<u8, Refused> {
     for word in &given {
         words.push(word.as_str()).map_err(AllocError::from)?;
     }
-    obey(rt, &words)
+    obey_given(rt, &words)
 }
 
 /// Says why nothing was done, and gives the exit status.

@@ -3,36 +3,34 @@
 use crate::conflicts::put_conflicts;
 use crate::edits::{drop_next, insert, save};
 use crate::expected::put_expected;
-use crate::help::{put_command, put_commands};
-use crate::moves::{LAST, Move, make_move};
+use crate::moves::make_move;
 use crate::parse::Parse;
 use crate::reload::reload;
+use crate::start::Opens;
+use crate::text::{put_ahead, put_ahead_all};
 use crate::views::{
     refuse_name, show_derivation, show_history, show_rule, show_state, show_symbol, show_tree,
     show_why,
 };
-use std::alloc::{AllocError, Global};
+use std::alloc::Global;
 use std::io::{self, BufReader, ErrorKind, Read, Write};
 use std::rt::Files;
 use std::str;
-use ycommands::condition::{condition_of, number_in};
+use ycommands::help::{put_candidates, put_unknown, show_help, verb_of};
 use ycommands::lines::{Came, LONGEST, next_line};
 use ycommands::refusal::{Refusal, misused, put_refusal};
-use ycommands::verb::{VERBS, Verb};
-use ycommands::words::{Found, Nearest, begins, find, first_word};
+use ycommands::travel::{Move, move_of, name_at_fault};
+use ycommands::verb::Verb;
+use ycommands::words::{Found, first_word};
 use yexplain::reads::grammar_of;
 use yshow::grammar_view::put_grammar;
-use yshow::place_view::{put_stack, put_upcoming, put_where};
+use yshow::place_view::{put_stack, put_where};
 use yshow::reading::{last_rule, states_of};
 use yshow::{Page, Paint};
 
-/// Where a session takes place: its files, and whether a person sits at a terminal.
+/// Where a session takes place: whether a person sits at a terminal.
 #[derive(Clone, Copy)]
-pub struct Setting<'a> {
-    /// The path of the grammar file.
-    pub grammar: &'a str,
-    /// The path of the tokens file.
-    pub tokens: &'a str,
+pub struct Setting {
     /// Whether standard input and output are a terminal.
     pub terminal: bool,
     /// Whether to write in colour.
@@ -48,111 +46,15 @@ enum Flow {
 
 /// A session with a person.
 #[derive(Drop)]
-struct Desk<'a, F> {
+struct Desk<'a, F, S> {
     rt: &'a F,
-    setting: Setting<'a>,
+    source: &'a S,
+    setting: Setting,
     parse: Parse,
     last: Option<Move>,
 }
 
-/// The command that a word means.
-fn verb_of(word: &str) -> Found<Verb> {
-    match word {
-        "s" => Found::One(Verb::Step),
-        "b" => Found::One(Verb::Back),
-        "r" => Found::One(Verb::Run),
-        "w" => Found::One(Verb::Where),
-        _ => find(&VERBS, word),
-    }
-}
-
-/// The commands that begin so.
-fn put_candidates<W: Write>(page: &mut Page<W>, word: &str) -> io::Result<()> {
-    page.put(word)?;
-    page.put(" could be any of:")?;
-    for (name, _) in &VERBS {
-        if begins(name, word) {
-            page.put(" ")?;
-            page.put(name)?;
-        }
-    }
-    page.end()
-}
-
-/// The command whose word is near to this one.
-fn near_verb<'a>(alloc: Global, word: &'a str) -> Result<Option<&'a str>, AllocError> {
-    let mut nearest = Nearest::new(word);
-    for (name, _) in &VERBS {
-        nearest.offer(alloc, name)?;
-    }
-    Ok(nearest.best())
-}
-
-/// That a word is no command, and which one is near it.
-fn put_unknown<W: Write>(alloc: Global, page: &mut Page<W>, word: &str) -> io::Result<()> {
-    let near = near_verb(alloc, word)?;
-    page.painted(Paint::Bad, word)?;
-    page.put(" is no command; ")?;
-    match near {
-        Some(best) => writeln!(page, "did you mean {best}?"),
-        None => page.line("help lists them."),
-    }
-}
-
-/// How often: once where nothing is said.
-fn count_of(text: &str) -> Result<usize, Refusal> {
-    if text.is_empty() {
-        return Ok(1);
-    }
-    number_in(text, "counts", 1, LAST)
-}
-
-/// What stands behind `until`, or a beginning of it.
-fn until_in(text: &str) -> Option<&str> {
-    let (word, condition) = first_word(text);
-    if !word.is_empty() && "until".starts_with(word) {
-        Some(condition)
-    } else {
-        None
-    }
-}
-
-/// The word for which a condition was refused: its first one, or the name behind that.
-fn name_at_fault(text: &str, refusal: Refusal) -> &str {
-    let (word, name) = first_word(until_in(text).unwrap_or(""));
-    match refusal {
-        Refusal::NoCondition => word,
-        _ => name,
-    }
-}
-
-/// The move that a command and the words behind it mean.
-fn move_of(parse: &Parse, verb: Verb, text: &str) -> Result<Move, Refusal> {
-    let until = |condition: &str| condition_of(parse.session(), parse.tokens(), condition);
-    match (verb, until_in(text)) {
-        (Verb::Run, Some(condition)) => until(condition).map(Move::RunUntil),
-        (Verb::Back, Some(condition)) => until(condition).map(Move::BackUntil),
-        (Verb::Back, None) => count_of(text).map(Move::Back),
-        (Verb::To, _) => number_in(text, "positions", 0, LAST).map(Move::To),
-        (Verb::Run, None) if text.is_empty() => Ok(Move::Run),
-        (Verb::Run, None) => Err(misused(verb)),
-        _ => count_of(text).map(Move::Step),
-    }
-}
-
-/// Help on all commands, or on one.
-fn show_help<W: Write>(alloc: Global, page: &mut Page<W>, text: &str) -> io::Result<()> {
-    if text.is_empty() {
-        return put_commands(page);
-    }
-    match verb_of(text) {
-        Found::One(verb) => put_command(page, verb),
-        Found::Many => put_candidates(page, text),
-        Found::Nothing => put_unknown(alloc, page, text),
-    }
-}
-
-impl<'a, F: Files + AllocGlobal> Desk<'a, F> {
+impl<'a, F: Files + AllocGlobal, S: Opens> Desk<'a, F, S> {
     /// Makes a move, which an empty line then repeats.
     fn go<W: Write>(&mut self, page: &mut Page<W>, wanted: Move) -> io::Result<()> {
         self.last = Some(wanted);
@@ -167,7 +69,7 @@ impl<'a, F: Files + AllocGlobal> Desk<'a, F> {
 
     /// Makes the move that a command means.
     fn travel<W: Write>(&mut self, page: &mut Page<W>, verb: Verb, text: &str) -> io::Result<()> {
-        match move_of(&self.parse, verb, text) {
+        match move_of(self.parse.session(), self.parse.tokens(), verb, text) {
             Ok(wanted) => self.go(page, wanted),
             Err(Refusal::NoNumber) => put_refusal(page, misused(verb)),
             Err(refusal) => {
@@ -195,11 +97,14 @@ impl<'a, F: Files + AllocGlobal> Desk<'a, F> {
         let parse = &self.parse;
         match verb {
             Verb::Stack => put_stack(page, parse.session()),
-            Verb::Upcoming => put_upcoming(page, parse.session()),
+            Verb::Upcoming => put_ahead_all(page, parse),
             Verb::Expected => put_expected(self.rt.alloc(), page, parse.session()),
             Verb::Grammar => put_grammar(page, parse.tables(), parse.lines()),
             Verb::Conflicts => put_conflicts(self.rt.alloc(), page, parse),
-            _ => put_where(page, parse.session(), parse.tokens()),
+            _ => {
+                put_where(page, parse.session(), parse.tokens())?;
+                put_ahead(page, parse)
+            }
         }
     }
 
@@ -227,13 +132,7 @@ impl<'a, F: Files + AllocGlobal> Desk<'a, F> {
             return put_refusal(page, misused(Verb::Reload));
         }
         self.last = None;
-        reload(
-            self.rt,
-            page,
-            &mut self.parse,
-            self.setting.grammar,
-            self.setting.tokens,
-        )
+        reload(page, &mut self.parse, self.source)
     }
 
     /// Does what a command and the words behind it say.
@@ -337,8 +236,8 @@ impl<'a, F: Files + AllocGlobal> Desk<'a, F> {
 }
 
 /// Greets, and answers lines up to `quit` or the end of the input.
-fn turns<F: Files + AllocGlobal, R: Read, W: Write>(
-    desk: &mut Desk<'_, F>,
+fn turns<F: Files + AllocGlobal, S: Opens, R: Read, W: Write>(
+    desk: &mut Desk<'_, F, S>,
     page: &mut Page<W>,
     reader: &mut BufReader<R>,
     line: &mut Vec<u8>,
@@ -353,8 +252,8 @@ fn turns<F: Files + AllocGlobal, R: Read, W: Write>(
 }
 
 /// Makes room for lines, and answers them.
-fn serve_all<F: Files + AllocGlobal, R: Read + Drop, W: Write>(
-    desk: &mut Desk<'_, F>,
+fn serve_all<F: Files + AllocGlobal, S: Opens, R: Read + Drop, W: Write>(
+    desk: &mut Desk<'_, F, S>,
     page: &mut Page<W>,
     reader: R,
 ) -> io::Result<()> {
@@ -368,9 +267,10 @@ fn serve_all<F: Files + AllocGlobal, R: Read + Drop, W: Write>(
 /// `quit` or the end of the input.
 ///
 /// An error is that of the reader or of the writer, or memory ran out before the first line.
-pub fn debug<F: Files + AllocGlobal, R: Read + Drop, W: Write + Drop>(
+pub fn debug<F: Files + AllocGlobal, S: Opens, R: Read + Drop, W: Write + Drop>(
     rt: &F,
-    setting: Setting<'_>,
+    source: &S,
+    setting: Setting,
     parse: Parse,
     reader: R,
     writer: W,
@@ -378,6 +278,7 @@ pub fn debug<F: Files + AllocGlobal, R: Read + Drop, W: Write + Drop>(
     let mut page = Page::new(writer, setting.colour);
     let mut desk = Desk {
         rt,
+        source,
         setting,
         parse,
         last: None,

@@ -9,14 +9,15 @@ pub mod conflicts;
 pub mod desk;
 pub mod edits;
 pub mod expected;
-pub mod help;
 pub mod history;
 pub mod moves;
 pub mod parse;
 pub mod reload;
+pub mod source;
 pub mod start;
 pub mod tail;
+pub mod text;
 pub mod views;
 
 pub use desk::{Setting, debug};
-pub use start::parse_of;
+pub use start::Opens;

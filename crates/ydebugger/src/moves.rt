@@ -2,37 +2,20 @@
 
 use crate::parse::Parse;
 use crate::tail::Tail;
+use crate::text::put_ahead;
 use std::alloc::{AllocError, Global};
 use std::io::{self, Write};
 use ycommands::condition::{Condition, put_cell};
 use ycommands::refusal::fault_words;
+use ycommands::travel::{LAST, Move, is_to, tells_each, until_of};
 use yparse::machine::{AtStart, StepFault, StepKind};
 use yshow::page::Page;
 use yshow::step_line::{StepLine, put_made};
 
-/// The last position.
-pub const LAST: usize = 1_000_000;
 /// More steps than can be made.
 const FARTHEST: usize = LAST + 1;
 /// After how many steps a long run writes its position.
 const PROGRESS: usize = 50_000;
-
-/// A move.
-#[derive(Clone, Copy)]
-pub enum Move {
-    /// So many steps forward, each told.
-    Step(usize),
-    /// So many steps back, each told.
-    Back(usize),
-    /// To a position.
-    To(usize),
-    /// To the end.
-    Run,
-    /// Forward to where a condition holds.
-    RunUntil(Condition),
-    /// Back to where a condition holds.
-    BackUntil(Condition),
-}
 
 /// How a move ended.
 #[derive(Clone, Copy)]
@@ -183,14 +166,6 @@ fn go<W: Write>(
     }
 }
 
-/// The condition of a move.
-fn until_of(wanted: Move) -> Option<Condition> {
-    match wanted {
-        Move::RunUntil(condition) | Move::BackUntil(condition) => Some(condition),
-        _ => None,
-    }
-}
-
 /// That a condition is met.
 fn put_met<W: Write>(page: &mut Page<W>, parse: &Parse, until: Condition) -> io::Result<()> {
     page.put("stopped: ")?;
@@ -231,16 +206,6 @@ fn put_end<W: Write>(
     }
 }
 
-/// Whether a move goes to a position.
-fn is_to(wanted: Move) -> bool {
-    matches!(wanted, Move::To(_))
-}
-
-/// Whether each step of a move is written.
-fn tells_each(wanted: Move) -> bool {
-    matches!(wanted, Move::Step(_) | Move::Back(_))
-}
-
 /// Makes a move, and tells it so.
 fn make_told<W: Write>(
     parse: &mut Parse,
@@ -262,5 +227,9 @@ pub fn make_move<W: Write>(
     progress: bool,
 ) -> io::Result<()> {
     let mut telling = Telling::new(alloc, tells_each(wanted), progress)?;
-    make_told(parse, page, &mut telling, wanted)
+    make_told(parse, page, &mut telling, wanted)?;
+    if tells_each(wanted) {
+        return Ok(());
+    }
+    put_ahead(page, parse)
 }

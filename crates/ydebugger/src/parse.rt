@@ -1,30 +1,44 @@
 //! A session with the kinds of its steps and edits.
 
+use crate::source::Text;
 use std::alloc::Global;
 use yexplain::lines::Lines;
 use yparse::Session;
 use yparse::machine::{AtStart, StepFault, StepKind};
 use ytables::Tables;
 
-/// A session, what was done in it, the lines of its grammar's file, and how many tokens its own
-/// file has.
+/// A session, what was done in it, the lines of its grammar's file, how many tokens its own file
+/// has, and that file, where it is a text.
 #[derive(Drop)]
 pub struct Parse {
     session: Session,
     lines: Lines,
     past: Vec<StepKind>,
     tokens: usize,
+    text: Option<Text>,
 }
 
 impl Parse {
-    /// A session at its start.
-    pub fn new(alloc: Global, session: Session, lines: Lines, tokens: usize) -> Parse {
+    /// A session at its start, with the text that its tokens were read from, where it was one.
+    pub fn new(
+        alloc: Global,
+        session: Session,
+        lines: Lines,
+        tokens: usize,
+        text: Option<Text>,
+    ) -> Parse {
         Parse {
             session,
             lines,
             past: Vec::new(alloc),
             tokens,
+            text,
         }
+    }
+
+    /// The text that the tokens were read from, where it was one.
+    pub fn text(&self) -> Option<&Text> {
+        self.text.as_ref()
     }
 
     /// The session.

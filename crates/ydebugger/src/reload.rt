@@ -1,10 +1,9 @@
 //! Both files again: a new parse, and the steps and edits of the old one in it.
 
 use crate::parse::Parse;
-use crate::start::parse_of;
+use crate::start::Opens;
 use std::io::{self, Write};
 use std::mem;
-use std::rt::Files;
 use ycommands::refusal::{Refusal, fault_words, put_refusal};
 use yexplain::reads::grammar_of;
 use yparse::machine::{StepFault, StepKind};
@@ -103,14 +102,12 @@ fn replace<W: Write>(page: &mut Page<W>, parse: &mut Parse, fresh: Parse) -> io:
 }
 
 /// Reads both files again. Where one is refused, that is said, and the old parse stays.
-pub fn reload<F: Files + AllocGlobal, W: Write>(
-    rt: &F,
+pub fn reload<S: Opens, W: Write>(
     page: &mut Page<W>,
     parse: &mut Parse,
-    grammar: &str,
-    tokens: &str,
+    source: &S,
 ) -> io::Result<()> {
-    match parse_of(rt, grammar, tokens, page)? {
+    match source.open(page)? {
         Ok(fresh) => replace(page, parse, fresh),
         Err(_) => page.line("The parse is as it was."),
     }

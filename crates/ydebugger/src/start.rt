@@ -1,12 +1,10 @@
-//! A parse from its two files.
+//! A parse from its two files, and what opens them.
 
 use crate::parse::Parse;
 use std::alloc::Global;
-use std::fs;
 use std::io::{self, Write};
-use std::rt::Files;
 use yexplain::reads::grammar_of;
-use yfaults::opening::{Opened, open_grammar, put_near_token, put_token_fault, put_unread};
+use yfaults::opening::{Opened, put_near_token, put_token_fault};
 use yparse::{Session, TokenFault, read_tokens};
 use ytables::Tables;
 
@@ -31,7 +29,7 @@ fn refuse_tokens<E: Write>(
 
 /// A parse of the tokens that the bytes mean. Where they are refused, that is written, and the
 /// exit status is the answer.
-fn parse_over<E: Write>(
+pub fn parse_over<E: Write>(
     alloc: Global,
     opened: Opened,
     path: &str,
@@ -43,38 +41,19 @@ fn parse_over<E: Write>(
         Ok(tokens) => {
             let count = tokens.len();
             let session = Session::new(alloc, tables, tokens);
-            Ok(Ok(Parse::new(alloc, session, lines, count)))
+            Ok(Ok(Parse::new(alloc, session, lines, count, None)))
         }
         Err(fault) => refuse_tokens(alloc, errors, &tables, path, source, fault).map(Err),
     }
 }
 
-/// A parse of a tokens file by a grammar that is open. Where the file is refused, that is written,
-/// and the exit status is the answer.
-fn parse_file<F: Files + AllocGlobal, E: Write>(
-    rt: &F,
-    opened: Opened,
-    path: &str,
-    errors: &mut E,
-) -> io::Result<Result<Parse, u8>> {
-    match fs::read(rt, path) {
-        Ok(source) => parse_over(rt.alloc(), opened, path, &source, errors),
-        Err(error) => put_unread(errors, path, &error).map(Err),
-    }
-}
+/// What opens the files of a parse, as often as they are read.
+pub trait Opens {
+    /// A parse at its start. Where a file is refused, that is written, and the exit status is the
+    /// answer: 1 for a fault of a file, 3 where memory runs out, for too many states, and for a
+    /// file that can't be read.
+    fn open<E: Write>(&self, errors: &mut E) -> io::Result<Result<Parse, u8>>;
 
-/// A parse at its start, of a tokens file by a grammar file; the tokens file is read once there
-/// are tables of the grammar. Where one is refused, that is written, and the exit status is the
-/// answer: 1 for a fault of a file, 3 where memory runs out, for too many states, and for a file
-/// that can't be read.
-pub fn parse_of<F: Files + AllocGlobal, E: Write>(
-    rt: &F,
-    grammar: &str,
-    tokens: &str,
-    errors: &mut E,
-) -> io::Result<Result<Parse, u8>> {
-    match open_grammar(rt, grammar, errors)? {
-        Ok(opened) => parse_file(rt, opened, tokens, errors),
-        Err(status) => Ok(Err(status)),
-    }
+    /// The grammar file alone, opened once more.
+    fn open_grammar<E: Write>(&self, errors: &mut E) -> io::Result<Result<Opened, u8>>;
 }

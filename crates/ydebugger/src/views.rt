@@ -1,12 +1,12 @@
 //! Commands that show something.
 
 use crate::history::{SOME_STEPS, put_history};
-use crate::moves::LAST;
 use crate::parse::Parse;
 use std::alloc::{AllocError, Global};
 use std::io::{self, Write};
 use ycommands::condition::{condition_near, number_in, symbol_named, symbol_near, token_named};
 use ycommands::refusal::{Refusal, misused, put_refusal};
+use ycommands::travel::LAST;
 use ycommands::verb::Verb;
 use ycommands::words::first_word;
 use yexplain::reads::grammar_of;

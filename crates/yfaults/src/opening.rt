@@ -174,20 +174,18 @@ pub fn put_near_token<W: Write>(
     }
 }
 
-/// Opens a grammar file. Where it is refused, that is written, and the exit status is the answer.
-pub fn open_grammar<F: Files + AllocGlobal, W: Write>(
-    rt: &F,
+/// Opens the grammar file of these bytes. Where it is refused, that is written, and the exit status
+/// is the answer.
+pub fn open_text<W: Write>(
+    alloc: Global,
     path: &str,
+    source: &[u8],
     errors: &mut W,
 ) -> io::Result<Result<Opened, u8>> {
-    let source = match grammar_bytes(rt, path) {
-        Ok(source) => source,
-        Err(error) => return Ok(Err(put_unread(errors, path, &error)?)),
-    };
-    match open_bytes(rt.alloc(), &source) {
+    match open_bytes(alloc, source) {
         Ok(opened) => Ok(Ok(opened)),
         Err(trouble) => {
-            put_trouble(errors, rt.alloc(), path, &source, &trouble)?;
+            put_trouble(errors, alloc, path, source, &trouble)?;
             Ok(Err(trouble.status()))
         }
     }

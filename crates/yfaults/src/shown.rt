@@ -124,8 +124,13 @@ impl<'a> Place<'a> {
         writeln!(out, "{path}:{line}: {code}: {what}")
     }
 
+    /// The column of the place: the bytes of its line up to it, counted from 1.
+    pub fn column(self) -> usize {
+        self.parts().0.len().saturating_add(1)
+    }
+
     /// Writes the text of the line, and a caret under the place.
-    fn put_text<W: Write>(self, out: &mut W, caret: bool) -> io::Result<()> {
+    pub fn put_text<W: Write>(self, out: &mut W, caret: bool) -> io::Result<()> {
         let (before, behind) = self.parts();
         if before.is_empty() && behind.is_empty() {
             return Ok(());

@@ -133,7 +133,8 @@ fn put_help<W: Write>(
         GrammarFault::Foreign { .. } if is_imported(source.get(at..).unwrap_or(&[])) => {
             writeln!(
                 out,
-                "  If the file is one of bison or byacc, ydebug import makes it one that can be read."
+                "  If the file is one of bison or byacc, --from bison reads it, and ydebug import \
+                 makes it one of yacc."
             )
         }
         _ => Ok(()),

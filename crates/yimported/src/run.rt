@@ -2,7 +2,9 @@
 
 use crate::counts::Counts;
 use crate::equals::equal_of;
-use crate::told::{put_equal, put_expected, put_notes, put_refused, put_unreadable};
+use crate::told::{
+    put_equal, put_expected, put_notes, put_refused, put_unreadable, put_weighty_notes,
+};
 use std::alloc::Global;
 use std::fs;
 use std::io::{self, ErrorKind, Write};
@@ -50,6 +52,49 @@ fn look_at<E: Write>(
     Ok(0)
 }
 
+/// Says why `yacc` doesn't read what a file becomes, and gives the exit status.
+fn put_unopened<E: Write>(
+    alloc: Global,
+    errors: &mut E,
+    path: &str,
+    imported: &Imported,
+    trouble: &Trouble,
+) -> io::Result<u8> {
+    if trouble.status() == 1 {
+        put_unreadable(errors, path)?;
+    }
+    put_trouble(errors, alloc, path, &imported.text, trouble)?;
+    Ok(trouble.status())
+}
+
+/// What is opened, where all its cells are the same; else the exit status.
+fn stands<E: Write>(
+    alloc: Global,
+    errors: &mut E,
+    path: &str,
+    imported: &Imported,
+    opened: Opened,
+) -> io::Result<Result<Opened, u8>> {
+    match look_at(alloc, errors, path, imported, &opened.tables)? {
+        0 => Ok(Ok(opened)),
+        status => Ok(Err(status)),
+    }
+}
+
+/// Opens what a file becomes as `yacc` does, where it stands; else gives the exit status.
+fn open_imported<E: Write>(
+    alloc: Global,
+    errors: &mut E,
+    path: &str,
+    imported: &Imported,
+) -> io::Result<Result<Opened, u8>> {
+    let trouble = match open_bytes(alloc, &imported.text) {
+        Ok(opened) => return stands(alloc, errors, path, imported, opened),
+        Err(trouble) => trouble,
+    };
+    put_unopened(alloc, errors, path, imported, &trouble).map(Err)
+}
+
 /// Reads what a file becomes as `yacc` does, and gives the exit status: 0 where it stands.
 fn try_out<E: Write>(
     alloc: Global,
@@ -62,13 +107,7 @@ fn try_out<E: Write>(
             let Opened { tables, .. } = &opened;
             look_at(alloc, errors, path, imported, tables)
         }
-        Err(trouble) => {
-            if trouble.status() == 1 {
-                put_unreadable(errors, path)?;
-            }
-            put_trouble(errors, alloc, path, &imported.text, &trouble)?;
-            Ok(trouble.status())
-        }
+        Err(trouble) => put_unopened(alloc, errors, path, imported, &trouble),
     }
 }
 
@@ -162,5 +201,28 @@ pub fn run_import<F: Files + AllocGlobal, W: Write, E: Write>(
     match grammar_bytes(rt, asked.file) {
         Ok(bytes) => import_bytes(rt, asked, out, errors, &bytes),
         Err(error) => put_unread(errors, asked.file, &error),
+    }
+}
+
+/// Opens the grammar that the bytes of a file of bison become. Only changes by which the language
+/// or a conflict can change are told on `errors`. Where the file is refused, that is written, and
+/// the exit status is the answer.
+pub fn open_foreign<E: Write>(
+    alloc: Global,
+    errors: &mut E,
+    path: &str,
+    bytes: &[u8],
+) -> io::Result<Result<Opened, u8>> {
+    if bytes.len() > LONGEST_FILE {
+        let trouble = Trouble::Grammar(GrammarFault::TooLong);
+        put_trouble(errors, alloc, path, bytes, &trouble)?;
+        return Ok(Err(1));
+    }
+    match import(alloc, bytes) {
+        Ok(imported) => {
+            put_weighty_notes(errors, path, bytes, &imported)?;
+            open_imported(alloc, errors, path, &imported)
+        }
+        Err(trouble) => put_unmade(errors, Source { path, bytes }, trouble).map(Err),
     }
 }

@@ -5,7 +5,7 @@ use crate::equals::Equal;
 use std::io::{self, Write};
 use yexplain::text::{Bytes, Name, RuleText};
 use yimport::import::Imported;
-use yimport::note::{How, Note};
+use yimport::note::{Effect, How, Note};
 use yimport::refusal::Refused;
 use yimport::symbols::Expected;
 use ysymbols::Grammar;
@@ -78,6 +78,27 @@ pub fn put_notes<W: Write>(
     imported: &Imported,
 ) -> io::Result<()> {
     for note in &imported.notes {
+        put_note(out, path, source, &imported.texts, note)?;
+    }
+    Ok(())
+}
+
+/// Whether the language or a conflict can change by a change.
+fn is_weighty(note: &Note) -> bool {
+    match note.reason.effect() {
+        Effect::None => false,
+        Effect::Conflicts | Effect::Language => true,
+    }
+}
+
+/// Writes the changes by which the language or a conflict can change.
+pub fn put_weighty_notes<W: Write>(
+    out: &mut W,
+    path: &str,
+    source: &[u8],
+    imported: &Imported,
+) -> io::Result<()> {
+    for note in imported.notes.iter().filter(|note| is_weighty(note)) {
         put_note(out, path, source, &imported.texts, note)?;
     }
     Ok(())

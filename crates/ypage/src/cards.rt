@@ -7,9 +7,10 @@ use std::io::{self, Write};
 use std::rt::Files;
 use yconflicts::groups::{Conflicts, Group, Kind};
 use yconflicts::search::Finder;
+use ydebugger::Opens;
 use yexplain::lines::Lines;
 use yexplain::why::Question;
-use yfaults::opening::{Opened, open_grammar};
+use yfaults::opening::Opened;
 use yparse::Session;
 use yreports::finding::{ALL_STEPS, Finding, List, Seeker};
 use yreports::list_text::{ListText, put_unfound};
@@ -163,15 +164,19 @@ fn cards_in(alloc: Global, opened: Opened) -> io::Result<Cards> {
     cards_over(alloc, &mut session, &lines)
 }
 
-/// The cards of a grammar file. Where it is refused, that is written, and the exit status is the
-/// answer.
-pub fn open_cards<F: Files + AllocGlobal, E: Write>(
+/// The cards of a grammar file, which was opened before. Where it is refused now, that is written,
+/// and the exit status is the answer.
+pub fn open_cards<F: Files + AllocGlobal, S: Opens, E: Write>(
     rt: &F,
-    path: &str,
+    source: &S,
     errors: &mut E,
 ) -> io::Result<Result<Cards, u8>> {
-    match open_grammar(rt, path, errors)? {
+    let mut told = Vec::new(rt.alloc());
+    match source.open_grammar(&mut told)? {
         Ok(opened) => Ok(Ok(cards_in(rt.alloc(), opened)?)),
-        Err(status) => Ok(Err(status)),
+        Err(status) => {
+            errors.write_all(&told)?;
+            Ok(Err(status))
+        }
     }
 }

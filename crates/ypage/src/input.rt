@@ -23,6 +23,8 @@ pub struct Input {
     /// How many tokens are left out before those that follow.
     skipped: usize,
     symbols: Vec<Sym>,
+    /// The line and the column of each of these, and of what follows; none without a text.
+    places: Vec<(usize, usize)>,
 }
 
 /// The token that a step takes.
@@ -50,6 +52,25 @@ fn push_taken(tokens: &mut Vec<Sym>, kinds: &[StepKind], skipped: usize) -> Resu
     Ok(())
 }
 
+/// The lines and columns of some tokens, and of what follows them, where they are those of a text.
+fn places_of(
+    alloc: Global,
+    parse: &Parse,
+    skipped: usize,
+    count: usize,
+) -> Result<Vec<(usize, usize)>, AllocError> {
+    let mut places = Vec::new(alloc);
+    let Some(text) = parse.text() else {
+        return Ok(places);
+    };
+    let mut spots = text.spots();
+    for index in 0..=count {
+        let number = skipped.saturating_add(index).saturating_add(1);
+        places.push(spots.reach(text.at(number)))?;
+    }
+    Ok(places)
+}
+
 impl Input {
     /// The tokens around the steps of a record, at the end of which the parse stands.
     pub fn new(alloc: Global, parse: &Parse, record: &Record) -> Result<Input, AllocError> {
@@ -65,6 +86,7 @@ impl Input {
             count: parse.tokens(),
             taken,
             skipped,
+            places: places_of(alloc, parse, skipped, symbols.len())?,
             symbols,
         })
     }

@@ -5,13 +5,14 @@ use crate::data::Shown;
 use crate::frame::{BODY, END, FRONT};
 use crate::record::Record;
 use crate::script::SCRIPT;
+use crate::style::STYLE;
 use crate::walk::{MOST_STEPS, Part, Walked, walk_part};
 use std::alloc::{AllocError, Global};
 use std::fs;
 use std::io::{self, ErrorKind, Write};
 use std::rt::Files;
+use ydebugger::Opens;
 use ydebugger::parse::Parse;
-use ydebugger::parse_of;
 use ysymbols::Sym;
 
 /// What is asked for: the page of the parse of a tokens file by a grammar file, where it goes, the
@@ -53,7 +54,7 @@ fn push_json(page: &mut Vec<u8>, json: &[u8]) -> Result<(), AllocError> {
 fn page_of(alloc: Global, shown: Shown<'_>) -> io::Result<Vec<u8>> {
     let json = shown.json(alloc)?;
     let mut page = Vec::new(alloc);
-    for piece in [FRONT, SCRIPT, BODY] {
+    for piece in [FRONT, STYLE, SCRIPT, BODY] {
         page.extend_from_slice(piece.as_bytes())?;
     }
     push_json(&mut page, &json)?;
@@ -104,27 +105,29 @@ fn refuse_short<E: Write>(errors: &mut E, from: usize, end: usize) -> io::Result
 }
 
 /// The cards of the grammar, where they are wanted; or the exit status where it can't be opened.
-fn cards_of<F: Files + AllocGlobal, E: Write>(
+fn cards_of<F: Files + AllocGlobal, S: Opens, E: Write>(
     rt: &F,
+    source: &S,
     asked: Asked<'_>,
     errors: &mut E,
 ) -> io::Result<Result<Option<Cards>, u8>> {
     if asked.conflicts {
-        Ok(open_cards(rt, asked.grammar, errors)?.map(Some))
+        Ok(open_cards(rt, source, errors)?.map(Some))
     } else {
         Ok(Ok(None))
     }
 }
 
 /// Writes the page of these steps, and gives the exit status.
-fn put_steps<'a, F: Files + AllocGlobal, W: Write, E: Write>(
+fn put_steps<'a, F: Files + AllocGlobal, S: Opens, W: Write, E: Write>(
     rt: &F,
+    source: &S,
     asked: Asked<'a>,
     steps: Steps<'a>,
     out: &mut W,
     errors: &mut E,
 ) -> io::Result<u8> {
-    let cards = match cards_of(rt, asked, errors)? {
+    let cards = match cards_of(rt, source, asked, errors)? {
         Ok(cards) => cards,
         Err(status) => return Ok(status),
     };
@@ -140,8 +143,9 @@ fn put_steps<'a, F: Files + AllocGlobal, W: Write, E: Write>(
 }
 
 /// Writes the page of a parse at its start, and gives the exit status.
-fn put_parse<F: Files + AllocGlobal, W: Write, E: Write>(
+fn put_parse<F: Files + AllocGlobal, S: Opens, W: Write, E: Write>(
     rt: &F,
+    source: &S,
     asked: Asked<'_>,
     parse: &mut Parse,
     out: &mut W,
@@ -154,7 +158,7 @@ fn put_parse<F: Files + AllocGlobal, W: Write, E: Write>(
                 record: &record,
                 cells: cells.as_slice(),
             };
-            put_steps(rt, asked, steps, out, errors)
+            put_steps(rt, source, asked, steps, out, errors)
         }
         Walked::Long => refuse_long(errors, asked.part.from),
         Walked::Short(end) => refuse_short(errors, asked.part.from, end),
@@ -165,8 +169,9 @@ fn put_parse<F: Files + AllocGlobal, W: Write, E: Write>(
 /// there are more steps than a page shows, or the parse ends before the part; 2 where the part
 /// ends before it begins; 3 where a file can't be read or written, there are too many states, or
 /// memory runs out.
-pub fn run_page<F: Files + AllocGlobal, W: Write, E: Write>(
+pub fn run_page<F: Files + AllocGlobal, S: Opens, W: Write, E: Write>(
     rt: &F,
+    source: &S,
     asked: Asked<'_>,
     out: &mut W,
     errors: &mut E,
@@ -178,8 +183,8 @@ pub fn run_page<F: Files + AllocGlobal, W: Write, E: Write>(
             return Ok(2);
         }
     }
-    match parse_of(rt, asked.grammar, asked.tokens, errors)? {
-        Ok(mut parse) => put_parse(rt, asked, &mut parse, out, errors),
+    match source.open(errors)? {
+        Ok(mut parse) => put_parse(rt, source, asked, &mut parse, out, errors),
         Err(status) => Ok(status),
     }
 }

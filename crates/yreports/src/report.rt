@@ -15,7 +15,7 @@ use yconflicts::search::Finder;
 use yexplain::lines::Lines;
 use yexplain::reads::grammar_of;
 use yexplain::why::{Question, explain};
-use yfaults::opening::{Opened, open_grammar};
+use yfaults::opening::Opened;
 use yparse::Session;
 use ytables::Tables;
 
@@ -246,19 +246,4 @@ pub fn put_conflicts<W: Write, E: Write, F: Files + AllocGlobal + Clone + Drop>(
     let Opened { tables, lines } = opened;
     let mut session = bare_session(rt.alloc(), tables);
     put_all(rt, out, errors, asked, &mut session, &lines)
-}
-
-/// Writes what is asked for, and gives the exit status: 0; 1 where the grammar is refused, or
-/// there is a conflict or a warning and that is to count; 3 where it can't be read or has too many
-/// states, a list can't be written, or memory runs out. Faults of the grammar file go to `errors`.
-pub fn run_conflicts<F: Files + AllocGlobal + Clone + Drop, W: Write, E: Write>(
-    rt: &F,
-    asked: Asked<'_>,
-    out: &mut W,
-    errors: &mut E,
-) -> io::Result<u8> {
-    match open_grammar(rt, asked.grammar, errors)? {
-        Ok(opened) => put_conflicts(rt, out, errors, asked, opened),
-        Err(status) => Ok(status),
-    }
 }

@@ -1,0 +1,90 @@
+//! The command that a word means, and help on commands.
+
+use crate::verb::{VERBS, Verb};
+use crate::words::{Found, Nearest, begins, find};
+use std::alloc::{AllocError, Global};
+use std::io::{self, Write};
+use yshow::{Page, Paint};
+
+/// The command that a word means.
+pub fn verb_of(word: &str) -> Found<Verb> {
+    match word {
+        "s" => Found::One(Verb::Step),
+        "b" => Found::One(Verb::Back),
+        "r" => Found::One(Verb::Run),
+        "w" => Found::One(Verb::Where),
+        _ => find(&VERBS, word),
+    }
+}
+
+/// The commands that begin so.
+pub fn put_candidates<W: Write>(page: &mut Page<W>, word: &str) -> io::Result<()> {
+    page.put(word)?;
+    page.put(" could be any of:")?;
+    for (name, _) in &VERBS {
+        if begins(name, word) {
+            page.put(" ")?;
+            page.put(name)?;
+        }
+    }
+    page.end()
+}
+
+/// The command whose word is near to this one.
+fn near_verb<'a>(alloc: Global, word: &'a str) -> Result<Option<&'a str>, AllocError> {
+    let mut nearest = Nearest::new(word);
+    for (name, _) in &VERBS {
+        nearest.offer(alloc, name)?;
+    }
+    Ok(nearest.best())
+}
+
+/// That a word is no command, and which one is near it.
+pub fn put_unknown<W: Write>(alloc: Global, page: &mut Page<W>, word: &str) -> io::Result<()> {
+    let near = near_verb(alloc, word)?;
+    page.painted(Paint::Bad, word)?;
+    page.put(" is no command; ")?;
+    match near {
+        Some(best) => writeln!(page, "did you mean {best}?"),
+        None => page.line("help lists them."),
+    }
+}
+
+/// How a command is used and what it does.
+fn put_usage<W: Write>(page: &mut Page<W>, verb: Verb) -> io::Result<()> {
+    page.put("  ")?;
+    page.painted(Paint::Strong, verb.usage())?;
+    page.tab(28)?;
+    page.line(verb.about())
+}
+
+/// All commands.
+fn put_commands<W: Write>(page: &mut Page<W>) -> io::Result<()> {
+    for (_, verb) in &VERBS {
+        put_usage(page, *verb)?;
+    }
+    page.line("A beginning of a word is enough where no other word begins so;")?;
+    page.line("s, b, r and w are step, back, run and where.")?;
+    page.line("An empty line repeats the last move.")
+}
+
+/// One command.
+fn put_command<W: Write>(page: &mut Page<W>, verb: Verb) -> io::Result<()> {
+    put_usage(page, verb)?;
+    if verb.more().is_empty() {
+        return Ok(());
+    }
+    page.line(verb.more())
+}
+
+/// Help on all commands, or on one.
+pub fn show_help<W: Write>(alloc: Global, page: &mut Page<W>, text: &str) -> io::Result<()> {
+    if text.is_empty() {
+        return put_commands(page);
+    }
+    match verb_of(text) {
+        Found::One(verb) => put_command(page, verb),
+        Found::Many => put_candidates(page, text),
+        Found::Nothing => put_unknown(alloc, page, text),
+    }
+}

@@ -1,0 +1,64 @@
+//! The text that tokens were read from.
+
+use yexplain::roles::newlines;
+use yfaults::shown::Place;
+
+/// A text: its path, its bytes, how many of them stand before each token, and before what follows
+/// the last one.
+#[derive(Drop)]
+pub struct Text {
+    pub path: String,
+    pub bytes: Vec<u8>,
+    pub places: Vec<usize>,
+    pub end: usize,
+}
+
+/// What counts lines and columns, for one place behind the other.
+#[derive(Clone, Copy)]
+pub struct Spots<'a> {
+    bytes: &'a [u8],
+    at: usize,
+    line: usize,
+    start: usize,
+}
+
+impl Text {
+    /// How many bytes stand before a token, counted from 1; before the end for any other number.
+    pub fn at(&self, number: usize) -> usize {
+        let index = number.wrapping_sub(1);
+        self.places.get(index).copied().unwrap_or(self.end)
+    }
+
+    /// The place of a token, counted from 1; the end of the last one for any other number.
+    pub fn place(&self, number: usize) -> Place<'_> {
+        Place {
+            path: &self.path,
+            source: &self.bytes,
+            at: self.at(number),
+        }
+    }
+
+    /// What counts its lines.
+    pub fn spots(&self) -> Spots<'_> {
+        Spots {
+            bytes: &self.bytes,
+            at: 0,
+            line: 1,
+            start: 0,
+        }
+    }
+}
+
+impl Spots<'_> {
+    /// The line and the column of a place, both counted from 1. It stands behind the place that was
+    /// asked for before.
+    pub fn reach(&mut self, at: usize) -> (usize, usize) {
+        let passed = self.bytes.get(self.at..at).unwrap_or(&[]);
+        self.line = self.line.saturating_add(newlines(passed));
+        if let Some(last) = passed.iter().rposition(|b| *b == b'\n') {
+            self.start = self.at.saturating_add(last).saturating_add(1);
+        }
+        self.at = at;
+        (self.line, at.saturating_sub(self.start).saturating_add(1))
+    }
+}

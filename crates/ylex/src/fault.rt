@@ -1,0 +1,71 @@
+//! What is wrong with a SPEC or a text.
+
+use std::alloc::AllocError;
+use ysymbols::Sym;
+
+/// What is wrong with a SPEC.
+#[derive(Clone, Copy, Debug, Drop, PartialEq, Eq)]
+pub enum Wrong {
+    /// The line is no text in UTF-8.
+    NoText,
+    /// No directive has this name.
+    Directive,
+    /// Nothing stands behind the name.
+    Missing,
+    /// No symbol of the grammar has this name.
+    Unknown,
+    /// The symbol is none that an input can have.
+    NoInput,
+    /// The expression doesn't compile, with the reason.
+    Expression(&'static str),
+    /// The expression matches the empty text.
+    Empty,
+    /// Nothing gives this token of the grammar.
+    Ungiven(Sym),
+}
+
+/// Why a SPEC isn't used: what is wrong at a place of it, or that there is no memory.
+#[derive(Clone, Copy, Debug, Drop, PartialEq, Eq)]
+pub enum SpecFault {
+    /// How many bytes stand before the place, and what is wrong there.
+    At(usize, Wrong),
+    Memory,
+}
+
+impl From<AllocError> for SpecFault {
+    fn from(_refused: AllocError) -> SpecFault {
+        SpecFault::Memory
+    }
+}
+
+/// Why a text isn't cut into tokens.
+#[derive(Clone, Copy, Debug, Drop, PartialEq, Eq)]
+pub enum TextFault {
+    /// Nothing matches behind so many bytes.
+    Unmatched(usize),
+    /// A further token begins behind so many bytes.
+    TooMany(usize),
+    Memory,
+}
+
+impl From<AllocError> for TextFault {
+    fn from(_refused: AllocError) -> TextFault {
+        TextFault::Memory
+    }
+}
+
+impl Wrong {
+    /// What is said of it.
+    pub fn text(self) -> &'static str {
+        match self {
+            Wrong::NoText => "this line is no text in UTF-8",
+            Wrong::Directive => "no directive of a SPEC; there are %skip, %keywords and %none",
+            Wrong::Missing => "nothing stands behind the name",
+            Wrong::Unknown => "no token of the grammar has this name",
+            Wrong::NoInput => "an input has tokens alone, and neither error nor $end",
+            Wrong::Expression(reason) => reason,
+            Wrong::Empty => "the expression matches the empty text",
+            Wrong::Ungiven(_) => "no line of the SPEC gives this token",
+        }
+    }
+}

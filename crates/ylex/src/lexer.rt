@@ -1,0 +1,236 @@
+//! Texts cut into tokens: at each place the longest match counts; of equal ones literals and words
+//! that stand for themselves before lines, and then the first line.
+
+use crate::fault::{SpecFault, TextFault, Wrong};
+use crate::spec::{Rule, Spec, Word};
+use regex::Error;
+use regex::bytes::{Matcher, Regex};
+use std::alloc::{AllocError, Global};
+use ysymbols::{Grammar, Sym};
+use ytokens::tokens::Tokens;
+
+/// The most tokens of a text.
+pub const MOST_TOKENS: usize = 1_000_000;
+
+/// A text as tokens: each with how many bytes stand before it, and how many before what follows
+/// the last one.
+#[derive(Drop)]
+pub struct Lexed {
+    pub tokens: Tokens,
+    pub places: Vec<usize>,
+    pub end: usize,
+}
+
+/// What stands at the front of a rest: how many bytes, and the token that they are, if any.
+#[derive(Clone, Copy)]
+struct Found {
+    length: usize,
+    token: Option<Sym>,
+}
+
+impl Found {
+    /// The longer of two, the first where they are equal.
+    fn or(self, length: usize, token: Option<Sym>) -> Found {
+        if length > self.length {
+            Found { length, token }
+        } else {
+            self
+        }
+    }
+}
+
+/// What cuts texts.
+#[derive(Drop)]
+pub struct Lexer<'a> {
+    words: &'a [Word<'a>],
+    rules: &'a [Rule<'a>],
+    literals: Vec<Option<Sym>>,
+    matchers: Vec<Matcher<'a>>,
+}
+
+/// What is wrong with an expression that begins behind so many bytes.
+fn wrong_at(error: Error, at: usize) -> SpecFault {
+    match error {
+        Error::Syntax(error) => {
+            let at = at.saturating_add(error.span.start);
+            SpecFault::At(at, Wrong::Expression(error.kind.message()))
+        }
+        Error::OutOfMemory => SpecFault::Memory,
+        _ => SpecFault::At(at, Wrong::Expression("the expression is too large")),
+    }
+}
+
+/// The expression of a line, which matches at the front alone.
+fn anchored(alloc: Global, rule: Rule<'_>) -> Result<Regex, SpecFault> {
+    let expression = rule.expression;
+    let text = format!(in alloc; "^(?:{expression})")?;
+    match Regex::new(alloc, &text) {
+        Ok(regex) => Ok(regex),
+        Err(Error::OutOfMemory) => Err(SpecFault::Memory),
+        Err(_) => Err(SpecFault::At(
+            rule.at,
+            Wrong::Expression("the expression can't stand in a group"),
+        )),
+    }
+}
+
+/// Whether an expression matches the empty text.
+fn is_empty(alloc: Global, regex: &Regex) -> Result<bool, AllocError> {
+    let mut matcher = regex.matcher(alloc)?;
+    Ok(matcher.is_match(b""))
+}
+
+/// The expression of a line, compiled.
+fn compiled(alloc: Global, rule: Rule<'_>) -> Result<Regex, SpecFault> {
+    if let Err(error) = Regex::new(alloc, rule.expression) {
+        return Err(wrong_at(error, rule.at));
+    }
+    let regex = anchored(alloc, rule)?;
+    if is_empty(alloc, &regex)? {
+        return Err(SpecFault::At(rule.at, Wrong::Empty));
+    }
+    Ok(regex)
+}
+
+/// The expressions of a SPEC, compiled; or the first that is refused.
+pub fn compile(alloc: Global, rules: &[Rule<'_>]) -> Result<Vec<Regex>, SpecFault> {
+    let mut all = Vec::new(alloc);
+    for rule in rules {
+        let regex = compiled(alloc, *rule)?;
+        all.push(regex).map_err(AllocError::from)?;
+    }
+    Ok(all)
+}
+
+/// The literal of each byte, but for those that no text has.
+fn literals_of(
+    alloc: Global,
+    grammar: &Grammar,
+    absent: &[bool],
+) -> Result<Vec<Option<Sym>>, AllocError> {
+    let mut literals = Vec::new(alloc);
+    for value in 0..=255u8 {
+        let literal = grammar.find_literal(value);
+        literals.push(literal.filter(|token| absent.get(*token) != Some(&true)))?;
+    }
+    Ok(literals)
+}
+
+/// What searches for each expression.
+fn matchers_of(alloc: Global, regexes: &[Regex]) -> Result<Vec<Matcher<'_>>, AllocError> {
+    let mut matchers = Vec::with_capacity(alloc, regexes.len())?;
+    for regex in regexes {
+        let matcher = regex.matcher(alloc)?;
+        matchers.push(matcher).map_err(AllocError::from)?;
+    }
+    Ok(matchers)
+}
+
+/// Whether a word stands at the front of a rest.
+fn begins(word: Word<'_>, rest: &[u8]) -> bool {
+    match rest.get(..word.text.len()) {
+        Some(front) if word.folded => front.eq_ignore_ascii_case(word.text),
+        Some(front) => front == word.text,
+        None => false,
+    }
+}
+
+impl<'a> Lexer<'a> {
+    /// What cuts texts by a SPEC, whose expressions are compiled.
+    pub fn new(
+        alloc: Global,
+        grammar: &Grammar,
+        spec: &'a Spec<'a>,
+        regexes: &'a [Regex],
+    ) -> Result<Lexer<'a>, AllocError> {
+        Ok(Lexer {
+            words: &spec.words,
+            rules: &spec.rules,
+            literals: literals_of(alloc, grammar, &spec.absent)?,
+            matchers: matchers_of(alloc, regexes)?,
+        })
+    }
+
+    /// The longest of the literals and words at the front of a rest.
+    fn fixed(&self, rest: &[u8]) -> Found {
+        let first = rest.first().copied().unwrap_or(0);
+        let literal = self.literals.get(usize::from(first)).copied().flatten();
+        let mut found = Found {
+            length: usize::from(literal.is_some()),
+            token: literal,
+        };
+        for word in self.words {
+            if begins(*word, rest) {
+                found = found.or(word.text.len(), Some(word.token));
+            }
+        }
+        found
+    }
+
+    /// What stands at the front of a rest.
+    fn front(&mut self, rest: &[u8]) -> Found {
+        let mut found = self.fixed(rest);
+        for (matcher, rule) in self.matchers.iter_mut().zip(self.rules) {
+            if let Some(part) = matcher.find(rest) {
+                found = found.or(part.end(), rule.token);
+            }
+        }
+        found
+    }
+
+    /// Takes what stands behind so many bytes, and says behind how many it ends.
+    fn take(&mut self, lexed: &mut Lexed, bytes: &[u8], at: usize) -> Result<usize, TextFault> {
+        let found = self.front(bytes.get(at..).unwrap_or(&[]));
+        if found.length == 0 {
+            return Err(TextFault::Unmatched(at));
+        }
+        let end = at.saturating_add(found.length);
+        match found.token {
+            Some(token) => lexed.push(token, at, end)?,
+            None => {}
+        }
+        Ok(end)
+    }
+
+    /// Cuts a text into tokens, in place of those that were there.
+    pub fn lex(&mut self, lexed: &mut Lexed, bytes: &[u8]) -> Result<(), TextFault> {
+        lexed.clear();
+        let mut at = 0;
+        for _ in 0..bytes.len() {
+            if at >= bytes.len() {
+                break;
+            }
+            at = self.take(lexed, bytes, at)?;
+        }
+        Ok(())
+    }
+}
+
+impl Lexed {
+    /// No token yet.
+    pub fn new(alloc: Global) -> Lexed {
+        Lexed {
+            tokens: Tokens {
+                symbols: Vec::new(alloc),
+            },
+            places: Vec::new(alloc),
+            end: 0,
+        }
+    }
+
+    fn clear(&mut self) {
+        self.tokens.symbols.clear();
+        self.places.clear();
+        self.end = 0;
+    }
+
+    fn push(&mut self, token: Sym, at: usize, end: usize) -> Result<(), TextFault> {
+        if self.places.len() >= MOST_TOKENS {
+            return Err(TextFault::TooMany(at));
+        }
+        self.tokens.symbols.push(token).map_err(AllocError::from)?;
+        self.places.push(at).map_err(AllocError::from)?;
+        self.end = end;
+        Ok(())
+    }
+}

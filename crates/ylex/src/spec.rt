@@ -1,0 +1,257 @@
+//! The lines of a SPEC.
+
+use crate::fault::{SpecFault, Wrong};
+use std::alloc::{AllocError, Global};
+use std::str;
+use ylexemes::bytes::is_blank;
+use ysymbols::{Grammar, Sym};
+use ytokens::token_words::{Front, front_of};
+use ytokens::tokens::is_input;
+
+/// A line with an expression: the token that it gives, none where it is passed over; the
+/// expression, and how many bytes of the file stand before it.
+#[derive(Clone, Copy, Debug, Drop)]
+pub struct Rule<'a> {
+    pub token: Option<Sym>,
+    pub expression: &'a str,
+    pub at: usize,
+}
+
+/// A word that stands for itself, and whether without regard to case.
+#[derive(Clone, Copy, Debug, Drop)]
+pub struct Word<'a> {
+    pub token: Sym,
+    pub text: &'a [u8],
+    pub folded: bool,
+}
+
+/// What a SPEC says: its lines with expressions, its words, and which symbols of the grammar it
+/// names at all, and as those that no text has.
+#[derive(Drop)]
+pub struct Spec<'a> {
+    pub rules: Vec<Rule<'a>>,
+    pub words: Vec<Word<'a>>,
+    pub named: Vec<bool>,
+    pub absent: Vec<bool>,
+}
+
+/// What names behind a directive are.
+#[derive(Clone, Copy, Debug, PartialEq, Eq)]
+enum Listed {
+    Words,
+    FoldedWords,
+    /// Given by no line.
+    Absent,
+}
+
+/// A part of a SPEC: its bytes, and how many stand before them.
+#[derive(Clone, Copy)]
+struct Piece<'a> {
+    bytes: &'a [u8],
+    at: usize,
+}
+
+impl<'a> Piece<'a> {
+    /// What is left behind so many bytes, and behind the blanks there.
+    fn behind(self, count: usize) -> Piece<'a> {
+        let rest = self.bytes.get(count..).unwrap_or(&[]);
+        let blanks = rest
+            .iter()
+            .position(|b| !is_blank(*b))
+            .unwrap_or(rest.len());
+        Piece {
+            bytes: rest.get(blanks..).unwrap_or(&[]),
+            at: self.at.saturating_add(count).saturating_add(blanks),
+        }
+    }
+
+    /// The piece without blanks at its end.
+    fn trimmed(self) -> Piece<'a> {
+        let end = self
+            .bytes
+            .iter()
+            .rposition(|b| !is_blank(*b))
+            .map_or(0, |at| at.saturating_add(1));
+        Piece {
+            bytes: self.bytes.get(..end).unwrap_or(&[]),
+            at: self.at,
+        }
+    }
+
+    /// How many bytes the first word has.
+    fn word(self) -> usize {
+        let rest = match front_of(self.bytes) {
+            Front::Literal(_, rest) => rest,
+            _ => return self.plain_word(),
+        };
+        self.bytes.len().saturating_sub(rest.len())
+    }
+
+    /// How many bytes stand before the first blank.
+    fn plain_word(self) -> usize {
+        let blank = self.bytes.iter().position(|b| is_blank(*b));
+        blank.unwrap_or(self.bytes.len())
+    }
+
+    /// The first bytes.
+    fn first(self, count: usize) -> &'a [u8] {
+        self.bytes.get(..count).unwrap_or(self.bytes)
+    }
+}
+
+/// The token that the word at the front of a piece names.
+fn token_of(grammar: &Grammar, piece: Piece<'_>) -> Result<Sym, SpecFault> {
+    let found = match front_of(piece.bytes) {
+        Front::Literal(value, _) => grammar.find_literal(value),
+        _ => grammar.find(piece.first(piece.plain_word())),
+    };
+    match found {
+        Some(token) if is_input(grammar, token) => Ok(token),
+        Some(_) => Err(SpecFault::At(piece.at, Wrong::NoInput)),
+        None => Err(SpecFault::At(piece.at, Wrong::Unknown)),
+    }
+}
+
+/// Whether a symbol is a literal.
+fn is_literal(grammar: &Grammar, symbol: Sym) -> bool {
+    symbol < grammar.symbols() && grammar.name(symbol).first() == Some(&b'\'')
+}
+
+/// Marks a symbol.
+fn mark(marks: &mut [bool], symbol: Sym) {
+    if let Some(mark) = marks.get_mut(symbol) {
+        *mark = true;
+    }
+}
+
+impl<'a> Spec<'a> {
+    /// Adds a line with an expression.
+    fn add_rule(&mut self, token: Option<Sym>, rest: Piece<'a>) -> Result<(), SpecFault> {
+        if rest.bytes.is_empty() {
+            return Err(SpecFault::At(rest.at, Wrong::Missing));
+        }
+        let Ok(expression) = str::from_utf8(rest.bytes) else {
+            return Err(SpecFault::At(rest.at, Wrong::NoText));
+        };
+        let at = rest.at;
+        let rule = Rule {
+            token,
+            expression,
+            at,
+        };
+        self.rules.push(rule).map_err(AllocError::from)?;
+        Ok(())
+    }
+
+    /// Adds the name at the front of a piece. A literal stands for itself without it.
+    fn add_name(
+        &mut self,
+        grammar: &Grammar,
+        piece: Piece<'a>,
+        listed: Listed,
+    ) -> Result<(), SpecFault> {
+        let token = token_of(grammar, piece)?;
+        mark(&mut self.named, token);
+        if listed == Listed::Absent {
+            mark(&mut self.absent, token);
+        }
+        if listed == Listed::Absent || is_literal(grammar, token) {
+            return Ok(());
+        }
+        let word = Word {
+            token,
+            text: piece.first(piece.word()),
+            folded: listed == Listed::FoldedWords,
+        };
+        self.words.push(word).map_err(AllocError::from)?;
+        Ok(())
+    }
+
+    /// Adds the names that a piece lists.
+    fn add_names(
+        &mut self,
+        grammar: &Grammar,
+        names: Piece<'a>,
+        listed: Listed,
+    ) -> Result<(), SpecFault> {
+        if names.bytes.is_empty() {
+            return Err(SpecFault::At(names.at, Wrong::Missing));
+        }
+        let mut left = names;
+        for _ in 0..names.bytes.len() {
+            if left.bytes.is_empty() {
+                break;
+            }
+            self.add_name(grammar, left, listed)?;
+            left = left.behind(left.word());
+        }
+        Ok(())
+    }
+
+    /// Adds a line with a directive.
+    fn add_directive(&mut self, grammar: &Grammar, line: Piece<'a>) -> Result<(), SpecFault> {
+        let length = line.plain_word();
+        let rest = line.behind(length);
+        match line.first(length) {
+            b"%skip" => self.add_rule(None, rest),
+            b"%keywords" if rest.first(rest.plain_word()) == b"-i".as_slice() => {
+                self.add_names(grammar, rest.behind(2), Listed::FoldedWords)
+            }
+            b"%keywords" => self.add_names(grammar, rest, Listed::Words),
+            b"%none" => self.add_names(grammar, rest, Listed::Absent),
+            _ => Err(SpecFault::At(line.at, Wrong::Directive)),
+        }
+    }
+
+    /// Adds a line.
+    fn add_line(&mut self, grammar: &Grammar, line: Piece<'a>) -> Result<(), SpecFault> {
+        match line.bytes.first() {
+            None | Some(b'#') => Ok(()),
+            Some(b'%') => self.add_directive(grammar, line),
+            Some(_) => {
+                let token = token_of(grammar, line)?;
+                mark(&mut self.named, token);
+                self.add_rule(Some(token), line.behind(line.word()))
+            }
+        }
+    }
+
+    /// Adds the lines of a file.
+    fn add_lines(&mut self, grammar: &Grammar, source: &'a [u8]) -> Result<(), SpecFault> {
+        let mut at: usize = 0;
+        for bytes in source.split(|b| *b == b'\n') {
+            let line = Piece { bytes, at };
+            self.add_line(grammar, line.behind(0).trimmed())?;
+            at = at.saturating_add(bytes.len()).saturating_add(1);
+        }
+        Ok(())
+    }
+}
+
+/// A SPEC that says nothing yet.
+fn empty_spec<'a>(alloc: Global, grammar: &Grammar) -> Result<Spec<'a>, AllocError> {
+    Ok(Spec {
+        rules: Vec::new(alloc),
+        words: Vec::new(alloc),
+        named: vec![in alloc; false; grammar.symbols()]?,
+        absent: vec![in alloc; false; grammar.symbols()]?,
+    })
+}
+
+/// What a SPEC says, or the first line that is wrong.
+pub fn read_spec<'a>(
+    alloc: Global,
+    grammar: &Grammar,
+    source: &'a [u8],
+) -> Result<Spec<'a>, SpecFault> {
+    let mut spec = empty_spec(alloc, grammar)?;
+    match spec.add_lines(grammar, source) {
+        Ok(()) => Ok(spec),
+        Err(fault) => Err(fault),
+    }
+}
+
+/// Whether a token of a body needs a line: it is an input token and no literal.
+pub fn needs_line(grammar: &Grammar, token: Sym) -> bool {
+    is_input(grammar, token) && !is_literal(grammar, token)
+}

@@ -1,0 +1,50 @@
+//! Grammar files of yacc and of bison.
+
+use std::alloc::{AllocError, Global};
+use std::io::{self, Write};
+use std::rt::Files;
+use yexplain::reads::body_of;
+use yfaults::opening::{Opened, grammar_bytes, open_text, put_unread};
+use yimported::run::open_foreign;
+use ysymbols::Grammar;
+
+/// A grammar file, and whether it is one of bison or byacc.
+#[derive(Clone, Copy, Debug)]
+pub struct GrammarFile<'a> {
+    pub path: &'a str,
+    pub bison: bool,
+}
+
+/// The path of a SPEC, and that of the grammar file.
+#[derive(Clone, Copy)]
+pub struct SpecFile<'a> {
+    pub path: &'a str,
+    pub grammar: &'a str,
+}
+
+/// Opens a grammar file. Where it is refused, that is written, and the exit status is the answer.
+pub fn open_file<F: Files + AllocGlobal, E: Write>(
+    rt: &F,
+    file: GrammarFile<'_>,
+    errors: &mut E,
+) -> io::Result<Result<Opened, u8>> {
+    let path = file.path;
+    match grammar_bytes(rt, path) {
+        Ok(bytes) if file.bison => open_foreign(rt.alloc(), errors, path, &bytes),
+        Ok(bytes) => open_text(rt.alloc(), path, &bytes, errors),
+        Err(error) => put_unread(errors, path, &error).map(Err),
+    }
+}
+
+/// Which symbols stand in the body of a rule.
+pub fn used_in(alloc: Global, grammar: &Grammar) -> Result<Vec<bool>, AllocError> {
+    let mut used = vec![in alloc; false; grammar.symbols()]?;
+    for rule in 0..grammar.rules() {
+        for symbol in body_of(grammar, rule) {
+            if let Some(mark) = used.get_mut(*symbol) {
+                *mark = true;
+            }
+        }
+    }
+    Ok(used)
+}

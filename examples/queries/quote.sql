@@ -1,0 +1,1 @@
+select * from orders where state = 'sent and day < 7;

@@ -1,0 +1,2 @@
+select * from stock
+where price <=> 3;

@@ -1,0 +1,4 @@
+%token NUM
+%precedence OR
+%%
+e : NUM | e OR e ;

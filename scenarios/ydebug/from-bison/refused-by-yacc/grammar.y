@@ -1,0 +1,4 @@
+%expect 0
+%token A
+%%
+s : A B ;

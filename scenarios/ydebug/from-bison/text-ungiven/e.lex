@@ -1,0 +1,3 @@
+%skip [ \n]+
+NUM [0-9]+
+%keywords -i NOT

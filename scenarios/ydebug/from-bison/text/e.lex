@@ -1,0 +1,4 @@
+%skip [ \n]+
+NUM [0-9]+
+LE <=
+%keywords -i NOT

@@ -1,0 +1,5 @@
+%skip  [ \t\n]+
+%keywords -i SELECT FROM WHERE AND
+NAME   [A-Za-zäöüßé]+
+NUMBER [0-9]+
+LE     <=

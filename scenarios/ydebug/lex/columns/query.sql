@@ -1,0 +1,2 @@
+select été, größe, from x;
+	select *, y from x;

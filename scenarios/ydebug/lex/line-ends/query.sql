@@ -1,0 +1,3 @@
+select name
+from stock
+where left => 3;

@@ -1,0 +1,1 @@
+SELECT frob FROM from;

@@ -1,0 +1,3 @@
+select * from stock;
+select name, from stock
+where left <= 10;

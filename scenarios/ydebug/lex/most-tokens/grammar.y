@@ -1,0 +1,3 @@
+%token X
+%%
+s : X | s X ;

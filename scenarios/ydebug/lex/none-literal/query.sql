@@ -1,0 +1,2 @@
+select name and also left from stock;
+select * from stock;
