@@ -104,12 +104,22 @@ pub fn put_memory<W: Write>(out: &mut W, path: &str) -> io::Result<Said> {
     Ok(Said::Outside)
 }
 
-/// Writes the first of some tokens behind a space each, and dots where there are more.
-fn put_first<W: Write>(out: &mut W, grammar: &Grammar, tokens: &[Sym]) -> io::Result<()> {
-    let first = tokens.get(..MOST_NAMED).unwrap_or(tokens);
-    let names = Names(grammar, first);
-    let more = if tokens.len() > MOST_NAMED { " .." } else { "" };
-    write!(out, "{names}{more}")
+/// Writes the first of some tokens with this between them, and dots where there are more.
+fn put_first<W: Write>(
+    out: &mut W,
+    grammar: &Grammar,
+    tokens: &[Sym],
+    between: &str,
+) -> io::Result<()> {
+    for (index, token) in tokens.iter().take(MOST_NAMED).enumerate() {
+        let between = if index > 0 { between } else { "" };
+        let name = Name(grammar, *token);
+        write!(out, "{between} {name}")?;
+    }
+    if tokens.len() > MOST_NAMED {
+        write!(out, "{between} ..")?;
+    }
+    Ok(())
 }
 
 /// Writes the last of some tokens behind a space each, and dots where there are more.
@@ -120,18 +130,23 @@ fn put_last<W: Write>(out: &mut W, grammar: &Grammar, tokens: &[Sym]) -> io::Res
     write!(out, "{more}{names}")
 }
 
-/// Writes which tokens were expected, as the end of a line.
-fn put_wanted<W: Write>(out: &mut W, grammar: &Grammar, wanted: &Wanted) -> io::Result<()> {
+/// Writes which tokens were expected, with this between them, as the end of a line.
+pub fn put_wanted<W: Write>(
+    out: &mut W,
+    grammar: &Grammar,
+    wanted: &Wanted,
+    between: &str,
+) -> io::Result<()> {
     if wanted.can.is_empty() && wanted.unknown.is_empty() {
         return writeln!(out, "; nothing can");
     }
     if !wanted.can.is_empty() {
         write!(out, "; expected")?;
-        put_first(out, grammar, &wanted.can)?;
+        put_first(out, grammar, &wanted.can, between)?;
     }
     if !wanted.unknown.is_empty() {
         write!(out, "; can't tell of")?;
-        put_first(out, grammar, &wanted.unknown)?;
+        put_first(out, grammar, &wanted.unknown, between)?;
     }
     writeln!(out)
 }
@@ -192,7 +207,7 @@ impl Judge<'_> {
     fn put_verdict<W: Write>(self, out: &mut W, path: &str, judged: &Judged) -> io::Result<Said> {
         match judged.verdict {
             Verdict::Accepted(steps) => put_accepted(out, path, steps),
-            Verdict::Rejected(place) => self.put_rejected(out, path, &judged.tokens.symbols, place),
+            Verdict::Rejected(place) => self.put_rejected(out, &judged.tokens.symbols, path, place),
             Verdict::Limit => put_limit(out, path),
         }
     }
@@ -201,8 +216,8 @@ impl Judge<'_> {
     fn put_rejected<W: Write>(
         self,
         out: &mut W,
-        path: &str,
         tokens: &[Sym],
+        path: &str,
         place: usize,
     ) -> io::Result<Said> {
         let taken = place.saturating_sub(1);
@@ -214,7 +229,7 @@ impl Judge<'_> {
         let grammar = grammar_of(self.tables);
         let name = Name(grammar, token);
         write!(out, "{path}: bad: {place}: {name} can't come here")?;
-        put_wanted(out, grammar, &wanted)?;
+        put_wanted(out, grammar, &wanted, "")?;
         put_before(out, grammar, before)?;
         Ok(Said::Bad)
     }

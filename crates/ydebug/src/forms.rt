@@ -100,14 +100,11 @@ fn debug_command<'a>(alloc: Global) -> Result<Command<'a>, AllocError> {
 
 /// The command line of the report on conflicts.
 fn conflicts_command<'a>(alloc: Global) -> Result<Command<'a>, AllocError> {
-    let save = Arg::new(alloc, "save")
-        .long("save")
-        .action(ArgAction::Set)
-        .help("Writes the tokens of each conflict to a file of this folder");
+    let help = "Writes the tokens of each conflict to a file of this folder";
     Command::new(alloc, "ydebug conflicts")
         .about("Explains the conflicts of a grammar, and warns of what it has in vain")
         .arg(file_argument(alloc, "grammar", "The grammar file"))?
-        .arg(save)?
+        .arg(option(alloc, "save", help))?
         .arg(from_option(alloc))?
         .arg(flag(
             alloc,

@@ -8,7 +8,7 @@ use std::io::{self, Write};
 use ycommands::condition::{Condition, put_cell};
 use ycommands::refusal::fault_words;
 use ycommands::travel::{LAST, Move, is_to, tells_each, until_of};
-use yparse::machine::{AtStart, StepFault, StepKind};
+use yparse::machine::{StepFault, StepKind};
 use yshow::page::Page;
 use yshow::step_line::{StepLine, put_made};
 
@@ -90,80 +90,56 @@ fn is_met(until: Option<Condition>, parse: &Parse, kind: StepKind) -> bool {
     }
 }
 
-/// Steps forward, so many at most, or to where a condition is met.
-fn forward<W: Write>(
-    parse: &mut Parse,
-    page: &mut Page<W>,
-    telling: &mut Telling,
+/// Where a move goes: forward or back, so many steps at most, or to where a condition is met.
+#[derive(Clone, Copy)]
+struct Course {
+    back: bool,
     most: usize,
     until: Option<Condition>,
-) -> io::Result<End> {
-    for _ in 0..most {
-        match parse.step() {
-            Err(fault) => return Ok(End::Refused(fault)),
-            Ok(kind) => {
-                telling.tell(page, parse, kind, false)?;
-                if is_met(until, parse, kind) {
-                    return Ok(End::Met);
-                }
-            }
-        }
-    }
-    Ok(End::Done)
 }
 
-/// Steps back, so many at most, or to where a condition is met.
-fn backward<W: Write>(
-    parse: &mut Parse,
-    page: &mut Page<W>,
-    telling: &mut Telling,
-    most: usize,
-    until: Option<Condition>,
-) -> io::Result<End> {
-    for _ in 0..most {
-        match parse.back() {
-            Err(AtStart) => return Ok(End::AtStart),
-            Ok(kind) => {
-                telling.tell(page, parse, kind, true)?;
-                if is_met(until, parse, kind) {
-                    return Ok(End::Met);
-                }
-            }
-        }
-    }
-    Ok(End::Done)
+/// The course of a move from a position.
+fn course_of(position: usize, wanted: Move) -> Course {
+    let until = until_of(wanted);
+    let (back, most) = match wanted {
+        Move::Step(count) => (false, count),
+        Move::Back(count) => (true, count),
+        Move::To(to) if position < to => (false, to.saturating_sub(position)),
+        Move::To(to) => (true, position.saturating_sub(to)),
+        Move::Run | Move::RunUntil(_) => (false, FARTHEST),
+        Move::BackUntil(_) => (true, FARTHEST),
+    };
+    Course { back, most, until }
 }
 
-/// Steps forward or back to a position.
-fn go_to<W: Write>(
-    parse: &mut Parse,
-    page: &mut Page<W>,
-    telling: &mut Telling,
-    position: usize,
-) -> io::Result<End> {
-    let now = parse.session().position();
-    if now < position {
-        forward(parse, page, telling, position.saturating_sub(now), None)
+/// Makes a step, or undoes one; or says why none is made.
+fn made(parse: &mut Parse, back: bool) -> Result<StepKind, End> {
+    if back {
+        parse.back().map_err(|_| End::AtStart)
     } else {
-        backward(parse, page, telling, now.saturating_sub(position), None)
+        parse.step().map_err(End::Refused)
     }
 }
 
-/// Makes the steps of a move.
+/// Makes the steps of a course.
 fn go<W: Write>(
     parse: &mut Parse,
     page: &mut Page<W>,
     telling: &mut Telling,
-    wanted: Move,
+    course: Course,
 ) -> io::Result<End> {
-    match wanted {
-        Move::Step(count) => forward(parse, page, telling, count, None),
-        Move::Back(count) => backward(parse, page, telling, count, None),
-        Move::To(position) => go_to(parse, page, telling, position),
-        Move::Run => forward(parse, page, telling, FARTHEST, None),
-        Move::RunUntil(condition) => forward(parse, page, telling, FARTHEST, Some(condition)),
-        Move::BackUntil(condition) => backward(parse, page, telling, FARTHEST, Some(condition)),
+    for _ in 0..course.most {
+        match made(parse, course.back) {
+            Err(end) => return Ok(end),
+            Ok(kind) => {
+                telling.tell(page, parse, kind, course.back)?;
+                if is_met(course.until, parse, kind) {
+                    return Ok(End::Met);
+                }
+            }
+        }
     }
+    Ok(End::Done)
 }
 
 /// That a condition is met.
@@ -213,7 +189,8 @@ fn make_told<W: Write>(
     telling: &mut Telling,
     wanted: Move,
 ) -> io::Result<()> {
-    let end = go(parse, page, telling, wanted)?;
+    let course = course_of(parse.session().position(), wanted);
+    let end = go(parse, page, telling, course)?;
     telling.finish(page, parse)?;
     put_end(page, parse, wanted, end, telling.made)
 }

@@ -14,7 +14,7 @@ use yexplain::why::{Question, explain};
 use yparse::Session;
 use yparse::machine::Mode;
 use yshow::derivation::{SOME_FORMS, put_derivation};
-use yshow::grammar_view::put_one_rule;
+use yshow::grammar_view::Rules;
 use yshow::page::Page;
 use yshow::reading::{last_rule, last_state, token_ahead};
 use yshow::state_view::put_state;
@@ -79,9 +79,10 @@ pub fn show_why<W: Write>(
 
 /// A rule.
 pub fn show_rule<W: Write>(parse: &Parse, page: &mut Page<W>, text: &str) -> io::Result<()> {
-    let last = last_rule(grammar_of(parse.tables()));
-    match number_in(text, "rules", 0, last) {
-        Ok(rule) => put_one_rule(page, parse.tables(), parse.lines(), rule),
+    let grammar = grammar_of(parse.tables());
+    let lines = parse.lines();
+    match number_in(text, "rules", 0, last_rule(grammar)) {
+        Ok(rule) => Rules { grammar, lines }.put_one(page, rule),
         Err(refusal) => put_misuse(page, Verb::Rule, refusal),
     }
 }

@@ -131,10 +131,10 @@ fn save<F: Files + AllocGlobal, E: Write>(
 /// Writes an import, with what is said of it, and gives the exit status.
 fn put_import<F: Files + AllocGlobal, W: Write, E: Write>(
     rt: &F,
+    imported: &Imported,
     asked: Asked<'_>,
     out: &mut W,
     errors: &mut E,
-    imported: &Imported,
 ) -> io::Result<u8> {
     let status = try_out(rt.alloc(), errors, asked.file, imported)?;
     if status != 0 {
@@ -184,7 +184,7 @@ fn import_bytes<F: Files + AllocGlobal, W: Write, E: Write>(
     match import(rt.alloc(), bytes) {
         Ok(imported) => {
             put_notes(errors, path, bytes, &imported)?;
-            put_import(rt, asked, out, errors, &imported)
+            put_import(rt, &imported, asked, out, errors)
         }
         Err(trouble) => put_unmade(errors, Source { path, bytes }, trouble),
     }

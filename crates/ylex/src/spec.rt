@@ -133,11 +133,10 @@ impl<'a> Spec<'a> {
         let Ok(expression) = str::from_utf8(rest.bytes) else {
             return Err(SpecFault::At(rest.at, Wrong::NoText));
         };
-        let at = rest.at;
         let rule = Rule {
             token,
             expression,
-            at,
+            at: rest.at,
         };
         self.rules.push(rule).map_err(AllocError::from)?;
         Ok(())

@@ -206,12 +206,12 @@ fn put_lists<'a, W: Write, F: Files + AllocGlobal + Clone + Drop>(
 /// Writes these conflicts and the warnings of a session's grammar, and gives the exit status.
 fn put_both<W: Write, E: Write, F: Files + AllocGlobal + Clone + Drop>(
     rt: &F,
+    found: &Conflicts,
     out: &mut W,
     errors: &mut E,
     asked: Asked<'_>,
     session: &mut Session,
     lines: &Lines,
-    found: &Conflicts,
 ) -> io::Result<u8> {
     let failed = put_lists(rt, &mut *out, asked, session, lines, found)?;
     let warnings = put_warnings(&mut *out, rt.alloc(), session.tables(), lines)?;
@@ -230,7 +230,7 @@ fn put_all<W: Write, E: Write, F: Files + AllocGlobal + Clone + Drop>(
     lines: &Lines,
 ) -> io::Result<u8> {
     let found = Conflicts::new(rt.alloc(), session.tables())?;
-    put_both(rt, out, errors, asked, session, lines, &found)
+    put_both(rt, &found, out, errors, asked, session, lines)
 }
 
 /// Writes the conflicts and the warnings of a grammar that is open, and gives the exit status: 0;

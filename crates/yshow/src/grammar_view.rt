@@ -52,6 +52,20 @@ impl Rules<'_> {
         }
         page.end()
     }
+
+    /// A rule, its line, its precedence, and the token that gives it.
+    pub fn put_one<W: Write>(self, page: &mut Page<W>, rule: usize) -> io::Result<()> {
+        let grammar = self.grammar;
+        let precedence = rule_precedence(grammar, rule);
+        write!(page, "{}", Numbered(self.lines, rule))?;
+        put_precedence(page, precedence)?;
+        if let (Some(_), Some(token)) = (precedence, self.lines.giver(grammar, rule)) {
+            page.put(" from ")?;
+            page.put(name_of(grammar, token))?;
+        }
+        page.end()?;
+        writeln!(page, "   {}", RuleText(grammar, rule))
+    }
 }
 
 /// Every rule with its number.
@@ -61,23 +75,4 @@ pub fn put_grammar<W: Write>(page: &mut Page<W>, tables: &Tables, lines: &Lines)
         Rules { grammar, lines }.put(page, rule)?;
     }
     Ok(())
-}
-
-/// A rule, its line, its precedence, and the token that gives it.
-pub fn put_one_rule<W: Write>(
-    page: &mut Page<W>,
-    tables: &Tables,
-    lines: &Lines,
-    rule: usize,
-) -> io::Result<()> {
-    let grammar = grammar_of(tables);
-    let precedence = rule_precedence(grammar, rule);
-    write!(page, "{}", Numbered(lines, rule))?;
-    put_precedence(page, precedence)?;
-    if let (Some(_), Some(token)) = (precedence, lines.giver(grammar, rule)) {
-        page.put(" from ")?;
-        page.put(name_of(grammar, token))?;
-    }
-    page.end()?;
-    writeln!(page, "   {}", RuleText(grammar, rule))
 }

@@ -7,8 +7,8 @@ use std::alloc::Global;
 use std::io::{self, ErrorKind, Read, Write};
 use std::rt::Files;
 use ycheck::check::{
-    Check, Said, bytes_of, put_accepted, put_choice, put_limit, put_memory, put_unread, run_check,
-    wanted_after,
+    Check, Said, bytes_of, put_accepted, put_choice, put_limit, put_memory, put_unread, put_wanted,
+    run_check, wanted_after,
 };
 use ycheck::expected::Wanted;
 use yexplain::reads::grammar_of;
@@ -21,9 +21,6 @@ use ylex::lexer::{Lexed, Lexer};
 use yparse::{Verdict, judge};
 use ysymbols::{Grammar, Sym};
 use ytables::Tables;
-
-/// The most tokens that are named of those that were expected.
-const MOST_NAMED: usize = 20;
 
 /// What is asked for: verdicts on inputs, by a SPEC where there is one.
 #[derive(Clone, Copy, Debug)]
@@ -53,35 +50,6 @@ struct Text<'a> {
     lexed: &'a Lexed,
 }
 
-/// Writes some tokens with commas between them, and dots where there are more.
-fn put_names<W: Write>(out: &mut W, grammar: &Grammar, tokens: &[Sym]) -> io::Result<()> {
-    for (index, token) in tokens.iter().take(MOST_NAMED).enumerate() {
-        let comma = if index > 0 { "," } else { "" };
-        let name = Name(grammar, *token);
-        write!(out, "{comma} {name}")?;
-    }
-    if tokens.len() > MOST_NAMED {
-        write!(out, ", ..")?;
-    }
-    Ok(())
-}
-
-/// Writes which tokens were expected, as the end of a line.
-fn put_wanted<W: Write>(out: &mut W, grammar: &Grammar, wanted: &Wanted) -> io::Result<()> {
-    if wanted.can.is_empty() && wanted.unknown.is_empty() {
-        return writeln!(out, "; nothing can");
-    }
-    if !wanted.can.is_empty() {
-        write!(out, "; expected")?;
-        put_names(out, grammar, &wanted.can)?;
-    }
-    if !wanted.unknown.is_empty() {
-        write!(out, "; can't tell of")?;
-        put_names(out, grammar, &wanted.unknown)?;
-    }
-    writeln!(out)
-}
-
 /// Writes that a token can't come at a place, and which can.
 fn put_mistake<W: Write>(
     out: &mut W,
@@ -93,7 +61,7 @@ fn put_mistake<W: Write>(
     let name = Name(grammar, token);
     let (path, line, column) = (place.path, place.line(), place.column());
     write!(out, "{path}:{line}:{column}: {name} can't come here")?;
-    put_wanted(out, grammar, wanted)?;
+    put_wanted(out, grammar, wanted, ",")?;
     place.put_text(out, true)?;
     Ok(Said::Bad)
 }

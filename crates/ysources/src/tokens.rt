@@ -40,11 +40,11 @@ fn put_tokens<W: Write>(out: &mut W, grammar: &Grammar, cut: &Cut) -> io::Result
 /// Writes the tokens of a text by a grammar that is open, and gives the exit status.
 fn put_file<F: Files + AllocGlobal, W: Write, E: Write>(
     rt: &F,
+    out: &mut W,
+    errors: &mut E,
     opened: &Opened,
     spec: SpecFile<'_>,
     path: &str,
-    out: &mut W,
-    errors: &mut E,
 ) -> io::Result<u8> {
     let mut cut = Cut::new(rt.alloc());
     let status = cut_file(rt, opened, spec, path, &mut cut, errors)?;
@@ -69,7 +69,7 @@ pub fn run_tokens<F: Files + AllocGlobal, W: Write, E: Write>(
                 path: spec,
                 grammar: file.path,
             };
-            put_file(rt, &opened, spec, path, out, errors)
+            put_file(rt, out, errors, &opened, spec, path)
         }
         Err(status) => Ok(status),
     }
