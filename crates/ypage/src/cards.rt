@@ -3,16 +3,17 @@
 use crate::cells::{text_of, why_of};
 use serde::Serialize;
 use std::alloc::{AllocError, Global};
-use std::io::{self, ErrorKind, Write};
+use std::io::{self, Write};
 use std::rt::Files;
 use yconflicts::groups::{Conflicts, Group, Kind};
 use yconflicts::search::Finder;
 use ydebugger::Opens;
 use yexplain::lines::Lines;
 use yfaults::opening::Opened;
-use yparse::{Session, Tokens};
+use yparse::Session;
 use yreports::finding::{ALL_STEPS, Finding, List, Seeker};
 use yreports::list_text::{ListText, put_unfound};
+use yreports::report::empty_session;
 use ysymbols::Sym;
 use ytables::Tables;
 
@@ -153,13 +154,7 @@ fn cards_over(alloc: Global, session: &mut Session, lines: &Lines) -> io::Result
 /// The cards of a grammar that is open.
 fn cards_in(alloc: Global, opened: Opened) -> io::Result<Cards> {
     let Opened { tables, lines } = opened;
-    let tokens = Tokens {
-        symbols: Vec::new(alloc),
-    };
-    if !tokens.fits(&tables) {
-        return Err(io::Error::from(ErrorKind::Other));
-    }
-    let mut session = Session::new(alloc, tables, tokens);
+    let mut session = empty_session(alloc, tables);
     cards_over(alloc, &mut session, &lines)
 }
 

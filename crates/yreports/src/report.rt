@@ -227,6 +227,14 @@ fn put_all<W: Write, E: Write, F: Files + AllocGlobal + Clone + Drop>(
     put_both(rt, out, errors, asked, session, lines, &found)
 }
 
+/// A session without tokens.
+pub fn empty_session(alloc: Global, tables: Tables) -> Session {
+    let tokens = Tokens {
+        symbols: Vec::new(alloc),
+    };
+    Session::new(alloc, tables, tokens)
+}
+
 /// Writes the conflicts and the warnings of a grammar that is open, and gives the exit status: 0;
 /// 1 where there is one of these and that is to count; 3 where a list can't be written, which is
 /// said on `errors`.
@@ -238,12 +246,6 @@ pub fn put_conflicts<W: Write, E: Write, F: Files + AllocGlobal + Clone + Drop>(
     opened: Opened,
 ) -> io::Result<u8> {
     let Opened { tables, lines } = opened;
-    let tokens = Tokens {
-        symbols: Vec::new(rt.alloc()),
-    };
-    if !tokens.fits(&tables) {
-        return Ok(3);
-    }
-    let mut session = Session::new(rt.alloc(), tables, tokens);
+    let mut session = empty_session(rt.alloc(), tables);
     put_all(rt, out, errors, asked, &mut session, &lines)
 }
