@@ -5,7 +5,7 @@
 # make build      proves the programs and leaves them in bin/
 # make bench      times whole runs of the programs, on growing grammars and over long parses; FILES="a.y b.y" adds grammar files to them
 # make refuse     refuses allocations of a run, each once and each with all behind it, on every example and some scenarios; FILES="a.y b.y" refuses some thousands over these grammar files instead
-# make debug      refuses the allocations of ten sessions of ydebug in turn, gives it 100,000 random command lines over random grammars, and shows its screens at a terminal, which needs tmux
+# make debug      refuses the allocations of twelve sessions and eight commands of ydebug in turn, gives it 100,000 random command lines over random grammars, and shows its screens at a terminal, which needs tmux
 # make page-test  steps through the pages of every example in a browser without a window, which apt-get installs where it is missing, and compares them with ystep; keeps pictures in screenshots/
 # make compare    compares the programs that make build left with plain machines in Python, on grammars drawn at random, for a minute, verdicts with sessions over every scenario, and texts with a lexer in Python, for a minute; FILES="a.y b.y" adds these, cut off and spoiled, with a second reader
 # make drivers    builds the drivers in C and Python, and compares their steps with those of ystep, over scenarios, at random and by tables that are wrong

@@ -1,14 +1,16 @@
 #!/usr/bin/env python3
-"""Refuses each allocation of sessions of `ydebug` in turn, by itself and with all behind it.
+"""Refuses each allocation of sessions and commands of `ydebug` in turn, by itself and with all
+behind it.
 
-    refuse_debug.py YDEBUG [SESSION..]
+    refuse_debug.py YDEBUG [NAME..]
 
 Each session below gives command lines over an example or a scenario. Behind every line stands a
 mark, a word that is no command and too long to be compared with one, and `where`. A run must end
 with `ydebug: no memory`, status 3 and nothing on standard output, or go on: then each answer is as
 usual for the parse as it stands, or says that there is no memory, and the parse behind it is as it
 was, or, behind a move, where the steps that were told have led. A suggestion that is missing, or is
-another one, fails. The last line is `N passed, M failed`.
+another one, fails. A command ends as usual, or with status 3 and `no memory` in place of lines or
+behind them. The last line is `N passed, M failed`.
 """
 import os
 import re
@@ -28,7 +30,9 @@ from refuse import ALL, SOURCE
 TOP = Path(__file__).resolve().parent.parent
 HERE = TOP / "scenarios" / "ydebug"
 EXAMPLES = TOP / "examples"
-# Each session: the folder of its two files, and its command lines.
+QUERIES = EXAMPLES / "queries"
+A_QUERY = QUERIES, ("grammar.y", "--lex", "queries.lex", "comma.sql")
+# Each session: its folder, or that and its words, and its command lines.
 SESSIONS = {
     "moves": (EXAMPLES / "statements", "s|s 5||back 2|to 12|r|b|to 3"),
     "until": (EXAMPLES / "statements", "run until conflict|back until shift ID|run until token 9"),
@@ -40,6 +44,19 @@ SESSIONS = {
     "files": (EXAMPLES / "statements", "to 5|save one|save one|drop|save! one|save! two"),
     "reload": (EXAMPLES / "statements", "to 9|insert ';'|reload|s 2|reload"),
     "recovery": (HERE / "recovery", "run until error|s 3|expected|run|tree|derivation|conflicts"),
+    "texts": (A_QUERY, "where|s 3|run until error|upcoming|back 2|insert FROM|where|to 2|run"),
+    "texts again": (A_QUERY, "to 9|drop|reload|expected|insert NAME|reload|history|run|tree all"),
+}
+# Each command: its folder and its words.
+COMMANDS = {
+    "check": (QUERIES, "check grammar.y --lex queries.lex open.sql comma.sql quote.sql"),
+    "tokens": (QUERIES, "tokens grammar.y --lex queries.lex open.sql"),
+    "sketch": (QUERIES, "lex-spec grammar.y"),
+    "ungiven": (HERE / "lex", "check grammar.y --lex refused-ungiven/bad.lex good.sql"),
+    "bison": (HERE / "from-bison", "check grammar.y tokens --from bison"),
+    "bison text": (HERE / "from-bison", "tokens grammar.y --from bison --lex text/e.lex text/good"),
+    "page": (HERE / "lex/page-places", "page grammar.y --lex sums.lex sums.txt -o page"),
+    "bison page": (HERE / "from-bison", "page grammar.y tokens --from bison --conflicts -o page"),
 }
 MARK = "#" * 50
 # What a move is, and where a parse stands.
@@ -54,12 +71,15 @@ def spelled(lines):
 
 def run(ydebug, source, given, **more):
     """The status, both streams and the files of a run in a folder of its own."""
+    folder, words = source if isinstance(source, tuple) else (source, ("grammar.y", "tokens"))
     with tempfile.TemporaryDirectory() as room:
-        for name in ("grammar.y", "tokens"):
-            Path(room, name).write_bytes((source / name).read_bytes())
-        words = [ydebug, "grammar.y", "tokens"]
+        for name in words:
+            if (folder / name).is_file():
+                Path(room, name).parent.mkdir(exist_ok=True)
+                Path(room, name).write_bytes((folder / name).read_bytes())
+        words = [ydebug, *words]
         ran = subprocess.run(words, cwd=room, input=given, capture_output=True, timeout=120, **more)
-        files = {it.name: it.read_bytes() for it in Path(room).iterdir()}
+        files = {it.name: it.read_bytes() for it in Path(room).iterdir() if it.is_file()}
     return ran.returncode, ran.stdout.decode(), ran.stderr.decode(), files
 
 
@@ -127,15 +147,38 @@ def fault_of(text, ydebug, source, lines):
     return None
 
 
+def is_begun(text, usual):
+    """Whether a text is a beginning of the usual one, or has `no memory` in place of lines."""
+    lines, known = text.splitlines(), usual.splitlines()
+    others = [it for it in lines if it not in known and not it.endswith(f": {NO_MEMORY}")]
+    return usual.startswith(text) or not others
+
+
+def way_of_command(made, wanted):
+    """How a command has ended, and what is wrong with that, if anything is."""
+    status, text, message, files = made
+    if made == wanted:
+        return "as usual", None
+    told = message.removesuffix(f"ydebug: {NO_MEMORY}\n")
+    begun = [is_begun(text, wanted[1]), wanted[2].startswith(told)]
+    begun += [files[it] == wanted[3].get(it) or it == "page" for it in files]
+    if status == 3 and NO_MEMORY in text + message and all(begun):
+        return "end with no memory", None
+    return "wrong", f"{status} {message}{text}"
+
+
 def refused_once(number, last, ydebug, source, lines, library):
     """How a run ended with some allocations refused, and how many it asked for."""
+    given = spelled(lines) if lines else b""
     with tempfile.TemporaryFile() as counted:
         words = {"REFUSED": number, "LAST": last or number, "COUNTED": counted.fileno()}
         words |= {"LD_PRELOAD": library}
         words = {name: str(word) for name, word in words.items()}
-        made = run(ydebug, source, spelled(lines), env=words, pass_fds=[counted.fileno()])
+        made = run(ydebug, source, given, env=words, pass_fds=[counted.fileno()])
         counted.seek(0)
         calls = int(counted.read() or b"0")
+    if not lines:
+        return *way_of_command(made, run(ydebug, source, given)), calls
     status, text, message, _ = made
     if (status, text, message) == (3, "", "ydebug: no memory\n"):
         return "end with no memory", None, calls
@@ -147,8 +190,12 @@ def refused_once(number, last, ydebug, source, lines, library):
 
 
 def refused_in_turn(name, from_there_on, ydebug, library, pool):
-    source, text = SESSIONS[name]
-    lines = text.split("|")
+    if name in SESSIONS:
+        source, text = SESSIONS[name]
+        lines = text.split("|")
+    else:
+        folder, text = COMMANDS[name]
+        source, lines = (folder, tuple(text.split())), []
     given = dict(ydebug=ydebug, source=source, lines=lines, library=library)
     way, fault, calls = refused_once(0, 0, **given)
     ways = Counter({"wrong": 1} if way == "wrong" else {})
@@ -168,7 +215,7 @@ def main(ydebug, *names):
     whole = Counter()
     with tempfile.TemporaryDirectory() as room, ProcessPoolExecutor(os.cpu_count()) as pool:
         library = library_in(room, SOURCE)
-        for name in names or SESSIONS:
+        for name in names or [*SESSIONS, *COMMANDS]:
             for from_there_on in (False, True):
                 whole += refused_in_turn(name, from_there_on, ydebug, library, pool)
     print(f"{whole.total() - whole['wrong']} passed, {whole['wrong']} failed")

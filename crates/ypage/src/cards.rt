@@ -14,7 +14,7 @@ use yfaults::opening::Opened;
 use yparse::Session;
 use yreports::finding::{ALL_STEPS, Finding, List, Seeker};
 use yreports::list_text::{ListText, put_unfound};
-use yreports::trial::bare_session;
+use yreports::report::empty_session;
 use ysymbols::Sym;
 use ytables::Tables;
 
@@ -160,7 +160,7 @@ fn cards_over(alloc: Global, session: &mut Session, lines: &Lines) -> io::Result
 /// The cards of a grammar that is open.
 fn cards_in(alloc: Global, opened: Opened) -> io::Result<Cards> {
     let Opened { tables, lines } = opened;
-    let mut session = bare_session(alloc, tables);
+    let mut session = empty_session(alloc, tables);
     cards_over(alloc, &mut session, &lines)
 }
 

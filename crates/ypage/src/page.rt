@@ -118,6 +118,18 @@ fn cards_of<F: Files + AllocGlobal, S: Opens, E: Write>(
     }
 }
 
+/// Writes the page of what is shown, and gives the exit status.
+fn put_shown<F: Files + AllocGlobal, W: Write, E: Write>(
+    rt: &F,
+    file: Option<&str>,
+    shown: Shown<'_>,
+    out: &mut W,
+    errors: &mut E,
+) -> io::Result<u8> {
+    let page = page_of(rt.alloc(), shown)?;
+    write_page(rt, file, &page, out, errors)
+}
+
 /// Writes the page of these steps, and gives the exit status.
 fn put_steps<'a, F: Files + AllocGlobal, S: Opens, W: Write, E: Write>(
     rt: &F,
@@ -127,19 +139,19 @@ fn put_steps<'a, F: Files + AllocGlobal, S: Opens, W: Write, E: Write>(
     out: &mut W,
     errors: &mut E,
 ) -> io::Result<u8> {
-    let cards = match cards_of(rt, source, asked, errors)? {
-        Ok(cards) => cards,
-        Err(status) => return Ok(status),
-    };
-    let shown = Shown {
-        files: (asked.grammar, asked.tokens),
-        parse: steps.parse,
-        record: steps.record,
-        asked: steps.cells,
-        conflicts: cards.as_ref(),
-    };
-    let page = page_of(rt.alloc(), shown)?;
-    write_page(rt, asked.file, &page, out, errors)
+    match cards_of(rt, source, asked, errors)? {
+        Ok(cards) => {
+            let shown = Shown {
+                files: (asked.grammar, asked.tokens),
+                parse: steps.parse,
+                record: steps.record,
+                asked: steps.cells,
+                conflicts: cards.as_ref(),
+            };
+            put_shown(rt, asked.file, shown, out, errors)
+        }
+        Err(status) => Ok(status),
+    }
 }
 
 /// Writes the page of a parse at its start, and gives the exit status.

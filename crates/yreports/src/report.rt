@@ -5,7 +5,6 @@ use crate::finding::{ALL_STEPS, Finding, Seeker, file_tokens};
 use crate::kinds::{Count, put_counts, put_named, put_states};
 use crate::list_text::{ListText, put_unfound};
 use crate::saving::Folder;
-use crate::trial::bare_session;
 use crate::warnings::put_warnings;
 use std::alloc::Global;
 use std::io::{self, Write};
@@ -16,7 +15,7 @@ use yexplain::lines::Lines;
 use yexplain::reads::grammar_of;
 use yexplain::why::{Question, explain};
 use yfaults::opening::Opened;
-use yparse::Session;
+use yparse::{Session, Tokens};
 use ytables::Tables;
 
 /// The most kinds for which lists are made.
@@ -233,6 +232,14 @@ fn put_all<W: Write, E: Write, F: Files + AllocGlobal + Clone + Drop>(
     put_both(rt, &found, out, errors, asked, session, lines)
 }
 
+/// A session without tokens.
+pub fn empty_session(alloc: Global, tables: Tables) -> Session {
+    let tokens = Tokens {
+        symbols: Vec::new(alloc),
+    };
+    Session::new(alloc, tables, tokens)
+}
+
 /// Writes the conflicts and the warnings of a grammar that is open, and gives the exit status: 0;
 /// 1 where there is one of these and that is to count; 3 where a list can't be written, which is
 /// said on `errors`.
@@ -244,6 +251,6 @@ pub fn put_conflicts<W: Write, E: Write, F: Files + AllocGlobal + Clone + Drop>(
     opened: Opened,
 ) -> io::Result<u8> {
     let Opened { tables, lines } = opened;
-    let mut session = bare_session(rt.alloc(), tables);
+    let mut session = empty_session(rt.alloc(), tables);
     put_all(rt, out, errors, asked, &mut session, &lines)
 }

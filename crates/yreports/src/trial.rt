@@ -1,13 +1,11 @@
 //! Whether a list of tokens gets a parse to a cell: the tokens are put into a session, which goes
 //! on until its state is reached with the token ahead, and then all the way back.
 
-use std::alloc::Global;
 use std::io::{self, ErrorKind};
 use ylalr::{END, ERROR};
 use ymachine::machine::{Mode, StepFault, StepKind};
-use yparse::{Session, Tokens};
+use yparse::Session;
 use ysymbols::Sym;
-use ytables::Tables;
 
 /// The most reductions in a row of a trial.
 const MOST_IN_A_ROW: usize = 10_000;
@@ -63,12 +61,6 @@ impl Goal {
         }
         None
     }
-}
-
-/// A session over tables, without tokens.
-pub fn bare_session(alloc: Global, tables: Tables) -> Session {
-    let symbols = Vec::new(alloc);
-    Session::new(alloc, tables, Tokens { symbols })
 }
 
 /// The fault of a session as one of input and output.

@@ -3,5 +3,5 @@
 %skip  --[^\n]*
 %keywords -i SELECT FROM WHERE AND
 NAME   [A-Za-z_][A-Za-z_0-9]*
-NUMBER [0-9])([0-9]
+NUMBER (?x)[0-9]+ # digits
 LE     <=

@@ -1,4 +1,4 @@
-%token word IF STRING tLE
+%token piece IF STRING tLE
 %nonassoc LOW
 %%
-s : IF word tLE STRING '\n' %prec LOW ;
+s : IF piece tLE STRING '\n' %prec LOW ;
