@@ -54,8 +54,8 @@ fn look_at<E: Write>(
 
 /// Says why `yacc` doesn't read what a file becomes, and gives the exit status.
 fn put_unopened<E: Write>(
-    alloc: Global,
     errors: &mut E,
+    alloc: Global,
     path: &str,
     imported: &Imported,
     trouble: &Trouble,
@@ -92,7 +92,7 @@ fn open_imported<E: Write>(
         Ok(opened) => return stands(alloc, errors, path, imported, opened),
         Err(trouble) => trouble,
     };
-    put_unopened(alloc, errors, path, imported, &trouble).map(Err)
+    put_unopened(errors, alloc, path, imported, &trouble).map(Err)
 }
 
 /// Reads what a file becomes as `yacc` does, and gives the exit status: 0 where it stands.
@@ -107,7 +107,7 @@ fn try_out<E: Write>(
             let Opened { tables, .. } = &opened;
             look_at(alloc, errors, path, imported, tables)
         }
-        Err(trouble) => put_unopened(alloc, errors, path, imported, &trouble),
+        Err(trouble) => put_unopened(errors, alloc, path, imported, &trouble),
     }
 }
 

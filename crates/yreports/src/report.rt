@@ -205,10 +205,10 @@ fn put_lists<'a, W: Write, F: Files + AllocGlobal + Clone + Drop>(
 /// Writes these conflicts and the warnings of a session's grammar, and gives the exit status.
 fn put_both<W: Write, E: Write, F: Files + AllocGlobal + Clone + Drop>(
     rt: &F,
+    asked: Asked<'_>,
     found: &Conflicts,
     out: &mut W,
     errors: &mut E,
-    asked: Asked<'_>,
     session: &mut Session,
     lines: &Lines,
 ) -> io::Result<u8> {
@@ -229,7 +229,7 @@ fn put_all<W: Write, E: Write, F: Files + AllocGlobal + Clone + Drop>(
     lines: &Lines,
 ) -> io::Result<u8> {
     let found = Conflicts::new(rt.alloc(), session.tables())?;
-    put_both(rt, &found, out, errors, asked, session, lines)
+    put_both(rt, asked, &found, out, errors, session, lines)
 }
 
 /// A session without tokens.

@@ -28,14 +28,6 @@ fn item_width(grammar: &Grammar, item: Item) -> usize {
     }
 }
 
-/// Whether an item is complete or has its dot before a token.
-fn is_noted(grammar: &Grammar, item: Item) -> bool {
-    match next_of(grammar, item) {
-        None => true,
-        Some(symbol) => grammar.is_token(symbol),
-    }
-}
-
 /// How much an item matters in a short list.
 #[derive(Clone, Copy, PartialEq, Eq)]
 enum Rank {
@@ -113,24 +105,7 @@ impl<'a> Shown<'a> {
         Ok(())
     }
 
-    /// What an item lets the state do: reduce, shift a token, or nothing by itself.
-    fn put_note<W: Write>(self, page: &mut Page<W>, item: Item, most: usize) -> io::Result<()> {
-        let grammar = self.grammar();
-        match next_of(grammar, item) {
-            None => {
-                page.put("reduce on")?;
-                self.put_looks(page, item, most)
-            }
-            Some(END) => page.put("accept"),
-            Some(token) if grammar.is_token(token) => {
-                page.put("shift ")?;
-                page.put(name_of(grammar, token))
-            }
-            Some(_) => Ok(()),
-        }
-    }
-
-    /// An item and what it lets the state do.
+    /// An item and what it lets the state do: reduce, shift a token, or nothing by itself.
     fn put_noted<W: Write>(
         self,
         page: &mut Page<W>,
@@ -138,10 +113,25 @@ impl<'a> Shown<'a> {
         width: usize,
         most: usize,
     ) -> io::Result<()> {
-        write!(page, "   {}", ItemText(self.grammar(), item))?;
-        if is_noted(self.grammar(), item) {
-            page.tab(width.saturating_add(5))?;
-            self.put_note(page, item, most)?;
+        let grammar = self.grammar();
+        let column = width.saturating_add(5);
+        write!(page, "   {}", ItemText(grammar, item))?;
+        match next_of(grammar, item) {
+            None => {
+                page.tab(column)?;
+                page.put("reduce on")?;
+                self.put_looks(page, item, most)?;
+            }
+            Some(END) => {
+                page.tab(column)?;
+                page.put("accept")?;
+            }
+            Some(token) if grammar.is_token(token) => {
+                page.tab(column)?;
+                page.put("shift ")?;
+                page.put(name_of(grammar, token))?;
+            }
+            Some(_) => {}
         }
         page.end()
     }
@@ -178,34 +168,6 @@ impl<'a> Shown<'a> {
         Ok(count)
     }
 
-    /// The items that are complete or about the token ahead, and then those that have begun: 12
-    /// of them. The answer is how many more there are.
-    fn put_ranks<W: Write>(self, page: &mut Page<W>, ahead: Sym) -> io::Result<usize> {
-        let grammar = self.grammar();
-        let first = Listed {
-            rank: Rank::First,
-            most: FEW,
-            width: self.widest(|item| rank_of(grammar, item, ahead) != Rank::Third),
-        };
-        let begun = self.put_rank(page, ahead, first)?;
-        let second = Listed {
-            rank: Rank::Second,
-            most: FEW.saturating_sub(begun),
-            ..first
-        };
-        let count = self.put_rank(page, ahead, second)?;
-        Ok(begun.saturating_add(count).saturating_sub(FEW))
-    }
-
-    /// All items.
-    fn put_items<W: Write>(self, page: &mut Page<W>) -> io::Result<()> {
-        let width = self.widest(|_| true);
-        for item in self.items() {
-            self.put_noted(page, *item, width, usize::MAX)?;
-        }
-        Ok(())
-    }
-
     /// The line of a token's action.
     fn put_cell<W: Write>(self, page: &mut Page<W>, token: Sym, action: Action) -> io::Result<()> {
         page.put("   ")?;
@@ -216,10 +178,6 @@ impl<'a> Shown<'a> {
             page.painted(Paint::Bad, "  (conflict)")?;
         }
         page.end()
-    }
-
-    fn action(self, token: Sym) -> Action {
-        action_of(self.tables, self.state, token)
     }
 
     /// Whether a cell has a line of its own: what isn't a reduction, and what was settled.
@@ -235,7 +193,7 @@ impl<'a> Shown<'a> {
     /// The actions that have lines of their own, by token.
     fn put_cells<W: Write>(self, page: &mut Page<W>) -> io::Result<()> {
         for token in 0..token_count(self.grammar()) {
-            let action = self.action(token);
+            let action = action_of(self.tables, self.state, token);
             if self.is_apart(token, action) {
                 self.put_cell(page, token, action)?;
             }
@@ -248,7 +206,8 @@ impl<'a> Shown<'a> {
         let mut begun = false;
         let reduction = Action::Reduce(rule);
         for token in 0..token_count(self.grammar()) {
-            if self.action(token) == reduction && !self.is_apart(token, reduction) {
+            let action = action_of(self.tables, self.state, token);
+            if action == reduction && !self.is_apart(token, reduction) {
                 if !begun {
                     begun = true;
                     page.put("   ")?;
@@ -306,7 +265,21 @@ pub fn put_kernel<W: Write>(
     state: usize,
     ahead: Sym,
 ) -> io::Result<()> {
-    let more = Shown { tables, state }.put_ranks(page, ahead)?;
+    let shown = Shown { tables, state };
+    let grammar = shown.grammar();
+    let first = Listed {
+        rank: Rank::First,
+        most: FEW,
+        width: shown.widest(|item| rank_of(grammar, item, ahead) != Rank::Third),
+    };
+    let begun = shown.put_rank(page, ahead, first)?;
+    let second = Listed {
+        rank: Rank::Second,
+        most: FEW.saturating_sub(begun),
+        ..first
+    };
+    let count = shown.put_rank(page, ahead, second)?;
+    let more = begun.saturating_add(count).saturating_sub(FEW);
     if more > 0 {
         page.put("   .. ")?;
         page.number(more)?;
@@ -321,7 +294,10 @@ pub fn put_state<W: Write>(page: &mut Page<W>, tables: &Tables, state: usize) ->
     page.number(state)?;
     page.end()?;
     let shown = Shown { tables, state };
-    shown.put_items(page)?;
+    let width = shown.widest(|_| true);
+    for item in shown.items() {
+        shown.put_noted(page, *item, width, usize::MAX)?;
+    }
     shown.put_actions(page)?;
     shown.put_gotos(page)
 }
