@@ -24,12 +24,19 @@ pub const USAGE: &[u8] = b"usage: ydebug grammar tokens [--lex SPEC]\n\
 /// A form of the command line.
 #[derive(Clone, Copy)]
 pub enum Form {
+    /// A session.
     Debug,
+    /// The report on conflicts.
     Conflicts,
+    /// Verdicts.
     Check,
+    /// A page.
     Page,
+    /// An import.
     Import,
+    /// The tokens of a text.
     Tokens,
+    /// A sketch of a SPEC.
     Sketch,
 }
 

@@ -3,13 +3,16 @@
 use yexplain::roles::newlines;
 use yfaults::shown::Place;
 
-/// A text: its path, its bytes, how many of them stand before each token, and before what follows
-/// the last one.
+/// A text from which tokens were read.
 #[derive(Drop)]
 pub struct Text {
+    /// Its path.
     pub path: String,
+    /// Its bytes.
     pub bytes: Vec<u8>,
+    /// How many of them stand before each token.
     pub places: Vec<usize>,
+    /// How many of them stand before what follows the last token.
     pub end: usize,
 }
 

@@ -4,7 +4,7 @@ use std::alloc::AllocError;
 use ysymbols::Sym;
 
 /// What is wrong with a SPEC.
-#[derive(Clone, Copy, Debug, Drop, PartialEq, Eq)]
+#[derive(Clone, Copy, Drop, PartialEq, Eq)]
 pub enum Wrong {
     /// The line is no text in UTF-8.
     NoText,
@@ -25,10 +25,11 @@ pub enum Wrong {
 }
 
 /// Why a SPEC isn't used: what is wrong at a place of it, or that there is no memory.
-#[derive(Clone, Copy, Debug, Drop, PartialEq, Eq)]
+#[derive(Clone, Copy, Drop, PartialEq, Eq)]
 pub enum SpecFault {
     /// How many bytes stand before the place, and what is wrong there.
     At(usize, Wrong),
+    /// Memory ran out.
     Memory,
 }
 
@@ -39,12 +40,13 @@ impl From<AllocError> for SpecFault {
 }
 
 /// Why a text isn't cut into tokens.
-#[derive(Clone, Copy, Debug, Drop, PartialEq, Eq)]
+#[derive(Clone, Copy, Drop, PartialEq, Eq)]
 pub enum TextFault {
     /// Nothing matches behind so many bytes.
     Unmatched(usize),
     /// A further token begins behind so many bytes.
     TooMany(usize),
+    /// Memory ran out.
     Memory,
 }
 

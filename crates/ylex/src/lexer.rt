@@ -12,12 +12,14 @@ use ytokens::tokens::Tokens;
 /// The most tokens of a text.
 pub const MOST_TOKENS: usize = 1_000_000;
 
-/// A text as tokens: each with how many bytes stand before it, and how many before what follows
-/// the last one.
+/// A text as tokens.
 #[derive(Drop)]
 pub struct Lexed {
+    /// The tokens.
     pub tokens: Tokens,
+    /// How many bytes stand before each of them.
     pub places: Vec<usize>,
+    /// How many bytes stand before what follows the last one.
     pub end: usize,
 }
 

@@ -8,35 +8,43 @@ use ysymbols::{Grammar, Sym};
 use ytokens::token_words::{Front, front_of};
 use ytokens::tokens::is_input;
 
-/// A line with an expression: the token that it gives, none where it is passed over; the
-/// expression, and how many bytes of the file stand before it.
-#[derive(Clone, Copy, Debug, Drop)]
+/// A line with an expression.
+#[derive(Clone, Copy, Drop)]
 pub struct Rule<'a> {
+    /// The token that it gives; `None` where what it matches is passed over.
     pub token: Option<Sym>,
+    /// The expression.
     pub expression: &'a str,
+    /// How many bytes of the file stand before the expression.
     pub at: usize,
 }
 
-/// A word that stands for itself, and whether without regard to case.
-#[derive(Clone, Copy, Debug, Drop)]
+/// A word that stands for itself.
+#[derive(Clone, Copy, Drop)]
 pub struct Word<'a> {
+    /// Its token.
     pub token: Sym,
+    /// How the grammar spells it.
     pub text: &'a [u8],
+    /// Whether it counts in any case.
     pub folded: bool,
 }
 
-/// What a SPEC says: its lines with expressions, its words, and which symbols of the grammar it
-/// names at all, and as those that no text has.
+/// What a SPEC says.
 #[derive(Drop)]
 pub struct Spec<'a> {
+    /// Its lines with expressions.
     pub rules: Vec<Rule<'a>>,
+    /// Its words.
     pub words: Vec<Word<'a>>,
+    /// Which symbols of the grammar it names.
     pub named: Vec<bool>,
+    /// Which of them no text has.
     pub absent: Vec<bool>,
 }
 
 /// What names behind a directive are.
-#[derive(Clone, Copy, Debug, PartialEq, Eq)]
+#[derive(Clone, Copy, PartialEq, Eq)]
 enum Listed {
     Words,
     FoldedWords,

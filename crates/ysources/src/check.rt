@@ -23,11 +23,15 @@ use ysymbols::{Grammar, Sym};
 use ytables::Tables;
 
 /// What is asked for: verdicts on inputs, by a SPEC where there is one.
-#[derive(Clone, Copy, Debug)]
+#[derive(Clone, Copy)]
 pub struct Asked<'a> {
+    /// The grammar file.
     pub grammar: GrammarFile<'a>,
+    /// The paths of the inputs; `-` is standard input.
     pub inputs: &'a [&'a str],
+    /// The path of the SPEC; without one, inputs are tokens files.
     pub spec: Option<&'a str>,
+    /// Whether to say if the grammar is free of choices.
     pub choice: bool,
 }
 

@@ -13,7 +13,9 @@ use ylex::lexer::{Lexed, Lexer};
 /// The bytes of a text, and its tokens.
 #[derive(Drop)]
 pub struct Cut {
+    /// The bytes.
     pub bytes: Vec<u8>,
+    /// The tokens, with their places.
     pub lexed: Lexed,
 }
 

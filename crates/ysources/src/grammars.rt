@@ -8,17 +8,21 @@ use yfaults::opening::{Opened, grammar_bytes, open_text, put_unread};
 use yimported::run::open_foreign;
 use ysymbols::Grammar;
 
-/// A grammar file, and whether it is one of bison or byacc.
-#[derive(Clone, Copy, Debug)]
+/// A grammar file.
+#[derive(Clone, Copy)]
 pub struct GrammarFile<'a> {
+    /// Its path.
     pub path: &'a str,
+    /// Whether it is one of bison or byacc.
     pub bison: bool,
 }
 
-/// The path of a SPEC, and that of the grammar file.
+/// A SPEC for a grammar file.
 #[derive(Clone, Copy)]
 pub struct SpecFile<'a> {
+    /// The path of the SPEC.
     pub path: &'a str,
+    /// The path of the grammar file.
     pub grammar: &'a str,
 }
 

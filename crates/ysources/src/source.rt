@@ -12,13 +12,16 @@ use ydebugger::start::{Opens, parse_over};
 use yfaults::opening::{Opened, put_unread};
 use yparse::Session;
 
-/// The files of a parse: a grammar file, an input, and the SPEC by which it is cut; it is a tokens
-/// file where there is none.
+/// The files of a parse.
 #[derive(Drop)]
 pub struct Source<'a, F> {
+    /// What opens files.
     pub rt: &'a F,
+    /// The grammar file.
     pub grammar: GrammarFile<'a>,
+    /// The path of the input.
     pub input: &'a str,
+    /// The path of the SPEC by which the input is cut; without one, it is a tokens file.
     pub spec: Option<&'a str>,
 }
 
