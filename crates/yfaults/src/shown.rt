@@ -3,6 +3,7 @@
 use crate::words::Words;
 use std::io::{self, Write};
 use std::{fmt, str};
+use unicode_width::UnicodeWidthChar;
 use yexplain::roles::newlines;
 
 /// The most bytes of a line that are shown before a place, and behind it.
@@ -43,13 +44,15 @@ struct Text<'a> {
 }
 
 impl Text<'_> {
-    /// Writes a character, or a blank in its place.
+    /// Writes a character, or as many blanks as it takes columns.
     fn put<W: fmt::Write>(&self, f: &mut fmt::Formatter<W>, c: char) -> fmt::Result {
-        if self.blank && c != '\t' {
-            f.write_char(' ')
-        } else {
-            f.write_char(c)
+        if !self.blank || c == '\t' {
+            return f.write_char(c);
         }
+        for _ in 0..c.width().unwrap_or(1) {
+            f.write_char(' ')?;
+        }
+        Ok(())
     }
 
     fn put_bytes<W: fmt::Write>(&self, f: &mut fmt::Formatter<W>) -> fmt::Result {

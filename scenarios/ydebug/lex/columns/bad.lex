@@ -1,5 +1,5 @@
 %skip  [ \t\n]+
 %keywords -i SELECT FROM WHERE AND
-NAME   [A-Za-zäöüßé]+
+NAME   [A-Za-zäöüßé名前]+
 NUMBER [0-9]+
 LE     <=

@@ -1,0 +1,1 @@
+select 名前, , from x;
