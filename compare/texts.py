@@ -37,8 +37,10 @@ LOOKS = {
     "(ab)+c?": ["ab", "ababc"],
 }
 SKIPS = [r"[ \t\n]+", r"#[^\n]*", "~", r"[ \n]"]
-BLANKS = [" ", "\n", "  ", "\t", "#x\n", "\n\n", "~"]
-JUNK = ["!", "\u00e9", "\x01", "@@", "\\", "'"]
+BLANKS = [" ", "\n", "  ", "\t", "\n\n"]
+# What only some SPECs, and what none pass over.
+OTHERS = {"#x\n": SKIPS[1], "~": SKIPS[2]}
+JUNK = ["!", "\u00e9", "\x01", "@@", "\\", "'", "#x\n", "~"]
 SESSION = "where\nrun until error\nupcoming\ninsert NUM\nback 3\nwhere\nreload\nrun\nupcoming\n"
 # What may be said of a SPEC or a text that was spoiled.
 NAMED = re.compile(
@@ -131,20 +133,24 @@ class Spec:
 
 def text_of(spec, tokens, rng):
     """A text, mostly of the looks of tokens."""
+    skips = [line.partition(" ")[2] for _, line, _ in spec.lines]
+    blanks = BLANKS + [it for it, skip in OTHERS.items() if skip in skips]
     literals = [name[1:-1] for _, name in spec.literals()]
     looks = [*spec.texts, *literals] or ["a"]
-    junk = JUNK if rng.random() < 0.2 else BLANKS
-    some = [rng.choice(looks) + rng.choice(BLANKS) for _ in range(rng.randint(0, 12))]
-    if rng.random() < 0.4:
-        some = [written(spec, token, rng) + rng.choice(BLANKS) for token in tokens]
-    some.insert(rng.randint(0, len(some)), rng.choice(junk))
+    some = [rng.choice(looks) for _ in range(rng.randint(0, 12))]
+    if rng.random() < 0.7:
+        some = [written(spec, token, rng) for token in tokens]
+    some = [it + rng.choice(blanks) for it in some]
+    if rng.random() < 0.2:
+        some.insert(rng.randint(0, len(some)), rng.choice(JUNK))
     return "".join(some).encode()
 
 
 def written(spec, token, rng):
     """A text of a token."""
     name = spec.grammar.names[token]
-    looks = [LOOKS[look] for _, line, _ in spec.lines for look in LOOKS if line == f"{name}  {look}"]
+    lines = [line for _, line, _ in spec.lines]
+    looks = [some for look, some in LOOKS.items() if f"{name}  {look}" in lines]
     return name.strip("'") if name.startswith("'") or not looks else rng.choice(looks[0])
 
 
