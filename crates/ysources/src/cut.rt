@@ -10,9 +10,11 @@ use std::rt::Files;
 use yfaults::opening::{Opened, put_unread};
 use ylex::lexer::{Lexed, Lexer};
 
-/// The bytes of a text, and its tokens.
+/// A text, and its tokens.
 #[derive(Drop)]
 pub struct Cut {
+    /// Its path, where that is kept.
+    pub path: String,
     /// The bytes.
     pub bytes: Vec<u8>,
     /// The tokens, with their places.
@@ -23,6 +25,7 @@ impl Cut {
     /// A text without a byte.
     pub fn new(alloc: Global) -> Cut {
         Cut {
+            path: String::new(alloc),
             bytes: Vec::new(alloc),
             lexed: Lexed::new(alloc),
         }

@@ -10,7 +10,8 @@ use ydebugger::parse::Parse;
 use ydebugger::source::Text;
 use ydebugger::start::{Opens, parse_over};
 use yfaults::opening::{Opened, put_unread};
-use yparse::Session;
+use ylex::lexer::Lexed;
+use yparse::{Session, Tokens};
 
 /// The files of a parse.
 #[derive(Drop)]
@@ -25,24 +26,44 @@ pub struct Source<'a, F> {
     pub spec: Option<&'a str>,
 }
 
+/// A session over tokens; `None` where one of them is no token of the tables.
+fn session_of(alloc: Global, tables: Tables, tokens: Tokens) -> Option<Session> {
+    if tokens.fits(&tables) {
+        Some(Session::new(alloc, tables, tokens))
+    } else {
+        None
+    }
+}
+
 /// A parse of the tokens of a text, which it keeps; `None` where one of them is no token of the
 /// tables.
-fn parse_of(alloc: Global, opened: Opened, path: String, cut: Cut) -> Option<Parse> {
+fn parse_of(alloc: Global, opened: Opened, cut: Cut) -> Option<Parse> {
     let Opened { tables, lines } = opened;
-    let Cut { bytes, lexed } = cut;
-    let (tokens, places, end) = (lexed.tokens, lexed.places, lexed.end);
-    if !tokens.fits(&tables) {
-        return None;
-    }
-    let count = tokens.len();
+    let Cut { path, bytes, lexed } = cut;
+    let Lexed {
+        tokens,
+        places,
+        end,
+    } = lexed;
     let text = Text {
         path,
         bytes,
         places,
         end,
     };
-    let session = Session::new(alloc, tables, tokens);
-    Some(Parse::new(alloc, session, lines, count, Some(text)))
+    let count = tokens.len();
+    match session_of(alloc, tables, tokens) {
+        Some(session) => Some(Parse::new(alloc, session, lines, count, Some(text))),
+        None => None,
+    }
+}
+
+/// A parse, where there is one.
+fn made(parse: Option<Parse>) -> io::Result<Result<Parse, u8>> {
+    match parse {
+        Some(parse) => Ok(Ok(parse)),
+        None => Err(io::Error::from(ErrorKind::Other)),
+    }
 }
 
 impl<F: Files + AllocGlobal> Source<'_, F> {
@@ -51,11 +72,10 @@ impl<F: Files + AllocGlobal> Source<'_, F> {
         &self,
         opened: &Opened,
         spec: &str,
-        path: &mut String,
         cut: &mut Cut,
         errors: &mut E,
     ) -> io::Result<u8> {
-        path.push_str(self.input)?;
+        cut.path.push_str(self.input)?;
         let file = SpecFile {
             path: spec,
             grammar: self.grammar.path,
@@ -70,15 +90,14 @@ impl<F: Files + AllocGlobal> Source<'_, F> {
         spec: &str,
         errors: &mut E,
     ) -> io::Result<Result<Parse, u8>> {
-        let alloc = self.rt.alloc();
-        let mut cut = Cut::new(alloc);
-        let mut path = String::new(alloc);
-        match self.cut(&opened, spec, &mut path, &mut cut, errors)? {
-            0 => match parse_of(alloc, opened, path, cut) {
-                Some(parse) => Ok(Ok(parse)),
-                None => Err(io::Error::from(ErrorKind::Other)),
-            },
-            status => Ok(Err(status)),
+        let mut cut = Cut::new(self.rt.alloc());
+        match self.cut(&opened, spec, &mut cut, errors) {
+            Ok(0) => made(parse_of(self.rt.alloc(), opened, cut)),
+            status => {
+                drop(opened);
+                drop(cut);
+                status.map(Err)
+            }
         }
     }
 
@@ -90,17 +109,31 @@ impl<F: Files + AllocGlobal> Source<'_, F> {
     ) -> io::Result<Result<Parse, u8>> {
         match fs::read(self.rt, self.input) {
             Ok(bytes) => parse_over(self.rt.alloc(), opened, self.input, &bytes, errors),
-            Err(error) => put_unread(errors, self.input, &error).map(Err),
+            Err(error) => {
+                drop(opened);
+                put_unread(errors, self.input, &error).map(Err)
+            }
+        }
+    }
+
+    /// A parse of the input, by a grammar that is open.
+    fn open_input<E: Write>(
+        &self,
+        opened: Opened,
+        errors: &mut E,
+    ) -> io::Result<Result<Parse, u8>> {
+        match self.spec {
+            Some(spec) => self.open_text(opened, spec, errors),
+            None => self.open_tokens(opened, errors),
         }
     }
 }
 
 impl<F: Files + AllocGlobal> Opens for Source<'_, F> {
     fn open<E: Write>(&self, errors: &mut E) -> io::Result<Result<Parse, u8>> {
-        match (open_file(self.rt, self.grammar, errors)?, self.spec) {
-            (Ok(opened), Some(spec)) => self.open_text(opened, spec, errors),
-            (Ok(opened), None) => self.open_tokens(opened, errors),
-            (Err(status), _) => Ok(Err(status)),
+        match open_file(self.rt, self.grammar, errors)? {
+            Ok(opened) => self.open_input(opened, errors),
+            Err(status) => Ok(Err(status)),
         }
     }
 
