@@ -151,12 +151,12 @@ impl<F: Files + AllocGlobal, R: Read, W: Write> Uses for Texts<'_, F, R, W> {
 }
 
 /// Writes verdicts on texts by a SPEC, and gives the exit status.
-fn check_texts<F: Files + AllocGlobal, R: Read, W: Write, E: Write>(
-    rt: &F,
-    asked: Asked<'_>,
+fn check_texts<'a, F: Files + AllocGlobal, R: Read, W: Write, E: Write>(
+    rt: &'a F,
+    asked: Asked<'a>,
     spec: &str,
-    opened: &Opened,
-    (input, out): (&mut R, &mut W),
+    opened: &'a Opened,
+    (input, out): (&'a mut R, &'a mut W),
     errors: &mut E,
 ) -> io::Result<u8> {
     let file = SpecFile {
