@@ -12,6 +12,7 @@ use ydebugger::start::{Opens, parse_over};
 use yfaults::opening::{Opened, put_unread};
 use ylex::lexer::Lexed;
 use yparse::{Session, Tokens};
+use ytables::Tables;
 
 /// The files of a parse.
 #[derive(Drop)]
