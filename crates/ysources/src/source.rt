@@ -1,7 +1,5 @@
 //! Parses from the files that a command is given.
 
-ghost use Rattle.yparse.specs.Tokens.{Fits, symbols_of};
-
 use crate::cut::{Cut, cut_file};
 use crate::grammars::{GrammarFile, SpecFile, open_file};
 use std::alloc::Global;
@@ -29,17 +27,10 @@ pub struct Source<'a, F> {
     pub spec: Option<&'a str>,
 }
 
-/// A session over tokens of the tables.
-fn session_over(alloc: Global, tables: Tables, tokens: Tokens) -> Session
-    requires { Fits tables.built.grammar (symbols_of tokens) }
-{
-    Session::new(alloc, tables, tokens)
-}
-
 /// A session over tokens; `None` where one of them is no token of the tables.
 fn session_of(alloc: Global, tables: Tables, tokens: Tokens) -> Option<Session> {
     if tokens.fits(&tables) {
-        Some(session_over(alloc, tables, tokens))
+        Some(Session::new(alloc, tables, tokens))
     } else {
         None
     }
