@@ -1,10 +1,10 @@
 //! The conflicts of the tables of a parse.
 
-use crate::parse::Parse;
 use std::alloc::Global;
 use std::io::{self, Write};
 use yconflicts::groups::{Conflicts, Group, Kind};
 use yexplain::why::{Question, explain, put_cell};
+use yfollow::Parse;
 use yshow::page::Page;
 
 /// How many kinds of conflicts are explained, and how many are named at most.

@@ -4,9 +4,7 @@ use crate::conflicts::put_conflicts;
 use crate::edits::{drop_next, insert, save};
 use crate::expected::put_expected;
 use crate::moves::make_move;
-use crate::parse::Parse;
 use crate::reload::reload;
-use crate::start::Opens;
 use crate::text::{put_ahead, put_ahead_all};
 use crate::views::{
     refuse_name, show_derivation, show_history, show_rule, show_state, show_symbol, show_tree,
@@ -23,6 +21,7 @@ use ycommands::travel::{Move, move_of, name_at_fault};
 use ycommands::verb::Verb;
 use ycommands::words::{Found, first_word};
 use yexplain::reads::grammar_of;
+use yfollow::{Opens, Parse};
 use yshow::grammar_view::put_grammar;
 use yshow::place_view::{put_stack, put_where};
 use yshow::reading::{last_rule, states_of};

@@ -1,13 +1,13 @@
 //! Edits of the upcoming tokens, and the tokens as a file.
 
 use crate::history::put_tokens;
-use crate::parse::Parse;
 use crate::views::refuse_name;
 use std::alloc::Global;
 use std::fs::{self, File};
 use std::io::{self, ErrorKind, Write};
 use std::rt::Files;
 use ycommands::refusal::{Refusal, edit_words};
+use yfollow::Parse;
 use yparse::machine::{StepFault, StepKind};
 use yshow::page::Page;
 use yshow::step_line::{StepLine, put_made};

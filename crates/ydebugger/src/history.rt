@@ -1,8 +1,8 @@
 //! The last steps and edits of a parse, and its whole input with the edits.
 
-use crate::parse::Parse;
 use std::io::{self, Write};
 use yexplain::reads::grammar_of;
+use yfollow::Parse;
 use yparse::machine::StepKind;
 use yshow::page::Page;
 use yshow::reading::{name_of, upcoming_token};

@@ -1,6 +1,5 @@
 //! Moves: steps forward and back, and to where a condition holds.
 
-use crate::parse::Parse;
 use crate::tail::Tail;
 use crate::text::put_ahead;
 use std::alloc::{AllocError, Global};
@@ -8,6 +7,7 @@ use std::io::{self, Write};
 use ycommands::condition::{Condition, put_cell};
 use ycommands::refusal::fault_words;
 use ycommands::travel::{LAST, Move, is_to, tells_each, until_of};
+use yfollow::Parse;
 use yparse::machine::{StepFault, StepKind};
 use yshow::page::Page;
 use yshow::step_line::{StepLine, put_made};

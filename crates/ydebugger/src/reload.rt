@@ -1,11 +1,10 @@
 //! Both files again: a new parse, and the steps and edits of the old one in it.
 
-use crate::parse::Parse;
-use crate::start::Opens;
 use std::io::{self, Write};
 use std::mem;
 use ycommands::refusal::{Refusal, fault_words, put_refusal};
 use yexplain::reads::grammar_of;
+use yfollow::{Opens, Parse};
 use yparse::machine::{StepFault, StepKind};
 use yshow::page::Page;
 use yshow::reading::name_of;

@@ -1,9 +1,9 @@
 //! What is shown of the text that tokens were read from.
 
-use crate::parse::Parse;
-use crate::source::{Spots, Text};
 use std::io::{self, Write};
 use yexplain::reads::grammar_of;
+use yfollow::Parse;
+use yfollow::source::{Spots, Text};
 use yshow::page::Page;
 use yshow::place_view::put_upcoming;
 use yshow::reading::{name_of, upcoming_token};

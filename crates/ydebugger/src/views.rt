@@ -1,7 +1,6 @@
 //! Commands that show something.
 
 use crate::history::{SOME_STEPS, put_history};
-use crate::parse::Parse;
 use std::alloc::{AllocError, Global};
 use std::io::{self, Write};
 use ycommands::condition::{condition_near, number_in, symbol_named, symbol_near, token_named};
@@ -11,6 +10,7 @@ use ycommands::verb::Verb;
 use ycommands::words::first_word;
 use yexplain::reads::grammar_of;
 use yexplain::why::{Question, explain};
+use yfollow::Parse;
 use yparse::Session;
 use yparse::machine::Mode;
 use yshow::derivation::{SOME_FORMS, put_derivation};

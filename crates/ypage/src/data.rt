@@ -9,7 +9,7 @@ use indexmap::IndexSet;
 use serde::Serialize;
 use std::alloc::{AllocError, Global};
 use std::io::{self, ErrorKind};
-use ydebugger::parse::Parse;
+use yfollow::Parse;
 use ysymbols::Sym;
 
 /// What the script is given.

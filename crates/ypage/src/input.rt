@@ -3,7 +3,7 @@
 use crate::record::Record;
 use serde::Serialize;
 use std::alloc::{AllocError, Global};
-use ydebugger::parse::Parse;
+use yfollow::Parse;
 use yparse::machine::StepKind;
 use yshow::reading::upcoming_token;
 use ysymbols::Sym;

@@ -11,8 +11,7 @@ use std::alloc::{AllocError, Global};
 use std::fs;
 use std::io::{self, ErrorKind, Write};
 use std::rt::Files;
-use ydebugger::Opens;
-use ydebugger::parse::Parse;
+use yfollow::{Opens, Parse};
 use ysymbols::Sym;
 
 /// What is asked for: the page of the parse of a tokens file by a grammar file, where it goes, the
