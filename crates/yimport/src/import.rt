@@ -1,11 +1,11 @@
 //! A file imported.
 
 use crate::applied::applied;
-use crate::edits::Edits;
 use crate::note::Note;
 use crate::refusal::{Refusal, Trouble};
 use crate::symbols::{Expected, Work};
 use std::alloc::Global;
+use std::mem;
 use yforeign::groups::{Group, Head, groups_of};
 use yforeign::lexeme::{Kind, Lexeme};
 use yforeign::lexer::{Lexemes, lexemes_of};
@@ -93,24 +93,16 @@ impl Work<'_> {
         self.import_all(&lexemes, &groups)
     }
 
-    /// The import, once all is taken in.
-    fn imported(self) -> Imported {
-        let Work {
-            text,
-            edits,
-            levels,
-            shift_reduce,
-            reduce_reduce,
-            ..
-        } = self;
-        let Edits { texts, notes, .. } = edits;
+    /// The import, once all is taken in; nothing of it stays behind.
+    fn imported(&mut self) -> Imported {
+        let alloc = self.alloc;
         Imported {
-            text,
-            notes,
-            texts,
-            levels,
-            shift_reduce,
-            reduce_reduce,
+            text: mem::replace(&mut self.text, Vec::new(alloc)),
+            notes: mem::replace(&mut self.edits.notes, Vec::new(alloc)),
+            texts: mem::replace(&mut self.edits.texts, Vec::new(alloc)),
+            levels: mem::replace(&mut self.levels, Vec::new(alloc)),
+            shift_reduce: self.shift_reduce,
+            reduce_reduce: self.reduce_reduce,
         }
     }
 }
