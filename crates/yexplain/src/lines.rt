@@ -4,6 +4,7 @@
 use crate::reads::{body_of, left_of, name_of};
 use crate::roles::{How, Role, roles_of};
 use std::alloc::{AllocError, Global};
+use std::mem;
 use ylexemes::kind::Sign;
 use ylexemes::part::Lexeme;
 use ysymbols::{Grammar, Sym};
@@ -120,9 +121,10 @@ impl Places {
         }
     }
 
-    /// The rules of the grammar by number, behind rule 0. The rules of inner actions stand before
-    /// the rule that they stand in, in the order of its actions.
+    /// The rules of the grammar by number. The rules of inner actions stand before the rule that
+    /// they stand in, in the order of its actions.
     fn push_rules(&self, grammar: &Grammar, rules: &mut Vec<Begun>) -> Result<(), AllocError> {
+        rules.push(rule_begun(None))?;
         let mut starts = self.starts.iter();
         let mut start = starts.next();
         let mut inner: usize = 0;
@@ -170,17 +172,21 @@ fn places_of(alloc: Global, grammar: &Grammar, roles: &[Role<'_>]) -> Result<Pla
     Ok(places)
 }
 
+/// Where rules and symbols stand, by the lexemes of their file.
+fn lines_of(alloc: Global, grammar: &Grammar, roles: &[Role<'_>]) -> Result<Lines, AllocError> {
+    let mut places = places_of(alloc, grammar, roles)?;
+    let mut rules = Vec::new(alloc);
+    places.push_rules(grammar, &mut rules)?;
+    let mentions = mem::replace(&mut places.mentions, Vec::new(alloc));
+    Ok(Lines { rules, mentions })
+}
+
 impl Lines {
     /// Where the rules and symbols of a grammar stand in the file that it was read from. The fault
     /// is that of the file, where the file isn't that of this grammar, or memory ran out.
     pub fn new(alloc: Global, source: &[u8], grammar: &Grammar) -> Result<Lines, GrammarFault> {
         let roles = roles_of(alloc, source)?;
-        let places = places_of(alloc, grammar, &roles)?;
-        let mut rules = Vec::new(alloc);
-        rules.push(rule_begun(None))?;
-        places.push_rules(grammar, &mut rules)?;
-        let Places { mentions, .. } = places;
-        Ok(Lines { rules, mentions })
+        Ok(lines_of(alloc, grammar, &roles)?)
     }
 
     /// The line on which a rule begins, counted from 1: that of its name or its bar, or of its

@@ -1,6 +1,6 @@
 //! The lexemes of a grammar file with their lines and what names are there for.
 
-use std::alloc::Global;
+use std::alloc::{AllocError, Global};
 use ylexemes::kind::{Kind, Sign};
 use ylexemes::part::Lexeme;
 use ysyntax::fault::GrammarFault;
@@ -121,9 +121,12 @@ impl Walk {
     }
 }
 
-/// The lexemes of a grammar file with their roles, or the first fault of its syntax.
-pub fn roles_of<'a>(alloc: Global, source: &'a [u8]) -> Result<Vec<Role<'a>>, GrammarFault> {
-    let lexemes = read_syntax(alloc, source)?;
+/// Lexemes with their roles.
+fn roles_in<'a>(
+    alloc: Global,
+    source: &[u8],
+    lexemes: &[Placed<'a>],
+) -> Result<Vec<Role<'a>>, AllocError> {
     let mut walk = Walk {
         heading: Kind::Code,
         before: Kind::Code,
@@ -131,8 +134,14 @@ pub fn roles_of<'a>(alloc: Global, source: &'a [u8]) -> Result<Vec<Role<'a>>, Gr
         line: 1,
     };
     let mut roles = Vec::with_capacity(alloc, lexemes.len())?;
-    for placed in &lexemes {
+    for placed in lexemes {
         roles.push(walk.take(source, *placed))?;
     }
     Ok(roles)
+}
+
+/// The lexemes of a grammar file with their roles, or the first fault of its syntax.
+pub fn roles_of<'a>(alloc: Global, source: &'a [u8]) -> Result<Vec<Role<'a>>, GrammarFault> {
+    let lexemes = read_syntax(alloc, source)?;
+    Ok(roles_in(alloc, source, &lexemes)?)
 }
