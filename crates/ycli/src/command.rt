@@ -16,7 +16,7 @@ pub(crate) const LONGEST_LINE: usize = 4096;
 const GREATEST_COUNT: usize = 1_000_000;
 
 /// What a line says.
-#[derive(Clone, Copy, Debug, PartialEq, Eq)]
+#[derive(Clone, Copy, PartialEq, Eq)]
 pub enum Line<'a> {
     /// The end of the session.
     Quit,
@@ -25,7 +25,7 @@ pub enum Line<'a> {
 }
 
 /// A command.
-#[derive(Clone, Copy, Debug, PartialEq, Eq)]
+#[derive(Clone, Copy, PartialEq, Eq)]
 pub enum Command<'a> {
     /// At most so many steps forward, 1 to 1,000,000.
     Run(usize),

@@ -28,7 +28,7 @@ enum Request<'a> {
 }
 
 /// What a run did.
-#[derive(Clone, Copy, Debug)]
+#[derive(Clone, Copy)]
 enum Done {
     /// It gave help.
     Helped,

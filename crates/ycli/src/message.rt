@@ -22,7 +22,7 @@ use ytables::{Counts, Link};
 use ywords::arguments::{YaccWords, YstepWords};
 
 /// One of the programs.
-#[derive(Clone, Copy, Debug, PartialEq, Eq)]
+#[derive(Clone, Copy, PartialEq, Eq)]
 pub(crate) enum Program {
     /// The parser generator.
     Yacc,
@@ -161,7 +161,7 @@ fn put_numbered<'a, E: Write>(
 }
 
 /// Why a program ends before its work is done.
-#[derive(Clone, Copy, Debug)]
+#[derive(Clone, Copy)]
 pub(crate) enum Trouble<'a> {
     /// The words are refused.
     Usage,

@@ -21,7 +21,7 @@ use ytables::Link;
 const CHUNK: usize = 4096;
 
 /// Whether a session goes on after lines.
-#[derive(Clone, Copy, Debug)]
+#[derive(Clone, Copy)]
 enum Flow {
     /// Further lines are answered.
     GoesOn,

@@ -20,7 +20,7 @@ use ysymbols::limits::NUMBERS;
 use ysymbols::names::SymbolTable;
 
 /// The tokens that hold a number.
-#[derive(Clone, Copy, Debug, Drop)]
+#[derive(Clone, Copy, Drop)]
 pub enum Holders {
     /// No token.
     Nobody,

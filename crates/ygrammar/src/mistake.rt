@@ -6,7 +6,7 @@ ghost use Rattle.ygrammar.specs.declared.mistake.Refused.TheVariants.{Memory};
 use std::alloc::{AllocError, AllocFailed};
 
 /// A mistake in what a file means. Of those that a file has, the first in this order is answered.
-#[derive(Clone, Copy, Debug, PartialEq, Eq, Drop)]
+#[derive(Clone, Copy, Drop)]
 pub enum Mistake {
     /// A token is a left side, or is named by `%type`.
     TokenLeft,
@@ -27,7 +27,7 @@ pub enum Mistake {
 }
 
 /// Why a syntax tree means no grammar.
-#[derive(Clone, Copy, Debug, PartialEq, Eq, Drop)]
+#[derive(Clone, Copy, Drop)]
 pub enum Refused {
     /// A mistake, and how many bytes stand before the place at fault.
     Mistake { what: Mistake, at: usize },

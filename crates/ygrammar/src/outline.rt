@@ -21,7 +21,7 @@ use ysyntax::tree::{
 };
 
 /// A token that a line lists: the precedence that the line gives, and the digits behind the token.
-#[derive(Clone, Copy, Debug, Drop)]
+#[derive(Clone, Copy, Drop)]
 pub struct Listed<'a> {
     /// The precedence that the line gives its tokens; `None` for a `%token` line.
     pub gives: Option<Precedence>,
@@ -32,7 +32,7 @@ pub struct Listed<'a> {
 }
 
 /// The symbol that a `%start` names, and how many bytes stand before that `%start`.
-#[derive(Clone, Copy, Debug, Drop)]
+#[derive(Clone, Copy, Drop)]
 pub struct Started<'a> {
     /// The symbol.
     pub who: Occurrence<'a>,

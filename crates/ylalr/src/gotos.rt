@@ -9,7 +9,7 @@ use yrows::list::Sequence;
 use ysymbols::Sym;
 
 /// A goto of a state.
-#[derive(Clone, Copy, Debug, Drop, PartialEq, Eq)]
+#[derive(Clone, Copy, Drop)]
 pub struct Goto {
     /// The symbol over which it goes.
     pub symbol: Sym,

@@ -8,7 +8,7 @@ ghost use Rattle.ylexemes.specs.Views.{Reads, begins_brace, slice_of};
 use crate::part::{Lexeme, LexicalFault, Part};
 
 /// What the next byte of a kept text is part of.
-#[derive(Clone, Copy, Debug)]
+#[derive(Clone, Copy)]
 pub enum Mode {
     /// No string, character constant or comment.
     Outside,

@@ -4,7 +4,7 @@ ghost use Rattle.std.specs.Prelude.{◌≡◌};
 ghost use Rattle.ylexemes.specs.Lexemes.{sign_kind};
 
 /// What a lexeme is to the syntax of a grammar file: one of its terminals.
-#[derive(Clone, Copy, Debug, PartialEq, Eq)]
+#[derive(Clone, Copy, PartialEq, Eq)]
 pub enum Kind {
     /// A name, or a name that no colon follows.
     Name,
@@ -47,7 +47,7 @@ pub enum Kind {
 }
 
 /// The lexemes with one spelling.
-#[derive(Clone, Copy, Debug, PartialEq, Eq)]
+#[derive(Clone, Copy, PartialEq, Eq)]
 pub enum Sign {
     /// `%%`.
     Mark,

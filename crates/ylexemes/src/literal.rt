@@ -11,7 +11,7 @@ ghost use Rattle.ylexemes.specs.Views.{Reads, begins_quote};
 use crate::part::{Lexeme, LexicalFault, Part};
 
 /// How far a literal has been read, behind its first quote.
-#[derive(Clone, Copy, Debug)]
+#[derive(Clone, Copy)]
 pub enum Stage {
     /// Nothing but the first quote.
     Opened,
@@ -28,7 +28,7 @@ pub enum Stage {
 }
 
 /// What reading a literal comes to.
-#[derive(Clone, Copy, Debug)]
+#[derive(Clone, Copy)]
 pub enum Scan<'a> {
     /// Its value, and what follows it.
     Found(u8, &'a [u8]),

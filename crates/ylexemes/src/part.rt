@@ -7,7 +7,7 @@ ghost use Rattle.ylexemes.specs.Views.{lexeme_view};
 use crate::kind::{Kind, Sign};
 
 /// A lexeme of a grammar file. Texts are parts of the file.
-#[derive(Clone, Copy, Debug)]
+#[derive(Clone, Copy)]
 pub enum Lexeme<'a> {
     /// A name that no colon follows.
     Name(&'a [u8]),
@@ -43,7 +43,7 @@ impl Lexeme<'_> {
 }
 
 /// What stands at a place of a grammar file.
-#[derive(Clone, Copy, Debug)]
+#[derive(Clone, Copy)]
 pub enum Part<'a> {
     /// One blank.
     Blank,
@@ -54,7 +54,7 @@ pub enum Part<'a> {
 }
 
 /// Why no part begins at a place.
-#[derive(Clone, Copy, Debug)]
+#[derive(Clone, Copy)]
 pub enum LexicalFault {
     /// The file ends within a comment, a code block, a kept text or a literal.
     Unfinished,

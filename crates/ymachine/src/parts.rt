@@ -19,7 +19,7 @@ use ysymbols::Sym;
 use ytables::Tables;
 
 /// A symbol of the stack, the state to which the stack up to it leads, and its node.
-#[derive(Clone, Copy, Debug, Drop, PartialEq, Eq)]
+#[derive(Clone, Copy, Drop)]
 pub struct StackEntry {
     /// The state.
     pub(crate) state: usize,
@@ -30,7 +30,7 @@ pub struct StackEntry {
 }
 
 /// A node of a tree.
-#[derive(Clone, Copy, Debug, Drop, PartialEq, Eq)]
+#[derive(Clone, Copy, Drop)]
 pub enum Node {
     /// A token, and its place in the input.
     Leaf(Sym, usize),
@@ -62,7 +62,7 @@ pub struct Parts {
 }
 
 /// What a step or an edit has changed.
-#[derive(Clone, Copy, Debug, Drop, PartialEq, Eq)]
+#[derive(Clone, Copy, Drop)]
 pub struct PlaceChange {
     /// Its kind.
     pub kind: StepKind,
@@ -79,7 +79,7 @@ pub struct PlaceChange {
 }
 
 /// A node whose children are being written.
-#[derive(Clone, Copy, Debug, Drop, PartialEq, Eq)]
+#[derive(Clone, Copy, Drop)]
 pub struct Frame {
     /// Which entry in the list of children is next.
     pub(crate) next: usize,

@@ -10,7 +10,7 @@ use std::rt::Files;
 use std::{fs, io};
 
 /// The file at a path, opened to be read.
-#[derive(Clone, Copy, Debug)]
+#[derive(Clone, Copy)]
 pub struct OldFile<'a, F> {
     files: &'a F,
     path: &'a str,
@@ -36,7 +36,7 @@ impl<'a, F: Files> Open for OldFile<'a, F> {
 }
 
 /// The file of a prefix and an ending, opened to be written from its beginning, through a buffer.
-#[derive(Clone, Copy, Debug)]
+#[derive(Clone, Copy)]
 pub struct NewFile<'a, F> {
     files: &'a F,
     prefix: &'a str,

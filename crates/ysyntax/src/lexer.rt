@@ -16,7 +16,7 @@ use ylexemes::part::{Lexeme, LexicalFault, Part};
 use ysymbols::limits::LONGEST_FILE;
 
 /// A lexeme, and how many bytes stand before it.
-#[derive(Clone, Copy, Debug)]
+#[derive(Clone, Copy)]
 pub struct Placed<'a> {
     /// The lexeme.
     pub lexeme: Lexeme<'a>,

@@ -1,7 +1,7 @@
 //! The syntax tree of a grammar file: its declarations and its rules, in their order.
 
 /// A name or a literal.
-#[derive(Clone, Copy, Debug, Drop)]
+#[derive(Clone, Copy, Drop)]
 pub enum Identifier<'a> {
     /// A name, byte for byte.
     Named(&'a [u8]),
@@ -10,7 +10,7 @@ pub enum Identifier<'a> {
 }
 
 /// An identifier, and how many bytes stand before it.
-#[derive(Clone, Copy, Debug, Drop)]
+#[derive(Clone, Copy, Drop)]
 pub struct Occurrence<'a> {
     /// The name or literal.
     pub who: Identifier<'a>,
@@ -19,7 +19,7 @@ pub struct Occurrence<'a> {
 }
 
 /// A name, and how many bytes stand before it.
-#[derive(Clone, Copy, Debug, Drop)]
+#[derive(Clone, Copy, Drop)]
 pub struct NameAt<'a> {
     /// The name, byte for byte.
     pub name: &'a [u8],
@@ -28,7 +28,7 @@ pub struct NameAt<'a> {
 }
 
 /// A number's digits, and how many bytes stand before them.
-#[derive(Clone, Copy, Debug, Drop)]
+#[derive(Clone, Copy, Drop)]
 pub struct Digits<'a> {
     /// The digits, one or more.
     pub digits: &'a [u8],
@@ -37,7 +37,7 @@ pub struct Digits<'a> {
 }
 
 /// A text in braces, and how many bytes stand before it.
-#[derive(Clone, Copy, Debug, Drop)]
+#[derive(Clone, Copy, Drop)]
 pub struct BracedText<'a> {
     /// The text, byte for byte, with its braces.
     pub text: &'a [u8],
@@ -46,7 +46,7 @@ pub struct BracedText<'a> {
 }
 
 /// The words that begin a line of tokens.
-#[derive(Clone, Copy, Debug, Drop, PartialEq, Eq)]
+#[derive(Clone, Copy, Drop, PartialEq, Eq)]
 pub enum Word {
     /// `%token`.
     Token,
@@ -59,7 +59,7 @@ pub enum Word {
 }
 
 /// A token in a listing, and the number behind it, where one stands there.
-#[derive(Clone, Copy, Debug, Drop)]
+#[derive(Clone, Copy, Drop)]
 pub struct Entry<'a> {
     /// The token.
     pub who: Occurrence<'a>,
@@ -103,7 +103,7 @@ pub enum Definition<'a> {
 }
 
 /// A part of a rule's body.
-#[derive(Clone, Copy, Debug, Drop)]
+#[derive(Clone, Copy, Drop)]
 pub enum BodyPart<'a> {
     /// A name or a literal.
     Symbol(Occurrence<'a>),

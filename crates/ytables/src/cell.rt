@@ -21,7 +21,7 @@ pub enum Action {
 
 /// A cell of a state and a token: its action, what it counts, and whether it was chosen among
 /// several.
-#[derive(Clone, Copy, Debug, Drop, PartialEq, Eq)]
+#[derive(Clone, Copy, Drop)]
 pub struct Cell {
     /// What is done.
     pub action: Action,
@@ -34,7 +34,7 @@ pub struct Cell {
 }
 
 /// What a cell counts, where it counts something.
-#[derive(Clone, Copy, Debug, Drop, PartialEq, Eq)]
+#[derive(Clone, Copy, Drop)]
 pub struct Conflict {
     /// The number of the token.
     pub token: usize,
@@ -57,7 +57,7 @@ fn lone(action: Action, choice: bool) -> Cell
 }
 
 /// What one pass over the rules of a cell finds.
-#[derive(Clone, Copy, Debug, Drop, PartialEq, Eq)]
+#[derive(Clone, Copy, Drop)]
 pub struct Tally {
     /// Whether one is in the class Ban.
     pub banned: bool,

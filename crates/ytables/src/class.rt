@@ -6,7 +6,7 @@ ghost use Rattle.ytables.specs.Cell.{class_of, class_of_kind};
 use ysymbols::{Associativity, Precedence};
 
 /// How a rule stands against the shift of a token.
-#[derive(Clone, Copy, Debug, Drop, PartialEq, Eq)]
+#[derive(Clone, Copy, Drop)]
 pub enum Class {
     /// The reduction is done.
     Beat,

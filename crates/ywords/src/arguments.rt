@@ -16,7 +16,7 @@ use clap::{Arg, ArgAction, ArgMatches, Command, Error};
 use std::alloc::{AllocError, Global};
 
 /// The words of `ystep`: the paths of a grammar file and of a tokens file.
-#[derive(Clone, Copy, Debug)]
+#[derive(Clone, Copy)]
 pub struct YstepWords<'a> {
     grammar: &'a str,
     tokens: &'a str,
@@ -110,7 +110,7 @@ pub fn ystep_words<'a>(alloc: Global, words: &'a [&'a str]) -> Result<YstepWords
 
 /// The words of `yacc`: the path of a grammar file, the prefix of the files to write, and whether
 /// a report is wanted.
-#[derive(Clone, Copy, Debug)]
+#[derive(Clone, Copy)]
 pub struct YaccWords<'a> {
     grammar: &'a str,
     prefix: &'a str,
