@@ -192,36 +192,33 @@ impl Look {
     fn shifts(&self, state: usize, token: Sym) -> bool {
         self.before.get(token).copied() == Some(state.saturating_add(1))
     }
-
-    /// Whether the cell of a token can have two candidates.
-    fn is_worth(&self, state: usize, token: Sym) -> bool {
-        match self.ready.len() {
-            0 => false,
-            1 => self.shifts(state, token),
-            _ => true,
-        }
-    }
 }
 
 impl Conflicts {
     /// The conflicts of tables.
     pub fn new(alloc: Global, tables: &Tables) -> Result<Conflicts, AllocError> {
-        let automaton = tables.automaton();
-        let tokens = token_count(automaton.grammar());
         let mut found = Conflicts {
             groups: IndexMap::new(alloc),
             cells: 0,
             others: 0,
         };
+        found.look_at_all(alloc, tables)?;
+        Ok(found)
+    }
+
+    /// Notes the conflicts of all states.
+    fn look_at_all(&mut self, alloc: Global, tables: &Tables) -> Result<(), AllocError> {
+        let automaton = tables.automaton();
+        let tokens = token_count(automaton.grammar());
         let mut look = Look {
             before: vec![in alloc; 0usize; tokens]?,
             ready: Vec::new(alloc),
         };
         for state in 0..automaton.states() {
             look.fill(automaton, state)?;
-            found.look_at(tables, state, tokens, &look)?;
+            self.look_at(tables, state, tokens, &look)?;
         }
-        Ok(found)
+        Ok(())
     }
 
     /// Notes the conflicts of a state.
@@ -236,7 +233,8 @@ impl Conflicts {
             return Ok(());
         }
         for token in 0..tokens {
-            if look.is_worth(state, token) && has_candidate(tables, state, token) {
+            let is_worth = look.ready.len() > 1 || look.shifts(state, token);
+            if is_worth && has_candidate(tables, state, token) {
                 self.look_at_cell(tables.automaton(), state, token, look)?;
             }
         }

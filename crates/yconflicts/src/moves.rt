@@ -4,6 +4,7 @@ use crate::costs::Shortest;
 use crate::lists::Lists;
 use crate::queue::Queue;
 use std::alloc::{AllocError, Global};
+use std::mem;
 use yexplain::reads::{goto_of, items_of, next_of};
 use ylalr::Automaton;
 use ysymbols::Sym;
@@ -104,17 +105,15 @@ impl Moves {
         shortest: &Shortest,
     ) -> Result<Moves, AllocError> {
         let states = automaton.states();
-        let gathering = gather(alloc, automaton)?;
-        let Gathering { symbols, ways, .. } = gathering;
-        let after = Lists::new(alloc, states, &ways)?;
-        let before = Lists::new(alloc, states, &turned(alloc, &ways)?)?;
+        let mut gathering = gather(alloc, automaton)?;
+        let before = Lists::new(alloc, states, &turned(alloc, &gathering.ways)?)?;
         let mut moves = Moves {
-            symbols,
+            symbols: mem::replace(&mut gathering.symbols, Vec::new(alloc)),
             before,
             lengths: vec![in alloc; FAR; states]?,
             from: vec![in alloc; 0usize; states]?,
         };
-        moves.measure(alloc, shortest, &after, ways.len())?;
+        moves.measure(alloc, shortest, &gathering.ways)?;
         Ok(moves)
     }
 
@@ -123,12 +122,12 @@ impl Moves {
         &mut self,
         alloc: Global,
         shortest: &Shortest,
-        after: &Lists<u32>,
-        ways: usize,
+        ways: &[(usize, u32)],
     ) -> Result<(), AllocError> {
+        let after = Lists::new(alloc, self.lengths.len(), ways)?;
         let mut queue = Queue::new(alloc);
         self.shorten(&mut queue, 0, 0, 0)?;
-        for _ in 0..ways.saturating_add(1) {
+        for _ in 0..ways.len().saturating_add(1) {
             let Some((length, state)) = queue.take() else {
                 break;
             };

@@ -127,16 +127,25 @@ fn set(marks: &mut Vec<bool>, at: usize) -> bool {
     }
 }
 
-/// The left sides of which no list of tokens can be made, each where it stands first.
-pub fn barren<'a>(alloc: Global, roles: &[Role<'a>]) -> Result<Vec<Role<'a>>, AllocError> {
-    let lefts = lefts_of(alloc, roles)?;
-    let rules = Rules::new(alloc, &lefts, roles)?;
+/// The left sides of which no list of tokens can be made, by the table of all left sides.
+fn barren_among<'a>(
+    alloc: Global,
+    lefts: &SymbolTable,
+    roles: &[Role<'a>],
+) -> Result<Vec<Role<'a>>, AllocError> {
+    let rules = Rules::new(alloc, lefts, roles)?;
     let mut marks = rules.marks(alloc, lefts.len())?;
     let mut found = Vec::new(alloc);
     for role in roles {
-        if role.how == Some(How::Defined) && set(&mut marks, number_of(&lefts, role.lexeme)) {
+        if role.how == Some(How::Defined) && set(&mut marks, number_of(lefts, role.lexeme)) {
             found.push(*role)?;
         }
     }
     Ok(found)
+}
+
+/// The left sides of which no list of tokens can be made, each where it stands first.
+pub fn barren<'a>(alloc: Global, roles: &[Role<'a>]) -> Result<Vec<Role<'a>>, AllocError> {
+    let lefts = lefts_of(alloc, roles)?;
+    barren_among(alloc, &lefts, roles)
 }

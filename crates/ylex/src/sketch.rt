@@ -34,11 +34,19 @@ const GUESSES: [(&str, &str); 22] = [
     ("ARROW", "->"),
 ];
 
+/// The expression beside a word, in capitals or small letters.
+fn beside<'a>(pairs: &[(&str, &'a str)], name: &[u8]) -> Option<&'a str> {
+    for (word, expression) in pairs {
+        if word.as_bytes().eq_ignore_ascii_case(name) {
+            return Some(*expression);
+        }
+    }
+    None
+}
+
 /// The expression that is guessed for a token.
 fn guess(name: &[u8]) -> Option<&'static str> {
-    let mut guesses = GUESSES.iter();
-    let found = guesses.find(|(word, _)| word.as_bytes().eq_ignore_ascii_case(name))?;
-    Some(found.1)
+    beside(&GUESSES, name)
 }
 
 /// Whether a name is one in capitals, as those of keywords are.
