@@ -6,7 +6,7 @@ use Rattle.std.proofs.lemmas.List.Elements.{All-nil, All-cons}
 use Rattle.ysymbols.specs.Grammar.{ContextFree, IsToken}
 use Rattle.ysymbols.specs.Forms.{First}
 use Rattle.ysymbols.specs.WellFormed.{WellFormed}
-use Rattle.ylalr.specs.Looks.{FormHas}
+use Rattle.ylalr.specs.Behind.{FormHas}
 use Rattle.yrows.specs.Marks.{Has}
 use Rattle.yrows.specs.Rows.{BitRows, Holds}
 use Rattle.ylalr.specs.First.{IsNullable, IsFirst}

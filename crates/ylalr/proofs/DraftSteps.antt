@@ -19,7 +19,8 @@ use Rattle.ylalr.specs.ItemRows.{At, Starts, Shares, rows_at}
 use Rattle.ylalr.specs.Sets.{step_of, Moves, IsAscending, Before}
 use Rattle.ylalr.specs.States.{GotoIs, set_at, start_item}
 use Rattle.ylalr.specs.Looks.{Spread, starts, closes, moves, SoundLooks, StartLooks, ClosedLooks}
-use Rattle.ylalr.specs.Looks.{ClosesAt, MovesAt, FormHas}
+use Rattle.ylalr.specs.Behind.{FormHas}
+use Rattle.ylalr.specs.Looks.{ClosesAt, MovesAt}
 use Rattle.ylalr.specs.Draft.{DraftValue, RowIn, IsHere, LeftsIn, SpreadIn, Carries, SoundDraft}
 use Rattle.ylalr.specs.Draft.{Further, GivesForm, OpensAt, ShiftsAt, ServesAt, ServesState, IsMoved}
 use Rattle.ylalr.specs.Draft.{StartsDraft}

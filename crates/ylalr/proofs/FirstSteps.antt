@@ -9,7 +9,7 @@ use Rattle.ysymbols.specs.Derivation.{done}
 use Rattle.ysymbols.specs.Forms.{First, MarksNullable, Nullable}
 use Rattle.ysymbols.specs.WellFormed.{WellFormed}
 use Rattle.ysymbols.proofs.DrainSteps.{marked_below}
-use Rattle.ylalr.specs.Looks.{FormHas}
+use Rattle.ylalr.specs.Behind.{FormHas}
 use Rattle.yrows.specs.Marks.{Has}
 use Rattle.yrows.specs.Rows.{BitRows, Holds}
 use Rattle.yrows.specs.Links.{Reaches, given, passed, IsSpread}

@@ -1,4 +1,5 @@
 pub mod Ascending
+pub mod BehindSteps
 pub mod Begins
 pub mod BeginsWith
 pub mod BucketSteps

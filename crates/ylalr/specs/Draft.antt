@@ -1,6 +1,6 @@
 -- Lookaheads that are not complete yet: what rows have from the start, and the links along which
 -- they give.
-use Rattle.std.specs.Prelude.{ℕ, ◌≡◌, ◌≢◌, ◌<◌, ◌⊎◌, List, ◌∷◌, length, drop, All, Option, Some}
+use Rattle.std.specs.Prelude.{ℕ, suc, ◌≡◌, ◌≢◌, ◌<◌, List, ◌∷◌, length, drop, All, Option, Some}
 use Rattle.ysymbols.specs.Grammar.{left_of, body_of, end_token}
 use Rattle.ylalr.specs.declared.items.Item.{Item}
 use Rattle.ylalr.specs.declared.looks.Lr0.{Lr0}
@@ -12,12 +12,17 @@ use Rattle.yrows.specs.Links.{AreLinks, Link}
 use Rattle.ylalr.specs.ItemRows.{AreLefts, IsRowOf, rows_at}
 use Rattle.ylalr.specs.Sets.{Moves, step_of}
 use Rattle.ylalr.specs.States.{set_at}
-use Rattle.ylalr.specs.Looks.{Spread, SoundLooks, StartLooks, FormHas}
+use Rattle.ylalr.specs.Behind.{FormHas}
+use Rattle.ylalr.specs.Looks.{Spread, SoundLooks, StartLooks}
 
 -- rows of lookaheads, and the links along which they are to give
 pub record DraftValue : Type 0 where
   pub looks : BitRows
   pub links : List (List ℕ)
+
+-- what stands behind the symbol after the dot
+abbrev pub form_of : Lr0 → Item → List ℕ
+form_of P i = drop (suc i.dot) (body_of P.grammar.bare i.rule)
 
 -- p is the row of the item i of state q
 abbrev pub RowIn : Lr0 → ℕ → Item → ℕ → Type 0
@@ -95,16 +100,3 @@ StartsDraft P d = StartLooks P.states P.item_rows d.looks
 -- the closure rule and the goto rule are kept from each item
 abbrev pub ServesAll : Lr0 → DraftValue → Type 0
 ServesAll P d = (q : ℕ) → q < length P.states.closures → ServesState P d q
-
--- the rows with what each symbol begins with
-abbrev pub FirstSized : Lr0 → Type 0
-FirstSized P = IsSized P.grammar.bare.symbols P.grammar.bare.tokens P.first
-
--- n has no more than m and, in row t, what the form y begins with
-abbrev pub AddsAtMost : Lr0 → List ℕ → ℕ → BitRows → BitRows → Type 0
-AddsAtMost P y t m n = (r b : ℕ) → Holds n r b → Holds m r b ⊎
-    ((r ≡ t) × FormHas P.nullable P.first y b)
-
--- row t has what the form y begins with
-abbrev pub HasForm : Lr0 → List ℕ → ℕ → BitRows → Type 0
-HasForm P y t n = (b : ℕ) → FormHas P.nullable P.first y b → Holds n t b

@@ -1,3 +1,4 @@
+pub mod Behind
 pub mod Collection
 pub mod Draft
 pub mod Finder

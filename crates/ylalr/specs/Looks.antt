@@ -1,15 +1,16 @@
 -- The lookaheads on numbered states: one row for each item of each state (Aho, Sethi, Ullman,
 -- section 4.7).
 use Rattle.std.specs.Prelude.{ℕ, suc, Bool, ◌≡◌, ◌≢◌, ◌<◌, ◌≤◌, List, [], ◌∷◌, ◌++◌, length}
-use Rattle.std.specs.Prelude.{slice_index, drop, take, All, Option, Some}
+use Rattle.std.specs.Prelude.{drop, Option, Some}
 use Rattle.ysymbols.specs.Grammar.{ContextFree, left_of, body_of, end_token}
 use Rattle.ysymbols.specs.Forms.{First}
 use Rattle.ysymbols.specs.WellFormed.{WellFormed}
 use Rattle.ylalr.specs.declared.items.Item.{Item}
+use Rattle.ylalr.specs.declared.behind.Behind.{Behind}
 use Rattle.ylalr.specs.declared.gotos.Goto.{Goto}
 use Rattle.yrows.specs.Limits.{most_states}
-use Rattle.yrows.specs.Marks.{Has}
 use Rattle.yrows.specs.Rows.{BitRows, Holds, IsSized}
+use Rattle.ylalr.specs.Behind.{IsBehind}
 use Rattle.ylalr.specs.First.{IsNullable, IsFirst}
 use Rattle.ylalr.specs.Sets.{step_of}
 use Rattle.ylalr.specs.ItemRows.{ItemRows, AreItemRows, IsRowOf}
@@ -66,21 +67,15 @@ pub record ClosedLooks (g : ContextFree) (to : ℕ → ℕ → Option ℕ) (s : 
   pub start : StartLooks s l m
   pub states : (q : ℕ) → q < length s.closures → StateClosed g to s l m q
 
--- some symbol of the form has the token in its row, and all before it vanish
-pub record FormHas (n : List Bool) (m : BitRows) (x : List ℕ) (t : ℕ) : Type 0 where
-  pub place : ℕ
-  pub within : place < length x
-  pub before : All (Has n) (take place x)
-  pub there : Holds m (slice_index x place) t
-
 -- what holds of all that the lookaheads are made from
-pub record Fit (g : ContextFree) (nullable : List Bool) (first : BitRows) (s : StateLists)
-    (rows : List (List Goto)) (l : ItemRows) : Type 0 where
+pub record Fit (g : ContextFree) (nullable : List Bool) (first : BitRows) (behind : Behind)
+    (s : StateLists) (rows : List (List Goto)) (l : ItemRows) : Type 0 where
   pub well_formed : WellFormed g
   pub marks : length nullable ≡ g.symbols
   pub nullable_exact : IsNullable g nullable
   pub first_sized : IsSized g.symbols g.tokens first
   pub first_exact : IsFirst g first
+  pub behind_exact : IsBehind g nullable first behind
   pub states : AreStates g s
   pub few : length s.closures ≤ most_states
   pub counted : length rows ≡ length s.closures

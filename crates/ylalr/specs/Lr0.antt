@@ -11,7 +11,7 @@ collection_of p = record { grammar = p.grammar; states = p.states.closures; goto
 
 -- all of it is of one grammar
 abbrev pub FitLr0 : Lr0 → Type 0
-FitLr0 p = Fit p.grammar.bare p.nullable p.first p.states p.gotos p.item_rows
+FitLr0 p = Fit p.grammar.bare p.nullable p.first p.behind p.states p.gotos p.item_rows
 
 -- what holds of it and its lookaheads
 pub record Whole (p : Lr0) (m : BitRows) : Type 0 where

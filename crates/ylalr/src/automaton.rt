@@ -10,6 +10,7 @@ ghost use Rattle.yrows.specs.Limits.{most_states};
 ghost use Rattle.ylalr.specs.Lr0.{FitLr0};
 ghost use Rattle.ylalr.specs.declared.fault.BuildFault.{BuildFault};
 
+use crate::behind::behind_of;
 use crate::collection::all_states;
 use crate::fault::BuildFault;
 use crate::first::{first_tokens, nullable_symbols};
@@ -48,12 +49,14 @@ fn prepare(alloc: Global, grammar: Grammar) -> Result<Lr0, BuildFault>
     let _well_formed = grammar.symbols();
     let nullable = nullable_symbols(alloc, &grammar)?;
     let first = first_tokens(alloc, &grammar, &nullable)?;
+    let behind = behind_of(alloc, &grammar, &nullable, &first)?;
     let (states, gotos) = all_states(alloc, &grammar)?;
     let item_rows = ItemRows::of(alloc, &grammar, &states)?;
     Ok(Lr0 {
         grammar,
         nullable,
         first,
+        behind,
         states,
         gotos,
         item_rows,

@@ -4,7 +4,9 @@
 ghost use Rattle.std.specs.Prelude.{ℕ, ◌≡◌, ◌<◌, ◌↔◌, length, All, IfOk, OnOk, IsTrue, MatchOption};
 ghost use Rattle.ylalr.specs.Draft.{IsHere, LeftsIn, SoundDraft, Further, IsMoved, OpensAt};
 ghost use Rattle.ylalr.specs.Draft.{ShiftsAt, ServesAt, ServesState, ServesAll, StartsDraft};
-ghost use Rattle.ylalr.specs.Draft.{FirstSized, AddsAtMost, HasForm};
+ghost use Rattle.ylalr.specs.Draft.{form_of};
+ghost use Rattle.ylalr.specs.Behind.{AddsAtMost, HasForm};
+ghost use Rattle.ysymbols.specs.Grammar.{body_of};
 ghost use Rattle.std.specs.Prelude.{◌≤◌, slice_index_or};
 ghost use Rattle.ylalr.specs.Items.{Lookahead, IsNextLook};
 ghost use Rattle.yrows.specs.Marks.{Has};
@@ -12,6 +14,7 @@ ghost use Rattle.ylalr.specs.Lr0.{FitLr0, Whole};
 ghost use Rattle.yrows.specs.Rows.{Grows, IsSized};
 ghost use Rattle.ylalr.specs.States.{set_at};
 
+use crate::behind::{Behind, add_form};
 use crate::gotos::Gotos;
 use crate::item_rows::{ItemRows, item_row};
 use crate::items::{Item, form_after, moves_over, symbol_after};
@@ -35,6 +38,8 @@ pub struct Lr0 {
     pub nullable: Marks,
     /// The tokens that each symbol can begin with.
     pub first: Rows,
+    /// What stands behind the first symbol of each body.
+    pub behind: Behind,
     /// The states.
     pub states: States,
     /// The gotos of each state.
@@ -70,26 +75,27 @@ impl Model for Draft {
     ghost view = { λ d. record { looks = d.looks; links = d.links } };
 }
 
-/// Adds to row `to` what the form begins with, and says whether the form vanishes.
-fn add_form(lr0: &Lr0, form: &[Sym], looks: &mut Rows, to: usize) -> bool
-    requires marks { length lr0.now.nullable ≡ lr0.now.grammar.bare.symbols }
-    requires first { FirstSized lr0.now }
-    requires form { All (λ s. s < lr0.now.grammar.bare.symbols) form.now }
+/// Adds to row `to` what the form behind the symbol after the dot begins with, and says whether
+/// that form vanishes. Where the dot is at 0, a row for the whole form was made before.
+fn add_rest(lr0: &Lr0, item: Item, looks: &mut Rows, to: usize) -> bool
+    requires fit { FitLr0 lr0.now }
+    requires rule { item.rule < length lr0.now.grammar.bare.rules }
+    requires dot { item.dot < length (body_of lr0.now.grammar.bare item.rule) }
     requires columns { looks.old.width ≡ lr0.now.grammar.bare.tokens }
     requires to_in { to < looks.old.height }
     ensures sized { IsSized looks.old.height looks.old.width looks.new }
     ensures grows { Grows looks.old looks.new }
-    ensures sound { AddsAtMost lr0.now form.now to looks.old looks.new }
-    ensures every { HasForm lr0.now form.now to looks.new }
-    ensures vanishes { IsTrue result ↔ All (Has lr0.now.nullable) form.now }
+    ensures sound { AddsAtMost lr0.now.nullable lr0.now.first (form_of lr0.now item) to looks.old
+        looks.new }
+    ensures every { HasForm lr0.now.nullable lr0.now.first (form_of lr0.now item) to looks.new }
+    ensures vanishes { IsTrue result ↔ All (Has lr0.now.nullable) (form_of lr0.now item) }
 {
-    for s in form {
-        looks.add_from(to, &lr0.first, *s);
-        if !lr0.nullable.has(*s) {
-            return false;
-        }
+    let form = form_after(&lr0.grammar, item);
+    if item.dot == 0 && form.len() > 1 {
+        looks.add_from(to, &lr0.behind.rows, item.rule);
+        return lr0.behind.vanishing.has(item.rule);
     }
-    true
+    add_form(&lr0.nullable, &lr0.first, form, looks, to)
 }
 
 /// The closure rule from one item: the row of the left side after the dot gets what the form
@@ -109,8 +115,7 @@ fn open(lr0: &Lr0, lefts: &Lefts, here: Here, draft: &mut Draft) -> Result<(), A
     let Some(to) = lefts.get(next) else {
         return Ok(());
     };
-    let form = form_after(&lr0.grammar, here.item);
-    if add_form(lr0, form, &mut draft.looks, to) {
+    if add_rest(lr0, here.item, &mut draft.looks, to) {
         draft.links.push(here.row, to)?;
     }
     Ok(())

@@ -1,13 +1,13 @@
-use Rattle.std.proofs.Common.{ℕ, ◌<◌, ◌∷◌, ◌∙◌, List, drop, suc, refl, sym, ap, subst}
+use Rattle.std.proofs.Common.{◌<◌, ◌∙◌, drop, suc, refl, sym, subst}
 use Rattle.ysymbols.specs.Grammar.{body_of}
-use Rattle.ylalr.specs.Draft.{DraftValue, SoundDraft, Further}
+use Rattle.ylalr.specs.Draft.{DraftValue, SoundDraft, Further, form_of}
 use Rattle.yrows.specs.Rows.{IsSized}
 use Rattle.ylalr.proofs.DraftSteps.{rule_below, row_below, opens_none, opens_nowhere, opens_by}
 use Rattle.ylalr.proofs.DraftSteps.{Opening, row_linked, sound_begun, carries_open, sound_linked}
 use Rattle.ylalr.proofs.DraftSteps.{sound_rows}
 use Rattle.yrows.proofs.Growth.{sized_then}
 use Rattle.yrows.proofs.LinkSteps.{link_there, link_kept}
-use Rattle.ylalr.proofs.looks.open.Goals.{After-add_form}
+use Rattle.ylalr.proofs.looks.open.Goals.{After-add_rest}
 use Rattle.ylalr.proofs.looks.open.Goals as goal
 
 pub symbol_after-requires : goal.symbol_after-requires
@@ -28,8 +28,8 @@ returns-in_default-get-clause-opens c =
     (drop (suc h.item.dot) (body_of c.args.lr0.now.grammar.bare h.item.rule)) c.args.lefts.now
     c.requires.lefts c.in-Some.ensures.1 (sym c.get.ensures ∙ c.in_default-get.is)
 
-pub add_form-requires-clause-to_in : goal.add_form-requires-clause-to_in
-add_form-requires-clause-to_in c =
+pub add_rest-requires-clause-to_in : goal.add_rest-requires-clause-to_in
+add_rest-requires-clause-to_in c =
     let P = c.args.lr0.now in
     let h = c.args.here in
     let z = c.requires.lefts.found c.in-Some.next c.in-Some-get.to
@@ -48,30 +48,29 @@ push-requires c =
     (subst (SoundDraft P) (sym c.draft.view_is) c.requires.sound) c.args.here c.requires.here
 
 -- what is opened
-opening : (c : After-add_form) → Opening c.args.lr0.now c.requires.fit.well_formed c.requires.fit
-    c.args.here c.in-Some-get.to c.form_after-form.result.now
+opening : (c : After-add_rest) → Opening c.args.lr0.now c.requires.fit.well_formed c.requires.fit
+    c.args.here c.in-Some-get.to (form_of c.args.lr0.now c.args.here.item)
 opening c =
     let z = c.requires.lefts.found c.in-Some.next c.in-Some-get.to
     (sym c.get.ensures ∙ c.in-Some-get.is) in
     record {
       symbol = c.in-Some.next;
-      dotted = c.in-Some.ensures.1 ∙ ap (λ (v : List ℕ). c.in-Some.next ∷ v)
-          (sym c.form_after-form.ensures.value);
+      dotted = c.in-Some.ensures.1;
       opened = z.0;
       place = record { state = c.requires.here.state; at = z.1 };
       starts = z.2;
     }
 
 -- the draft before
-abbrev drafted : After-add_form → DraftValue
+abbrev drafted : After-add_rest → DraftValue
 drafted c = record { looks = c.draft.inside.looks; links = c.draft.inside.links }
 
-sound_before : (c : After-add_form) → SoundDraft c.args.lr0.now (drafted c)
+sound_before : (c : After-add_rest) → SoundDraft c.args.lr0.now (drafted c)
 sound_before c = subst (SoundDraft c.args.lr0.now) (sym c.draft.view_is) c.requires.sound
 
 pub returns-in_ok-push : goal.returns-in_ok-push
 returns-in_ok-push c =
-    let at = (goal.at.returns-in_ok-push c).After-add_form in
+    let at = (goal.at.returns-in_ok-push c).After-add_rest in
     let P = c.args.lr0.now in
     let f = c.requires.fit.well_formed in
     let fit = c.requires.fit in
@@ -79,18 +78,18 @@ returns-in_ok-push c =
     let here = c.requires.here in
     let d = drafted at in
     let sd = sound_before at in
-    let n : DraftValue = record { looks = c.add_form.new.looks; links = c.push.new.self } in
+    let n : DraftValue = record { looks = c.add_rest.new.looks; links = c.push.new.self } in
     let to = c.in-Some-get.to in
-    let y = c.form_after-form.result.now in
+    let y = form_of P h.item in
     let u = opening at in
-    let a = c.add_form.ensures in
+    let a = c.add_rest.ensures in
     let hl = row_linked P f fit d sd h here in
     record {
       sound = sound_linked P d n.looks n.links h.row to sd (sized_then sd.sized a.sized)
           (sound_begun P f fit d n.looks h to y sd.looks here u a.sound)
           (row_below P f fit h.state h.item h.row here)
           (row_below P f fit h.state u.opened to u.place) c.in_ok-push.ensures
-          (carries_open P f fit h to y here u (c.if-add_form.ensures.vanishes.0 refl));
+          (carries_open P f fit h to y here u (c.if-add_rest.ensures.vanishes.0 refl));
       further = subst (λ (v : DraftValue). Further v n) c.draft.view_is (record {
         looks = a.grows;
         links = link_kept d.links n.links h.row to hl c.in_ok-push.ensures;
@@ -102,19 +101,19 @@ returns-in_ok-push c =
       });
     }
 
-pub returns-else-add_form : goal.returns-else-add_form
-returns-else-add_form c =
-    let at = (goal.at.returns-else-add_form c).After-add_form in
+pub returns-else-add_rest : goal.returns-else-add_rest
+returns-else-add_rest c =
+    let at = (goal.at.returns-else-add_rest c).After-add_rest in
     let P = c.args.lr0.now in
     let f = c.requires.fit.well_formed in
     let fit = c.requires.fit in
     let h = c.args.here in
     let d = drafted at in
     let sd = sound_before at in
-    let n : DraftValue = record { looks = c.add_form.new.looks; links = d.links } in
+    let n : DraftValue = record { looks = c.add_rest.new.looks; links = d.links } in
     let to = c.in-Some-get.to in
-    let y = c.form_after-form.result.now in
-    let a = c.add_form.ensures in
+    let y = form_of P h.item in
+    let a = c.add_rest.ensures in
     record {
       sound = sound_rows P d n.looks sd (sized_then sd.sized a.sized)
           (sound_begun P f fit d n.looks h to y sd.looks c.requires.here (opening at) a.sound);
@@ -125,6 +124,6 @@ returns-else-add_form c =
       opens = opens_by P f fit n h to y (opening at) (record {
         begun = a.every;
         linked =
-            λ all. absurd (let x = c.if-add_form.ensures.vanishes.1 all in cc);
+            λ all. absurd (let x = c.if-add_rest.ensures.vanishes.1 all in cc);
       });
     }
