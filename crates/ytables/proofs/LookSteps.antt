@@ -10,7 +10,7 @@ use Rattle.ylink.proofs.Sent.{flat_map-append}
 use Rattle.ytables.specs.Tables.{TablesValue}
 use Rattle.ytables.specs.Text.{name_of}
 use Rattle.ytables.specs.Report.{look_text}
-use Rattle.ytables.proofs.RangeSteps.{range_more}
+use Rattle.ylink.proofs.Ranges.{range_more}
 
 -- numbers without a text
 skip : (f : ℕ → List ℕ) (n r : ℕ) → ((a : ℕ) → n ≤ a → a < n + r → f a ≡ []) →

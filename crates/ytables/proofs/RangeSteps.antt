@@ -1,6 +1,7 @@
 -- Maps, sums and tests over the numbers below one more.
-use Rattle.std.proofs.Common.{ℕ, zero, suc, ◌≡◌, ◌+◌, ◌||◌, Bool, true, false, [], ◌∷◌, ◌++◌, map}
+use Rattle.std.proofs.Common.{ℕ, ◌≡◌, ◌+◌, ◌||◌, Bool, true, false, [], ◌∷◌, ◌++◌, map}
 use Rattle.std.proofs.Common.{refl, ap, ◌∙◌, arith}
+use Rattle.ylink.proofs.Ranges.{range_more}
 use Rattle.std.specs.List.{list_any, sum_by, range_with_len}
 use Rattle.std.proofs.lemmas.List.Folds.{list_any-append}
 use Rattle.std.proofs.lemmas.List.Sums.{sum_by-append}
@@ -9,17 +10,6 @@ use Rattle.std.proofs.lemmas.List.FromFn.{map-range_with_len_more}
 or_false : (b : Bool) → (b || false) ≡ b
 or_false true = refl
 or_false false = refl
-
-pub range_suc : (a n : ℕ) → range_with_len a (suc n) ≡ range_with_len a n ++ (a + n) ∷ []
-range_suc a zero = ap (λ x. x ∷ []) (omega arith)
-range_suc a (suc n) =
-    let e : (a + 1) + n ≡ a + suc n = omega arith in
-    ap (λ l. a ∷ l) (range_suc (a + 1) n ∙ ap (λ x. range_with_len (a + 1) n ++ x ∷ []) e)
-
-pub range_more : (a n j : ℕ) → a + n ≡ j → range_with_len a (n + 1) ≡ range_with_len a n ++ j ∷ []
-range_more a n j e =
-    let one : n + 1 ≡ suc n = omega arith in
-    ap (range_with_len a) one ∙ range_suc a n ∙ ap (λ x. range_with_len a n ++ x ∷ []) e
 
 module _ (n : ℕ) where
   pub map_more : {X : Type 0} (f : ℕ → X) → map f (range_with_len 0 (n + 1)) ≡ map f

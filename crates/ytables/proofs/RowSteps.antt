@@ -29,7 +29,8 @@ use Rattle.ytables.specs.Rows.{IsRowTo, IsRow, ReduceBy}
 use Rattle.ytables.specs.Tables.{after_dot, is_empty, is_ready, ready_in, rules_by, has_before}
 use Rattle.ytables.specs.Tables.{tokens_of, cell_in, TablesValue}
 use Rattle.ytables.specs.Tally.{IsTally, tally_more}
-use Rattle.ytables.proofs.RangeSteps.{map_more, range_more, sum_more, any_more}
+use Rattle.ylink.proofs.Ranges.{range_more}
+use Rattle.ytables.proofs.RangeSteps.{map_more, sum_more, any_more}
 use Rattle.ytables.proofs.TallySteps.{tally_push}
 
 module _ (class : ℕ → Class) (test : Item → Bool) (xs : List Item) (n : ℕ) (d : Item) (y : Tally)

@@ -70,6 +70,11 @@ item_back v u q i = spaced_names (name_of v.built.grammar) (after_dot v.built.gr
 abbrev pub item_line : TablesValue → Guide → ℕ → Item → List ℕ
 item_line v u q i = item_front v.built.grammar i ++ item_back v u q i
 
+-- the line of the item at the index among those of state q
+abbrev pub item_text_at : TablesValue → Guide → ℕ → ℕ → List ℕ
+item_text_at v u q k =
+    item_line v u q (slice_index_or (state_of v.built q) k (record { rule = 0; dot = 0 }))
+
 -- a name after two spaces, and words after it
 abbrev pub line_for : GrammarValue → ℕ → List ℕ → List ℕ
 line_for v s words = codes "  " ++ (name_of v s ++ words)
@@ -90,6 +95,11 @@ goto_line v x (Some n) = line_for v x (count_line (codes " goto ") n)
 abbrev pub conflict_text : GrammarValue → Conflict → List ℕ
 conflict_text v k =
     line_for v k.token (pair_line (codes " conflicts ") k.shift_reduce k.reduce_reduce)
+
+-- the line of the conflict at the index
+abbrev pub conflict_text_at : GrammarValue → List Conflict → ℕ → List ℕ
+conflict_text_at v conflicts k = conflict_text v
+    (slice_index_or conflicts k (record { token = 0; shift_reduce = 0; reduce_reduce = 0 }))
 
 -- the line of a cell that counts a conflict
 abbrev pub conflict_line : GrammarValue → ℕ → Cell → List ℕ

@@ -7,7 +7,6 @@
 
 mod cell;
 mod class;
-mod count;
 mod dots;
 mod fault;
 mod gotos;

@@ -3,28 +3,29 @@
 ghost use Rattle.std.specs.Prelude.{ℕ, ◌≡◌, ◌<◌, ◌≤◌, ◌++◌, All, codes, flat_map, is_some};
 ghost use Rattle.std.specs.Prelude.{is_ok, is_err, length, IfErr, slice_index_or};
 ghost use Rattle.ysymbols.specs.Grammar.{body_of};
-ghost use Rattle.ylalr.specs.Collection.{Guide, IsGuide, state_of};
+ghost use Rattle.ylalr.specs.Collection.{Guide, IsGuide, goto_in, state_of};
 ghost use Rattle.ytables.specs.declared.fault.TableFault.{TableFault};
 ghost use Rattle.ylink.specs.Link.{device_of, has_failed};
 ghost use Rattle.ylink.specs.Sends.{Sends, Grows};
-ghost use Rattle.ytables.specs.Tables.{default_at, tokens_of};
-ghost use Rattle.ytables.specs.Text.{name_of, pair_line, rules_of, spaced_names};
+ghost use Rattle.ytables.specs.Tables.{action_at, default_at};
+ghost use Rattle.ytables.specs.Text.{count_line, name_of, spaced_names};
 ghost use Rattle.ytables.specs.Report.{rule_head, rule_text, unreachable_line};
-ghost use Rattle.ytables.specs.Report.{token_line, looks_text, on_text, item_left, StandsAt};
-ghost use Rattle.ytables.specs.Report.{item_front, item_back, item_line, action_line, goto_line};
-ghost use Rattle.ytables.specs.Report.{conflict_text, actions_text, rule_or_actions};
-ghost use Rattle.ytables.specs.Report.{gotos_text, conflicts_text, items_text, cells_text};
-ghost use Rattle.ytables.specs.Report.{state_text, states_text, counts_text, tokens_part};
-ghost use Rattle.ytables.specs.Report.{unreachable_part, report_of};
+ghost use Rattle.ytables.specs.Report.{token_line, looks_text, on_text, StandsAt};
+ghost use Rattle.ytables.specs.Report.{item_front, item_back, item_text_at, line_for, action_line};
+ghost use Rattle.ytables.specs.Report.{goto_line, conflict_text_at, conflicts_text, rule_or_actions};
+ghost use Rattle.ytables.specs.Report.{cells_text, state_text, states_text, counts_text};
+ghost use Rattle.ytables.specs.Report.{tokens_part, unreachable_part, report_of};
 
 use crate::cell::{Action, Conflict};
-use crate::count::put_count;
 use crate::fault::TableFault;
 use crate::tables::Tables;
 use std::io::Write;
 use ylalr::{Item, token_count};
+use ylink::lines::{Lines, put_lines};
 use ylink::link::Link;
-use ylink::put::{put, put_all};
+use ylink::pieces::Piece::{Number, Words};
+use ylink::pieces::{END, put_pieces};
+use ylink::put::put;
 use ysymbols::{Grammar, Sym};
 
 /// A name after a space.
@@ -33,7 +34,7 @@ fn put_name<W: Write>(link: &mut Link<W>, grammar: &Grammar, s: Sym) -> Option<(
     ensures { Sends W.contents link.old link.new (is_some result)
         (codes " " ++ name_of grammar.now s) }
 {
-    put_all(link, &[b" ", grammar.name(s)])
+    put_pieces(link, &[Words(b" "), Words(grammar.name(s))])
 }
 
 /// Each name after a space.
@@ -49,89 +50,75 @@ fn put_names<W: Write>(link: &mut Link<W>, grammar: &Grammar, symbols: &[Sym]) -
 }
 
 /// The number of a rule, its left side, and words.
-fn put_rule_head<W: Write>(
+fn put_rule_head<'a, W: Write>(
     link: &mut Link<W>,
-    grammar: &Grammar,
+    grammar: &'a Grammar,
     r: usize,
-    words: &[u8],
+    words: &'a [u8],
 ) -> Option<()>
     requires { r < length grammar.now.bare.rules }
     ensures { Sends W.contents link.old link.new (is_some result)
         (rule_head grammar.now r words.now) }
 {
     let _well_formed = grammar.symbols();
-    let mut number = itoa::Buffer::new();
-    let number = number.format(r).as_bytes();
-    put_all(
-        link,
-        &[number, b" ", grammar.name(grammar.rule(r).left()), words],
-    )
+    let left = Words(grammar.name(grammar.rule(r).left()));
+    put_pieces(link, &[Number(r), Words(b" "), left, Words(words)])
 }
 
-/// The line of a rule.
-fn put_rule<W: Write>(link: &mut Link<W>, grammar: &Grammar, r: usize) -> Option<()>
-    requires { r < length grammar.now.bare.rules }
-    ensures { Sends W.contents link.old link.new (is_some result) (rule_text grammar.now r) }
-{
-    let _well_formed = grammar.symbols();
-    put_rule_head(link, grammar, r, b":")?;
-    put_names(link, grammar, grammar.rule(r).body())?;
-    put(link, b"\n")
-}
+/// The lines of the rules.
+#[derive(Drop)]
+struct Rules<'a>(&'a Grammar);
 
-fn put_rules<W: Write>(link: &mut Link<W>, grammar: &Grammar) -> Option<()>
-    ensures { Sends W.contents link.old link.new (is_some result) (flat_map
-        (rule_text grammar.now) (rules_of grammar.now)) }
-{
-    for r in 0..grammar.rules() {
-        put_rule(link, grammar, r)?;
-    }
-    Some(())
-}
+impl Lines for Rules<'_> {
+    ghost has = { λ it r. r < length it.0.now.bare.rules };
 
-/// The line of a rule whose left side can't be reached; nothing for another rule.
-fn put_unreachable<W: Write>(link: &mut Link<W>, grammar: &Grammar, r: usize) -> Option<()>
-    requires { r < length grammar.now.bare.rules }
-    ensures { Sends W.contents link.old link.new (is_some result)
-        (unreachable_line grammar.now r) }
-{
-    let _well_formed = grammar.symbols();
-    if grammar.reachable(grammar.rule(r).left()) {
-        Some(())
-    } else {
-        put_rule_head(link, grammar, r, b"\n")
+    ghost line = { λ it _ r. rule_text it.0.now r };
+
+    fn put_line<W: Write>(&self, link: &mut Link<W>, r: usize) -> Option<()> {
+        let Rules(grammar) = *self;
+        let _well_formed = grammar.symbols();
+        put_rule_head(link, grammar, r, b":")?;
+        put_names(link, grammar, grammar.rule(r).body())?;
+        put(link, b"\n")
     }
 }
 
-fn put_unreachables<W: Write>(link: &mut Link<W>, grammar: &Grammar) -> Option<()>
-    ensures { Sends W.contents link.old link.new (is_some result) (flat_map
-        (unreachable_line grammar.now) (rules_of grammar.now)) }
-{
-    for r in 0..grammar.rules() {
-        put_unreachable(link, grammar, r)?;
+/// The lines of the rules whose left side can't be reached; nothing for another rule.
+#[derive(Drop)]
+struct Unreachable<'a>(&'a Grammar);
+
+impl Lines for Unreachable<'_> {
+    ghost has = { λ it r. r < length it.0.now.bare.rules };
+
+    ghost line = { λ it _ r. unreachable_line it.0.now r };
+
+    fn put_line<W: Write>(&self, link: &mut Link<W>, r: usize) -> Option<()> {
+        let Unreachable(grammar) = *self;
+        let _well_formed = grammar.symbols();
+        if grammar.reachable(grammar.rule(r).left()) {
+            Some(())
+        } else {
+            put_rule_head(link, grammar, r, b"\n")
+        }
     }
-    Some(())
 }
 
-/// The line of a token.
-fn put_token<W: Write>(link: &mut Link<W>, grammar: &Grammar, t: Sym) -> Option<()>
-    requires { t < grammar.now.bare.symbols }
-    ensures { Sends W.contents link.old link.new (is_some result) (token_line grammar.now t) }
-{
-    let mut number = itoa::Buffer::new();
-    let number = number.format(grammar.number(t).unwrap_or(0)).as_bytes();
-    put_all(link, &[number, b" ", grammar.name(t), b"\n"])
-}
+/// The lines of the tokens.
+#[derive(Drop)]
+struct Tokens<'a>(&'a Grammar);
 
-fn put_tokens<W: Write>(link: &mut Link<W>, grammar: &Grammar) -> Option<()>
-    ensures { Sends W.contents link.old link.new (is_some result) (flat_map
-        (token_line grammar.now) (tokens_of grammar.now)) }
-{
-    let _well_formed = grammar.symbols();
-    for t in 0..token_count(grammar) {
-        put_token(link, grammar, t)?;
+impl Lines for Tokens<'_> {
+    ghost has = { λ it t. t < it.0.now.bare.tokens };
+
+    ghost line = { λ it _ t. token_line it.0.now t };
+
+    fn put_line<W: Write>(&self, link: &mut Link<W>, t: usize) -> Option<()> {
+        let Tokens(grammar) = *self;
+        let _well_formed = grammar.symbols();
+        let number = grammar.number(t).unwrap_or(0) as usize;
+        let name = Words(grammar.name(t));
+        put_pieces(link, &[Number(number), Words(b" "), name, END])
     }
-    Some(())
 }
 
 /// The lookaheads of the item at `index`, each after a space.
@@ -175,15 +162,6 @@ fn put_on<W: Write>(
     put_looks(link, tables, q, index)
 }
 
-/// The left side of an item.
-fn put_left<W: Write>(link: &mut Link<W>, grammar: &Grammar, r: usize) -> Option<()>
-    requires { r < length grammar.now.bare.rules }
-    ensures { Sends W.contents link.old link.new (is_some result) (item_left grammar.now r) }
-{
-    let _well_formed = grammar.symbols();
-    put_all(link, &[b"  ", grammar.name(grammar.rule(r).left()), b":"])
-}
-
 /// An item up to its dot.
 fn put_front<W: Write>(link: &mut Link<W>, grammar: &Grammar, item: Item) -> Option<()>
     requires rule { item.rule < length grammar.now.bare.rules }
@@ -191,8 +169,10 @@ fn put_front<W: Write>(link: &mut Link<W>, grammar: &Grammar, item: Item) -> Opt
     ensures { Sends W.contents link.old link.new (is_some result) (item_front grammar.now item) }
 {
     let _well_formed = grammar.symbols();
-    put_left(link, grammar, item.rule)?;
-    put_names(link, grammar, &grammar.rule(item.rule).body()[..item.dot])?;
+    let rule = grammar.rule(item.rule);
+    let left = Words(grammar.name(rule.left()));
+    put_pieces(link, &[Words(b"  "), left, Words(b":")])?;
+    put_names(link, grammar, &rule.body()[..item.dot])?;
     put(link, b" .")
 }
 
@@ -218,37 +198,45 @@ fn put_back<W: Write>(
     put(link, b"\n")
 }
 
-/// The line of an item.
-fn put_item<W: Write>(
-    link: &mut Link<W>,
-    tables: &Tables,
-    q: usize,
-    index: usize,
-    item: Item,
-) -> Option<()>
-    requires state { q < length tables.now.built.states }
-    requires here { StandsAt tables.now q index item }
-    requires rule { item.rule < length tables.now.built.grammar.bare.rules }
-    requires dot { item.dot ≤ length (body_of tables.now.built.grammar.bare item.rule) }
-    ensures { (u : Guide) → IsGuide tables.now.built u
-        → Sends W.contents link.old link.new (is_some result) (item_line tables.now u q item) }
-{
-    put_front(link, tables.grammar(), item)?;
-    put_back(link, tables, q, index, item)
+/// The lines of the items of a state.
+#[derive(Drop)]
+struct Items<'a>(&'a Tables, usize);
+
+impl Lines for Items<'_> {
+    ghost Context = { λ it. (u : Guide) × IsGuide it.0.now.built u };
+
+    ghost has = { λ it k. (it.1 < length it.0.now.built.states)
+        × (k < length (state_of it.0.now.built it.1)) };
+
+    ghost line = { λ it u k. item_text_at it.0.now u.0 it.1 k };
+
+    fn put_line<W: Write>(&self, link: &mut Link<W>, k: usize) -> Option<()> {
+        let Items(tables, q) = *self;
+        let automaton = tables.automaton();
+        let _guide = automaton.states();
+        let item = automaton.items(q)[k];
+        put_front(link, automaton.grammar(), item)?;
+        put_back(link, tables, q, k, item)
+    }
 }
 
-fn put_items<W: Write>(link: &mut Link<W>, tables: &Tables, q: usize) -> Option<()>
-    requires { q < length tables.now.built.states }
-    ensures { (u : Guide) → IsGuide tables.now.built u
-        → Sends W.contents link.old link.new (is_some result) (items_text tables.now u q) }
+/// A symbol, words, a number and a newline.
+fn put_for<'a, W: Write>(
+    link: &mut Link<W>,
+    grammar: &'a Grammar,
+    s: Sym,
+    words: &'a [u8],
+    number: usize,
+) -> Option<()>
+    requires { s < grammar.now.bare.symbols }
+    ensures { Sends W.contents link.old link.new (is_some result)
+        (line_for grammar.now s (count_line words.now number)) }
 {
-    let automaton = tables.automaton();
-    let _guide = automaton.states();
-    let items = automaton.items(q);
-    for index in 0..items.len() {
-        put_item(link, tables, q, index, items[index])?;
-    }
-    Some(())
+    let name = Words(grammar.name(s));
+    put_pieces(
+        link,
+        &[Words(b"  "), name, Words(words), Number(number), END],
+    )
 }
 
 /// The line of an action; nothing for an error.
@@ -257,32 +245,33 @@ fn put_action<W: Write>(link: &mut Link<W>, grammar: &Grammar, t: Sym, action: A
     ensures { Sends W.contents link.old link.new (is_some result)
         (action_line grammar.now t action) }
 {
-    let mut number = itoa::Buffer::new();
-    let name = grammar.name(t);
     match action {
-        Action::Shift(n) => {
-            let number = number.format(n).as_bytes();
-            put_all(link, &[b"  ", name, b" shift ", number, b"\n"])
+        Action::Shift(n) => put_for(link, grammar, t, b" shift ", n),
+        Action::Reduce(r) => put_for(link, grammar, t, b" reduce ", r),
+        Action::Accept => {
+            let name = Words(grammar.name(t));
+            put_pieces(link, &[Words(b"  "), name, Words(b" accept\n")])
         }
-        Action::Reduce(r) => {
-            let number = number.format(r).as_bytes();
-            put_all(link, &[b"  ", name, b" reduce ", number, b"\n"])
-        }
-        Action::Accept => put_all(link, &[b"  ", name, b" accept\n"]),
         Action::Error => Some(()),
     }
 }
 
-fn put_actions<W: Write>(link: &mut Link<W>, tables: &Tables, q: usize) -> Option<()>
-    requires { q < length tables.now.built.states }
-    ensures { Sends W.contents link.old link.new (is_some result) (actions_text tables.now q) }
-{
-    let grammar = tables.grammar();
-    let _well_formed = grammar.symbols();
-    for t in 0..token_count(grammar) {
-        put_action(link, grammar, t, tables.action(q, t))?;
+/// The lines of the actions of a state.
+#[derive(Drop)]
+struct Actions<'a>(&'a Tables, usize);
+
+impl Lines for Actions<'_> {
+    ghost has = { λ it t. (it.1 < length it.0.now.built.states)
+        × (t < it.0.now.built.grammar.bare.tokens) };
+
+    ghost line = { λ it _ t. action_line it.0.now.built.grammar t (action_at it.0.now it.1 t) };
+
+    fn put_line<W: Write>(&self, link: &mut Link<W>, t: usize) -> Option<()> {
+        let Actions(tables, q) = *self;
+        let grammar = tables.grammar();
+        let _well_formed = grammar.symbols();
+        put_action(link, grammar, t, tables.action(q, t))
     }
-    Some(())
 }
 
 /// The default rule of a consistent state, or the actions.
@@ -292,8 +281,8 @@ fn put_rule_or_actions<W: Write>(link: &mut Link<W>, tables: &Tables, q: usize) 
         (default_at tables.now q)) }
 {
     match tables.default_rule(q) {
-        Some(rule) => put_count(link, b"  . reduce ", rule),
-        None => put_actions(link, tables, q),
+        Some(rule) => put_pieces(link, &[Words(b"  . reduce "), Number(rule), END]),
+        None => put_lines(link, &Actions(tables, q), 0, token_count(tables.grammar())),
     }
 }
 
@@ -307,40 +296,59 @@ fn put_goto<W: Write>(
     requires { x < grammar.now.bare.symbols }
     ensures { Sends W.contents link.old link.new (is_some result) (goto_line grammar.now x to) }
 {
-    let Some(n) = to else {
-        return Some(());
-    };
-    let mut number = itoa::Buffer::new();
-    let number = number.format(n).as_bytes();
-    put_all(link, &[b"  ", grammar.name(x), b" goto ", number, b"\n"])
-}
-
-fn put_gotos<W: Write>(link: &mut Link<W>, tables: &Tables, q: usize) -> Option<()>
-    requires { q < length tables.now.built.states }
-    ensures { Sends W.contents link.old link.new (is_some result) (gotos_text tables.now q) }
-{
-    let grammar = tables.grammar();
-    for x in token_count(grammar)..grammar.symbols() {
-        put_goto(link, grammar, x, tables.goto(q, x))?;
+    match to {
+        Some(n) => put_for(link, grammar, x, b" goto ", n),
+        None => Some(()),
     }
-    Some(())
 }
 
-/// The line of a conflict.
-fn put_conflict<W: Write>(link: &mut Link<W>, grammar: &Grammar, conflict: Conflict) -> Option<()>
-    requires { conflict.token < grammar.now.bare.symbols }
-    ensures { Sends W.contents link.old link.new (is_some result)
-        (conflict_text grammar.now conflict) }
-{
-    let mut first = itoa::Buffer::new();
-    let mut second = itoa::Buffer::new();
-    let first = first.format(conflict.shift_reduce).as_bytes();
-    let second = second.format(conflict.reduce_reduce).as_bytes();
-    let name = grammar.name(conflict.token);
-    put_all(
-        link,
-        &[b"  ", name, b" conflicts ", first, b" ", second, b"\n"],
-    )
+/// The lines of the gotos of a state.
+#[derive(Drop)]
+struct Gotos<'a>(&'a Tables, usize);
+
+impl Lines for Gotos<'_> {
+    ghost has = { λ it x. (it.1 < length it.0.now.built.states)
+        × (it.0.now.built.grammar.bare.tokens ≤ x) × (x < it.0.now.built.grammar.bare.symbols) };
+
+    ghost line = { λ it _ x. goto_line it.0.now.built.grammar x (goto_in it.0.now.built it.1 x) };
+
+    fn put_line<W: Write>(&self, link: &mut Link<W>, x: usize) -> Option<()> {
+        let Gotos(tables, q) = *self;
+        put_goto(link, tables.grammar(), x, tables.goto(q, x))
+    }
+}
+
+/// The lines of conflicts.
+#[derive(Drop)]
+struct Conflicts<'a>(&'a Grammar, &'a [Conflict]);
+
+impl Lines for Conflicts<'_> {
+    ghost use Rattle.ytables.specs.declared.cell.Conflict.{Conflict};
+
+    ghost has = { λ it k. (k < length it.1.now)
+        × ((d : Conflict) → (slice_index_or it.1.now k d).token < it.0.now.bare.symbols) };
+
+    ghost line = { λ it _ k. conflict_text_at it.0.now it.1.now k };
+
+    fn put_line<W: Write>(&self, link: &mut Link<W>, k: usize) -> Option<()> {
+        let Conflicts(grammar, conflicts) = *self;
+        let conflict = conflicts[k];
+        let name = Words(grammar.name(conflict.token));
+        let first = Number(conflict.shift_reduce);
+        let second = Number(conflict.reduce_reduce);
+        put_pieces(
+            link,
+            &[
+                Words(b"  "),
+                name,
+                Words(b" conflicts "),
+                first,
+                Words(b" "),
+                second,
+                END,
+            ],
+        )
+    }
 }
 
 fn put_conflicts<W: Write>(link: &mut Link<W>, tables: &Tables, q: usize) -> Option<()>
@@ -351,10 +359,8 @@ fn put_conflicts<W: Write>(link: &mut Link<W>, tables: &Tables, q: usize) -> Opt
     let _guide = tables.automaton().states();
     let grammar = tables.grammar();
     let _well_formed = grammar.symbols();
-    for conflict in tables.conflicts_in(q) {
-        put_conflict(link, grammar, *conflict)?;
-    }
-    Some(())
+    let conflicts = tables.conflicts_in(q);
+    put_lines(link, &Conflicts(grammar, conflicts), 0, conflicts.len())
 }
 
 /// The actions of a state, its gotos, its conflicts.
@@ -363,40 +369,35 @@ fn put_cells<W: Write>(link: &mut Link<W>, tables: &Tables, q: usize) -> Option<
     ensures { (u : Guide) → IsGuide tables.now.built u
         → Sends W.contents link.old link.new (is_some result) (cells_text tables.now u q) }
 {
+    let grammar = tables.grammar();
     put_rule_or_actions(link, tables, q)?;
-    put_gotos(link, tables, q)?;
+    put_lines(
+        link,
+        &Gotos(tables, q),
+        token_count(grammar),
+        grammar.symbols(),
+    )?;
     put_conflicts(link, tables, q)
 }
 
-fn put_state<W: Write>(link: &mut Link<W>, tables: &Tables, q: usize) -> Option<()>
-    requires { q < length tables.now.built.states }
-    ensures { (u : Guide) → IsGuide tables.now.built u
-        → Sends W.contents link.old link.new (is_some result) (state_text tables.now u q) }
-{
-    put_count(link, b"State ", q)?;
-    put_items(link, tables, q)?;
-    put_cells(link, tables, q)
-}
+/// The states: their numbers, items and cells.
+#[derive(Drop)]
+struct States<'a>(&'a Tables);
 
-fn put_states<W: Write>(link: &mut Link<W>, tables: &Tables) -> Option<()>
-    ensures { (u : Guide) → IsGuide tables.now.built u
-        → Sends W.contents link.old link.new (is_some result) (states_text tables.now u) }
-{
-    for q in 0..tables.automaton().states() {
-        put_state(link, tables, q)?;
+impl Lines for States<'_> {
+    ghost Context = { λ it. (u : Guide) × IsGuide it.0.now.built u };
+
+    ghost has = { λ it q. q < length it.0.now.built.states };
+
+    ghost line = { λ it u q. state_text it.0.now u.0 q };
+
+    fn put_line<W: Write>(&self, link: &mut Link<W>, q: usize) -> Option<()> {
+        let States(tables) = *self;
+        let items = tables.automaton().items(q).len();
+        put_pieces(link, &[Words(b"State "), Number(q), END])?;
+        put_lines(link, &Items(tables, q), 0, items)?;
+        put_cells(link, tables, q)
     }
-    Some(())
-}
-
-/// Words, two numbers and a newline.
-fn put_pair<W: Write>(link: &mut Link<W>, words: &[u8], a: u64, b: u64) -> Option<()>
-    ensures { Sends W.contents link.old link.new (is_some result) (pair_line words.now a b) }
-{
-    let mut first = itoa::Buffer::new();
-    let mut second = itoa::Buffer::new();
-    let first = first.format(a).as_bytes();
-    let second = second.format(b).as_bytes();
-    put_all(link, &[words, first, b" ", second, b"\n"])
 }
 
 /// How many states there are, and how many conflicts.
@@ -404,21 +405,25 @@ fn put_counts<W: Write>(link: &mut Link<W>, tables: &Tables) -> Option<()>
     ensures { Sends W.contents link.old link.new (is_some result) (counts_text tables.now) }
 {
     let counts = tables.conflicts();
-    put_count(link, b"States ", tables.automaton().states())?;
-    put_pair(
+    let states = Number(tables.automaton().states());
+    let first = Number(counts.shift_reduce as usize);
+    let second = Number(counts.reduce_reduce as usize);
+    put_pieces(link, &[Words(b"States "), states, END])?;
+    put_pieces(
         link,
-        b"Conflicts ",
-        counts.shift_reduce,
-        counts.reduce_reduce,
+        &[Words(b"Conflicts "), first, Words(b" "), second, END],
     )
 }
 
+/// The tokens, the states, and their counts.
 fn put_tokens_part<W: Write>(link: &mut Link<W>, tables: &Tables) -> Option<()>
     ensures { (u : Guide) → IsGuide tables.now.built u
         → Sends W.contents link.old link.new (is_some result) (tokens_part tables.now u) }
 {
+    let grammar = tables.grammar();
+    let tokens = token_count(grammar);
     put(link, b"Tokens\n")?;
-    put_tokens(link, tables.grammar())?;
+    put_lines(link, &Tokens(grammar), 0, tokens)?;
     put_states_part(link, tables)
 }
 
@@ -428,7 +433,8 @@ fn put_states_part<W: Write>(link: &mut Link<W>, tables: &Tables) -> Option<()>
         → Sends W.contents link.old link.new (is_some result)
         (states_text tables.now u ++ counts_text tables.now) }
 {
-    put_states(link, tables)?;
+    let states = tables.automaton().states();
+    put_lines(link, &States(tables), 0, states)?;
     put_counts(link, tables)
 }
 
@@ -436,8 +442,10 @@ fn put_unreachable_part<W: Write>(link: &mut Link<W>, tables: &Tables) -> Option
     ensures { (u : Guide) → IsGuide tables.now.built u
         → Sends W.contents link.old link.new (is_some result) (unreachable_part tables.now u) }
 {
+    let grammar = tables.grammar();
+    let rules = grammar.rules();
     put(link, b"Unreachable\n")?;
-    put_unreachables(link, tables.grammar())?;
+    put_lines(link, &Unreachable(grammar), 0, rules)?;
     put_tokens_part(link, tables)
 }
 
@@ -445,8 +453,10 @@ fn put_report<W: Write>(link: &mut Link<W>, tables: &Tables) -> Option<()>
     ensures { (u : Guide) → IsGuide tables.now.built u
         → Sends W.contents link.old link.new (is_some result) (report_of tables.now u) }
 {
+    let grammar = tables.grammar();
+    let rules = grammar.rules();
     put(link, b"Rules\n")?;
-    put_rules(link, tables.grammar())?;
+    put_lines(link, &Rules(grammar), 0, rules)?;
     put_unreachable_part(link, tables)
 }
 

@@ -1,107 +1,132 @@
 //! The text of the table.
 
-ghost use Rattle.std.specs.Prelude.{◌≡◌, ◌<◌, length, is_some, is_ok, is_err, IfErr};
+ghost use Rattle.std.specs.Prelude.{◌≡◌, ◌<◌, ◌≤◌, ◌++◌, length, is_some, is_ok, is_err, IfErr};
+ghost use Rattle.ylalr.specs.Collection.{goto_in};
 ghost use Rattle.ylink.specs.Link.{device_of, has_failed};
 ghost use Rattle.ylink.specs.Sends.{Sends, Grows};
-ghost use Rattle.ytables.specs.Table.{symbol_line, symbol_lines, rule_line, rule_lines};
-ghost use Rattle.ytables.specs.Table.{action_line, goto_line, actions_text, gotos_text};
-ghost use Rattle.ytables.specs.Table.{rule_or_actions, state_lines, all_states, states_part};
+ghost use Rattle.ytables.specs.Text.{count_line};
+ghost use Rattle.ytables.specs.Table.{symbol_line, rule_line, place_text, action_line, goto_line};
+ghost use Rattle.ytables.specs.Table.{rule_or_actions, state_lines, states_part};
 ghost use Rattle.ytables.specs.Table.{rules_part, table_of};
-ghost use Rattle.ytables.specs.Tables.{default_at};
+ghost use Rattle.ytables.specs.Tables.{action_at, default_at};
 ghost use Rattle.ytables.specs.declared.fault.TableFault.{TableFault};
 
 use crate::cell::Action;
-use crate::count::put_count;
 use crate::fault::TableFault;
 use crate::tables::Tables;
 use std::io::Write;
 use ylalr::token_count;
+use ylink::lines::{Lines, put_lines};
 use ylink::link::Link;
-use ylink::put::{put, put_all};
+use ylink::pieces::Piece::{Number, Words};
+use ylink::pieces::{END, put_pieces};
+use ylink::put::put;
 use ysymbols::{Grammar, Sym};
 
-/// The line of a symbol.
-fn put_symbol<W: Write>(link: &mut Link<W>, grammar: &Grammar, s: Sym) -> Option<()>
-    requires { s < grammar.now.bare.symbols }
-    ensures { Sends W.contents link.old link.new (is_some result) (symbol_line grammar.now s) }
-{
-    let mut symbol = itoa::Buffer::new();
-    let mut number = itoa::Buffer::new();
-    let symbol = symbol.format(s).as_bytes();
-    let name = grammar.name(s);
-    match grammar.number(s) {
-        Some(n) => {
-            let number = number.format(n).as_bytes();
-            put_all(link, &[symbol, b" t ", number, b" ", name, b"\n"])
+/// The lines of the symbols.
+#[derive(Drop)]
+struct Symbols<'a>(&'a Grammar);
+
+impl Lines for Symbols<'_> {
+    ghost has = { λ it s. s < it.0.now.bare.symbols };
+
+    ghost line = { λ it _ s. symbol_line it.0.now s };
+
+    fn put_line<W: Write>(&self, link: &mut Link<W>, s: usize) -> Option<()> {
+        let name = Words(self.0.name(s));
+        match self.0.number(s) {
+            Some(n) => put_pieces(
+                link,
+                &[
+                    Number(s),
+                    Words(b" t "),
+                    Number(n as usize),
+                    Words(b" "),
+                    name,
+                    END,
+                ],
+            ),
+            None => put_pieces(link, &[Number(s), Words(b" n - "), name, END]),
         }
-        None => put_all(link, &[symbol, b" n -", b" ", name, b"\n"]),
     }
 }
 
-fn put_symbols<W: Write>(link: &mut Link<W>, grammar: &Grammar) -> Option<()>
-    ensures { Sends W.contents link.old link.new (is_some result) (symbol_lines grammar.now) }
-{
-    for s in 0..grammar.symbols() {
-        put_symbol(link, grammar, s)?;
+/// The lines of the rules.
+#[derive(Drop)]
+struct Rules<'a>(&'a Grammar);
+
+impl Lines for Rules<'_> {
+    ghost has = { λ it r. r < length it.0.now.bare.rules };
+
+    ghost line = { λ it _ r. rule_line it.0.now r };
+
+    fn put_line<W: Write>(&self, link: &mut Link<W>, r: usize) -> Option<()> {
+        let rule = self.0.rule(r);
+        let left = Number(rule.left());
+        let len = Number(rule.body().len());
+        put_pieces(link, &[Number(r), Words(b" "), left, Words(b" "), len, END])
     }
-    Some(())
 }
 
-/// The line of a rule.
-fn put_rule<W: Write>(link: &mut Link<W>, grammar: &Grammar, r: usize) -> Option<()>
-    requires { r < length grammar.now.bare.rules }
-    ensures { Sends W.contents link.old link.new (is_some result) (rule_line grammar.now r) }
+/// The line of an entry: what its place begins with, its place, words and a number.
+fn put_entry<'a, W: Write>(
+    link: &mut Link<W>,
+    front: &'a [u8],
+    place: (usize, Sym),
+    words: &'a [u8],
+    number: usize,
+) -> Option<()>
+    ensures { Sends W.contents link.old link.new (is_some result)
+        (place_text front.now place.0 place.1 ++ count_line words.now number) }
 {
-    let mut number = itoa::Buffer::new();
-    let mut left = itoa::Buffer::new();
-    let mut len = itoa::Buffer::new();
-    let rule = grammar.rule(r);
-    let number = number.format(r).as_bytes();
-    let left = left.format(rule.left()).as_bytes();
-    let len = len.format(rule.body().len()).as_bytes();
-    put_all(link, &[number, b" ", left, b" ", len, b"\n"])
-}
-
-fn put_rules<W: Write>(link: &mut Link<W>, grammar: &Grammar) -> Option<()>
-    ensures { Sends W.contents link.old link.new (is_some result) (rule_lines grammar.now) }
-{
-    for r in 0..grammar.rules() {
-        put_rule(link, grammar, r)?;
-    }
-    Some(())
+    let (state, symbol) = (Number(place.0), Number(place.1));
+    let number = Number(number);
+    put_pieces(
+        link,
+        &[
+            Words(front),
+            state,
+            Words(b" "),
+            symbol,
+            Words(words),
+            number,
+            END,
+        ],
+    )
 }
 
 /// The line of an action; nothing for an error.
 fn put_action<W: Write>(link: &mut Link<W>, q: usize, t: Sym, action: Action) -> Option<()>
     ensures { Sends W.contents link.old link.new (is_some result) (action_line q t action) }
 {
-    let mut state = itoa::Buffer::new();
-    let mut token = itoa::Buffer::new();
-    let mut number = itoa::Buffer::new();
-    let state = state.format(q).as_bytes();
-    let token = token.format(t).as_bytes();
     match action {
-        Action::Shift(n) => {
-            let number = number.format(n).as_bytes();
-            put_all(link, &[b"a ", state, b" ", token, b" s ", number, b"\n"])
+        Action::Shift(n) => put_entry(link, b"a ", (q, t), b" s ", n),
+        Action::Reduce(r) => put_entry(link, b"a ", (q, t), b" r ", r),
+        Action::Accept => {
+            let (state, token) = (Number(q), Number(t));
+            put_pieces(
+                link,
+                &[Words(b"a "), state, Words(b" "), token, Words(b" acc\n")],
+            )
         }
-        Action::Reduce(r) => {
-            let number = number.format(r).as_bytes();
-            put_all(link, &[b"a ", state, b" ", token, b" r ", number, b"\n"])
-        }
-        Action::Accept => put_all(link, &[b"a ", state, b" ", token, b" acc\n"]),
         Action::Error => Some(()),
     }
 }
 
-fn put_actions<W: Write>(link: &mut Link<W>, tables: &Tables, q: usize) -> Option<()>
-    requires { q < length tables.now.built.states }
-    ensures { Sends W.contents link.old link.new (is_some result) (actions_text tables.now q) }
-{
-    for t in 0..token_count(tables.grammar()) {
-        put_action(link, q, t, tables.action(q, t))?;
+/// The lines of the actions of a state.
+#[derive(Drop)]
+struct Actions<'a>(&'a Tables, usize);
+
+impl Lines for Actions<'_> {
+    ghost has = { λ it t. (it.1 < length it.0.now.built.states)
+        × (t < it.0.now.built.grammar.bare.tokens) };
+
+    ghost line = { λ it _ t. action_line it.1 t (action_at it.0.now it.1 t) };
+
+    fn put_line<W: Write>(&self, link: &mut Link<W>, t: usize) -> Option<()> {
+        let Actions(tables, q) = *self;
+        put_action(link, q, t, tables.action(q, t))
     }
-    Some(())
 }
 
 /// The default rule of a consistent state, or the actions.
@@ -110,65 +135,69 @@ fn put_rule_or_actions<W: Write>(link: &mut Link<W>, tables: &Tables, q: usize) 
     ensures { Sends W.contents link.old link.new (is_some result) (rule_or_actions tables.now q
         (default_at tables.now q)) }
 {
-    let Some(rule) = tables.default_rule(q) else {
-        return put_actions(link, tables, q);
-    };
-    let mut state = itoa::Buffer::new();
-    let mut number = itoa::Buffer::new();
-    let state = state.format(q).as_bytes();
-    let number = number.format(rule).as_bytes();
-    put_all(link, &[b"d ", state, b" ", number, b"\n"])
+    match tables.default_rule(q) {
+        Some(rule) => put_pieces(
+            link,
+            &[Words(b"d "), Number(q), Words(b" "), Number(rule), END],
+        ),
+        None => put_lines(link, &Actions(tables, q), 0, token_count(tables.grammar())),
+    }
 }
 
 /// The line of a goto, where there is one.
 fn put_goto<W: Write>(link: &mut Link<W>, q: usize, x: Sym, to: Option<usize>) -> Option<()>
     ensures { Sends W.contents link.old link.new (is_some result) (goto_line q x to) }
 {
-    let Some(n) = to else {
-        return Some(());
-    };
-    let mut state = itoa::Buffer::new();
-    let mut symbol = itoa::Buffer::new();
-    let mut number = itoa::Buffer::new();
-    let state = state.format(q).as_bytes();
-    let symbol = symbol.format(x).as_bytes();
-    let number = number.format(n).as_bytes();
-    put_all(link, &[b"g ", state, b" ", symbol, b" ", number, b"\n"])
-}
-
-fn put_gotos<W: Write>(link: &mut Link<W>, tables: &Tables, q: usize) -> Option<()>
-    requires { q < length tables.now.built.states }
-    ensures { Sends W.contents link.old link.new (is_some result) (gotos_text tables.now q) }
-{
-    let grammar = tables.grammar();
-    for x in token_count(grammar)..grammar.symbols() {
-        put_goto(link, q, x, tables.goto(q, x))?;
+    match to {
+        Some(n) => put_entry(link, b"g ", (q, x), b" ", n),
+        None => Some(()),
     }
-    Some(())
 }
 
-fn put_state<W: Write>(link: &mut Link<W>, tables: &Tables, q: usize) -> Option<()>
-    requires { q < length tables.now.built.states }
-    ensures { Sends W.contents link.old link.new (is_some result) (state_lines tables.now q) }
-{
-    put_rule_or_actions(link, tables, q)?;
-    put_gotos(link, tables, q)
-}
+/// The lines of the gotos of a state.
+#[derive(Drop)]
+struct Gotos<'a>(&'a Tables, usize);
 
-fn put_states<W: Write>(link: &mut Link<W>, tables: &Tables) -> Option<()>
-    ensures { Sends W.contents link.old link.new (is_some result) (all_states tables.now) }
-{
-    for q in 0..tables.automaton().states() {
-        put_state(link, tables, q)?;
+impl Lines for Gotos<'_> {
+    ghost has = { λ it x. (it.1 < length it.0.now.built.states)
+        × (it.0.now.built.grammar.bare.tokens ≤ x) × (x < it.0.now.built.grammar.bare.symbols) };
+
+    ghost line = { λ it _ x. goto_line it.1 x (goto_in it.0.now.built it.1 x) };
+
+    fn put_line<W: Write>(&self, link: &mut Link<W>, x: usize) -> Option<()> {
+        let Gotos(tables, q) = *self;
+        put_goto(link, q, x, tables.goto(q, x))
     }
-    Some(())
+}
+
+/// The lines of the states.
+#[derive(Drop)]
+struct States<'a>(&'a Tables);
+
+impl Lines for States<'_> {
+    ghost has = { λ it q. q < length it.0.now.built.states };
+
+    ghost line = { λ it _ q. state_lines it.0.now q };
+
+    fn put_line<W: Write>(&self, link: &mut Link<W>, q: usize) -> Option<()> {
+        let States(tables) = *self;
+        let grammar = tables.grammar();
+        put_rule_or_actions(link, tables, q)?;
+        put_lines(
+            link,
+            &Gotos(tables, q),
+            token_count(grammar),
+            grammar.symbols(),
+        )
+    }
 }
 
 fn put_states_part<W: Write>(link: &mut Link<W>, tables: &Tables) -> Option<()>
     ensures { Sends W.contents link.old link.new (is_some result) (states_part tables.now) }
 {
-    put_count(link, b"states ", tables.automaton().states())?;
-    put_states(link, tables)?;
+    let states = tables.automaton().states();
+    put_pieces(link, &[Words(b"states "), Number(states), END])?;
+    put_lines(link, &States(tables), 0, states)?;
     put(link, b"end\n")
 }
 
@@ -176,8 +205,9 @@ fn put_rules_part<W: Write>(link: &mut Link<W>, tables: &Tables) -> Option<()>
     ensures { Sends W.contents link.old link.new (is_some result) (rules_part tables.now) }
 {
     let grammar = tables.grammar();
-    put_count(link, b"rules ", grammar.rules())?;
-    put_rules(link, grammar)?;
+    let rules = grammar.rules();
+    put_pieces(link, &[Words(b"rules "), Number(rules), END])?;
+    put_lines(link, &Rules(grammar), 0, rules)?;
     put_states_part(link, tables)
 }
 
@@ -185,8 +215,9 @@ fn put_table<W: Write>(link: &mut Link<W>, tables: &Tables) -> Option<()>
     ensures { Sends W.contents link.old link.new (is_some result) (table_of tables.now) }
 {
     let grammar = tables.grammar();
-    put_count(link, b"table 2\nsymbols ", grammar.symbols())?;
-    put_symbols(link, grammar)?;
+    let symbols = grammar.symbols();
+    put_pieces(link, &[Words(b"table 2\nsymbols "), Number(symbols), END])?;
+    put_lines(link, &Symbols(grammar), 0, symbols)?;
     put_rules_part(link, tables)
 }
 

@@ -8,7 +8,7 @@ use Rattle.ylalr.specs.Collection.{Collection, bare_of, state_of}
 use Rattle.ylink.specs.Sends.{Sends}
 use Rattle.ylink.proofs.Sent.{Sends-nothing}
 use Rattle.ytables.specs.Report.{look_text}
-use Rattle.ytables.proofs.LineSteps.{range_cut, range_sent}
+use Rattle.ylink.proofs.Ranges.{range_cut, range_sent}
 use Rattle.ytables.proofs.LookSteps.{next_said, next_looks, look_said}
 use Rattle.ytables.proofs.report.put_looks.Goals as goal
 
