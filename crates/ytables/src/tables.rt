@@ -9,7 +9,7 @@ ghost use Rattle.ytables.specs.declared.fault.TableFault.{TableFault};
 ghost use Rattle.ytables.specs.Allowed.{CellsAllow};
 ghost use Rattle.ytables.specs.Cell.{by_default};
 ghost use Rattle.ytables.specs.Had.{NoChoice, CellsHave};
-ghost use Rattle.ytables.specs.Tables.{AreRowsTo, AreSumsTo, AreTables, AreConflicts};
+ghost use Rattle.ytables.specs.Tables.{AreConflicts, AreGotos, AreRowsTo, AreSumsTo, AreTables};
 ghost use Rattle.ytables.specs.Tables.{action_at, default_at};
 ghost use Rattle.ytables.specs.Tables.{action_in, default_in, act_at, rule_at};
 ghost use Rattle.ytables.specs.Tables.{row_shift_reduce, row_reduce_reduce, states_of};
@@ -35,16 +35,22 @@ pub struct Counts {
     pub reduce_reduce: u64,
 }
 
-/// An automaton with its cells.
+/// The rows of all states, and what their cells count.
 #[derive(Drop)]
-pub struct Tables {
-    automaton: Automaton,
+struct Found {
     actions: Packed<Action>,
     gotos: Packed<usize>,
     defaults: Vec<Option<usize>>,
     conflicts: Vec<Sequence<Conflict>>,
     counts: Counts,
     chosen: bool,
+}
+
+/// An automaton with its cells.
+#[derive(Drop)]
+pub struct Tables {
+    automaton: Automaton,
+    found: Found,
 }
 
 impl Model for Tables {
@@ -54,21 +60,21 @@ impl Model for Tables {
 
     ghost view = { λ t. record {
       built = t.automaton;
-      actions = t.actions.rows;
-      defaults = t.defaults.items;
-      shift_reduce = t.counts.shift_reduce;
-      reduce_reduce = t.counts.reduce_reduce;
-      choice = t.chosen;
+      actions = t.found.actions.rows;
+      defaults = t.found.defaults.items;
+      shift_reduce = t.found.counts.shift_reduce;
+      reduce_reduce = t.found.counts.reduce_reduce;
+      choice = t.found.chosen;
     } };
 
     ghost invariant = { λ t. IsTables (record {
       built = t.automaton;
-      actions = t.actions.rows;
-      defaults = t.defaults.items;
-      shift_reduce = t.counts.shift_reduce;
-      reduce_reduce = t.counts.reduce_reduce;
-      choice = t.chosen;
-    }) t.actions.width t.gotos t.conflicts.items };
+      actions = t.found.actions.rows;
+      defaults = t.found.defaults.items;
+      shift_reduce = t.found.counts.shift_reduce;
+      reduce_reduce = t.found.counts.reduce_reduce;
+      choice = t.found.chosen;
+    }) t.found.actions.width t.found.gotos t.found.conflicts.items };
 }
 
 /// The entries of a row: its actions without errors; no entries at all where a default rule stands
@@ -96,16 +102,6 @@ fn entries_of(
 }
 
 /// The rows of all states, and what their cells count.
-#[derive(Drop)]
-struct Found {
-    actions: Packed<Action>,
-    defaults: Vec<Option<usize>>,
-    conflicts: Vec<Sequence<Conflict>>,
-    counts: Counts,
-    chosen: bool,
-}
-
-/// The rows of all states, and what their cells count.
 fn all_rows(alloc: Global, automaton: &Automaton) -> Result<Found, AllocError>
     ensures actions { IfOk result (λ f. length f.actions.rows ≡ length automaton.now.states) }
     ensures width { IfOk result (λ f. f.actions.width ≡ automaton.now.grammar.bare.tokens) }
@@ -117,6 +113,7 @@ fn all_rows(alloc: Global, automaton: &Automaton) -> Result<Found, AllocError>
     ensures rows { IfOk result (λ f. (u : Guide) → IsGuide automaton.now u
         → AreRowsTo automaton.now u (length automaton.now.states)
         (act_at f.actions.rows f.defaults.items) (rule_at f.defaults.items)) }
+    ensures gotos { IfOk result (λ f. AreGotos automaton.now f.gotos) }
     ensures sums { IfOk result (λ f. (u : Guide) → IsGuide automaton.now u
         → AreSumsTo automaton.now u
         (length automaton.now.states) f.counts.shift_reduce f.counts.reduce_reduce f.chosen) }
@@ -125,6 +122,7 @@ fn all_rows(alloc: Global, automaton: &Automaton) -> Result<Found, AllocError>
     let _well_formed = grammar.symbols();
     let tokens = token_count(grammar);
     let states = automaton.states();
+    let gotos = all_gotos(alloc, automaton)?;
     let mut actions = Packed::new(alloc, tokens);
     let mut defaults = Vec::with_capacity(alloc, states)?;
     let mut conflicts = Vec::with_capacity(alloc, states)?;
@@ -147,6 +145,7 @@ fn all_rows(alloc: Global, automaton: &Automaton) -> Result<Found, AllocError>
     };
     Ok(Found {
         actions,
+        gotos,
         defaults,
         conflicts,
         counts,
@@ -160,28 +159,10 @@ pub fn resolve(alloc: Global, automaton: Automaton) -> Result<Tables, TableFault
     ensures tables { IfOk result (λ t. AreTables t) }
     ensures fault { IfErr result (λ e. e ≡ TableFault.Memory) }
 {
-    let Ok(found) = all_rows(alloc, &automaton) else {
-        return Err(TableFault::Memory);
-    };
-    let Ok(gotos) = all_gotos(alloc, &automaton) else {
-        return Err(TableFault::Memory);
-    };
-    let Found {
-        actions,
-        defaults,
-        conflicts,
-        counts,
-        chosen,
-    } = found;
-    Ok(Tables {
-        automaton,
-        actions,
-        gotos,
-        defaults,
-        conflicts,
-        counts,
-        chosen,
-    })
+    match all_rows(alloc, &automaton) {
+        Ok(found) => Ok(Tables { automaton, found }),
+        Err(_) => Err(TableFault::Memory),
+    }
 }
 
 impl Tables {
@@ -213,9 +194,9 @@ impl Tables {
         ensures exact { (u : Guide) → IsGuide self.now.built u → result
             ≡ action_in self.now.built u q t }
     {
-        match self.defaults[q] {
+        match self.found.defaults[q] {
             Some(rule) => Action::Reduce(rule),
-            None => self.actions.get(q, t).unwrap_or(Action::Error),
+            None => self.found.actions.get(q, t).unwrap_or(Action::Error),
         }
     }
 
@@ -229,7 +210,7 @@ impl Tables {
         ensures exact { IsGoto self.now.built q x result }
     {
         let _guide = self.automaton.states();
-        self.gotos.get(q, x - self.actions.width())
+        self.found.gotos.get(q, x - self.found.actions.width())
     }
 
     /// The rule that state `q` reduces by at every token, where the state is consistent: no item
@@ -241,7 +222,7 @@ impl Tables {
         ensures exact { (u : Guide) → IsGuide self.now.built u → result
             ≡ default_in self.now.built u q }
     {
-        self.defaults[q]
+        self.found.defaults[q]
     }
 
     /// How many conflicts the cells of all states and tokens count.
@@ -254,7 +235,7 @@ impl Tables {
             × (result.reduce_reduce
             ≡ sum_by (row_reduce_reduce self.now.built u) (states_of self.now.built)) }
     {
-        self.counts
+        self.found.counts
     }
 
     /// What the cells of state `q` count, by rising tokens; cells that count nothing are left out.
@@ -264,7 +245,7 @@ impl Tables {
         ensures { (u : Guide) → IsGuide self.now.built u
             → result.now ≡ conflicts_in self.now.built u q }
     {
-        self.conflicts[q].as_slice()
+        self.found.conflicts[q].as_slice()
     }
 
     /// Whether no cell has a choice between two candidates. Then each candidate that the items of
@@ -278,6 +259,6 @@ impl Tables {
     {
         let _guide = self.automaton.states();
         let _well_formed = self.automaton.grammar().symbols();
-        !self.chosen
+        !self.found.chosen
     }
 }

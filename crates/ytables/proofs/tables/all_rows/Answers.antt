@@ -51,3 +51,11 @@ loop-q-preserved c =
           c.push-in-loop-q-2.new.self.items row.conflicts inv.listed listed
           (c.in_ok-row.ensures.conflicts u h) (inv.conflicts u h);
     }
+
+pub returns-clause-sums : goal.returns-clause-sums
+returns-clause-sums c = λ u h.
+    let a = c.loop-q-test.false in
+    let b = c.loop-q.auto.q-end in
+    let e = c.states-states.ensures.count in
+    let done : c.loop-q.q ≡ length c.args.automaton.now.states = omega (arith, a, b, e) in
+    rw done at c.loop-q.invariant.sums u h

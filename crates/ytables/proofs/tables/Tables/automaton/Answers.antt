@@ -13,11 +13,11 @@ returns-clause-allowed c =
     let m = I.automaton in
     let v : TablesValue = record {
       built = m;
-      actions = I.actions.rows;
-      defaults = I.defaults.items;
-      shift_reduce = I.counts.shift_reduce;
-      reduce_reduce = I.counts.reduce_reduce;
-      choice = I.chosen;
+      actions = I.found.actions.rows;
+      defaults = I.found.defaults.items;
+      shift_reduce = I.found.counts.shift_reduce;
+      reduce_reduce = I.found.counts.reduce_reduce;
+      choice = I.found.chosen;
     } in
     let guide = c.states-guide.ensures.guide in
     let well : WellFormed m.grammar.bare = subst (λ (x : GrammarValue). WellFormed x.bare)

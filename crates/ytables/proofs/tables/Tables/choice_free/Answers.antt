@@ -9,10 +9,10 @@ use Rattle.ytables.proofs.tables.Tables.choice_free.Goals as goal
 pub returns-clause-exact : goal.returns-clause-exact
 returns-clause-exact c u h =
     let v = c.args.self.now in
-    let same : c.self.inside.chosen ≡ v.choice =
+    let same : c.self.inside.found.chosen ≡ v.choice =
     ap (λ (v : TablesValue). v.choice) c.self.view_is in
     let sums = (tables_of u h).sums in (
-      λ e. no_choice v.built u (sym sums.choice ∙ sym same ∙ unset c.self.inside.chosen e),
+      λ e. no_choice v.built u (sym sums.choice ∙ sym same ∙ unset c.self.inside.found.chosen e),
       λ n. ap not (same ∙ sums.choice ∙ choice_no v.built u n),
     )
   where
@@ -32,4 +32,4 @@ returns-clause-have c e =
     c.states-guide.ensures.guide in
     let tables : AreTables v = subst AreTables c.self.view_is c.self.invariant.tables in
     cells_have v well states guide.0 guide.1 tables
-    (sym (ap (λ (v : TablesValue). v.choice) c.self.view_is) ∙ unset c.self.inside.chosen e)
+    (sym (ap (λ (v : TablesValue). v.choice) c.self.view_is) ∙ unset c.self.inside.found.chosen e)

@@ -10,7 +10,7 @@ returns-clause-value c =
     let k = c.args.self.now.built in
     let same : I.automaton ≡ k = ap (λ (v : TablesValue). v.built) c.self.view_is in
     let holds = c.self.invariant in
-    packed_goto I.automaton k I.gotos I.actions.width c.args.q c.args.x c.width.result c.get.result
+    packed_goto I.automaton k I.found.gotos I.found.actions.width c.args.q c.args.x c.width.result c.get.result
     same holds.gotos holds.width c.width.ensures c.get.ensures c.requires.state
     c.requires.nonterminal c.requires.symbol
 
@@ -21,7 +21,7 @@ returns-clause-exact c =
     let same : I.automaton ≡ k = ap (λ (v : TablesValue). v.built) c.self.view_is in
     let holds = c.self.invariant in
     let value : c.get.result ≡ goto_in k c.args.q c.args.x =
-    packed_goto I.automaton k I.gotos I.actions.width c.args.q c.args.x c.width.result c.get.result
+    packed_goto I.automaton k I.found.gotos I.found.actions.width c.args.q c.args.x c.width.result c.get.result
     same holds.gotos holds.width c.width.ensures c.get.ensures c.requires.state
     c.requires.nonterminal c.requires.symbol in
     let states : HasStates k = subst HasStates same c.states-guide.ensures.states in
