@@ -1,6 +1,6 @@
 -- What stands behind the first symbols of bodies, one rule more.
-use Rattle.std.proofs.Common.{ℕ, Bool, true, false, ◌≡◌, ◌<◌, ◌+◌, ◌⊎◌, ◌↔◌, List, length, replicate}
-use Rattle.std.proofs.Common.{sym, ◌∙◌, subst, inl, inr, arith, get_or-set_same}
+use Rattle.std.proofs.Common.{ℕ, Bool, true, false, ◌≡◌, ◌<◌, ◌+◌, ◌⊎◌, ◌↔◌, List, length}
+use Rattle.std.proofs.Common.{replicate, sym, ◌∙◌, subst, inl, inr, arith, get_or-set_same}
 use Rattle.std.proofs.Math.ListN.{set}
 use Rattle.std.proofs.lemmas.List.{length-replicate}
 use Rattle.std.specs.List.{All}

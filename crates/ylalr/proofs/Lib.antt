@@ -1,7 +1,7 @@
 pub mod Ascending
-pub mod BehindSteps
 pub mod Begins
 pub mod BeginsWith
+pub mod BehindSteps
 pub mod BucketSteps
 pub mod ClosureSteps
 pub mod Cores
