@@ -8,6 +8,9 @@ ghost use Rattle.yopen.specs.Buffered.{buffer_of};
 use std::alloc::Global;
 use std::io::{self, BufWriter, ErrorKind, Write};
 
+/// How many bytes a buffer gathers before its device is asked to take them.
+const CHUNK: usize = 65_536;
+
 /// A writer through a buffer. Once a call of it failed, the bytes that its device has not taken
 /// aren't offered to the device again when the writer is dropped.
 pub struct Buffered<W: Write + Drop> {
@@ -23,7 +26,7 @@ impl<W: Write + Drop> Buffered<W> {
         ensures empty { IfOk result (λ it. writer_buffer (buffer_of it) ≡ []) }
         ensures err { IfErr result (λ e. error_kind e ≡ ErrorKind.OutOfMemory) }
     {
-        match BufWriter::new(alloc, device) {
+        match BufWriter::with_capacity(alloc, CHUNK, device) {
             Ok(buffer) => Ok(Buffered {
                 buffer,
                 failed: false,
