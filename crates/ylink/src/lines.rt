@@ -1,10 +1,12 @@
 //! Lists of lines: a line is written by its number, a list of them by one loop.
 
-ghost use Rattle.std.specs.Prelude.{ℕ, ◌≡◌, ◌+◌, ◌<◌, ◌≤◌, List, is_some, flat_map};
+ghost use Rattle.std.specs.Prelude.{ℕ, ◌≡◌, ◌+◌, ◌<◌, ◌≤◌, ◌++◌, List, is_some, flat_map};
 ghost use Rattle.std.specs.List.{range_with_len};
+ghost use Rattle.ylink.specs.Pieces.{text_of};
 ghost use Rattle.ylink.specs.Sends.{Sends};
 
 use crate::link::Link;
+use crate::pieces::{Piece, put_pieces};
 use std::io::Write;
 
 /// Lines, each with a number.
@@ -45,4 +47,21 @@ pub fn put_lines<W: Write, L: Lines>(
         lines.put_line(link, number)?;
     }
     Some(())
+}
+
+/// Writes a title, and then the lines of the numbers below `count`. `None` where the link failed:
+/// then only a beginning of them was written.
+pub fn put_list<W: Write, L: Lines>(
+    link: &mut Link<W>,
+    title: &[Piece],
+    lines: &L,
+    count: usize,
+) -> Option<()>
+    requires { (k : ℕ) → k < count → L.has lines.now k }
+    ensures { (u : L.Context lines.now) (n : ℕ) → count ≡ n
+        → Sends W.contents link.old link.new (is_some result)
+        (flat_map text_of title.now ++ flat_map (L.line lines.now u) (range_with_len 0 n)) }
+{
+    put_pieces(link, title)?;
+    put_lines(link, lines, 0, count)
 }

@@ -12,7 +12,9 @@ ghost use Rattle.ymachine.specs.Walk.{head_text, frames_of, open_text, frames_fi
 use crate::parts::{Frame, Node, StackEntry};
 use crate::tables::{grammar_of, name_of};
 use std::io::Write;
-use ylink::put::{put, put_all};
+use ylink::pieces::Piece::{Number, Words};
+use ylink::pieces::put_pieces;
+use ylink::put::put;
 use ytables::{Link, Tables};
 
 /// Writes the beginning of a node, and opens it where it has children.
@@ -32,17 +34,15 @@ fn open_node<W: Write>(
     ensures walk { IfSome result (λ _. walk.new.items ≡ walk.old.items ++ frames_of node) }
     ensures capacity { vec_capacity walk.old ≤ vec_capacity walk.new }
 {
-    let mut buffer = itoa::Buffer::new();
     match node {
         Node::Leaf(token, place) => {
-            let digits = buffer.format(place).as_bytes();
-            put_all(link, &[name_of(grammar_of(tables), token), b"@", digits])
+            let name = Words(name_of(grammar_of(tables), token));
+            put_pieces(link, &[name, Words(b"@"), Number(place)])
         }
         Node::ErrorLeaf => put(link, b"error"),
         Node::Rule(rule, from, count) => {
             let end = from + count;
-            let digits = buffer.format(rule).as_bytes();
-            put_all(link, &[b"(", digits])?;
+            put_pieces(link, &[Words(b"("), Number(rule)])?;
             walk.push(Frame { next: from, end }).unwrap();
             Some(())
         }

@@ -17,7 +17,8 @@ ghost use Rattle.yparse.specs.Unwound.{Cuts, GoesBack, Unwinds, gap, is_write};
 
 use crate::session::Session;
 use std::io::Write;
-use ylink::put::put;
+use ylink::pieces::Piece::Words;
+use ylink::pieces::put_pieces;
 use ymachine::PlaceChange;
 use ymachine::machine::{AtStart, Mode, StepKind, UnwindFault};
 use ysymbols::Sym;
@@ -67,8 +68,7 @@ fn put_name<W: Write>(
     ensures { Sends W.contents link.old link.new (is_some result)
         (gap index ++ (machine_of session.now).name symbol) }
 {
-    put(link, gap(index))?;
-    put(link, session.name(symbol))
+    put_pieces(link, &[Words(gap(index)), Words(session.name(symbol))])
 }
 
 /// The names of a form, with one space between.

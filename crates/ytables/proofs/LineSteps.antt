@@ -1,6 +1,6 @@
 -- Texts that are sent part by part.
 use Rattle.std.proofs.Common.{ℕ, ◌≡◌, ◌+◌, ◌-◌, ◌≤◌, ◌++◌, Bool, true, false, List, Option, None}
-use Rattle.std.proofs.Common.{is_some, flat_map, subst, arith}
+use Rattle.std.proofs.Common.{is_some, flat_map, subst, arith, append_assoc}
 use Rattle.std.specs.List.{range_with_len}
 use Rattle.ysymbols.specs.Grammar.{GrammarValue}
 use Rattle.ytables.specs.Text.{nonterminals_of}
@@ -40,3 +40,17 @@ module _ {W : Type 0} (contents : W → Option (List ℕ)) where
       (subst (λ i. Sends contents a b whole (flat_map f (range_with_len i
       (own.bare.symbols - own.bare.tokens)))) g (s (own.bare.symbols - own.bare.tokens)
       (omega arith)))
+
+  -- a title and its lines, and then more
+  pub list_cut : {X : Type 0} (a b : Link W) (o : Option X) (s t u : List ℕ) → o ≡ None →
+      Sends contents a b false (s ++ t) → Sends contents a b (is_some o) (s ++ (t ++ u))
+  list_cut a b o s t u e h =
+      subst (λ (l : List ℕ). Sends contents a b (is_some o) l) (append_assoc s t u)
+      (first_cut a b o (s ++ t) u e h)
+
+  pub list_sent : (a b c : Link W) (whole : Bool) (s t u : List ℕ) →
+      Sends contents a b true (s ++ t) → Sends contents b c whole u → Sends contents a c whole
+      (s ++ (t ++ u))
+  list_sent a b c whole s t u g h =
+      subst (λ (l : List ℕ). Sends contents a c whole l) (append_assoc s t u)
+      (two a b c whole (s ++ t) u g h)

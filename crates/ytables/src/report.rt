@@ -13,15 +13,15 @@ ghost use Rattle.ytables.specs.Report.{rule_head, rule_text, unreachable_line};
 ghost use Rattle.ytables.specs.Report.{token_line, looks_text, on_text, StandsAt};
 ghost use Rattle.ytables.specs.Report.{item_front, item_back, item_text_at, line_for, action_line};
 ghost use Rattle.ytables.specs.Report.{goto_line, conflict_text_at, conflicts_text, rule_or_actions};
-ghost use Rattle.ytables.specs.Report.{cells_text, state_text, states_text, counts_text};
-ghost use Rattle.ytables.specs.Report.{tokens_part, unreachable_part, report_of};
+ghost use Rattle.ytables.specs.Report.{cells_text, state_text, counts_text};
+ghost use Rattle.ytables.specs.Report.{tokens_part, report_of};
 
 use crate::cell::{Action, Conflict};
 use crate::fault::TableFault;
 use crate::tables::Tables;
 use std::io::Write;
 use ylalr::{Item, token_count};
-use ylink::lines::{Lines, put_lines};
+use ylink::lines::{Lines, put_lines, put_list};
 use ylink::link::Link;
 use ylink::pieces::Piece::{Number, Words};
 use ylink::pieces::{END, put_pieces};
@@ -394,8 +394,8 @@ impl Lines for States<'_> {
     fn put_line<W: Write>(&self, link: &mut Link<W>, q: usize) -> Option<()> {
         let States(tables) = *self;
         let items = tables.automaton().items(q).len();
-        put_pieces(link, &[Words(b"State "), Number(q), END])?;
-        put_lines(link, &Items(tables, q), 0, items)?;
+        let title = [Words(b"State "), Number(q), END];
+        put_list(link, &title, &Items(tables, q), items)?;
         put_cells(link, tables, q)
     }
 }
@@ -408,10 +408,18 @@ fn put_counts<W: Write>(link: &mut Link<W>, tables: &Tables) -> Option<()>
     let states = Number(tables.automaton().states());
     let first = Number(counts.shift_reduce as usize);
     let second = Number(counts.reduce_reduce as usize);
-    put_pieces(link, &[Words(b"States "), states, END])?;
+    let words = Words(b"\nConflicts ");
     put_pieces(
         link,
-        &[Words(b"Conflicts "), first, Words(b" "), second, END],
+        &[
+            Words(b"States "),
+            states,
+            words,
+            first,
+            Words(b" "),
+            second,
+            END,
+        ],
     )
 }
 
@@ -422,31 +430,10 @@ fn put_tokens_part<W: Write>(link: &mut Link<W>, tables: &Tables) -> Option<()>
 {
     let grammar = tables.grammar();
     let tokens = token_count(grammar);
-    put(link, b"Tokens\n")?;
-    put_lines(link, &Tokens(grammar), 0, tokens)?;
-    put_states_part(link, tables)
-}
-
-/// The states, and their counts.
-fn put_states_part<W: Write>(link: &mut Link<W>, tables: &Tables) -> Option<()>
-    ensures { (u : Guide) → IsGuide tables.now.built u
-        → Sends W.contents link.old link.new (is_some result)
-        (states_text tables.now u ++ counts_text tables.now) }
-{
     let states = tables.automaton().states();
+    put_list(link, &[Words(b"Tokens\n")], &Tokens(grammar), tokens)?;
     put_lines(link, &States(tables), 0, states)?;
     put_counts(link, tables)
-}
-
-fn put_unreachable_part<W: Write>(link: &mut Link<W>, tables: &Tables) -> Option<()>
-    ensures { (u : Guide) → IsGuide tables.now.built u
-        → Sends W.contents link.old link.new (is_some result) (unreachable_part tables.now u) }
-{
-    let grammar = tables.grammar();
-    let rules = grammar.rules();
-    put(link, b"Unreachable\n")?;
-    put_lines(link, &Unreachable(grammar), 0, rules)?;
-    put_tokens_part(link, tables)
 }
 
 fn put_report<W: Write>(link: &mut Link<W>, tables: &Tables) -> Option<()>
@@ -455,9 +442,14 @@ fn put_report<W: Write>(link: &mut Link<W>, tables: &Tables) -> Option<()>
 {
     let grammar = tables.grammar();
     let rules = grammar.rules();
-    put(link, b"Rules\n")?;
-    put_lines(link, &Rules(grammar), 0, rules)?;
-    put_unreachable_part(link, tables)
+    put_list(link, &[Words(b"Rules\n")], &Rules(grammar), rules)?;
+    put_list(
+        link,
+        &[Words(b"Unreachable\n")],
+        &Unreachable(grammar),
+        rules,
+    )?;
+    put_tokens_part(link, tables)
 }
 
 impl Tables {

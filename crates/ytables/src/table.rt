@@ -6,8 +6,7 @@ ghost use Rattle.ylink.specs.Link.{device_of, has_failed};
 ghost use Rattle.ylink.specs.Sends.{Sends, Grows};
 ghost use Rattle.ytables.specs.Text.{count_line};
 ghost use Rattle.ytables.specs.Table.{symbol_line, rule_line, place_text, action_line, goto_line};
-ghost use Rattle.ytables.specs.Table.{rule_or_actions, state_lines, states_part};
-ghost use Rattle.ytables.specs.Table.{rules_part, table_of};
+ghost use Rattle.ytables.specs.Table.{rule_or_actions, state_lines, table_of};
 ghost use Rattle.ytables.specs.Tables.{action_at, default_at};
 ghost use Rattle.ytables.specs.declared.fault.TableFault.{TableFault};
 
@@ -16,7 +15,7 @@ use crate::fault::TableFault;
 use crate::tables::Tables;
 use std::io::Write;
 use ylalr::token_count;
-use ylink::lines::{Lines, put_lines};
+use ylink::lines::{Lines, put_lines, put_list};
 use ylink::link::Link;
 use ylink::pieces::Piece::{Number, Words};
 use ylink::pieces::{END, put_pieces};
@@ -192,33 +191,19 @@ impl Lines for States<'_> {
     }
 }
 
-fn put_states_part<W: Write>(link: &mut Link<W>, tables: &Tables) -> Option<()>
-    ensures { Sends W.contents link.old link.new (is_some result) (states_part tables.now) }
-{
-    let states = tables.automaton().states();
-    put_pieces(link, &[Words(b"states "), Number(states), END])?;
-    put_lines(link, &States(tables), 0, states)?;
-    put(link, b"end\n")
-}
-
-fn put_rules_part<W: Write>(link: &mut Link<W>, tables: &Tables) -> Option<()>
-    ensures { Sends W.contents link.old link.new (is_some result) (rules_part tables.now) }
-{
-    let grammar = tables.grammar();
-    let rules = grammar.rules();
-    put_pieces(link, &[Words(b"rules "), Number(rules), END])?;
-    put_lines(link, &Rules(grammar), 0, rules)?;
-    put_states_part(link, tables)
-}
-
 fn put_table<W: Write>(link: &mut Link<W>, tables: &Tables) -> Option<()>
     ensures { Sends W.contents link.old link.new (is_some result) (table_of tables.now) }
 {
     let grammar = tables.grammar();
-    let symbols = grammar.symbols();
-    put_pieces(link, &[Words(b"table 2\nsymbols "), Number(symbols), END])?;
-    put_lines(link, &Symbols(grammar), 0, symbols)?;
-    put_rules_part(link, tables)
+    let (symbols, rules) = (grammar.symbols(), grammar.rules());
+    let states = tables.automaton().states();
+    let title = [Words(b"table 2\nsymbols "), Number(symbols), END];
+    put_list(link, &title, &Symbols(grammar), symbols)?;
+    let title = [Words(b"rules "), Number(rules), END];
+    put_list(link, &title, &Rules(grammar), rules)?;
+    let title = [Words(b"states "), Number(states), END];
+    put_list(link, &title, &States(tables), states)?;
+    put(link, b"end\n")
 }
 
 impl Tables {

@@ -1,21 +1,34 @@
-use Rattle.std.proofs.Common.{length, arith}
-use Rattle.ytables.proofs.LineSteps.{first_cut, second_cut, three}
+use Rattle.std.proofs.Common.{codes, length}
+use Rattle.ytables.proofs.LineSteps.{list_cut, list_sent}
 use Rattle.ytables.proofs.report.put_report.Goals as goal
 
-pub returns-in_err-put : goal.returns-in_err-put
-returns-in_err-put g c = λ u h.
-    first_cut g.W.Write.contents _ _ _ _ _ c.from_residual.ensures c.in_err-put.ensures
+pub returns-in_err-put_list : goal.returns-in_err-put_list
+returns-in_err-put_list g c = λ u h.
+    list_cut g.W.Write.contents _ _ _ (codes "Rules\n") _ _ c.from_residual.ensures
+    (rw c.grammar-grammar.ensures at
+    (c.in_err-put_list.ensures tt (length c.args.tables.now.built.grammar.bare.rules)
+    (rw (c.rules-rules.ensures, c.grammar-grammar.ensures))))
 
-pub returns-in_err-put_lines : goal.returns-in_err-put_lines
-returns-in_err-put_lines g c = λ u h.
-    second_cut g.W.Write.contents _ _ _ _ _ _ _ c.from_residual-in_err-put_lines.ensures
-    c.in_ok-put.ensures
-    (rw c.grammar-grammar.ensures at (c.in_err-put_lines.ensures tt (length c.args.tables.now.built.grammar.bare.rules)
-    (rw (c.rules-rules.ensures, c.grammar-grammar.ensures) (omega arith))))
+pub returns-in_err-put_list-2 : goal.returns-in_err-put_list-2
+returns-in_err-put_list-2 g c = λ u h.
+    list_sent g.W.Write.contents _ _ _ _ (codes "Rules\n") _ _
+    (rw c.grammar-grammar.ensures at
+    (c.in_ok-put_list.ensures tt (length c.args.tables.now.built.grammar.bare.rules)
+    (rw (c.rules-rules.ensures, c.grammar-grammar.ensures))))
+    (list_cut g.W.Write.contents _ _ _ (codes "Unreachable\n") _ _
+    c.from_residual-in_err-put_list-2.ensures
+    (rw c.grammar-grammar.ensures at
+    (c.in_err-put_list-2.ensures tt (length c.args.tables.now.built.grammar.bare.rules)
+    (rw (c.rules-rules.ensures, c.grammar-grammar.ensures)))))
 
 pub returns : goal.returns
 returns g c = λ u h.
-    three g.W.Write.contents _ _ _ _ _ _ _ _ c.in_ok-put.ensures
-    (rw c.grammar-grammar.ensures at (c.in_ok-put_lines.ensures tt (length c.args.tables.now.built.grammar.bare.rules)
-    (rw (c.rules-rules.ensures, c.grammar-grammar.ensures) (omega arith))))
-    (c.put_unreachable_part.ensures u h)
+    list_sent g.W.Write.contents _ _ _ _ (codes "Rules\n") _ _
+    (rw c.grammar-grammar.ensures at
+    (c.in_ok-put_list.ensures tt (length c.args.tables.now.built.grammar.bare.rules)
+    (rw (c.rules-rules.ensures, c.grammar-grammar.ensures))))
+    (list_sent g.W.Write.contents _ _ _ _ (codes "Unreachable\n") _ _
+    (rw c.grammar-grammar.ensures at
+    (c.in_ok-put_list-2.ensures tt (length c.args.tables.now.built.grammar.bare.rules)
+    (rw (c.rules-rules.ensures, c.grammar-grammar.ensures))))
+    (c.put_tokens_part.ensures u h))
