@@ -1,6 +1,6 @@
 //! The text of the report.
 
-ghost use Rattle.std.specs.Prelude.{ℕ, ◌≡◌, ◌<◌, ◌≤◌, ◌++◌, All, codes, flat_map, is_some};
+ghost use Rattle.std.specs.Prelude.{◌≡◌, ◌<◌, ◌≤◌, ◌++◌, All, codes, is_some};
 ghost use Rattle.std.specs.Prelude.{is_ok, is_err, length, IfErr, slice_index_or};
 ghost use Rattle.ysymbols.specs.Grammar.{body_of};
 ghost use Rattle.ylalr.specs.Collection.{Guide, IsGuide, goto_in, state_of};
