@@ -4,8 +4,8 @@
     bench.py YACC YSTEP [FILE..]
 
 The grammars are those of bench/grammars, each at two sizes, and the files that are named. Each
-time is the least of three runs by the clock, each peak the most of them. A peak that this script's
-own memory hides is given as `under` that.
+time is the least of five runs by the clock, each peak the most of them; of fewer runs where they
+take over a minute. A peak that this script's own memory hides is given as `under` that.
 """
 import os
 import resource
@@ -18,6 +18,7 @@ from pathlib import Path
 
 HERE = Path(__file__).resolve().parent
 ENDLESS = "%left 'x' %left HI %% s : e s | 'x' ; e : %prec HI ;\n"
+RUNS = 5
 STEPS = (2_000, 10_000, 100_000, 1_000_000)
 
 
@@ -32,17 +33,27 @@ def run(words, room, commands, out, errors):
     for file in files.values():
         file.close()
     if process.returncode:
-        sys.exit(f"{words}: status {process.returncode}")
+        raise subprocess.CalledProcessError(process.returncode, words)
     return taken, usage.ru_maxrss
 
 
 def timed(words, room, commands=os.devnull, out=os.devnull, errors=os.devnull):
-    """The least time and the peak of three runs, as text."""
-    runs = [run(words, room, commands, out, errors) for _ in range(3)]
+    """The least time and the peak of five runs, as text; of fewer where they take over a minute."""
+    runs = []
+    while len(runs) < RUNS and sum(taken for taken, _ in runs) < 60:
+        runs.append(run(words, room, commands, out, errors))
     own = resource.getrusage(resource.RUSAGE_SELF).ru_maxrss
     peak = max(peak for _, peak in runs)
     shown = f"at most {peak / 1024:.1f} MB" if peak > own else f"under {own / 1024:.0f} MB"
     return f"{min(taken for taken, _ in runs) * 1000:.1f} ms, {shown}"
+
+
+def timed_or_ended(words, room):
+    """The same of another program, or how it ended."""
+    try:
+        return timed(words, room)
+    except subprocess.CalledProcessError as error:
+        return f"ends with status {error.returncode}"
 
 
 def tell_tables(yacc, file, room):
@@ -51,7 +62,7 @@ def tell_tables(yacc, file, room):
     print(f"yacc -v: {timed([yacc, '-v', file], room)}")
     for words in (["byacc", "-v"], ["bison", "-y", "-v"]):
         if shutil.which(words[0]):
-            print(f"{' '.join(words)}: {timed([*words, file], room)}")
+            print(f"{' '.join(words)}: {timed_or_ended([*words, file], room)}", flush=True)
 
 
 def tell_all_tables(yacc, files, room):

@@ -133,10 +133,24 @@ def one_empty(n):
     return declared(["WORD"], n) + start + rules_of("b", ["LAST LAST"] * n)
 
 
+def nullable(n):
+    """N bodies of 250 symbols for each of eight nonterminals, where each symbol can be left out, in 2,000 states, and 4,000 tokens."""
+    bodies = [" ".join([f"n{k}"] + ["a"] * 249) for k in range(8) for _ in range(n)]
+    rules = rules_of("s", ["a"]) + rules_of("a", [""] + bodies)
+    return declared(["WORD"], 4000) + rules + "".join(rules_of(f"n{k}", [""]) for k in range(8))
+
+
+def equals(n):
+    """N binary operators without precedence, each with eight equal rules, and 4,000 tokens."""
+    bodies = [f"e OP{k} e" for k in range(n) for _ in range(8)]
+    return declared(["OP"], 4000) + rules_of("e", ["LAST"] + bodies)
+
+
 KINDS = {
     "levels": levels, "statements": statements, "options": options, "ring": ring, "ring-back": ring_back,
     "ring-mixed": ring_mixed, "limit": limit, "symbols": symbols, "text": text, "queries": queries,
     "zigzag": zigzag, "web": web, "empties": empties, "operators": operators, "one-empty": one_empty,
+    "nullable": nullable, "equals": equals,
 }
 
 if __name__ == "__main__":
