@@ -16,7 +16,9 @@ use crate::stepper::StepperFault;
 use std::io::Write;
 use ygrammar::GrammarFault;
 use ylalr::BuildFault;
-use ylink::put::{put, put_all};
+use ylink::pieces::Piece::{Number, Words};
+use ylink::pieces::{END, put_pieces};
+use ylink::put::put;
 use yparse::TokenFault;
 use ytables::{Counts, Link};
 use ywords::arguments::{YaccWords, YstepWords};
@@ -52,49 +54,23 @@ impl Program {
     }
 
     /// Writes a message, with a place where it has one. `None` where the link failed.
-    fn say<E: Write>(
+    fn say<'a, E: Write>(
         self,
         link: &mut Link<E>,
-        what: &[u8],
-        at: &[u8],
+        what: &'a [u8],
+        at: &'a [u8],
         number: Option<usize>,
     ) -> Option<()>
         ensures { Sends E.contents link.old link.new (is_some result)
             (message_line self what.now at.now number) }
     {
-        let Some(number) = number else {
-            return put_line(link, self.name(), b": ", what);
-        };
-        let mut buffer = itoa::Buffer::new();
-        let digits = buffer.format(number).as_bytes();
-        put_numbered(link, self.name(), what, at, digits)
+        let name = Words(self.name());
+        let (between, what) = (Words(b": "), Words(what));
+        match number {
+            Some(n) => put_pieces(link, &[name, between, what, Words(at), Number(n), END]),
+            None => put_pieces(link, &[name, between, what, END]),
+        }
     }
-}
-
-/// Writes three pieces and a newline.
-fn put_line<'a, E: Write>(
-    link: &mut Link<E>,
-    name: &'a [u8],
-    between: &'a [u8],
-    what: &'a [u8],
-) -> Option<()>
-    ensures { Sends E.contents link.old link.new (is_some result)
-        (name.now ++ (between.now ++ (what.now ++ codes "\n"))) }
-{
-    put_all(link, &[name, between, what, b"\n"])
-}
-
-/// Writes that the file of this prefix and ending can't be written.
-fn put_unwritten<'a, E: Write>(
-    link: &mut Link<E>,
-    name: &'a [u8],
-    prefix: &'a [u8],
-    ending: &'a [u8],
-) -> Option<()>
-    ensures { Sends E.contents link.old link.new (is_some result)
-        (name.now ++ (codes ": cannot write " ++ (prefix.now ++ (ending.now ++ codes "\n")))) }
-{
-    put_all(link, &[name, b": cannot write ", prefix, ending, b"\n"])
 }
 
 /// Writes the help text; where the link fails, nothing more is said.
@@ -119,45 +95,11 @@ pub(crate) fn put_conflicts<E: Write>(link: &mut Link<E>, counts: Counts) -> Opt
     if is_free(counts) {
         return Some(());
     }
-    let mut first = itoa::Buffer::new();
-    let mut second = itoa::Buffer::new();
-    put_counts(
-        link,
-        first.format(counts.shift_reduce).as_bytes(),
-        second.format(counts.reduce_reduce).as_bytes(),
-    )
-}
-
-/// Writes that line, with its two counts.
-fn put_counts<'a, E: Write>(link: &mut Link<E>, first: &'a [u8], second: &'a [u8]) -> Option<()>
-    ensures { Sends E.contents link.old link.new (is_some result)
-        (codes "conflicts: " ++ (first.now ++ (codes " shift/reduce, "
-        ++ (second.now ++ codes " reduce/reduce\n")))) }
-{
-    put_all(
-        link,
-        &[
-            b"conflicts: ",
-            first,
-            b" shift/reduce, ",
-            second,
-            b" reduce/reduce\n",
-        ],
-    )
-}
-
-/// Writes a name, what is said, and the number of a place.
-fn put_numbered<'a, E: Write>(
-    link: &mut Link<E>,
-    name: &'a [u8],
-    what: &'a [u8],
-    at: &'a [u8],
-    digits: &'a [u8],
-) -> Option<()>
-    ensures { Sends E.contents link.old link.new (is_some result)
-        (name.now ++ (codes ": " ++ (what.now ++ (at.now ++ (digits.now ++ codes "\n"))))) }
-{
-    put_all(link, &[name, b": ", what, at, digits, b"\n"])
+    let first = Number(counts.shift_reduce as usize);
+    let second = Number(counts.reduce_reduce as usize);
+    let between = Words(b" shift/reduce, ");
+    let end = Words(b" reduce/reduce\n");
+    put_pieces(link, &[Words(b"conflicts: "), first, between, second, end])
 }
 
 /// Why a program ends before its work is done.
@@ -303,10 +245,13 @@ impl<'a> Trouble<'a> {
             Trouble::TooManySets => program.say(link, b"B1", b"", None),
             Trouble::NoMemory => program.say(link, b"no memory", b"", None),
             Trouble::CannotRead(path) => {
-                put_line(link, program.name(), b": cannot read ", path.as_bytes())
+                let (name, path) = (Words(program.name()), Words(path.as_bytes()));
+                put_pieces(link, &[name, Words(b": cannot read "), path, END])
             }
             Trouble::CannotWrite(prefix, ending) => {
-                put_unwritten(link, program.name(), prefix.as_bytes(), ending.as_bytes())
+                let (name, prefix) = (Words(program.name()), Words(prefix.as_bytes()));
+                let ending = Words(ending.as_bytes());
+                put_pieces(link, &[name, Words(b": cannot write "), prefix, ending, END])
             }
             Trouble::Session(fault) => program.say(link, session_word(*fault), b"", None),
         }

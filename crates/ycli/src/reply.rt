@@ -4,6 +4,7 @@ ghost use Rattle.std.specs.Prelude.{◌≡◌, true, false, if◌then◌else◌,
 ghost use Rattle.std.specs.Prelude.{Some, drop, ◌∷◌, ◌++◌, codes};
 ghost use Rattle.ycli.specs.Command as commands;
 ghost use Rattle.ylink.specs.Link.{has_failed};
+ghost use Rattle.ylink.specs.Pieces.{text_of};
 ghost use Rattle.ylink.specs.Sends.{Sends};
 ghost use Rattle.ymachine.specs.Past.{position};
 ghost use Rattle.yparse.specs.Session.{machine_of, history_of};
@@ -16,7 +17,9 @@ ghost use Rattle.ycli.specs.Reply.{Answers, edit_text};
 use crate::command::Command;
 use std::io::Write;
 use ygrammar::Sym;
-use ylink::put::{put, put_all};
+use ylink::pieces::Piece::{Number, Words};
+use ylink::pieces::{END, Piece, put_pieces};
+use ylink::put::put;
 use yparse::Session;
 use yparse::machine::{AtStart, Mode, StepFault, StepKind, UnwindFault};
 use ytables::Link;
@@ -64,52 +67,37 @@ fn refusal(made: bool, fault: StepFault) -> &'static [u8]
 }
 
 /// The name or the rule number that follows the words of a step, where one does.
-fn kind_tail<'a>(session: &'a Session, kind: StepKind, digits: &'a mut itoa::Buffer) -> &'a [u8]
-    ensures { result.now ≡ kind_tail (machine_of session.now) kind }
+fn kind_tail(session: &Session, kind: StepKind) -> Piece<'_>
+    ensures { text_of result ≡ kind_tail (machine_of session.now) kind }
 {
     match kind {
-        StepKind::Shift(symbol) => session.name(symbol),
-        StepKind::Pop(symbol) => session.name(symbol),
-        StepKind::Discard(symbol) => session.name(symbol),
-        StepKind::Reduce(rule) => digits.format(rule).as_bytes(),
-        StepKind::Accept => b"",
-        StepKind::Detect => b"",
-        StepKind::ShiftError => b"",
-        StepKind::Fail => b"",
-        StepKind::Insert(symbol) => session.name(symbol),
-        StepKind::Drop(symbol) => session.name(symbol),
+        StepKind::Shift(symbol) => Words(session.name(symbol)),
+        StepKind::Pop(symbol) => Words(session.name(symbol)),
+        StepKind::Discard(symbol) => Words(session.name(symbol)),
+        StepKind::Reduce(rule) => Number(rule),
+        StepKind::Accept => Words(b""),
+        StepKind::Detect => Words(b""),
+        StepKind::ShiftError => Words(b""),
+        StepKind::Fail => Words(b""),
+        StepKind::Insert(symbol) => Words(session.name(symbol)),
+        StepKind::Drop(symbol) => Words(session.name(symbol)),
     }
 }
 
-/// Writes four pieces and a newline.
-fn put_line<'a, W: Write>(
-    writer: &mut Link<W>,
-    at: &'a [u8],
-    between: &'a [u8],
-    words: &'a [u8],
-    tail: &'a [u8],
-) -> Option<()>
-    ensures { Sends W.contents writer.old writer.new (is_some result)
-        (at.now ++ (between.now ++ (words.now ++ (tail.now ++ codes "\n")))) }
-{
-    put_all(writer, &[at, between, words, tail, b"\n"])
-}
-
 /// Writes the position, what stands between, and the words of a step.
-fn put_step<W: Write>(
-    session: &Session,
+fn put_step<'a, W: Write>(
+    session: &'a Session,
     writer: &mut Link<W>,
-    between: &[u8],
+    between: &'a [u8],
     kind: StepKind,
 ) -> Option<()>
     ensures { Sends W.contents writer.old writer.new (is_some result)
         (step_line (machine_of session.now) (position (history_of session.now)) between.now kind) }
 {
-    let mut at = itoa::Buffer::new();
-    let mut rule = itoa::Buffer::new();
-    let digits = at.format(session.position()).as_bytes();
-    let tail = kind_tail(session, kind, &mut rule);
-    put_line(writer, digits, between, kind_word(kind), tail)
+    let at = Number(session.position());
+    let words = Words(kind_word(kind));
+    let tail = kind_tail(session, kind);
+    put_pieces(writer, &[at, Words(between), words, tail, END])
 }
 
 /// Makes at most so many steps, and writes a line for each, and the reason where there are fewer.
@@ -169,12 +157,9 @@ fn put_head<W: Write>(session: &Session, writer: &mut Link<W>) -> Option<()>
     ensures { Sends W.contents writer.old writer.new (is_some result)
         (head_text (history_of session.now)) }
 {
-    let mut at = itoa::Buffer::new();
-    let digits = at.format(session.position()).as_bytes();
-    put_all(
-        writer,
-        &[digits, b" ", mode_word(session.view().mode()), b"\nstack:"],
-    )
+    let at = Number(session.position());
+    let mode = Words(mode_word(session.view().mode()));
+    put_pieces(writer, &[at, Words(b" "), mode, Words(b"\nstack:")])
 }
 
 /// Writes a space and a name.
@@ -182,7 +167,7 @@ fn put_name<W: Write>(session: &Session, writer: &mut Link<W>, symbol: Sym) -> O
     ensures { Sends W.contents writer.old writer.new (is_some result)
         (codes " " ++ (machine_of session.now).name symbol) }
 {
-    put_all(writer, &[b" ", session.name(symbol)])
+    put_pieces(writer, &[Words(b" "), Words(session.name(symbol))])
 }
 
 /// Writes the symbols of the stack, from the bottom.
@@ -216,14 +201,10 @@ fn put_errors<W: Write>(session: &Session, writer: &mut Link<W>) -> Option<()>
         (errors_text (history_of session.now)) }
 {
     let view = session.view();
-    let mut counter = itoa::Buffer::new();
-    let mut errors = itoa::Buffer::new();
-    let counter = counter.format(view.counter()).as_bytes();
-    let errors = errors.format(view.errors()).as_bytes();
-    put_all(
-        writer,
-        &[b"\ncounter: ", counter, b"\nerrors: ", errors, b"\n"],
-    )
+    let counter = Number(view.counter());
+    let errors = Number(view.errors());
+    let between = Words(b"\nerrors: ");
+    put_pieces(writer, &[Words(b"\ncounter: "), counter, between, errors, END])
 }
 
 /// Writes the five lines of the configuration now.
