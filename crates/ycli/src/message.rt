@@ -251,7 +251,10 @@ impl<'a> Trouble<'a> {
             Trouble::CannotWrite(prefix, ending) => {
                 let (name, prefix) = (Words(program.name()), Words(prefix.as_bytes()));
                 let ending = Words(ending.as_bytes());
-                put_pieces(link, &[name, Words(b": cannot write "), prefix, ending, END])
+                put_pieces(
+                    link,
+                    &[name, Words(b": cannot write "), prefix, ending, END],
+                )
             }
             Trouble::Session(fault) => program.say(link, session_word(*fault), b"", None),
         }

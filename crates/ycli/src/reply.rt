@@ -19,7 +19,7 @@ use std::io::Write;
 use ygrammar::Sym;
 use ylink::pieces::Piece::{Number, Words};
 use ylink::pieces::{END, Piece, put_pieces};
-use ylink::put::put;
+use ylink::put::{put, put_all};
 use yparse::Session;
 use yparse::machine::{AtStart, Mode, StepFault, StepKind, UnwindFault};
 use ytables::Link;
@@ -167,7 +167,7 @@ fn put_name<W: Write>(session: &Session, writer: &mut Link<W>, symbol: Sym) -> O
     ensures { Sends W.contents writer.old writer.new (is_some result)
         (codes " " ++ (machine_of session.now).name symbol) }
 {
-    put_pieces(writer, &[Words(b" "), Words(session.name(symbol))])
+    put_all(writer, &[b" ", session.name(symbol)])
 }
 
 /// Writes the symbols of the stack, from the bottom.
@@ -204,7 +204,10 @@ fn put_errors<W: Write>(session: &Session, writer: &mut Link<W>) -> Option<()>
     let counter = Number(view.counter());
     let errors = Number(view.errors());
     let between = Words(b"\nerrors: ");
-    put_pieces(writer, &[Words(b"\ncounter: "), counter, between, errors, END])
+    put_pieces(
+        writer,
+        &[Words(b"\ncounter: "), counter, between, errors, END],
+    )
 }
 
 /// Writes the five lines of the configuration now.

@@ -75,9 +75,12 @@ fn stands<E: Write>(
     imported: &Imported,
     opened: Opened,
 ) -> io::Result<Result<Opened, u8>> {
-    match look_at(alloc, errors, path, imported, &opened.tables)? {
-        0 => Ok(Ok(opened)),
-        status => Ok(Err(status)),
+    match look_at(alloc, errors, path, imported, &opened.tables) {
+        Ok(0) => Ok(Ok(opened)),
+        status => {
+            drop(opened);
+            status.map(Err)
+        }
     }
 }
 
@@ -104,8 +107,9 @@ fn try_out<E: Write>(
 ) -> io::Result<u8> {
     match open_bytes(alloc, &imported.text) {
         Ok(opened) => {
-            let Opened { tables, .. } = &opened;
-            look_at(alloc, errors, path, imported, tables)
+            let status = look_at(alloc, errors, path, imported, &opened.tables);
+            drop(opened);
+            status
         }
         Err(trouble) => put_unopened(errors, alloc, path, imported, &trouble),
     }

@@ -161,7 +161,10 @@ fn cards_over(alloc: Global, session: &mut Session, lines: &Lines) -> io::Result
 fn cards_in(alloc: Global, opened: Opened) -> io::Result<Cards> {
     let Opened { tables, lines } = opened;
     let mut session = empty_session(alloc, tables);
-    cards_over(alloc, &mut session, &lines)
+    let cards = cards_over(alloc, &mut session, &lines);
+    drop(session);
+    drop(lines);
+    cards
 }
 
 /// The cards of a grammar file, which was opened before. Where it is refused now, that is written,

@@ -176,6 +176,24 @@ fn put_parse<F: Files + AllocGlobal, S: Opens, W: Write, E: Write>(
     }
 }
 
+/// Opens a parse and writes its page, and gives the exit status.
+fn open_parse<F: Files + AllocGlobal, S: Opens, W: Write, E: Write>(
+    rt: &F,
+    source: &S,
+    asked: Asked<'_>,
+    out: &mut W,
+    errors: &mut E,
+) -> io::Result<u8> {
+    match source.open(errors)? {
+        Ok(mut parse) => {
+            let status = put_parse(rt, source, asked, &mut parse, out, errors);
+            drop(parse);
+            status
+        }
+        Err(status) => Ok(status),
+    }
+}
+
 /// Writes the page that is asked for, and gives the exit status: 0; 1 where a file is refused,
 /// there are more steps than a page shows, or the parse ends before the part; 2 where the part
 /// ends before it begins; 3 where a file can't be read or written, there are too many states, or
@@ -188,14 +206,11 @@ pub fn run_page<F: Files + AllocGlobal, S: Opens, W: Write, E: Write>(
     errors: &mut E,
 ) -> io::Result<u8> {
     let from = asked.part.from;
-    if let Some(to) = asked.part.to {
-        if to < from {
+    match asked.part.to {
+        Some(to) if to < from => {
             writeln!(errors, "ydebug: --to {to} stands before --from {from}")?;
-            return Ok(2);
+            Ok(2)
         }
-    }
-    match source.open(errors)? {
-        Ok(mut parse) => put_parse(rt, source, asked, &mut parse, out, errors),
-        Err(status) => Ok(status),
+        _ => open_parse(rt, source, asked, out, errors),
     }
 }

@@ -30,8 +30,13 @@ struct Resumed {
 /// A session at its start.
 fn session_of(alloc: Global, worked: Worked) -> Result<Session, Fail> {
     let tables = tables_of(alloc, worked.grammar)?;
-    let tokens = read_tokens(alloc, &tables, worked.tokens)?;
-    Ok(Session::new(alloc, tables, tokens))
+    match read_tokens(alloc, &tables, worked.tokens) {
+        Ok(tokens) => Ok(Session::new(alloc, tables, tokens)),
+        Err(fault) => {
+            drop(tables);
+            Err(Fail::from(fault))
+        }
+    }
 }
 
 /// Makes all steps, and answers how many.

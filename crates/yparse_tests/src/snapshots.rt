@@ -49,8 +49,13 @@ fn journal_of(
     tokens: &[u8],
 ) -> Result<Journal<SnapshotParser>, Fail> {
     let tables = tables_of(alloc, grammar)?;
-    let tokens = read_tokens(alloc, &tables, tokens)?;
-    Ok(Journal::new(alloc, SnapshotParser::new(alloc, tables, tokens)))
+    match read_tokens(alloc, &tables, tokens) {
+        Ok(tokens) => Ok(Journal::new(alloc, SnapshotParser::new(alloc, tables, tokens))),
+        Err(fault) => {
+            drop(tables);
+            Err(Fail::from(fault))
+        }
+    }
 }
 
 fn last_is(journal: &Journal<SnapshotParser>, kind: Kind) -> bool {
@@ -112,10 +117,16 @@ fn gives(journal: &mut Journal<SnapshotParser>, turn: Turn) -> bool {
     }
 }
 
+fn gives_all(journal: &mut Journal<SnapshotParser>, turns: &[Turn]) -> bool {
+    turns.iter().all(|turn| gives(journal, *turn))
+}
+
 /// Whether all turns over these texts give what they say.
 fn goes(alloc: Global, (grammar, tokens): (&[u8], &[u8]), turns: &[Turn]) -> Result<bool, Fail> {
     let mut journal = journal_of(alloc, grammar, tokens)?;
-    Ok(turns.iter().all(|turn| gives(&mut journal, *turn)))
+    let all = gives_all(&mut journal, turns);
+    drop(journal);
+    Ok(all)
 }
 
 /// The steps over a spoiled number, of which the second token is discarded, up to the next number.

@@ -40,6 +40,30 @@ pub fn open_file<F: Files + AllocGlobal, E: Write>(
     }
 }
 
+/// What is done with a grammar file that is open.
+pub trait UsesGrammar {
+    /// Does it, and gives the exit status.
+    fn use_grammar<E: Write>(&mut self, opened: &Opened, errors: &mut E) -> io::Result<u8>;
+}
+
+/// Opens a grammar file, and uses its tables; or says why it is refused. The exit status is the
+/// answer.
+pub fn with_grammar<F: Files + AllocGlobal, U: UsesGrammar, E: Write>(
+    rt: &F,
+    file: GrammarFile<'_>,
+    user: &mut U,
+    errors: &mut E,
+) -> io::Result<u8> {
+    match open_file(rt, file, errors)? {
+        Ok(opened) => {
+            let status = user.use_grammar(&opened, errors);
+            drop(opened);
+            status
+        }
+        Err(status) => Ok(status),
+    }
+}
+
 /// Which symbols stand in the body of a rule.
 pub fn used_in(alloc: Global, grammar: &Grammar) -> Result<Vec<bool>, AllocError> {
     let mut used = vec![in alloc; false; grammar.symbols()]?;

@@ -32,6 +32,8 @@ fn session_of(alloc: Global, tables: Tables, tokens: Tokens) -> Option<Session> 
     if tokens.fits(&tables) {
         Some(Session::new(alloc, tables, tokens))
     } else {
+        drop(tables);
+        drop(tokens);
         None
     }
 }

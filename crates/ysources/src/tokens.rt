@@ -1,7 +1,7 @@
 //! `ydebug tokens`: the tokens of a text as a tokens file.
 
 use crate::cut::{Cut, cut_file};
-use crate::grammars::{GrammarFile, SpecFile, open_file};
+use crate::grammars::{GrammarFile, SpecFile, UsesGrammar, with_grammar};
 use std::io::{self, Write};
 use std::rt::Files;
 use yexplain::reads::grammar_of;
@@ -54,23 +54,39 @@ fn put_file<F: Files + AllocGlobal, W: Write, E: Write>(
     Ok(status)
 }
 
+/// A text whose tokens are written.
+#[derive(Drop)]
+struct Cutting<'a, F, W> {
+    rt: &'a F,
+    out: &'a mut W,
+    spec: SpecFile<'a>,
+    path: &'a str,
+}
+
+impl<F: Files + AllocGlobal, W: Write> UsesGrammar for Cutting<'_, F, W> {
+    fn use_grammar<E: Write>(&mut self, opened: &Opened, errors: &mut E) -> io::Result<u8> {
+        put_file(self.rt, self.out, errors, opened, self.spec, self.path)
+    }
+}
+
 /// Writes a tokens file of a text that a SPEC cuts, and gives the exit status: 1 where the grammar,
 /// the SPEC or the text is refused, 3 where one can't be read or memory runs out.
-pub fn run_tokens<F: Files + AllocGlobal, W: Write, E: Write>(
-    rt: &F,
-    file: GrammarFile<'_>,
-    (spec, path): (&str, &str),
-    out: &mut W,
+pub fn run_tokens<'a, F: Files + AllocGlobal, W: Write, E: Write>(
+    rt: &'a F,
+    file: GrammarFile<'a>,
+    (spec, path): (&'a str, &'a str),
+    out: &'a mut W,
     errors: &mut E,
 ) -> io::Result<u8> {
-    match open_file(rt, file, errors)? {
-        Ok(opened) => {
-            let spec = SpecFile {
-                path: spec,
-                grammar: file.path,
-            };
-            put_file(rt, out, errors, &opened, spec, path)
-        }
-        Err(status) => Ok(status),
-    }
+    let spec = SpecFile {
+        path: spec,
+        grammar: file.path,
+    };
+    let mut cutting = Cutting {
+        rt,
+        out,
+        spec,
+        path,
+    };
+    with_grammar(rt, file, &mut cutting, errors)
 }
