@@ -40,7 +40,11 @@ fn tokens_at(rt: &HostRuntime, tables: &Tables, path: &str) -> Option<Tokens> {
 fn parse_file(rt: &HostRuntime, tables: Tables, path: &str) -> bool {
     match tokens_at(rt, &tables, path) {
         Some(tokens) if tokens.fits(&tables) => parse_all(rt, tables, tokens),
-        _ => false,
+        others => {
+            drop(tables);
+            drop(others);
+            false
+        }
     }
 }
 

@@ -282,5 +282,8 @@ pub fn debug<F: Files + AllocGlobal, S: Opens, R: Read + Drop, W: Write + Drop>(
         parse,
         last: None,
     };
-    serve_all(&mut desk, &mut page, reader)
+    let ended = serve_all(&mut desk, &mut page, reader);
+    drop(desk);
+    drop(page);
+    ended
 }
