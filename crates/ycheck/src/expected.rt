@@ -26,12 +26,18 @@ pub enum Answer {
 
 /// The tokens that can come, and those of which it takes too many reductions to tell: more than
 /// 100,000 for one token, or 10,000,000 for all that were tried up to it.
-#[derive(Drop)]
 pub struct Wanted {
     /// The tokens that can come, by number.
     pub can: Vec<Sym>,
     /// The tokens that take too many reductions, by number.
     pub unknown: Vec<Sym>,
+}
+
+impl Drop for Wanted {
+    // A call in each owner, which keeps their proofs short.
+    fn drop(self) {
+        let Wanted { can: _, unknown: _ } = self;
+    }
 }
 
 /// A stack of states that is tried: some of those given, and others above them; and how many more

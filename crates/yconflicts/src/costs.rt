@@ -132,11 +132,6 @@ fn set<T: Copy>(entries: &mut [T], place: usize, value: T) {
     }
 }
 
-/// The length of a token.
-fn token_length(token: Sym) -> u64 {
-    if token == ERROR { ERROR_LENGTH } else { 1 }
-}
-
 /// What is known before any length: how many symbols each body has.
 fn first_parts(
     alloc: Global,
@@ -234,7 +229,7 @@ impl Making {
     /// The lengths of the tokens.
     fn settle_tokens(&mut self, grammar: &Grammar, places: &Lists<Item>) -> Result<(), AllocError> {
         for token in 0..grammar.symbols() {
-            let length = token_length(token);
+            let length = if token == ERROR { ERROR_LENGTH } else { 1 };
             if grammar.is_token(token) && self.note(token, length, Digest::of(token), 0) {
                 self.spread(places.of(token), length)?;
             }

@@ -76,7 +76,6 @@ struct Stretch {
 }
 
 /// A search for the ways to a cell.
-#[derive(Drop)]
 pub struct Search {
     token: Sym,
     /// How often a spot may be left: as many ways are found.
@@ -93,8 +92,24 @@ pub struct Search {
     needs: Vec<Need>,
 }
 
+impl Drop for Search {
+    // A call in each owner, which keeps their proofs short.
+    fn drop(self) {
+        let Search {
+            token: _,
+            tries: _,
+            left: _,
+            nodes: _,
+            queue: _,
+            met: _,
+            seen: _,
+            opened: _,
+            needs: _,
+        } = self;
+    }
+}
+
 /// What searches in one automaton share.
-#[derive(Drop)]
 pub struct Finder {
     alloc: Global,
     places: Lists<Item>,
@@ -106,6 +121,22 @@ pub struct Finder {
     /// How many spots searches for one way may still meet, and those for several.
     left: usize,
     left_for_several: usize,
+}
+
+impl Drop for Finder {
+    // A call in each owner, which keeps their proofs short.
+    fn drop(self) {
+        let Finder {
+            alloc: _,
+            places: _,
+            rules: _,
+            shortest: _,
+            moves: _,
+            needs: _,
+            left: _,
+            left_for_several: _,
+        } = self;
+    }
 }
 
 /// How many spots a search may meet: a part of those that may still be met.

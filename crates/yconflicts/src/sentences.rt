@@ -20,11 +20,6 @@ pub struct Sentences {
     left: usize,
 }
 
-/// Where the first nonterminal of a form stands.
-fn first_nonterminal(grammar: &Grammar, form: &[Sym]) -> Option<usize> {
-    form.iter().position(|symbol| !grammar.is_token(*symbol))
-}
-
 /// A form in which other symbols stand for the one at a place.
 fn replaced(
     alloc: Global,
@@ -83,7 +78,8 @@ impl Sentences {
             Some(form) => form.clone()?,
             None => return Ok(None),
         };
-        match first_nonterminal(grammar, &form) {
+        // the first nonterminal
+        match form.iter().position(|symbol| !grammar.is_token(*symbol)) {
             Some(place) => {
                 self.expand(alloc, finder, grammar, &form, place)?;
                 Ok(None)

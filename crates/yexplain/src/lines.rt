@@ -39,19 +39,38 @@ struct Begun {
 }
 
 /// Where the rules and symbols of a grammar stand in its file.
-#[derive(Drop)]
 pub struct Lines {
     rules: Vec<Begun>,
     mentions: Vec<Mention>,
 }
 
+impl Drop for Lines {
+    // A call in each owner, which keeps their proofs short.
+    fn drop(self) {
+        let Lines {
+            rules: _,
+            mentions: _,
+        } = self;
+    }
+}
+
 /// What stands in a file, in its order.
-#[derive(Drop)]
 struct Places {
     starts: Vec<Start>,
     /// The lines of the texts in braces.
     actions: Vec<usize>,
     mentions: Vec<Mention>,
+}
+
+impl Drop for Places {
+    // A call in each owner, which keeps their proofs short.
+    fn drop(self) {
+        let Places {
+            starts: _,
+            actions: _,
+            mentions: _,
+        } = self;
+    }
 }
 
 /// The symbol that a lexeme names.

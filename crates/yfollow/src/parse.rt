@@ -9,13 +9,25 @@ use ytables::Tables;
 
 /// A session, what was done in it, the lines of its grammar's file, how many tokens its own file
 /// has, and that file, where it is a text.
-#[derive(Drop)]
 pub struct Parse {
     session: Session,
     lines: Lines,
     past: Vec<StepKind>,
     tokens: usize,
     text: Option<Text>,
+}
+
+impl Drop for Parse {
+    // A call in each owner, which keeps their proofs short.
+    fn drop(self) {
+        let Parse {
+            session: _,
+            lines: _,
+            past: _,
+            tokens: _,
+            text: _,
+        } = self;
+    }
 }
 
 impl Parse {

@@ -4,7 +4,6 @@ use yexplain::roles::newlines;
 use yfaults::shown::Place;
 
 /// A text from which tokens were read.
-#[derive(Drop)]
 pub struct Text {
     /// Its path.
     pub path: String,
@@ -14,6 +13,18 @@ pub struct Text {
     pub places: Vec<usize>,
     /// How many of them stand before what follows the last token.
     pub end: usize,
+}
+
+impl Drop for Text {
+    // A call in each owner, which keeps their proofs short.
+    fn drop(self) {
+        let Text {
+            path: _,
+            bytes: _,
+            places: _,
+            end: _,
+        } = self;
+    }
 }
 
 /// What counts lines and columns, for one place behind the other.

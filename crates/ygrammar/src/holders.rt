@@ -150,12 +150,21 @@ fn first_at_fault(listed: &[Listed], fault: Option<usize>, holders: &[Holders]) 
 }
 
 /// The numbers that tokens have by themselves, and who holds each number.
-#[derive(Drop)]
 pub struct OwnTable {
     /// For each token, the number that it has by itself.
     pub numbers: Vec<Option<u32>>,
     /// For each number, the tokens that have it by themselves.
     pub holders: Vec<Holders>,
+}
+
+impl Drop for OwnTable {
+    // A call in each owner, which keeps their proofs short.
+    fn drop(self) {
+        let OwnTable {
+            numbers: _,
+            holders: _,
+        } = self;
+    }
 }
 
 /// The numbers that the tokens have by themselves. The mistake in them is the first number that is

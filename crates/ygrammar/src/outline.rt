@@ -41,7 +41,6 @@ pub struct Started<'a> {
 }
 
 /// What stands in a file, list by list, each in the order of the file.
-#[derive(Drop)]
 pub struct Outline<'a> {
     /// The tokens that are listed.
     pub listed: Vec<Listed<'a>>,
@@ -57,6 +56,21 @@ pub struct Outline<'a> {
     pub used: Vec<Occurrence<'a>>,
     /// The names and literals behind `%prec`.
     pub precs: Vec<Occurrence<'a>>,
+}
+
+impl Drop for Outline<'_> {
+    // A call in each owner, which keeps their proofs short.
+    fn drop(self) {
+        let Outline {
+            listed: _,
+            starts: _,
+            typed: _,
+            declared: _,
+            lefts: _,
+            used: _,
+            precs: _,
+        } = self;
+    }
 }
 
 /// Adds the tokens of a line.

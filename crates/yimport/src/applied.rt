@@ -29,11 +29,6 @@ fn after_spaces(bytes: &[u8]) -> &[u8] {
     bytes.get(spaces..).unwrap_or(&[])
 }
 
-/// Whether a line ends at the front.
-fn ends_line(bytes: &[u8]) -> bool {
-    matches!(bytes, [b'\n', ..] | [b'\r', b'\n', ..])
-}
-
 impl<'a> Page<'a> {
     /// The bytes of the file from one place to another.
     fn part(&self, from: usize, to: usize) -> &'a [u8] {
@@ -49,7 +44,7 @@ impl<'a> Page<'a> {
         } else {
             part
         };
-        if self.passing && ends_line(kept) {
+        if self.passing && matches!(kept, [b'\n', ..] | [b'\r', b'\n', ..]) {
             self.drop_spaces();
         }
         self.out.extend_from_slice(kept)?;

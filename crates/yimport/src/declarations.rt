@@ -7,11 +7,6 @@ use yforeign::directive::Directive;
 use yforeign::lexeme::{Kind, Lexeme};
 use yforeign::numbers::number_of;
 
-/// Whether a name is that of a skeleton for another kind of parser.
-fn names_other_parser(name: &[u8]) -> bool {
-    name.windows(3).any(|part| part == b"glr".as_slice())
-}
-
 impl Work<'_> {
     /// What a file expects of its conflicts, where it says a number.
     fn expected(&self, lexemes: &[Lexeme]) -> Result<Option<Expected>, Trouble> {
@@ -36,7 +31,8 @@ impl Work<'_> {
     /// Refuses the skeleton of another kind of parser.
     fn refuse_skeleton(&self, lexemes: &[Lexeme]) -> Result<(), Trouble> {
         for lexeme in lexemes {
-            if lexeme.kind == Kind::Text && names_other_parser(lexeme.text(self.source)) {
+            let mut parts = lexeme.text(self.source).windows(3);
+            if lexeme.kind == Kind::Text && parts.any(|part| part == b"glr".as_slice()) {
                 return Err(Refusal::OtherParser.at(lexeme));
             }
         }

@@ -20,7 +20,6 @@ pub struct Expected {
 }
 
 /// A file while it is imported.
-#[derive(Drop)]
 pub struct Work<'a> {
     /// The allocator.
     pub alloc: Global,
@@ -46,6 +45,26 @@ pub struct Work<'a> {
     pub has_start: bool,
     /// The file with its changes.
     pub text: Vec<u8>,
+}
+
+impl Drop for Work<'_> {
+    // A call in each owner, which keeps their proofs short.
+    fn drop(self) {
+        let Work {
+            alloc: _,
+            source: _,
+            survey: _,
+            edits: _,
+            made: _,
+            renamed: _,
+            levels: _,
+            shift_reduce: _,
+            reduce_reduce: _,
+            left: _,
+            has_start: _,
+            text: _,
+        } = self;
+    }
 }
 
 /// The name made for a string.

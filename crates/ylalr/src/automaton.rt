@@ -23,10 +23,16 @@ use yrows::rows::Rows;
 use ysymbols::{Grammar, Sym};
 
 /// A grammar with its canonical collection of sets of items and their merged lookaheads.
-#[derive(Drop)]
 pub struct Automaton {
     lr0: Lr0,
     looks: Rows,
+}
+
+impl Drop for Automaton {
+    // A call in each owner, which keeps their proofs short.
+    fn drop(self) {
+        let Automaton { lr0: _, looks: _ } = self;
+    }
 }
 
 impl Model for Automaton {

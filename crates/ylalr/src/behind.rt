@@ -13,12 +13,21 @@ use yrows::rows::Rows;
 use ysymbols::{Grammar, Sym};
 
 /// What stands behind the first symbol of the body of each rule.
-#[derive(Drop)]
 pub struct Behind {
     /// For each rule, the tokens with which that begins.
     pub rows: Rows,
     /// Whether it vanishes.
     pub vanishing: Marks,
+}
+
+impl Drop for Behind {
+    // A call in each owner, which keeps their proofs short.
+    fn drop(self) {
+        let Behind {
+            rows: _,
+            vanishing: _,
+        } = self;
+    }
 }
 
 /// Adds to row `to` what the form begins with, and says whether the form vanishes.

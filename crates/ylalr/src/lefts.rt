@@ -15,10 +15,16 @@ use ysymbols::{Grammar, Sym};
 
 /// For each symbol, the row of the items that it is the left side of; and a row of bits with the
 /// symbols that have one, since a state has far fewer left sides than there are symbols.
-#[derive(Drop)]
 pub struct Lefts {
     rows: Vec<Option<usize>>,
     used: Rows,
+}
+
+impl Drop for Lefts {
+    // A call in each owner, which keeps their proofs short.
+    fn drop(self) {
+        let Lefts { rows: _, used: _ } = self;
+    }
 }
 
 impl Model for Lefts {

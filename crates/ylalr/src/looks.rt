@@ -30,7 +30,6 @@ use yrows::spread::spread;
 use ysymbols::{Grammar, Sym};
 
 /// The LR(0) automaton of a grammar, and beside it what its lookaheads are made from.
-#[derive(Drop)]
 pub struct Lr0 {
     /// The grammar.
     pub grammar: Grammar,
@@ -46,6 +45,21 @@ pub struct Lr0 {
     pub gotos: Gotos,
     /// The rows of the items of each state.
     pub item_rows: ItemRows,
+}
+
+impl Drop for Lr0 {
+    // A call in each owner, which keeps their proofs short.
+    fn drop(self) {
+        let Lr0 {
+            grammar: _,
+            nullable: _,
+            first: _,
+            behind: _,
+            states: _,
+            gotos: _,
+            item_rows: _,
+        } = self;
+    }
 }
 
 /// An item of a state, and its row.

@@ -17,10 +17,19 @@ pub const MOST_STATES: usize = 16_384;
 pub type Kernel = SmallVec<Item, 4>;
 
 /// The states so far: the kernel of each, and its items.
-#[derive(Drop)]
 pub struct States {
     kernels: IndexSet<Kernel>,
     closures: Vec<Sequence<Item>>,
+}
+
+impl Drop for States {
+    // A call in each owner, which keeps their proofs short.
+    fn drop(self) {
+        let States {
+            kernels: _,
+            closures: _,
+        } = self;
+    }
 }
 
 impl Model for States {

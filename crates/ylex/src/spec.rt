@@ -31,7 +31,6 @@ pub struct Word<'a> {
 }
 
 /// What a SPEC says.
-#[derive(Drop)]
 pub struct Spec<'a> {
     /// Its lines with expressions.
     pub rules: Vec<Rule<'a>>,
@@ -41,6 +40,18 @@ pub struct Spec<'a> {
     pub named: Vec<bool>,
     /// Which of them no text has.
     pub absent: Vec<bool>,
+}
+
+impl Drop for Spec<'_> {
+    // A call in each owner, which keeps their proofs short.
+    fn drop(self) {
+        let Spec {
+            rules: _,
+            words: _,
+            named: _,
+            absent: _,
+        } = self;
+    }
 }
 
 /// What names behind a directive are.

@@ -41,7 +41,6 @@ pub enum Node {
 }
 
 /// What a parse holds now.
-#[derive(Drop)]
 pub struct Parts {
     /// The stack, from the bottom.
     pub(crate) stack: Vec<StackEntry>,
@@ -59,6 +58,22 @@ pub struct Parts {
     pub(crate) mode: Mode,
     /// How many steps and edits stand.
     pub(crate) steps: usize,
+}
+
+impl Drop for Parts {
+    // A call in each owner, which keeps their proofs short.
+    fn drop(self) {
+        let Parts {
+            stack: _,
+            nodes: _,
+            children: _,
+            rest: _,
+            counter: _,
+            errors: _,
+            mode: _,
+            steps: _,
+        } = self;
+    }
 }
 
 /// What a step or an edit has changed.

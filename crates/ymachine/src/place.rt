@@ -41,12 +41,23 @@ use ytokens::tokens::{Tokens, has_blank_end, only_token};
 /// A parse of some tokens by some tables, as it is now. Trees lie in flat lists, and a step back
 /// cuts off their ends. The walk has room for all nodes of a tree that may be open at once; each
 /// step makes that room, so trees are written without memory.
-#[derive(Drop)]
 pub struct PlaceParser {
     tables: Tables,
     tokens: Tokens,
     parts: Parts,
     walk: Vec<Frame>,
+}
+
+impl Drop for PlaceParser {
+    // A call in each owner, which keeps their proofs short.
+    fn drop(self) {
+        let PlaceParser {
+            tables: _,
+            tokens: _,
+            parts: _,
+            walk: _,
+        } = self;
+    }
 }
 
 impl Model for PlaceParser {

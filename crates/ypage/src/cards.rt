@@ -22,7 +22,7 @@ use ytables::Tables;
 const MOST_CARDS: usize = 200;
 
 /// A conflict.
-#[derive(Drop, Serialize)]
+#[derive(Serialize)]
 pub struct Card {
     /// The first state that has it.
     pub state: usize,
@@ -39,6 +39,23 @@ pub struct Card {
     ways: Vec<String>,
     /// What is said where lists are missing.
     missing: String,
+}
+
+impl Drop for Card {
+    // A call in each owner, which keeps their proofs short.
+    fn drop(self) {
+        let Card {
+            state: _,
+            token: _,
+            states: _,
+            shift: _,
+            rules: _,
+            more: _,
+            why: _,
+            ways: _,
+            missing: _,
+        } = self;
+    }
 }
 
 /// The conflicts of a grammar.

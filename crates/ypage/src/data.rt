@@ -13,7 +13,7 @@ use yfollow::Parse;
 use ysymbols::Sym;
 
 /// What the script is given.
-#[derive(Drop, Serialize)]
+#[derive(Serialize)]
 struct Data<'a> {
     /// The paths of the grammar file and the tokens file.
     files: (&'a str, &'a str),
@@ -23,6 +23,20 @@ struct Data<'a> {
     cells: Vec<Cell>,
     /// The conflicts of the grammar, where they are wanted.
     conflicts: Option<&'a Cards>,
+}
+
+impl Drop for Data<'_> {
+    // A call in each owner, which keeps their proofs short.
+    fn drop(self) {
+        let Data {
+            files: _,
+            table: _,
+            input: _,
+            record: _,
+            cells: _,
+            conflicts: _,
+        } = self;
+    }
 }
 
 /// What the page shows: the files, the parse at its last position, its steps, the cells that they

@@ -24,7 +24,7 @@ pub struct Start {
 }
 
 /// The steps that the page shows.
-#[derive(Drop, Serialize)]
+#[derive(Serialize)]
 pub struct Record {
     /// Where the parse stands before the first step of the page.
     pub start: Start,
@@ -36,6 +36,19 @@ pub struct Record {
     pub states: Vec<usize>,
     /// The cell that says what is done next, for each position; `None` where no cell is asked.
     pub cells: Vec<Option<usize>>,
+}
+
+impl Drop for Record {
+    // A call in each owner, which keeps their proofs short.
+    fn drop(self) {
+        let Record {
+            start: _,
+            kinds: _,
+            rules: _,
+            states: _,
+            cells: _,
+        } = self;
+    }
 }
 
 /// The letter of a kind. A page has no edits.

@@ -14,7 +14,7 @@ use ytables::Tables;
 type State = (usize, Vec<(usize, usize)>);
 
 /// The grammar, and some states.
-#[derive(Drop, Serialize)]
+#[derive(Serialize)]
 pub struct Table<'a> {
     /// The printed names of the symbols.
     names: Vec<&'a str>,
@@ -25,6 +25,19 @@ pub struct Table<'a> {
     /// The line on which each rule begins.
     lines: Vec<Option<usize>>,
     states: Vec<State>,
+}
+
+impl Drop for Table<'_> {
+    // A call in each owner, which keeps their proofs short.
+    fn drop(self) {
+        let Table {
+            names: _,
+            tokens: _,
+            rules: _,
+            lines: _,
+            states: _,
+        } = self;
+    }
 }
 
 fn names_of(alloc: Global, grammar: &Grammar) -> Result<Vec<&str>, AllocError> {

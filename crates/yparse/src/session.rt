@@ -18,7 +18,6 @@ use ytables::Tables;
 use ytokens::tokens::Tokens;
 
 /// A session: the configuration of a parse now, and each one before it.
-#[derive(Drop)]
 pub struct Session {
     pub(crate) journal: Journal<PlaceParser>,
     /// While it is unwound, the tokens that the undone steps have shifted, the last one first.
@@ -28,6 +27,16 @@ pub struct Session {
         (past_view journal) ∥₁ },
     ghost ground: { All (KeepsGround journal.now) journal.earlier },
     ghost room: { vec_len later + length journal.earlier ≤ vec_capacity later },
+}
+
+impl Drop for Session {
+    // A call in each owner, which keeps their proofs short.
+    fn drop(self) {
+        let Session {
+            journal: _,
+            later: _,
+        } = self;
+    }
 }
 
 /// Makes a step or an edit.

@@ -18,13 +18,25 @@ enum Written {
 
 /// What a session wrote before a refusal, how that was answered, where it stood then, how many
 /// steps it made after it, and its trees in the end.
-#[derive(Drop)]
 struct Resumed {
     answer: Result<(), UnwindFault>,
     before: Sink,
     position: usize,
     steps: usize,
     trees: Sink,
+}
+
+impl Drop for Resumed {
+    // A call in each owner, which keeps their proofs short.
+    fn drop(self) {
+        let Resumed {
+            answer: _,
+            before: _,
+            position: _,
+            steps: _,
+            trees: _,
+        } = self;
+    }
 }
 
 /// A session at its start.

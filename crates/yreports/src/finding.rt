@@ -44,7 +44,6 @@ pub enum Allows {
 }
 
 /// A list of tokens before the token of the conflict.
-#[derive(Drop)]
 pub struct List {
     /// Which of the rivals it allows.
     pub allows: Allows,
@@ -59,6 +58,20 @@ pub struct List {
     pub other: Option<(Vec<Sym>, usize)>,
     /// How many further lists were tried.
     pub tried: usize,
+}
+
+impl Drop for List {
+    // A call in each owner, which keeps their proofs short.
+    fn drop(self) {
+        let List {
+            allows: _,
+            rules: _,
+            tokens: _,
+            trial: _,
+            other: _,
+            tried: _,
+        } = self;
+    }
 }
 
 /// What was found for the cells of one kind.

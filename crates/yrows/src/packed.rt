@@ -11,7 +11,6 @@ use std::alloc::{AllocError, Global};
 use std::marker::Model;
 
 /// Rows over one list of cells.
-#[derive(Drop)]
 pub struct Packed<T: Copy> {
     cells: Vec<Option<T>>,
     /// For each cell the number of its row, counted from 1, or 0 where it is free.
@@ -22,6 +21,19 @@ pub struct Packed<T: Copy> {
     width: usize,
     /// Which slots are taken.
     slots: Slots,
+}
+
+impl<T: Copy> Drop for Packed<T> {
+    // A call in each owner, which keeps their proofs short.
+    fn drop(self) {
+        let Packed {
+            cells: _,
+            owners: _,
+            displacements: _,
+            width: _,
+            slots: _,
+        } = self;
+    }
 }
 
 impl<T: Copy> Model for Packed<T> {

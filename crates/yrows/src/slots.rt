@@ -10,13 +10,23 @@ use std::collections::HashMap;
 const BITS: usize = 64;
 
 /// The slots that are taken.
-#[derive(Drop)]
 pub struct Slots {
     words: Vec<u64>,
     /// How many words at the front are full.
     full: usize,
     /// The last displacement of each set of columns, by a hash of the set.
     last: HashMap<u64, usize>,
+}
+
+impl Drop for Slots {
+    // A call in each owner, which keeps their proofs short.
+    fn drop(self) {
+        let Slots {
+            words: _,
+            full: _,
+            last: _,
+        } = self;
+    }
 }
 
 /// The 64 bits from `at` on.

@@ -14,11 +14,21 @@ use std::marker::Model;
 use std::mem;
 
 /// The rest of a round, the next round, and a mark for each number that waits.
-#[derive(Drop)]
 pub struct Waiting {
     round: Vec<usize>,
     next: Vec<usize>,
     marks: Marks,
+}
+
+impl Drop for Waiting {
+    // A call in each owner, which keeps their proofs short.
+    fn drop(self) {
+        let Waiting {
+            round: _,
+            next: _,
+            marks: _,
+        } = self;
+    }
 }
 
 impl Model for Waiting {

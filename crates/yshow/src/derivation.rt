@@ -16,10 +16,19 @@ pub const SOME_FORMS: usize = 100;
 
 /// A form of the derivation: trees, of which the last may be replaced by its children, and then
 /// tokens, the last one first.
-#[derive(Drop)]
 struct Form<'a> {
     trees: Vec<TreeView<'a>>,
     tokens: Vec<Sym>,
+}
+
+impl Drop for Form<'_> {
+    // A call in each owner, which keeps their proofs short.
+    fn drop(self) {
+        let Form {
+            trees: _,
+            tokens: _,
+        } = self;
+    }
 }
 
 /// The symbol at the root of a tree.

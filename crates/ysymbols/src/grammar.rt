@@ -19,7 +19,6 @@ use std::marker::Model;
 
 /// A grammar. Every grammar is well formed; the contract of `symbols` says what that means. It
 /// owns its parts: the names, and one copy of the source, of which the kept texts are parts.
-#[derive(Drop)]
 pub struct Grammar {
     /// The symbols by their printed names, the tokens first.
     names: SymbolTable,
@@ -35,6 +34,21 @@ pub struct Grammar {
     action_texts: Texts,
     /// Which symbols can be reached.
     reachable: Vec<bool>,
+}
+
+impl Drop for Grammar {
+    // A call in each owner, which keeps their proofs short.
+    fn drop(self) {
+        let Grammar {
+            names: _,
+            tokens: _,
+            numbers: _,
+            precedences: _,
+            rules: _,
+            action_texts: _,
+            reachable: _,
+        } = self;
+    }
 }
 
 impl Model for Grammar {

@@ -127,7 +127,6 @@ pub struct RuleText<'a> {
 }
 
 /// A whole file.
-#[derive(Drop)]
 pub struct Tree<'a> {
     /// The declarations.
     pub definitions: Vec<Definition<'a>>,
@@ -135,4 +134,15 @@ pub struct Tree<'a> {
     pub rule_texts: Vec<RuleText<'a>>,
     /// Whether a second `%%` ends the rules.
     pub second_mark: bool,
+}
+
+impl Drop for Tree<'_> {
+    // A call in each owner, which keeps their proofs short.
+    fn drop(self) {
+        let Tree {
+            definitions: _,
+            rule_texts: _,
+            second_mark: _,
+        } = self;
+    }
 }

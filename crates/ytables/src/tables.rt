@@ -36,7 +36,6 @@ pub struct Counts {
 }
 
 /// The rows of all states, and what their cells count.
-#[derive(Drop)]
 struct Found {
     actions: Packed<Action>,
     gotos: Packed<usize>,
@@ -46,11 +45,34 @@ struct Found {
     chosen: bool,
 }
 
+impl Drop for Found {
+    // A call in each owner, which keeps their proofs short.
+    fn drop(self) {
+        let Found {
+            actions: _,
+            gotos: _,
+            defaults: _,
+            conflicts: _,
+            counts: _,
+            chosen: _,
+        } = self;
+    }
+}
+
 /// An automaton with its cells.
-#[derive(Drop)]
 pub struct Tables {
     automaton: Automaton,
     found: Found,
+}
+
+impl Drop for Tables {
+    // A call in each owner, which keeps their proofs short.
+    fn drop(self) {
+        let Tables {
+            automaton: _,
+            found: _,
+        } = self;
+    }
 }
 
 impl Model for Tables {
