@@ -101,11 +101,14 @@ impl Drop for Search {
             left: _,
             nodes: _,
             queue: _,
-            met: _,
-            seen: _,
-            opened: _,
+            met,
+            seen,
+            opened,
             needs: _,
         } = self;
+        drop(met);
+        drop(seen);
+        drop(opened);
     }
 }
 

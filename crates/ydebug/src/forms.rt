@@ -40,156 +40,210 @@ pub enum Form {
     Sketch,
 }
 
-/// The form that a first word means, and the whole name of the program with it.
-pub fn form_of(word: Option<&&str>) -> (Form, &'static str) {
+/// The form that a first word means.
+pub fn form_of(word: Option<&&str>) -> Form {
     match word {
-        Some(&"conflicts") => (Form::Conflicts, "ydebug conflicts"),
-        Some(&"check") => (Form::Check, "ydebug check"),
-        Some(&"page") => (Form::Page, "ydebug page"),
-        Some(&"import") => (Form::Import, "ydebug import"),
-        Some(&"tokens") => (Form::Tokens, "ydebug tokens"),
-        Some(&"lex-spec") => (Form::Sketch, "ydebug lex-spec"),
-        _ => (Form::Debug, "ydebug"),
+        Some(&"conflicts") => Form::Conflicts,
+        Some(&"check") => Form::Check,
+        Some(&"page") => Form::Page,
+        Some(&"import") => Form::Import,
+        Some(&"tokens") => Form::Tokens,
+        Some(&"lex-spec") => Form::Sketch,
+        _ => Form::Debug,
     }
 }
 
-/// A file among the words.
-fn file_argument<'a>(alloc: Global, name: &'a str, help: &'a str) -> Arg<'a> {
-    Arg::new(alloc, name)
-        .required(true)
-        .action(ArgAction::Set)
-        .help(help)
+/// The whole name of the program with the word for a form.
+pub fn name_of(form: Form) -> &'static str {
+    match form {
+        Form::Debug => "ydebug",
+        Form::Conflicts => "ydebug conflicts",
+        Form::Check => "ydebug check",
+        Form::Page => "ydebug page",
+        Form::Import => "ydebug import",
+        Form::Tokens => "ydebug tokens",
+        Form::Sketch => "ydebug lex-spec",
+    }
 }
 
-/// A flag of two dashes.
-fn flag<'a>(alloc: Global, name: &'a str, help: &'a str) -> Arg<'a> {
-    Arg::new(alloc, name)
-        .long(name)
-        .action(ArgAction::SetTrue)
-        .help(help)
+/// How a word is given.
+#[derive(Clone, Copy)]
+enum Given {
+    /// A file, which is required; help shows this name.
+    File(&'static str),
+    /// Files, at least one.
+    Files,
+    /// A flag of two dashes.
+    Flag,
+    /// A value behind two dashes; help shows this name.
+    Value(&'static str),
+    /// Such a value that is required.
+    Required(&'static str),
+    /// Such a value that may be given again.
+    Again(&'static str),
+    /// A value behind `-o`.
+    Output,
 }
 
-/// The tokens file, or a text.
-fn input_argument<'a>(alloc: Global) -> Arg<'a> {
-    file_argument(alloc, "tokens", "The tokens file; with --lex, a text")
+/// A word of a form: its name, how it is given, and what help says of it.
+#[derive(Clone, Copy)]
+struct Word(&'static str, Given, &'static str);
+
+const GRAMMAR: Word = Word("grammar", Given::File("grammar"), "The grammar file");
+
+const INPUT: Word = Word(
+    "tokens",
+    Given::File("tokens"),
+    "The tokens file; with --lex, a text",
+);
+
+const LEX: Word = Word("lex", Given::Value("SPEC"), HOW_TOKENS_LOOK);
+
+const FROM: Word = Word("from", Given::Value("FORM"), FROM_BISON);
+
+const HOW_TOKENS_LOOK: &str = "The file that says how the tokens of a text look";
+
+const FROM_BISON: &str = "bison: the grammar is a file of bison or byacc";
+
+const DEBUG: [Word; 4] = [GRAMMAR, INPUT, LEX, FROM];
+
+const CONFLICTS: [Word; 4] = [
+    GRAMMAR,
+    Word(
+        "save",
+        Given::Value("save"),
+        "Writes the tokens of each conflict to a file of this folder",
+    ),
+    FROM,
+    Word(
+        "strict",
+        Given::Flag,
+        "Ends with 1 where there is a conflict or a warning",
+    ),
+];
+
+const CHECK: [Word; 5] = [
+    GRAMMAR,
+    Word(
+        "tokens",
+        Given::Files,
+        "The tokens files, or with --lex texts; - is standard input",
+    ),
+    LEX,
+    FROM,
+    Word(
+        "choice",
+        Given::Flag,
+        "Says whether the grammar is free of choices",
+    ),
+];
+
+const PAGE: [Word; 7] = [
+    GRAMMAR,
+    INPUT,
+    Word(
+        "file",
+        Given::Output,
+        "The file that the page goes to; without it, standard output",
+    ),
+    LEX,
+    Word(
+        "from",
+        Given::Again("from"),
+        "The first position that it shows; bison: as elsewhere",
+    ),
+    Word("to", Given::Value("to"), "The last position that it shows"),
+    Word(
+        "conflicts",
+        Given::Flag,
+        "Shows the conflicts of the grammar too",
+    ),
+];
+
+const TOKENS: [Word; 4] = [
+    GRAMMAR,
+    Word("tokens", Given::File("input"), "The text"),
+    Word("lex", Given::Required("SPEC"), HOW_TOKENS_LOOK),
+    FROM,
+];
+
+const SKETCH: [Word; 2] = [GRAMMAR, FROM];
+
+const IMPORT: [Word; 2] = [
+    Word("file", Given::File("file"), "The file of bison or byacc"),
+    Word("output", Given::Output, "Writes the grammar to this file"),
+];
+
+/// The argument that a word is.
+fn argument<'a>(alloc: Global, word: &Word) -> Arg<'a> {
+    let Word(name, given, help) = *word;
+    let arg = Arg::new(alloc, name).action(ArgAction::Set).help(help);
+    match given {
+        Given::File(shown) => arg.required(true).value_name(shown),
+        Given::Files => arg.required(true).num_args(1..),
+        Given::Flag => arg.long(name).action(ArgAction::SetTrue),
+        Given::Value(shown) => arg.long(name).value_name(shown),
+        Given::Required(shown) => arg.long(name).value_name(shown).required(true),
+        Given::Again(shown) => arg.long(name).value_name(shown).action(ArgAction::Append),
+        Given::Output => arg.short('o'),
+    }
 }
 
-/// An option with a value behind two dashes.
-fn option<'a>(alloc: Global, name: &'a str, help: &'a str) -> Arg<'a> {
-    Arg::new(alloc, name)
-        .long(name)
-        .action(ArgAction::Set)
-        .help(help)
+/// What a form does.
+fn about(form: Form) -> &'static str {
+    match form {
+        Form::Debug => "Steps a parse forward and back for a person at a terminal",
+        Form::Conflicts => "Explains the conflicts of a grammar, and warns of what it has in vain",
+        Form::Check => "Says of each input whether it is a sentence of a grammar",
+        Form::Page => "Makes a page in HTML of a parse, to be looked at in a browser",
+        Form::Import => "Makes a grammar file of bison or byacc one that yacc reads",
+        Form::Tokens => "Writes the tokens of a text as a tokens file",
+        Form::Sketch => "Sketches the file that says how the tokens of a text look",
+    }
 }
 
-/// The option for files of bison.
-fn from_option<'a>(alloc: Global) -> Arg<'a> {
-    let help = "bison: the grammar is a file of bison or byacc";
-    option(alloc, "from", help).value_name("FORM")
-}
-
-/// The option for texts.
-fn lex_option<'a>(alloc: Global) -> Arg<'a> {
-    let help = "The file that says how the tokens of a text look";
-    option(alloc, "lex", help).value_name("SPEC")
+/// The command line of a form with these words.
+fn with_words<'a>(alloc: Global, form: Form, words: &[Word]) -> Result<Command<'a>, AllocError> {
+    let mut command = Command::new(alloc, name_of(form)).about(about(form));
+    for word in words {
+        command = command.arg(argument(alloc, word))?;
+    }
+    Ok(command)
 }
 
 /// The command line of a session.
 fn debug_command<'a>(alloc: Global) -> Result<Command<'a>, AllocError> {
-    Command::new(alloc, "ydebug")
-        .about("Steps a parse forward and back for a person at a terminal")
-        .after_help(FORMS)
-        .arg(file_argument(alloc, "grammar", "The grammar file"))?
-        .arg(input_argument(alloc))?
-        .arg(lex_option(alloc))?
-        .arg(from_option(alloc))
+    Ok(with_words(alloc, Form::Debug, &DEBUG)?.after_help(FORMS))
 }
 
 /// The command line of the report on conflicts.
 fn conflicts_command<'a>(alloc: Global) -> Result<Command<'a>, AllocError> {
-    let help = "Writes the tokens of each conflict to a file of this folder";
-    Command::new(alloc, "ydebug conflicts")
-        .about("Explains the conflicts of a grammar, and warns of what it has in vain")
-        .arg(file_argument(alloc, "grammar", "The grammar file"))?
-        .arg(option(alloc, "save", help))?
-        .arg(from_option(alloc))?
-        .arg(flag(
-            alloc,
-            "strict",
-            "Ends with 1 where there is a conflict or a warning",
-        ))
+    with_words(alloc, Form::Conflicts, &CONFLICTS)
 }
 
 /// The command line of verdicts.
 fn check_command<'a>(alloc: Global) -> Result<Command<'a>, AllocError> {
-    let tokens = file_argument(
-        alloc,
-        "tokens",
-        "The tokens files, or with --lex texts; - is standard input",
-    );
-    Command::new(alloc, "ydebug check")
-        .about("Says of each input whether it is a sentence of a grammar")
-        .arg(file_argument(alloc, "grammar", "The grammar file"))?
-        .arg(tokens.num_args(1..))?
-        .arg(lex_option(alloc))?
-        .arg(from_option(alloc))?
-        .arg(flag(
-            alloc,
-            "choice",
-            "Says whether the grammar is free of choices",
-        ))
+    with_words(alloc, Form::Check, &CHECK)
 }
 
 /// The command line of a page.
 fn page_command<'a>(alloc: Global) -> Result<Command<'a>, AllocError> {
-    let file = Arg::new(alloc, "file")
-        .short('o')
-        .action(ArgAction::Set)
-        .help("The file that the page goes to; without it, standard output");
-    let from = option(
-        alloc,
-        "from",
-        "The first position that it shows; bison: as elsewhere",
-    );
-    Command::new(alloc, "ydebug page")
-        .about("Makes a page in HTML of a parse, to be looked at in a browser")
-        .arg(file_argument(alloc, "grammar", "The grammar file"))?
-        .arg(input_argument(alloc))?
-        .arg(file)?
-        .arg(lex_option(alloc))?
-        .arg(from.action(ArgAction::Append))?
-        .arg(option(alloc, "to", "The last position that it shows"))?
-        .arg(flag(alloc, "conflicts", "Shows the conflicts of the grammar too"))
+    with_words(alloc, Form::Page, &PAGE)
 }
 
 /// The command line of tokens.
 fn tokens_command<'a>(alloc: Global) -> Result<Command<'a>, AllocError> {
-    Command::new(alloc, "ydebug tokens")
-        .about("Writes the tokens of a text as a tokens file")
-        .arg(file_argument(alloc, "grammar", "The grammar file"))?
-        .arg(file_argument(alloc, "tokens", "The text").value_name("input"))?
-        .arg(lex_option(alloc).required(true))?
-        .arg(from_option(alloc))
+    with_words(alloc, Form::Tokens, &TOKENS)
 }
 
 /// The command line of a sketch.
 fn sketch_command<'a>(alloc: Global) -> Result<Command<'a>, AllocError> {
-    Command::new(alloc, "ydebug lex-spec")
-        .about("Sketches the file that says how the tokens of a text look")
-        .arg(file_argument(alloc, "grammar", "The grammar file"))?
-        .arg(from_option(alloc))
+    with_words(alloc, Form::Sketch, &SKETCH)
 }
 
 /// The command line of an import.
 fn import_command<'a>(alloc: Global) -> Result<Command<'a>, AllocError> {
-    let output = Arg::new(alloc, "output")
-        .short('o')
-        .action(ArgAction::Set)
-        .help("Writes the grammar to this file");
-    Command::new(alloc, "ydebug import")
-        .about("Makes a grammar file of bison or byacc one that yacc reads")
-        .arg(file_argument(alloc, "file", "The file of bison or byacc"))?
-        .arg(output)
+    with_words(alloc, Form::Import, &IMPORT)
 }
 
 /// The command line of a form.

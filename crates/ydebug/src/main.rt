@@ -7,7 +7,7 @@
 
 mod forms;
 
-use crate::forms::{Form, USAGE, command_of, form_of};
+use crate::forms::{Form, USAGE, command_of, form_of, name_of};
 use clap::error::ErrorKind;
 use clap::{ArgMatches, Command};
 use std::alloc::{AllocError, Global};
@@ -301,9 +301,9 @@ fn named<'a>(alloc: Global, name: &'a str, words: &[&'a str]) -> Result<Vec<&'a 
 
 /// Finds the form, and does what the words behind it ask for.
 fn obey_given(rt: &HostRuntime, words: &[&str]) -> Result<u8, Refused> {
-    let (form, name) = form_of(words.get(1));
-    let first = if name == "ydebug" { 1 } else { 2 };
-    let words = named(rt.alloc(), name, words.get(first..).unwrap_or(&[]))?;
+    let form = form_of(words.get(1));
+    let first = if matches!(form, Form::Debug) { 1 } else { 2 };
+    let words = named(rt.alloc(), name_of(form), words.get(first..).unwrap_or(&[]))?;
     obey_words(rt, form, &words)
 }
 

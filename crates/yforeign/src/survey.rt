@@ -32,15 +32,21 @@ impl Drop for Survey {
     // A call in each owner, which keeps their proofs short.
     fn drop(self) {
         let Survey {
-            names: _,
-            tokens: _,
-            lefts: _,
-            used: _,
-            ends: _,
-            aliases: _,
+            names,
+            tokens,
+            lefts,
+            used,
+            ends,
+            aliases,
             start: _,
             first: _,
         } = self;
+        drop(names);
+        drop(tokens);
+        drop(lefts);
+        drop(used);
+        drop(ends);
+        drop(aliases);
     }
 }
 

@@ -35,7 +35,6 @@ use ysymbols::{Grammar, Precedence, Rule};
 use ysyntax::tree::{NameAt, Tree};
 
 /// The symbols by number, the tokens first, and what is given to the tokens.
-#[derive(Drop)]
 pub struct Named {
     /// The names of all symbols, the tokens first.
     pub names: SymbolTable,
@@ -45,6 +44,19 @@ pub struct Named {
     pub given: Vec<Option<Precedence>>,
     /// The number that each token has by itself, and which tokens hold each number.
     pub own: OwnTable,
+}
+
+impl Drop for Named {
+    // A call in each owner, which keeps their proofs short.
+    fn drop(self) {
+        let Named {
+            names,
+            tokens: _,
+            given: _,
+            own: _,
+        } = self;
+        drop(names);
+    }
 }
 
 /// The symbols of a tree, or the first mistake that its names and its tokens' numbers and
@@ -113,26 +125,28 @@ fn refuse_unproductive(
     Ok(())
 }
 
-/// The grammar of these symbols and rules, where no mistake stands in them.
-fn grammar_of(
-    alloc: Global,
-    named: Named,
-    rules: Vec<Rule>,
-    texts: Texts,
-) -> Result<Grammar, AllocError>
-    requires { (t : TreeOf) × IsReady t named rules.items texts.texts }
-    ensures { IfOk result (λ g. (t : TreeOf) → IsReady t named rules.items texts.texts →
-        IsMeaning t g) }
-{
-    let Named {
-        names,
-        tokens,
-        given,
-        own,
-    } = named;
-    let numbers = numbers(alloc, &own.numbers, &own.holders)?;
-    let reachable = reachable(alloc, &rules, names.len())?;
-    Ok(Grammar::of(names, tokens, numbers, given, rules, texts, reachable))
+impl Named {
+    /// The grammar of these symbols and rules, where no mistake stands in them.
+    fn grammar_of(
+        alloc: Global,
+        named: Named,
+        rules: Vec<Rule>,
+        texts: Texts,
+    ) -> Result<Grammar, AllocError>
+        requires { (t : TreeOf) × IsReady t named rules.items texts.texts }
+        ensures { IfOk result (λ g. (t : TreeOf) → IsReady t named rules.items texts.texts →
+            IsMeaning t g) }
+    {
+        let Named {
+            names,
+            tokens,
+            given,
+            own,
+        } = named;
+        let numbers = numbers(alloc, &own.numbers, &own.holders)?;
+        let reachable = reachable(alloc, &rules, names.len())?;
+        Ok(Grammar::of(names, tokens, numbers, given, rules, texts, reachable))
+    }
 }
 
 /// What the tree of a source means: the grammar, or the first mistake.
@@ -158,5 +172,5 @@ pub fn elaborate(alloc: Global, source: &[u8], tree: &Tree) -> Result<Grammar, R
     refuse_prec(&outline, &named.names, named.tokens)?;
     refuse_limit(&named.names, &rules)?;
     let texts = kept_texts(alloc, source, tree)?;
-    Ok(grammar_of(alloc, named, rules, texts)?)
+    Ok(Named::grammar_of(alloc, named, rules, texts)?)
 }

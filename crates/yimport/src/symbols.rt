@@ -55,8 +55,8 @@ impl Drop for Work<'_> {
             source: _,
             survey: _,
             edits: _,
-            made: _,
-            renamed: _,
+            made,
+            renamed,
             levels: _,
             shift_reduce: _,
             reduce_reduce: _,
@@ -64,6 +64,8 @@ impl Drop for Work<'_> {
             has_start: _,
             text: _,
         } = self;
+        drop(made);
+        drop(renamed);
     }
 }
 

@@ -6,7 +6,7 @@ use Rattle.ygrammar.specs.Meaning.{IsMeaning}
 use Rattle.ygrammar.specs.Numbers.{AreNumbers}
 use Rattle.ygrammar.proofs.MeaningSteps.{meaning_of, whole_of}
 use Rattle.ysymbols.proofs.NameSteps.{length_texts}
-use Rattle.ygrammar.proofs.elaboration.grammar_of.Goals as goal
+use Rattle.ygrammar.proofs.elaboration.Named.grammar_of.Goals as goal
 
 pub of-requires : goal.of-requires
 of-requires c =
