@@ -23,24 +23,13 @@ struct Left {
 }
 
 /// A walk over the states that can be reached by what bison leaves in the cells.
+#[derive(Drop)]
 struct Walk<'a> {
     automaton: &'a Automaton,
     counts: Counts,
     /// The states that were reached, in the order in which they were.
     reached: Vec<usize>,
     is_reached: Vec<bool>,
-}
-
-impl Drop for Walk<'_> {
-    // A call in each owner, which keeps their proofs short.
-    fn drop(self) {
-        let Walk {
-            automaton: _,
-            counts: _,
-            reached: _,
-            is_reached: _,
-        } = self;
-    }
 }
 
 /// Whether a token can be shifted, or the end accepted.

@@ -42,23 +42,12 @@ impl Found {
 }
 
 /// What cuts texts.
+#[derive(Drop)]
 pub struct Lexer<'a> {
     words: &'a [Word<'a>],
     rules: &'a [Rule<'a>],
     literals: Vec<Option<Sym>>,
     matchers: Vec<Matcher<'a>>,
-}
-
-impl Drop for Lexer<'_> {
-    // A call in each owner, which keeps their proofs short.
-    fn drop(self) {
-        let Lexer {
-            words: _,
-            rules: _,
-            literals: _,
-            matchers: _,
-        } = self;
-    }
 }
 
 /// What is wrong with an expression that begins behind so many bytes.

@@ -11,6 +11,7 @@ use ysymbols::{Grammar, Sym};
 use ytables::{Action, Tables};
 
 /// What is done somewhere: which rules are reduced, which tokens and rules a precedence settled.
+#[derive(Drop)]
 pub struct Done {
     /// For each rule, whether it is reduced anywhere.
     pub reduced: Vec<bool>,
@@ -20,18 +21,6 @@ pub struct Done {
     pub by_rule: Vec<bool>,
     /// The complete items of a state.
     ready: Vec<Item>,
-}
-
-impl Drop for Done {
-    // A call in each owner, which keeps their proofs short.
-    fn drop(self) {
-        let Done {
-            reduced: _,
-            by_token: _,
-            by_rule: _,
-            ready: _,
-        } = self;
-    }
 }
 
 /// Sets a mark, where it is one.
