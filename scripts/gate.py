@@ -7,17 +7,46 @@ Each QUICK is a script that ends with status 0 where all is well; the first that
 gate. A RUNNER is a command: that of the scenarios, and that of hostile devices. The last line,
 `N passed, M failed`, is the sum of `rt ci` and the runners.
 """
+import os
 import re
 import subprocess
 import sys
+from pathlib import Path
 
 SUM = re.compile(r"(\d+) passed, (\d+) failed\s*")
+# What one check takes at most, in bytes, where it has one processor.
+CHECK = 5_000_000_000
+
+
+def words_of(file):
+    """The words of a file of the system's, none where it isn't there."""
+    try:
+        return Path(file).read_text().split()
+    except OSError:
+        return []
+
+
+def lanes():
+    """How many checks run beside each other: one a processor, as far as memory goes."""
+    found = len(os.sched_getaffinity(0))
+    quota = words_of("/sys/fs/cgroup/cpu.max")
+    if len(quota) == 2 and quota[0].isdigit():
+        found = min(found, int(quota[0]) // int(quota[1]))
+    memory = words_of("/proc/meminfo")
+    if "MemAvailable:" in memory:
+        free = 1024 * int(memory[memory.index("MemAvailable:") + 1])
+        found = min(found, free // CHECK)
+    return max(found, 1)
 
 
 def streamed(words):
     """Runs a command, passes its output on as it comes, and gives its last line and status."""
     last = ""
-    with subprocess.Popen(words, stdout=subprocess.PIPE, text=True, errors="replace") as running:
+    # A check that is spread over several processors takes up to half as much time again.
+    how = {"RT_JOBS": str(lanes()), **os.environ}
+    with subprocess.Popen(
+        words, stdout=subprocess.PIPE, text=True, errors="replace", env=how
+    ) as running:
         for last in running.stdout:
             print(last, end="", flush=True)
     return last, running.returncode
