@@ -3,10 +3,10 @@
 set -eu
 top=$(cd "$(dirname "$0")/.." && pwd)
 mkdir -p "$top/bin"
-for name in yacc ystep ydebug verdicts calls; do
+for name in yacc ystep ydebug verdicts; do
   cd "$top/crates/$name"
   case $name in
-    verdicts | calls) set -- data/one.y data/one.tokens ;;
+    verdicts) set -- data/one.y data/one.tokens ;;
     *) set -- --help ;;
   esac
   rt run -- "$@" > /dev/null

@@ -1,18 +1,11 @@
-//! `calls grammar tokens`: makes each public call that takes memory by itself, and once more where
-//! it ran out of memory, and says what it came to. In `make refuse` its allocations fail.
-#![tactic(auto)]
+//! Each public call that takes memory by itself, and once more where it ran out of memory, with
+//! what it came to. In `make refuse` its allocations fail.
 
 ghost use Rattle.yparse.specs.Tokens.{Fits, symbols_of};
 
-mod made;
-mod parse;
-mod said;
-
-use made::{bytes_at, tables_over, tokens_over, twice, words_of};
-use parse::{tell_verdict, walk};
-use std::env;
-use std::io::{self, Write};
-use std::process::ExitCode;
+use crate::made::{bytes_at, tables_over, tokens_over, twice, words_of};
+use crate::parse::{tell_verdict, walk};
+use std::io;
 use yparse::{Session, Tokens};
 use ytables::Tables;
 
@@ -69,23 +62,9 @@ fn run(rt: &HostRuntime, given: &[&str]) -> bool {
     }
 }
 
-/// The exit status: 0 where all calls were made, else 3.
-fn status(rt: &HostRuntime) -> io::Result<u8> {
-    let alloc = rt.alloc();
-    let given: Vec<String> = env::args(rt)?.collect(alloc)?;
-    let mut words = Vec::with_capacity(alloc, given.len())?;
-    for word in &given {
-        words.push(word.as_str())?;
-    }
+/// The exit status over the words, the first of which is none of the two files: 0 where all calls
+/// were made, else 3.
+pub fn all_made(rt: &HostRuntime, given: &[String]) -> io::Result<u8> {
+    let words: Vec<&str> = given.iter().map(String::as_str).collect(rt.alloc())?;
     Ok(if run(rt, &words) { 0 } else { 3 })
-}
-
-fn main(rt: HostRuntime) -> ExitCode {
-    match status(&rt) {
-        Ok(status) => ExitCode::from(status),
-        Err(_) => {
-            let _ = rt.stderr().write_all(b"calls: no memory\n");
-            ExitCode::from(3)
-        }
-    }
 }
