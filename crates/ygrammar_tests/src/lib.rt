@@ -1,9 +1,6 @@
-//! Tests of the reader of grammar files that need code: what the tables don't show of a grammar,
-//! and beginnings of files.
+//! Tests of the reader of grammar files that need code: what the tables don't show of a grammar.
 #![tactic(auto)]
 
-#[cfg(test)]
-mod beginnings;
 #[cfg(test)]
 mod marks;
 #[cfg(test)]
