@@ -3,7 +3,7 @@
 ghost use Rattle.std.specs.Prelude.{◌≡◌, [], IfOk, IfErr};
 ghost use Rattle.std.specs.Io.Buffered.{writer_buffer, writer_contents, writer_inner};
 ghost use Rattle.std.specs.IoError.{error_kind};
-ghost use Rattle.yopen.specs.Buffered.{buffer_of};
+ghost use Rattle.ylink.specs.Buffered.{buffer_of};
 
 use std::alloc::Global;
 use std::io::{self, BufWriter, ErrorKind, Write};

@@ -1,7 +1,7 @@
 //! Files as openers.
 
 ghost use Rattle.std.specs.Prelude.{◌≡◌, ◌++◌, ⊤};
-ghost use Rattle.yopen.specs.Files.{new_path, old_path};
+ghost use Rattle.ylink.specs.Files.{new_path, old_path};
 
 use crate::buffered::Buffered;
 use crate::open::Open;

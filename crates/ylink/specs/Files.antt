@@ -1,7 +1,7 @@
 -- Which files openers open.
 use Rattle.std.specs.Prelude.{ℕ, List, ◌++◌}
-use Rattle.yopen.specs.declared.files.OldFile.{OldFile}
-use Rattle.yopen.specs.declared.files.NewFile.{NewFile}
+use Rattle.ylink.specs.declared.files.OldFile.{OldFile}
+use Rattle.ylink.specs.declared.files.NewFile.{NewFile}
 
 -- the path of a file that is read
 abbrev pub old_path : {F : Type 0} → OldFile F → List ℕ

@@ -1,12 +1,12 @@
 //! The bytes of a reader, read through a link.
 
 ghost use Rattle.std.specs.Prelude.{IfOk};
-ghost use Rattle.yopen.specs.Open.{Tells, TellsFront};
+ghost use Rattle.ylink.specs.Open.{Tells, TellsFront};
 
+use crate::link::Link;
 use crate::open::Open;
 use std::alloc::Global;
 use std::io::{self, Read};
-use ylink::Link;
 
 /// All bytes of the reader that is opened.
 ///
