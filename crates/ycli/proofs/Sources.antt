@@ -10,7 +10,7 @@ use Rattle.ysyntax.specs.declared.fault.GrammarFault.{GrammarFault}
 use Rattle.ysyntax.specs.declared.fault.GrammarFault.TheVariants as grammars
 use Rattle.ygrammar.specs.GrammarOf.{IsFaultOf}
 use Rattle.ytables.specs.Tables.{TablesValue as Tables}
-use Rattle.yopen.specs.Open.{Tells, TellsFront}
+use Rattle.ylink.specs.Open.{Tells, TellsFront}
 use Rattle.ycli.specs.declared.source.SourceFault.{SourceFault}
 use Rattle.ycli.specs.declared.source.SourceFault.TheVariants as faults
 use Rattle.ycli.specs.Halves.{AreTablesOf, NoTables, SourceFails}

@@ -4,7 +4,7 @@ ghost use Rattle.std.specs.Prelude.{◌≡◌, true, IfErr, OnOk, is_some};
 ghost use Rattle.ylalr.specs.Collection.{Guide, IsGuide};
 ghost use Rattle.ylink.specs.Link.{device_of};
 ghost use Rattle.ylink.specs.Sends.{Grows};
-ghost use Rattle.yopen.specs.Open.{Tells};
+ghost use Rattle.ylink.specs.Open.{Tells};
 ghost use Rattle.ycli.specs.Written.{text_of, Sent, Writes, WriteFails, WritesAll, AllFail};
 ghost use Rattle.ycli.specs.Written.{Generated, ending_of};
 
@@ -12,7 +12,7 @@ use crate::source::{SourceFault, tables_from};
 use std::alloc::Global;
 use std::io::{ErrorKind, Read, Write};
 use thiserror::Error;
-use yopen::Open;
+use ylink::Open;
 use ytables::{Counts, Link, Tables};
 
 /// The texts that can be written of a grammar.

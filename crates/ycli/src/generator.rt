@@ -6,7 +6,7 @@ ghost use Rattle.ylink.specs.Sends.{Sends};
 ghost use Rattle.ycli.specs.Generating.{Asks, EndsIn, FilesFail, Generates, PassesOn, Runs};
 ghost use Rattle.ycli.specs.Generating.{said_of};
 ghost use Rattle.ycli.specs.Written.{Generated, Writes};
-ghost use Rattle.yopen.specs.Open.{Tells};
+ghost use Rattle.ylink.specs.Open.{Tells};
 
 use crate::generate::{Text, generate};
 use crate::message::{Program, Trouble, put_conflicts, put_help};
@@ -14,8 +14,8 @@ use clap::error::ErrorKind;
 use std::alloc::Global;
 use std::io::{Read, Write};
 use std::rt::Files;
-use yopen::Open;
-use yopen::files::{NewFile, OldFile};
+use ylink::Open;
+use ylink::files::{NewFile, OldFile};
 use ytables::{Counts, Link};
 use ywords::arguments::{YaccWords, yacc_words};
 

@@ -10,7 +10,7 @@ use clap::error::ErrorKind;
 use std::alloc::Global;
 use std::io::{Read, Write};
 use std::rt::Files;
-use yopen::files::OldFile;
+use ylink::files::OldFile;
 use ytables::Link;
 use ywords::arguments::{YstepWords, ystep_words};
 

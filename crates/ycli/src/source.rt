@@ -1,7 +1,7 @@
 //! The tables of a grammar: of its bytes, or of those that an opener's reader has.
 
 ghost use Rattle.std.specs.Prelude.{IfOk, IfErr, ℕ, List};
-ghost use Rattle.yopen.specs.Open.{Tells};
+ghost use Rattle.ylink.specs.Open.{Tells};
 ghost use Rattle.ycli.specs.Halves.{AreTablesOf, NoTables, SourceFails};
 
 use std::alloc::Global;
@@ -9,8 +9,8 @@ use std::io::{ErrorKind, Read};
 use thiserror::Error;
 use ygrammar::{GrammarFault, LONGEST_FILE, read_grammar};
 use ylalr::{BuildFault, build};
-use yopen::Open;
-use yopen::bytes::first_bytes;
+use ylink::Open;
+use ylink::bytes::first_bytes;
 use ytables::{Tables, resolve};
 
 /// So many bytes of a grammar show that it is too long, even where it never ends.

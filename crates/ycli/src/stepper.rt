@@ -1,7 +1,7 @@
 //! The stepper between openers and links: a grammar, tokens and command lines in, replies out.
 
 ghost use Rattle.std.specs.Prelude.{IfOk, IfErr, ◌≡◌, ℕ, List, Ok};
-ghost use Rattle.yopen.specs.Open.{Tells};
+ghost use Rattle.ylink.specs.Open.{Tells};
 ghost use Rattle.ylink.specs.Link.{device_of, has_failed};
 ghost use Rattle.yparse.specs.Session.{machine_of, history_of};
 ghost use Rattle.ytokens.specs.Reading.{TokensOf};
@@ -15,8 +15,8 @@ use crate::source::{SourceFault, tables_from};
 use std::alloc::Global;
 use std::io::{ErrorKind, Read, Write};
 use thiserror::Error;
-use yopen::Open;
-use yopen::bytes::bytes_of;
+use ylink::Open;
+use ylink::bytes::bytes_of;
 use yparse::{Session, TokenFault, Tokens, read_tokens};
 use ytables::{Link, Tables};
 

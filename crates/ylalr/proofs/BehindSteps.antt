@@ -8,8 +8,7 @@ use Rattle.ysymbols.specs.Grammar.{ContextFree}
 use Rattle.yrows.specs.Marks.{Has}
 use Rattle.yrows.specs.Rows.{BitRows, Holds, Grows, IsSized}
 use Rattle.yrows.proofs.Growth.{sized_then}
-use Rattle.yrows.proofs.MarkSteps.{marked_cases, none_marked}
-use Rattle.yrows.proofs.OrderSteps.{kept_marked}
+use Rattle.yrows.proofs.MarkSteps.{kept_marked, marked_cases, none_marked}
 use Rattle.yrows.proofs.Turn.{below_or_is}
 use Rattle.ylalr.specs.Behind.{FormHas, AddsAtMost, HasForm, rest_of, BehindTo}
 

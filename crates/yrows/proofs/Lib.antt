@@ -1,9 +1,5 @@
 pub mod Growth
-pub mod LinkSteps
 pub mod MarkSteps
-pub mod OrderSteps
 pub mod RowLemmas
-pub mod Spreading
 pub mod Turn
-pub mod WaitingSteps
 pub mod PackedSteps

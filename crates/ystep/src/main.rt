@@ -5,7 +5,7 @@ use std::env;
 use std::io::{self, ErrorKind, Write};
 use std::process::ExitCode;
 use ycli::programs::ystep_run;
-use yopen::Buffered;
+use ylink::Buffered;
 use ytables::Link;
 
 /// Passes on the words and the standard streams, and gives the exit status.

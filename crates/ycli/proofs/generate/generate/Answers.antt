@@ -1,4 +1,4 @@
-use Rattle.yopen.specs.Open.{Tells}
+use Rattle.ylink.specs.Open.{Tells}
 use Rattle.ycli.specs.declared.generate.Text.TheVariants.{Table, Report}
 use Rattle.ycli.specs.Written.{Writes}
 use Rattle.ycli.proofs.Written.{all_fail}

@@ -1,5 +1,5 @@
 use Rattle.std.proofs.Common.{◌≡◌, Bool, Err, subst}
-use Rattle.yopen.specs.Open.{Tells}
+use Rattle.ylink.specs.Open.{Tells}
 use Rattle.ycli.specs.declared.generate.Text.TheVariants.{Table, Report}
 use Rattle.ycli.specs.Written.{Generated, Writes}
 use Rattle.ycli.proofs.Written.{files_fail}

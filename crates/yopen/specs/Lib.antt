@@ -1,3 +1,0 @@
-pub mod Buffered
-pub mod Files
-pub mod Open
