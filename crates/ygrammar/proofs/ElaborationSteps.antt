@@ -1,12 +1,12 @@
 -- Which mistake is the first.
 use Rattle.std.proofs.Common.{ℕ, suc, ◌≡◌, ◌++◌, ◌∷◌, [], inl, inr, refl, sym, subst, List, take}
 use Rattle.std.proofs.Common.{drop, Result, Err, Ok, IsErrAnd}
-use Rattle.ygrammar.specs.declared.mistake.Mistake.{Mistake}
-use Rattle.ygrammar.specs.declared.mistake.Refused.{Refused}
-use Rattle.ygrammar.specs.declared.mistake.Refused.TheVariants as refused
+use Rattle.youtline.specs.declared.mistake.Mistake.{Mistake}
+use Rattle.youtline.specs.declared.mistake.Refused.{Refused}
+use Rattle.youtline.specs.declared.mistake.Refused.TheVariants as refused
 use Rattle.ygrammar.specs.Elaborated.{IsFirstRefused}
-use Rattle.ygrammar.specs.Mistakes.{HasNone, Holds, IsFirst, order}
-use Rattle.ygrammar.specs.Owned.{Refuses}
+use Rattle.youtline.specs.Mistakes.{HasNone, Holds, IsFirst, order}
+use Rattle.youtline.specs.Owned.{Refuses}
 use Rattle.ysyntax.specs.Tree.{Tree}
 
 -- one more mistake that does not hold

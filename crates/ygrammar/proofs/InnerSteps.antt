@@ -9,7 +9,7 @@ use Rattle.ysyntax.specs.declared.tree.BodyPart.TheVariants as items
 use Rattle.ysyntax.specs.declared.tree.BracedText.{BracedText}
 use Rattle.ysyntax.specs.declared.tree.RuleText.{RuleText as CodeRuleText}
 use Rattle.ysyntax.specs.TreeViews.{body_part_view, rule_text_view}
-use Rattle.ygrammar.specs.Elaboration.{body_from, final_of, split_last}
+use Rattle.youtline.specs.Elaboration.{body_from, final_of, split_last}
 use Rattle.ylexemes.specs.Lexemes.{Lexeme, fixed}
 use Rattle.ygrammar.specs.Numbered.{inner_after}
 use Rattle.ysyntax.specs.Tree.{RuleText, BodyPart, symbol, action, Tree, rule_text_yield}

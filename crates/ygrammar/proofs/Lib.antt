@@ -1,9 +1,6 @@
 pub mod NotingSteps
 pub mod RuleSteps
-pub mod TellingSteps
-pub mod OwnSteps
 pub mod NumberSteps
-pub mod TokenSteps
 pub mod OwnTables
 pub mod MistakeSteps
 pub mod SymbolNames

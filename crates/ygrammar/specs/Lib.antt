@@ -1,12 +1,7 @@
-pub mod Printed
-pub mod Elaboration
-pub mod Outline
 pub mod Numbered
-pub mod Told
-pub mod Mistakes
 pub mod Numbers
+pub mod OwnTable
 pub mod Meaning
-pub mod Owned
 pub mod Faults
 pub mod Elaborated
 pub mod Texts
@@ -18,3 +13,6 @@ pub use Rattle.ysymbols.specs.WellFormed
 pub use Rattle.ysymbols.specs.Names
 pub use Rattle.ysyntax.specs.Lexer
 pub use Rattle.ysyntax.specs.Tree
+pub use Rattle.youtline.specs.Printed
+pub use Rattle.youtline.specs.Elaboration
+pub use Rattle.youtline.specs.Mistakes

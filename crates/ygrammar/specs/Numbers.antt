@@ -23,11 +23,6 @@ pub record AreNumbers (own : List (Option ℕ)) (ns : List ℕ) : Type 0 where
   pub given : (i m : ℕ) → slice_get own i ≡ Some None → slice_get ns i ≡ Some m →
       IsLeast own ns i m
 
--- two tokens have the same number by themselves
-abbrev pub Clashes : List (Option ℕ) → Type 0
-Clashes own = (i : ℕ) × (j : ℕ) × (m : ℕ) × (i < j) × (slice_get own i ≡ Some (Some m))
-    × (slice_get own j ≡ Some (Some m))
-
 -- a token holds the number
 abbrev pub is_held : Holders → Bool
 is_held Nobody = false

@@ -12,21 +12,21 @@ ghost use Rattle.ysymbols.specs.Names.{number_in};
 ghost use Rattle.ygrammar.specs.Numbered.{inner_after};
 ghost use Rattle.ysyntax.specs.TreeTexts.{RuleTextStands};
 ghost use Rattle.ysyntax.specs.Tree.{IsTree, Tree as TreeOf, yield};
-ghost use Rattle.ygrammar.specs.Outline.{Outlines};
+ghost use Rattle.youtline.specs.Outline.{Outlines};
 ghost use Rattle.ysyntax.specs.TreeViews.{name_view, tree_view};
 ghost use Rattle.ysymbols.specs.Sources.{option_view};
 
-use crate::given::precedences;
 use crate::holders::{OwnTable, own_table};
-use crate::mistake::{Mistake, Refused};
 use crate::numbers::numbers;
-use crate::outline::Outline;
 use crate::refusals::{
     refuse_limit, refuse_prec, refuse_start, refuse_token_left, refuse_undefined,
 };
 use crate::rules::{intern_nonterminals, kept_texts, number_rules};
 use crate::tokens::tokens;
 use std::alloc::{AllocError, Global};
+use youtline::given::precedences;
+use youtline::mistake::{Mistake, Refused};
+use youtline::outline::Outline;
 use ysymbols::names::{SymbolTable, number_in};
 use ysymbols::productive::productive;
 use ysymbols::reachable::reachable;

@@ -1,16 +1,13 @@
 //! The reader of grammar files: from bytes it makes the grammar that they mean, or finds their
-//! first fault. The value of a grammar is that of `ysymbols`.
+//! first fault. What the declarations of a file say is that of `youtline`, and the value of a
+//! grammar that of `ysymbols`.
 #![tactic(auto)]
 
 mod checks;
 mod elaboration;
-mod given;
 mod holders;
-mod identifiers;
 mod lines;
-mod mistake;
 mod numbers;
-mod outline;
 mod reader;
 mod refusals;
 mod rules;

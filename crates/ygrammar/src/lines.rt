@@ -4,36 +4,32 @@ ghost use Rattle.std.specs.Prelude.{◌≡◌};
 ghost use Rattle.ygrammar.specs.Faults.{IsRefusal, line_of};
 ghost use Rattle.ygrammar.specs.GrammarOf.{mistake_at};
 
-use crate::mistake::{Mistake, Refused};
+use youtline::mistake::{Mistake, Refused};
 use ysyntax::fault::GrammarFault;
 
-impl Mistake {
-    /// The fault that is this mistake, on a line.
-    fn at_line(self, line: usize) -> GrammarFault
-        ensures { result ≡ mistake_at self line }
-    {
-        match self {
-            Mistake::TokenLeft => GrammarFault::TokenLeft { line },
-            Mistake::Undefined => GrammarFault::Undefined { line },
-            Mistake::TwicePrecedence => GrammarFault::TwicePrecedence { line },
-            Mistake::BadNumber => GrammarFault::BadNumber { line },
-            Mistake::BadStart => GrammarFault::BadStart { line },
-            Mistake::Unproductive => GrammarFault::Unproductive { line },
-            Mistake::BadPrec => GrammarFault::BadPrec { line },
-            Mistake::Limit => GrammarFault::Limit { line },
-        }
+/// The fault that is this mistake, on a line.
+fn at_line(what: Mistake, line: usize) -> GrammarFault
+    ensures { result ≡ mistake_at what line }
+{
+    match what {
+        Mistake::TokenLeft => GrammarFault::TokenLeft { line },
+        Mistake::Undefined => GrammarFault::Undefined { line },
+        Mistake::TwicePrecedence => GrammarFault::TwicePrecedence { line },
+        Mistake::BadNumber => GrammarFault::BadNumber { line },
+        Mistake::BadStart => GrammarFault::BadStart { line },
+        Mistake::Unproductive => GrammarFault::Unproductive { line },
+        Mistake::BadPrec => GrammarFault::BadPrec { line },
+        Mistake::Limit => GrammarFault::Limit { line },
     }
 }
 
-impl Refused {
-    /// The fault of this refusal, in a file of these bytes.
-    pub fn in_file(self, source: &[u8]) -> GrammarFault
-        ensures { IsRefusal source.now self result }
-    {
-        match self {
-            Refused::Mistake { what, at } => what.at_line(line_at(source, at)),
-            Refused::Memory => GrammarFault::Memory,
-        }
+/// The fault of a refusal, in a file of these bytes.
+pub fn in_file(refused: Refused, source: &[u8]) -> GrammarFault
+    ensures { IsRefusal source.now refused result }
+{
+    match refused {
+        Refused::Mistake { what, at } => at_line(what, line_at(source, at)),
+        Refused::Memory => GrammarFault::Memory,
     }
 }
 

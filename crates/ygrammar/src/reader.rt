@@ -6,9 +6,10 @@ ghost use Rattle.ysyntax.specs.Lexer.{Refusal};
 ghost use Rattle.ygrammar.specs.GrammarOf.{AnswersGrammar, AnswersMistake, AnswersRefusal};
 ghost use Rattle.ygrammar.specs.GrammarOf.{GivesGrammar, IsFaultOf, IsGrammarOf, IsMistaken};
 ghost use Rattle.ygrammar.specs.GrammarOf.{IsRefused};
-ghost use Rattle.ygrammar.specs.declared.mistake.Mistake.{Mistake};
+ghost use Rattle.youtline.specs.declared.mistake.Mistake.{Mistake};
 
 use crate::elaboration::elaborate;
+use crate::lines::in_file;
 use std::alloc::Global;
 use ysymbols::Grammar;
 use ysyntax::fault::GrammarFault;
@@ -42,6 +43,6 @@ pub fn read_grammar(alloc: Global, source: &[u8]) -> Result<Grammar, GrammarFaul
     let tree = build_tree(alloc, &lexemes)?;
     match elaborate(alloc, source, &tree) {
         Ok(grammar) => Ok(grammar),
-        Err(refused) => Err(refused.in_file(source)),
+        Err(refused) => Err(in_file(refused, source)),
     }
 }

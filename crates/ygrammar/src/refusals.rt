@@ -2,22 +2,22 @@
 //! of it.
 
 ghost use Rattle.std.specs.Prelude.{◌≡◌, ◌∷◌, length, map};
-ghost use Rattle.ygrammar.specs.Elaboration.{rules as rules_of_tree, symbols as symbols_of_tree};
-ghost use Rattle.ygrammar.specs.Elaboration.{token_precedences, tokens as tokens_of_tree};
+ghost use Rattle.youtline.specs.Elaboration.{rules as rules_of_tree, symbols as symbols_of_tree};
+ghost use Rattle.youtline.specs.Elaboration.{token_precedences, tokens as tokens_of_tree};
 ghost use Rattle.ysymbols.specs.NameTexts.{texts};
 ghost use Rattle.ygrammar.specs.Numbered.{rule_numbers};
-ghost use Rattle.ygrammar.specs.Outline.{Outlines};
-ghost use Rattle.ygrammar.specs.Owned.{Clears};
+ghost use Rattle.youtline.specs.Outline.{Outlines};
+ghost use Rattle.youtline.specs.Owned.{Clears};
 ghost use Rattle.ysyntax.specs.Tree.{Tree as TreeOf};
-ghost use Rattle.ygrammar.specs.declared.mistake.Mistake.TheVariants.{BadPrec, BadStart};
-ghost use Rattle.ygrammar.specs.declared.mistake.Mistake.TheVariants.{Limit};
-ghost use Rattle.ygrammar.specs.declared.mistake.Mistake.TheVariants.{TokenLeft, Undefined};
+ghost use Rattle.youtline.specs.declared.mistake.Mistake.TheVariants.{BadPrec, BadStart};
+ghost use Rattle.youtline.specs.declared.mistake.Mistake.TheVariants.{Limit};
+ghost use Rattle.youtline.specs.declared.mistake.Mistake.TheVariants.{TokenLeft, Undefined};
 
 use crate::checks::{
     any_long, bad_start, first_nonterminal, first_token, first_undefined, first_unknown,
 };
-use crate::mistake::{Mistake, Refused};
-use crate::outline::Outline;
+use youtline::mistake::{Mistake, Refused};
+use youtline::outline::Outline;
 use ysymbols::Rule;
 use ysymbols::limits::{MOST_RULES, MOST_SYMBOLS};
 use ysymbols::names::SymbolTable;

@@ -1,17 +1,17 @@
 //! The tokens of a file by number.
 
 ghost use Rattle.std.specs.Prelude.{◌≡◌, ◌++◌, ◌∷◌, [], filter, map, codes, IfOk, OnOk};
-ghost use Rattle.ygrammar.specs.Elaboration.{is_literal, listed_name, token_names_of, tokens_of};
+ghost use Rattle.youtline.specs.Elaboration.{is_literal, listed_name, token_names_of, tokens_of};
 ghost use Rattle.ysymbols.specs.NameTexts.{texts};
 ghost use Rattle.ysymbols.specs.Names.{is_among, with_names};
-ghost use Rattle.ygrammar.specs.Printed.{printed_name};
-ghost use Rattle.ygrammar.specs.Outline.{listed_view};
+ghost use Rattle.youtline.specs.Printed.{printed_name};
+ghost use Rattle.youtline.specs.Outline.{listed_view};
 ghost use Rattle.ysyntax.specs.TreeViews.{occurrence_view};
 
-use crate::identifiers::{intern_identifier, is_named};
-use crate::outline::{Listed, Outline};
 use indexmap::IndexSet;
 use std::alloc::{AllocError, Global};
+use youtline::identifiers::{intern_identifier, is_named};
+use youtline::outline::{Listed, Outline};
 use ysymbols::names::{SymbolTable, intern};
 use ysyntax::tree::{Identifier, Occurrence};
 

@@ -1,11 +1,11 @@
 use Rattle.std.proofs.Common.{◌≡◌, ◌≤◌, ◌<◌, ◌∙◌, ℕ, sym, subst, length, map, refl, take}
-use Rattle.ygrammar.specs.declared.mistake.Mistake.TheVariants as mistakes
+use Rattle.youtline.specs.declared.mistake.Mistake.TheVariants as mistakes
 use Rattle.ygrammar.specs.Elaborated.{Elaborates, IsReady}
-use Rattle.ygrammar.specs.Elaboration.{bare_of, rules, symbols, token_precedences, tokens}
+use Rattle.youtline.specs.Elaboration.{bare_of, rules, symbols, token_precedences, tokens}
 use Rattle.ysymbols.specs.Forms.{Productive}
 use Rattle.ysymbols.specs.Grammar.{ContextFree}
 use Rattle.ysymbols.specs.Marking.{numbered_grammar}
-use Rattle.ygrammar.specs.Mistakes.{HasNone, order}
+use Rattle.youtline.specs.Mistakes.{HasNone, order}
 use Rattle.ygrammar.specs.Numbered.{rule_numbers}
 use Rattle.ysyntax.specs.Tree.{Tree, yield}
 use Rattle.ysyntax.specs.TreeViews.{tree_view}

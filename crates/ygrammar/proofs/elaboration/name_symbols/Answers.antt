@@ -1,15 +1,15 @@
 use Rattle.std.proofs.Common.{◌≡◌, ◌++◌, ◌∷◌, [], ◌∙◌, sym, ap, map, length, refl, List, ℕ}
 use Rattle.std.proofs.Common.{codes}
-use Rattle.ygrammar.specs.declared.mistake.Mistake.TheVariants as mistakes
+use Rattle.youtline.specs.declared.mistake.Mistake.TheVariants as mistakes
 use Rattle.ysyntax.specs.declared.tree.RuleText.{RuleText}
 use Rattle.ysyntax.specs.declared.tree.Tree.{Tree as CodeTree}
-use Rattle.ygrammar.specs.declared.outline.Outline.{Outline}
+use Rattle.youtline.specs.declared.outline.Outline.{Outline}
 use Rattle.ygrammar.specs.Elaborated.{GivesNamed}
-use Rattle.ygrammar.specs.Elaboration.{Listing, listings, rule_left, rules_from, symbols, tokens}
-use Rattle.ygrammar.specs.Elaboration.{tokens_of}
+use Rattle.youtline.specs.Elaboration.{Listing, listings, rule_left, rules_from, symbols, tokens}
+use Rattle.youtline.specs.Elaboration.{tokens_of}
 use Rattle.ysymbols.specs.NameTexts.{texts}
 use Rattle.ysymbols.specs.Names.{with_names}
-use Rattle.ygrammar.specs.Outline.{Outlines, listed_view}
+use Rattle.youtline.specs.Outline.{Outlines, listed_view}
 use Rattle.ysyntax.specs.Tree.{RuleText as RuleTextOf, Identifier, Tree}
 use Rattle.ysyntax.specs.TreeViews.{rule_text_view, occurrence_view, tree_view}
 use Rattle.ygrammar.proofs.ElaborationSteps.{refuses}

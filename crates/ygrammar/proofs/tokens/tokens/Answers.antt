@@ -1,10 +1,10 @@
 use Rattle.std.proofs.Common.{◌≡◌, ◌++◌, [], ◌∷◌, List, ℕ, map, filter, subst, codes}
 use Rattle.ysyntax.specs.declared.tree.Occurrence.{Occurrence}
-use Rattle.ygrammar.specs.Elaboration.{token_names_of}
+use Rattle.youtline.specs.Elaboration.{token_names_of}
 use Rattle.ysymbols.specs.NameTexts.{texts}
 use Rattle.ysymbols.specs.Names.{is_among, with_names}
-use Rattle.ygrammar.specs.Printed.{printed_name}
-use Rattle.ygrammar.specs.Outline.{listed_view}
+use Rattle.youtline.specs.Printed.{printed_name}
+use Rattle.youtline.specs.Outline.{listed_view}
 use Rattle.ysyntax.specs.TreeViews.{occurrence_view}
 use Rattle.ygrammar.proofs.NotingSteps.{tokens_noted}
 use Rattle.ygrammar.proofs.tokens.tokens.Goals as goal

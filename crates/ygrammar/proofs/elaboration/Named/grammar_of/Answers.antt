@@ -1,5 +1,5 @@
 use Rattle.std.proofs.Common.{◌≡◌, ◌∙◌, ap, sym, subst, length, List, Option, ℕ, rules}
-use Rattle.ygrammar.specs.Elaboration.{symbols}
+use Rattle.youtline.specs.Elaboration.{symbols}
 use Rattle.ysymbols.specs.Grammar.{GrammarValue, RuleValue}
 use Rattle.ysymbols.specs.Marking.{AreIn}
 use Rattle.ygrammar.specs.Meaning.{IsMeaning}
