@@ -3,7 +3,7 @@
 use crate::refusal::{Grouped, Refusal};
 use crate::words::{Found, Nearest, find, first_word, number_of};
 use std::alloc::{AllocError, Global};
-use std::io::{self, Write};
+use std::io::Write;
 use yexplain::reads::{grammar_of, left_of};
 use ylalr::{END, ERROR};
 use yparse::Session;
@@ -222,22 +222,22 @@ impl Condition {
     }
 
     /// A number or a name behind a word.
-    fn put_number<W: Write>(page: &mut Page<W>, word: &str, number: usize) -> io::Result<()> {
-        page.put(word)?;
-        page.number(number)
+    fn put_number<W: Write>(page: &mut Page<W>, word: &str, number: usize) {
+        page.put(word);
+        page.number(number);
     }
 
     /// Why the run stopped, or what never came.
-    pub fn put<W: Write>(self, page: &mut Page<W>, session: &Session) -> io::Result<()> {
+    pub fn put<W: Write>(self, page: &mut Page<W>, session: &Session) {
         let grammar = grammar_of(session.tables());
         match self {
             Condition::Shift(token) => {
-                page.put("shift of ")?;
-                page.put(name_of(grammar, token))
+                page.put("shift of ");
+                page.put(name_of(grammar, token));
             }
             Condition::ReduceTo(left) => {
-                page.put("reduction to ")?;
-                page.put(name_of(grammar, left))
+                page.put("reduction to ");
+                page.put(name_of(grammar, left));
             }
             Condition::Reduce(rule) => Self::put_number(page, "reduction by rule ", rule),
             Condition::Error => page.put("error"),
@@ -251,10 +251,10 @@ impl Condition {
 }
 
 /// Which state and which token ahead have a conflict.
-pub fn put_cell<W: Write>(page: &mut Page<W>, session: &Session) -> io::Result<()> {
-    page.put("state ")?;
-    page.number(session.state())?;
-    page.put(" on ")?;
-    page.put(name_of(grammar_of(session.tables()), token_ahead(session)))?;
-    page.put(" has a conflict")
+pub fn put_cell<W: Write>(page: &mut Page<W>, session: &Session) {
+    page.put("state ");
+    page.number(session.state());
+    page.put(" on ");
+    page.put(name_of(grammar_of(session.tables()), token_ahead(session)));
+    page.put(" has a conflict");
 }

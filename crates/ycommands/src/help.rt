@@ -3,7 +3,7 @@
 use crate::verb::{VERBS, Verb};
 use crate::words::{Found, Nearest, begins, find};
 use std::alloc::{AllocError, Global};
-use std::io::{self, Write};
+use std::io::Write;
 use yshow::{Page, Paint};
 
 /// The command that a word means.
@@ -18,16 +18,16 @@ pub fn verb_of(word: &str) -> Found<Verb> {
 }
 
 /// The commands that begin so.
-pub fn put_candidates<W: Write>(page: &mut Page<W>, word: &str) -> io::Result<()> {
-    page.put(word)?;
-    page.put(" could be any of:")?;
+pub fn put_candidates<W: Write>(page: &mut Page<W>, word: &str) {
+    page.put(word);
+    page.put(" could be any of:");
     for (name, _) in &VERBS {
         if begins(name, word) {
-            page.put(" ")?;
-            page.put(name)?;
+            page.put(" ");
+            page.put(name);
         }
     }
-    page.end()
+    page.end();
 }
 
 /// The command whose word is near to this one.
@@ -40,51 +40,62 @@ fn near_verb<'a>(alloc: Global, word: &'a str) -> Result<Option<&'a str>, AllocE
 }
 
 /// That a word is no command, and which one is near it.
-pub fn put_unknown<W: Write>(alloc: Global, page: &mut Page<W>, word: &str) -> io::Result<()> {
+pub fn put_unknown<W: Write>(
+    alloc: Global,
+    page: &mut Page<W>,
+    word: &str,
+) -> Result<(), AllocError> {
     let near = near_verb(alloc, word)?;
-    page.painted(Paint::Bad, word)?;
-    page.put(" is no command; ")?;
+    page.painted(Paint::Bad, word);
+    page.put(" is no command; ");
     match near {
-        Some(best) => writeln!(page, "did you mean {best}?"),
+        Some(best) => {
+            page.put("did you mean ");
+            page.put(best);
+            page.line("?");
+        }
         None => page.line("help lists them."),
     }
+    Ok(())
 }
 
 /// How a command is used and what it does.
-fn put_usage<W: Write>(page: &mut Page<W>, verb: Verb) -> io::Result<()> {
-    page.put("  ")?;
-    page.painted(Paint::Strong, verb.usage())?;
-    page.tab(28)?;
-    page.line(verb.about())
+fn put_usage<W: Write>(page: &mut Page<W>, verb: Verb) {
+    page.put("  ");
+    page.painted(Paint::Strong, verb.usage());
+    page.tab(28);
+    page.line(verb.about());
 }
 
 /// All commands.
-fn put_commands<W: Write>(page: &mut Page<W>) -> io::Result<()> {
+fn put_commands<W: Write>(page: &mut Page<W>) {
     for (_, verb) in &VERBS {
-        put_usage(page, *verb)?;
+        put_usage(page, *verb);
     }
-    page.line("A beginning of a word is enough where no other word begins so;")?;
-    page.line("s, b, r and w are step, back, run and where.")?;
-    page.line("An empty line repeats the last move.")
+    page.line("A beginning of a word is enough where no other word begins so;");
+    page.line("s, b, r and w are step, back, run and where.");
+    page.line("An empty line repeats the last move.");
 }
 
 /// One command.
-fn put_command<W: Write>(page: &mut Page<W>, verb: Verb) -> io::Result<()> {
-    put_usage(page, verb)?;
-    if verb.more().is_empty() {
-        return Ok(());
+fn put_command<W: Write>(page: &mut Page<W>, verb: Verb) {
+    put_usage(page, verb);
+    if !verb.more().is_empty() {
+        page.line(verb.more());
     }
-    page.line(verb.more())
 }
 
 /// Help on all commands, or on one.
-pub fn show_help<W: Write>(alloc: Global, page: &mut Page<W>, text: &str) -> io::Result<()> {
-    if text.is_empty() {
-        return put_commands(page);
-    }
+pub fn show_help<W: Write>(
+    alloc: Global,
+    page: &mut Page<W>,
+    text: &str,
+) -> Result<(), AllocError> {
     match verb_of(text) {
+        _ if text.is_empty() => put_commands(page),
         Found::One(verb) => put_command(page, verb),
         Found::Many => put_candidates(page, text),
-        Found::Nothing => put_unknown(alloc, page, text),
+        Found::Nothing => return put_unknown(alloc, page, text),
     }
+    Ok(())
 }

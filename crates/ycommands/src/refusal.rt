@@ -3,7 +3,7 @@
 use crate::verb::Verb;
 use std::alloc::AllocError;
 use std::fmt;
-use std::io::{self, Write};
+use std::io::Write;
 use thiserror::Error;
 use yparse::machine::{Mode, StepFault};
 use yshow::{Page, Paint};
@@ -80,11 +80,11 @@ pub fn misused(verb: Verb) -> Refusal {
 }
 
 /// Writes a refusal.
-pub fn put_refusal<W: Write>(page: &mut Page<W>, refusal: Refusal) -> io::Result<()> {
-    page.paint(Paint::Bad)?;
-    write!(page, "{refusal}")?;
-    page.paint(Paint::Plain)?;
-    page.end()
+pub fn put_refusal<W: Write>(page: &mut Page<W>, refusal: Refusal) {
+    page.paint(Paint::Bad);
+    page.show(refusal);
+    page.paint(Paint::Plain);
+    page.end();
 }
 
 /// Why an edit can't be made.

@@ -10,7 +10,7 @@ use crate::views::{
     refuse_name, show_derivation, show_history, show_rule, show_state, show_symbol, show_tree,
     show_why,
 };
-use std::alloc::Global;
+use std::alloc::{AllocError, Global};
 use std::io::{self, BufReader, ErrorKind, Read, Write};
 use std::rt::Files;
 use std::str;
@@ -55,7 +55,7 @@ struct Desk<'a, F, S> {
 
 impl<'a, F: Files + AllocGlobal, S: Opens> Desk<'a, F, S> {
     /// Makes a move, which an empty line then repeats.
-    fn go<W: Write>(&mut self, page: &mut Page<W>, wanted: Move) -> io::Result<()> {
+    fn go<W: Write>(&mut self, page: &mut Page<W>, wanted: Move) -> Result<(), AllocError> {
         self.last = Some(wanted);
         make_move(
             self.rt.alloc(),
@@ -67,10 +67,18 @@ impl<'a, F: Files + AllocGlobal, S: Opens> Desk<'a, F, S> {
     }
 
     /// Makes the move that a command means.
-    fn travel<W: Write>(&mut self, page: &mut Page<W>, verb: Verb, text: &str) -> io::Result<()> {
+    fn travel<W: Write>(
+        &mut self,
+        page: &mut Page<W>,
+        verb: Verb,
+        text: &str,
+    ) -> Result<(), AllocError> {
         match move_of(self.parse.session(), self.parse.tokens(), verb, text) {
             Ok(wanted) => self.go(page, wanted),
-            Err(Refusal::NoNumber) => put_refusal(page, misused(verb)),
+            Err(Refusal::NoNumber) => {
+                put_refusal(page, misused(verb));
+                Ok(())
+            }
             Err(refusal) => {
                 let name = name_at_fault(text, refusal);
                 refuse_name(self.rt.alloc(), self.parse.session(), page, name, refusal)
@@ -79,56 +87,68 @@ impl<'a, F: Files + AllocGlobal, S: Opens> Desk<'a, F, S> {
     }
 
     /// Changes the upcoming tokens, or writes them to a file.
-    fn edit<W: Write>(&mut self, page: &mut Page<W>, verb: Verb, text: &str) -> io::Result<()> {
+    fn edit<W: Write>(
+        &mut self,
+        page: &mut Page<W>,
+        verb: Verb,
+        text: &str,
+    ) -> Result<(), AllocError> {
         let wants_word = verb != Verb::Drop;
-        if wants_word == text.is_empty() {
-            return put_refusal(page, misused(verb));
-        }
         match verb {
-            Verb::Insert => insert(self.rt.alloc(), &mut self.parse, page, text),
+            _ if wants_word == text.is_empty() => put_refusal(page, misused(verb)),
+            Verb::Insert => return insert(self.rt.alloc(), &mut self.parse, page, text),
             Verb::Drop => drop_next(&mut self.parse, page),
             verb => save(self.rt, &self.parse, page, text, verb == Verb::SaveOver),
         }
+        Ok(())
     }
 
     /// Shows what needs no words behind the command.
-    fn look<W: Write>(&mut self, page: &mut Page<W>, verb: Verb) -> io::Result<()> {
+    fn look<W: Write>(&mut self, page: &mut Page<W>, verb: Verb) -> Result<(), AllocError> {
         let parse = &self.parse;
         match verb {
             Verb::Stack => put_stack(page, parse.session()),
             Verb::Upcoming => put_ahead_all(page, parse),
-            Verb::Expected => put_expected(self.rt.alloc(), page, parse.session()),
+            Verb::Expected => return put_expected(self.rt.alloc(), page, parse.session()),
             Verb::Grammar => put_grammar(page, parse.tables(), parse.lines()),
-            Verb::Conflicts => put_conflicts(self.rt.alloc(), page, parse),
+            Verb::Conflicts => return put_conflicts(self.rt.alloc(), page, parse),
             _ => {
-                put_where(page, parse.session(), parse.tokens())?;
-                put_ahead(page, parse)
+                put_where(page, parse.session(), parse.tokens());
+                put_ahead(page, parse);
             }
         }
+        Ok(())
     }
 
     /// Shows what words behind the command ask for.
-    fn show<W: Write>(&mut self, page: &mut Page<W>, verb: Verb, text: &str) -> io::Result<()> {
+    fn show<W: Write>(
+        &mut self,
+        page: &mut Page<W>,
+        verb: Verb,
+        text: &str,
+    ) -> Result<(), AllocError> {
         let alloc = self.rt.alloc();
         let parse = &self.parse;
         match verb {
             Verb::State => show_state(parse, page, text),
-            Verb::Why => show_why(alloc, parse, page, text),
+            Verb::Why => return show_why(alloc, parse, page, text),
             Verb::Rule => show_rule(parse, page, text),
-            Verb::Symbol => show_symbol(alloc, parse, page, text),
-            Verb::Tree => show_tree(alloc, parse, page, text),
-            Verb::Derivation => show_derivation(alloc, parse, page, text),
+            Verb::Symbol => return show_symbol(alloc, parse, page, text),
+            Verb::Tree => return show_tree(alloc, parse, page, text),
+            Verb::Derivation => return show_derivation(alloc, parse, page, text),
             Verb::History => show_history(parse, page, text),
-            Verb::Help => show_help(alloc, page, text),
-            verb if text.is_empty() => self.look(page, verb),
+            Verb::Help => return show_help(alloc, page, text),
+            verb if text.is_empty() => return self.look(page, verb),
             verb => put_refusal(page, misused(verb)),
         }
+        Ok(())
     }
 
     /// Reads both files again.
     fn renew<W: Write>(&mut self, page: &mut Page<W>, text: &str) -> io::Result<()> {
         if !text.is_empty() {
-            return put_refusal(page, misused(Verb::Reload));
+            put_refusal(page, misused(Verb::Reload));
+            return Ok(());
         }
         self.last = None;
         reload(page, &mut self.parse, self.source)
@@ -149,7 +169,7 @@ impl<'a, F: Files + AllocGlobal, S: Opens> Desk<'a, F, S> {
     }
 
     /// Repeats the last move, where there was one.
-    fn repeat<W: Write>(&mut self, page: &mut Page<W>) -> io::Result<()> {
+    fn repeat<W: Write>(&mut self, page: &mut Page<W>) -> Result<(), AllocError> {
         match self.last {
             Some(wanted) => self.go(page, wanted),
             None => Ok(()),
@@ -159,12 +179,10 @@ impl<'a, F: Files + AllocGlobal, S: Opens> Desk<'a, F, S> {
     /// Answers a line.
     fn answer<W: Write>(&mut self, page: &mut Page<W>, line: &str) -> io::Result<Flow> {
         let (word, text) = first_word(line);
-        if word.is_empty() {
-            return self.repeat(page).map(|()| Flow::GoesOn);
-        }
         match verb_of(word) {
+            _ if word.is_empty() => self.repeat(page)?,
             Found::One(verb) => return self.obey(page, verb, text),
-            Found::Many => put_candidates(page, word)?,
+            Found::Many => put_candidates(page, word),
             Found::Nothing => put_unknown(self.rt.alloc(), page, word)?,
         }
         Ok(Flow::GoesOn)
@@ -173,23 +191,25 @@ impl<'a, F: Files + AllocGlobal, S: Opens> Desk<'a, F, S> {
     /// Answers a line, also where there is no memory for what it asks.
     fn serve<W: Write>(&mut self, page: &mut Page<W>, line: &[u8]) -> io::Result<Flow> {
         let Ok(line) = str::from_utf8(line) else {
-            return page.line("That line is no text.").map(|()| Flow::GoesOn);
+            page.line("That line is no text.");
+            return Ok(Flow::GoesOn);
         };
         match self.answer(page, line) {
             Err(error) if error.kind() == ErrorKind::OutOfMemory => {
                 if page.column() > 0 {
-                    page.end()?;
+                    page.end();
                 }
-                put_refusal(page, Refusal::Memory).map(|()| Flow::GoesOn)
+                put_refusal(page, Refusal::Memory);
+                Ok(Flow::GoesOn)
             }
             answered => answered,
         }
     }
 
-    /// Asks for a line where a person sits at a terminal.
+    /// Asks for a line where a person sits at a terminal. The answer is the page's fault.
     fn prompt<W: Write>(&self, page: &mut Page<W>) -> io::Result<()> {
         if self.setting.terminal {
-            page.painted(Paint::Strong, "(ydebug) ")?;
+            page.painted(Paint::Strong, "(ydebug) ");
         }
         page.flush()
     }
@@ -209,28 +229,31 @@ impl<'a, F: Files + AllocGlobal, S: Opens> Desk<'a, F, S> {
         match came {
             Came::End => {
                 if self.setting.terminal {
-                    page.end()?;
+                    page.end();
                 }
                 Ok(Flow::Quits)
             }
-            Came::Long => page.line("That line is too long.").map(|()| Flow::GoesOn),
+            Came::Long => {
+                page.line("That line is too long.");
+                Ok(Flow::GoesOn)
+            }
             Came::Line => self.serve(page, line),
         }
     }
 
     /// Greets a person at a terminal.
-    fn greet<W: Write>(&self, page: &mut Page<W>) -> io::Result<()> {
+    fn greet<W: Write>(&self, page: &mut Page<W>) {
         if !self.setting.terminal {
-            return Ok(());
+            return;
         }
         let tables = self.parse.tables();
         let counts = tables.conflicts();
         let conflicts = counts.shift_reduce.saturating_add(counts.reduce_reduce);
-        page.count(last_rule(grammar_of(tables)), "rule, ", "rules, ")?;
-        page.count(states_of(tables), "state, ", "states, ")?;
-        page.count(conflicts as usize, "conflict, ", "conflicts, ")?;
-        page.count(self.parse.tokens(), "token; ", "tokens; ")?;
-        page.line("type help")
+        page.count(last_rule(grammar_of(tables)), "rule, ", "rules, ");
+        page.count(states_of(tables), "state, ", "states, ");
+        page.count(conflicts as usize, "conflict, ", "conflicts, ");
+        page.count(self.parse.tokens(), "token; ", "tokens; ");
+        page.line("type help");
     }
 }
 
@@ -241,7 +264,7 @@ fn turns<F: Files + AllocGlobal, S: Opens, R: Read, W: Write>(
     reader: &mut BufReader<R>,
     line: &mut Vec<u8>,
 ) -> io::Result<()> {
-    desk.greet(page)?;
+    desk.greet(page);
     for _ in 0..u64::MAX {
         if desk.turn(reader, line, page)? == Flow::Quits {
             break;

@@ -2,7 +2,7 @@
 
 use crate::history::put_tokens;
 use crate::views::refuse_name;
-use std::alloc::Global;
+use std::alloc::{AllocError, Global};
 use std::fs::{self, File};
 use std::io::{self, ErrorKind, Write};
 use std::rt::Files;
@@ -13,11 +13,7 @@ use yshow::page::Page;
 use yshow::step_line::{StepLine, put_made};
 
 /// Writes an edit, or why it wasn't made.
-fn put_edit<W: Write>(
-    page: &mut Page<W>,
-    parse: &Parse,
-    made: Result<StepKind, StepFault>,
-) -> io::Result<()> {
+fn put_edit<W: Write>(page: &mut Page<W>, parse: &Parse, made: Result<StepKind, StepFault>) {
     let session = parse.session();
     match made {
         Ok(kind) => put_made(page, session, StepLine::of(session, kind, false)),
@@ -31,24 +27,26 @@ pub fn insert<W: Write>(
     parse: &mut Parse,
     page: &mut Page<W>,
     name: &str,
-) -> io::Result<()> {
+) -> Result<(), AllocError> {
     match parse.insert(name.as_bytes()) {
         Ok(Some(kind)) => put_edit(page, parse, Ok(kind)),
-        Ok(None) => refuse_name(alloc, parse.session(), page, name, Refusal::NoInput),
+        Ok(None) => return refuse_name(alloc, parse.session(), page, name, Refusal::NoInput),
         Err(fault) => put_edit(page, parse, Err(fault)),
     }
+    Ok(())
 }
 
 /// Takes out the first of the upcoming tokens.
-pub fn drop_next<W: Write>(parse: &mut Parse, page: &mut Page<W>) -> io::Result<()> {
+pub fn drop_next<W: Write>(parse: &mut Parse, page: &mut Page<W>) {
     let made = parse.drop_next();
-    put_edit(page, parse, made)
+    put_edit(page, parse, made);
 }
 
 /// The whole input with its edits, as the text of a tokens file.
 fn text_of(alloc: Global, parse: &Parse) -> io::Result<Vec<u8>> {
     let mut page = Page::new(Vec::new(alloc), false);
-    put_tokens(&mut page, parse)?;
+    put_tokens(&mut page, parse);
+    page.checked()?;
     Ok(page.into_out())
 }
 
@@ -81,7 +79,7 @@ pub fn save<F: Files + AllocGlobal, W: Write>(
     page: &mut Page<W>,
     path: &str,
     over: bool,
-) -> io::Result<()> {
+) {
     let words = match save_tokens(rt, parse, path, over) {
         Ok(()) => " has the tokens, edits included.",
         Err(error) => match error.kind() {
@@ -90,6 +88,6 @@ pub fn save<F: Files + AllocGlobal, W: Write>(
             _ => " can't be written.",
         },
     };
-    page.put(path)?;
-    page.line(words)
+    page.put(path);
+    page.line(words);
 }

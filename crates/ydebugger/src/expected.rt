@@ -1,7 +1,7 @@
 //! The tokens that can come here.
 
 use std::alloc::{AllocError, Global};
-use std::io::{self, Write};
+use std::io::Write;
 use ycheck::expected::{Wanted, expected};
 use yexplain::reads::{goto_of, grammar_of};
 use yparse::Session;
@@ -24,25 +24,36 @@ fn states_of_stack(alloc: Global, session: &Session) -> Result<Vec<usize>, Alloc
 }
 
 /// Tokens by name, as a list that ends its last line.
-fn put_names<W: Write>(page: &mut Page<W>, grammar: &Grammar, tokens: &[Sym]) -> io::Result<()> {
+fn put_names<W: Write>(page: &mut Page<W>, grammar: &Grammar, tokens: &[Sym]) {
     for token in tokens {
-        page.word(0, name_of(grammar, *token))?;
+        page.word(0, name_of(grammar, *token));
     }
-    page.end()
+    page.end();
 }
 
 /// The tokens that can come, and those that take too many reductions to say.
-fn put_found<W: Write>(page: &mut Page<W>, grammar: &Grammar, found: &Wanted) -> io::Result<()> {
+fn put_found<W: Write>(page: &mut Page<W>, grammar: &Grammar, found: &Wanted) {
     if !found.can.is_empty() {
-        put_names(page, grammar, &found.can)?;
+        put_names(page, grammar, &found.can);
     }
     if !found.unknown.is_empty() {
-        page.put("can't tell, since too many reductions come first:")?;
-        put_names(page, grammar, &found.unknown)?;
+        page.put("can't tell, since too many reductions come first:");
+        put_names(page, grammar, &found.unknown);
     }
     if found.can.is_empty() && found.unknown.is_empty() {
-        page.line("No token can come here.")?;
+        page.line("No token can come here.");
     }
+}
+
+/// The tokens that can come where the parse is running.
+fn put_running<W: Write>(
+    alloc: Global,
+    page: &mut Page<W>,
+    session: &Session,
+) -> Result<(), AllocError> {
+    let states = states_of_stack(alloc, session)?;
+    let found = expected(alloc, session.tables(), &states)?;
+    put_found(page, grammar_of(session.tables()), &found);
     Ok(())
 }
 
@@ -51,16 +62,14 @@ pub fn put_expected<W: Write>(
     alloc: Global,
     page: &mut Page<W>,
     session: &Session,
-) -> io::Result<()> {
+) -> Result<(), AllocError> {
     match session.view().mode() {
-        Mode::Running => {}
+        Mode::Running => return put_running(alloc, page, session),
         Mode::Popping => {
-            return page.line("No token can come while symbols are popped; go back and ask again.");
+            page.line("No token can come while symbols are popped; go back and ask again.");
         }
-        Mode::Accepted => return page.line("No token can come: the input is accepted."),
-        Mode::Failed => return page.line("No token can come: the parse has given up."),
+        Mode::Accepted => page.line("No token can come: the input is accepted."),
+        Mode::Failed => page.line("No token can come: the parse has given up."),
     }
-    let states = states_of_stack(alloc, session)?;
-    let found = expected(alloc, session.tables(), &states)?;
-    put_found(page, grammar_of(session.tables()), &found)
+    Ok(())
 }

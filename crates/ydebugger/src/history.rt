@@ -1,6 +1,6 @@
 //! The last steps and edits of a parse, and its whole input with the edits.
 
-use std::io::{self, Write};
+use std::io::Write;
 use yexplain::reads::grammar_of;
 use yfollow::Parse;
 use yparse::machine::StepKind;
@@ -13,44 +13,40 @@ use ysymbols::Grammar;
 pub const SOME_STEPS: usize = 20;
 
 /// What a step or an edit that stands is about.
-fn put_about<W: Write>(page: &mut Page<W>, grammar: &Grammar, kind: StepKind) -> io::Result<()> {
+fn put_about<W: Write>(page: &mut Page<W>, grammar: &Grammar, kind: StepKind) {
     match kind {
-        StepKind::Accept | StepKind::Fail => Ok(()),
+        StepKind::Accept | StepKind::Fail => {}
         StepKind::Detect => {
-            page.tab(18)?;
-            page.put("a token that can't come")
+            page.tab(18);
+            page.put("a token that can't come");
         }
         kind => {
-            page.tab(18)?;
-            put_subject(page, grammar, kind, ylalr::END)
+            page.tab(18);
+            put_subject(page, grammar, kind, ylalr::END);
         }
     }
 }
 
 /// A step or an edit that stands.
-fn put_past<W: Write>(
-    page: &mut Page<W>,
-    grammar: &Grammar,
-    position: usize,
-    kind: StepKind,
-) -> io::Result<()> {
-    page.number_to(7, position)?;
-    page.put("  ")?;
-    page.put(kind_word(kind))?;
-    put_about(page, grammar, kind)?;
-    put_rule_number(page, kind)?;
-    page.end()
+fn put_past<W: Write>(page: &mut Page<W>, grammar: &Grammar, position: usize, kind: StepKind) {
+    page.number_to(7, position);
+    page.put("  ");
+    page.put(kind_word(kind));
+    put_about(page, grammar, kind);
+    put_rule_number(page, kind);
+    page.end();
 }
 
 /// The last steps and edits, so many at most.
-pub fn put_history<W: Write>(page: &mut Page<W>, parse: &Parse, most: usize) -> io::Result<()> {
+pub fn put_history<W: Write>(page: &mut Page<W>, parse: &Parse, most: usize) {
     let past = parse.past();
     let from = past.len().saturating_sub(most);
     if past.is_empty() {
-        return page.line("Nothing was done yet.");
+        page.line("Nothing was done yet.");
+        return;
     }
     if from > 0 {
-        page.line("   ..")?;
+        page.line("   ..");
     }
     for (index, kind) in past.iter().enumerate().skip(from) {
         put_past(
@@ -58,31 +54,29 @@ pub fn put_history<W: Write>(page: &mut Page<W>, parse: &Parse, most: usize) -> 
             grammar_of(parse.tables()),
             index.saturating_add(1),
             *kind,
-        )?;
+        );
     }
-    Ok(())
 }
 
 /// The tokens that were read and shifted or discarded.
-fn put_read<W: Write>(page: &mut Page<W>, parse: &Parse) -> io::Result<()> {
+fn put_read<W: Write>(page: &mut Page<W>, parse: &Parse) {
     let grammar = grammar_of(parse.tables());
     for kind in parse.past() {
         if let StepKind::Shift(token) | StepKind::Discard(token) = *kind {
-            page.word(0, name_of(grammar, token))?;
+            page.word(0, name_of(grammar, token));
         }
     }
-    Ok(())
 }
 
 /// The whole input with its edits, in the form of a tokens file.
-pub fn put_tokens<W: Write>(page: &mut Page<W>, parse: &Parse) -> io::Result<()> {
+pub fn put_tokens<W: Write>(page: &mut Page<W>, parse: &Parse) {
     let grammar = grammar_of(parse.tables());
-    put_read(page, parse)?;
+    put_read(page, parse);
     for index in 0..parse.session().view().rest_len() {
         page.word(
             0,
             name_of(grammar, upcoming_token(parse.session(), index).0),
-        )?;
+        );
     }
-    page.end()
+    page.end();
 }

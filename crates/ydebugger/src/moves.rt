@@ -3,7 +3,7 @@
 use crate::tail::Tail;
 use crate::text::put_ahead;
 use std::alloc::{AllocError, Global};
-use std::io::{self, Write};
+use std::io::Write;
 use ycommands::condition::{Condition, put_cell};
 use ycommands::refusal::fault_words;
 use ycommands::travel::{LAST, Move, is_to, tells_each, until_of};
@@ -51,34 +51,28 @@ impl Telling {
     }
 
     /// Writes what was just done or undone, or keeps it for the end.
-    fn tell<W: Write>(
-        &mut self,
-        page: &mut Page<W>,
-        parse: &Parse,
-        kind: StepKind,
-        undone: bool,
-    ) -> io::Result<()> {
+    fn tell<W: Write>(&mut self, page: &mut Page<W>, parse: &Parse, kind: StepKind, undone: bool) {
         let line = StepLine::of(parse.session(), kind, undone);
         self.made = self.made.saturating_add(1);
         if self.each {
-            return put_made(page, parse.session(), line);
+            put_made(page, parse.session(), line);
+            return;
         }
         self.tail.add(line);
         if self.progress && self.made % PROGRESS == 0 {
-            page.passing("")?;
-            page.number(line.position)?;
-            page.flush()?;
+            page.passing("");
+            page.number(line.position);
+            let _ = page.flush();
         }
-        Ok(())
     }
 
     /// Writes what was kept.
-    fn finish<W: Write>(&self, page: &mut Page<W>, parse: &Parse) -> io::Result<()> {
+    fn finish<W: Write>(&self, page: &mut Page<W>, parse: &Parse) {
         if self.progress && self.made >= PROGRESS {
-            page.passing("        ")?;
-            page.passing("")?;
+            page.passing("        ");
+            page.passing("");
         }
-        self.tail.put(page, parse.session())
+        self.tail.put(page, parse.session());
     }
 }
 
@@ -121,78 +115,70 @@ fn made(parse: &mut Parse, back: bool) -> Result<StepKind, End> {
     }
 }
 
-/// Makes the steps of a course.
+/// Makes the steps of a course, up to a fault of the page.
 fn go<W: Write>(
     parse: &mut Parse,
     page: &mut Page<W>,
     telling: &mut Telling,
     course: Course,
-) -> io::Result<End> {
+) -> End {
     for _ in 0..course.most {
         match made(parse, course.back) {
-            Err(end) => return Ok(end),
+            Err(end) => return end,
             Ok(kind) => {
-                telling.tell(page, parse, kind, course.back)?;
+                telling.tell(page, parse, kind, course.back);
                 if is_met(course.until, parse, kind) {
-                    return Ok(End::Met);
+                    return End::Met;
+                }
+                if page.checked().is_err() {
+                    break;
                 }
             }
         }
     }
-    Ok(End::Done)
+    End::Done
 }
 
 /// That a condition is met.
-fn put_met<W: Write>(page: &mut Page<W>, parse: &Parse, until: Condition) -> io::Result<()> {
-    page.put("stopped: ")?;
+fn put_met<W: Write>(page: &mut Page<W>, parse: &Parse, until: Condition) {
+    page.put("stopped: ");
     match until {
-        Condition::Conflict => put_cell(page, parse.session())?,
-        until => until.put(page, parse.session())?,
+        Condition::Conflict => put_cell(page, parse.session()),
+        until => until.put(page, parse.session()),
     }
-    page.end()
+    page.end();
 }
 
 /// That a condition was never met.
-fn put_never<W: Write>(page: &mut Page<W>, parse: &Parse, until: Condition) -> io::Result<()> {
-    page.put("No ")?;
-    until.put(page, parse.session())?;
-    page.line(" came on the way.")
+fn put_never<W: Write>(page: &mut Page<W>, parse: &Parse, until: Condition) {
+    page.put("No ");
+    until.put(page, parse.session());
+    page.line(" came on the way.");
 }
 
 /// How a move ended, where that isn't plain from its steps.
-fn put_end<W: Write>(
-    page: &mut Page<W>,
-    parse: &Parse,
-    wanted: Move,
-    end: End,
-    made: usize,
-) -> io::Result<()> {
+fn put_end<W: Write>(page: &mut Page<W>, parse: &Parse, wanted: Move, end: End, made: usize) {
     match (end, until_of(wanted)) {
-        (End::Met, Some(until)) => return put_met(page, parse, until),
-        (_, Some(until)) => put_never(page, parse, until)?,
+        (End::Met, Some(until)) => put_met(page, parse, until),
+        (_, Some(until)) => put_never(page, parse, until),
         _ => {}
     }
     match end {
-        End::Refused(StepFault::Halted) if made > 0 && !is_to(wanted) => Ok(()),
+        End::Refused(StepFault::Halted) if made > 0 && !is_to(wanted) => {}
         End::Refused(fault) => page.line(fault_words(fault, parse.session().view().mode())),
-        End::AtStart if made > 0 => Ok(()),
+        End::AtStart if made > 0 => {}
         End::AtStart => page.line("The parse is at its start."),
         End::Done if made == 0 => page.line("The parse is at that position already."),
-        End::Done | End::Met => Ok(()),
+        End::Done | End::Met => {}
     }
 }
 
 /// Makes a move, and tells it so.
-fn make_told<W: Write>(
-    parse: &mut Parse,
-    page: &mut Page<W>,
-    telling: &mut Telling,
-    wanted: Move,
-) -> io::Result<()> {
+fn make_told<W: Write>(parse: &mut Parse, page: &mut Page<W>, telling: &mut Telling, wanted: Move) {
     let course = course_of(parse.session().position(), wanted);
-    let end = go(parse, page, telling, course)?;
-    telling.finish(page, parse)?;
-    put_end(page, parse, wanted, end, telling.made)
+    let end = go(parse, page, telling, course);
+    telling.finish(page, parse);
+    put_end(page, parse, wanted, end, telling.made);
 }
 
 /// Makes a move, and tells it. A long one tells its position on the way where `progress` is set.
@@ -202,11 +188,11 @@ pub fn make_move<W: Write>(
     page: &mut Page<W>,
     wanted: Move,
     progress: bool,
-) -> io::Result<()> {
+) -> Result<(), AllocError> {
     let mut telling = Telling::new(alloc, tells_each(wanted), progress)?;
-    make_told(parse, page, &mut telling, wanted)?;
-    if tells_each(wanted) {
-        return Ok(());
+    make_told(parse, page, &mut telling, wanted);
+    if !tells_each(wanted) {
+        put_ahead(page, parse);
     }
-    put_ahead(page, parse)
+    Ok(())
 }

@@ -41,29 +41,29 @@ fn redo(parse: &mut Parse, old: &Parse) -> Result<(), Stopped> {
     Ok(())
 }
 
+/// Where the old parse was, and why the new one isn't.
+fn put_stopped<W: Write>(page: &mut Page<W>, parse: &Parse, wanted: usize, stopped: Stopped) {
+    page.put(" and not ");
+    page.number(wanted);
+    page.line(".");
+    page.line(match stopped {
+        Stopped::Fault(fault) => fault_words(fault, parse.session().view().mode()),
+        Stopped::NoToken => "The grammar has no longer the token that was inserted.",
+    });
+}
+
 /// Where the new parse came to.
 fn put_reached<W: Write>(
     page: &mut Page<W>,
     parse: &Parse,
     wanted: usize,
     reached: Result<(), Stopped>,
-) -> io::Result<()> {
-    page.put("Both files are read again; the position is ")?;
-    page.number(parse.session().position())?;
-    if reached.is_ok() {
-        return page.line(", as before.");
-    }
-    page.put(" and not ")?;
-    page.number(wanted)?;
-    page.line(".")?;
+) {
+    page.put("Both files are read again; the position is ");
+    page.number(parse.session().position());
     match reached {
-        Err(Stopped::Fault(fault)) => {
-            page.line(fault_words(fault, parse.session().view().mode()))
-        }
-        Err(Stopped::NoToken) => page.line(
-            "The grammar has no longer the token that was inserted.",
-        ),
-        Ok(()) => Ok(()),
+        Ok(()) => page.line(", as before."),
+        Err(stopped) => put_stopped(page, parse, wanted, stopped),
     }
 }
 
@@ -81,23 +81,22 @@ fn put_outcome<W: Write>(
     parse: &Parse,
     wanted: usize,
     reached: Result<(), Stopped>,
-) -> io::Result<()> {
+) {
     if is_memory(reached) {
-        put_refusal(page, Refusal::Memory)
+        put_refusal(page, Refusal::Memory);
     } else {
-        put_reached(page, parse, wanted, reached)
+        put_reached(page, parse, wanted, reached);
     }
 }
 
 /// Puts the new parse in the place of the old one, once its steps and edits are made again.
-fn replace<W: Write>(page: &mut Page<W>, parse: &mut Parse, fresh: Parse) -> io::Result<()> {
+fn replace<W: Write>(page: &mut Page<W>, parse: &mut Parse, fresh: Parse) {
     let mut fresh = fresh;
     let reached = redo(&mut fresh, parse);
-    let told = put_outcome(page, &fresh, parse.session().position(), reached);
+    put_outcome(page, &fresh, parse.session().position(), reached);
     if !is_memory(reached) {
         mem::swap(parse, &mut fresh);
     }
-    told
 }
 
 /// Reads both files again. Where one is refused, that is said, and the old parse stays.
@@ -110,4 +109,5 @@ pub fn reload<S: Opens, W: Write>(
         Ok(fresh) => replace(page, parse, fresh),
         Err(_) => page.line("The parse is as it was."),
     }
+    Ok(())
 }

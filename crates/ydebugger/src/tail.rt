@@ -1,7 +1,7 @@
 //! The last lines of a run.
 
 use std::alloc::{AllocError, Global};
-use std::io::{self, Write};
+use std::io::Write;
 use yparse::Session;
 use yshow::Page;
 use yshow::step_line::{StepLine, put_made};
@@ -35,13 +35,12 @@ impl Tail {
     }
 
     /// Writes the lines, with two dots first where some are left out.
-    pub fn put<W: Write>(&self, page: &mut Page<W>, session: &Session) -> io::Result<()> {
+    pub fn put<W: Write>(&self, page: &mut Page<W>, session: &Session) {
         if self.left_out > 0 {
-            page.line("   ..")?;
+            page.line("   ..");
         }
         for line in &self.lines {
-            put_made(page, session, *line)?;
+            put_made(page, session, *line);
         }
-        Ok(())
     }
 }

@@ -2,7 +2,7 @@
 
 use crate::history::{SOME_STEPS, put_history};
 use std::alloc::{AllocError, Global};
-use std::io::{self, Write};
+use std::io::Write;
 use ycommands::condition::{condition_near, number_in, symbol_named, symbol_near, token_named};
 use ycommands::refusal::{Refusal, misused, put_refusal};
 use ycommands::travel::LAST;
@@ -22,7 +22,7 @@ use yshow::symbol_view::put_symbol;
 use yshow::tree_text::{SOME_LINES, put_tree, put_trees};
 
 /// Writes a refusal; how the command is used, where a word was no number.
-pub fn put_misuse<W: Write>(page: &mut Page<W>, verb: Verb, refusal: Refusal) -> io::Result<()> {
+pub fn put_misuse<W: Write>(page: &mut Page<W>, verb: Verb, refusal: Refusal) {
     match refusal {
         Refusal::NoNumber => put_refusal(page, misused(verb)),
         refusal => put_refusal(page, refusal),
@@ -30,21 +30,19 @@ pub fn put_misuse<W: Write>(page: &mut Page<W>, verb: Verb, refusal: Refusal) ->
 }
 
 /// A state, that of the stack where none is named.
-pub fn show_state<W: Write>(parse: &Parse, page: &mut Page<W>, text: &str) -> io::Result<()> {
+pub fn show_state<W: Write>(parse: &Parse, page: &mut Page<W>, text: &str) {
     let session = parse.session();
-    if text.is_empty() {
-        return put_state(page, session.tables(), session.state());
-    }
     match number_in(text, "states", 0, last_state(session.tables())) {
+        _ if text.is_empty() => put_state(page, session.tables(), session.state()),
         Ok(state) => put_state(page, session.tables(), state),
         Err(refusal) => put_misuse(page, Verb::State, refusal),
     }
 }
 
 /// Why the cell doesn't say the next step, where it doesn't.
-fn put_mode<W: Write>(page: &mut Page<W>, mode: Mode) -> io::Result<()> {
+fn put_mode<W: Write>(page: &mut Page<W>, mode: Mode) {
     match mode {
-        Mode::Running => Ok(()),
+        Mode::Running => {}
         Mode::Popping => page.line(
             "  The parse goes by no cell now: it looks for a state that can shift error.",
         ),
@@ -53,13 +51,19 @@ fn put_mode<W: Write>(page: &mut Page<W>, mode: Mode) -> io::Result<()> {
     }
 }
 
+/// Why a cell says what it says.
+fn put_why<W: Write>(page: &mut Page<W>, asked: Question<'_>) {
+    // The page remembers a fault.
+    let _ = explain(page, asked);
+}
+
 /// Why the cell of the state and the token ahead says what it says, or that of another token.
 pub fn show_why<W: Write>(
     alloc: Global,
     parse: &Parse,
     page: &mut Page<W>,
     text: &str,
-) -> io::Result<()> {
+) -> Result<(), AllocError> {
     let session = parse.session();
     let asked = Question {
         tables: session.tables(),
@@ -68,17 +72,19 @@ pub fn show_why<W: Write>(
         token: token_ahead(session),
     };
     if text.is_empty() {
-        explain(page, asked)?;
-        return put_mode(page, session.view().mode());
+        put_why(page, asked);
+        put_mode(page, session.view().mode());
+        return Ok(());
     }
     match token_named(session, text) {
-        Some(token) => explain(page, Question { token, ..asked }),
-        None => refuse_name(alloc, session, page, text, Refusal::NoToken),
+        Some(token) => put_why(page, Question { token, ..asked }),
+        None => return refuse_name(alloc, session, page, text, Refusal::NoToken),
     }
+    Ok(())
 }
 
 /// A rule.
-pub fn show_rule<W: Write>(parse: &Parse, page: &mut Page<W>, text: &str) -> io::Result<()> {
+pub fn show_rule<W: Write>(parse: &Parse, page: &mut Page<W>, text: &str) {
     let grammar = grammar_of(parse.tables());
     let lines = parse.lines();
     match number_in(text, "rules", 0, last_rule(grammar)) {
@@ -110,13 +116,15 @@ pub fn refuse_name<W: Write>(
     page: &mut Page<W>,
     name: &str,
     refusal: Refusal,
-) -> io::Result<()> {
+) -> Result<(), AllocError> {
     let near = nearest(alloc, session, name, refusal)?;
-    put_refusal(page, refusal)?;
-    match near {
-        Some(best) => writeln!(page, "Did you mean {best}?"),
-        None => Ok(()),
+    put_refusal(page, refusal);
+    if let Some(best) = near {
+        page.put("Did you mean ");
+        page.put(best);
+        page.line("?");
     }
+    Ok(())
 }
 
 /// A symbol.
@@ -125,14 +133,13 @@ pub fn show_symbol<W: Write>(
     parse: &Parse,
     page: &mut Page<W>,
     text: &str,
-) -> io::Result<()> {
-    if text.is_empty() {
-        return put_refusal(page, misused(Verb::Symbol));
-    }
+) -> Result<(), AllocError> {
     match symbol_named(parse.session(), text) {
+        _ if text.is_empty() => put_refusal(page, misused(Verb::Symbol)),
         Some(symbol) => put_symbol(page, parse.tables(), parse.lines(), symbol),
-        None => refuse_name(alloc, parse.session(), page, text, Refusal::NoSymbol),
+        None => return refuse_name(alloc, parse.session(), page, text, Refusal::NoSymbol),
     }
+    Ok(())
 }
 
 /// How many lines or forms are wanted: so many, all, or as many as usual.
@@ -151,14 +158,15 @@ fn show_entry<W: Write>(
     page: &mut Page<W>,
     entry: &str,
     most: usize,
-) -> io::Result<()> {
+) -> Result<(), AllocError> {
     let session = parse.session();
     let entries = session.view().stack_len();
     match number_in(entry, "entries", 1, entries) {
         _ if entries == 0 => page.line("The stack is empty: there is no tree."),
-        Ok(entry) => put_tree(alloc, page, session, entry, most),
+        Ok(entry) => return put_tree(alloc, page, session, entry, most),
         Err(refusal) => put_misuse(page, Verb::Tree, refusal),
     }
+    Ok(())
 }
 
 /// The trees of the stack, or that of one entry.
@@ -167,13 +175,16 @@ pub fn show_tree<W: Write>(
     parse: &Parse,
     page: &mut Page<W>,
     text: &str,
-) -> io::Result<()> {
+) -> Result<(), AllocError> {
     match first_word(text) {
         ("", _) => put_trees(alloc, page, parse.session(), SOME_LINES),
         ("all", "") => put_trees(alloc, page, parse.session(), usize::MAX),
         (entry, "") => show_entry(alloc, parse, page, entry, SOME_LINES),
         (entry, "all") => show_entry(alloc, parse, page, entry, usize::MAX),
-        _ => put_refusal(page, misused(Verb::Tree)),
+        _ => {
+            put_refusal(page, misused(Verb::Tree));
+            Ok(())
+        }
     }
 }
 
@@ -183,15 +194,18 @@ pub fn show_derivation<W: Write>(
     parse: &Parse,
     page: &mut Page<W>,
     text: &str,
-) -> io::Result<()> {
+) -> Result<(), AllocError> {
     match amount(text, SOME_FORMS) {
         Ok(most) => put_derivation(alloc, page, parse.session(), most),
-        Err(refusal) => put_misuse(page, Verb::Derivation, refusal),
+        Err(refusal) => {
+            put_misuse(page, Verb::Derivation, refusal);
+            Ok(())
+        }
     }
 }
 
 /// The last steps and edits.
-pub fn show_history<W: Write>(parse: &Parse, page: &mut Page<W>, text: &str) -> io::Result<()> {
+pub fn show_history<W: Write>(parse: &Parse, page: &mut Page<W>, text: &str) {
     match amount(text, SOME_STEPS) {
         Ok(most) => put_history(page, parse, most),
         Err(refusal) => put_misuse(page, Verb::History, refusal),

@@ -3,7 +3,7 @@
 use crate::page::Page;
 use crate::reading::{child_of, name_of, tree_at, upcoming_token};
 use std::alloc::{AllocError, Global};
-use std::io::{self, Write};
+use std::io::Write;
 use yexplain::reads::{grammar_of, left_of};
 use ylalr::{END, ERROR};
 use yparse::{Session, TreeNode, TreeView};
@@ -98,45 +98,44 @@ impl<'a> Form<'a> {
     }
 
     /// Writes the form.
-    fn put<W: Write>(&self, page: &mut Page<W>, grammar: &Grammar) -> io::Result<()> {
+    fn put<W: Write>(&self, page: &mut Page<W>, grammar: &Grammar) {
         if self.trees.is_empty() && self.tokens.is_empty() {
-            return page.line(" (empty)");
+            page.line(" (empty)");
+            return;
         }
         for tree in &self.trees {
-            page.put(" ")?;
-            page.put(name_of(grammar, symbol_of(grammar, tree.node())))?;
+            page.put(" ");
+            page.put(name_of(grammar, symbol_of(grammar, tree.node())));
         }
-        self.put_tokens(page, grammar)?;
-        page.end()
-    }
-
-    /// Writes the tokens.
-    fn put_tokens<W: Write>(&self, page: &mut Page<W>, grammar: &Grammar) -> io::Result<()> {
         for token in self.tokens.iter().rev() {
-            page.put(" ")?;
-            page.put(name_of(grammar, *token))?;
+            page.put(" ");
+            page.put(name_of(grammar, *token));
         }
-        Ok(())
+        page.end();
     }
 }
 
-/// The further forms, at most so many.
+/// The further forms, at most so many, up to a fault of the page.
 fn put_forms<W: Write>(
     page: &mut Page<W>,
     grammar: &Grammar,
     form: &mut Form<'_>,
     most: usize,
-) -> io::Result<()> {
+) -> Result<(), AllocError> {
     let mut written = 1usize;
     for _ in 0..=MOST_NODES {
+        if page.checked().is_err() {
+            break;
+        }
         match form.expand(grammar)? {
-            None => return Ok(()),
+            None => break,
             Some(false) => {}
             Some(true) if written >= most => {
-                return page.line("  ..  (derivation all writes every form)");
+                page.line("  ..  (derivation all writes every form)");
+                break;
             }
             Some(true) => {
-                form.put(page, grammar)?;
+                form.put(page, grammar);
                 written = written.saturating_add(1);
             }
         }
@@ -150,9 +149,9 @@ pub fn put_derivation<W: Write>(
     page: &mut Page<W>,
     session: &Session,
     most: usize,
-) -> io::Result<()> {
+) -> Result<(), AllocError> {
     let grammar = grammar_of(session.tables());
     let mut form = Form::now(alloc, session)?;
-    form.put(page, grammar)?;
+    form.put(page, grammar);
     put_forms(page, grammar, &mut form, most)
 }

@@ -2,7 +2,7 @@
 
 use crate::page::Page;
 use crate::reading::{name_of, rule_precedence};
-use std::io::{self, Write};
+use std::io::Write;
 use yexplain::lines::Lines;
 use yexplain::reads::grammar_of;
 use yexplain::text::{Numbered, RuleText};
@@ -19,17 +19,15 @@ pub fn associativity_word(kind: Associativity) -> &'static str {
 }
 
 /// A precedence, where there is one.
-pub fn put_precedence<W: Write>(
-    page: &mut Page<W>,
-    precedence: Option<Precedence>,
-) -> io::Result<()> {
+pub fn put_precedence<W: Write>(page: &mut Page<W>, precedence: Option<Precedence>) {
     let Some(precedence) = precedence else {
-        return page.put(", no precedence");
+        page.put(", no precedence");
+        return;
     };
-    page.put(", precedence ")?;
-    page.number(precedence.level)?;
-    page.put(" by ")?;
-    page.put(associativity_word(precedence.kind))
+    page.put(", precedence ");
+    page.number(precedence.level);
+    page.put(" by ");
+    page.put(associativity_word(precedence.kind));
 }
 
 /// The rules of a grammar, with their lines in its file.
@@ -43,36 +41,39 @@ pub struct Rules<'a> {
 
 impl Rules<'_> {
     /// The number of a rule, its text, and its line.
-    pub fn put<W: Write>(self, page: &mut Page<W>, rule: usize) -> io::Result<()> {
-        page.number_to(7, rule)?;
-        write!(page, "  {}", RuleText(self.grammar, rule))?;
+    pub fn put<W: Write>(self, page: &mut Page<W>, rule: usize) {
+        page.number_to(7, rule);
+        page.put("  ");
+        page.show(RuleText(self.grammar, rule));
         if let Some(line) = self.lines.rule(rule) {
-            page.tab(58)?;
-            write!(page, "line {line}")?;
+            page.tab(58);
+            page.put("line ");
+            page.number(line);
         }
-        page.end()
+        page.end();
     }
 
     /// A rule, its line, its precedence, and the token that gives it.
-    pub fn put_one<W: Write>(self, page: &mut Page<W>, rule: usize) -> io::Result<()> {
+    pub fn put_one<W: Write>(self, page: &mut Page<W>, rule: usize) {
         let grammar = self.grammar;
         let precedence = rule_precedence(grammar, rule);
-        write!(page, "{}", Numbered(self.lines, rule))?;
-        put_precedence(page, precedence)?;
+        page.show(Numbered(self.lines, rule));
+        put_precedence(page, precedence);
         if let (Some(_), Some(token)) = (precedence, self.lines.giver(grammar, rule)) {
-            page.put(" from ")?;
-            page.put(name_of(grammar, token))?;
+            page.put(" from ");
+            page.put(name_of(grammar, token));
         }
-        page.end()?;
-        writeln!(page, "   {}", RuleText(grammar, rule))
+        page.end();
+        page.put("   ");
+        page.show(RuleText(grammar, rule));
+        page.end();
     }
 }
 
 /// Every rule with its number.
-pub fn put_grammar<W: Write>(page: &mut Page<W>, tables: &Tables, lines: &Lines) -> io::Result<()> {
+pub fn put_grammar<W: Write>(page: &mut Page<W>, tables: &Tables, lines: &Lines) {
     let grammar = grammar_of(tables);
     for rule in 0..grammar.rules() {
-        Rules { grammar, lines }.put(page, rule)?;
+        Rules { grammar, lines }.put(page, rule);
     }
-    Ok(())
 }

@@ -3,7 +3,7 @@
 use crate::page::{Page, Paint};
 use crate::reading::{name_of, stack_symbol, token_ahead, upcoming_token};
 use crate::state_view::put_kernel;
-use std::io::{self, Write};
+use std::io::Write;
 use yexplain::reads::{goto_of, grammar_of};
 use yparse::Session;
 use yparse::machine::Mode;
@@ -33,171 +33,167 @@ fn mode_paint(mode: Mode) -> Paint {
 }
 
 /// How many errors were reported.
-fn put_errors<W: Write>(page: &mut Page<W>, session: &Session) -> io::Result<()> {
+fn put_errors<W: Write>(page: &mut Page<W>, session: &Session) {
     match session.view().errors() {
         0 => page.put(", no errors"),
         errors => {
-            page.put(", ")?;
-            page.count(errors, "error", "errors")
+            page.put(", ");
+            page.count(errors, "error", "errors");
         }
     }
 }
 
 /// How many tokens must be shifted until an error is reported again, where any must.
-fn put_counter<W: Write>(page: &mut Page<W>, session: &Session) -> io::Result<()> {
+fn put_counter<W: Write>(page: &mut Page<W>, session: &Session) {
     let counter = session.view().counter();
     if counter == 0 {
-        return Ok(());
+        return;
     }
-    page.put("recovery  errors are reported again after ")?;
-    page.count(counter, "more shift", "more shifts")?;
-    page.end()
+    page.put("recovery  errors are reported again after ");
+    page.count(counter, "more shift", "more shifts");
+    page.end();
 }
 
 /// Which token is ahead.
-fn put_ahead<W: Write>(page: &mut Page<W>, session: &Session, tokens: usize) -> io::Result<()> {
-    if session.view().rest_len() == 0 {
-        page.put(", at the end of ")?;
-        return page.count(tokens, "token", "tokens");
-    }
+fn put_ahead<W: Write>(page: &mut Page<W>, session: &Session, tokens: usize) {
     let place = upcoming_token(session, 0).1;
-    if place == 0 {
-        return page.put(", an inserted token ahead");
+    if session.view().rest_len() == 0 {
+        page.put(", at the end of ");
+        page.count(tokens, "token", "tokens");
+    } else if place == 0 {
+        page.put(", an inserted token ahead");
+    } else {
+        page.put(", token ");
+        page.number(place);
+        page.put(" of ");
+        page.number(tokens);
     }
-    page.put(", token ")?;
-    page.number(place)?;
-    page.put(" of ")?;
-    page.number(tokens)
 }
 
 /// The position, the mode, the errors, and the token ahead; `tokens` were read from the file.
-pub fn put_head<W: Write>(page: &mut Page<W>, session: &Session, tokens: usize) -> io::Result<()> {
+pub fn put_head<W: Write>(page: &mut Page<W>, session: &Session, tokens: usize) {
     let mode = session.view().mode();
-    page.number_to(7, session.position())?;
-    page.put("  ")?;
-    page.painted(mode_paint(mode), mode_word(mode))?;
-    put_errors(page, session)?;
-    put_ahead(page, session, tokens)?;
-    page.end()?;
-    put_counter(page, session)
+    page.number_to(7, session.position());
+    page.put("  ");
+    page.painted(mode_paint(mode), mode_word(mode));
+    put_errors(page, session);
+    put_ahead(page, session, tokens);
+    page.end();
+    put_counter(page, session);
 }
 
 /// The symbols on top of the stack.
-fn put_top<W: Write>(page: &mut Page<W>, session: &Session) -> io::Result<()> {
+fn put_top<W: Write>(page: &mut Page<W>, session: &Session) {
     let grammar = grammar_of(session.tables());
     let len = session.view().stack_len();
     page.put(match len {
         0 => "stack     (empty)",
         1..=SOME => "stack    ",
         _ => "stack     ..",
-    })?;
+    });
     for index in len.saturating_sub(SOME)..len {
-        page.put(" ")?;
-        page.put(name_of(grammar, stack_symbol(session, index)))?;
+        page.put(" ");
+        page.put(name_of(grammar, stack_symbol(session, index)));
     }
-    page.end()
+    page.end();
 }
 
 /// The first of the upcoming tokens.
-fn put_next<W: Write>(page: &mut Page<W>, session: &Session) -> io::Result<()> {
+fn put_next<W: Write>(page: &mut Page<W>, session: &Session) {
     let grammar = grammar_of(session.tables());
     let len = session.view().rest_len();
     page.put(match len {
         0 => "upcoming  (none)",
         _ => "upcoming ",
-    })?;
+    });
     for index in 0..len.min(SOME) {
-        page.put(" ")?;
-        page.put(name_of(grammar, upcoming_token(session, index).0))?;
+        page.put(" ");
+        page.put(name_of(grammar, upcoming_token(session, index).0));
     }
-    page.put(if len > SOME { " .." } else { "" })?;
-    page.end()
+    page.put(if len > SOME { " .." } else { "" });
+    page.end();
 }
 
 /// The whole configuration in some lines.
-pub fn put_where<W: Write>(page: &mut Page<W>, session: &Session, tokens: usize) -> io::Result<()> {
-    put_head(page, session, tokens)?;
-    put_top(page, session)?;
-    put_next(page, session)?;
-    page.put("state ")?;
-    page.number(session.state())?;
-    page.end()?;
+pub fn put_where<W: Write>(page: &mut Page<W>, session: &Session, tokens: usize) {
+    put_head(page, session, tokens);
+    put_top(page, session);
+    put_next(page, session);
+    page.put("state ");
+    page.number(session.state());
+    page.end();
     put_kernel(
         page,
         session.tables(),
         session.state(),
         token_ahead(session),
-    )
+    );
 }
 
 /// Writes how many of what was asked for are left out.
-fn put_more<W: Write>(page: &mut Page<W>, count: usize, what: &str) -> io::Result<()> {
+fn put_more<W: Write>(page: &mut Page<W>, count: usize, what: &str) {
     if count == 0 {
-        return Ok(());
+        return;
     }
-    page.put("  .. ")?;
-    page.number(count)?;
-    page.put(what)?;
-    page.end()
+    page.put("  .. ");
+    page.number(count);
+    page.put(what);
+    page.end();
 }
 
 /// An entry of the stack: its number from the bottom, its symbol, and the state after it.
-fn put_entry<W: Write>(
-    page: &mut Page<W>,
-    session: &Session,
-    index: usize,
-    state: usize,
-) -> io::Result<()> {
+fn put_entry<W: Write>(page: &mut Page<W>, session: &Session, index: usize, state: usize) {
     let grammar = grammar_of(session.tables());
-    page.number_to(7, index.saturating_add(1))?;
-    page.put("  ")?;
-    page.put(name_of(grammar, stack_symbol(session, index)))?;
-    page.tab(40)?;
-    page.put("state ")?;
-    page.number(state)?;
-    page.end()
+    page.number_to(7, index.saturating_add(1));
+    page.put("  ");
+    page.put(name_of(grammar, stack_symbol(session, index)));
+    page.tab(40);
+    page.put("state ");
+    page.number(state);
+    page.end();
 }
 
 /// The stack, a line for each entry, the top last: the last 1,000 of them.
-pub fn put_stack<W: Write>(page: &mut Page<W>, session: &Session) -> io::Result<()> {
+pub fn put_stack<W: Write>(page: &mut Page<W>, session: &Session) {
     let len = session.view().stack_len();
     let from = len.saturating_sub(MANY);
     if len == 0 {
-        return page.line("The stack is empty.");
+        page.line("The stack is empty.");
+        return;
     }
-    put_more(page, from, " entries below")?;
+    put_more(page, from, " entries below");
     let mut state = 0;
     for index in 0..len {
         let symbol = stack_symbol(session, index);
         state = goto_of(session.tables().automaton(), state, symbol).unwrap_or(0);
         if index >= from {
-            put_entry(page, session, index, state)?;
+            put_entry(page, session, index, state);
         }
     }
-    Ok(())
 }
 
 /// An upcoming token: its place, and its name.
-fn put_token<W: Write>(page: &mut Page<W>, session: &Session, index: usize) -> io::Result<()> {
+fn put_token<W: Write>(page: &mut Page<W>, session: &Session, index: usize) {
     let (token, place) = upcoming_token(session, index);
     if place == 0 {
-        page.put("      +")?;
+        page.put("      +");
     } else {
-        page.number_to(7, place)?;
+        page.number_to(7, place);
     }
-    page.put("  ")?;
-    page.put(name_of(grammar_of(session.tables()), token))?;
-    page.end()
+    page.put("  ");
+    page.put(name_of(grammar_of(session.tables()), token));
+    page.end();
 }
 
 /// The upcoming tokens, a line for each: the first 1,000 of them.
-pub fn put_upcoming<W: Write>(page: &mut Page<W>, session: &Session) -> io::Result<()> {
+pub fn put_upcoming<W: Write>(page: &mut Page<W>, session: &Session) {
     let len = session.view().rest_len();
     if len == 0 {
-        return page.line("There is no upcoming token.");
+        page.line("There is no upcoming token.");
+        return;
     }
     for index in 0..len.min(MANY) {
-        put_token(page, session, index)?;
+        put_token(page, session, index);
     }
-    put_more(page, len.saturating_sub(MANY), " tokens behind")
+    put_more(page, len.saturating_sub(MANY), " tokens behind");
 }

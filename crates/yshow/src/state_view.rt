@@ -2,7 +2,7 @@
 
 use crate::page::{Page, Paint};
 use crate::reading::{has_conflict, name_of};
-use std::io::{self, Sink, Write, sink};
+use std::io::{Sink, Write, sink};
 use yexplain::cells::survey_at;
 use yexplain::reads::{
     action_of, default_of, goto_of, grammar_of, is_complete, items_of, looks_at, next_of,
@@ -22,10 +22,8 @@ const WIDEST: usize = 64;
 /// How many columns an item takes.
 fn item_width(grammar: &Grammar, item: Item) -> usize {
     let mut nowhere: Page<Sink> = Page::new(sink(), false);
-    match write!(nowhere, "{}", ItemText(grammar, item)) {
-        Ok(()) => nowhere.column(),
-        Err(_) => 0,
-    }
+    nowhere.show(ItemText(grammar, item));
+    nowhere.column()
 }
 
 /// How much an item matters in a short list.
@@ -51,15 +49,15 @@ fn rank_of(grammar: &Grammar, item: Item, ahead: Sym) -> Rank {
 }
 
 /// What is done at a token.
-pub fn put_action<W: Write>(page: &mut Page<W>, action: Action) -> io::Result<()> {
+pub fn put_action<W: Write>(page: &mut Page<W>, action: Action) {
     match action {
         Action::Shift(next) => {
-            page.put("shift, to state ")?;
-            page.number(next)
+            page.put("shift, to state ");
+            page.number(next);
         }
         Action::Reduce(rule) => {
-            page.put("reduce by rule ")?;
-            page.number(rule)
+            page.put("reduce by rule ");
+            page.number(rule);
         }
         Action::Accept => page.put("accept"),
         Action::Error => page.put("error"),
@@ -91,49 +89,44 @@ impl<'a> Shown<'a> {
     }
 
     /// The lookaheads of an item, at most so many.
-    fn put_looks<W: Write>(self, page: &mut Page<W>, item: Item, most: usize) -> io::Result<()> {
+    fn put_looks<W: Write>(self, page: &mut Page<W>, item: Item, most: usize) {
         let mut count = 0usize;
         for token in 0..token_count(self.grammar()) {
             if looks_at(self.tables.automaton(), self.state, item, token) {
                 count = count.saturating_add(1);
                 if count > most {
-                    return page.put(" ..");
+                    page.put(" ..");
+                    return;
                 }
-                page.word(6, name_of(self.grammar(), token))?;
+                page.word(6, name_of(self.grammar(), token));
             }
         }
-        Ok(())
     }
 
     /// An item and what it lets the state do: reduce, shift a token, or nothing by itself.
-    fn put_noted<W: Write>(
-        self,
-        page: &mut Page<W>,
-        item: Item,
-        width: usize,
-        most: usize,
-    ) -> io::Result<()> {
+    fn put_noted<W: Write>(self, page: &mut Page<W>, item: Item, width: usize, most: usize) {
         let grammar = self.grammar();
         let column = width.saturating_add(5);
-        write!(page, "   {}", ItemText(grammar, item))?;
+        page.put("   ");
+        page.show(ItemText(grammar, item));
         match next_of(grammar, item) {
             None => {
-                page.tab(column)?;
-                page.put("reduce on")?;
-                self.put_looks(page, item, most)?;
+                page.tab(column);
+                page.put("reduce on");
+                self.put_looks(page, item, most);
             }
             Some(END) => {
-                page.tab(column)?;
-                page.put("accept")?;
+                page.tab(column);
+                page.put("accept");
             }
             Some(token) if grammar.is_token(token) => {
-                page.tab(column)?;
-                page.put("shift ")?;
-                page.put(name_of(grammar, token))?;
+                page.tab(column);
+                page.put("shift ");
+                page.put(name_of(grammar, token));
             }
             Some(_) => {}
         }
-        page.end()
+        page.end();
     }
 
     /// The greatest width of the items that are wanted, at most 64.
@@ -150,34 +143,29 @@ impl<'a> Shown<'a> {
     }
 
     /// The items that matter so much; the answer is how many there are.
-    fn put_rank<W: Write>(
-        self,
-        page: &mut Page<W>,
-        ahead: Sym,
-        listed: Listed,
-    ) -> io::Result<usize> {
+    fn put_rank<W: Write>(self, page: &mut Page<W>, ahead: Sym, listed: Listed) -> usize {
         let mut count = 0usize;
         for item in self.items() {
             if rank_of(self.grammar(), *item, ahead) == listed.rank {
                 count = count.saturating_add(1);
                 if count <= listed.most {
-                    self.put_noted(page, *item, listed.width, SOME_LOOKS)?;
+                    self.put_noted(page, *item, listed.width, SOME_LOOKS);
                 }
             }
         }
-        Ok(count)
+        count
     }
 
     /// The line of a token's action.
-    fn put_cell<W: Write>(self, page: &mut Page<W>, token: Sym, action: Action) -> io::Result<()> {
-        page.put("   ")?;
-        page.put(name_of(self.grammar(), token))?;
-        page.tab(20)?;
-        put_action(page, action)?;
+    fn put_cell<W: Write>(self, page: &mut Page<W>, token: Sym, action: Action) {
+        page.put("   ");
+        page.put(name_of(self.grammar(), token));
+        page.tab(20);
+        put_action(page, action);
         if has_conflict(self.tables, self.state, token) {
-            page.painted(Paint::Bad, "  (conflict)")?;
+            page.painted(Paint::Bad, "  (conflict)");
         }
-        page.end()
+        page.end();
     }
 
     /// Whether a cell has a line of its own: what isn't a reduction, and what was settled.
@@ -191,18 +179,17 @@ impl<'a> Shown<'a> {
     }
 
     /// The actions that have lines of their own, by token.
-    fn put_cells<W: Write>(self, page: &mut Page<W>) -> io::Result<()> {
+    fn put_cells<W: Write>(self, page: &mut Page<W>) {
         for token in 0..token_count(self.grammar()) {
             let action = action_of(self.tables, self.state, token);
             if self.is_apart(token, action) {
-                self.put_cell(page, token, action)?;
+                self.put_cell(page, token, action);
             }
         }
-        Ok(())
     }
 
     /// The tokens at which a rule is reduced without a conflict, where there are any.
-    fn put_reduction<W: Write>(self, page: &mut Page<W>, rule: usize) -> io::Result<()> {
+    fn put_reduction<W: Write>(self, page: &mut Page<W>, rule: usize) {
         let mut begun = false;
         let reduction = Action::Reduce(rule);
         for token in 0..token_count(self.grammar()) {
@@ -210,61 +197,54 @@ impl<'a> Shown<'a> {
             if action == reduction && !self.is_apart(token, reduction) {
                 if !begun {
                     begun = true;
-                    page.put("   ")?;
-                    put_action(page, reduction)?;
-                    page.put(" on")?;
+                    page.put("   ");
+                    put_action(page, reduction);
+                    page.put(" on");
                 }
-                page.word(6, name_of(self.grammar(), token))?;
+                page.word(6, name_of(self.grammar(), token));
             }
         }
         if begun {
-            page.end()?;
+            page.end();
         }
-        Ok(())
     }
 
     /// The actions: shifts and what was settled by token, and then reductions by rule; one line
     /// where the state reduces at every token.
-    fn put_actions<W: Write>(self, page: &mut Page<W>) -> io::Result<()> {
+    fn put_actions<W: Write>(self, page: &mut Page<W>) {
         if let Some(rule) = default_of(self.tables, self.state) {
-            page.put("   any token         ")?;
-            put_action(page, Action::Reduce(rule))?;
-            return page.end();
+            page.put("   any token         ");
+            put_action(page, Action::Reduce(rule));
+            page.end();
+            return;
         }
-        self.put_cells(page)?;
+        self.put_cells(page);
         for item in self.items() {
             if is_complete(self.grammar(), *item) {
-                self.put_reduction(page, item.rule)?;
+                self.put_reduction(page, item.rule);
             }
         }
-        Ok(())
     }
 
     /// Where the nonterminals lead.
-    fn put_gotos<W: Write>(self, page: &mut Page<W>) -> io::Result<()> {
+    fn put_gotos<W: Write>(self, page: &mut Page<W>) {
         let grammar = self.grammar();
         for symbol in token_count(grammar)..grammar.symbols() {
             if let Some(next) = goto_of(self.tables.automaton(), self.state, symbol) {
-                page.put("   ")?;
-                page.put(name_of(grammar, symbol))?;
-                page.tab(20)?;
-                page.put("to state ")?;
-                page.number(next)?;
-                page.end()?;
+                page.put("   ");
+                page.put(name_of(grammar, symbol));
+                page.tab(20);
+                page.put("to state ");
+                page.number(next);
+                page.end();
             }
         }
-        Ok(())
     }
 }
 
 /// The items of a state that are complete or about the token ahead, and then those that have
 /// begun: 12 of them.
-pub fn put_kernel<W: Write>(
-    page: &mut Page<W>,
-    tables: &Tables,
-    state: usize,
-    ahead: Sym,
-) -> io::Result<()> {
+pub fn put_kernel<W: Write>(page: &mut Page<W>, tables: &Tables, state: usize, ahead: Sym) {
     let shown = Shown { tables, state };
     let grammar = shown.grammar();
     let first = Listed {
@@ -272,32 +252,31 @@ pub fn put_kernel<W: Write>(
         most: FEW,
         width: shown.widest(|item| rank_of(grammar, item, ahead) != Rank::Third),
     };
-    let begun = shown.put_rank(page, ahead, first)?;
+    let begun = shown.put_rank(page, ahead, first);
     let second = Listed {
         rank: Rank::Second,
         most: FEW.saturating_sub(begun),
         ..first
     };
-    let count = shown.put_rank(page, ahead, second)?;
+    let count = shown.put_rank(page, ahead, second);
     let more = begun.saturating_add(count).saturating_sub(FEW);
     if more > 0 {
-        page.put("   .. ")?;
-        page.number(more)?;
-        page.line(" more; state shows them")?;
+        page.put("   .. ");
+        page.number(more);
+        page.line(" more; state shows them");
     }
-    Ok(())
 }
 
 /// A state: its items, its actions, its gotos. A number that is no state has none.
-pub fn put_state<W: Write>(page: &mut Page<W>, tables: &Tables, state: usize) -> io::Result<()> {
-    page.put("state ")?;
-    page.number(state)?;
-    page.end()?;
+pub fn put_state<W: Write>(page: &mut Page<W>, tables: &Tables, state: usize) {
+    page.put("state ");
+    page.number(state);
+    page.end();
     let shown = Shown { tables, state };
     let width = shown.widest(|_| true);
     for item in shown.items() {
-        shown.put_noted(page, *item, width, usize::MAX)?;
+        shown.put_noted(page, *item, width, usize::MAX);
     }
-    shown.put_actions(page)?;
-    shown.put_gotos(page)
+    shown.put_actions(page);
+    shown.put_gotos(page);
 }

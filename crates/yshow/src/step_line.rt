@@ -2,7 +2,7 @@
 
 use crate::page::{Page, Paint};
 use crate::reading::{name_of, token_ahead};
-use std::io::{self, Write};
+use std::io::Write;
 use yexplain::reads::grammar_of;
 use yexplain::text::RuleText;
 use yparse::Session;
@@ -68,55 +68,42 @@ fn kind_paint(kind: StepKind) -> Paint {
 }
 
 /// What a kind is about: a symbol, a rule, or where an error is.
-pub fn put_subject<W: Write>(
-    page: &mut Page<W>,
-    grammar: &Grammar,
-    kind: StepKind,
-    ahead: Sym,
-) -> io::Result<()> {
+pub fn put_subject<W: Write>(page: &mut Page<W>, grammar: &Grammar, kind: StepKind, ahead: Sym) {
     match kind {
         StepKind::Shift(symbol)
         | StepKind::Pop(symbol)
         | StepKind::Discard(symbol)
         | StepKind::Insert(symbol)
         | StepKind::Drop(symbol) => page.put(name_of(grammar, symbol)),
-        StepKind::Reduce(rule) => write!(page, "{}", RuleText(grammar, rule)),
+        StepKind::Reduce(rule) => page.show(RuleText(grammar, rule)),
         StepKind::ShiftError => page.put("error"),
         StepKind::Detect => {
-            page.put(name_of(grammar, ahead))?;
-            page.put(" can't come here")
+            page.put(name_of(grammar, ahead));
+            page.put(" can't come here");
         }
-        StepKind::Accept | StepKind::Fail => Ok(()),
+        StepKind::Accept | StepKind::Fail => {}
     }
 }
 
 /// The number of the rule of a reduction.
-pub fn put_rule_number<W: Write>(page: &mut Page<W>, kind: StepKind) -> io::Result<()> {
-    match kind {
-        StepKind::Reduce(rule) => {
-            page.tab(RULES)?;
-            page.put("rule ")?;
-            page.number(rule)
-        }
-        _ => Ok(()),
+pub fn put_rule_number<W: Write>(page: &mut Page<W>, kind: StepKind) {
+    if let StepKind::Reduce(rule) = kind {
+        page.tab(RULES);
+        page.put("rule ");
+        page.number(rule);
     }
 }
 
-/// Writes the line.
-pub fn put_step<W: Write>(page: &mut Page<W>, grammar: &Grammar, line: StepLine) -> io::Result<()> {
-    page.number_to(7, line.position)?;
-    page.put(if line.undone { "  undo " } else { "  " })?;
-    page.painted(kind_paint(line.kind), kind_word(line.kind))?;
-    page.tab(if line.undone { 23 } else { 18 })?;
-    put_subject(page, grammar, line.kind, line.ahead)?;
-    put_rule_number(page, line.kind)?;
-    page.tab(STATES)?;
-    page.put("state ")?;
-    page.number(line.state)?;
-    page.end()
-}
-
-/// Writes the line of what was just made.
-pub fn put_made<W: Write>(page: &mut Page<W>, session: &Session, line: StepLine) -> io::Result<()> {
-    put_step(page, grammar_of(session.tables()), line)
+/// Writes the line of what was made.
+pub fn put_made<W: Write>(page: &mut Page<W>, session: &Session, line: StepLine) {
+    page.number_to(7, line.position);
+    page.put(if line.undone { "  undo " } else { "  " });
+    page.painted(kind_paint(line.kind), kind_word(line.kind));
+    page.tab(if line.undone { 23 } else { 18 });
+    put_subject(page, grammar_of(session.tables()), line.kind, line.ahead);
+    put_rule_number(page, line.kind);
+    page.tab(STATES);
+    page.put("state ");
+    page.number(line.state);
+    page.end();
 }

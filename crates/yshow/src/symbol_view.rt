@@ -3,7 +3,7 @@
 use crate::grammar_view::{Rules, put_precedence};
 use crate::page::Page;
 use crate::reading::name_of;
-use std::io::{self, Write};
+use std::io::Write;
 use yexplain::lines::Lines;
 use yexplain::reads::{begins_with, body_of, grammar_of, left_of, level_of, vanishes};
 use yexplain::roles::How;
@@ -15,47 +15,46 @@ use ytables::Tables;
 const SOME_RULES: usize = 40;
 
 /// The rules of a nonterminal.
-fn put_rules<W: Write>(page: &mut Page<W>, rules: Rules<'_>, symbol: Sym) -> io::Result<()> {
-    page.line("defined by")?;
+fn put_rules<W: Write>(page: &mut Page<W>, rules: Rules<'_>, symbol: Sym) {
+    page.line("defined by");
     for rule in 0..rules.grammar.rules() {
         if left_of(rules.grammar, rule) == Some(symbol) {
-            rules.put(page, rule)?;
+            rules.put(page, rule);
         }
     }
-    Ok(())
 }
 
 /// The rules whose bodies have a symbol: the first 40 of them.
-fn put_uses<W: Write>(page: &mut Page<W>, rules: Rules<'_>, symbol: Sym) -> io::Result<()> {
-    page.line("used in")?;
+fn put_uses<W: Write>(page: &mut Page<W>, rules: Rules<'_>, symbol: Sym) {
+    page.line("used in");
     let mut count = 0usize;
     for rule in 0..rules.grammar.rules() {
         if body_of(rules.grammar, rule).contains(&symbol) {
             count = count.saturating_add(1);
             if count > SOME_RULES {
-                return page.line("     ..");
+                page.line("     ..");
+                return;
             }
-            rules.put(page, rule)?;
+            rules.put(page, rule);
         }
     }
     if count == 0 {
-        page.line("     no rule")?;
+        page.line("     no rule");
     }
-    Ok(())
 }
 
 /// The tokens that a nonterminal begins with, and whether it can be empty.
-fn put_first<W: Write>(page: &mut Page<W>, tables: &Tables, symbol: Sym) -> io::Result<()> {
+fn put_first<W: Write>(page: &mut Page<W>, tables: &Tables, symbol: Sym) {
     let grammar = grammar_of(tables);
-    page.put("begins with")?;
+    page.put("begins with");
     let mut none = true;
     for token in 0..token_count(grammar) {
         if begins_with(tables.automaton(), symbol, token) {
             none = false;
-            page.word(3, name_of(grammar, token))?;
+            page.word(3, name_of(grammar, token));
         }
     }
-    page.line(if none { " no token" } else { "" })?;
+    page.line(if none { " no token" } else { "" });
     page.line(if vanishes(tables.automaton(), symbol) {
         "can be empty"
     } else {
@@ -76,7 +75,7 @@ fn how_words(how: How) -> Option<&'static str> {
 }
 
 /// Where a symbol is named outside of the rules, or by `%prec`: the first 40 places.
-fn put_mentions<W: Write>(page: &mut Page<W>, lines: &Lines, symbol: Sym) -> io::Result<()> {
+fn put_mentions<W: Write>(page: &mut Page<W>, lines: &Lines, symbol: Sym) {
     let mut left = SOME_RULES;
     for mention in lines.mentions() {
         if left == 0 || mention.symbol != symbol {
@@ -84,45 +83,39 @@ fn put_mentions<W: Write>(page: &mut Page<W>, lines: &Lines, symbol: Sym) -> io:
         }
         if let Some(words) = how_words(mention.how) {
             left -= 1;
-            page.put(words)?;
-            page.put(" on line ")?;
-            page.number(mention.line)?;
-            page.end()?;
+            page.put(words);
+            page.put(" on line ");
+            page.number(mention.line);
+            page.end();
         }
     }
-    Ok(())
 }
 
 /// What a token is: its number and its precedence.
-fn put_token<W: Write>(page: &mut Page<W>, grammar: &Grammar, token: Sym) -> io::Result<()> {
-    page.put(": a token")?;
+fn put_token<W: Write>(page: &mut Page<W>, grammar: &Grammar, token: Sym) {
+    page.put(": a token");
     if token < grammar.symbols() {
         if let Some(number) = grammar.number(token) {
-            page.put(", number ")?;
-            page.number(number as usize)?;
+            page.put(", number ");
+            page.number(number as usize);
         }
     }
-    put_precedence(page, level_of(grammar, token))?;
-    page.end()
+    put_precedence(page, level_of(grammar, token));
+    page.end();
 }
 
 /// A symbol: what it is, where it is defined and used, what it begins with.
-pub fn put_symbol<W: Write>(
-    page: &mut Page<W>,
-    tables: &Tables,
-    lines: &Lines,
-    symbol: Sym,
-) -> io::Result<()> {
+pub fn put_symbol<W: Write>(page: &mut Page<W>, tables: &Tables, lines: &Lines, symbol: Sym) {
     let grammar = grammar_of(tables);
     let rules = Rules { grammar, lines };
-    page.put(name_of(grammar, symbol))?;
+    page.put(name_of(grammar, symbol));
     if grammar.is_token(symbol) {
-        put_token(page, grammar, symbol)?;
+        put_token(page, grammar, symbol);
     } else {
-        page.line(": a nonterminal")?;
-        put_rules(page, rules, symbol)?;
-        put_first(page, tables, symbol)?;
+        page.line(": a nonterminal");
+        put_rules(page, rules, symbol);
+        put_first(page, tables, symbol);
     }
-    put_mentions(page, lines, symbol)?;
-    put_uses(page, rules, symbol)
+    put_mentions(page, lines, symbol);
+    put_uses(page, rules, symbol);
 }

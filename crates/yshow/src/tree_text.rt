@@ -3,7 +3,7 @@
 use crate::page::Page;
 use crate::reading::{child_of, name_of, tree_at};
 use std::alloc::{AllocError, Global};
-use std::io::{self, Write};
+use std::io::Write;
 use yexplain::reads::{grammar_of, left_of};
 use ylalr::END;
 use yparse::{Session, TreeNode, TreeView};
@@ -19,43 +19,36 @@ pub const SOME_LINES: usize = 1_000;
 /// A tree that is still to be written, and its level.
 type Open<'a> = (usize, TreeView<'a>);
 
-/// A token with its place, or as one that was inserted.
-fn put_leaf<W: Write>(
-    page: &mut Page<W>,
-    grammar: &Grammar,
-    token: Sym,
-    place: usize,
-) -> io::Result<()> {
-    page.put(name_of(grammar, token))?;
-    if place == 0 {
-        return page.put("  (inserted)");
-    }
-    page.put("  @")?;
-    page.number(place)
-}
-
-/// What stands at the root of a tree.
-fn put_root<W: Write>(page: &mut Page<W>, grammar: &Grammar, node: TreeNode) -> io::Result<()> {
+/// What stands at the root of a tree: a token with its place, or as one that was inserted;
+/// `error`; or a left side with its rule.
+fn put_root<W: Write>(page: &mut Page<W>, grammar: &Grammar, node: TreeNode) {
     match node {
-        TreeNode::Leaf(token, place) => put_leaf(page, grammar, token, place),
+        TreeNode::Leaf(token, 0) => {
+            page.put(name_of(grammar, token));
+            page.put("  (inserted)");
+        }
+        TreeNode::Leaf(token, place) => {
+            page.put(name_of(grammar, token));
+            page.put("  @");
+            page.number(place);
+        }
         TreeNode::ErrorLeaf => page.put("error"),
         TreeNode::Rule(rule) => {
-            page.put(name_of(grammar, left_of(grammar, rule).unwrap_or(END)))?;
-            page.put("  rule ")?;
-            page.number(rule)
+            page.put(name_of(grammar, left_of(grammar, rule).unwrap_or(END)));
+            page.put("  rule ");
+            page.number(rule);
         }
     }
 }
 
 /// The indentation of a level, with its number where it is deep.
-fn put_indent<W: Write>(page: &mut Page<W>, level: usize) -> io::Result<()> {
-    page.spaces(level.min(DEEPEST).saturating_mul(2))?;
+fn put_indent<W: Write>(page: &mut Page<W>, level: usize) {
+    page.spaces(level.min(DEEPEST).saturating_mul(2));
     if level > DEEPEST {
-        page.put("(")?;
-        page.number(level)?;
-        page.put(") ")?;
+        page.put("(");
+        page.number(level);
+        page.put(") ");
     }
-    Ok(())
 }
 
 /// The children of a tree are to be written next, the leftmost first.
@@ -78,12 +71,12 @@ fn put_line<'a, W: Write>(
     grammar: &Grammar,
     open: &mut Vec<Open<'a>>,
     next: Open<'a>,
-) -> io::Result<()> {
+) -> Result<(), AllocError> {
     let (level, tree) = next;
-    put_indent(page, level)?;
-    put_root(page, grammar, tree.node())?;
-    page.end()?;
-    Ok(open_children(open, level, &tree)?)
+    put_indent(page, level);
+    put_root(page, grammar, tree.node());
+    page.end();
+    open_children(open, level, &tree)
 }
 
 /// The open trees, at most so many lines.
@@ -92,15 +85,16 @@ fn put_open<'a, W: Write>(
     grammar: &Grammar,
     open: &mut Vec<Open<'a>>,
     most: usize,
-) -> io::Result<()> {
+) -> Result<(), AllocError> {
     for count in 0..MOST_NODES {
         let Some(next) = open.pop() else {
-            return Ok(());
+            break;
         };
         if count >= most {
-            page.put("  .. after ")?;
-            page.number(most)?;
-            return page.line(" lines; tree all writes the rest");
+            page.put("  .. after ");
+            page.number(most);
+            page.line(" lines; tree all writes the rest");
+            break;
         }
         put_line(page, grammar, open, next)?;
     }
@@ -113,7 +107,7 @@ pub fn put_trees<W: Write>(
     page: &mut Page<W>,
     session: &Session,
     most: usize,
-) -> io::Result<()> {
+) -> Result<(), AllocError> {
     let mut open = Vec::new(alloc);
     for index in (0..session.view().stack_len()).rev() {
         if let Some(tree) = tree_at(session, index) {
@@ -121,7 +115,7 @@ pub fn put_trees<W: Write>(
         }
     }
     if open.is_empty() {
-        page.line("The stack is empty: there is no tree.")?;
+        page.line("The stack is empty: there is no tree.");
     }
     put_open(page, grammar_of(session.tables()), &mut open, most)
 }
@@ -133,15 +127,16 @@ pub fn put_tree<W: Write>(
     session: &Session,
     entry: usize,
     most: usize,
-) -> io::Result<()> {
+) -> Result<(), AllocError> {
     let tree = match entry.checked_sub(1) {
         Some(index) => tree_at(session, index),
         None => None,
     };
     let Some(tree) = tree else {
-        page.put("There is no such entry: the stack has ")?;
-        page.number(session.view().stack_len())?;
-        return page.line(".");
+        page.put("There is no such entry: the stack has ");
+        page.number(session.view().stack_len());
+        page.line(".");
+        return Ok(());
     };
     let mut open = Vec::new(alloc);
     open.push((0, tree))?;
