@@ -1,8 +1,8 @@
 //! `verdicts grammar tokens..`: whether each tokens file is a sentence of a grammar file, and in
 //! how many steps that is found.
 //!
-//! `verdicts --calls grammar tokens` makes each public call that takes memory by itself instead, for
-//! `make refuse`.
+//! `verdicts --calls grammar tokens` makes each public call that takes memory by itself instead,
+//! for `make refuse`.
 #![tactic(auto)]
 
 mod calls;
