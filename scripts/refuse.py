@@ -162,7 +162,8 @@ def is_verdict(made, it):
     if it.words[0] != "verdicts":
         return False
     if "--calls" in it.words:
-        return made["message"].endswith(NO_MEMORY) and made["status"] == b"3\n"
+        told = made["message"].endswith(NO_MEMORY) and made["status"] == b"3\n"
+        return told and not made["stdout"]
     usual, lines = (text.splitlines() for text in (it.wanted["stdout"], made["stdout"]))
     if made["status"] == b"0\n" and len(usual) == len(lines):
         pairs = zip(usual, lines)
