@@ -1,4 +1,5 @@
-//! Grammar files and tokens files opened, and what is said of those that are refused.
+//! What is opened of a grammar file, and what is said of grammar files and tokens files that are
+//! refused.
 
 use crate::place::word_place;
 use crate::shown::{Place, put_whole};
@@ -9,9 +10,9 @@ use std::fs;
 use std::io::{self, ErrorKind, Read, Write};
 use std::rt::Files;
 use yexplain::lines::Lines;
-use ygrammar::{Grammar, GrammarFault, LONGEST_FILE, read_grammar};
-use ylalr::{Automaton, BuildFault, build};
-use ytables::{Tables, resolve};
+use ygrammar::{Grammar, GrammarFault, LONGEST_FILE};
+use ylalr::BuildFault;
+use ytables::Tables;
 use ytokens::token_words::{Front, front_of};
 use ytokens::tokens::TokenFault;
 
@@ -77,22 +78,6 @@ pub fn first_bytes<F: Files + AllocGlobal>(rt: &F, path: &str, most: u64) -> io:
 /// The bytes of a grammar file, one more than it may have at most.
 pub fn grammar_bytes<F: Files + AllocGlobal>(rt: &F, path: &str) -> io::Result<Vec<u8>> {
     first_bytes(rt, path, GRAMMAR_BYTES)
-}
-
-/// The item sets of a grammar.
-fn automaton_of(alloc: Global, grammar: Grammar) -> Result<Automaton, Trouble> {
-    Ok(build(alloc, grammar)?)
-}
-
-/// The tables of the grammar that the bytes mean, and where things stand in them.
-pub fn open_bytes(alloc: Global, source: &[u8]) -> Result<Opened, Trouble> {
-    let grammar = read_grammar(alloc, source)?;
-    let lines = Lines::new(alloc, source, &grammar)?;
-    let automaton = automaton_of(alloc, grammar)?;
-    match resolve(alloc, automaton) {
-        Ok(tables) => Ok(Opened { tables, lines }),
-        Err(_) => Err(Trouble::Memory),
-    }
 }
 
 /// Writes that a file can't be read, or that there is no memory, and gives the exit status.
@@ -171,22 +156,5 @@ pub fn put_near_token<W: Write>(
     match near_token(alloc, grammar, source, place)? {
         Some(name) => put_question(out, name),
         None => Ok(()),
-    }
-}
-
-/// Opens the grammar file of these bytes. Where it is refused, that is written, and the exit status
-/// is the answer.
-pub fn open_text<W: Write>(
-    alloc: Global,
-    path: &str,
-    source: &[u8],
-    errors: &mut W,
-) -> io::Result<Result<Opened, u8>> {
-    match open_bytes(alloc, source) {
-        Ok(opened) => Ok(Ok(opened)),
-        Err(trouble) => {
-            put_trouble(errors, alloc, path, source, &trouble)?;
-            Ok(Err(trouble.status()))
-        }
     }
 }

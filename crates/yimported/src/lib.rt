@@ -1,7 +1,9 @@
-//! `ydebug import`: a grammar file of bison or byacc imported, with what is said of it.
+//! Grammar files opened: those of yacc, and those of bison or byacc, which are imported
+//! (`ydebug import`), with what is said of them.
 #![tactic(auto)]
 
 pub mod counts;
 pub mod equals;
+pub mod opening;
 pub mod run;
 pub mod told;

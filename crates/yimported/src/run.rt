@@ -2,6 +2,7 @@
 
 use crate::counts::Counts;
 use crate::equals::equal_of;
+use crate::opening::open_bytes;
 use crate::told::{
     put_equal, put_expected, put_notes, put_refused, put_unreadable, put_weighty_notes,
 };
@@ -9,7 +10,7 @@ use std::alloc::Global;
 use std::fs;
 use std::io::{self, ErrorKind, Write};
 use std::rt::Files;
-use yfaults::opening::{Opened, Trouble, grammar_bytes, open_bytes, put_trouble, put_unread};
+use yfaults::opening::{Opened, Trouble, grammar_bytes, put_trouble, put_unread};
 use ygrammar::{GrammarFault, LONGEST_FILE};
 use yimport::import::{Imported, import};
 use yimport::refusal;

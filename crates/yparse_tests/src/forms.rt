@@ -1,9 +1,9 @@
 //! Trees and forms into writers that refuse a call, and sessions that go on behind it.
 
+use crate::made::tables_of;
 use std::alloc::Global;
 use std::test::Fail;
 use testkit::devices::{Refusal, Sink};
-use testkit::tables::tables_of;
 use testkit::worked::{SHORT, SPOILED, SUM, Worked, behind, first_lines};
 use yparse::machine::UnwindFault;
 use yparse::{Session, read_tokens};

@@ -5,6 +5,8 @@
 #[cfg(test)]
 mod forms;
 #[cfg(test)]
+mod made;
+#[cfg(test)]
 mod snapshots;
 #[cfg(test)]
 mod tokens;

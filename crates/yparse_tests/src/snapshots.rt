@@ -1,8 +1,8 @@
 //! A journal over the parser that keeps snapshots: steps, edits, refusals, and undos.
 
+use crate::made::tables_of;
 use std::alloc::Global;
 use std::test::Fail;
-use testkit::tables::tables_of;
 use testkit::worked::{LIST, ONE, SUMS};
 use ygrammar::Sym;
 use ylalr::ERROR;

@@ -1,8 +1,8 @@
 //! Tokens that fit the tables that they were read for, and others.
 
+use crate::made::tables_of;
 use std::alloc::Global;
 use std::test::Fail;
-use testkit::tables::tables_of;
 use testkit::worked::{ONE, SUMS};
 use yparse::read_tokens;
 use ytables::Tables;

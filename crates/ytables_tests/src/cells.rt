@@ -1,9 +1,9 @@
 //! Cells of states with a default rule, by the numbers of states, symbols and rules. These rules
 //! are reduced at every token, also at `error`, which is 1, and at the end, which is 0.
 
+use crate::made::tables_of;
 use std::alloc::Global;
 use std::test::Fail;
-use testkit::tables::tables_of;
 use testkit::worked::ONE;
 use ygrammar::Sym;
 use ytables::{Action, Tables};

@@ -1,9 +1,9 @@
 //! Grammars with and without cells that have a choice, and one with the greatest number of
 //! conflicts.
 
+use crate::made::tables_of;
 use std::alloc::Global;
 use std::test::Fail;
-use testkit::tables::tables_of;
 use testkit::texts::repeated;
 use testkit::worked::{DANGLING, ENDLESS, LIST, ONE, SUMS};
 use ytables::Counts;

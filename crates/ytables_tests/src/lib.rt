@@ -9,4 +9,6 @@ mod choices;
 #[cfg(test)]
 mod displacements;
 #[cfg(test)]
+mod made;
+#[cfg(test)]
 mod writers;

@@ -1,10 +1,10 @@
 //! Writers of a byte a call, and those that fail at each of their calls.
 
+use crate::made::tables_of;
 use std::alloc::Global;
 use std::io::Write;
 use std::test::Fail;
 use testkit::devices::{Refusal, Sink};
-use testkit::tables::tables_of;
 use testkit::worked::DANGLING;
 use ytables::{Link, TableFault, Tables};
 

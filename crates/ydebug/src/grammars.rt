@@ -4,7 +4,8 @@ use std::alloc::{AllocError, Global};
 use std::io::{self, Write};
 use std::rt::Files;
 use yexplain::reads::body_of;
-use yfaults::opening::{Opened, grammar_bytes, open_text, put_unread};
+use yfaults::opening::{Opened, grammar_bytes, put_unread};
+use yimported::opening::open_text;
 use yimported::run::open_foreign;
 use ysymbols::Grammar;
 
