@@ -15,6 +15,7 @@ use yparse::Session;
 use yreports::finding::{ALL_STEPS, Finding, List, Seeker};
 use yreports::list_text::{ListText, put_unfound};
 use yreports::report::empty_session;
+use yshow::page::Page;
 use ysymbols::Sym;
 use ytables::Tables;
 
@@ -77,6 +78,12 @@ struct Maker<'a> {
     group: Group,
 }
 
+/// What was written on a page.
+fn written(alloc: Global, page: Page<Vec<u8>>) -> io::Result<String> {
+    page.checked()?;
+    Ok(text_of(alloc, &page.into_out())?)
+}
+
 impl Maker<'_> {
     /// What is said of a list.
     fn way(self, list: &List, lists: usize) -> io::Result<String> {
@@ -87,9 +94,9 @@ impl Maker<'_> {
             group: self.group,
             lists,
         };
-        let mut bytes = Vec::new(self.alloc);
-        text.put_list(&mut bytes, list)?;
-        Ok(text_of(self.alloc, &bytes)?)
+        let mut page = Page::new(Vec::new(self.alloc), false);
+        text.put_list(&mut page, list);
+        written(self.alloc, page)
     }
 
     fn ways(self, finding: &Finding) -> io::Result<Vec<String>> {
@@ -103,9 +110,9 @@ impl Maker<'_> {
 
     /// What is said where lists are missing.
     fn missing(self, finding: &Finding) -> io::Result<String> {
-        let mut bytes = Vec::new(self.alloc);
-        put_unfound(&mut bytes, finding)?;
-        Ok(text_of(self.alloc, &bytes)?)
+        let mut page = Page::new(Vec::new(self.alloc), false);
+        put_unfound(&mut page, finding);
+        written(self.alloc, page)
     }
 
     fn card(self, finding: &Finding) -> io::Result<Card> {

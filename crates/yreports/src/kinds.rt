@@ -1,72 +1,79 @@
 //! The conflicts of tables, in short.
 
-use std::alloc::Global;
-use std::fmt;
-use std::io::{self, Write};
+use std::io::Write;
 use yconflicts::groups::{Conflicts, Group};
 use yexplain::lines::Lines;
 use yexplain::why::{Question, put_cell};
+use yshow::page::Page;
 use ytables::Tables;
 
 /// The most kinds that are named.
 const MOST_NAMED: usize = 1_000;
 
-/// A number of things: `1 cell`, `2 cells`.
-#[derive(Clone, Copy)]
-pub struct Count<'a>(pub usize, pub &'a str);
+/// Writes a number of cells.
+fn put_cells<W: Write>(page: &mut Page<W>, cells: usize) {
+    page.count(cells, "cell", "cells");
+}
 
-impl fmt::Display for Count<'_> {
-    fn fmt<W: fmt::Write>(&self, f: &mut fmt::Formatter<W>) -> fmt::Result {
-        let number = self.0;
-        let thing = self.1;
-        let ending = if number == 1 { "" } else { "s" };
-        write!(f, "{number} {thing}{ending}")
-    }
+/// Writes a number of kinds.
+pub fn put_number<W: Write>(page: &mut Page<W>, kinds: usize) {
+    page.count(kinds, "kind", "kinds");
 }
 
 /// Writes how many conflicts there are.
-pub fn put_counts<W: Write>(
-    out: &mut W,
-    path: &str,
-    tables: &Tables,
-    found: &Conflicts,
-) -> io::Result<()> {
-    let counts = tables.conflicts();
-    let shift_reduce = counts.shift_reduce;
-    let reduce_reduce = counts.reduce_reduce;
-    let cells = Count(found.cells, "cell");
-    let kinds = Count(found.groups.len(), "kind");
+pub fn put_counts<W: Write>(page: &mut Page<W>, path: &str, tables: &Tables, found: &Conflicts) {
+    page.put(path);
     if found.cells == 0 {
-        return writeln!(out, "{path}: no conflicts");
+        page.line(": no conflicts");
+        return;
     }
-    writeln!(
-        out,
-        "{path}: {shift_reduce} shift/reduce, {reduce_reduce} reduce/reduce, in {cells} of {kinds}"
-    )
+    let counts = tables.conflicts();
+    page.put(": ");
+    page.number(counts.shift_reduce);
+    page.put(" shift/reduce, ");
+    page.number(counts.reduce_reduce);
+    page.put(" reduce/reduce, in ");
+    put_cells(page, found.cells);
+    page.put(" of ");
+    put_number(page, found.groups.len());
+    page.end();
 }
 
 /// Writes in how many states the conflicts of a kind stand, where that is more than one.
-pub fn put_states<W: Write>(out: &mut W, group: Group) -> io::Result<()> {
+pub fn put_states<W: Write>(page: &mut Page<W>, group: Group) {
     if group.states < 2 {
-        return Ok(());
+        return;
     }
-    let states = group.states;
-    let last = group.last;
-    writeln!(
-        out,
-        "  The same in {states} states, the last of them {last}."
-    )
+    page.put("  The same in ");
+    page.number(group.states);
+    page.put(" states, the last of them ");
+    page.number(group.last);
+    page.line(".");
+}
+
+/// Writes how many kinds there are behind those that are named, and cells of no kind.
+fn put_left<W: Write>(page: &mut Page<W>, left: usize, others: usize) {
+    if left > 0 {
+        page.put("and ");
+        put_number(page, left);
+        page.line(" more");
+    }
+    if others > 0 {
+        page.put("and ");
+        put_cells(page, others);
+        page.line(" whose kinds aren't told apart");
+    }
 }
 
 /// Writes a cell of each kind behind the first ones, of at most 1,000, and how many more there
 /// are.
 pub fn put_named<W: Write>(
-    out: &mut W,
+    page: &mut Page<W>,
     tables: &Tables,
     lines: &Lines,
     found: &Conflicts,
     first: usize,
-) -> io::Result<()> {
+) {
     for (kind, group) in found.groups.iter().skip(first).take(MOST_NAMED) {
         let asked = Question {
             tables,
@@ -74,31 +81,9 @@ pub fn put_named<W: Write>(
             state: group.state,
             token: kind.token,
         };
-        put_cell(out, asked)?;
-        put_states(out, *group)?;
+        let _ = put_cell(page, asked);
+        put_states(page, *group);
     }
     let named = first.saturating_add(MOST_NAMED);
-    let left = found.groups.len().saturating_sub(named);
-    if left > 0 {
-        let kinds = Count(left, "kind");
-        writeln!(out, "and {kinds} more")?;
-    }
-    if found.others > 0 {
-        let cells = Count(found.others, "cell");
-        writeln!(out, "and {cells} whose kinds aren't told apart")?;
-    }
-    Ok(())
-}
-
-/// Writes how many conflicts tables have, and a cell of each kind of them, of at most 1,000.
-pub fn put_kinds<W: Write>(
-    out: &mut W,
-    alloc: Global,
-    path: &str,
-    tables: &Tables,
-    lines: &Lines,
-) -> io::Result<()> {
-    let found = Conflicts::new(alloc, tables)?;
-    put_counts(out, path, tables, &found)?;
-    put_named(out, tables, lines, &found, 0)
+    put_left(page, found.groups.len().saturating_sub(named), found.others);
 }

@@ -1,13 +1,13 @@
 //! How lists of tokens are written: which rivals a list allows, its tokens, what a parse comes to.
 
 use crate::finding::{Allows, Finding, List};
-use crate::kinds::Count;
 use crate::trial::Trial;
-use std::io::{self, Write};
+use std::io::Write;
 use yconflicts::groups::{Group, Kind};
 use yexplain::lines::Lines;
 use yexplain::reads::grammar_of;
 use yexplain::text::{Name, Names, Numbered};
+use yshow::page::Page;
 use ysymbols::Sym;
 use ytables::Tables;
 
@@ -27,17 +27,18 @@ pub struct ListText<'a> {
 }
 
 /// Writes that lists are missing, where that is so.
-pub fn put_unfound<W: Write>(out: &mut W, finding: &Finding) -> io::Result<()> {
+pub fn put_unfound<W: Write>(page: &mut Page<W>, finding: &Finding) {
     if finding.long {
-        writeln!(
-            out,
-            "  The shortest list of tokens is too long to be shown."
-        )?;
+        page.line("  The shortest list of tokens is too long to be shown.");
     }
     if finding.late {
-        writeln!(out, "  The search for a list of tokens took too long.")?;
+        page.line("  The search for a list of tokens took too long.");
     }
-    Ok(())
+}
+
+/// Writes a number of steps.
+fn put_steps<W: Write>(page: &mut Page<W>, steps: usize) {
+    page.count(steps, "step", "steps");
 }
 
 impl<'a> ListText<'a> {
@@ -46,120 +47,127 @@ impl<'a> ListText<'a> {
     }
 
     /// Writes that no list allows both rivals, where that is so.
-    pub fn put_merged<W: Write>(self, out: &mut W, finding: &Finding) -> io::Result<()> {
+    pub fn put_merged<W: Write>(self, page: &mut Page<W>, finding: &Finding) {
         let mut lists = finding.lists.iter().map(|list| list.allows);
         match lists.find(|allows| *allows != Allows::Both) {
-            Some(Allows::One) => self.put_one(out),
-            Some(_) => writeln!(
-                out,
-                "  The search for a list of tokens that allows both took too long."
-            ),
-            None => Ok(()),
+            Some(Allows::One) => self.put_one(page),
+            Some(_) => {
+                page.line("  The search for a list of tokens that allows both took too long.");
+            }
+            None => {}
         }
     }
 
     /// Writes that no list allows both rivals.
-    fn put_one<W: Write>(self, out: &mut W) -> io::Result<()> {
-        let state = self.group.state;
+    fn put_one<W: Write>(self, page: &mut Page<W>) {
         if self.kind.others().len() > 1 {
-            return writeln!(
-                out,
+            page.line(
                 "  What is taken is never possible together with a rule that stands alone or \
                  without it below: states were merged, and canonical LR(1) would not have that \
-                 part of the conflict."
+                 part of the conflict.",
+            );
+        } else if self.group.states > 1 {
+            page.put("  No list of tokens allows both in state ");
+            page.number(self.group.state);
+            page.line(
+                ": states were merged, and canonical LR(1) would not have this conflict there.",
+            );
+        } else {
+            page.line(
+                "  No list of tokens allows both: states were merged, and canonical LR(1) would \
+                 not have this conflict.",
             );
         }
-        if self.group.states > 1 {
-            return writeln!(
-                out,
-                "  No list of tokens allows both in state {state}: states were merged, and \
-                 canonical LR(1) would not have this conflict there."
-            );
-        }
-        writeln!(
-            out,
-            "  No list of tokens allows both: states were merged, and canonical LR(1) would not \
-             have this conflict."
-        )
     }
 
     /// Writes a list, and what a parse over it comes to.
-    pub fn put_list<W: Write>(self, out: &mut W, list: &List) -> io::Result<()> {
+    pub fn put_list<W: Write>(self, page: &mut Page<W>, list: &List) {
         if self.lists > 1 || list.allows != Allows::Both {
-            self.put_rules(out, list)?;
+            self.put_rules(page, list);
         }
-        self.put_tokens(out, &list.tokens)?;
-        self.put_trial(out, list)
+        self.put_tokens(page, &list.tokens);
+        self.put_trial(page, list);
     }
 
     /// Writes the rules that a list is for.
-    fn put_rules<W: Write>(self, out: &mut W, list: &List) -> io::Result<()> {
-        write!(out, "  for")?;
+    fn put_rules<W: Write>(self, page: &mut Page<W>, list: &List) {
+        page.put("  for");
         for (place, rule) in list.rules.iter().enumerate() {
-            let comma = if place > 0 { "," } else { "" };
-            let rule = Numbered(self.lines, *rule);
-            write!(out, "{comma} {rule}")?;
+            page.put(if place > 0 { ", " } else { " " });
+            page.show(Numbered(self.lines, *rule));
         }
-        match list.allows {
-            Allows::Both => writeln!(out, ":"),
-            _ if list.rules.len() > 1 => writeln!(out, ", without what is taken:"),
-            Allows::One | Allows::Found => writeln!(out, " alone:"),
-        }
+        page.line(match list.allows {
+            Allows::Both => ":",
+            _ if list.rules.len() > 1 => ", without what is taken:",
+            Allows::One | Allows::Found => " alone:",
+        });
     }
 
     /// Writes the tokens of a list, a period, and the token behind them.
-    fn put_tokens<W: Write>(self, out: &mut W, tokens: &[Sym]) -> io::Result<()> {
-        let names = Names(grammar_of(self.tables), tokens);
-        let name = self.name();
-        writeln!(out, "  tokens {names} . {name}")
+    fn put_tokens<W: Write>(self, page: &mut Page<W>, tokens: &[Sym]) {
+        page.put("  tokens ");
+        page.show(Names(grammar_of(self.tables), tokens));
+        page.put(" . ");
+        page.show(self.name());
+        page.end();
+    }
+
+    /// Writes that a parse does something in the state of the conflict, with its token ahead.
+    fn put_parse<W: Write>(self, page: &mut Page<W>, does: &str) {
+        page.put("  A parse ");
+        page.put(does);
+        page.put(" the state with ");
+        page.show(self.name());
+        page.put(" ahead");
     }
 
     /// Writes what a parse over a list comes to.
-    fn put_trial<W: Write>(self, out: &mut W, list: &List) -> io::Result<()> {
-        let name = self.name();
+    fn put_trial<W: Write>(self, page: &mut Page<W>, list: &List) {
         match list.trial {
-            Trial::Reached(0) => {
-                writeln!(out, "  A parse begins in the state with {name} ahead.")
-            }
-            Trial::Reached(steps) => {
-                let steps = Count(steps, "step");
-                writeln!(
-                    out,
-                    "  A parse comes to the state with {name} ahead in {steps}."
-                )
-            }
-            Trial::HasError => writeln!(
-                out,
-                "  Not tried: error comes from recovery alone, and stands in no tokens file."
+            Trial::Reached(steps) => self.put_reached(page, steps),
+            Trial::HasError => page.line(
+                "  Not tried: error comes from recovery alone, and stands in no tokens file.",
             ),
             Trial::Late(steps) => {
-                let steps = Count(steps, "step");
-                writeln!(out, "  A parse was given up after {steps}.")?;
-                self.put_other(out, list)
+                page.put("  A parse was given up after ");
+                put_steps(page, steps);
+                page.line(".");
+                self.put_other(page, list);
             }
             Trial::Missed => {
-                writeln!(
-                    out,
-                    "  A parse doesn't come to the state with {name} ahead: an earlier choice is \
-                     settled otherwise."
-                )?;
-                self.put_other(out, list)
+                self.put_parse(page, "doesn't come to");
+                page.line(": an earlier choice is settled otherwise.");
+                self.put_other(page, list);
             }
         }
     }
 
+    /// Writes that a parse comes to the state, in so many steps.
+    fn put_reached<W: Write>(self, page: &mut Page<W>, steps: usize) {
+        if steps == 0 {
+            self.put_parse(page, "begins in");
+        } else {
+            self.put_parse(page, "comes to");
+            page.put(" in ");
+            put_steps(page, steps);
+        }
+        page.line(".");
+    }
+
     /// Writes the next list with which a parse comes to the state.
-    fn put_other<W: Write>(self, out: &mut W, list: &List) -> io::Result<()> {
+    fn put_other<W: Write>(self, page: &mut Page<W>, list: &List) {
         match &list.other {
             Some((tokens, steps)) => {
-                let steps = Count(*steps, "step");
-                writeln!(out, "  Over these it comes to the state, in {steps}:")?;
-                self.put_tokens(out, tokens)
+                page.put("  Over these it comes to the state, in ");
+                put_steps(page, *steps);
+                page.line(":");
+                self.put_tokens(page, tokens);
             }
-            None if list.tried == 0 => writeln!(out, "  No other list was found."),
+            None if list.tried == 0 => page.line("  No other list was found."),
             None => {
-                let lists = Count(list.tried, "other list");
-                writeln!(out, "  Nor does one over {lists} come to the state.")
+                page.put("  Nor does one over ");
+                page.count(list.tried, "other list", "other lists");
+                page.line(" come to the state.");
             }
         }
     }

@@ -2,7 +2,7 @@
 //! that get there; then the warnings.
 
 use crate::finding::{ALL_STEPS, Finding, Seeker, file_tokens};
-use crate::kinds::{Count, put_counts, put_named, put_states};
+use crate::kinds::{put_counts, put_named, put_number, put_states};
 use crate::list_text::{ListText, put_unfound};
 use crate::saving::Folder;
 use crate::warnings::put_warnings;
@@ -16,6 +16,7 @@ use yexplain::reads::grammar_of;
 use yexplain::why::{Question, explain};
 use yfaults::opening::Opened;
 use yparse::{Session, Tokens};
+use yshow::page::Page;
 use ytables::Tables;
 
 /// The most kinds for which lists are made.
@@ -37,7 +38,7 @@ pub struct Asked<'a> {
 #[derive(Drop)]
 struct Report<'a, W, F> {
     alloc: Global,
-    out: &'a mut W,
+    page: &'a mut Page<W>,
     lines: &'a Lines,
     folder: Folder<'a, F>,
 }
@@ -84,17 +85,19 @@ impl<W: Write, F: Files + AllocGlobal + Clone + Drop> Report<'_, W, F> {
         number: usize,
         kind: &Kind,
         group: Group,
-    ) -> io::Result<()> {
-        writeln!(self.out)?;
-        write!(self.out, "conflict {number}: ")?;
+    ) {
+        self.page.end();
+        self.page.put("conflict ");
+        self.page.number(number);
+        self.page.put(": ");
         let cell = Question {
             tables,
             lines: self.lines,
             state: group.state,
             token: kind.token,
         };
-        explain(self.out, cell)?;
-        put_states(self.out, group)
+        let _ = explain(self.page, cell);
+        put_states(self.page, group);
     }
 
     /// Writes a kind of conflict and the lists for it.
@@ -113,29 +116,29 @@ impl<W: Write, F: Files + AllocGlobal + Clone + Drop> Report<'_, W, F> {
             group,
             lists: finding.lists.len(),
         };
-        self.put_group(tables, number, kind, group)?;
-        text.put_merged(self.out, finding)?;
+        self.put_group(tables, number, kind, group);
+        text.put_merged(self.page, finding);
         for (part, list) in finding.lists.iter().enumerate() {
-            text.put_list(self.out, list)?;
+            text.put_list(self.page, list);
             if let Some((tokens, last)) = file_tokens(list, kind.token) {
                 let name = (number, part);
                 self.folder
-                    .keep(self.out, grammar_of(tables), name, tokens, last)?;
+                    .keep(self.page, grammar_of(tables), name, tokens, last)?;
             }
         }
-        put_unfound(self.out, finding)
+        put_unfound(self.page, finding);
+        self.page.checked()
     }
 
     /// Names the kinds for which no lists are made.
-    fn put_rest(&mut self, tables: &Tables, found: &Conflicts) -> io::Result<()> {
+    fn put_rest(&mut self, tables: &Tables, found: &Conflicts) {
         let rest = found.groups.len().saturating_sub(MOST_GROUPS);
-        if rest == 0 {
-            return Ok(());
+        if rest > 0 {
+            self.page.end();
+            put_number(self.page, rest);
+            self.page.line(" more, without lists of tokens:");
+            put_named(self.page, tables, self.lines, found, MOST_GROUPS);
         }
-        let kinds = Count(rest, "kind");
-        writeln!(self.out)?;
-        writeln!(self.out, "{kinds} more, without lists of tokens:")?;
-        put_named(self.out, tables, self.lines, found, MOST_GROUPS)
     }
 }
 
@@ -161,7 +164,8 @@ fn put_found<W: Write, F: Files + AllocGlobal + Clone + Drop>(
     }
     report.folder.make()?;
     put_first(report, session, found)?;
-    report.put_rest(session.tables(), found)
+    report.put_rest(session.tables(), found);
+    Ok(())
 }
 
 /// Writes what couldn't be written, where there is something, and gives the exit status.
@@ -179,7 +183,7 @@ fn put_failed<E: Write>(errors: &mut E, failed: Option<&String>, status: u8) -> 
 /// written, if one couldn't.
 fn put_lists<'a, W: Write, F: Files + AllocGlobal + Clone + Drop>(
     rt: &'a F,
-    out: &'a mut W,
+    page: &'a mut Page<W>,
     asked: Asked<'a>,
     session: &mut Session,
     lines: &'a Lines,
@@ -187,7 +191,7 @@ fn put_lists<'a, W: Write, F: Files + AllocGlobal + Clone + Drop>(
 ) -> io::Result<Option<String>> {
     let mut report = Report {
         alloc: rt.alloc(),
-        out,
+        page,
         lines,
         folder: Folder {
             rt,
@@ -195,7 +199,7 @@ fn put_lists<'a, W: Write, F: Files + AllocGlobal + Clone + Drop>(
             failed: None,
         },
     };
-    put_counts(report.out, asked.grammar, session.tables(), found)?;
+    put_counts(report.page, asked.grammar, session.tables(), found);
     put_found(&mut report, session, found)?;
     let Report { folder, .. } = report;
     let Folder { failed, .. } = folder;
@@ -207,13 +211,14 @@ fn put_both<W: Write, E: Write, F: Files + AllocGlobal + Clone + Drop>(
     rt: &F,
     asked: Asked<'_>,
     found: &Conflicts,
-    out: &mut W,
+    page: &mut Page<W>,
     errors: &mut E,
     session: &mut Session,
     lines: &Lines,
 ) -> io::Result<u8> {
-    let failed = put_lists(rt, &mut *out, asked, session, lines, found)?;
-    let warnings = put_warnings(&mut *out, rt.alloc(), session.tables(), lines)?;
+    let failed = put_lists(rt, &mut *page, asked, session, lines, found)?;
+    let warnings = put_warnings(&mut *page, rt.alloc(), session.tables(), lines)?;
+    page.checked()?;
     let is_bad = found.cells > 0 || warnings > 0;
     let status = if asked.strict && is_bad { 1 } else { 0 };
     put_failed(errors, failed.as_ref(), status)
@@ -222,14 +227,14 @@ fn put_both<W: Write, E: Write, F: Files + AllocGlobal + Clone + Drop>(
 /// Writes the conflicts and the warnings of a session's grammar, and gives the exit status.
 fn put_all<W: Write, E: Write, F: Files + AllocGlobal + Clone + Drop>(
     rt: &F,
-    out: &mut W,
+    page: &mut Page<W>,
     errors: &mut E,
     asked: Asked<'_>,
     session: &mut Session,
     lines: &Lines,
 ) -> io::Result<u8> {
     let found = Conflicts::new(rt.alloc(), session.tables())?;
-    put_both(rt, asked, &found, out, errors, session, lines)
+    put_both(rt, asked, &found, page, errors, session, lines)
 }
 
 /// A session without tokens.
@@ -252,5 +257,6 @@ pub fn put_conflicts<W: Write, E: Write, F: Files + AllocGlobal + Clone + Drop>(
 ) -> io::Result<u8> {
     let Opened { tables, lines } = opened;
     let mut session = empty_session(rt.alloc(), tables);
-    put_all(rt, out, errors, asked, &mut session, &lines)
+    let mut page = Page::new(out, false);
+    put_all(rt, &mut page, errors, asked, &mut session, &lines)
 }

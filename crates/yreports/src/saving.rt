@@ -5,6 +5,7 @@ use std::fs::{self, DirEntry};
 use std::io::{self, ErrorKind, Write};
 use std::rt::Files;
 use yexplain::text::{Name, Names};
+use yshow::page::Page;
 use ysymbols::{Grammar, Sym};
 
 /// A folder for tokens files, where one is wanted.
@@ -129,10 +130,11 @@ impl<F: Files + AllocGlobal + Clone + Drop> Folder<'_, F> {
         Ok(())
     }
 
-    /// Keeps the tokens of a conflict, where a folder is wanted, and writes the file's path.
+    /// Keeps the tokens of a conflict, where a folder is wanted and the page's writer has not
+    /// failed, and writes the file's path.
     pub fn keep<W: Write>(
         &mut self,
-        out: &mut W,
+        page: &mut Page<W>,
         grammar: &Grammar,
         name: (usize, usize),
         tokens: &[Sym],
@@ -141,12 +143,15 @@ impl<F: Files + AllocGlobal + Clone + Drop> Folder<'_, F> {
         let (Some(folder), None) = (self.path, &self.failed) else {
             return Ok(());
         };
+        page.checked()?;
         let path = path_of(self.rt.alloc(), folder, name)?;
         if !self.write(&path, grammar, tokens, last)? {
             self.failed = Some(path);
             return Ok(());
         }
-        writeln!(out, "  saved   {path}")
+        page.put("  saved   ");
+        page.line(&path);
+        Ok(())
     }
 
     /// Writes tokens to a file, and says whether that was done.

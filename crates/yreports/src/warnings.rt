@@ -2,12 +2,13 @@
 
 use crate::unused::{Done, mark};
 use std::alloc::{AllocError, Global};
-use std::io::{self, Write};
+use std::io::Write;
 use yexplain::lines::{Lines, Mention};
 use yexplain::reads::{grammar_of, is_reachable, left_of, level_of};
 use yexplain::roles::How;
 use yexplain::text::{Name, RuleText};
 use ylalr::ERROR;
+use yshow::page::Page;
 use ysymbols::{Grammar, Sym};
 use ytables::Tables;
 
@@ -24,7 +25,7 @@ struct Named {
 /// What warnings are written with.
 #[derive(Drop)]
 struct Warner<'a, W> {
-    out: &'a mut W,
+    page: &'a mut Page<W>,
     grammar: &'a Grammar,
     lines: &'a Lines,
     count: usize,
@@ -73,29 +74,43 @@ impl Named {
 }
 
 impl<W: Write> Warner<'_, W> {
-    /// Begins a warning, behind an empty line where it is the first.
-    fn begin(&mut self) -> io::Result<()> {
+    /// Begins a warning, behind an empty line where it is the first, with the line of the file
+    /// where there is one.
+    fn begin(&mut self, line: Option<usize>) {
         if self.count == 0 {
-            writeln!(self.out)?;
+            self.page.end();
         }
         self.count = self.count.saturating_add(1);
-        Ok(())
+        self.page.put("warning: ");
+        if let Some(line) = line {
+            self.page.put("line ");
+            self.page.number(line);
+            self.page.put(": ");
+        }
+    }
+
+    /// Writes a warning about a symbol between two texts.
+    fn warn(&mut self, line: Option<usize>, before: &str, symbol: Sym, behind: &str) {
+        self.begin(line);
+        self.page.put(before);
+        self.page.show(Name(self.grammar, symbol));
+        self.page.line(behind);
     }
 
     /// Rules of symbols that can be reached, which are never reduced.
-    fn put_lost(&mut self, done: &Done) -> io::Result<()> {
+    fn put_lost(&mut self, done: &Done) {
         for rule in 1..self.grammar.rules() {
             let is_done = done.reduced.get(rule).copied().unwrap_or(true);
             if !is_done && self.is_live(rule) {
-                let text = RuleText(self.grammar, rule);
-                self.put_at(self.lines.rule(rule))?;
-                writeln!(
-                    self.out,
-                    "rule {rule} is never reduced, since it lost every cell:  {text}"
-                )?;
+                self.begin(self.lines.rule(rule));
+                self.page.put("rule ");
+                self.page.number(rule);
+                self.page
+                    .put(" is never reduced, since it lost every cell:  ");
+                self.page.show(RuleText(self.grammar, rule));
+                self.page.end();
             }
         }
-        Ok(())
     }
 
     /// Whether the left side of a rule can be reached.
@@ -104,94 +119,81 @@ impl<W: Write> Warner<'_, W> {
     }
 
     /// Precedences of tokens that are used, but settled no cell.
-    fn put_idle_tokens(&mut self, done: &Done, named: &Named) -> io::Result<()> {
+    fn put_idle_tokens(&mut self, done: &Done, named: &Named) {
         for token in 0..self.grammar.symbols() {
             let settles = done.by_token.get(token).copied().unwrap_or(true);
             let is_meant = named.is_used(token) && level_of(self.grammar, token).is_some();
             if is_meant && !settles {
-                let name = Name(self.grammar, token);
-                self.put_at(named.line(token))?;
-                writeln!(self.out, "the precedence of {name} settles nothing")?;
+                let line = named.line(token);
+                self.warn(line, "the precedence of ", token, " settles nothing");
             }
         }
-        Ok(())
     }
 
     /// Precedences behind `%prec` that settled no cell.
-    fn put_idle_rules(&mut self, done: &Done) -> io::Result<()> {
+    fn put_idle_rules(&mut self, done: &Done) {
         for rule in 1..self.grammar.rules() {
             let settles = done.by_rule.get(rule).copied().unwrap_or(true);
             if !settles && self.lines.prec(rule).is_some() && self.is_live(rule) {
-                self.put_at(self.lines.rule(rule))?;
-                writeln!(self.out, "the %prec of rule {rule} settles nothing")?;
+                self.begin(self.lines.rule(rule));
+                self.page.put("the %prec of rule ");
+                self.page.number(rule);
+                self.page.line(" settles nothing");
             }
         }
-        Ok(())
     }
 
     /// Tokens that are declared and named in no rule.
-    fn put_unused(&mut self, named: &Named) -> io::Result<()> {
+    fn put_unused(&mut self, named: &Named) {
         for token in 0..self.grammar.symbols() {
             let is_token = self.grammar.is_token(token) && token > ERROR;
             if is_token && !named.is_used(token) {
-                let name = Name(self.grammar, token);
-                self.put_at(named.line(token))?;
-                writeln!(self.out, "the token {name} is declared and used nowhere")?;
+                let line = named.line(token);
+                self.warn(line, "the token ", token, " is declared and used nowhere");
             }
         }
-        Ok(())
     }
 
     /// Symbols that are used, but can't be reached.
-    fn put_unreachable(&mut self, named: &Named) -> io::Result<()> {
+    fn put_unreachable(&mut self, named: &Named) {
         for symbol in 0..self.grammar.symbols() {
             let is_meant = named.is_in_rules(self.grammar, symbol) && named.line(symbol).is_some();
             if is_meant && symbol != ERROR && !is_reachable(self.grammar, symbol) {
-                let name = Name(self.grammar, symbol);
-                self.put_at(named.line(symbol))?;
-                writeln!(self.out, "{name} can't be reached from the start")?;
+                let line = named.line(symbol);
+                self.warn(line, "", symbol, " can't be reached from the start");
             }
-        }
-        Ok(())
-    }
-
-    /// Begins a warning, with the line where there is one.
-    fn put_at(&mut self, line: Option<usize>) -> io::Result<()> {
-        self.begin()?;
-        match line {
-            Some(line) => write!(self.out, "warning: line {line}: "),
-            None => write!(self.out, "warning: "),
         }
     }
 }
 
 /// Writes a line for each warning by what is done and how symbols are named, and says how many there
 /// are.
-fn put_each<W: Write>(warner: &mut Warner<'_, W>, done: &Done, named: &Named) -> io::Result<usize> {
-    warner.put_lost(done)?;
-    warner.put_idle_tokens(done, named)?;
-    warner.put_idle_rules(done)?;
-    warner.put_unused(named)?;
-    warner.put_unreachable(named)?;
-    Ok(warner.count)
+fn put_each<W: Write>(warner: &mut Warner<'_, W>, done: &Done, named: &Named) -> usize {
+    warner.put_lost(done);
+    warner.put_idle_tokens(done, named);
+    warner.put_idle_rules(done);
+    warner.put_unused(named);
+    warner.put_unreachable(named);
+    warner.count
 }
 
-/// Writes a line for each warning, and says how many there are.
+/// Writes a line for each warning, and says how many there are. It fails only when memory runs
+/// out.
 pub fn put_warnings<W: Write>(
-    out: &mut W,
+    page: &mut Page<W>,
     alloc: Global,
     tables: &Tables,
     lines: &Lines,
-) -> io::Result<usize> {
+) -> Result<usize, AllocError> {
     let grammar = grammar_of(tables);
     let mut done = Done::new(alloc, tables)?;
     done.spread(grammar, lines);
     let named = Named::new(alloc, grammar, lines.mentions())?;
     let mut warner = Warner {
-        out,
+        page,
         grammar,
         lines,
         count: 0,
     };
-    put_each(&mut warner, &done, &named)
+    Ok(put_each(&mut warner, &done, &named))
 }
