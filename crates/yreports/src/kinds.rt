@@ -29,9 +29,9 @@ pub fn put_counts<W: Write>(page: &mut Page<W>, path: &str, tables: &Tables, fou
     }
     let counts = tables.conflicts();
     page.put(": ");
-    page.number(counts.shift_reduce);
+    page.show(counts.shift_reduce);
     page.put(" shift/reduce, ");
-    page.number(counts.reduce_reduce);
+    page.show(counts.reduce_reduce);
     page.put(" reduce/reduce, in ");
     put_cells(page, found.cells);
     page.put(" of ");
