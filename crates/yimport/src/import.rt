@@ -7,7 +7,7 @@ use crate::symbols::{Expected, Work};
 use std::alloc::Global;
 use std::mem;
 use yforeign::groups::{Group, Head, groups_of};
-use yforeign::lexeme::{Kind, Lexeme};
+use yforeign::lexeme::Kind;
 use yforeign::lexer::{Lexemes, lexemes_of};
 
 /// A file that `yacc` reads, and what was changed for it.
@@ -40,25 +40,17 @@ impl Drop for Imported {
     }
 }
 
-/// The first mark of a file.
-fn first_mark(lexemes: &[Lexeme]) -> Option<Lexeme> {
-    lexemes
-        .iter()
-        .find(|lexeme| lexeme.kind == Kind::Mark)
-        .copied()
-}
-
 impl Work<'_> {
     /// Takes in a group.
-    fn import_group(&mut self, group: &Group<'_>) -> Result<(), Trouble> {
+    fn import_group(&mut self, group: &Group<'_>) {
         let Some((first, rest)) = group.lexemes.split_first() else {
-            return Ok(());
+            return;
         };
         match group.head {
             Head::Word(directive) => {
                 self.import_declaration(directive, group.lexemes, group.in_rules)
             }
-            Head::Code if group.in_rules => Err(Refusal::CodeBetween.at(first)),
+            Head::Code if group.in_rules => self.edits.refuse(Refusal::CodeBetween, first),
             Head::Code | Head::Mark => self.import_loose(rest),
             Head::Stray => self.import_loose(group.lexemes),
             Head::Left => self.import_rule(group.lexemes),
@@ -66,35 +58,31 @@ impl Work<'_> {
         }
     }
 
-    /// Puts what goes there in front of the first mark.
-    fn put_moved(&mut self, mark: Option<Lexeme>) -> Result<(), Trouble> {
-        self.list_made()?;
-        if let Some(mark) = mark {
-            let moved = Vec::from_slice(self.alloc, &self.edits.moved)?;
-            if !moved.is_empty() {
-                self.edits.insert(mark.from, &moved)?;
-            }
-        }
-        Ok(())
-    }
-
-    /// Takes in all groups of a file, and its comments, and makes the changes.
-    fn import_all(&mut self, lexemes: &Lexemes, groups: &[Group<'_>]) -> Result<(), Trouble> {
+    /// Takes in all groups of a file, and its comments.
+    fn import_all(&mut self, lexemes: &Lexemes, groups: &[Group<'_>]) {
         for remark in &lexemes.remarks {
-            self.edits.close_remark(remark)?;
+            self.edits.close_remark(remark);
         }
-        self.import_groups(groups)?;
-        self.put_moved(first_mark(&lexemes.all))?;
-        self.text = applied(self.alloc, &mut self.edits)?;
-        self.edits.notes.sort_by_key(|note| note.line)?;
-        Ok(())
+        self.import_groups(groups);
+        self.list_made();
+        let mark = lexemes.all.iter().find(|lexeme| lexeme.kind == Kind::Mark);
+        if let Some(mark) = mark {
+            self.edits.insert_moved(mark.from);
+        }
     }
 
     /// Takes in all groups.
-    fn import_groups(&mut self, groups: &[Group<'_>]) -> Result<(), Trouble> {
+    fn import_groups(&mut self, groups: &[Group<'_>]) {
         for group in groups {
-            self.import_group(group)?;
+            self.import_group(group);
         }
+    }
+
+    /// Makes the changes, unless there was a trouble.
+    fn make_changes(&mut self) -> Result<(), Trouble> {
+        self.edits.trouble.checked()?;
+        self.text = applied(self.alloc, &mut self.edits)?;
+        self.edits.notes.sort_by_key(|note| note.line)?;
         Ok(())
     }
 
@@ -103,7 +91,8 @@ impl Work<'_> {
         let lexemes = lexemes_of(self.alloc, self.source)?;
         let groups = groups_of(self.alloc, self.source, &lexemes.all)?;
         self.survey.fill(self.alloc, self.source, &groups)?;
-        self.import_all(&lexemes, &groups)
+        self.import_all(&lexemes, &groups);
+        self.make_changes()
     }
 
     /// The import, once all is taken in; nothing of it stays behind.

@@ -1,10 +1,10 @@
 //! Why a file isn't imported.
 
-use std::alloc::{AllocError, AllocFailed};
+use std::alloc::AllocError;
 use yforeign::lexeme::{Flaw, Lexeme, Uncut};
 
 /// What a file has that can't be imported.
-#[derive(Clone, Copy, Drop, PartialEq, Eq)]
+#[derive(Clone, Copy, Drop)]
 pub enum Refusal {
     /// No lexeme begins at a place.
     Flaw(Flaw),
@@ -48,7 +48,7 @@ pub struct Refused {
 }
 
 /// Why there is no import.
-#[derive(Drop)]
+#[derive(Clone, Copy, Drop)]
 pub enum Trouble {
     /// The file is refused.
     Refused(Refused),
@@ -100,12 +100,6 @@ impl Refusal {
             from: lexeme.from,
             to: lexeme.to,
         })
-    }
-}
-
-impl<T: Drop> From<AllocFailed<T>> for Trouble {
-    fn from(_refused: AllocFailed<T>) -> Trouble {
-        Trouble::Memory
     }
 }
 
