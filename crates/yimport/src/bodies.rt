@@ -172,7 +172,9 @@ impl Work<'_> {
         };
         let start = self.edits.texts.len();
         self.edits.write(b" %prec ");
-        self.write_symbol(&symbol);
+        if self.spell(&symbol).is_none() {
+            self.edits.write(symbol.text(self.source));
+        }
         let last = body.iter().rfind(|lexeme| lexeme.kind != Kind::Semicolon);
         if let Some(last) = last {
             self.edits.edit(last.to, last.to, start);

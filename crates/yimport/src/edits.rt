@@ -1,7 +1,7 @@
 //! What is changed in a file, as it is found.
 
 use crate::note::{How, Note, Reason};
-use crate::refusal::Refusal;
+use crate::refusal::{Refusal, Refused, Trouble};
 use crate::trouble::FirstTrouble;
 use std::alloc::Global;
 use yforeign::lexeme::Lexeme;
@@ -31,6 +31,8 @@ pub struct Edits<'a> {
     pub notes: Vec<Note>,
     /// The declarations that go in front of the first mark.
     pub moved: Vec<u8>,
+    /// A declaration of the names made, which goes there too.
+    pub made: Vec<u8>,
     /// Whether what is kept goes there.
     pub moving: bool,
     /// The first trouble: behind it, none of the changes is used.
@@ -46,6 +48,7 @@ impl<'a> Edits<'a> {
             texts: Vec::new(alloc),
             notes: Vec::new(alloc),
             moved: Vec::new(alloc),
+            made: Vec::new(alloc),
             moving: false,
             trouble: FirstTrouble { first: None },
         }
@@ -53,7 +56,13 @@ impl<'a> Edits<'a> {
 
     /// Refuses the file for a lexeme.
     pub fn refuse(&mut self, refusal: Refusal, lexeme: &Lexeme) {
-        self.trouble.remember(refusal.at(lexeme));
+        let Lexeme { line, from, to, .. } = *lexeme;
+        self.trouble.remember(Trouble::Refused(Refused {
+            refusal,
+            line,
+            from,
+            to,
+        }));
     }
 
     /// Writes a text among the others.
@@ -91,17 +100,12 @@ impl<'a> Edits<'a> {
         self.note(lexeme, How::Out, reason);
     }
 
-    /// Writes a text in front of the first mark.
-    pub fn put_before_mark(&mut self, text: &[u8]) {
-        self.trouble.append(&mut self.moved, text);
-        self.trouble.append(&mut self.moved, b" ");
-    }
-
     /// Keeps a lexeme.
     pub fn keep(&mut self, lexeme: &Lexeme) {
         if self.moving {
             let text = lexeme.text(self.source);
-            self.put_before_mark(text);
+            self.trouble.append(&mut self.moved, text);
+            self.trouble.append(&mut self.moved, b" ");
             self.remove(lexeme);
         }
     }
@@ -119,11 +123,21 @@ impl<'a> Edits<'a> {
         self.remove(lexeme);
     }
 
+    /// Lists a name that was made.
+    pub fn list_made(&mut self, name: &[u8]) {
+        if self.made.is_empty() {
+            self.trouble.append(&mut self.made, b"%token ");
+        }
+        self.trouble.append(&mut self.made, name);
+        self.trouble.append(&mut self.made, b" ");
+    }
+
     /// Puts what goes in front of the first mark there.
     pub fn insert_moved(&mut self, mark: usize) {
-        if !self.moved.is_empty() {
-            let start = self.texts.len();
-            self.trouble.append(&mut self.texts, &self.moved);
+        let start = self.texts.len();
+        self.trouble.append(&mut self.texts, &self.moved);
+        self.trouble.append(&mut self.texts, &self.made);
+        if self.texts.len() > start {
             self.edit(mark, mark, start);
         }
     }

@@ -60,11 +60,13 @@ impl Work<'_> {
 
     /// Takes in all groups of a file, and its comments.
     fn import_all(&mut self, lexemes: &Lexemes, groups: &[Group<'_>]) {
+        if self.survey.fill(self.alloc, self.source, groups).is_err() {
+            return self.edits.trouble.remember(Trouble::Memory);
+        }
         for remark in &lexemes.remarks {
             self.edits.close_remark(remark);
         }
         self.import_groups(groups);
-        self.list_made();
         let mark = lexemes.all.iter().find(|lexeme| lexeme.kind == Kind::Mark);
         if let Some(mark) = mark {
             self.edits.insert_moved(mark.from);
@@ -90,7 +92,6 @@ impl Work<'_> {
     fn run(&mut self) -> Result<(), Trouble> {
         let lexemes = lexemes_of(self.alloc, self.source)?;
         let groups = groups_of(self.alloc, self.source, &lexemes.all)?;
-        self.survey.fill(self.alloc, self.source, &groups)?;
         self.import_all(&lexemes, &groups);
         self.make_changes()
     }

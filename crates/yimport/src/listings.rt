@@ -21,18 +21,18 @@ struct Place {
     stands: bool,
 }
 
-/// The word of `yacc` for a directive, where it has one.
-fn written(directive: Directive) -> Option<&'static [u8]> {
+/// The word of `yacc` for a directive of this text; the text itself where it has none.
+fn written(directive: Directive, text: &[u8]) -> &[u8] {
     match directive {
-        Directive::Token | Directive::Term => Some(b"%token"),
-        Directive::Left => Some(b"%left"),
-        Directive::Right => Some(b"%right"),
-        Directive::Nonassoc | Directive::Binary | Directive::Precedence => Some(b"%nonassoc"),
-        Directive::Type | Directive::Nterm => Some(b"%type"),
-        Directive::Start => Some(b"%start"),
-        Directive::Union => Some(b"%union"),
-        Directive::Prec => Some(b"%prec"),
-        _ => None,
+        Directive::Token | Directive::Term => b"%token",
+        Directive::Left => b"%left",
+        Directive::Right => b"%right",
+        Directive::Nonassoc | Directive::Binary | Directive::Precedence => b"%nonassoc",
+        Directive::Type | Directive::Nterm => b"%type",
+        Directive::Start => b"%start",
+        Directive::Union => b"%union",
+        Directive::Prec => b"%prec",
+        _ => text,
     }
 }
 
@@ -73,19 +73,18 @@ impl Work<'_> {
 
     /// Keeps the word of a directive, or writes that of `yacc`.
     pub fn keep_word(&mut self, word: &Lexeme, directive: Directive) {
-        let reason = if directive == Directive::Precedence {
-            Reason::Precedence
-        } else {
-            Reason::OldWord
-        };
-        match written(directive) {
-            Some(written) if word.text(self.source) != written => {
-                let start = self.edits.texts.len();
-                self.edits.write(written);
-                self.edits.replace(word, start, reason);
-            }
-            _ => self.edits.keep(word),
+        let text = word.text(self.source);
+        let written = written(directive, text);
+        if written == text {
+            return self.edits.keep(word);
         }
+        let start = self.edits.texts.len();
+        self.edits.write(written);
+        let reason = match directive {
+            Directive::Precedence => Reason::Precedence,
+            _ => Reason::OldWord,
+        };
+        self.edits.replace(word, start, reason);
     }
 
     /// Whether a token is `error`.
@@ -145,7 +144,7 @@ impl Work<'_> {
     }
 
     /// Takes in one lexeme of a list.
-    fn import_listed(&mut self, place: &mut Place, lexemes: &[Lexeme], at: usize, lexeme: &Lexeme) {
+    fn import_listed(&mut self, place: &mut Place, rest: &[Lexeme], at: usize, lexeme: &Lexeme) {
         match (lexeme.kind, place.token) {
             (Kind::Semicolon, _) => {
                 place.closed = true;
@@ -160,13 +159,13 @@ impl Work<'_> {
             (Kind::Tag, _) if !place.stands => self.edits.remove(lexeme),
             (Kind::Tag, _) => {
                 place.token = None;
-                self.keep_tag(lexeme, at == 1);
+                self.keep_tag(lexeme, at == 0);
             }
             (Kind::Number, Some(token)) => self.keep_number(&token, lexeme),
-            (Kind::Arguments, _) if is_macro(lexemes, at.saturating_sub(1)) => {
+            (Kind::Arguments, _) if is_macro(rest, at.saturating_sub(1)) => {
                 self.edits.remove(lexeme);
             }
-            (Kind::Name, _) if is_macro(lexemes, at) => self.take_macro(place, lexeme),
+            (Kind::Name, _) if is_macro(rest, at) => self.take_macro(place, lexeme),
             (kind, Some(token)) if is_text(kind) && place.directive.names_tokens() => {
                 place.token = None;
                 self.take_alias(&token, lexeme);
@@ -177,13 +176,13 @@ impl Work<'_> {
     }
 
     /// Whether a token is listed, and whether one that isn't the end.
-    fn listed(&self, directive: Directive, lexemes: &[Lexeme]) -> (bool, bool) {
+    fn listed(&self, directive: Directive, rest: &[Lexeme]) -> (bool, bool) {
         let mut any = false;
         let mut stands = false;
         let mut has_token = false;
-        for (at, lexeme) in lexemes.iter().enumerate().skip(1) {
+        for (at, lexeme) in rest.iter().enumerate() {
             let is_alias = has_token && directive.names_tokens() && is_text(lexeme.kind);
-            let is_token = is_symbol(lexeme.kind) && !is_alias && !is_macro(lexemes, at);
+            let is_token = is_symbol(lexeme.kind) && !is_alias && !is_macro(rest, at);
             any = any || is_token;
             stands = stands || (is_token && !self.is_end(lexeme));
             has_token = match lexeme.kind {
@@ -209,8 +208,8 @@ impl Work<'_> {
     }
 
     /// Takes in a list of tokens.
-    pub fn import_list(&mut self, directive: Directive, word: &Lexeme, lexemes: &[Lexeme]) {
-        let (any, stands) = self.listed(directive, lexemes);
+    pub fn import_list(&mut self, directive: Directive, word: &Lexeme, rest: &[Lexeme]) {
+        let (any, stands) = self.listed(directive, rest);
         if !any {
             return self.edits.refuse(Refusal::NothingListed, word);
         }
@@ -221,8 +220,8 @@ impl Work<'_> {
             closed: false,
             stands,
         };
-        for (at, lexeme) in lexemes.iter().enumerate().skip(1) {
-            self.import_listed(&mut place, lexemes, at, lexeme);
+        for (at, lexeme) in rest.iter().enumerate() {
+            self.import_listed(&mut place, rest, at, lexeme);
         }
     }
 }

@@ -1,7 +1,7 @@
 //! Why a file isn't imported.
 
 use std::alloc::AllocError;
-use yforeign::lexeme::{Flaw, Lexeme, Uncut};
+use yforeign::lexeme::{Flaw, Uncut};
 
 /// What a file has that can't be imported.
 #[derive(Clone, Copy, Drop)]
@@ -90,16 +90,6 @@ impl Refusal {
             Refusal::SecondPrec => "a rule has one %prec",
             Refusal::NameTaken => "yacc's names have no dashes, and the name without them is taken",
         }
-    }
-
-    /// A lexeme refused.
-    pub fn at(self, lexeme: &Lexeme) -> Trouble {
-        Trouble::Refused(Refused {
-            refusal: self,
-            line: lexeme.line,
-            from: lexeme.from,
-            to: lexeme.to,
-        })
     }
 }
 

@@ -32,8 +32,6 @@ pub struct Work<'a> {
     made: IndexMap<Vec<u8>, usize>,
     /// The last of these numbers.
     last_made: usize,
-    /// A declaration of the names made.
-    made_names: Vec<u8>,
     /// The names that have no dashes any more, and where one stands that became each.
     renamed: IndexMap<Vec<u8>, Lexeme>,
     /// The line of `%precedence` for each level that comes from one.
@@ -60,7 +58,6 @@ impl Drop for Work<'_> {
             edits: _,
             made,
             last_made: _,
-            made_names: _,
             renamed,
             levels: _,
             shift_reduce: _,
@@ -84,7 +81,6 @@ impl<'a> Work<'a> {
             edits: Edits::new(alloc, source),
             made: IndexMap::new(alloc),
             last_made: 0,
-            made_names: Vec::new(alloc),
             renamed: IndexMap::new(alloc),
             levels: Vec::new(alloc),
             shift_reduce: None,
@@ -167,18 +163,12 @@ impl<'a> Work<'a> {
         most
     }
 
-    /// Makes a name for a string, and gives its number.
+    /// Makes a name for a string, lists it, and gives its number.
     fn make_name(&mut self, key: &[u8]) -> usize {
         let number = self.free_number();
         self.last_made = number;
-        let start: &[u8] = if self.made.is_empty() {
-            b"%token "
-        } else {
-            b" "
-        };
         let name = self.made_name(number);
-        self.edits.trouble.append(&mut self.made_names, start);
-        self.edits.trouble.append(&mut self.made_names, &name);
+        self.edits.list_made(&name);
         let key = self.copied(key);
         if self.made.insert(key, number).is_err() {
             self.edits.trouble.remember(Trouble::Memory);
@@ -214,18 +204,11 @@ impl<'a> Work<'a> {
     }
 
     /// Writes a symbol, where its spelling is another one, and gives the reason.
-    fn spell(&mut self, lexeme: &Lexeme) -> Option<Reason> {
+    pub fn spell(&mut self, lexeme: &Lexeme) -> Option<Reason> {
         if is_text(lexeme.kind) {
             Some(self.spell_text(lexeme))
         } else {
             self.spell_plain(lexeme)
-        }
-    }
-
-    /// Writes a symbol.
-    pub fn write_symbol(&mut self, lexeme: &Lexeme) {
-        if self.spell(lexeme).is_none() {
-            self.edits.write(lexeme.text(self.source));
         }
     }
 
@@ -241,12 +224,5 @@ impl<'a> Work<'a> {
     /// Whether a symbol is the end.
     pub fn is_end(&self, lexeme: &Lexeme) -> bool {
         self.survey.is_end(self.source, lexeme)
-    }
-
-    /// Lists the tokens whose names were made in front of the first mark.
-    pub fn list_made(&mut self) {
-        if !self.made.is_empty() {
-            self.edits.put_before_mark(&self.made_names);
-        }
     }
 }

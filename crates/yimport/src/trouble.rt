@@ -1,7 +1,6 @@
 //! The first trouble of an import.
 
 use crate::refusal::Trouble;
-use std::alloc::Global;
 
 /// Remembers the first trouble, so that it need not be asked for after each step.
 ///
@@ -41,12 +40,5 @@ impl FirstTrouble {
         if text.extend_from_slice(more).is_err() {
             self.remember(Trouble::Memory);
         }
-    }
-
-    /// A text of its own.
-    pub fn copied(&mut self, alloc: Global, text: &[u8]) -> Vec<u8> {
-        let mut copy = Vec::new(alloc);
-        self.append(&mut copy, text);
-        copy
     }
 }

@@ -1,6 +1,6 @@
 //! Lists of nonterminals with a tag.
 
-use crate::note::{How, Reason};
+use crate::note::Reason;
 use crate::refusal::Refusal;
 use crate::symbols::Work;
 use yforeign::directive::{Directive, is_symbol};
@@ -29,9 +29,9 @@ impl Work<'_> {
     }
 
     /// Whether a nonterminal with a tag is listed.
-    fn has_nonterminal(&self, lexemes: &[Lexeme]) -> bool {
-        let listed = match lexemes {
-            [_, tag, listed @ ..] if tag.kind == Kind::Tag => listed,
+    fn has_nonterminal(&self, rest: &[Lexeme]) -> bool {
+        let listed = match rest {
+            [tag, listed @ ..] if tag.kind == Kind::Tag => listed,
             _ => return false,
         };
         for lexeme in listed {
@@ -45,7 +45,7 @@ impl Work<'_> {
     /// Takes in one lexeme of a list that stays.
     fn import_typed(&mut self, lexeme: &Lexeme, at: usize) {
         match lexeme.kind {
-            Kind::Tag => self.keep_tag(lexeme, at == 1),
+            Kind::Tag => self.keep_tag(lexeme, at == 0),
             Kind::Comma | Kind::Semicolon => self.edits.take_out(lexeme, Reason::Separator),
             Kind::LineMark => self.edits.take_out(lexeme, Reason::LineMark),
             _ => match self.reason_against(lexeme) {
@@ -56,17 +56,17 @@ impl Work<'_> {
     }
 
     /// Takes out a whole declaration, with a word for all of it.
-    pub fn take_all(&mut self, word: &Lexeme, lexemes: &[Lexeme], reason: Reason) {
-        self.edits.note(word, How::Out, reason);
-        for lexeme in lexemes {
+    pub fn take_all(&mut self, word: &Lexeme, rest: &[Lexeme], reason: Reason) {
+        self.edits.take_out(word, reason);
+        for lexeme in rest {
             self.edits.remove(lexeme);
         }
     }
 
     /// Refuses what stands in a declaration where it can't, or behind its semicolon.
-    pub fn refuse_others(&mut self, lexemes: &[Lexeme], directive: Directive) {
+    pub fn refuse_others(&mut self, rest: &[Lexeme], directive: Directive) {
         let mut closed = false;
-        for lexeme in lexemes.iter().skip(1) {
+        for lexeme in rest {
             let is_end = matches!(lexeme.kind, Kind::Semicolon | Kind::LineMark);
             let fits = match directive {
                 Directive::Type | Directive::Nterm => is_listed(lexeme.kind),
@@ -80,13 +80,13 @@ impl Work<'_> {
     }
 
     /// Takes in a list of nonterminals.
-    pub fn import_types(&mut self, directive: Directive, word: &Lexeme, lexemes: &[Lexeme]) {
-        self.refuse_others(lexemes, directive);
-        if !self.has_nonterminal(lexemes) {
-            return self.take_all(word, lexemes, Reason::NoType);
+    pub fn import_types(&mut self, directive: Directive, word: &Lexeme, rest: &[Lexeme]) {
+        self.refuse_others(rest, directive);
+        if !self.has_nonterminal(rest) {
+            return self.take_all(word, rest, Reason::NoType);
         }
         self.keep_word(word, directive);
-        for (at, lexeme) in lexemes.iter().enumerate().skip(1) {
+        for (at, lexeme) in rest.iter().enumerate() {
             self.import_typed(lexeme, at);
         }
     }
