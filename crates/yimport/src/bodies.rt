@@ -38,6 +38,8 @@ struct Place {
     moves: bool,
     /// Whether a semicolon has ended it.
     closed: bool,
+    /// Where what stands in it ends, without its semicolon.
+    end: usize,
 }
 
 /// A lexeme of a body, with what stands around it.
@@ -166,7 +168,7 @@ impl Work<'_> {
     }
 
     /// Writes `%prec` at the end of a body, where it goes there.
-    fn put_prec(&mut self, place: &Place, body: &[Lexeme]) {
+    fn put_prec(&mut self, place: &Place) {
         let (Some(symbol), true) = (place.prec, place.moves) else {
             return;
         };
@@ -175,10 +177,7 @@ impl Work<'_> {
         if self.spell(&symbol).is_none() {
             self.edits.write(symbol.text(self.source));
         }
-        let last = body.iter().rfind(|lexeme| lexeme.kind != Kind::Semicolon);
-        if let Some(last) = last {
-            self.edits.edit(last.to, last.to, start);
-        }
+        self.edits.edit(place.end, place.end, start);
     }
 
     /// Takes in a body with what ends it.
@@ -187,6 +186,7 @@ impl Work<'_> {
             prec: None,
             moves: false,
             closed: false,
+            end: 0,
         };
         let mut before = None;
         for (at, lexeme) in body.iter().enumerate() {
@@ -201,8 +201,11 @@ impl Work<'_> {
             };
             self.import_part(&mut place, around);
             before = Some(lexeme.kind);
+            if lexeme.kind != Kind::Semicolon {
+                place.end = lexeme.to;
+            }
         }
-        self.put_prec(&place, body);
+        self.put_prec(&place);
     }
 
     /// Takes in a rule from its left side to the end of its first body.

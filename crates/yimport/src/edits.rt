@@ -29,7 +29,9 @@ pub struct Edits<'a> {
     pub texts: Vec<u8>,
     /// What is said of each change.
     pub notes: Vec<Note>,
-    /// The declarations that go in front of the first mark.
+    /// Where the first mark begins.
+    pub mark: Option<usize>,
+    /// The declarations that go in front of it.
     pub moved: Vec<u8>,
     /// A declaration of the names made, which goes there too.
     pub made: Vec<u8>,
@@ -47,6 +49,7 @@ impl<'a> Edits<'a> {
             edits: Vec::new(alloc),
             texts: Vec::new(alloc),
             notes: Vec::new(alloc),
+            mark: None,
             moved: Vec::new(alloc),
             made: Vec::new(alloc),
             moving: false,
@@ -133,7 +136,10 @@ impl<'a> Edits<'a> {
     }
 
     /// Puts what goes in front of the first mark there.
-    pub fn insert_moved(&mut self, mark: usize) {
+    pub fn insert_moved(&mut self) {
+        let Some(mark) = self.mark else {
+            return;
+        };
         let start = self.texts.len();
         self.trouble.append(&mut self.texts, &self.moved);
         self.trouble.append(&mut self.texts, &self.made);

@@ -7,8 +7,7 @@ use crate::symbols::{Expected, Work};
 use std::alloc::Global;
 use std::mem;
 use yforeign::groups::{Group, Head, groups_of};
-use yforeign::lexeme::Kind;
-use yforeign::lexer::{Lexemes, lexemes_of};
+use yforeign::lexer::{Remark, lexemes_of};
 
 /// A file that `yacc` reads, and what was changed for it.
 pub struct Imported {
@@ -51,6 +50,10 @@ impl Work<'_> {
                 self.import_declaration(directive, group.lexemes, group.in_rules)
             }
             Head::Code if group.in_rules => self.edits.refuse(Refusal::CodeBetween, first),
+            Head::Mark if !group.in_rules => {
+                self.edits.mark = Some(first.from);
+                self.import_loose(rest);
+            }
             Head::Code | Head::Mark => self.import_loose(rest),
             Head::Stray => self.import_loose(group.lexemes),
             Head::Left => self.import_rule(group.lexemes),
@@ -59,18 +62,15 @@ impl Work<'_> {
     }
 
     /// Takes in all groups of a file, and its comments.
-    fn import_all(&mut self, lexemes: &Lexemes, groups: &[Group<'_>]) {
+    fn import_all(&mut self, remarks: &[Remark], groups: &[Group<'_>]) {
         if self.survey.fill(self.alloc, self.source, groups).is_err() {
             return self.edits.trouble.remember(Trouble::Memory);
         }
-        for remark in &lexemes.remarks {
+        for remark in remarks {
             self.edits.close_remark(remark);
         }
         self.import_groups(groups);
-        let mark = lexemes.all.iter().find(|lexeme| lexeme.kind == Kind::Mark);
-        if let Some(mark) = mark {
-            self.edits.insert_moved(mark.from);
-        }
+        self.edits.insert_moved();
     }
 
     /// Takes in all groups.
@@ -92,7 +92,7 @@ impl Work<'_> {
     fn run(&mut self) -> Result<(), Trouble> {
         let lexemes = lexemes_of(self.alloc, self.source)?;
         let groups = groups_of(self.alloc, self.source, &lexemes.all)?;
-        self.import_all(&lexemes, &groups);
+        self.import_all(&lexemes.remarks, &groups);
         self.make_changes()
     }
 

@@ -94,14 +94,17 @@ impl Work<'_> {
     }
 
     /// Keeps the number of a token, where `yacc` can have it.
-    fn keep_number(&mut self, token: &Lexeme, lexeme: &Lexeme) {
+    fn keep_number(&mut self, place: &Place, lexeme: &Lexeme) {
+        let Some(token) = place.token else {
+            return self.edits.refuse(Refusal::Misplaced, lexeme);
+        };
         let text = lexeme.text(self.source);
         let number = number_of(text);
-        if self.is_end(token) {
+        if self.is_end(&token) {
             self.edits.remove(lexeme);
         } else if number > MOST {
             self.edits.take_out(lexeme, Reason::LargeNumber);
-        } else if number == ERROR && !self.is_error(token) {
+        } else if number == ERROR && !self.is_error(&token) {
             self.edits.take_out(lexeme, Reason::ErrorNumber);
         } else if is_hexadecimal(text) {
             let start = self.edits.texts.len();
@@ -113,9 +116,13 @@ impl Work<'_> {
         }
     }
 
-    /// Takes out a string that stands for a token.
-    fn take_alias(&mut self, token: &Lexeme, text: &Lexeme) {
-        if self.is_end(token) {
+    /// Takes out a string that stands for a token; one that stands for none is a token itself.
+    fn take_alias(&mut self, place: &mut Place, text: &Lexeme) {
+        let Some(token) = place.token else {
+            return self.keep_token(place, text);
+        };
+        place.token = None;
+        if self.is_end(&token) {
             self.edits.remove(text);
         } else {
             self.edits.take_out(text, Reason::Alias);
@@ -145,32 +152,29 @@ impl Work<'_> {
 
     /// Takes in one lexeme of a list.
     fn import_listed(&mut self, place: &mut Place, rest: &[Lexeme], at: usize, lexeme: &Lexeme) {
-        match (lexeme.kind, place.token) {
-            (Kind::Semicolon, _) => {
+        match lexeme.kind {
+            Kind::Semicolon => {
                 place.closed = true;
                 self.edits.take_out(lexeme, Reason::Separator);
             }
-            (Kind::LineMark, _) => self.edits.take_out(lexeme, Reason::LineMark),
+            Kind::LineMark => self.edits.take_out(lexeme, Reason::LineMark),
             _ if place.closed => self.edits.refuse(Refusal::Misplaced, lexeme),
-            (Kind::Comma, _) => {
+            Kind::Comma => {
                 place.token = None;
                 self.edits.take_out(lexeme, Reason::Separator);
             }
-            (Kind::Tag, _) if !place.stands => self.edits.remove(lexeme),
-            (Kind::Tag, _) => {
+            Kind::Tag if !place.stands => self.edits.remove(lexeme),
+            Kind::Tag => {
                 place.token = None;
                 self.keep_tag(lexeme, at == 0);
             }
-            (Kind::Number, Some(token)) => self.keep_number(&token, lexeme),
-            (Kind::Arguments, _) if is_macro(rest, at.saturating_sub(1)) => {
-                self.edits.remove(lexeme);
+            Kind::Number => self.keep_number(place, lexeme),
+            Kind::Arguments if is_macro(rest, at.saturating_sub(1)) => self.edits.remove(lexeme),
+            Kind::Name if is_macro(rest, at) => self.take_macro(place, lexeme),
+            kind if is_text(kind) && place.directive.names_tokens() => {
+                self.take_alias(place, lexeme);
             }
-            (Kind::Name, _) if is_macro(rest, at) => self.take_macro(place, lexeme),
-            (kind, Some(token)) if is_text(kind) && place.directive.names_tokens() => {
-                place.token = None;
-                self.take_alias(&token, lexeme);
-            }
-            (kind, _) if is_symbol(kind) => self.keep_token(place, lexeme),
+            kind if is_symbol(kind) => self.keep_token(place, lexeme),
             _ => self.edits.refuse(Refusal::Misplaced, lexeme),
         }
     }
