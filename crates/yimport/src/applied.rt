@@ -1,7 +1,9 @@
 //! A file with its changes made.
 
 use crate::edits::{Edit, Edits};
-use std::alloc::{AllocError, Global};
+use crate::refusal::Trouble;
+use crate::trouble::FirstTrouble;
+use std::alloc::Global;
 use yforeign::runs::newlines;
 use ylexemes::bytes::{is_blank, is_name_byte};
 
@@ -13,6 +15,8 @@ struct Page<'a> {
     at: usize,
     /// Whether blanks that come next are left out.
     passing: bool,
+    /// Whether memory ran out.
+    trouble: FirstTrouble,
 }
 
 /// Whether a byte is a blank that ends no line.
@@ -36,7 +40,7 @@ impl<'a> Page<'a> {
     }
 
     /// Copies the file up to a place, without the spaces around what was left out.
-    fn copy_to(&mut self, to: usize) -> Result<(), AllocError> {
+    fn copy_to(&mut self, to: usize) {
         let from = self.at;
         let part = self.part(from, to);
         let kept = if self.passing {
@@ -47,11 +51,10 @@ impl<'a> Page<'a> {
         if self.passing && matches!(kept, [b'\n', ..] | [b'\r', b'\n', ..]) {
             self.drop_spaces();
         }
-        self.out.extend_from_slice(kept)?;
+        self.trouble.append(&mut self.out, kept);
         if !part.is_empty() {
             self.passing = false;
         }
-        Ok(())
     }
 
     /// Takes the spaces at the end of the text away.
@@ -61,53 +64,41 @@ impl<'a> Page<'a> {
     }
 
     /// Writes the newlines of a part that is left out, so that lines keep their numbers.
-    fn keep_lines(&mut self, part: &[u8]) -> Result<(), AllocError> {
+    fn keep_lines(&mut self, part: &[u8]) {
         for _ in 0..newlines(part) {
-            self.out.push(b'\n')?;
+            self.trouble.append(&mut self.out, b"\n");
         }
-        Ok(())
     }
 
     /// Leaves a part out up to a place.
-    fn leave_out(&mut self, part: &[u8], to: usize) -> Result<(), AllocError> {
-        self.keep_lines(part)?;
+    fn leave_out(&mut self, part: &[u8], to: usize) {
+        self.keep_lines(part);
         let before = self.out.last().copied().unwrap_or(b'\n');
         let next = self.source.get(to).copied().unwrap_or(b'\n');
         if is_name_byte(before) && is_name_byte(next) {
-            self.out.push(b' ')?;
+            self.trouble.append(&mut self.out, b" ");
         }
         self.passing = is_blank(before);
-        Ok(())
     }
 
     /// Makes one change.
-    fn make(&mut self, edit: &Edit, texts: &[u8]) -> Result<(), AllocError> {
-        self.copy_to(edit.from)?;
+    fn make(&mut self, edit: &Edit, texts: &[u8]) {
+        self.copy_to(edit.from);
         let part = self.part(edit.from, edit.to);
         match texts.get(edit.text.0..edit.text.1) {
             Some(text) if !text.is_empty() => {
-                self.out.extend_from_slice(text)?;
-                self.keep_lines(part)?;
+                self.trouble.append(&mut self.out, text);
+                self.keep_lines(part);
                 self.passing = false;
             }
-            _ => self.leave_out(part, edit.to)?,
+            _ => self.leave_out(part, edit.to),
         }
         self.at = edit.to;
-        Ok(())
     }
-}
-
-/// Makes changes, in the order of their places.
-fn make_all(page: &mut Page<'_>, edits: &[Edit], texts: &[u8]) -> Result<(), AllocError> {
-    for edit in edits {
-        page.make(edit, texts)?;
-    }
-    let end = page.source.len();
-    page.copy_to(end)
 }
 
 /// A file with its changes made.
-pub fn applied(alloc: Global, changes: &mut Edits<'_>) -> Result<Vec<u8>, AllocError> {
+pub fn applied(alloc: Global, changes: &mut Edits<'_>) -> Result<Vec<u8>, Trouble> {
     let Edits {
         source,
         edits,
@@ -120,9 +111,14 @@ pub fn applied(alloc: Global, changes: &mut Edits<'_>) -> Result<Vec<u8>, AllocE
         out: Vec::with_capacity(alloc, source.len())?,
         at: 0,
         passing: false,
+        trouble: FirstTrouble { first: None },
     };
-    match make_all(&mut page, edits, texts) {
+    for edit in edits.iter() {
+        page.make(edit, texts);
+    }
+    page.copy_to(source.len());
+    match page.trouble.checked() {
         Ok(()) => Ok(page.out),
-        Err(error) => Err(error),
+        Err(trouble) => Err(trouble),
     }
 }

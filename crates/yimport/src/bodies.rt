@@ -1,7 +1,7 @@
 //! The alternatives of rules.
 
 use crate::note::{How, Reason};
-use crate::refusal::{Refusal, Trouble};
+use crate::refusal::Refusal;
 use crate::symbols::Work;
 use yforeign::directive::{Directive, directive_of, is_symbol};
 use yforeign::lexeme::{Kind, Lexeme};
@@ -38,6 +38,8 @@ struct Place {
     moves: bool,
     /// Whether a semicolon has ended it.
     closed: bool,
+    /// Where what stands in it ends, without its semicolon.
+    end: usize,
 }
 
 /// A lexeme of a body, with what stands around it.
@@ -51,7 +53,10 @@ struct Around<'a> {
 impl Around<'_> {
     /// Whether a lexeme of this kind comes next.
     fn is_before(self, kind: Kind) -> bool {
-        self.behind.first().map(|next| next.kind) == Some(kind)
+        match self.behind {
+            [next, ..] => next.kind == kind,
+            [] => false,
+        }
     }
 }
 
@@ -66,162 +71,157 @@ impl Work<'_> {
     }
 
     /// Takes the end out of a body of the start symbol.
-    fn take_end(&mut self, around: Around<'_>) -> Result<(), Trouble> {
+    fn take_end(&mut self, around: Around<'_>) {
         let lexeme = around.lexeme;
         let (symbols, actions) = counts(around.behind);
         if symbols > 0 || !self.is_of_start() {
-            return Err(Refusal::EndElsewhere.at(lexeme));
+            self.edits.refuse(Refusal::EndElsewhere, lexeme);
+        } else if self.survey.uses_start(self.source) {
+            self.edits.refuse(Refusal::EndAndStart, lexeme);
+        } else if around.before == Some(Kind::Braced) && actions == 0 {
+            self.edits.refuse(Refusal::EndBehindAction, lexeme);
+        } else {
+            self.edits.take_out(lexeme, Reason::EndInBody);
         }
-        if self.survey.uses_start(self.source) {
-            return Err(Refusal::EndAndStart.at(lexeme));
-        }
-        if around.before == Some(Kind::Braced) && actions == 0 {
-            return Err(Refusal::EndBehindAction.at(lexeme));
-        }
-        self.edits.take_out(lexeme, Reason::EndInBody)?;
-        Ok(())
     }
 
     /// Takes in what `%prec` names.
-    fn import_prec_symbol(&mut self, place: &Place, lexeme: &Lexeme) -> Result<(), Trouble> {
+    fn import_prec_symbol(&mut self, place: &Place, lexeme: &Lexeme) {
         if self.is_end(lexeme) {
-            return Err(Refusal::EndElsewhere.at(lexeme));
+            self.edits.refuse(Refusal::EndElsewhere, lexeme);
+        } else if place.moves {
+            self.edits.remove(lexeme);
+        } else {
+            self.keep_symbol(lexeme);
         }
-        if place.moves {
-            self.edits.remove(lexeme)?;
-            return Ok(());
-        }
-        self.keep_symbol(lexeme)
     }
 
     /// Takes in a symbol of a body.
-    fn import_symbol(&mut self, place: &Place, around: Around<'_>) -> Result<(), Trouble> {
+    fn import_symbol(&mut self, place: &Place, around: Around<'_>) {
         let lexeme = around.lexeme;
         if around.before == Some(Kind::Word) && is_same(place.prec, lexeme) {
-            self.import_prec_symbol(place, lexeme)
+            self.import_prec_symbol(place, lexeme);
         } else if self.is_end(lexeme) {
-            self.take_end(around)
+            self.take_end(around);
         } else {
-            self.keep_symbol(lexeme)
+            self.keep_symbol(lexeme);
         }
     }
 
     /// Takes in `%prec`.
-    fn import_prec(&mut self, place: &mut Place, around: Around<'_>) -> Result<(), Trouble> {
+    fn import_prec(&mut self, place: &mut Place, around: Around<'_>) {
         let lexeme = around.lexeme;
-        let Some((symbol, behind)) = around.behind.split_first() else {
-            return Err(Refusal::Misplaced.at(lexeme));
+        let (symbol, behind) = match around.behind {
+            [symbol, behind @ ..] if is_symbol(symbol.kind) => (symbol, behind),
+            _ => return self.edits.refuse(Refusal::Misplaced, lexeme),
         };
-        if !is_symbol(symbol.kind) {
-            return Err(Refusal::Misplaced.at(lexeme));
-        }
         if place.prec.is_some() {
-            return Err(Refusal::SecondPrec.at(lexeme));
+            return self.edits.refuse(Refusal::SecondPrec, lexeme);
         }
         place.prec = Some(*symbol);
         place.moves = has_to_move(behind);
-        if !place.moves {
-            return self.keep_word(lexeme, Directive::Prec);
+        if place.moves {
+            self.edits.remove(lexeme);
+            self.edits.note(lexeme, How::ToEnd, Reason::PrecInside);
+        } else {
+            self.keep_word(lexeme, Directive::Prec);
         }
-        self.edits.remove(lexeme)?;
-        self.edits.note(lexeme, How::ToEnd, Reason::PrecInside)?;
-        Ok(())
     }
 
     /// Takes in a percent word of a body.
-    fn import_word(&mut self, place: &mut Place, around: Around<'_>) -> Result<(), Trouble> {
+    fn import_word(&mut self, place: &mut Place, around: Around<'_>) {
         let lexeme = around.lexeme;
         match directive_of(lexeme.text(self.source)) {
             Directive::Prec => self.import_prec(place, around),
-            Directive::Empty => Ok(self.edits.take_out(lexeme, Reason::EmptyWord)?),
-            _ if around.is_before(Kind::Number) => {
-                Ok(self.edits.take_out(lexeme, Reason::Expected)?)
-            }
-            _ => Err(Refusal::Misplaced.at(lexeme)),
+            Directive::Empty => self.edits.take_out(lexeme, Reason::EmptyWord),
+            _ if around.is_before(Kind::Number) => self.edits.take_out(lexeme, Reason::Expected),
+            _ => self.edits.refuse(Refusal::Misplaced, lexeme),
         }
     }
 
     /// Takes in a sign that stands before an action.
-    fn import_sign(&mut self, around: Around<'_>, reason: Reason) -> Result<(), Trouble> {
-        if !around.is_before(Kind::Braced) {
-            return Err(Refusal::Misplaced.at(around.lexeme));
+    fn import_sign(&mut self, around: Around<'_>, reason: Reason) {
+        if around.is_before(Kind::Braced) {
+            self.edits.take_out(around.lexeme, reason);
+        } else {
+            self.edits.refuse(Refusal::Misplaced, around.lexeme);
         }
-        self.edits.take_out(around.lexeme, reason)?;
-        Ok(())
     }
 
     /// Takes in one lexeme of a body.
-    fn import_part(&mut self, place: &mut Place, around: Around<'_>) -> Result<(), Trouble> {
+    fn import_part(&mut self, place: &mut Place, around: Around<'_>) {
         let lexeme = around.lexeme;
         match lexeme.kind {
-            Kind::LineMark => Ok(self.edits.take_out(lexeme, Reason::LineMark)?),
-            Kind::Semicolon => {
-                place.closed = true;
-                Ok(())
-            }
-            _ if place.closed => Err(Refusal::Misplaced.at(lexeme)),
+            Kind::LineMark => self.edits.take_out(lexeme, Reason::LineMark),
+            Kind::Semicolon => place.closed = true,
+            _ if place.closed => self.edits.refuse(Refusal::Misplaced, lexeme),
             kind if is_symbol(kind) => self.import_symbol(place, around),
-            Kind::Braced => Ok(()),
+            Kind::Braced => {}
             Kind::Word => self.import_word(place, around),
-            Kind::Reference => Ok(self.edits.take_out(lexeme, Reason::Reference)?),
+            Kind::Reference => self.edits.take_out(lexeme, Reason::Reference),
             Kind::Tag => self.import_sign(around, Reason::InnerType),
             Kind::Equals => self.import_sign(around, Reason::Equals),
-            Kind::Number if around.before == Some(Kind::Word) => Ok(self.edits.remove(lexeme)?),
-            Kind::Predicate => Err(Refusal::OtherParser.at(lexeme)),
-            _ => Err(Refusal::Misplaced.at(lexeme)),
+            Kind::Number if around.before == Some(Kind::Word) => self.edits.remove(lexeme),
+            Kind::Predicate => self.edits.refuse(Refusal::OtherParser, lexeme),
+            _ => self.edits.refuse(Refusal::Misplaced, lexeme),
         }
     }
 
     /// Writes `%prec` at the end of a body, where it goes there.
-    fn put_prec(&mut self, place: &Place, body: &[Lexeme]) -> Result<(), Trouble> {
+    fn put_prec(&mut self, place: &Place) {
         let (Some(symbol), true) = (place.prec, place.moves) else {
-            return Ok(());
+            return;
         };
-        let name = self.spelled(&symbol)?;
-        let mut text = Vec::from_slice(self.alloc, b" %prec ")?;
-        text.extend_from_slice(&name)?;
-        let last = body.iter().rfind(|lexeme| lexeme.kind != Kind::Semicolon);
-        if let Some(last) = last {
-            self.edits.insert(last.to, &text)?;
+        let start = self.edits.texts.len();
+        self.edits.write(b" %prec ");
+        if self.spell(&symbol).is_none() {
+            self.edits.write(symbol.text(self.source));
         }
-        Ok(())
+        self.edits.edit(place.end, place.end, start);
     }
 
     /// Takes in a body with what ends it.
-    pub fn import_body(&mut self, body: &[Lexeme]) -> Result<(), Trouble> {
+    pub fn import_body(&mut self, body: &[Lexeme]) {
         let mut place = Place {
             prec: None,
             moves: false,
             closed: false,
+            end: 0,
         };
         let mut before = None;
         for (at, lexeme) in body.iter().enumerate() {
+            if self.edits.trouble.first.is_some() {
+                return;
+            }
             let behind = body.get(at.saturating_add(1)..).unwrap_or(&[]);
             let around = Around {
                 before,
                 lexeme,
                 behind,
             };
-            self.import_part(&mut place, around)?;
+            self.import_part(&mut place, around);
             before = Some(lexeme.kind);
+            if lexeme.kind != Kind::Semicolon {
+                place.end = lexeme.to;
+            }
         }
-        self.put_prec(&place, body)
+        self.put_prec(&place);
     }
 
     /// Takes in a rule from its left side to the end of its first body.
-    pub fn import_rule(&mut self, lexemes: &[Lexeme]) -> Result<(), Trouble> {
+    pub fn import_rule(&mut self, lexemes: &[Lexeme]) {
         let Some((left, behind)) = lexemes.split_first() else {
-            return Ok(());
+            return;
         };
         self.left = Some(*left);
-        self.keep_symbol(left)?;
+        self.keep_symbol(left);
         match behind {
             [reference, _, body @ ..] if reference.kind == Kind::Reference => {
-                self.edits.take_out(reference, Reason::Reference)?;
-                self.import_body(body)
+                self.edits.take_out(reference, Reason::Reference);
+                self.import_body(body);
             }
             [_, body @ ..] => self.import_body(body),
-            [] => Ok(()),
+            [] => {}
         }
     }
 }

@@ -1,7 +1,7 @@
 //! Declarations.
 
 use crate::note::{How, Reason};
-use crate::refusal::{Refusal, Trouble};
+use crate::refusal::Refusal;
 use crate::symbols::{Expected, Work};
 use yforeign::directive::Directive;
 use yforeign::lexeme::{Kind, Lexeme};
@@ -9,147 +9,129 @@ use yforeign::numbers::number_of;
 
 impl Work<'_> {
     /// What a file expects of its conflicts, where it says a number.
-    fn expected(&self, lexemes: &[Lexeme]) -> Result<Option<Expected>, Trouble> {
-        match lexemes {
-            [word, number, ..] if number.kind == Kind::Number => Ok(Some(Expected {
+    fn expected(&mut self, word: &Lexeme, rest: &[Lexeme]) -> Option<Expected> {
+        match rest {
+            [number, ..] if number.kind == Kind::Number => Some(Expected {
                 line: word.line,
                 number: number_of(number.text(self.source)),
-            })),
-            [word, ..] => Err(Refusal::NothingListed.at(word)),
-            [] => Ok(None),
+            }),
+            _ => {
+                self.edits.refuse(Refusal::NothingListed, word);
+                None
+            }
         }
     }
 
     /// Why a definition is taken out.
-    fn definition_reason(&self, lexemes: &[Lexeme]) -> Reason {
-        match lexemes.get(1) {
-            Some(name) if name.text(self.source).starts_with(b"lr.") => Reason::TablesAsked,
+    fn definition_reason(&self, rest: &[Lexeme]) -> Reason {
+        match rest {
+            [name, ..] if name.text(self.source).starts_with(b"lr.") => Reason::TablesAsked,
             _ => Reason::ForItsParser,
         }
     }
 
     /// Refuses the skeleton of another kind of parser.
-    fn refuse_skeleton(&self, lexemes: &[Lexeme]) -> Result<(), Trouble> {
-        for lexeme in lexemes {
+    fn refuse_skeleton(&mut self, rest: &[Lexeme]) {
+        for lexeme in rest {
             let mut parts = lexeme.text(self.source).windows(3);
             if lexeme.kind == Kind::Text && parts.any(|part| part == b"glr".as_slice()) {
-                return Err(Refusal::OtherParser.at(lexeme));
+                self.edits.refuse(Refusal::OtherParser, lexeme);
             }
         }
-        Ok(())
     }
 
     /// Takes out a directive of bison or byacc.
-    fn import_aside(
-        &mut self,
-        directive: Directive,
-        word: &Lexeme,
-        lexemes: &[Lexeme],
-    ) -> Result<(), Trouble> {
-        self.refuse_others(lexemes, directive)?;
+    fn import_aside(&mut self, directive: Directive, word: &Lexeme, rest: &[Lexeme]) {
+        self.refuse_others(rest, directive);
         let reason = match directive {
             Directive::Expect => {
-                self.shift_reduce = self.expected(lexemes)?;
+                self.shift_reduce = self.expected(word, rest);
                 Reason::Expected
             }
             Directive::ExpectReduce => {
-                self.reduce_reduce = self.expected(lexemes)?;
+                self.reduce_reduce = self.expected(word, rest);
                 Reason::Expected
             }
-            Directive::Define => self.definition_reason(lexemes),
+            Directive::Define => self.definition_reason(rest),
             Directive::Skeleton => {
-                self.refuse_skeleton(lexemes)?;
+                self.refuse_skeleton(rest);
                 Reason::ForItsParser
             }
             _ => Reason::ForItsParser,
         };
-        self.take_all(word, lexemes, reason)
+        self.take_all(word, rest, reason);
     }
 
     /// Takes in `%start`.
-    fn import_start(&mut self, word: &Lexeme, lexemes: &[Lexeme]) -> Result<(), Trouble> {
+    fn import_start(&mut self, word: &Lexeme, rest: &[Lexeme]) {
         if self.has_start {
-            return Err(Refusal::SeveralStarts.at(word));
+            return self.edits.refuse(Refusal::SeveralStarts, word);
         }
         self.has_start = true;
-        self.keep_word(word, Directive::Start)?;
-        for (at, lexeme) in lexemes.iter().enumerate().skip(1) {
+        self.keep_word(word, Directive::Start);
+        for (at, lexeme) in rest.iter().enumerate() {
             match lexeme.kind {
-                Kind::Name if at == 1 => self.keep_symbol(lexeme)?,
-                Kind::Name => return Err(Refusal::SeveralStarts.at(lexeme)),
-                Kind::Semicolon if at > 1 => self.take_separator(lexeme)?,
-                _ => return Err(Refusal::Misplaced.at(lexeme)),
+                Kind::Name if at == 0 => self.keep_symbol(lexeme),
+                Kind::Name => self.edits.refuse(Refusal::SeveralStarts, lexeme),
+                Kind::Semicolon if at > 0 => self.edits.take_out(lexeme, Reason::Separator),
+                _ => self.edits.refuse(Refusal::Misplaced, lexeme),
             }
         }
-        Ok(())
     }
 
     /// Takes in `%union`; between rules it is taken out.
-    fn import_union(&mut self, word: &Lexeme, lexemes: &[Lexeme]) -> Result<(), Trouble> {
+    fn import_union(&mut self, word: &Lexeme, rest: &[Lexeme]) {
         if self.edits.moving {
-            return self.take_all(word, lexemes, Reason::ForItsParser);
+            return self.take_all(word, rest, Reason::ForItsParser);
         }
-        self.keep_word(word, Directive::Union)?;
-        for (at, lexeme) in lexemes.iter().enumerate().skip(1) {
+        self.keep_word(word, Directive::Union);
+        for (at, lexeme) in rest.iter().enumerate() {
             match lexeme.kind {
-                Kind::Name if at == 1 => self.edits.take_out(lexeme, Reason::UnionName)?,
-                Kind::Braced => self.edits.keep(lexeme)?,
-                Kind::Semicolon => self.take_separator(lexeme)?,
-                _ => return Err(Refusal::Misplaced.at(lexeme)),
+                Kind::Name if at == 0 => self.edits.take_out(lexeme, Reason::UnionName),
+                Kind::Braced => self.edits.keep(lexeme),
+                Kind::Semicolon => self.edits.take_out(lexeme, Reason::Separator),
+                _ => self.edits.refuse(Refusal::Misplaced, lexeme),
             }
         }
-        Ok(())
     }
 
     /// Takes in a declaration in its place.
-    fn import_here(
-        &mut self,
-        directive: Directive,
-        word: &Lexeme,
-        lexemes: &[Lexeme],
-    ) -> Result<(), Trouble> {
+    fn import_here(&mut self, directive: Directive, word: &Lexeme, rest: &[Lexeme]) {
         match directive {
-            directive if directive.lists_tokens() => self.import_list(directive, word, lexemes),
-            Directive::Type | Directive::Nterm => self.import_types(directive, word, lexemes),
-            Directive::Start => self.import_start(word, lexemes),
-            Directive::Union => self.import_union(word, lexemes),
-            Directive::OtherParser => Err(Refusal::OtherParser.at(word)),
-            Directive::NoDefault => Err(Refusal::NoDefault.at(word)),
-            Directive::Unknown => Err(Refusal::UnknownWord.at(word)),
-            Directive::Prec | Directive::Empty => Err(Refusal::Misplaced.at(word)),
-            _ => self.import_aside(directive, word, lexemes),
+            directive if directive.lists_tokens() => self.import_list(directive, word, rest),
+            Directive::Type | Directive::Nterm => self.import_types(directive, word, rest),
+            Directive::Start => self.import_start(word, rest),
+            Directive::Union => self.import_union(word, rest),
+            Directive::OtherParser => self.edits.refuse(Refusal::OtherParser, word),
+            Directive::NoDefault => self.edits.refuse(Refusal::NoDefault, word),
+            Directive::Unknown => self.edits.refuse(Refusal::UnknownWord, word),
+            Directive::Prec | Directive::Empty => self.edits.refuse(Refusal::Misplaced, word),
+            _ => self.import_aside(directive, word, rest),
         }
     }
 
     /// Takes in a declaration: one between rules goes in front of the first mark.
-    pub fn import_declaration(
-        &mut self,
-        directive: Directive,
-        lexemes: &[Lexeme],
-        in_rules: bool,
-    ) -> Result<(), Trouble> {
-        let Some(word) = lexemes.first() else {
-            return Ok(());
+    pub fn import_declaration(&mut self, directive: Directive, lexemes: &[Lexeme], in_rules: bool) {
+        let Some((word, rest)) = lexemes.split_first() else {
+            return;
         };
         self.edits.moving = in_rules;
         let before = self.edits.moved.len();
-        self.import_here(directive, word, lexemes)?;
+        self.import_here(directive, word, rest);
         if self.edits.moved.len() > before {
-            self.edits.note(word, How::ToMark, Reason::Between)?;
+            self.edits.note(word, How::ToMark, Reason::Between);
         }
         self.edits.moving = false;
-        Ok(())
     }
 
     /// Takes in code before the rules, and what stands behind it, or what begins the file.
-    pub fn import_loose(&mut self, lexemes: &[Lexeme]) -> Result<(), Trouble> {
+    pub fn import_loose(&mut self, lexemes: &[Lexeme]) {
         for lexeme in lexemes {
             match lexeme.kind {
-                Kind::Semicolon => self.take_separator(lexeme)?,
-                Kind::LineMark => self.edits.take_out(lexeme, Reason::LineMark)?,
-                _ => return Err(Refusal::Misplaced.at(lexeme)),
+                Kind::Semicolon => self.edits.take_out(lexeme, Reason::Separator),
+                Kind::LineMark => self.edits.take_out(lexeme, Reason::LineMark),
+                _ => self.edits.refuse(Refusal::Misplaced, lexeme),
             }
         }
-        Ok(())
     }
 }

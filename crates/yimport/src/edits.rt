@@ -1,7 +1,9 @@
 //! What is changed in a file, as it is found.
 
 use crate::note::{How, Note, Reason};
-use std::alloc::{AllocError, Global};
+use crate::refusal::{Refusal, Refused, Trouble};
+use crate::trouble::FirstTrouble;
+use std::alloc::Global;
 use yforeign::lexeme::Lexeme;
 use yforeign::lexer::Remark;
 
@@ -27,10 +29,16 @@ pub struct Edits<'a> {
     pub texts: Vec<u8>,
     /// What is said of each change.
     pub notes: Vec<Note>,
-    /// The declarations that go in front of the first mark.
+    /// Where the first mark begins.
+    pub mark: Option<usize>,
+    /// The declarations that go in front of it.
     pub moved: Vec<u8>,
+    /// A declaration of the names made, which goes there too.
+    pub made: Vec<u8>,
     /// Whether what is kept goes there.
     pub moving: bool,
+    /// The first trouble: behind it, none of the changes is used.
+    pub trouble: FirstTrouble,
 }
 
 impl<'a> Edits<'a> {
@@ -41,116 +49,134 @@ impl<'a> Edits<'a> {
             edits: Vec::new(alloc),
             texts: Vec::new(alloc),
             notes: Vec::new(alloc),
+            mark: None,
             moved: Vec::new(alloc),
+            made: Vec::new(alloc),
             moving: false,
+            trouble: FirstTrouble { first: None },
         }
     }
 
-    /// Writes a text among the others, and says where it stands.
-    pub fn write(&mut self, text: &[u8]) -> Result<(usize, usize), AllocError> {
-        let from = self.texts.len();
-        self.texts.extend_from_slice(text)?;
-        Ok((from, self.texts.len()))
+    /// Refuses the file for a lexeme.
+    pub fn refuse(&mut self, refusal: Refusal, lexeme: &Lexeme) {
+        let Lexeme { line, from, to, .. } = *lexeme;
+        self.trouble.remember(Trouble::Refused(Refused {
+            refusal,
+            line,
+            from,
+            to,
+        }));
     }
 
-    /// Replaces a part of the file.
-    fn edit(&mut self, from: usize, to: usize, text: (usize, usize)) -> Result<(), AllocError> {
-        self.edits.push(Edit { from, to, text })?;
-        Ok(())
+    /// Writes a text among the others.
+    pub fn write(&mut self, text: &[u8]) {
+        self.trouble.append(&mut self.texts, text);
+    }
+
+    /// Replaces a part of the file by the texts written from a place on.
+    pub fn edit(&mut self, from: usize, to: usize, start: usize) {
+        let text = (start, self.texts.len());
+        self.trouble.push(&mut self.edits, Edit { from, to, text });
     }
 
     /// Notes how a lexeme is changed.
-    pub fn note(&mut self, lexeme: &Lexeme, how: How, reason: Reason) -> Result<(), AllocError> {
-        self.notes.push(Note {
+    pub fn note(&mut self, lexeme: &Lexeme, how: How, reason: Reason) {
+        let note = Note {
             line: lexeme.line,
             from: lexeme.from,
             to: lexeme.to,
             how,
             reason,
-        })?;
-        Ok(())
+        };
+        self.trouble.push(&mut self.notes, note);
     }
 
     /// Takes a lexeme out, without a word.
-    pub fn remove(&mut self, lexeme: &Lexeme) -> Result<(), AllocError> {
-        self.edit(lexeme.from, lexeme.to, (0, 0))
+    pub fn remove(&mut self, lexeme: &Lexeme) {
+        let nothing = self.texts.len();
+        self.edit(lexeme.from, lexeme.to, nothing);
     }
 
     /// Takes a lexeme out.
-    pub fn take_out(&mut self, lexeme: &Lexeme, reason: Reason) -> Result<(), AllocError> {
-        self.remove(lexeme)?;
-        self.note(lexeme, How::Out, reason)
-    }
-
-    /// Writes a text in front of the first mark.
-    pub fn put_before_mark(&mut self, text: &[u8]) -> Result<(), AllocError> {
-        self.moved.extend_from_slice(text)?;
-        self.moved.push(b' ')?;
-        Ok(())
+    pub fn take_out(&mut self, lexeme: &Lexeme, reason: Reason) {
+        self.remove(lexeme);
+        self.note(lexeme, How::Out, reason);
     }
 
     /// Keeps a lexeme.
-    pub fn keep(&mut self, lexeme: &Lexeme) -> Result<(), AllocError> {
-        if !self.moving {
-            return Ok(());
+    pub fn keep(&mut self, lexeme: &Lexeme) {
+        if self.moving {
+            let text = lexeme.text(self.source);
+            self.trouble.append(&mut self.moved, text);
+            self.trouble.append(&mut self.moved, b" ");
+            self.remove(lexeme);
         }
-        let text = lexeme.text(self.source);
-        self.put_before_mark(text)?;
-        self.remove(lexeme)
     }
 
-    /// Writes a text in place of a lexeme.
-    pub fn replace(
-        &mut self,
-        lexeme: &Lexeme,
-        text: &[u8],
-        reason: Reason,
-    ) -> Result<(), AllocError> {
-        let place = self.write(text)?;
-        self.note(lexeme, How::Becomes(place.0, place.1), reason)?;
+    /// Puts the texts written from a place on where a lexeme stands.
+    pub fn replace(&mut self, lexeme: &Lexeme, start: usize, reason: Reason) {
+        let end = self.texts.len();
+        self.note(lexeme, How::Becomes(start, end), reason);
         if !self.moving {
-            return self.edit(lexeme.from, lexeme.to, place);
+            return self.edit(lexeme.from, lexeme.to, start);
         }
-        self.put_before_mark(text)?;
-        self.remove(lexeme)
+        let text = self.texts.get(start..).unwrap_or(&[]);
+        self.trouble.append(&mut self.moved, text);
+        self.trouble.append(&mut self.moved, b" ");
+        self.remove(lexeme);
     }
 
-    /// Writes a text behind a place of the file.
-    pub fn insert(&mut self, at: usize, text: &[u8]) -> Result<(), AllocError> {
-        let place = self.write(text)?;
-        self.edit(at, at, place)
+    /// Lists a name that was made.
+    pub fn list_made(&mut self, name: &[u8]) {
+        if self.made.is_empty() {
+            self.trouble.append(&mut self.made, b"%token ");
+        }
+        self.trouble.append(&mut self.made, name);
+        self.trouble.append(&mut self.made, b" ");
+    }
+
+    /// Puts what goes in front of the first mark there.
+    pub fn insert_moved(&mut self) {
+        let Some(mark) = self.mark else {
+            return;
+        };
+        let start = self.texts.len();
+        self.trouble.append(&mut self.texts, &self.moved);
+        self.trouble.append(&mut self.texts, &self.made);
+        if self.texts.len() > start {
+            self.edit(mark, mark, start);
+        }
     }
 
     /// Makes a comment that begins with two slashes one of `yacc`.
-    pub fn close_remark(&mut self, remark: &Remark) -> Result<(), AllocError> {
+    pub fn close_remark(&mut self, remark: &Remark) {
         let Remark { from, to, line } = *remark;
         let text = self.source.get(from.saturating_add(2)..to).unwrap_or(&[]);
         let start = self.texts.len();
-        self.texts.extend_from_slice(b"/*")?;
-        self.write_comment(text)?;
-        self.texts.extend_from_slice(b" */")?;
-        let place = (start, self.texts.len());
-        self.edit(from, to, place)?;
-        self.notes.push(Note {
+        self.write(b"/*");
+        self.write_comment(text);
+        self.write(b" */");
+        self.edit(from, to, start);
+        let how = How::Becomes(start, self.texts.len());
+        let note = Note {
             line,
             from,
             to,
-            how: How::Becomes(place.0, place.1),
+            how,
             reason: Reason::Remark,
-        })?;
-        Ok(())
+        };
+        self.trouble.push(&mut self.notes, note);
     }
 
     /// Writes the text of a comment, with a blank where it would end.
-    fn write_comment(&mut self, text: &[u8]) -> Result<(), AllocError> {
+    fn write_comment(&mut self, text: &[u8]) {
         let mut before = 0u8;
         for b in text {
             if before == b'*' && *b == b'/' {
-                self.texts.push(b' ')?;
+                self.write(b" ");
             }
-            self.texts.push(*b)?;
+            self.write(&[*b]);
             before = *b;
         }
-        Ok(())
     }
 }

@@ -7,8 +7,7 @@ use crate::symbols::{Expected, Work};
 use std::alloc::Global;
 use std::mem;
 use yforeign::groups::{Group, Head, groups_of};
-use yforeign::lexeme::{Kind, Lexeme};
-use yforeign::lexer::{Lexemes, lexemes_of};
+use yforeign::lexer::{Remark, lexemes_of};
 
 /// A file that `yacc` reads, and what was changed for it.
 pub struct Imported {
@@ -40,25 +39,21 @@ impl Drop for Imported {
     }
 }
 
-/// The first mark of a file.
-fn first_mark(lexemes: &[Lexeme]) -> Option<Lexeme> {
-    lexemes
-        .iter()
-        .find(|lexeme| lexeme.kind == Kind::Mark)
-        .copied()
-}
-
 impl Work<'_> {
     /// Takes in a group.
-    fn import_group(&mut self, group: &Group<'_>) -> Result<(), Trouble> {
+    fn import_group(&mut self, group: &Group<'_>) {
         let Some((first, rest)) = group.lexemes.split_first() else {
-            return Ok(());
+            return;
         };
         match group.head {
             Head::Word(directive) => {
                 self.import_declaration(directive, group.lexemes, group.in_rules)
             }
-            Head::Code if group.in_rules => Err(Refusal::CodeBetween.at(first)),
+            Head::Code if group.in_rules => self.edits.refuse(Refusal::CodeBetween, first),
+            Head::Mark if !group.in_rules => {
+                self.edits.mark = Some(first.from);
+                self.import_loose(rest);
+            }
             Head::Code | Head::Mark => self.import_loose(rest),
             Head::Stray => self.import_loose(group.lexemes),
             Head::Left => self.import_rule(group.lexemes),
@@ -66,35 +61,30 @@ impl Work<'_> {
         }
     }
 
-    /// Puts what goes there in front of the first mark.
-    fn put_moved(&mut self, mark: Option<Lexeme>) -> Result<(), Trouble> {
-        self.list_made()?;
-        if let Some(mark) = mark {
-            let moved = Vec::from_slice(self.alloc, &self.edits.moved)?;
-            if !moved.is_empty() {
-                self.edits.insert(mark.from, &moved)?;
-            }
+    /// Takes in all groups of a file, and its comments.
+    fn import_all(&mut self, remarks: &[Remark], groups: &[Group<'_>]) {
+        if self.survey.fill(self.alloc, self.source, groups).is_err() {
+            return self.edits.trouble.remember(Trouble::Memory);
         }
-        Ok(())
-    }
-
-    /// Takes in all groups of a file, and its comments, and makes the changes.
-    fn import_all(&mut self, lexemes: &Lexemes, groups: &[Group<'_>]) -> Result<(), Trouble> {
-        for remark in &lexemes.remarks {
-            self.edits.close_remark(remark)?;
+        for remark in remarks {
+            self.edits.close_remark(remark);
         }
-        self.import_groups(groups)?;
-        self.put_moved(first_mark(&lexemes.all))?;
-        self.text = applied(self.alloc, &mut self.edits)?;
-        self.edits.notes.sort_by_key(|note| note.line)?;
-        Ok(())
+        self.import_groups(groups);
+        self.edits.insert_moved();
     }
 
     /// Takes in all groups.
-    fn import_groups(&mut self, groups: &[Group<'_>]) -> Result<(), Trouble> {
+    fn import_groups(&mut self, groups: &[Group<'_>]) {
         for group in groups {
-            self.import_group(group)?;
+            self.import_group(group);
         }
+    }
+
+    /// Makes the changes, unless there was a trouble.
+    fn make_changes(&mut self) -> Result<(), Trouble> {
+        self.edits.trouble.checked()?;
+        self.text = applied(self.alloc, &mut self.edits)?;
+        self.edits.notes.sort_by_key(|note| note.line)?;
         Ok(())
     }
 
@@ -102,8 +92,8 @@ impl Work<'_> {
     fn run(&mut self) -> Result<(), Trouble> {
         let lexemes = lexemes_of(self.alloc, self.source)?;
         let groups = groups_of(self.alloc, self.source, &lexemes.all)?;
-        self.survey.fill(self.alloc, self.source, &groups)?;
-        self.import_all(&lexemes, &groups)
+        self.import_all(&lexemes.remarks, &groups);
+        self.make_changes()
     }
 
     /// The import, once all is taken in; nothing of it stays behind.

@@ -10,4 +10,5 @@ pub mod listings;
 pub mod note;
 pub mod refusal;
 pub mod symbols;
+pub mod trouble;
 pub mod typed;

@@ -1,10 +1,8 @@
 //! Lists of tokens.
 
 use crate::note::Reason;
-use crate::refusal::{Refusal, Trouble};
+use crate::refusal::Refusal;
 use crate::symbols::Work;
-use std::alloc::AllocError;
-use std::io::Write;
 use yforeign::directive::{Directive, is_symbol};
 use yforeign::lexeme::{Kind, Lexeme};
 use yforeign::numbers::{ERROR, MOST, is_hexadecimal, number_of};
@@ -23,18 +21,18 @@ struct Place {
     stands: bool,
 }
 
-/// The word of `yacc` for a directive, where it has one.
-fn written(directive: Directive) -> Option<&'static [u8]> {
+/// The word of `yacc` for a directive of this text; the text itself where it has none.
+fn written(directive: Directive, text: &[u8]) -> &[u8] {
     match directive {
-        Directive::Token | Directive::Term => Some(b"%token"),
-        Directive::Left => Some(b"%left"),
-        Directive::Right => Some(b"%right"),
-        Directive::Nonassoc | Directive::Binary | Directive::Precedence => Some(b"%nonassoc"),
-        Directive::Type | Directive::Nterm => Some(b"%type"),
-        Directive::Start => Some(b"%start"),
-        Directive::Union => Some(b"%union"),
-        Directive::Prec => Some(b"%prec"),
-        _ => None,
+        Directive::Token | Directive::Term => b"%token",
+        Directive::Left => b"%left",
+        Directive::Right => b"%right",
+        Directive::Nonassoc | Directive::Binary | Directive::Precedence => b"%nonassoc",
+        Directive::Type | Directive::Nterm => b"%type",
+        Directive::Start => b"%start",
+        Directive::Union => b"%union",
+        Directive::Prec => b"%prec",
+        _ => text,
     }
 }
 
@@ -49,44 +47,44 @@ fn is_plain(tag: &[u8]) -> bool {
 }
 
 impl Work<'_> {
-    /// A tag with a name in place of what stands in it.
-    fn named_tag(&self, tag: &[u8]) -> Result<Vec<u8>, AllocError> {
-        let mut name = Vec::from_slice(self.alloc, b"<_")?;
+    /// Writes a tag with a name in place of what stands in it.
+    fn write_named_tag(&mut self, tag: &[u8]) {
+        self.edits.write(b"<_");
         for b in tag.get(1..tag.len().saturating_sub(1)).unwrap_or(&[]) {
-            name.push(if is_name_byte(*b) { *b } else { b'_' })?;
+            let byte = if is_name_byte(*b) { *b } else { b'_' };
+            self.edits.write(&[byte]);
         }
-        name.push(b'>')?;
-        Ok(name)
+        self.edits.write(b">");
     }
 
     /// Keeps a tag: the first of its list, with a name in it.
-    pub fn keep_tag(&mut self, lexeme: &Lexeme, is_first: bool) -> Result<(), Trouble> {
+    pub fn keep_tag(&mut self, lexeme: &Lexeme, is_first: bool) {
         let text = lexeme.text(self.source);
         if !is_first {
-            self.edits.take_out(lexeme, Reason::SecondTag)?;
+            self.edits.take_out(lexeme, Reason::SecondTag);
         } else if is_plain(text) {
-            self.edits.keep(lexeme)?;
+            self.edits.keep(lexeme);
         } else {
-            let name = self.named_tag(text)?;
-            self.edits.replace(lexeme, &name, Reason::OddTag)?;
+            let start = self.edits.texts.len();
+            self.write_named_tag(text);
+            self.edits.replace(lexeme, start, Reason::OddTag);
         }
-        Ok(())
     }
 
     /// Keeps the word of a directive, or writes that of `yacc`.
-    pub fn keep_word(&mut self, word: &Lexeme, directive: Directive) -> Result<(), Trouble> {
-        let reason = if directive == Directive::Precedence {
-            Reason::Precedence
-        } else {
-            Reason::OldWord
-        };
-        match written(directive) {
-            Some(written) if word.text(self.source) != written => {
-                self.edits.replace(word, written, reason)?;
-            }
-            _ => self.edits.keep(word)?,
+    pub fn keep_word(&mut self, word: &Lexeme, directive: Directive) {
+        let text = word.text(self.source);
+        let written = written(directive, text);
+        if written == text {
+            return self.edits.keep(word);
         }
-        Ok(())
+        let start = self.edits.texts.len();
+        self.edits.write(written);
+        let reason = match directive {
+            Directive::Precedence => Reason::Precedence,
+            _ => Reason::OldWord,
+        };
+        self.edits.replace(word, start, reason);
     }
 
     /// Whether a token is `error`.
@@ -96,161 +94,138 @@ impl Work<'_> {
     }
 
     /// Keeps the number of a token, where `yacc` can have it.
-    fn keep_number(&mut self, token: &Lexeme, lexeme: &Lexeme) -> Result<(), Trouble> {
+    fn keep_number(&mut self, place: &Place, lexeme: &Lexeme) {
+        let Some(token) = place.token else {
+            return self.edits.refuse(Refusal::Misplaced, lexeme);
+        };
         let text = lexeme.text(self.source);
         let number = number_of(text);
-        if self.is_end(token) {
-            self.edits.remove(lexeme)?;
+        if self.is_end(&token) {
+            self.edits.remove(lexeme);
         } else if number > MOST {
-            self.edits.take_out(lexeme, Reason::LargeNumber)?;
-        } else if number == ERROR && !self.is_error(token) {
-            self.edits.take_out(lexeme, Reason::ErrorNumber)?;
+            self.edits.take_out(lexeme, Reason::LargeNumber);
+        } else if number == ERROR && !self.is_error(&token) {
+            self.edits.take_out(lexeme, Reason::ErrorNumber);
         } else if is_hexadecimal(text) {
-            let mut decimal = Vec::new(self.alloc);
-            if write!(&mut decimal, "{number}").is_err() {
-                return Err(Trouble::Memory);
-            }
-            self.edits.replace(lexeme, &decimal, Reason::HexNumber)?;
+            let start = self.edits.texts.len();
+            let mut digits = itoa::Buffer::new();
+            self.edits.write(digits.format(number).as_bytes());
+            self.edits.replace(lexeme, start, Reason::HexNumber);
         } else {
-            self.edits.keep(lexeme)?;
+            self.edits.keep(lexeme);
         }
-        Ok(())
     }
 
-    /// Takes out a string that stands for a token.
-    fn take_alias(&mut self, token: &Lexeme, text: &Lexeme) -> Result<(), Trouble> {
-        if self.is_end(token) {
-            self.edits.remove(text)?;
+    /// Takes out a string that stands for a token; one that stands for none is a token itself.
+    fn take_alias(&mut self, place: &mut Place, text: &Lexeme) {
+        let Some(token) = place.token else {
+            return self.keep_token(place, text);
+        };
+        place.token = None;
+        if self.is_end(&token) {
+            self.edits.remove(text);
         } else {
-            self.edits.take_out(text, Reason::Alias)?;
+            self.edits.take_out(text, Reason::Alias);
         }
-        Ok(())
     }
 
     /// Keeps a token, unless it is the end.
-    fn keep_token(&mut self, place: &mut Place, lexeme: &Lexeme) -> Result<(), Trouble> {
+    fn keep_token(&mut self, place: &mut Place, lexeme: &Lexeme) {
         place.token = Some(*lexeme);
         if !self.is_end(lexeme) {
-            return self.keep_symbol(lexeme);
+            self.keep_symbol(lexeme);
+        } else if place.directive.is_level() {
+            self.edits.refuse(Refusal::EndElsewhere, lexeme);
+        } else {
+            self.edits.take_out(lexeme, Reason::EndListed);
         }
-        if place.directive.is_level() {
-            return Err(Refusal::EndElsewhere.at(lexeme));
-        }
-        self.edits.take_out(lexeme, Reason::EndListed)?;
-        Ok(())
-    }
-
-    /// Takes out a sign that separates what is listed.
-    pub fn take_separator(&mut self, lexeme: &Lexeme) -> Result<(), Trouble> {
-        self.edits.take_out(lexeme, Reason::Separator)?;
-        Ok(())
     }
 
     /// Takes out a macro that stands for a number.
-    fn take_macro(&mut self, place: &Place, lexeme: &Lexeme) -> Result<(), Trouble> {
-        if place.token.is_none() {
-            return Err(Refusal::Misplaced.at(lexeme));
+    fn take_macro(&mut self, place: &Place, lexeme: &Lexeme) {
+        if place.token.is_some() {
+            self.edits.take_out(lexeme, Reason::MacroNumber);
+        } else {
+            self.edits.refuse(Refusal::Misplaced, lexeme);
         }
-        self.edits.take_out(lexeme, Reason::MacroNumber)?;
-        Ok(())
     }
 
     /// Takes in one lexeme of a list.
-    fn import_listed(
-        &mut self,
-        place: &mut Place,
-        lexemes: &[Lexeme],
-        at: usize,
-        lexeme: &Lexeme,
-    ) -> Result<(), Trouble> {
-        match (lexeme.kind, place.token) {
-            (Kind::Semicolon, _) => {
+    fn import_listed(&mut self, place: &mut Place, rest: &[Lexeme], at: usize, lexeme: &Lexeme) {
+        match lexeme.kind {
+            Kind::Semicolon => {
                 place.closed = true;
-                self.take_separator(lexeme)
+                self.edits.take_out(lexeme, Reason::Separator);
             }
-            (Kind::LineMark, _) => Ok(self.edits.take_out(lexeme, Reason::LineMark)?),
-            _ if place.closed => Err(Refusal::Misplaced.at(lexeme)),
-            (Kind::Comma, _) => {
+            Kind::LineMark => self.edits.take_out(lexeme, Reason::LineMark),
+            _ if place.closed => self.edits.refuse(Refusal::Misplaced, lexeme),
+            Kind::Comma => {
                 place.token = None;
-                self.take_separator(lexeme)
+                self.edits.take_out(lexeme, Reason::Separator);
             }
-            (Kind::Tag, _) if !place.stands => Ok(self.edits.remove(lexeme)?),
-            (Kind::Tag, _) => {
+            Kind::Tag if !place.stands => self.edits.remove(lexeme),
+            Kind::Tag => {
                 place.token = None;
-                self.keep_tag(lexeme, at == 1)
+                self.keep_tag(lexeme, at == 0);
             }
-            (Kind::Number, Some(token)) => self.keep_number(&token, lexeme),
-            (Kind::Arguments, _) if is_macro(lexemes, at.saturating_sub(1)) => {
-                Ok(self.edits.remove(lexeme)?)
+            Kind::Number => self.keep_number(place, lexeme),
+            Kind::Arguments if is_macro(rest, at.saturating_sub(1)) => self.edits.remove(lexeme),
+            Kind::Name if is_macro(rest, at) => self.take_macro(place, lexeme),
+            kind if is_text(kind) && place.directive.names_tokens() => {
+                self.take_alias(place, lexeme);
             }
-            (Kind::Name, _) if is_macro(lexemes, at) => self.take_macro(place, lexeme),
-            (kind, Some(token)) if is_text(kind) && place.directive.names_tokens() => {
-                place.token = None;
-                self.take_alias(&token, lexeme)
-            }
-            (kind, _) if is_symbol(kind) => self.keep_token(place, lexeme),
-            _ => Err(Refusal::Misplaced.at(lexeme)),
+            kind if is_symbol(kind) => self.keep_token(place, lexeme),
+            _ => self.edits.refuse(Refusal::Misplaced, lexeme),
         }
     }
 
-    /// How many tokens are listed, and how many of them aren't the end.
-    fn listed(&self, directive: Directive, lexemes: &[Lexeme]) -> (usize, usize) {
-        let mut all: usize = 0;
-        let mut kept: usize = 0;
+    /// Whether a token is listed, and whether one that isn't the end.
+    fn listed(&self, directive: Directive, rest: &[Lexeme]) -> (bool, bool) {
+        let mut any = false;
+        let mut stands = false;
         let mut has_token = false;
-        for (at, lexeme) in lexemes.iter().enumerate().skip(1) {
+        for (at, lexeme) in rest.iter().enumerate() {
             let is_alias = has_token && directive.names_tokens() && is_text(lexeme.kind);
-            let is_token = is_symbol(lexeme.kind) && !is_alias && !is_macro(lexemes, at);
-            if is_token {
-                all = all.saturating_add(1);
-            }
-            if is_token && !self.is_end(lexeme) {
-                kept = kept.saturating_add(1);
-            }
+            let is_token = is_symbol(lexeme.kind) && !is_alias && !is_macro(rest, at);
+            any = any || is_token;
+            stands = stands || (is_token && !self.is_end(lexeme));
             has_token = match lexeme.kind {
                 Kind::Comma | Kind::Tag => false,
                 kind if is_text(kind) => is_token,
                 _ => true,
             };
         }
-        (all, kept)
+        (any, stands)
     }
 
-    /// Notes the level of a line of precedences.
-    fn note_level(&mut self, word: &Lexeme, directive: Directive) -> Result<(), Trouble> {
+    /// Keeps the word of a list, where something but the end stands in it, and notes its level.
+    fn keep_list_word(&mut self, word: &Lexeme, directive: Directive, stands: bool) {
         if directive.is_level() {
             let line = (directive == Directive::Precedence).then_some(word.line);
-            self.levels.push(line)?;
+            self.edits.trouble.push(&mut self.levels, line);
         }
-        Ok(())
+        if stands {
+            self.keep_word(word, directive);
+        } else {
+            self.edits.remove(word);
+        }
     }
 
     /// Takes in a list of tokens.
-    pub fn import_list(
-        &mut self,
-        directive: Directive,
-        word: &Lexeme,
-        lexemes: &[Lexeme],
-    ) -> Result<(), Trouble> {
-        let (all, kept) = self.listed(directive, lexemes);
-        if all == 0 {
-            return Err(Refusal::NothingListed.at(word));
+    pub fn import_list(&mut self, directive: Directive, word: &Lexeme, rest: &[Lexeme]) {
+        let (any, stands) = self.listed(directive, rest);
+        if !any {
+            return self.edits.refuse(Refusal::NothingListed, word);
         }
-        self.note_level(word, directive)?;
+        self.keep_list_word(word, directive, stands);
         let mut place = Place {
             directive,
             token: None,
             closed: false,
-            stands: kept > 0,
+            stands,
         };
-        if place.stands {
-            self.keep_word(word, directive)?;
-        } else {
-            self.edits.remove(word)?;
+        for (at, lexeme) in rest.iter().enumerate() {
+            self.import_listed(&mut place, rest, at, lexeme);
         }
-        for (at, lexeme) in lexemes.iter().enumerate().skip(1) {
-            self.import_listed(&mut place, lexemes, at, lexeme)?;
-        }
-        Ok(())
     }
 }

@@ -1,7 +1,7 @@
 //! What is changed, and why.
 
 /// Whether a change can change what the file says.
-#[derive(Clone, Copy, Drop, PartialEq, Eq)]
+#[derive(Clone, Copy, Drop)]
 pub enum Effect {
     /// It can't.
     None,
@@ -23,7 +23,7 @@ impl Effect {
 }
 
 /// Why something is changed.
-#[derive(Clone, Copy, Drop, PartialEq, Eq)]
+#[derive(Clone, Copy, Drop)]
 pub enum Reason {
     /// A directive for the parser that bison or byacc writes.
     ForItsParser,
@@ -94,7 +94,7 @@ pub enum Reason {
 }
 
 /// How something is changed.
-#[derive(Clone, Copy, Drop, PartialEq, Eq)]
+#[derive(Clone, Copy, Drop)]
 pub enum How {
     /// It is taken out.
     Out,

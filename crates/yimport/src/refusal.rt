@@ -1,10 +1,10 @@
 //! Why a file isn't imported.
 
-use std::alloc::{AllocError, AllocFailed};
-use yforeign::lexeme::{Flaw, Lexeme, Uncut};
+use std::alloc::AllocError;
+use yforeign::lexeme::{Flaw, Uncut};
 
 /// What a file has that can't be imported.
-#[derive(Clone, Copy, Drop, PartialEq, Eq)]
+#[derive(Clone, Copy, Drop)]
 pub enum Refusal {
     /// No lexeme begins at a place.
     Flaw(Flaw),
@@ -48,7 +48,7 @@ pub struct Refused {
 }
 
 /// Why there is no import.
-#[derive(Drop)]
+#[derive(Clone, Copy, Drop)]
 pub enum Trouble {
     /// The file is refused.
     Refused(Refused),
@@ -90,22 +90,6 @@ impl Refusal {
             Refusal::SecondPrec => "a rule has one %prec",
             Refusal::NameTaken => "yacc's names have no dashes, and the name without them is taken",
         }
-    }
-
-    /// A lexeme refused.
-    pub fn at(self, lexeme: &Lexeme) -> Trouble {
-        Trouble::Refused(Refused {
-            refusal: self,
-            line: lexeme.line,
-            from: lexeme.from,
-            to: lexeme.to,
-        })
-    }
-}
-
-impl<T: Drop> From<AllocFailed<T>> for Trouble {
-    fn from(_refused: AllocFailed<T>) -> Trouble {
-        Trouble::Memory
     }
 }
 

@@ -4,8 +4,7 @@ use crate::edits::Edits;
 use crate::note::Reason;
 use crate::refusal::{Refusal, Trouble};
 use indexmap::IndexMap;
-use std::alloc::{AllocError, Global};
-use std::io::Write;
+use std::alloc::Global;
 use yforeign::lexeme::{Kind, Lexeme};
 use yforeign::survey::{Survey, inside, is_text};
 use ysymbols::names::{Printed, is_among};
@@ -31,8 +30,10 @@ pub struct Work<'a> {
     pub edits: Edits<'a>,
     /// The number of the name made for each string that stands for no token.
     made: IndexMap<Vec<u8>, usize>,
-    /// The names that have no dashes any more, and what they were.
-    renamed: IndexMap<Vec<u8>, Vec<u8>>,
+    /// The last of these numbers.
+    last_made: usize,
+    /// The names that have no dashes any more, and where one stands that became each.
+    renamed: IndexMap<Vec<u8>, Lexeme>,
     /// The line of `%precedence` for each level that comes from one.
     pub levels: Vec<Option<usize>>,
     /// The shift/reduce conflicts that the file expects.
@@ -56,6 +57,7 @@ impl Drop for Work<'_> {
             survey: _,
             edits: _,
             made,
+            last_made: _,
             renamed,
             levels: _,
             shift_reduce: _,
@@ -69,15 +71,6 @@ impl Drop for Work<'_> {
     }
 }
 
-/// The name made for a string.
-fn made_name(alloc: Global, number: usize) -> Result<Vec<u8>, AllocError> {
-    let mut name = Vec::from_slice(alloc, b"string_")?;
-    match write!(&mut name, "{number}") {
-        Ok(()) => Ok(name),
-        Err(_) => Err(AllocError),
-    }
-}
-
 impl<'a> Work<'a> {
     /// The file before anything is imported.
     pub fn new(alloc: Global, source: &'a [u8]) -> Work<'a> {
@@ -87,6 +80,7 @@ impl<'a> Work<'a> {
             survey: Survey::new(alloc),
             edits: Edits::new(alloc, source),
             made: IndexMap::new(alloc),
+            last_made: 0,
             renamed: IndexMap::new(alloc),
             levels: Vec::new(alloc),
             shift_reduce: None,
@@ -97,135 +91,138 @@ impl<'a> Work<'a> {
         }
     }
 
-    /// A name with lines below in place of its dashes, if no other name is spelled so.
-    fn without_dashes(&mut self, lexeme: &Lexeme) -> Result<Vec<u8>, Trouble> {
-        let old = lexeme.text(self.source);
-        let mut name = Vec::with_capacity(self.alloc, old.len())?;
-        for b in old {
-            name.push(if *b == b'-' { b'_' } else { *b })?;
+    /// A text of its own.
+    fn copied(&mut self, text: &[u8]) -> Vec<u8> {
+        let mut copy = Vec::new(self.alloc);
+        self.edits.trouble.append(&mut copy, text);
+        copy
+    }
+
+    /// Writes a name with lines below in place of its dashes, if no other name is spelled so.
+    fn write_without_dashes(&mut self, lexeme: &Lexeme) {
+        let mut name = self.copied(lexeme.text(self.source));
+        for b in name.iter_mut() {
+            *b = if *b == b'-' { b'_' } else { *b };
         }
-        if is_among(&self.survey.names, &name) {
-            return Err(Refusal::NameTaken.at(lexeme));
+        self.edits.write(&name);
+        if is_among(&self.survey.names, &name) || self.is_other(&name, lexeme) {
+            self.edits.refuse(Refusal::NameTaken, lexeme);
+        } else if self.renamed.insert(name, *lexeme).is_err() {
+            self.edits.trouble.remember(Trouble::Memory);
         }
-        if self.is_other(&name, old) {
-            return Err(Refusal::NameTaken.at(lexeme));
-        }
-        let key = Vec::from_slice(self.alloc, &name)?;
-        self.renamed.insert(key, Vec::from_slice(self.alloc, old)?)?;
-        Ok(name)
     }
 
     /// Whether another name than this one was renamed so.
-    fn is_other(&self, name: &[u8], old: &[u8]) -> bool {
+    fn is_other(&self, name: &[u8], lexeme: &Lexeme) -> bool {
         match self.renamed.get(name) {
-            Some(before) => before.as_slice() != old,
+            Some(before) => before.text(self.source) != lexeme.text(self.source),
             None => false,
         }
     }
 
-    /// The spelling of a symbol that is no string, where it is another one, and why.
-    fn plain_spelling(&mut self, lexeme: &Lexeme) -> Result<Option<(Vec<u8>, Reason)>, Trouble> {
+    /// Writes a symbol that is no string, where its spelling is another one, and gives the reason.
+    fn spell_plain(&mut self, lexeme: &Lexeme) -> Option<Reason> {
         let text = lexeme.text(self.source);
-        if lexeme.kind == Kind::ByteLiteral {
-            let value = text.get(1).copied().unwrap_or(0);
-            let printed = Vec::from_slice(self.alloc, Printed::new(value).as_slice())?;
-            return Ok(Some((printed, Reason::ByteLiteral)));
+        match lexeme.kind {
+            Kind::ByteLiteral => {
+                let value = text.get(1).copied().unwrap_or(0);
+                self.edits.write(Printed::new(value).as_slice());
+                Some(Reason::ByteLiteral)
+            }
+            Kind::Name if text == b"YYerror".as_slice() => {
+                self.edits.write(b"error");
+                Some(Reason::ErrorName)
+            }
+            Kind::Name if text.contains(&b'-') => {
+                self.write_without_dashes(lexeme);
+                Some(Reason::Dash)
+            }
+            _ => None,
         }
-        if lexeme.kind != Kind::Name {
-            return Ok(None);
-        }
-        if text == b"YYerror".as_slice() {
-            let error = Vec::from_slice(self.alloc, b"error")?;
-            return Ok(Some((error, Reason::ErrorName)));
-        }
-        if text.contains(&b'-') {
-            return Ok(Some((self.without_dashes(lexeme)?, Reason::Dash)));
-        }
-        Ok(None)
     }
 
-    /// The first number, from a number on, that makes a name which isn't taken.
-    fn free_number(&self, from: usize) -> Result<usize, AllocError> {
-        let most = self.survey.names.len();
-        for number in from..from.saturating_add(most) {
-            if !is_among(&self.survey.names, &made_name(self.alloc, number)?) {
-                return Ok(number);
+    /// The name made for a string, from its number.
+    fn made_name(&mut self, number: usize) -> Vec<u8> {
+        let mut name = self.copied(b"string_");
+        let mut digits = itoa::Buffer::new();
+        let digits = digits.format(number).as_bytes();
+        self.edits.trouble.append(&mut name, digits);
+        name
+    }
+
+    /// The first number behind the last one that makes a name which isn't taken.
+    fn free_number(&mut self) -> usize {
+        let first = self.last_made.saturating_add(1);
+        let most = first.saturating_add(self.survey.names.len());
+        for number in first..most {
+            let name = self.made_name(number);
+            if !is_among(&self.survey.names, &name) {
+                return number;
             }
         }
-        Ok(from.saturating_add(most))
+        most
     }
 
-    /// The number of the name made for a string.
-    fn made_number(&mut self, text: &Lexeme) -> Result<usize, AllocError> {
-        let key = inside(self.source, text);
-        if let Some(number) = self.made.get(key) {
-            return Ok(*number);
+    /// Makes a name for a string, lists it, and gives its number.
+    fn make_name(&mut self, key: &[u8]) -> usize {
+        let number = self.free_number();
+        self.last_made = number;
+        let name = self.made_name(number);
+        self.edits.list_made(&name);
+        let key = self.copied(key);
+        if self.made.insert(key, number).is_err() {
+            self.edits.trouble.remember(Trouble::Memory);
         }
-        let last = self.made.last().map_or(0, |(_, number)| *number);
-        let number = self.free_number(last.saturating_add(1))?;
-        self.made.insert(Vec::from_slice(self.alloc, key)?, number)?;
-        Ok(number)
+        number
     }
 
-    /// The token that a string is.
-    fn text_spelling(&mut self, text: &Lexeme) -> Result<(Vec<u8>, Reason), Trouble> {
+    /// Writes the name made for a string.
+    fn write_made(&mut self, key: &[u8]) {
+        let number = match self.made.get(key) {
+            Some(number) => *number,
+            None => self.make_name(key),
+        };
+        let name = self.made_name(number);
+        self.edits.write(&name);
+    }
+
+    /// Writes the token that a string is, and gives the reason.
+    fn spell_text(&mut self, text: &Lexeme) -> Reason {
         if let Some(token) = self.survey.alias(self.source, text) {
-            let name = match self.plain_spelling(&token)? {
-                Some((name, _)) => name,
-                None => Vec::from_slice(self.alloc, token.text(self.source))?,
-            };
-            return Ok((name, Reason::AliasUsed));
+            if self.spell_plain(&token).is_none() {
+                self.edits.write(token.text(self.source));
+            }
+            return Reason::AliasUsed;
         }
-        let number = self.made_number(text)?;
-        let is_sign = inside(self.source, text).len() == 1;
-        let reason = if is_sign {
+        let key = inside(self.source, text);
+        self.write_made(key);
+        if key.len() == 1 {
             Reason::MadeSign
         } else {
             Reason::MadeName
-        };
-        Ok((made_name(self.alloc, number)?, reason))
-    }
-
-    /// The spelling of a symbol, where it is another one, and why.
-    fn spelling(&mut self, lexeme: &Lexeme) -> Result<Option<(Vec<u8>, Reason)>, Trouble> {
-        if is_text(lexeme.kind) {
-            return Ok(Some(self.text_spelling(lexeme)?));
         }
-        self.plain_spelling(lexeme)
     }
 
-    /// The bytes of a symbol.
-    pub fn spelled(&mut self, lexeme: &Lexeme) -> Result<Vec<u8>, Trouble> {
-        match self.spelling(lexeme)? {
-            Some((text, _)) => Ok(text),
-            None => Ok(Vec::from_slice(self.alloc, lexeme.text(self.source))?),
+    /// Writes a symbol, where its spelling is another one, and gives the reason.
+    pub fn spell(&mut self, lexeme: &Lexeme) -> Option<Reason> {
+        if is_text(lexeme.kind) {
+            Some(self.spell_text(lexeme))
+        } else {
+            self.spell_plain(lexeme)
         }
     }
 
     /// Keeps a symbol.
-    pub fn keep_symbol(&mut self, lexeme: &Lexeme) -> Result<(), Trouble> {
-        match self.spelling(lexeme)? {
-            Some((text, reason)) => self.edits.replace(lexeme, &text, reason)?,
-            None => self.edits.keep(lexeme)?,
+    pub fn keep_symbol(&mut self, lexeme: &Lexeme) {
+        let start = self.edits.texts.len();
+        match self.spell(lexeme) {
+            Some(reason) => self.edits.replace(lexeme, start, reason),
+            None => self.edits.keep(lexeme),
         }
-        Ok(())
     }
 
     /// Whether a symbol is the end.
     pub fn is_end(&self, lexeme: &Lexeme) -> bool {
         self.survey.is_end(self.source, lexeme)
-    }
-
-    /// Lists the tokens whose names were made.
-    pub fn list_made(&mut self) -> Result<(), AllocError> {
-        if self.made.is_empty() {
-            return Ok(());
-        }
-        self.edits.put_before_mark(b"%token")?;
-        for (_, number) in self.made.iter() {
-            let name = made_name(self.alloc, *number)?;
-            self.edits.put_before_mark(&name)?;
-        }
-        Ok(())
     }
 }

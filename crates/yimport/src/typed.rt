@@ -1,7 +1,7 @@
 //! Lists of nonterminals with a tag.
 
-use crate::note::{How, Reason};
-use crate::refusal::{Refusal, Trouble};
+use crate::note::Reason;
+use crate::refusal::Refusal;
 use crate::symbols::Work;
 use yforeign::directive::{Directive, is_symbol};
 use yforeign::lexeme::{Kind, Lexeme};
@@ -29,72 +29,65 @@ impl Work<'_> {
     }
 
     /// Whether a nonterminal with a tag is listed.
-    fn has_nonterminal(&self, lexemes: &[Lexeme]) -> bool {
-        let has_tag = lexemes.get(1).map(|tag| tag.kind) == Some(Kind::Tag);
-        has_tag
-            && lexemes.iter().skip(2).any(|lexeme| is_symbol(lexeme.kind)
-                && self.reason_against(lexeme).is_none())
+    fn has_nonterminal(&self, rest: &[Lexeme]) -> bool {
+        let listed = match rest {
+            [tag, listed @ ..] if tag.kind == Kind::Tag => listed,
+            _ => return false,
+        };
+        for lexeme in listed {
+            if is_symbol(lexeme.kind) && self.reason_against(lexeme).is_none() {
+                return true;
+            }
+        }
+        false
     }
 
     /// Takes in one lexeme of a list that stays.
-    fn import_typed(&mut self, lexeme: &Lexeme, at: usize) -> Result<(), Trouble> {
+    fn import_typed(&mut self, lexeme: &Lexeme, at: usize) {
         match lexeme.kind {
-            Kind::Tag => self.keep_tag(lexeme, at == 1),
-            Kind::Comma | Kind::Semicolon => self.take_separator(lexeme),
-            Kind::LineMark => Ok(self.edits.take_out(lexeme, Reason::LineMark)?),
+            Kind::Tag => self.keep_tag(lexeme, at == 0),
+            Kind::Comma | Kind::Semicolon => self.edits.take_out(lexeme, Reason::Separator),
+            Kind::LineMark => self.edits.take_out(lexeme, Reason::LineMark),
             _ => match self.reason_against(lexeme) {
-                Some(reason) => Ok(self.edits.take_out(lexeme, reason)?),
+                Some(reason) => self.edits.take_out(lexeme, reason),
                 None => self.keep_symbol(lexeme),
             },
         }
     }
 
     /// Takes out a whole declaration, with a word for all of it.
-    pub fn take_all(
-        &mut self,
-        word: &Lexeme,
-        lexemes: &[Lexeme],
-        reason: Reason,
-    ) -> Result<(), Trouble> {
-        self.edits.note(word, How::Out, reason)?;
-        for lexeme in lexemes {
-            self.edits.remove(lexeme)?;
+    pub fn take_all(&mut self, word: &Lexeme, rest: &[Lexeme], reason: Reason) {
+        self.edits.take_out(word, reason);
+        for lexeme in rest {
+            self.edits.remove(lexeme);
         }
-        Ok(())
     }
 
     /// Refuses what stands in a declaration where it can't, or behind its semicolon.
-    pub fn refuse_others(&self, lexemes: &[Lexeme], directive: Directive) -> Result<(), Trouble> {
+    pub fn refuse_others(&mut self, rest: &[Lexeme], directive: Directive) {
         let mut closed = false;
-        for lexeme in lexemes.iter().skip(1) {
+        for lexeme in rest {
             let is_end = matches!(lexeme.kind, Kind::Semicolon | Kind::LineMark);
             let fits = match directive {
                 Directive::Type | Directive::Nterm => is_listed(lexeme.kind),
                 _ => directive.takes(lexeme.kind),
             };
             if !is_end && (closed || !fits) {
-                return Err(Refusal::Misplaced.at(lexeme));
+                self.edits.refuse(Refusal::Misplaced, lexeme);
             }
             closed = closed || lexeme.kind == Kind::Semicolon;
         }
-        Ok(())
     }
 
     /// Takes in a list of nonterminals.
-    pub fn import_types(
-        &mut self,
-        directive: Directive,
-        word: &Lexeme,
-        lexemes: &[Lexeme],
-    ) -> Result<(), Trouble> {
-        self.refuse_others(lexemes, directive)?;
-        if !self.has_nonterminal(lexemes) {
-            return self.take_all(word, lexemes, Reason::NoType);
+    pub fn import_types(&mut self, directive: Directive, word: &Lexeme, rest: &[Lexeme]) {
+        self.refuse_others(rest, directive);
+        if !self.has_nonterminal(rest) {
+            return self.take_all(word, rest, Reason::NoType);
         }
-        self.keep_word(word, directive)?;
-        for (at, lexeme) in lexemes.iter().enumerate().skip(1) {
-            self.import_typed(lexeme, at)?;
+        self.keep_word(word, directive);
+        for (at, lexeme) in rest.iter().enumerate() {
+            self.import_typed(lexeme, at);
         }
-        Ok(())
     }
 }
