@@ -1,7 +1,7 @@
 //! Which tokens hold each number, and the first number of the file that is at fault.
 
 ghost use Rattle.std.specs.Prelude.{◌≡◌, ◌<◌, ◌≤◌, ℕ, IfOk, MatchBool, length, slice_index_or};
-ghost use Rattle.std.specs.Prelude.{slice_set};
+ghost use Rattle.std.specs.Prelude.{[], slice_set};
 ghost use Rattle.youtline.specs.Elaboration.{tokens as tokens_of_tree};
 ghost use Rattle.ysymbols.specs.Grammar.{number_bound};
 ghost use Rattle.ysymbols.specs.NameTexts.{texts};
@@ -156,6 +156,19 @@ pub struct OwnTable {
     pub numbers: Vec<Option<u32>>,
     /// For each number, the tokens that have it by themselves.
     pub holders: Vec<Holders>,
+}
+
+impl OwnTable {
+    /// A table of no tokens.
+    pub fn new(alloc: Global) -> OwnTable
+        ensures numbers { result.numbers.items ≡ [] }
+        ensures holders { result.holders.items ≡ [] }
+    {
+        OwnTable {
+            numbers: Vec::new(alloc),
+            holders: Vec::new(alloc),
+        }
+    }
 }
 
 impl Drop for OwnTable {
