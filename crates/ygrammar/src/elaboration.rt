@@ -4,9 +4,10 @@ ghost use Rattle.std.specs.Prelude.{◌≡◌, ◌<◌, ◌≤◌, ◌^◌, ◌+
 ghost use Rattle.std.specs.Prelude.{IfErr, IfOk, OnOk, slice_index_or, unwrap_or};
 ghost use Rattle.std.specs.List.{find, AllByRecursion};
 ghost use Rattle.ysyntax.specs.Lexer.{SpellsSyntax};
-ghost use Rattle.ygrammar.specs.Elaborated.{AreNamed, Elaborates, Fruitful, GivesNamed};
-ghost use Rattle.ygrammar.specs.Elaborated.{IsFirstRefused, IsReady};
-ghost use Rattle.youtline.specs.declared.mistake.Mistake.TheVariants.{Undefined};
+ghost use Rattle.ygrammar.specs.Elaborated.{AreNamed, AreNumbered, Decides, Elaborates, Fruitful};
+ghost use Rattle.ygrammar.specs.Elaborated.{GivesNamed, IsFirstRefused, IsReady};
+ghost use Rattle.youtline.specs.declared.mistake.Mistake.TheVariants.{BadStart, Undefined};
+ghost use Rattle.youtline.specs.Mistakes.{Holds};
 ghost use Rattle.youtline.specs.Elaboration.{symbols as symbols_of_tree, tokens as tokens_of_tree};
 ghost use Rattle.youtline.specs.Elaboration.{tokens_of};
 ghost use Rattle.ysymbols.specs.Marking.{AreIn, numbered_grammar};
@@ -199,6 +200,44 @@ impl Named {
     }
 }
 
+/// Refuses rules of a file where a mistake stands that comes behind `BadStart`.
+fn refuse_rules(
+    alloc: Global,
+    outline: &Outline,
+    named: &Named,
+    rules: &[Rule],
+) -> Result<(), Refused>
+    requires within { named.now.tokens ≤ length (texts named.now.names) }
+    requires in_range { AreIn (length (texts named.now.names)) rules.now }
+    ensures { (t : TreeOf) → Outlines outline.now t → AreNamed t named.now →
+        AreNumbered t rules.now → (Holds t BadStart → ⊥) → Decides t result }
+{
+    let symbols = named.names.len();
+    refuse_unproductive(alloc, outline, &named.names, rules, named.tokens, symbols)?;
+    refuse_prec(outline, &named.names, named.tokens)?;
+    refuse_limit(&named.names, rules)
+}
+
+/// The rules of a tree by number, or its first mistake.
+fn sound_rules(
+    alloc: Global,
+    tree: &Tree,
+    outline: &Outline,
+    named: &Named,
+) -> Result<Vec<Rule>, Refused>
+    requires shaped { IsTree (tree_view tree.now) }
+    requires counted { inner_after 1 (tree_view tree.now).rule_texts < 2 ^ 64 }
+    requires outline { Outlines outline.now (tree_view tree.now) }
+    requires named { AreNamed (tree_view tree.now) named.now }
+    ensures numbered { IfOk result (λ v. AreNumbered (tree_view tree.now) v.items) }
+    ensures decides { Decides (tree_view tree.now) result }
+{
+    refuse_start(outline, &named.names, named.tokens)?;
+    let rules = number_rules(alloc, &named.names, &named.given, outline, &tree.rule_texts)?;
+    refuse_rules(alloc, outline, named, &rules)?;
+    Ok(rules)
+}
+
 /// What the tree of a source means: the grammar, or the first mistake.
 pub fn elaborate(alloc: Global, source: &[u8], tree: &Tree) -> Result<Grammar, Refused>
     requires spelled { (bytes : List ℕ) × SpellsSyntax bytes (yield (tree_view tree.now)) }
@@ -209,18 +248,7 @@ pub fn elaborate(alloc: Global, source: &[u8], tree: &Tree) -> Result<Grammar, R
 {
     let outline = Outline::new(alloc, tree)?;
     let named = name_symbols(alloc, tree, &outline)?;
-    refuse_start(&outline, &named.names, named.tokens)?;
-    let rules = number_rules(
-        alloc,
-        &named.names,
-        &named.given,
-        &outline,
-        &tree.rule_texts,
-    )?;
-    let symbols = named.names.len();
-    refuse_unproductive(alloc, &outline, &named.names, &rules, named.tokens, symbols)?;
-    refuse_prec(&outline, &named.names, named.tokens)?;
-    refuse_limit(&named.names, &rules)?;
+    let rules = sound_rules(alloc, tree, &outline, &named)?;
     let texts = kept_texts(alloc, source, tree)?;
     Ok(Named::grammar_of(alloc, named, rules, texts)?)
 }
