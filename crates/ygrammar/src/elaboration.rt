@@ -188,14 +188,14 @@ impl Named {
         ensures { IfOk result (λ g. (t : TreeOf) → IsReady t named rules.items texts.texts →
             IsMeaning t g) }
     {
+        let numbers = numbers(alloc, &named.own.numbers, &named.own.holders)?;
+        let reachable = reachable(alloc, &rules, named.names.len())?;
         let Named {
             names,
             tokens,
             given,
-            own,
+            own: _,
         } = named;
-        let numbers = numbers(alloc, &own.numbers, &own.holders)?;
-        let reachable = reachable(alloc, &rules, names.len())?;
         Ok(Grammar::of(names, tokens, numbers, given, rules, texts, reachable))
     }
 }
