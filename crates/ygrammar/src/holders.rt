@@ -150,6 +150,22 @@ fn first_at_fault(listed: &[Listed], fault: Option<usize>, holders: &[Holders]) 
     0
 }
 
+/// The place of the first number at fault, as `first_at_fault` tells it. It fails only when memory
+/// runs out.
+fn place_at_fault(
+    alloc: Global,
+    tokens: &SymbolTable,
+    outline: &Outline,
+    own: &[Option<u32>],
+    fault: Option<usize>,
+) -> Result<usize, AllocError>
+    requires { AllSmall own.now }
+{
+    let mut holders = own_holders(alloc, own, NUMBERS)?;
+    hold_given(&mut holders, tokens, &outline.listed);
+    Ok(first_at_fault(&outline.listed, fault, &holders))
+}
+
 /// The numbers that tokens have by themselves, and who holds each number.
 pub struct OwnTable {
     /// For each token, the number that it has by itself.
@@ -159,6 +175,18 @@ pub struct OwnTable {
 }
 
 impl OwnTable {
+    /// These numbers of the tokens, with the holders of each. It fails only when memory runs out.
+    fn of(alloc: Global, numbers: Vec<Option<u32>>) -> Result<OwnTable, AllocError>
+        requires { AllSmall numbers.items }
+        ensures numbers { IfOk result (λ o. o.numbers.items ≡ numbers.items) }
+        ensures few { IfOk result (λ o. length o.holders.items ≤ number_bound) }
+        ensures holders { IfOk result (λ o. AreHolders (length o.holders.items) numbers.items
+            o.holders.items) }
+    {
+        let holders = own_holders(alloc, &numbers, bound_of(&numbers))?;
+        Ok(OwnTable { numbers, holders })
+    }
+
     /// A table of no tokens.
     pub fn new(alloc: Global) -> OwnTable
         ensures numbers { result.numbers.items ≡ [] }
@@ -195,14 +223,12 @@ pub fn own_table(
     let given = given_numbers(alloc, tokens, &outline.listed)?;
     let fault = given.fault;
     let numbers = own_numbers(tokens, given.first, &outline.declared, &outline.used);
-    let holders = own_holders(alloc, &numbers, bound_of(&numbers))?;
-    if fault.is_none() && !has_shared(&holders) {
-        return Ok(OwnTable { numbers, holders });
+    let table = OwnTable::of(alloc, numbers)?;
+    if fault.is_none() && !has_shared(&table.holders) {
+        return Ok(table);
     }
-    let mut holders = own_holders(alloc, &numbers, NUMBERS)?;
-    hold_given(&mut holders, tokens, &outline.listed);
     Err(Refused::Mistake {
         what: Mistake::BadNumber,
-        at: first_at_fault(&outline.listed, fault, &holders),
+        at: place_at_fault(alloc, tokens, outline, &table.numbers, fault)?,
     })
 }
