@@ -7,7 +7,7 @@ ghost use Rattle.ysymbols.specs.Grammar.{number_bound};
 ghost use Rattle.ysymbols.specs.NameTexts.{texts};
 ghost use Rattle.ygrammar.specs.Numbers.{AreHolders, IsOwn, is_held, with_holder};
 ghost use Rattle.youtline.specs.Outline.{Outlines};
-ghost use Rattle.ygrammar.specs.OwnTable.{Owns};
+ghost use Rattle.ygrammar.specs.OwnTable.{IsFaulty, Owns};
 ghost use Rattle.youtline.specs.Owned.{AllSmall};
 ghost use Rattle.ysyntax.specs.Tree.{Tree as TreeOf};
 ghost use Rattle.ygrammar.specs.declared.holders.Holders.TheVariants.{Nobody, Several};
@@ -150,22 +150,6 @@ fn first_at_fault(listed: &[Listed], fault: Option<usize>, holders: &[Holders]) 
     0
 }
 
-/// The place of the first number at fault, as `first_at_fault` tells it. It fails only when memory
-/// runs out.
-fn place_at_fault(
-    alloc: Global,
-    tokens: &SymbolTable,
-    outline: &Outline,
-    own: &[Option<u32>],
-    fault: Option<usize>,
-) -> Result<usize, AllocError>
-    requires { AllSmall own.now }
-{
-    let mut holders = own_holders(alloc, own, NUMBERS)?;
-    hold_given(&mut holders, tokens, &outline.listed);
-    Ok(first_at_fault(&outline.listed, fault, &holders))
-}
-
 /// The numbers that tokens have by themselves, and who holds each number.
 pub struct OwnTable {
     /// For each token, the number that it has by itself.
@@ -209,6 +193,26 @@ impl Drop for OwnTable {
     }
 }
 
+/// The place of the first number at fault, as `first_at_fault` tells it; `None` where no listing is
+/// at fault and no two tokens hold one number. It fails only when memory runs out.
+fn place_at_fault(
+    alloc: Global,
+    tokens: &SymbolTable,
+    outline: &Outline,
+    table: &OwnTable,
+    fault: Option<usize>,
+) -> Result<Option<usize>, AllocError>
+    requires { AllSmall table.now.numbers.items }
+    ensures { IfOk result (λ at. IsFaulty table.now fault at) }
+{
+    if fault.is_none() && !has_shared(&table.holders) {
+        return Ok(None);
+    }
+    let mut holders = own_holders(alloc, &table.numbers, NUMBERS)?;
+    hold_given(&mut holders, tokens, &outline.listed);
+    Ok(Some(first_at_fault(&outline.listed, fault, &holders)))
+}
+
 /// The numbers that the tokens have by themselves. The mistake in them is the first number that is
 /// out of range, a second one for its token, or also held by another token; memory may run out
 /// too.
@@ -224,11 +228,11 @@ pub fn own_table(
     let fault = given.fault;
     let numbers = own_numbers(tokens, given.first, &outline.declared, &outline.used);
     let table = OwnTable::of(alloc, numbers)?;
-    if fault.is_none() && !has_shared(&table.holders) {
-        return Ok(table);
+    match place_at_fault(alloc, tokens, outline, &table, fault)? {
+        None => Ok(table),
+        Some(at) => Err(Refused::Mistake {
+            what: Mistake::BadNumber,
+            at,
+        }),
     }
-    Err(Refused::Mistake {
-        what: Mistake::BadNumber,
-        at: place_at_fault(alloc, tokens, outline, &table.numbers, fault)?,
-    })
 }
