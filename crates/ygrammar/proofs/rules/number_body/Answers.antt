@@ -1,7 +1,5 @@
 use Rattle.std.proofs.Common.{List, ℕ}
-use Rattle.youtline.specs.Elaboration.{body_from}
 use Rattle.ysyntax.specs.declared.tree.BodyPart.{BodyPart}
-use Rattle.ysyntax.specs.TreeViews.{body_part_view}
 use Rattle.ysymbols.specs.NameTexts.{texts}
 use Rattle.ysymbols.specs.Names.{number_in}
 use Rattle.ygrammar.specs.Numbered.{inner_numbers}
