@@ -117,5 +117,10 @@ pub fn bad_start(starts: &[Started], symbols: &SymbolTable, tokens: usize) -> Op
 pub fn any_long(rules: &[Rule]) -> bool
     ensures { result ≡ list_any is_long rules.now }
 {
-    rules.iter().any(|rule| rule.body().len() > LONGEST_BODY)
+    for rule in rules {
+        if rule.body().len() > LONGEST_BODY {
+            return true;
+        }
+    }
+    false
 }

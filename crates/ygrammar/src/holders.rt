@@ -13,7 +13,7 @@ ghost use Rattle.ysyntax.specs.Tree.{Tree as TreeOf};
 ghost use Rattle.ygrammar.specs.declared.holders.Holders.TheVariants.{Nobody, Several};
 
 use std::alloc::{AllocError, Global};
-use youtline::given::{fit_number, given_numbers, own_numbers};
+use youtline::given::{GivenNumbers, fit_number, given_numbers, own_numbers};
 use youtline::identifiers::number_of;
 use youtline::mistake::{Mistake, Refused};
 use youtline::outline::{Listed, Outline};
@@ -224,9 +224,8 @@ pub fn own_table(
     ensures { (t : TreeOf) → Outlines outline.now t → texts tokens.now ≡ tokens_of_tree t →
         Owns t result }
 {
-    let given = given_numbers(alloc, tokens, &outline.listed)?;
-    let fault = given.fault;
-    let numbers = own_numbers(tokens, given.first, &outline.declared, &outline.used);
+    let GivenNumbers { first, fault } = given_numbers(alloc, tokens, &outline.listed)?;
+    let numbers = own_numbers(tokens, first, &outline.declared, &outline.used);
     let table = OwnTable::of(alloc, numbers)?;
     match place_at_fault(alloc, tokens, outline, &table, fault)? {
         None => Ok(table),

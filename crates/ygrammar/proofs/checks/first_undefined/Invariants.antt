@@ -7,5 +7,7 @@ use Rattle.ysyntax.specs.TreeViews.{occurrence_view}
 use Rattle.ygrammar.proofs.checks.first_undefined.Given as goal
 
 abbrev pub invariant-loop-one : goal.invariant-loop-one
-invariant-loop-one l = find (λ m. not (is_among (texts l.symbols) (printed_name (occurrence_view m))))
-    (drop l.one-index l.occurrences) ≡ find (λ m. not (is_among (texts l.symbols) (printed_name (occurrence_view m)))) l.occurrences
+invariant-loop-one l = find
+    (λ m. not (is_among (texts l.symbols) (printed_name (occurrence_view m))))
+    (drop l.one-index l.occurrences) ≡ find
+    (λ m. not (is_among (texts l.symbols) (printed_name (occurrence_view m)))) l.occurrences

@@ -23,17 +23,17 @@ use Rattle.ygrammar.proofs.holders.own_table.Goals as goal
 -- what was given
 given : (c : In_ok-table) (t : Tree) → Outlines c.args.outline.now t
     → texts c.args.tokens.now ≡ tokens t
-    → TellsNumbers (tokens t) [] (listings t) c.in_ok-given.given.first.items
-    c.in_ok-given.given.fault
+    → TellsNumbers (tokens t) [] (listings t) c.in_ok-first.field-0.first.items
+    c.in_ok-first.field-0.fault
 given c t o e = told_here t _ _ _ _ e
     (ap (λ (xs : List Listed). map listed_view xs) c.deref.ensures.value ∙ o.listed)
-    c.in_ok-given.ensures.told
+    c.in_ok-first.ensures.told
 
 -- what was given, each token one in range or none, and the numbers from it
 owned : (c : In_ok-table) (t : Tree) → Outlines c.args.outline.now t
-    → texts c.args.tokens.now ≡ tokens t → is_some c.in_ok-given.given.fault ≡ false
-    → (IsTold digits_number (tokens t) (listings t) c.in_ok-given.given.first.items
-    × AllFit c.in_ok-given.given.first.items)
+    → texts c.args.tokens.now ≡ tokens t → is_some c.in_ok-first.field-0.fault ≡ false
+    → (IsTold digits_number (tokens t) (listings t) c.in_ok-first.field-0.first.items
+    × AllFit c.in_ok-first.field-0.first.items)
     × (c.own_numbers-numbers.result.items ≡ own_numbers t)
 owned c t o e f =
     let seen : List Occurrence → List Identifier = map occurrence_view in
@@ -49,15 +49,15 @@ owned c t o e f =
 shared : (c : In_ok-table) (t : Tree) → Outlines c.args.outline.now t
     → texts c.args.tokens.now ≡ tokens t → (m : ℕ)
     → get_or c.in_ok-table.table.holders.items m Nobody ≡ Several → (b : Bool)
-    → is_some c.in_ok-given.given.fault ≡ b → Holds t BadNumber
+    → is_some c.in_ok-first.field-0.fault ≡ b → Holds t BadNumber
 shared c t o e m s true f = bad_given t _ _ f (given c t o e)
 shared c t o e m s false f = inr (inr (subst Clashes (owned c t o e f).1
     (clash_held _ _ m s (c.in_ok-table.ensures.holders.exact m))))
 
 pub returns-in-None : goal.returns-in-None
 returns-in-None c = λ t o e.
-    let q : IsFaulty c.in_ok-table.table c.in_ok-given.given.fault None =
-    subst (λ (at : Option ℕ). IsFaulty c.in_ok-table.table c.in_ok-given.given.fault at)
+    let q : IsFaulty c.in_ok-table.table c.in_ok-first.field-0.fault None =
+    subst (λ (at : Option ℕ). IsFaulty c.in_ok-table.table c.in_ok-first.field-0.fault at)
     c.in-None.is c.in_ok-place_at_fault.ensures in
     let (told, n) = owned (goal.at.returns-in-None c).In_ok-table t o e q.0 in
     let hs = c.in_ok-table.table.holders.items in
@@ -74,8 +74,8 @@ returns-in-None c = λ t o e.
 pub returns-in-Some : goal.returns-in-Some
 returns-in-Some c = λ t o e.
     let here = (goal.at.returns-in-Some c).In_ok-table in
-    let q : IsFaulty c.in_ok-table.table c.in_ok-given.given.fault (Some c.in-Some.at) =
-    subst (λ (at : Option ℕ). IsFaulty c.in_ok-table.table c.in_ok-given.given.fault at)
+    let q : IsFaulty c.in_ok-table.table c.in_ok-first.field-0.fault (Some c.in-Some.at) =
+    subst (λ (at : Option ℕ). IsFaulty c.in_ok-table.table c.in_ok-first.field-0.fault at)
     c.in-Some.is c.in_ok-place_at_fault.ensures in (
       refl,
       elim q [
