@@ -1,13 +1,18 @@
 -- Which mistake is the first.
 use Rattle.std.proofs.Common.{ℕ, suc, ◌≡◌, ◌++◌, ◌∷◌, [], inl, inr, refl, sym, subst, List, take}
-use Rattle.std.proofs.Common.{drop, Result, Err, Ok, IsErrAnd}
+use Rattle.std.proofs.Common.{drop, Result, Err, Ok, IsErrAnd, length, ◌≤◌, ◌<◌}
+use Rattle.ygrammar.specs.declared.elaboration.Named.{Named}
 use Rattle.youtline.specs.declared.mistake.Mistake.{Mistake}
 use Rattle.youtline.specs.declared.mistake.Refused.{Refused}
 use Rattle.youtline.specs.declared.mistake.Refused.TheVariants as refused
-use Rattle.ygrammar.specs.Elaborated.{IsFirstRefused}
+use Rattle.youtline.specs.declared.mistake.Mistake.TheVariants.{BadStart, Limit, Unproductive}
+use Rattle.youtline.specs.Elaboration.{bare_of, symbols, tokens}
+use Rattle.ysymbols.specs.Forms.{Productive}
+use Rattle.ygrammar.specs.Elaborated.{AreNamed, Decides, IsFirstRefused}
 use Rattle.youtline.specs.Mistakes.{HasNone, Holds, IsFirst, order}
-use Rattle.youtline.specs.Owned.{Refuses}
+use Rattle.youtline.specs.Owned.{Clears, Refuses}
 use Rattle.ysyntax.specs.Tree.{Tree}
+use Rattle.ygrammar.proofs.MeaningSteps.{none_barren}
 
 -- one more mistake that does not hold
 pub more : (t : Tree) (fs : List Mistake) (m : Mistake) → HasNone t fs → (Holds t m → ⊥) →
@@ -37,3 +42,27 @@ pub refuses : {A : Type 0} (P : Result A Refused → Type 0) (t : Tree) (k : ℕ
 refuses P t k m e (Ok v) p o h n f = absurd h
 refuses P t k m e (Err y) p o h n f =
     p y (subst (λ (x : Refused). IsFirstRefused t x) (sym h) (first t k m e o n f))
+
+-- a result that passes on what decides
+pub passes : {A : Type 0} (t : Tree) (e : Refused) (r : Result A Refused) →
+    IsErrAnd r (λ y. y ≡ e) → IsFirstRefused t e → Decides t r
+passes t e (Ok v) p f = absurd p
+passes t e (Err y) p f = subst (λ (x : Refused). IsFirstRefused t x) (sym p) f
+
+-- where no mistake holds that comes before the last, that decides
+pub decides : (t : Tree) (r : Result (Unit {0}) Refused) → HasNone t (take 7 order) →
+    ((s : ℕ) → length (tokens t) ≤ s → s < length (symbols t) → Productive (bare_of t) s) →
+    Clears t Limit r → Decides t r
+decides t (Ok v) n p h = record { none = more t (take 7 order) Limit n h; productive = p }
+decides t (Err e) n p h = first t 7 Limit e refl n h
+
+-- none of the first mistakes holds
+pub clear_5 : (t : Tree) (n : Named) → AreNamed t n → (Holds t BadStart → ⊥) →
+    HasNone t (take 5 order)
+clear_5 t n a b =
+    (a.no_token_left, (a.all_defined, (a.once, (a.own.sound, (b, tt)))))
+
+pub clear_6 : (t : Tree) → HasNone t (take 5 order) →
+    ((s : ℕ) → length (tokens t) ≤ s → s < length (symbols t) → Productive (bare_of t) s) →
+    HasNone t (take 6 order)
+clear_6 t five p = more t (take 5 order) Unproductive five (none_barren t p)

@@ -2,14 +2,16 @@
 use Rattle.std.proofs.Common.{ℕ, suc, ◌≡◌, ◌<◌, ◌≤◌, ◌+◌, List, [], ◌∷◌, ◌++◌, length, Option, sym}
 use Rattle.std.proofs.Common.{Some, None, ◌∙◌, ap, map, arith, drop, get_or, refl, length-append}
 use Rattle.std.specs.List.{flat_map}
-use Rattle.std.proofs.lemmas.List.{drop_more, length-map}
+use Rattle.std.proofs.lemmas.List.{append_assoc, drop_more, length-map, map-append}
 use Rattle.ylexemes.specs.declared.kind.Sign.TheVariants.{Mark}
 use Rattle.ysyntax.specs.declared.tree.BodyPart.{BodyPart as CodeBodyPart}
 use Rattle.ysyntax.specs.declared.tree.BodyPart.TheVariants as items
 use Rattle.ysyntax.specs.declared.tree.BracedText.{BracedText}
 use Rattle.ysyntax.specs.declared.tree.RuleText.{RuleText as CodeRuleText}
 use Rattle.ysyntax.specs.TreeViews.{body_part_view, rule_text_view}
-use Rattle.youtline.specs.Elaboration.{body_from, final_of, split_last}
+use Rattle.youtline.specs.Elaboration.{Body, Rule, body_from, final_of, split_last}
+use Rattle.ysymbols.specs.Grammar.{RuleValue}
+use Rattle.ysymbols.specs.Names.{Name}
 use Rattle.ylexemes.specs.Lexemes.{Lexeme, fixed}
 use Rattle.ygrammar.specs.Numbered.{inner_after}
 use Rattle.ysyntax.specs.Tree.{RuleText, BodyPart, symbol, action, Tree, rule_text_yield}
@@ -43,6 +45,93 @@ action_room xs i k m n t d e h w l =
     sym (ap (λ (ys : List CodeBodyPart). (body_from k (map body_part_view ys)).next) a) ∙ w in
     let f : suc k ≤ (body_from (suc k) rest).next = body_later (suc k) rest in
     omega (arith, b)
+
+-- ---- one part of a body on
+
+step_inner : (k : ℕ) (x : BodyPart) (xs : List BodyPart) → (body_from k (x ∷ xs)).inner
+    ≡ (body_from k (x ∷ [])).inner ++ (body_from (body_from k (x ∷ [])).next xs).inner
+step_inner k (symbol i) xs = refl
+step_inner k (action t) xs = refl
+
+step_symbols : (k : ℕ) (x : BodyPart) (xs : List BodyPart) → (body_from k (x ∷ xs)).symbols
+    ≡ (body_from k (x ∷ [])).symbols ++ (body_from (body_from k (x ∷ [])).next xs).symbols
+step_symbols k (symbol i) xs = refl
+step_symbols k (action t) xs = refl
+
+step_next : (k : ℕ) (x : BodyPart) (xs : List BodyPart) → (body_from k (x ∷ xs)).next
+    ≡ (body_from (body_from k (x ∷ [])).next xs).next
+step_next k (symbol i) xs = refl
+step_next k (action t) xs = refl
+
+-- a part of a body, as the code reads it
+part_read : (cs : List CodeBodyPart) (i : ℕ) (d : CodeBodyPart) → i < length cs →
+    map body_part_view (drop i cs)
+    ≡ body_part_view (get_or cs i d) ∷ map body_part_view (drop (i + 1) cs)
+part_read cs i d h = ap (λ (ys : List CodeBodyPart). map body_part_view ys) (drop_more cs i d h)
+
+-- what a part adds, and what is left to be added behind it
+pushed : {A B : Type 0} (f : A → B) (adds : Body → List A) → ((k : ℕ) (x : BodyPart)
+    (xs : List BodyPart) → adds (body_from k (x ∷ xs)) ≡ adds (body_from k (x ∷ []))
+    ++ adds (body_from (body_from k (x ∷ [])).next xs)) → (cs : List CodeBodyPart) (i k n : ℕ)
+    (d : CodeBodyPart) (old new all : List B) → i < length cs →
+    n ≡ (body_from k (body_part_view (get_or cs i d) ∷ [])).next →
+    new ≡ old ++ map f (adds (body_from k (body_part_view (get_or cs i d) ∷ []))) →
+    old ++ map f (adds (body_from k (map body_part_view (drop i cs)))) ≡ all →
+    new ++ map f (adds (body_from n (map body_part_view (drop (i + 1) cs)))) ≡ all
+pushed {A = A} {B = B} f adds step cs i k n d old new all h e g w =
+    let x : BodyPart = body_part_view (get_or cs i d) in
+    let rest : List BodyPart = map body_part_view (drop (i + 1) cs) in
+    let here : List A = adds (body_from k (x ∷ [])) in
+    let left : List A = adds (body_from n rest) in
+    let all_of : here ++ left ≡ adds (body_from k (map body_part_view (drop i cs))) =
+    ap (λ m. here ++ adds (body_from m rest)) e
+    ∙ sym (step k x rest)
+    ∙ ap (λ (ys : List BodyPart). adds (body_from k ys)) (sym (part_read cs i d h)) in
+    ap (λ (ys : List B). ys ++ map f left) g
+    ∙ append_assoc old (map f here) (map f left)
+    ∙ ap (λ (ys : List B). old ++ ys)
+    (sym (map-append f here left) ∙ ap (λ (ys : List A). map f ys) all_of)
+    ∙ w
+
+pub inner_pushed : (f : Rule → RuleValue) (cs : List CodeBodyPart) (i k n : ℕ) (d : CodeBodyPart)
+    (old new all : List RuleValue) → i < length cs →
+    n ≡ (body_from k (body_part_view (get_or cs i d) ∷ [])).next →
+    new ≡ old ++ map f (body_from k (body_part_view (get_or cs i d) ∷ [])).inner →
+    old ++ map f (body_from k (map body_part_view (drop i cs))).inner ≡ all →
+    new ++ map f (body_from n (map body_part_view (drop (i + 1) cs))).inner ≡ all
+inner_pushed f = pushed f (λ (b : Body). b.inner) step_inner
+
+pub symbols_pushed : (f : Name → ℕ) (cs : List CodeBodyPart) (i k n : ℕ) (d : CodeBodyPart)
+    (old new all : List ℕ) → i < length cs →
+    n ≡ (body_from k (body_part_view (get_or cs i d) ∷ [])).next →
+    new ≡ old ++ map f (body_from k (body_part_view (get_or cs i d) ∷ [])).symbols →
+    old ++ map f (body_from k (map body_part_view (drop i cs))).symbols ≡ all →
+    new ++ map f (body_from n (map body_part_view (drop (i + 1) cs))).symbols ≡ all
+symbols_pushed f = pushed f (λ (b : Body). b.symbols) step_symbols
+
+pub next_pushed : (cs : List CodeBodyPart) (i k n m : ℕ) (d : CodeBodyPart) → i < length cs →
+    n ≡ (body_from k (body_part_view (get_or cs i d) ∷ [])).next →
+    (body_from k (map body_part_view (drop i cs))).next ≡ m →
+    (body_from n (map body_part_view (drop (i + 1) cs))).next ≡ m
+next_pushed cs i k n m d h e w =
+    let rest : List BodyPart = map body_part_view (drop (i + 1) cs) in
+    ap (λ j. (body_from j rest).next) e
+    ∙ sym (step_next k (body_part_view (get_or cs i d)) rest)
+    ∙ ap (λ (ys : List BodyPart). (body_from k ys).next) (sym (part_read cs i d h))
+    ∙ w
+
+-- the number behind a part is no more than that behind the body
+pub part_room : (cs : List CodeBodyPart) (i k m n : ℕ) (d : CodeBodyPart) → i < length cs →
+    (body_from k (map body_part_view (drop i cs))).next ≡ m → m < n →
+    (body_from k (body_part_view (get_or cs i d) ∷ [])).next < n
+part_room cs i k m n d h w l =
+    let next = (body_from k (body_part_view (get_or cs i d) ∷ [])).next in
+    let rest : List BodyPart = map body_part_view (drop (i + 1) cs) in
+    let a : (body_from next rest).next ≡ m = next_pushed cs i k next m d h refl w in
+    let b : next ≤ (body_from next rest).next = body_later next rest in
+    omega (arith, a)
+
+-- ---- rules of the file
 
 -- a rule of the file, as the code reads it
 pub rule_text_read : (cs : List CodeRuleText) (i : ℕ) (x : CodeRuleText) → x ≡ get_or cs i x →

@@ -13,19 +13,25 @@ filter_same p q h [] = refl
 filter_same p q h (n ∷ ns) = ap (λ b. cond b (n ∷ filter p ns) (filter p ns)) (h n) ∙ ap
     (λ xs. cond (q n) (n ∷ xs) xs) (filter_same p q h ns)
 
--- both halves of the names and literals are with_name
-pub tokens_noted : (all first found one two : List Name) (d u : List Identifier) →
-    found ≡ with_names [] all → one ≡ with_names first (filter (is_among found) (map printed_name
-    d)) →
+-- both halves of the names and literals are noted
+pub both_noted : (first found one two : List Name) (d u : List Identifier) →
+    one ≡ with_names first (filter (is_among found) (map printed_name d)) →
     two ≡ with_names one (filter (is_among found) (map printed_name u)) → two ≡ with_names first
-    (filter (is_among all) (map printed_name (d ++ u)))
-tokens_noted all first found one two d u e f g =
+    (filter (is_among found) (map printed_name (d ++ u)))
+both_noted first found one two d u f g =
     g
     ∙ ap (λ ns. with_names ns (filter (is_among found) (map printed_name u))) f
     ∙ sym (all_append first (filter (is_among found) (map printed_name d))
     (filter (is_among found) (map printed_name u)))
     ∙ ap (with_names first) (sym (filter-append (is_among found) (map printed_name d) (map
     printed_name u)) ∙
-    ap (filter (is_among found)) (sym (map-append printed_name d u)) ∙ filter_same (is_among found)
-    (is_among all) (λ n. ap (λ ns. is_among ns n) e ∙ among_all [] all n)
-    (map printed_name (d ++ u)))
+    ap (filter (is_among found)) (sym (map-append printed_name d u)))
+
+-- what is among the names that were found is among all of them
+pub tokens_noted : (all first found two : List Name) (is : List Identifier) →
+    found ≡ with_names [] all →
+    two ≡ with_names first (filter (is_among found) (map printed_name is)) → two ≡ with_names first
+    (filter (is_among all) (map printed_name is))
+tokens_noted all first found two is e f = f ∙ ap (with_names first)
+    (filter_same (is_among found) (is_among all)
+    (λ n. ap (λ ns. is_among ns n) e ∙ among_all [] all n) (map printed_name is))

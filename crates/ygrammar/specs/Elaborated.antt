@@ -50,6 +50,21 @@ Fruitful g (Err (refused.Mistake what at)) = (what ≡ Unproductive)
     × ((s : ℕ) × (g.tokens ≤ s) × (s < g.symbols) × (Productive g s → ⊥))
 Fruitful g (Err refused.Memory) = Unit {0}
 
+-- the rules of the tree by number
+abbrev pub AreNumbered : Tree → List RuleValue → Type 0
+AreNumbered t vs = vs ≡ map (rule_numbers (symbols t) (token_precedences t)) (rules t)
+
+-- No mistake stands in the tree, and each nonterminal derives a list of tokens.
+pub record IsSound (t : Tree) : Type 0 where
+  pub none : HasNone t order
+  pub productive : (s : ℕ) → length (tokens t) ≤ s → s < length (symbols t) →
+      Productive (bare_of t) s
+
+-- the tree is sound, or this is its first mistake, or no memory
+abbrev pub Decides : {A : Type 0} → Tree → Result A Refused → Type 0
+Decides t (Ok v) = IsSound t
+Decides t (Err e) = IsFirstRefused t e
+
 -- The rules are numbered and have their texts, and no mistake stands in the tree.
 pub record IsReady (t : Tree) (n : Named) (vs : List RuleValue) (ts : List (Option (List ℕ))) :
     Type 0 where

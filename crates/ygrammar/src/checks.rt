@@ -25,10 +25,12 @@ pub fn first_token(names: &[NameAt], tokens: &SymbolTable) -> Option<usize>
         ≡ option_view (λ n. n.at) (find (λ n. is_among (texts tokens.now) (name_view n))
         names.now) }
 {
-    names
-        .iter()
-        .find(|name| is_among(tokens, name.name))
-        .map(|name| name.at)
+    for name in names {
+        if is_among(tokens, name.name) {
+            return Some(name.at);
+        }
+    }
+    None
 }
 
 /// The place of the first of these names that is not a symbol.
@@ -37,10 +39,12 @@ pub fn first_unknown(names: &[NameAt], symbols: &SymbolTable) -> Option<usize>
         ≡ option_view (λ n. n.at) (find (λ n. not (is_among (texts symbols.now) (name_view n)))
         names.now) }
 {
-    names
-        .iter()
-        .find(|name| !is_among(symbols, name.name))
-        .map(|name| name.at)
+    for name in names {
+        if !is_among(symbols, name.name) {
+            return Some(name.at);
+        }
+    }
+    None
 }
 
 /// The place of the first of these names and literals that is not a symbol.
@@ -50,10 +54,12 @@ pub fn first_undefined(occurrences: &[Occurrence], symbols: &SymbolTable) -> Opt
         (find (λ m. not (is_among (texts symbols.now) (printed_name (occurrence_view m))))
         occurrences.now) }
 {
-    occurrences
-        .iter()
-        .find(|one| !is_named(symbols, one.who))
-        .map(|one| one.at)
+    for one in occurrences {
+        if !is_named(symbols, one.who) {
+            return Some(one.at);
+        }
+    }
+    None
 }
 
 /// Whether a name or literal is a symbol, and not one of the first `tokens`.
@@ -77,10 +83,12 @@ pub fn first_nonterminal(
         (find (λ m. is_between tokens (length (texts symbols.now))
         (number_in (texts symbols.now) (printed_name (occurrence_view m)))) occurrences.now) }
 {
-    occurrences
-        .iter()
-        .find(|one| is_nonterminal(one.who, symbols, tokens))
-        .map(|one| one.at)
+    for one in occurrences {
+        if is_nonterminal(one.who, symbols, tokens) {
+            return Some(one.at);
+        }
+    }
+    None
 }
 
 /// The place of the last `%start`, where `%start` stands twice or names no nonterminal.
@@ -109,5 +117,10 @@ pub fn bad_start(starts: &[Started], symbols: &SymbolTable, tokens: usize) -> Op
 pub fn any_long(rules: &[Rule]) -> bool
     ensures { result ≡ list_any is_long rules.now }
 {
-    rules.iter().any(|rule| rule.body().len() > LONGEST_BODY)
+    for rule in rules {
+        if rule.body().len() > LONGEST_BODY {
+            return true;
+        }
+    }
+    false
 }

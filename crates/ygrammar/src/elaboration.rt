@@ -1,10 +1,15 @@
 //! What a syntax tree means: the grammar, or the first mistake.
 
-ghost use Rattle.std.specs.Prelude.{◌≡◌, ◌<◌, ◌≤◌, ◌^◌, ℕ, true, IfOk, List, map, not};
-ghost use Rattle.std.specs.Prelude.{slice_index_or, unwrap_or};
+ghost use Rattle.std.specs.Prelude.{◌≡◌, ◌<◌, ◌≤◌, ◌^◌, ◌++◌, ℕ, true, List, length, map, not};
+ghost use Rattle.std.specs.Prelude.{IfErr, IfOk, OnOk, slice_index_or, unwrap_or};
 ghost use Rattle.std.specs.List.{find, AllByRecursion};
 ghost use Rattle.ysyntax.specs.Lexer.{SpellsSyntax};
-ghost use Rattle.ygrammar.specs.Elaborated.{Elaborates, Fruitful, GivesNamed, IsReady};
+ghost use Rattle.ygrammar.specs.Elaborated.{AreNamed, AreNumbered, Decides, Elaborates, Fruitful};
+ghost use Rattle.ygrammar.specs.Elaborated.{GivesNamed, IsFirstRefused, IsReady};
+ghost use Rattle.youtline.specs.declared.mistake.Mistake.TheVariants.{BadStart, Undefined};
+ghost use Rattle.youtline.specs.Mistakes.{Holds};
+ghost use Rattle.youtline.specs.Elaboration.{symbols as symbols_of_tree, tokens as tokens_of_tree};
+ghost use Rattle.youtline.specs.Elaboration.{tokens_of};
 ghost use Rattle.ysymbols.specs.Marking.{AreIn, numbered_grammar};
 ghost use Rattle.ygrammar.specs.Meaning.{IsMeaning};
 ghost use Rattle.ysymbols.specs.NameTexts.{texts};
@@ -12,8 +17,9 @@ ghost use Rattle.ysymbols.specs.Names.{number_in};
 ghost use Rattle.ygrammar.specs.Numbered.{inner_after};
 ghost use Rattle.ysyntax.specs.TreeTexts.{RuleTextStands};
 ghost use Rattle.ysyntax.specs.Tree.{IsTree, Tree as TreeOf, yield};
-ghost use Rattle.youtline.specs.Outline.{Outlines};
-ghost use Rattle.ysyntax.specs.TreeViews.{name_view, tree_view};
+ghost use Rattle.youtline.specs.Outline.{Outlines, listed_view};
+ghost use Rattle.youtline.specs.Owned.{Clears};
+ghost use Rattle.ysyntax.specs.TreeViews.{name_view, occurrence_view, tree_view};
 ghost use Rattle.ysymbols.specs.Sources.{option_view};
 
 use crate::holders::{OwnTable, own_table};
@@ -59,6 +65,63 @@ impl Drop for Named {
     }
 }
 
+impl Named {
+    /// The tokens of a file alone, with nothing given to them yet. It fails only when memory runs
+    /// out.
+    fn of_tokens(alloc: Global, outline: &Outline) -> Result<Named, AllocError>
+        ensures names { IfOk result (λ n. texts n.names
+            ≡ tokens_of (map listed_view outline.now.listed.items)
+            (map occurrence_view outline.now.declared.items
+            ++ map occurrence_view outline.now.used.items)) }
+        ensures tokens { IfOk result (λ n. n.tokens ≡ length (texts n.names)) }
+    {
+        let names = tokens(alloc, outline)?;
+        Ok(Named {
+            tokens: names.len(),
+            names,
+            given: Vec::new(alloc),
+            own: OwnTable::new(alloc),
+        })
+    }
+
+    /// Adds the nonterminals and what is given to the tokens. An error is the first mistake in
+    /// them, or memory ran out.
+    fn fill(&mut self, alloc: Global, tree: &Tree, outline: &Outline) -> Result<(), Refused>
+        requires outline { Outlines outline.now (tree_view tree.now) }
+        requires counted { inner_after 1 (tree_view tree.now).rule_texts < 2 ^ 64 }
+        requires names { texts self.old.names ≡ tokens_of_tree (tree_view tree.now) }
+        requires tokens { self.old.tokens ≡ length (tokens_of_tree (tree_view tree.now)) }
+        ensures filled { OnOk result (AreNamed (tree_view tree.now) self.new) }
+        ensures refused { IfErr result (IsFirstRefused (tree_view tree.now)) }
+    {
+        refuse_token_left(outline, &self.names)?;
+        // What is given is a mistake only where every name is defined.
+        let given = precedences(alloc, &self.names, outline);
+        let own = own_table(alloc, &self.names, outline);
+        add_nonterminals(alloc, &mut self.names, tree, outline)?;
+        self.given = given?;
+        self.own = own?;
+        Ok(())
+    }
+}
+
+/// Adds the nonterminals to the tokens. An error is a name that is not defined, or memory ran out.
+fn add_nonterminals(
+    alloc: Global,
+    names: &mut SymbolTable,
+    tree: &Tree,
+    outline: &Outline,
+) -> Result<(), Refused>
+    requires outline { Outlines outline.now (tree_view tree.now) }
+    requires counted { inner_after 1 (tree_view tree.now).rule_texts < 2 ^ 64 }
+    requires tokens { texts names.old ≡ tokens_of_tree (tree_view tree.now) }
+    ensures symbols { OnOk result (texts names.new ≡ symbols_of_tree (tree_view tree.now)) }
+    ensures defined { Clears (tree_view tree.now) Undefined result }
+{
+    intern_nonterminals(alloc, names, &tree.rule_texts)?;
+    refuse_undefined(outline, names)
+}
+
 /// The symbols of a tree, or the first mistake that its names and its tokens' numbers and
 /// precedences can have.
 fn name_symbols(alloc: Global, tree: &Tree, outline: &Outline) -> Result<Named, Refused>
@@ -66,21 +129,9 @@ fn name_symbols(alloc: Global, tree: &Tree, outline: &Outline) -> Result<Named, 
     requires counted { inner_after 1 (tree_view tree.now).rule_texts < 2 ^ 64 }
     ensures { GivesNamed (tree_view tree.now) result }
 {
-    let mut names = tokens(alloc, outline)?;
-    let count = names.len();
-    refuse_token_left(outline, &names)?;
-    let given = precedences(alloc, &names, outline);
-    let own = own_table(alloc, &names, outline);
-    intern_nonterminals(alloc, &mut names, &tree.rule_texts)?;
-    refuse_undefined(outline, &names)?;
-    let given = given?;
-    let own = own?;
-    Ok(Named {
-        names,
-        tokens: count,
-        given,
-        own,
-    })
+    let mut named = Named::of_tokens(alloc, outline)?;
+    named.fill(alloc, tree, outline)?;
+    Ok(named)
 }
 
 /// The place of the first left side that isn't marked: how many bytes stand before it, 0 where all
@@ -137,16 +188,54 @@ impl Named {
         ensures { IfOk result (λ g. (t : TreeOf) → IsReady t named rules.items texts.texts →
             IsMeaning t g) }
     {
+        let numbers = numbers(alloc, &named.own.numbers, &named.own.holders)?;
+        let reachable = reachable(alloc, &rules, named.names.len())?;
         let Named {
             names,
             tokens,
             given,
-            own,
+            own: _,
         } = named;
-        let numbers = numbers(alloc, &own.numbers, &own.holders)?;
-        let reachable = reachable(alloc, &rules, names.len())?;
         Ok(Grammar::of(names, tokens, numbers, given, rules, texts, reachable))
     }
+}
+
+/// Refuses rules of a file where a mistake stands that comes behind `BadStart`.
+fn refuse_rules(
+    alloc: Global,
+    outline: &Outline,
+    named: &Named,
+    rules: &[Rule],
+) -> Result<(), Refused>
+    requires within { named.now.tokens ≤ length (texts named.now.names) }
+    requires in_range { AreIn (length (texts named.now.names)) rules.now }
+    ensures { (t : TreeOf) → Outlines outline.now t → AreNamed t named.now →
+        AreNumbered t rules.now → (Holds t BadStart → ⊥) → Decides t result }
+{
+    let symbols = named.names.len();
+    refuse_unproductive(alloc, outline, &named.names, rules, named.tokens, symbols)?;
+    refuse_prec(outline, &named.names, named.tokens)?;
+    refuse_limit(&named.names, rules)
+}
+
+/// The rules of a tree by number, or its first mistake.
+fn sound_rules(
+    alloc: Global,
+    tree: &Tree,
+    outline: &Outline,
+    named: &Named,
+) -> Result<Vec<Rule>, Refused>
+    requires shaped { IsTree (tree_view tree.now) }
+    requires counted { inner_after 1 (tree_view tree.now).rule_texts < 2 ^ 64 }
+    requires outline { Outlines outline.now (tree_view tree.now) }
+    requires named { AreNamed (tree_view tree.now) named.now }
+    ensures numbered { IfOk result (λ v. AreNumbered (tree_view tree.now) v.items) }
+    ensures decides { Decides (tree_view tree.now) result }
+{
+    refuse_start(outline, &named.names, named.tokens)?;
+    let rules = number_rules(alloc, &named.names, &named.given, outline, &tree.rule_texts)?;
+    refuse_rules(alloc, outline, named, &rules)?;
+    Ok(rules)
 }
 
 /// What the tree of a source means: the grammar, or the first mistake.
@@ -159,18 +248,7 @@ pub fn elaborate(alloc: Global, source: &[u8], tree: &Tree) -> Result<Grammar, R
 {
     let outline = Outline::new(alloc, tree)?;
     let named = name_symbols(alloc, tree, &outline)?;
-    refuse_start(&outline, &named.names, named.tokens)?;
-    let rules = number_rules(
-        alloc,
-        &named.names,
-        &named.given,
-        &outline,
-        &tree.rule_texts,
-    )?;
-    let symbols = named.names.len();
-    refuse_unproductive(alloc, &outline, &named.names, &rules, named.tokens, symbols)?;
-    refuse_prec(&outline, &named.names, named.tokens)?;
-    refuse_limit(&named.names, &rules)?;
+    let rules = sound_rules(alloc, tree, &outline, &named)?;
     let texts = kept_texts(alloc, source, tree)?;
     Ok(Named::grammar_of(alloc, named, rules, texts)?)
 }

@@ -156,6 +156,39 @@ struct NumberedBody {
     next: usize,
 }
 
+impl NumberedBody {
+    /// Adds a part of a body; the rule of an inner action is added to `rules`.
+    fn push(
+        &mut self,
+        alloc: Global,
+        names: &SymbolTable,
+        part: &BodyPart,
+        rules: &mut Vec<Rule>,
+    ) -> Result<(), AllocError>
+        requires { (body_from self.old.next (body_part_view part.now ∷ [])).next < 2 ^ 64 }
+        ensures rules { OnOk result (rules.new.items
+            ≡ rules.old.items
+            ++ map (inner_numbers (texts names.now))
+            (body_from self.old.next (body_part_view part.now ∷ [])).inner) }
+        ensures symbols { OnOk result (self.new.symbols.items
+            ≡ self.old.symbols.items
+            ++ map (number_in (texts names.now))
+            (body_from self.old.next (body_part_view part.now ∷ [])).symbols) }
+        ensures next { OnOk result (self.new.next
+            ≡ (body_from self.old.next (body_part_view part.now ∷ [])).next) }
+    {
+        match part {
+            BodyPart::Symbol(occurrence) => self.symbols.push(number_of(names, occurrence.who))?,
+            BodyPart::Action(_) => {
+                self.symbols
+                    .push(push_inner(alloc, names, self.next, rules)?)?;
+                self.next += 1;
+            }
+        }
+        Ok(())
+    }
+}
+
 /// The symbols of a body; the rules of its inner actions, numbered from `k` on, are added to
 /// `rules`.
 fn number_body(
@@ -174,18 +207,14 @@ fn number_body(
         ≡ map (number_in (texts names.now)) (body_from k (map body_part_view items.now)).symbols) }
     ensures next { IfOk result (λ b. b.next ≡ (body_from k (map body_part_view items.now)).next) }
 {
-    let mut symbols = Vec::new(alloc);
-    let mut next = k;
+    let mut body = NumberedBody {
+        symbols: Vec::new(alloc),
+        next: k,
+    };
     for item in items {
-        match item {
-            BodyPart::Symbol(occurrence) => symbols.push(number_of(names, occurrence.who))?,
-            BodyPart::Action(_) => {
-                symbols.push(push_inner(alloc, names, next, rules)?)?;
-                next += 1;
-            }
-        }
+        body.push(alloc, names, item, rules)?;
     }
-    Ok(NumberedBody { symbols, next })
+    Ok(body)
 }
 
 /// The last token of a body, where the first `tokens` symbols are tokens.

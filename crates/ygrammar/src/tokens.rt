@@ -15,14 +15,26 @@ use youtline::outline::{Listed, Outline};
 use ysymbols::names::{SymbolTable, intern};
 use ysyntax::tree::{Identifier, Occurrence};
 
+fn intern_first(alloc: Global, names: &mut SymbolTable) -> Result<(), AllocError>
+    ensures { OnOk result (texts names.new
+        ≡ with_names (texts names.old) (codes "$end" ∷ codes "error" ∷ [])) }
+{
+    intern(alloc, names, b"$end")?;
+    intern(alloc, names, b"error")
+}
+
 /// The end and `error`, which every grammar has.
 fn first_tokens(alloc: Global) -> Result<SymbolTable, AllocError>
     ensures { IfOk result (λ v. texts v ≡ codes "$end" ∷ codes "error" ∷ []) }
 {
     let mut names = IndexSet::new(alloc);
-    intern(alloc, &mut names, b"$end")?;
-    intern(alloc, &mut names, b"error")?;
-    Ok(names)
+    match intern_first(alloc, &mut names) {
+        Ok(()) => Ok(names),
+        Err(error) => {
+            drop(names);
+            Err(error)
+        }
+    }
 }
 
 fn intern_listed(
@@ -56,6 +68,18 @@ fn intern_literals(
     Ok(())
 }
 
+/// Adds the names that are listed, and the literals.
+fn intern_all(alloc: Global, names: &mut SymbolTable, outline: &Outline) -> Result<(), AllocError>
+    ensures { OnOk result (texts names.new
+        ≡ with_names (texts names.old) (map listed_name (map listed_view outline.now.listed.items)
+        ++ map printed_name (filter is_literal (map occurrence_view outline.now.declared.items
+        ++ map occurrence_view outline.now.used.items)))) }
+{
+    intern_listed(alloc, names, &outline.listed)?;
+    intern_literals(alloc, names, &outline.declared)?;
+    intern_literals(alloc, names, &outline.used)
+}
+
 /// The names of the tokens, in any order.
 fn token_names(alloc: Global, outline: &Outline) -> Result<SymbolTable, AllocError>
     ensures { IfOk result (λ v. texts v
@@ -64,10 +88,13 @@ fn token_names(alloc: Global, outline: &Outline) -> Result<SymbolTable, AllocErr
         ++ map occurrence_view outline.now.used.items))) }
 {
     let mut names = first_tokens(alloc)?;
-    intern_listed(alloc, &mut names, &outline.listed)?;
-    intern_literals(alloc, &mut names, &outline.declared)?;
-    intern_literals(alloc, &mut names, &outline.used)?;
-    Ok(names)
+    match intern_all(alloc, &mut names, outline) {
+        Ok(()) => Ok(names),
+        Err(error) => {
+            drop(names);
+            Err(error)
+        }
+    }
 }
 
 /// Adds those of some names and literals that are among `names`.
@@ -90,6 +117,43 @@ fn intern_those(
     Ok(())
 }
 
+/// Adds those names and literals of the file that are among `names`.
+fn intern_appearing(
+    alloc: Global,
+    tokens: &mut SymbolTable,
+    names: &SymbolTable,
+    outline: &Outline,
+) -> Result<(), AllocError>
+    ensures { OnOk result (texts tokens.new
+        ≡ with_names (texts tokens.old)
+        (filter (is_among (texts names.now)) (map printed_name (map occurrence_view
+        outline.now.declared.items ++ map occurrence_view outline.now.used.items)))) }
+{
+    intern_those(alloc, tokens, names, &outline.declared)?;
+    intern_those(alloc, tokens, names, &outline.used)
+}
+
+/// The tokens by number, where all that may appear are among `names`.
+fn tokens_among(
+    alloc: Global,
+    names: &SymbolTable,
+    outline: &Outline,
+) -> Result<SymbolTable, AllocError>
+    ensures { IfOk result (λ v. texts v
+        ≡ with_names (codes "$end" ∷ codes "error" ∷ [])
+        (filter (is_among (texts names.now)) (map printed_name (map occurrence_view
+        outline.now.declared.items ++ map occurrence_view outline.now.used.items)))) }
+{
+    let mut tokens = first_tokens(alloc)?;
+    match intern_appearing(alloc, &mut tokens, names, outline) {
+        Ok(()) => Ok(tokens),
+        Err(error) => {
+            drop(tokens);
+            Err(error)
+        }
+    }
+}
+
 /// The tokens by number: the end, `error`, and the others in the order of their first appearance.
 /// It fails only when memory runs out.
 pub fn tokens(alloc: Global, outline: &Outline) -> Result<SymbolTable, AllocError>
@@ -99,8 +163,7 @@ pub fn tokens(alloc: Global, outline: &Outline) -> Result<SymbolTable, AllocErro
         outline.now.used.items)) }
 {
     let names = token_names(alloc, outline)?;
-    let mut tokens = first_tokens(alloc)?;
-    intern_those(alloc, &mut tokens, &names, &outline.declared)?;
-    intern_those(alloc, &mut tokens, &names, &outline.used)?;
-    Ok(tokens)
+    let tokens = tokens_among(alloc, &names, outline);
+    drop(names);
+    tokens
 }

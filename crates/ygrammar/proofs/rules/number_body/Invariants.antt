@@ -9,12 +9,12 @@ use Rattle.ygrammar.proofs.rules.number_body.Given as goal
 abbrev pub invariant-loop-item : goal.invariant-loop-item
 invariant-loop-item l = record {
   rules : l.rules.items ++ map (inner_numbers (texts l.names))
-      (body_from l.next (map body_part_view (drop l.item-index l.items))).inner ≡
+      (body_from l.body.next (map body_part_view (drop l.item-index l.items))).inner ≡
       l.fn.rules.items ++ map
       (inner_numbers (texts l.names)) (body_from l.k (map body_part_view l.items)).inner;
-  symbols : l.symbols.items ++ map (number_in (texts l.names))
-      (body_from l.next (map body_part_view (drop l.item-index l.items))).symbols ≡ map
+  symbols : l.body.symbols.items ++ map (number_in (texts l.names))
+      (body_from l.body.next (map body_part_view (drop l.item-index l.items))).symbols ≡ map
       (number_in (texts l.names)) (body_from l.k (map body_part_view l.items)).symbols;
-  next : (body_from l.next (map body_part_view (drop l.item-index l.items))).next ≡
+  next : (body_from l.body.next (map body_part_view (drop l.item-index l.items))).next ≡
       (body_from l.k (map body_part_view l.items)).next;
 }

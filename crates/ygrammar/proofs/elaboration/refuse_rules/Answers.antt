@@ -1,0 +1,44 @@
+use Rattle.std.proofs.Common.{refl, sym, subst, take, ◌≤◌, ◌∙◌}
+use Rattle.youtline.specs.declared.mistake.Mistake.TheVariants as mistakes
+use Rattle.ygrammar.specs.Elaborated.{Decides}
+use Rattle.ysymbols.specs.Marking.{AreIn}
+use Rattle.youtline.specs.Mistakes.{order}
+use Rattle.ysymbols.proofs.NameSteps.{length_texts}
+use Rattle.ygrammar.proofs.ElaborationSteps.{clear_5, clear_6, decides, more, refuses}
+use Rattle.ygrammar.proofs.MeaningSteps.{all_productive, bare_same, symbols_counted, unproductive}
+use Rattle.ygrammar.proofs.elaboration.refuse_rules.Goals as goal
+
+pub refuse_unproductive-requires-clause-within : goal.refuse_unproductive-requires-clause-within
+refuse_unproductive-requires-clause-within c = subst (λ k. c.args.named.now.tokens ≤ k)
+    (length_texts c.args.named.now.names.keys ∙ sym c.len-symbols.ensures.len) c.requires.within
+
+pub refuse_unproductive-requires-clause-in_range : goal.refuse_unproductive-requires-clause-in_range
+refuse_unproductive-requires-clause-in_range c = subst (λ k. AreIn k c.args.rules.now)
+    (length_texts c.args.named.now.names.keys ∙ sym c.len-symbols.ensures.len) c.requires.in_range
+
+pub returns-in_err-refuse_unproductive : goal.returns-in_err-refuse_unproductive
+returns-in_err-refuse_unproductive c = λ t o n vs start.
+    let bare = bare_same t _ _ _ n.tokens_first
+    (symbols_counted t _ _ n c.len-symbols.ensures.len) vs in
+    refuses (λ r. Decides t r) t 5 mistakes.Unproductive c.in_err-refuse_unproductive.field-0.0 _
+    (λ y f. f) refl c.from_residual.ensures.1 (clear_5 t _ n start)
+    (unproductive t _ _ bare c.in_err-refuse_unproductive.ensures)
+
+pub returns-in_err-refuse_prec : goal.returns-in_err-refuse_prec
+returns-in_err-refuse_prec c = λ t o n vs start.
+    let bare = bare_same t _ _ _ n.tokens_first
+    (symbols_counted t _ _ n c.len-symbols.ensures.len) vs in
+    refuses (λ r. Decides t r) t 6 mistakes.BadPrec c.in_err-refuse_prec.field-0.0 _
+    (λ y f. f) refl c.from_residual-in_err-refuse_prec.ensures.1
+    (clear_6 t (clear_5 t _ n start) (all_productive t _ bare c.in_ok-refuse_unproductive.ensures))
+    (c.in_err-refuse_prec.ensures t o n.names n.tokens_first)
+
+pub returns : goal.returns
+returns c = λ t o n vs start.
+    let bare = bare_same t _ _ _ n.tokens_first
+    (symbols_counted t _ _ n c.len-symbols.ensures.len) vs in
+    let all = all_productive t _ bare c.in_ok-refuse_unproductive.ensures in
+    decides t c.refuse_limit.result (more t (take 6 order) mistakes.BadPrec
+    (clear_6 t (clear_5 t _ n start) all)
+    (c.in_ok-refuse_prec.ensures t o n.names n.tokens_first)) all
+    (c.refuse_limit.ensures t n.names vs)
