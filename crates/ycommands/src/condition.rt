@@ -1,6 +1,6 @@
 //! What a run stops at.
 
-use crate::refusal::{Grouped, Refusal};
+use crate::refusal::Refusal;
 use crate::words::{Found, Nearest, find, first_word, number_of};
 use std::alloc::{AllocError, Global};
 use std::io::Write;
@@ -72,7 +72,7 @@ pub fn number_in(word: &str, what: &'static str, from: usize, to: usize) -> Resu
         Some(number) if from <= number && number <= to => Ok(number),
         None if !is_digits(word) => Err(Refusal::NoNumber),
         _ if to < from => Err(Refusal::None(what)),
-        _ => Err(Refusal::Range(what, Grouped(from), Grouped(to))),
+        _ => Err(Refusal::Range(what, from, to)),
     }
 }
 
@@ -185,6 +185,16 @@ pub fn symbol_near<'a>(
     Ok(nearest.best())
 }
 
+/// Whether the state and the token ahead have a conflict.
+fn is_in_conflict(tables: &Tables, session: &Session) -> bool {
+    is_running(session) && has_conflict(tables, session.state(), token_ahead(session))
+}
+
+/// Whether the token of this place is ahead.
+fn is_ahead(session: &Session, place: usize) -> bool {
+    session.view().rest_len() > 0 && upcoming_token(session, 0).1 == place
+}
+
 impl Condition {
     /// Whether it is met by what was done or undone.
     fn meets_kind(self, grammar: &Grammar, kind: StepKind) -> bool {
@@ -203,13 +213,9 @@ impl Condition {
     /// Whether it holds in the configuration.
     fn holds_in(self, tables: &Tables, session: &Session) -> bool {
         match self {
-            Condition::Conflict => {
-                is_running(session) && has_conflict(tables, session.state(), token_ahead(session))
-            }
+            Condition::Conflict => is_in_conflict(tables, session),
             Condition::State(state) => session.state() == state,
-            Condition::Token(place) => {
-                session.view().rest_len() > 0 && upcoming_token(session, 0).1 == place
-            }
+            Condition::Token(place) => is_ahead(session, place),
             Condition::Depth(depth) => session.view().stack_len() == depth,
             _ => false,
         }
@@ -221,31 +227,33 @@ impl Condition {
         self.meets_kind(grammar_of(tables), kind) || self.holds_in(tables, session)
     }
 
-    /// A number or a name behind a word.
-    fn put_number<W: Write>(page: &mut Page<W>, word: &str, number: usize) {
-        page.put(word);
-        page.number(number);
+    /// Its words, up to the name or the number that it has.
+    fn words(self) -> &'static str {
+        match self {
+            Condition::Shift(_) => "shift of ",
+            Condition::ReduceTo(_) => "reduction to ",
+            Condition::Reduce(_) => "reduction by rule ",
+            Condition::Error => "error",
+            Condition::Conflict => "conflict",
+            Condition::State(_) => "state ",
+            Condition::Token(_) => "token ",
+            Condition::Depth(_) => "depth ",
+            Condition::Accept => "acceptance",
+        }
     }
 
     /// Why the run stopped, or what never came.
     pub fn put<W: Write>(self, page: &mut Page<W>, session: &Session) {
-        let grammar = grammar_of(session.tables());
+        page.put(self.words());
         match self {
-            Condition::Shift(token) => {
-                page.put("shift of ");
-                page.put(name_of(grammar, token));
+            Condition::Shift(symbol) | Condition::ReduceTo(symbol) => {
+                page.put(name_of(grammar_of(session.tables()), symbol));
             }
-            Condition::ReduceTo(left) => {
-                page.put("reduction to ");
-                page.put(name_of(grammar, left));
-            }
-            Condition::Reduce(rule) => Self::put_number(page, "reduction by rule ", rule),
-            Condition::Error => page.put("error"),
-            Condition::Conflict => page.put("conflict"),
-            Condition::State(state) => Self::put_number(page, "state ", state),
-            Condition::Token(place) => Self::put_number(page, "token ", place),
-            Condition::Depth(depth) => Self::put_number(page, "depth ", depth),
-            Condition::Accept => page.put("acceptance"),
+            Condition::Reduce(number)
+            | Condition::State(number)
+            | Condition::Token(number)
+            | Condition::Depth(number) => page.number(number),
+            Condition::Error | Condition::Conflict | Condition::Accept => {}
         }
     }
 }

@@ -16,23 +16,29 @@ pub enum Came {
     End,
 }
 
+/// Reads a line with its newline, or the beginning of a long one, and says how many bytes it has.
+fn read_line<R: Read>(reader: &mut BufReader<R>, line: &mut Vec<u8>) -> io::Result<usize> {
+    line.clear();
+    let mut first = reader.by_ref().take(LONGEST as u64);
+    first.read_until(b'\n', line)
+}
+
+/// Skips the rest of a line that is too long.
+fn skip_rest<R: Read>(reader: &mut BufReader<R>) -> io::Result<Came> {
+    reader.skip_until(b'\n')?;
+    Ok(Came::Long)
+}
+
 /// Reads the next line without its newline.
 pub fn next_line<R: Read>(reader: &mut BufReader<R>, line: &mut Vec<u8>) -> io::Result<Came> {
-    line.clear();
-    let read = reader
-        .by_ref()
-        .take(LONGEST as u64)
-        .read_until(b'\n', line)?;
-    if read == 0 {
-        return Ok(Came::End);
-    }
+    let read = read_line(reader, line)?;
     if line.last() == Some(&b'\n') {
         let _ = line.pop();
         return Ok(Came::Line);
     }
-    if read < LONGEST {
-        return Ok(Came::Line);
+    match read {
+        0 => Ok(Came::End),
+        1..LONGEST => Ok(Came::Line),
+        _ => skip_rest(reader),
     }
-    reader.skip_until(b'\n')?;
-    Ok(Came::Long)
 }

@@ -2,69 +2,38 @@
 
 use crate::verb::Verb;
 use std::alloc::AllocError;
-use std::fmt;
 use std::io::Write;
-use thiserror::Error;
 use yparse::machine::{Mode, StepFault};
 use yshow::{Page, Paint};
 
-/// A number as it is written in texts: `1,000,000`.
-#[derive(Clone, Copy, Debug)]
-pub struct Grouped(pub usize);
-
-impl fmt::Display for Grouped {
-    fn fmt<W: fmt::Write>(&self, f: &mut fmt::Formatter<W>) -> fmt::Result {
-        let (thousands, rest) = (self.0 / 1_000, self.0 % 1_000);
-        let (millions, middle) = (thousands / 1_000, thousands % 1_000);
-        match (millions, thousands) {
-            (0, 0) => write!(f, "{rest}"),
-            (0, _) => write!(f, "{thousands},{rest:03}"),
-            _ => write!(f, "{millions},{middle:03},{rest:03}"),
-        }
-    }
-}
-
 /// Why a command isn't obeyed. Nothing is changed then.
-#[derive(Clone, Copy, Debug, Error)]
+#[derive(Clone, Copy)]
 pub enum Refusal {
     /// The words behind the command are not those that it takes.
-    #[error("Usage: {0}")]
     Usage(&'static str),
     /// A number is out of range.
-    #[error("That is out of range: {0} are {1} to {2}.")]
-    Range(&'static str, Grouped, Grouped),
+    Range(&'static str, usize, usize),
     /// There is nothing to be counted.
-    #[error("There are no {0}.")]
     None(&'static str),
     /// A word is no number.
-    #[error("That is no number.")]
     NoNumber,
     /// A name is no token of the grammar.
-    #[error("The grammar has no such token.")]
     NoToken,
     /// A name is no token that an input may have.
-    #[error("That is no token that an input can have.")]
     NoInput,
     /// A name is no nonterminal of the grammar.
-    #[error("The grammar has no such nonterminal.")]
     NoNonterminal,
     /// A name is no symbol of the grammar.
-    #[error("The grammar has no such symbol.")]
     NoSymbol,
     /// A word is no condition.
-    #[error("That is no condition; help run lists them.")]
     NoCondition,
     /// Several conditions begin so.
-    #[error("Several conditions begin so; help run lists them.")]
     ManyConditions,
     /// A condition is a word alone.
-    #[error("That condition is a word alone; help run lists them.")]
     Alone,
     /// A condition needs a name or a number.
-    #[error("That condition needs a name or a number; help run lists them.")]
     Unfinished,
     /// Memory ran out.
-    #[error("There is no memory for that; the parse is as it was.")]
     Memory,
 }
 
@@ -72,6 +41,79 @@ impl From<AllocError> for Refusal {
     fn from(_refused: AllocError) -> Refusal {
         Refusal::Memory
     }
+}
+
+impl Refusal {
+    /// What it says, up to the first name or number that it has.
+    fn words(self) -> &'static str {
+        match self {
+            Refusal::Usage(_) => "Usage: ",
+            Refusal::Range(_, _, _) => "That is out of range: ",
+            Refusal::None(_) => "There are no ",
+            Refusal::NoNumber => "That is no number.",
+            Refusal::NoToken => "The grammar has no such token.",
+            Refusal::NoInput => "That is no token that an input can have.",
+            Refusal::NoNonterminal => "The grammar has no such nonterminal.",
+            Refusal::NoSymbol => "The grammar has no such symbol.",
+            Refusal::NoCondition => "That is no condition; help run lists them.",
+            Refusal::ManyConditions => "Several conditions begin so; help run lists them.",
+            Refusal::Alone => "That condition is a word alone; help run lists them.",
+            Refusal::Unfinished => {
+                "That condition needs a name or a number; help run lists them."
+            }
+            Refusal::Memory => "There is no memory for that; the parse is as it was.",
+        }
+    }
+
+    /// Writes what it says.
+    fn put<W: Write>(self, page: &mut Page<W>) {
+        page.put(self.words());
+        match self {
+            Refusal::Usage(usage) => page.put(usage),
+            Refusal::Range(what, from, to) => put_range(page, what, from, to),
+            Refusal::None(what) => {
+                page.put(what);
+                page.put(".");
+            }
+            _ => {}
+        }
+    }
+}
+
+/// Writes which numbers some things have.
+fn put_range<W: Write>(page: &mut Page<W>, what: &str, from: usize, to: usize) {
+    page.put(what);
+    page.put(" are ");
+    put_grouped(page, from);
+    page.put(" to ");
+    put_grouped(page, to);
+    page.put(".");
+}
+
+/// Writes a number as it stands in texts: `1,000,000`.
+fn put_grouped<W: Write>(page: &mut Page<W>, number: usize) {
+    let (thousands, rest) = (number / 1_000, number % 1_000);
+    if thousands == 0 {
+        page.number(rest);
+        return;
+    }
+    if thousands < 1_000 {
+        page.number(thousands);
+    } else {
+        page.number(thousands / 1_000);
+        put_group(page, thousands % 1_000);
+    }
+    put_group(page, rest);
+}
+
+/// Writes a comma and the three digits of a number below 1,000.
+fn put_group<W: Write>(page: &mut Page<W>, number: usize) {
+    page.put(match number {
+        0..10 => ",00",
+        10..100 => ",0",
+        _ => ",",
+    });
+    page.number(number);
 }
 
 /// The words behind a command are not those that it takes.
@@ -82,7 +124,7 @@ pub fn misused(verb: Verb) -> Refusal {
 /// Writes a refusal.
 pub fn put_refusal<W: Write>(page: &mut Page<W>, refusal: Refusal) {
     page.paint(Paint::Bad);
-    page.show(refusal);
+    refusal.put(page);
     page.paint(Paint::Plain);
     page.end();
 }

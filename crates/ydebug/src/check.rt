@@ -6,15 +6,15 @@ use crate::told::put_text_fault;
 use std::alloc::Global;
 use std::io::{self, ErrorKind, Read, Write};
 use std::rt::Files;
-use ycheck::check::{
-    Check, Said, bytes_of, put_accepted, put_choice, put_limit, put_memory, put_unread, put_wanted,
-    run_check, wanted_after,
-};
-use ycheck::expected::Wanted;
 use yexplain::reads::grammar_of;
 use yexplain::text::Name;
 use yfaults::opening::Opened;
 use yfaults::shown::Place;
+use yfollow::check::{
+    Check, Said, bytes_of, put_accepted, put_choice, put_limit, put_memory, put_unread, put_wanted,
+    run_check, wanted_after,
+};
+use yfollow::expected::Wanted;
 use ylalr::END;
 use ylex::fault::TextFault;
 use ylex::lexer::{Lexed, Lexer};

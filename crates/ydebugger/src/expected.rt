@@ -2,8 +2,8 @@
 
 use std::alloc::{AllocError, Global};
 use std::io::Write;
-use ycheck::expected::{Wanted, expected};
 use yexplain::reads::{goto_of, grammar_of};
+use yfollow::expected::{Wanted, expected};
 use yparse::Session;
 use yparse::machine::Mode;
 use yshow::page::Page;

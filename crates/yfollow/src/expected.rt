@@ -40,14 +40,44 @@ impl Drop for Wanted {
     }
 }
 
+impl Wanted {
+    fn new(alloc: Global) -> Wanted {
+        Wanted {
+            can: Vec::new(alloc),
+            unknown: Vec::new(alloc),
+        }
+    }
+
+    /// Puts a token where its answer belongs.
+    fn note(&mut self, token: Sym, answer: Answer) -> Result<(), AllocError> {
+        match answer {
+            Answer::Can => self.can.push(token)?,
+            Answer::Unknown => self.unknown.push(token)?,
+            Answer::Cannot => {}
+        }
+        Ok(())
+    }
+}
+
 /// A stack of states that is tried: some of those given, and others above them; and how many more
 /// reductions may be made.
-#[derive(Drop)]
 struct Trial<'a> {
     tables: &'a Tables,
     below: &'a [usize],
     above: Vec<usize>,
     left: usize,
+}
+
+impl Drop for Trial<'_> {
+    // A call in each owner, which keeps their proofs short.
+    fn drop(self) {
+        let Trial {
+            tables: _,
+            below: _,
+            above: _,
+            left: _,
+        } = self;
+    }
 }
 
 impl<'a> Trial<'a> {
@@ -73,18 +103,23 @@ impl<'a> Trial<'a> {
         self.below = self.below.get(..left).unwrap_or(&[]);
     }
 
-    /// Replaces the body of a rule by its left side, and says whether that leads anywhere.
-    fn reduce(&mut self, rule: usize) -> Result<bool, AllocError> {
+    /// Takes the body of a rule off, and gives the state where its left side leads.
+    fn leave(&mut self, rule: usize) -> Option<usize> {
         let grammar = grammar_of(self.tables);
         self.left = self.left.saturating_sub(1);
         self.take(body_of(grammar, rule).len());
         let left = left_of(grammar, rule).unwrap_or(END);
-        match goto_of(self.tables.automaton(), self.top(), left) {
+        goto_of(self.tables.automaton(), self.top(), left)
+    }
+
+    /// Replaces the body of a rule by its left side; the token can't come where that leads nowhere.
+    fn reduce(&mut self, rule: usize) -> Result<Option<Answer>, AllocError> {
+        match self.leave(rule) {
             Some(state) => {
                 self.above.push(state)?;
-                Ok(true)
+                Ok(None)
             }
-            None => Ok(false),
+            None => Ok(Some(Answer::Cannot)),
         }
     }
 
@@ -93,13 +128,7 @@ impl<'a> Trial<'a> {
         match action_of(self.tables, self.top(), token) {
             Action::Shift(_) | Action::Accept => Ok(Some(Answer::Can)),
             Action::Error => Ok(Some(Answer::Cannot)),
-            Action::Reduce(rule) => {
-                if self.reduce(rule)? {
-                    Ok(None)
-                } else {
-                    Ok(Some(Answer::Cannot))
-                }
-            }
+            Action::Reduce(rule) => self.reduce(rule),
         }
     }
 
@@ -129,20 +158,14 @@ pub fn can_come(
 /// The tokens that can come over these states, the first state of all at the bottom; `error` is
 /// not among them.
 pub fn expected(alloc: Global, tables: &Tables, states: &[usize]) -> Result<Wanted, AllocError> {
-    let mut can = Vec::new(alloc);
-    let mut unknown = Vec::new(alloc);
+    let mut wanted = Wanted::new(alloc);
     let mut trial = Trial::new(alloc, tables, MOST_OF_ALL);
     for token in 0..token_count(grammar_of(tables)) {
-        if token == ERROR {
-            continue;
-        }
-        match trial.answer(states, token)? {
-            Answer::Can => can.push(token)?,
-            Answer::Unknown => unknown.push(token)?,
-            Answer::Cannot => {}
+        if token != ERROR {
+            wanted.note(token, trial.answer(states, token)?)?;
         }
     }
-    Ok(Wanted { can, unknown })
+    Ok(wanted)
 }
 
 /// The states of a parse once these tokens are shifted, before anything is reduced with the next
