@@ -1,6 +1,7 @@
 -- From the parts of a grammar to what a tree means.
 use Rattle.std.proofs.Common.{ℕ, ◌≡◌, ◌<◌, ◌≤◌, ◌↔◌, Bool, true, false, Err, List, [], ◌∷◌, map}
-use Rattle.std.proofs.Common.{length, Option, refl, sym, ◌∙◌, ap, subst, get_or}
+use Rattle.std.proofs.Common.{length, Option, refl, sym, ◌∙◌, ◌⊎◌, ap, subst, get_or, inl, inr}
+use Rattle.std.proofs.Common.{arith}
 use Rattle.std.proofs.lemmas.List.{length-map}
 use Rattle.std.proofs.lemmas.List.Elements.{All-get_or}
 use Rattle.ygrammar.specs.declared.elaboration.Named.{Named}
@@ -18,14 +19,14 @@ use Rattle.ysymbols.specs.declared.precedence.Precedence.{Precedence}
 use Rattle.ygrammar.specs.Elaborated.{AreNamed, Fruitful, IsReady}
 use Rattle.youtline.specs.Elaboration.{HavePrecedences, Rule, bare_of, first_rule, lefts}
 use Rattle.youtline.specs.Elaboration.{numbered_rule}
-use Rattle.youtline.specs.Elaboration.{own_number, token_precedence, rules}
+use Rattle.youtline.specs.Elaboration.{own_number, own_numbers, token_precedence, rules}
 use Rattle.youtline.specs.Elaboration.{rules_from, starts, symbols, token_precedences, tokens}
 use Rattle.ysymbols.specs.Forms.{IsReachable, Productive}
 use Rattle.ysymbols.specs.Grammar.{ContextFree, Production, RuleValue, blank, precedence_of}
-use Rattle.ysymbols.specs.Grammar.{production_of}
+use Rattle.ysymbols.specs.Grammar.{most_symbols, production_of}
 use Rattle.ysymbols.specs.Marking.{AreIn, RuleIn, numbered_grammar, rule_at}
 use Rattle.ygrammar.specs.Meaning.{IsMeaning}
-use Rattle.youtline.specs.Mistakes.{Holds}
+use Rattle.youtline.specs.Mistakes.{HasNone, Holds, order}
 use Rattle.ysymbols.specs.Names.{Name}
 use Rattle.ysymbols.specs.NameTexts.{texts, value_of}
 use Rattle.ygrammar.specs.Numbered.{rule_numbers, rule_precedence}
@@ -36,7 +37,7 @@ use Rattle.ysyntax.specs.Tree.{RuleText, Identifier, IsTree, Tree}
 use Rattle.ysymbols.specs.WellFormed.{IsWhole, StandOnce, WellFormed}
 use Rattle.ygrammar.proofs.LastTokens.{have_precedences}
 use Rattle.ygrammar.proofs.Once.{end_name, error_name, numbers_once, symbols_once}
-use Rattle.ygrammar.proofs.Wellness.{in_range}
+use Rattle.ygrammar.proofs.Wellness.{in_range, tokens_within}
 
 rules_bare : (ns : List Name) (given : List (Option Precedence)) (rs : List Rule) →
     map production_of (map (rule_numbers ns given) rs) ≡ map (numbered_rule ns) rs
@@ -140,6 +141,28 @@ pub symbols_counted : (t : Tree) (n : Named) (count : ℕ) → AreNamed t n →
     count ≡ length n.names.keys → count ≡ length (symbols t)
 symbols_counted t n count a e = e ∙ sym (length_texts n.names.keys) ∙ ap
     (λ (x : List Name). length x) a.names
+
+-- no more tokens than the limit of symbols
+pub few_tokens : (t : Tree) (own : List (Option ℕ)) → HasNone t order → own ≡ own_numbers t →
+    length own ≤ most_symbols
+few_tokens t own none e =
+    let a : length own ≡ length (tokens t) = ap (λ (x : List (Option ℕ)). length x) e ∙ length-map
+    (tokens t) (own_number t) in
+    let b : length (tokens t) ≤ length (symbols t) = tokens_within t in
+    let d : length (symbols t) ≤ most_symbols =
+    not_more (length (symbols t)) (λ l. none.1.1.1.1.1.1.1.0 (inl l)) in
+    omega (arith, a, b, d)
+  where
+    more_or : (n : ℕ) → (most_symbols < n) ⊎ (n ≤ most_symbols)
+    more_or n = grind (arith)
+
+    not_more : (n : ℕ) → (most_symbols < n → ⊥) → n ≤ most_symbols
+    not_more n h = elim (more_or n) [ inl l ↦ absurd (h l) | inr l ↦ l ]
+
+-- there is a first rule
+pub some_rules : (t : Tree) (vs : List RuleValue) → vs ≡ map (rule_numbers (symbols t)
+    (token_precedences t)) (rules t) → 0 < length vs
+some_rules t vs e = subst (λ (xs : List RuleValue). 0 < length xs) (sym e) (omega arith)
 
 -- the lists of a grammar have each number
 pub whole_of : (t : Tree) (n : Named) (vs : List RuleValue) (ts : List (Option (List ℕ)))

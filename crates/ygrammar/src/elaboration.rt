@@ -11,7 +11,6 @@ ghost use Rattle.youtline.specs.Mistakes.{Holds};
 ghost use Rattle.youtline.specs.Elaboration.{symbols as symbols_of_tree, tokens as tokens_of_tree};
 ghost use Rattle.youtline.specs.Elaboration.{tokens_of};
 ghost use Rattle.ysymbols.specs.Marking.{AreIn, numbered_grammar};
-ghost use Rattle.ygrammar.specs.Meaning.{IsMeaning};
 ghost use Rattle.ysymbols.specs.NameTexts.{texts};
 ghost use Rattle.ysymbols.specs.Names.{number_in};
 ghost use Rattle.ygrammar.specs.Numbered.{inner_after};
@@ -177,16 +176,16 @@ fn refuse_unproductive(
 }
 
 impl Named {
-    /// The grammar of these symbols and rules, where no mistake stands in them.
+    /// The grammar of these symbols and rules, where no mistake stands in them. It fails only when
+    /// memory runs out.
     fn grammar_of(
         alloc: Global,
         named: Named,
         rules: Vec<Rule>,
         texts: Texts,
-    ) -> Result<Grammar, AllocError>
+    ) -> Result<Grammar, Refused>
         requires { (t : TreeOf) × IsReady t named rules.items texts.texts }
-        ensures { IfOk result (λ g. (t : TreeOf) → IsReady t named rules.items texts.texts →
-            IsMeaning t g) }
+        ensures { (t : TreeOf) → IsReady t named rules.items texts.texts → Elaborates t result }
     {
         let numbers = numbers(alloc, &named.own.numbers, &named.own.holders)?;
         let reachable = reachable(alloc, &rules, named.names.len())?;
@@ -250,5 +249,5 @@ pub fn elaborate(alloc: Global, source: &[u8], tree: &Tree) -> Result<Grammar, R
     let named = name_symbols(alloc, tree, &outline)?;
     let rules = sound_rules(alloc, tree, &outline, &named)?;
     let texts = kept_texts(alloc, source, tree)?;
-    Ok(Named::grammar_of(alloc, named, rules, texts)?)
+    Named::grammar_of(alloc, named, rules, texts)
 }

@@ -30,6 +30,7 @@ fn first_tokens(alloc: Global) -> Result<SymbolTable, AllocError>
     let mut names = IndexSet::new(alloc);
     match intern_first(alloc, &mut names) {
         Ok(()) => Ok(names),
+        // A call, here and below, which keeps the proofs short.
         Err(error) => {
             drop(names);
             Err(error)

@@ -31,4 +31,4 @@ pub grammar_of-requires : goal.grammar_of-requires
 grammar_of-requires c = (_, ready (goal.at.grammar_of-requires c).In_ok-texts)
 
 pub returns : goal.returns
-returns c = c.in_ok-grammar_of.ensures _ (ready (goal.at.returns c).In_ok-texts)
+returns c = c.grammar_of.ensures _ (ready (goal.at.returns c).In_ok-texts)

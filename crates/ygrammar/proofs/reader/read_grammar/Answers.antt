@@ -5,7 +5,7 @@ use Rattle.ysyntax.specs.declared.lexer.Placed.{Placed}
 use Rattle.ysyntax.specs.declared.fault.GrammarFault.{GrammarFault}
 use Rattle.ysyntax.specs.declared.fault.GrammarFault.TheVariants.{TooLong}
 use Rattle.ysyntax.specs.Answers.{StandIn, views}
-use Rattle.ygrammar.specs.GrammarOf.{AnswersRefusal}
+use Rattle.ygrammar.specs.GrammarOf.{AnswersRefusal, HasTree}
 use Rattle.ylexemes.specs.Lexemes.{Lexeme}
 use Rattle.youtline.specs.Mistakes.{IsFirst, order}
 use Rattle.ysyntax.specs.TreeViews.{tree_view}
@@ -15,7 +15,21 @@ use Rattle.ygrammar.proofs.InnerSteps.{few_inner}
 use Rattle.ygrammar.proofs.OneMeaning.{none_first}
 use Rattle.ygrammar.proofs.ReaderSteps.{fault_of, has_tree, no_grammar, ok_err, read_no_fault}
 use Rattle.ygrammar.proofs.ReaderSteps.{same_grammar, same_mistake, same_refusal, same_tree}
+use Rattle.ygrammar.proofs.reader.read_grammar.Goals.{In_ok-tree}
 use Rattle.ygrammar.proofs.reader.read_grammar.Goals as goal
+
+-- the tree of the file
+has : (c : In_ok-tree) → HasTree c.args.source.now (tree_view c.in_ok-tree.tree)
+has c = has_tree c.args.source.now c.in_ok-lexemes.lexemes.items c.deref.result.now
+    (tree_view c.in_ok-tree.tree) c.deref.ensures.value c.in_ok-tree.ensures.whole
+    c.in_ok-tree.ensures.shaped (λ l. ok_err c.in_ok-lexemes.lexemes TooLong
+    (c.in_ok-lexemes.ensures.too_long.1 l)) c.in_ok-lexemes.ensures.found
+
+pub elaborate-requires-clause-spelled : goal.elaborate-requires-clause-spelled
+elaborate-requires-clause-spelled c = (
+  c.args.source.now,
+  (has (goal.at.elaborate-requires-clause-spelled c).In_ok-tree).spelled,
+)
 
 pub elaborate-requires-clause-stands : goal.elaborate-requires-clause-stands
 elaborate-requires-clause-stands c =
@@ -40,6 +54,20 @@ returns-in_err-lexemes-clause-refused c = λ r (short, out).
     subst (λ (x : _). AnswersRefusal x r) (sym is.1)
     (subst (λ (f : GrammarFault). AnswersRefusal (Err f) r) (sym is.2)
     (same_refusal c.in_err-lexemes.field-0.0 r (c.in_err-lexemes.ensures.fault r short out)))
+
+pub returns-in-Ok-clause-found : goal.returns-in-Ok-clause-found
+returns-in-Ok-clause-found c = (
+  tree_view c.in_ok-tree.tree,
+  has (goal.at.returns-in-Ok-clause-found c).In_ok-tree,
+  c.in-Ok.ensures,
+)
+
+pub returns-in-Ok-clause-exact : goal.returns-in-Ok-clause-exact
+returns-in-Ok-clause-exact c = (
+  tree_view c.in_ok-tree.tree,
+  has (goal.at.returns-in-Ok-clause-exact c).In_ok-tree,
+  c.in-Ok.ensures,
+)
 
 pub returns-in-Ok-clause-only : goal.returns-in-Ok-clause-only
 returns-in-Ok-clause-only c = λ g (u, h, m).
@@ -87,17 +115,9 @@ returns-clause-mistaken c = λ m (u, h, first).
 pub returns-clause-fault : goal.returns-clause-fault
 returns-clause-fault c =
     fault_of c.args.source.now (tree_view c.in_ok-tree.tree) c.in-Err.refused c.in_file.result
-    (has_tree c.args.source.now c.in_ok-lexemes.lexemes.items c.deref.result.now
-    (tree_view c.in_ok-tree.tree) c.deref.ensures.value c.in_ok-tree.ensures.whole
-    c.in_ok-tree.ensures.shaped (λ l. ok_err c.in_ok-lexemes.lexemes TooLong
-    (c.in_ok-lexemes.ensures.too_long.1 l)) c.in_ok-lexemes.ensures.found) c.in-Err.ensures
-    c.in_file.ensures
+    (has (goal.at.returns-clause-fault c).In_ok-tree) c.in-Err.ensures c.in_file.ensures
 
 pub returns-clause-exact : goal.returns-clause-exact
 returns-clause-exact c =
     fault_of c.args.source.now (tree_view c.in_ok-tree.tree) c.in-Err.refused c.in_file.result
-    (has_tree c.args.source.now c.in_ok-lexemes.lexemes.items c.deref.result.now
-    (tree_view c.in_ok-tree.tree) c.deref.ensures.value c.in_ok-tree.ensures.whole
-    c.in_ok-tree.ensures.shaped (λ l. ok_err c.in_ok-lexemes.lexemes TooLong
-    (c.in_ok-lexemes.ensures.too_long.1 l)) c.in_ok-lexemes.ensures.found) c.in-Err.ensures
-    c.in_file.ensures
+    (has (goal.at.returns-clause-exact c).In_ok-tree) c.in-Err.ensures c.in_file.ensures

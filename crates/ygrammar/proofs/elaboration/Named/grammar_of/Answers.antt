@@ -1,12 +1,39 @@
-use Rattle.std.proofs.Common.{◌≡◌, ◌∙◌, ap, sym, subst, length, List, Option, ℕ, rules}
+use Rattle.std.proofs.Common.{◌≡◌, ◌≤◌, ◌∙◌, ap, sym, subst, length, List, Option, ℕ}
+use Rattle.std.proofs.Common.{rules}
+use Rattle.ygrammar.specs.declared.holders.Holders.{Holders}
 use Rattle.youtline.specs.Elaboration.{symbols}
-use Rattle.ysymbols.specs.Grammar.{GrammarValue, RuleValue}
+use Rattle.ysymbols.specs.Grammar.{GrammarValue, RuleValue, number_bound}
 use Rattle.ysymbols.specs.Marking.{AreIn}
 use Rattle.ygrammar.specs.Meaning.{IsMeaning}
-use Rattle.ygrammar.specs.Numbers.{AreNumbers}
-use Rattle.ygrammar.proofs.MeaningSteps.{meaning_of, whole_of}
+use Rattle.ygrammar.specs.Numbers.{AreHolders, AreNumbers}
+use Rattle.ygrammar.proofs.MeaningSteps.{few_tokens, meaning_of, some_rules, whole_of}
 use Rattle.ysymbols.proofs.NameSteps.{length_texts}
 use Rattle.ygrammar.proofs.elaboration.Named.grammar_of.Goals as goal
+
+pub numbers-requires-clause-held : goal.numbers-requires-clause-held
+numbers-requires-clause-held c =
+    let (t, r) = c.requires in
+    let hs = c.args.named.own.holders.items in
+    subst (λ (xs : List Holders). AreHolders (length xs) c.deref.result.now xs)
+    (sym c.deref-2.ensures.value)
+    (subst (λ (xs : List (Option ℕ)). AreHolders (length hs) xs hs)
+    (sym (c.deref.ensures.value ∙ r.named.own.numbers)) r.named.own.holders)
+
+pub numbers-requires-clause-bound : goal.numbers-requires-clause-bound
+numbers-requires-clause-bound c =
+    let (t, r) = c.requires in
+    subst (λ (xs : List Holders). length xs ≤ number_bound) (sym c.deref-2.ensures.value)
+    r.named.own.few
+
+pub numbers-requires-clause-few : goal.numbers-requires-clause-few
+numbers-requires-clause-few c =
+    let (t, r) = c.requires in
+    few_tokens t c.deref.result.now r.sound (c.deref.ensures.value ∙ r.named.own.numbers)
+
+pub reachable-requires-clause-some : goal.reachable-requires-clause-some
+reachable-requires-clause-some c =
+    let (t, r) = c.requires in
+    some_rules t c.deref-3.result.now (c.deref-3.ensures.value ∙ r.numbered)
 
 pub of-requires : goal.of-requires
 of-requires c =
