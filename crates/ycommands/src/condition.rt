@@ -1,7 +1,7 @@
 //! What a run stops at.
 
 use crate::refusal::Refusal;
-use crate::words::{Found, Nearest, find, first_word, number_of};
+use crate::words::{Found, Nearest, find, first_word, near_in, number_of};
 use std::alloc::{AllocError, Global};
 use std::io::Write;
 use yexplain::reads::{grammar_of, left_of};
@@ -152,11 +152,7 @@ pub fn condition_of(session: &Session, tokens: usize, text: &str) -> Result<Cond
 
 /// The condition whose word is near to this one.
 pub fn condition_near<'a>(alloc: Global, word: &'a str) -> Result<Option<&'a str>, AllocError> {
-    let mut nearest = Nearest::new(word);
-    for (name, _) in &WORDS {
-        nearest.offer(alloc, name)?;
-    }
-    Ok(nearest.best())
+    near_in(alloc, &WORDS, word)
 }
 
 /// Whether a symbol is of the kind that was wanted where this was refused.

@@ -1,7 +1,7 @@
 //! The command that a word means, and help on commands.
 
 use crate::verb::{VERBS, Verb};
-use crate::words::{Found, Nearest, begins, find};
+use crate::words::{Found, begins, find, near_in};
 use std::alloc::{AllocError, Global};
 use std::io::Write;
 use yshow::{Page, Paint};
@@ -30,22 +30,13 @@ pub fn put_candidates<W: Write>(page: &mut Page<W>, word: &str) {
     page.end();
 }
 
-/// The command whose word is near to this one.
-fn near_verb<'a>(alloc: Global, word: &'a str) -> Result<Option<&'a str>, AllocError> {
-    let mut nearest = Nearest::new(word);
-    for (name, _) in &VERBS {
-        nearest.offer(alloc, name)?;
-    }
-    Ok(nearest.best())
-}
-
 /// That a word is no command, and which one is near it.
 pub fn put_unknown<W: Write>(
     alloc: Global,
     page: &mut Page<W>,
     word: &str,
 ) -> Result<(), AllocError> {
-    let near = near_verb(alloc, word)?;
+    let near = near_in(alloc, &VERBS, word)?;
     page.painted(Paint::Bad, word);
     page.put(" is no command; ");
     match near {

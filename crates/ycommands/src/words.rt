@@ -98,3 +98,16 @@ impl<'a> Nearest<'a> {
         self.best.map(|best| best.1)
     }
 }
+
+/// The word of a table that is near to this one.
+pub fn near_in<'a, T: Copy>(
+    alloc: Global,
+    table: &[(&'static str, T)],
+    word: &'a str,
+) -> Result<Option<&'a str>, AllocError> {
+    let mut nearest = Nearest::new(word);
+    for (name, _) in table {
+        nearest.offer(alloc, name)?;
+    }
+    Ok(nearest.best())
+}

@@ -103,12 +103,12 @@ pub fn put_memory<W: Write>(out: &mut W, path: &str) -> io::Result<Said> {
 
 /// Writes the first of some tokens with this between them, and dots where there are more.
 fn put_first<W: Write>(page: &mut Page<W>, grammar: &Grammar, tokens: &[Sym], between: &str) {
-    for (index, token) in tokens.iter().take(MOST_NAMED).enumerate() {
-        if index > 0 {
-            page.put(between);
-        }
+    let mut before = "";
+    for token in tokens.get(..MOST_NAMED).unwrap_or(tokens) {
+        page.put(before);
         page.put(" ");
         page.put(name_of(grammar, *token));
+        before = between;
     }
     if tokens.len() > MOST_NAMED {
         page.put(between);
