@@ -141,6 +141,40 @@ impl Maker<'_> {
     }
 }
 
+/// Adds the card of a kind of conflict.
+fn add_card(
+    alloc: Global,
+    cards: &mut Cards,
+    seeker: &mut Seeker<'_>,
+    lines: &Lines,
+    (kind, group): (&Kind, Group),
+) -> io::Result<()> {
+    let finding = seeker.find(kind, group)?;
+    let maker = Maker {
+        alloc,
+        tables: seeker.session.tables(),
+        lines,
+        kind,
+        group,
+    };
+    let card = maker.card(&finding)?;
+    Ok(cards.kinds.push(card).map_err(AllocError::from)?)
+}
+
+/// Adds the cards of conflicts.
+fn add_cards(
+    alloc: Global,
+    cards: &mut Cards,
+    seeker: &mut Seeker<'_>,
+    lines: &Lines,
+    found: &Conflicts,
+) -> io::Result<()> {
+    for (kind, group) in found.groups.iter().take(MOST_CARDS) {
+        add_card(alloc, cards, seeker, lines, (kind, *group))?;
+    }
+    Ok(())
+}
+
 /// The cards of conflicts.
 fn cards_of(
     alloc: Global,
@@ -148,7 +182,6 @@ fn cards_of(
     lines: &Lines,
     found: &Conflicts,
 ) -> io::Result<Cards> {
-    let mut kinds = Vec::new(alloc);
     let mut finder = Finder::new(alloc, session.tables().automaton())?;
     let mut seeker = Seeker {
         alloc,
@@ -157,22 +190,14 @@ fn cards_of(
         steps: ALL_STEPS,
         steps_for_others: ALL_STEPS,
     };
-    for (kind, group) in found.groups.iter().take(MOST_CARDS) {
-        let finding = seeker.find(kind, *group)?;
-        let maker = Maker {
-            alloc,
-            tables: seeker.session.tables(),
-            lines,
-            kind,
-            group: *group,
-        };
-        let card = maker.card(&finding)?;
-        kinds.push(card).map_err(AllocError::from)?;
-    }
-    Ok(Cards {
-        kinds,
+    let mut cards = Cards {
+        kinds: Vec::new(alloc),
         more: found.groups.len().saturating_sub(MOST_CARDS),
-    })
+    };
+    match add_cards(alloc, &mut cards, &mut seeker, lines, found) {
+        Ok(()) => Ok(cards),
+        Err(error) => Err(error),
+    }
 }
 
 /// The cards of a grammar, over a session without tokens.

@@ -55,11 +55,18 @@ pub struct Shown<'a> {
     pub conflicts: Option<&'a Cards>,
 }
 
-/// Adds the states of the first position, and those that the steps come to.
-fn add_reached(states: &mut IndexSet<usize>, record: &Record) -> Result<(), AllocError> {
-    let stack = record.start.stack.iter().map(|entry| entry.1);
-    for state in stack.chain(record.states.iter().copied()) {
-        states.insert(state)?;
+/// Adds the states of the first position.
+fn add_stack(states: &mut IndexSet<usize>, stack: &[(Sym, usize)]) -> Result<(), AllocError> {
+    for (_, state) in stack {
+        states.insert(*state)?;
+    }
+    Ok(())
+}
+
+/// Adds the states that the steps come to.
+fn add_reached(states: &mut IndexSet<usize>, reached: &[usize]) -> Result<(), AllocError> {
+    for state in reached {
+        states.insert(*state)?;
     }
     Ok(())
 }
@@ -73,26 +80,43 @@ fn add_kinds(states: &mut IndexSet<usize>, cards: &Cards) -> Result<(), AllocErr
 }
 
 impl<'a> Shown<'a> {
-    /// The states that the page shows.
-    fn states(self, alloc: Global) -> Result<IndexSet<usize>, AllocError> {
-        let mut states = IndexSet::new(alloc);
+    /// Adds the states that the page shows.
+    fn add_states(self, states: &mut IndexSet<usize>) -> Result<(), AllocError> {
         states.insert(0)?;
-        add_reached(&mut states, self.record)?;
-        if let Some(cards) = self.conflicts {
-            add_kinds(&mut states, cards)?;
+        add_stack(states, &self.record.start.stack)?;
+        add_reached(states, &self.record.states)?;
+        match self.conflicts {
+            Some(cards) => add_kinds(states, cards),
+            None => Ok(()),
         }
-        Ok(states)
+    }
+
+    /// The grammar, and the states that the page shows; those are gathered in a set.
+    fn table_by(
+        self,
+        alloc: Global,
+        states: &mut IndexSet<usize>,
+    ) -> Result<Table<'a>, AllocError> {
+        self.add_states(states)?;
+        let (tables, lines) = (self.parse.tables(), self.parse.lines());
+        Table::new(alloc, tables, lines, states.as_slice())
+    }
+
+    /// The grammar, and the states that the page shows.
+    fn table(self, alloc: Global) -> Result<Table<'a>, AllocError> {
+        let mut states = IndexSet::new(alloc);
+        let table = self.table_by(alloc, &mut states);
+        drop(states);
+        table
     }
 
     fn data(self, alloc: Global) -> io::Result<Data<'a>> {
-        let (tables, lines) = (self.parse.tables(), self.parse.lines());
-        let states = self.states(alloc)?;
         Ok(Data {
             files: self.files,
-            table: Table::new(alloc, tables, lines, states.as_slice())?,
+            table: self.table(alloc)?,
             input: Input::new(alloc, self.parse, self.record)?,
             record: self.record,
-            cells: cells_of(alloc, tables, lines, self.asked)?,
+            cells: cells_of(alloc, self.parse.tables(), self.parse.lines(), self.asked)?,
             conflicts: self.conflicts,
         })
     }

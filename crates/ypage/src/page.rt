@@ -3,16 +3,14 @@
 use crate::cards::{Cards, open_cards};
 use crate::data::Shown;
 use crate::frame::{BODY, END, FRONT};
-use crate::record::Record;
 use crate::script::SCRIPT;
 use crate::style::STYLE;
-use crate::walk::{MOST_STEPS, Part, Walked, walk_part};
+use crate::walk::{MOST_STEPS, Part, Trail, Walked, walk_part};
 use std::alloc::{AllocError, Global};
 use std::fs;
 use std::io::{self, ErrorKind, Write};
 use std::rt::Files;
 use yfollow::{Opens, Parse};
-use ysymbols::Sym;
 
 /// What is asked for: the page of the parse of a tokens file by a grammar file, where it goes, the
 /// part that it shows, and whether it has the conflicts of the grammar.
@@ -30,14 +28,6 @@ pub struct Asked<'a> {
     pub conflicts: bool,
 }
 
-/// The steps of a parse, which stands behind them, and the cells that they asked.
-#[derive(Clone, Copy)]
-struct Steps<'a> {
-    parse: &'a Parse,
-    record: &'a Record,
-    cells: &'a [(usize, Sym)],
-}
-
 /// Adds JSON in which no `<` stands: where one stood in a text, its number does.
 fn push_json(page: &mut Vec<u8>, json: &[u8]) -> Result<(), AllocError> {
     let mut pieces = json.split(|byte| *byte == b'<');
@@ -49,16 +39,25 @@ fn push_json(page: &mut Vec<u8>, json: &[u8]) -> Result<(), AllocError> {
     Ok(())
 }
 
+/// Writes a whole page around JSON.
+fn push_page(page: &mut Vec<u8>, json: &[u8]) -> Result<(), AllocError> {
+    page.extend_from_slice(FRONT.as_bytes())?;
+    page.extend_from_slice(STYLE.as_bytes())?;
+    page.extend_from_slice(SCRIPT.as_bytes())?;
+    page.extend_from_slice(BODY.as_bytes())?;
+    push_json(page, json)?;
+    page.extend_from_slice(END.as_bytes())?;
+    Ok(())
+}
+
 /// The whole page.
 fn page_of(alloc: Global, shown: Shown<'_>) -> io::Result<Vec<u8>> {
     let json = shown.json(alloc)?;
     let mut page = Vec::new(alloc);
-    for piece in [FRONT, STYLE, SCRIPT, BODY] {
-        page.extend_from_slice(piece.as_bytes())?;
+    match push_page(&mut page, &json) {
+        Ok(()) => Ok(page),
+        Err(error) => Err(io::Error::from(error)),
     }
-    push_json(&mut page, &json)?;
-    page.extend_from_slice(END.as_bytes())?;
-    Ok(page)
 }
 
 /// Writes a page to where it is wanted, and gives the exit status.
@@ -134,7 +133,8 @@ fn put_steps<'a, F: Files + AllocGlobal, S: Opens, W: Write, E: Write>(
     rt: &F,
     source: &S,
     asked: Asked<'a>,
-    steps: Steps<'a>,
+    parse: &'a Parse,
+    trail: &'a Trail,
     out: &mut W,
     errors: &mut E,
 ) -> io::Result<u8> {
@@ -142,9 +142,9 @@ fn put_steps<'a, F: Files + AllocGlobal, S: Opens, W: Write, E: Write>(
         Ok(cards) => {
             let shown = Shown {
                 files: (asked.grammar, asked.tokens),
-                parse: steps.parse,
-                record: steps.record,
-                asked: steps.cells,
+                parse,
+                record: &trail.record,
+                asked: trail.cells.as_slice(),
                 conflicts: cards.as_ref(),
             };
             put_shown(rt, asked.file, shown, out, errors)
@@ -163,14 +163,7 @@ fn put_parse<F: Files + AllocGlobal, S: Opens, W: Write, E: Write>(
     errors: &mut E,
 ) -> io::Result<u8> {
     match walk_part(rt.alloc(), parse, asked.part)? {
-        Walked::Done(record, cells) => {
-            let steps = Steps {
-                parse,
-                record: &record,
-                cells: cells.as_slice(),
-            };
-            put_steps(rt, source, asked, steps, out, errors)
-        }
+        Walked::Done(trail) => put_steps(rt, source, asked, parse, &trail, out, errors),
         Walked::Long => refuse_long(errors, asked.part.from),
         Walked::Short(end) => refuse_short(errors, asked.part.from, end),
     }

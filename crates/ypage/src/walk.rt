@@ -21,11 +21,27 @@ pub struct Part {
     pub to: Option<usize>,
 }
 
+/// Steps that a page shows.
+pub struct Trail {
+    /// The steps.
+    pub record: Record,
+    /// The cells that they asked, each a state and a token.
+    pub cells: IndexSet<(usize, Sym)>,
+}
+
+impl Drop for Trail {
+    // A call in each owner, which keeps their proofs short.
+    fn drop(self) {
+        let Trail { record: _, cells } = self;
+        drop(cells);
+    }
+}
+
 /// What a walk came to.
 #[derive(Drop)]
 pub enum Walked {
-    /// The steps, and the cells that they asked: each a state and a token.
-    Done(Record, IndexSet<(usize, Sym)>),
+    /// The steps that are wanted.
+    Done(Trail),
     /// There are more steps than a page shows.
     Long,
     /// The parse ends at this position, before the first one that is wanted.
@@ -33,11 +49,9 @@ pub enum Walked {
 }
 
 /// A walk on its way.
-#[derive(Drop)]
 struct Walk<'a> {
     parse: &'a mut Parse,
-    record: Record,
-    cells: IndexSet<(usize, Sym)>,
+    trail: &'a mut Trail,
 }
 
 /// A step, where one can be made.
@@ -66,9 +80,9 @@ impl Walk<'_> {
         let mut number = None;
         if is_running(session) {
             let cell = (session.state(), token_ahead(session));
-            number = Some(self.cells.insert_full(cell)?.0);
+            number = Some(self.trail.cells.insert_full(cell)?.0);
         }
-        self.record.cells.push(number)?;
+        self.trail.record.cells.push(number)?;
         Ok(())
     }
 
@@ -77,7 +91,8 @@ impl Walk<'_> {
         let Some(kind) = step(self.parse)? else {
             return Ok(false);
         };
-        self.record.note(kind, self.parse.session().state())?;
+        let state = self.parse.session().state();
+        self.trail.record.note(kind, state)?;
         self.note_cell()?;
         Ok(true)
     }
@@ -91,22 +106,30 @@ impl Walk<'_> {
         }
         Ok(most > MOST_STEPS && step(self.parse)?.is_some())
     }
+
+    /// Notes the first cell, makes so many steps at most, and says whether there are more.
+    fn run(&mut self, most: usize) -> io::Result<bool> {
+        self.note_cell()?;
+        self.go(most)
+    }
 }
 
 /// Makes the steps that are wanted from where a parse stands.
 fn walk_on(alloc: Global, parse: &mut Parse, most: usize) -> io::Result<Walked> {
     let start = Start::of(alloc, parse.session())?;
-    let mut walk = Walk {
-        parse,
+    let mut trail = Trail {
         record: Record::new(alloc, start),
         cells: IndexSet::new(alloc),
     };
-    walk.note_cell()?;
-    if walk.go(most)? {
-        return Ok(Walked::Long);
+    let mut walk = Walk {
+        parse,
+        trail: &mut trail,
+    };
+    match walk.run(most) {
+        Ok(false) => Ok(Walked::Done(trail)),
+        Ok(true) => Ok(Walked::Long),
+        Err(error) => Err(error),
     }
-    let Walk { record, cells, .. } = walk;
-    Ok(Walked::Done(record, cells))
 }
 
 /// Makes the steps of a part, from the start of a parse on.
