@@ -10,16 +10,6 @@ use ytables::Tables;
 /// The most kinds that are named.
 const MOST_NAMED: usize = 1_000;
 
-/// Writes a number of cells.
-fn put_cells<W: Write>(page: &mut Page<W>, cells: usize) {
-    page.count(cells, "cell", "cells");
-}
-
-/// Writes a number of kinds.
-pub fn put_number<W: Write>(page: &mut Page<W>, kinds: usize) {
-    page.count(kinds, "kind", "kinds");
-}
-
 /// Writes how many conflicts there are.
 pub fn put_counts<W: Write>(page: &mut Page<W>, path: &str, tables: &Tables, found: &Conflicts) {
     page.put(path);
@@ -33,9 +23,9 @@ pub fn put_counts<W: Write>(page: &mut Page<W>, path: &str, tables: &Tables, fou
     page.put(" shift/reduce, ");
     page.show(counts.reduce_reduce);
     page.put(" reduce/reduce, in ");
-    put_cells(page, found.cells);
+    page.count(found.cells, "cell", "cells");
     page.put(" of ");
-    put_number(page, found.groups.len());
+    page.count(found.groups.len(), "kind", "kinds");
     page.end();
 }
 
@@ -55,12 +45,12 @@ pub fn put_states<W: Write>(page: &mut Page<W>, group: Group) {
 fn put_left<W: Write>(page: &mut Page<W>, left: usize, others: usize) {
     if left > 0 {
         page.put("and ");
-        put_number(page, left);
+        page.count(left, "kind", "kinds");
         page.line(" more");
     }
     if others > 0 {
         page.put("and ");
-        put_cells(page, others);
+        page.count(others, "cell", "cells");
         page.line(" whose kinds aren't told apart");
     }
 }

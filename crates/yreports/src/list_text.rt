@@ -36,11 +36,6 @@ pub fn put_unfound<W: Write>(page: &mut Page<W>, finding: &Finding) {
     }
 }
 
-/// Writes a number of steps.
-fn put_steps<W: Write>(page: &mut Page<W>, steps: usize) {
-    page.count(steps, "step", "steps");
-}
-
 impl<'a> ListText<'a> {
     fn name(self) -> Name<'a> {
         Name(grammar_of(self.tables), self.kind.token)
@@ -130,7 +125,7 @@ impl<'a> ListText<'a> {
             ),
             Trial::Late(steps) => {
                 page.put("  A parse was given up after ");
-                put_steps(page, steps);
+                page.count(steps, "step", "steps");
                 page.line(".");
                 self.put_other(page, list);
             }
@@ -149,7 +144,7 @@ impl<'a> ListText<'a> {
         } else {
             self.put_parse(page, "comes to");
             page.put(" in ");
-            put_steps(page, steps);
+            page.count(steps, "step", "steps");
         }
         page.line(".");
     }
@@ -159,7 +154,7 @@ impl<'a> ListText<'a> {
         match &list.other {
             Some((tokens, steps)) => {
                 page.put("  Over these it comes to the state, in ");
-                put_steps(page, *steps);
+                page.count(*steps, "step", "steps");
                 page.line(":");
                 self.put_tokens(page, tokens);
             }

@@ -2,7 +2,7 @@
 //! that get there; then the warnings.
 
 use crate::finding::{ALL_STEPS, Finding, Seeker, file_tokens};
-use crate::kinds::{put_counts, put_named, put_number, put_states};
+use crate::kinds::{put_counts, put_named, put_states};
 use crate::list_text::{ListText, put_unfound};
 use crate::saving::Folder;
 use crate::warnings::put_warnings;
@@ -135,7 +135,7 @@ impl<W: Write, F: Files + AllocGlobal + Clone + Drop> Report<'_, W, F> {
         let rest = found.groups.len().saturating_sub(MOST_GROUPS);
         if rest > 0 {
             self.page.end();
-            put_number(self.page, rest);
+            self.page.count(rest, "kind", "kinds");
             self.page.line(" more, without lists of tokens:");
             put_named(self.page, tables, self.lines, found, MOST_GROUPS);
         }
