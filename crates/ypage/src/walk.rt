@@ -49,6 +49,7 @@ pub enum Walked {
 }
 
 /// A walk on its way.
+#[derive(Drop)]
 struct Walk<'a> {
     parse: &'a mut Parse,
     trail: &'a mut Trail,
