@@ -2,7 +2,7 @@
 use Rattle.std.proofs.Common.{ℕ, suc, ◌≡◌, ◌<◌, ◌≤◌, ◌+◌, List, [], ◌∷◌, ◌++◌, length, Option, sym}
 use Rattle.std.proofs.Common.{Some, None, ◌∙◌, ap, map, arith, drop, get_or, refl, length-append}
 use Rattle.std.specs.List.{flat_map}
-use Rattle.std.proofs.lemmas.List.{append_assoc, drop_more, length-map, map-append}
+use Rattle.std.proofs.lemmas.List.{append_assoc, append-nil, at_drop_all, drop_more, length-map, map-append}
 use Rattle.ylexemes.specs.declared.kind.Sign.TheVariants.{Mark}
 use Rattle.ysyntax.specs.declared.tree.BodyPart.{BodyPart as CodeBodyPart}
 use Rattle.ysyntax.specs.declared.tree.BodyPart.TheVariants as items
@@ -108,6 +108,27 @@ pub symbols_pushed : (f : Name → ℕ) (cs : List CodeBodyPart) (i k n : ℕ) (
     old ++ map f (body_from k (map body_part_view (drop i cs))).symbols ≡ all →
     new ++ map f (body_from n (map body_part_view (drop (i + 1) cs))).symbols ≡ all
 symbols_pushed f = pushed f (λ (b : Body). b.symbols) step_symbols
+
+-- where no part is left, all is added
+all_pushed : {A B : Type 0} (f : A → B) (adds : Body → List A) → ((k : ℕ) →
+    adds (body_from k []) ≡ []) → (cs : List CodeBodyPart) (i k : ℕ) (old all : List B) →
+    length cs ≤ i → old ++ map f (adds (body_from k (map body_part_view (drop i cs)))) ≡ all →
+    old ≡ all
+all_pushed {A = A} f adds none cs i k old all h w =
+    sym (append-nil old)
+    ∙ ap (λ (ys : List A). old ++ map f ys) (sym (none k) ∙ sym (at_drop_all
+    (λ (ys : List CodeBodyPart). adds (body_from k (map body_part_view ys))) cs i h))
+    ∙ w
+
+pub inner_all : (f : Rule → RuleValue) (cs : List CodeBodyPart) (i k : ℕ)
+    (old all : List RuleValue) → length cs ≤ i →
+    old ++ map f (body_from k (map body_part_view (drop i cs))).inner ≡ all → old ≡ all
+inner_all f = all_pushed f (λ (b : Body). b.inner) (λ k. refl)
+
+pub symbols_all : (f : Name → ℕ) (cs : List CodeBodyPart) (i k : ℕ) (old all : List ℕ) →
+    length cs ≤ i → old ++ map f (body_from k (map body_part_view (drop i cs))).symbols ≡ all →
+    old ≡ all
+symbols_all f = all_pushed f (λ (b : Body). b.symbols) (λ k. refl)
 
 pub next_pushed : (cs : List CodeBodyPart) (i k n m : ℕ) (d : CodeBodyPart) → i < length cs →
     n ≡ (body_from k (body_part_view (get_or cs i d) ∷ [])).next →

@@ -1,9 +1,7 @@
 -- The table of the tokens' own numbers and their holders, as the code keeps it.
-use Rattle.std.specs.Prelude.{◌≡◌, ◌≤◌, ◌⊎◌, ℕ, false, true, length, Option, Some, None, is_some}
-use Rattle.std.specs.Prelude.{Result, Ok, Err, slice_index_or}
+use Rattle.std.specs.Prelude.{◌≡◌, ◌≤◌, length, Result, Ok, Err}
 use Rattle.youtline.specs.declared.mistake.Mistake.TheVariants as mistakes
 use Rattle.youtline.specs.declared.mistake.Refused.{Refused}
-use Rattle.ygrammar.specs.declared.holders.Holders.TheVariants.{Nobody, Several}
 use Rattle.ygrammar.specs.declared.holders.OwnTable.{OwnTable}
 use Rattle.youtline.specs.Elaboration.{own_numbers}
 use Rattle.youtline.specs.Mistakes.{Holds}
@@ -23,10 +21,3 @@ pub record IsOwnTable (t : Tree) (o : OwnTable) : Type 0 where
 abbrev pub Owns : Tree → Result OwnTable Refused → Type 0
 Owns t (Ok o) = IsOwnTable t o
 Owns t (Err e) = Refuses t mistakes.BadNumber e
-
--- a place where a listing is at fault or several tokens hold one number, none where neither is so
-abbrev pub IsFaulty : OwnTable → Option ℕ → Option ℕ → Type 0
-IsFaulty o fault None = (is_some fault ≡ false)
-    × ((m : ℕ) → slice_index_or o.holders.items m Nobody ≡ Several → ⊥)
-IsFaulty o fault (Some at) = (is_some fault ≡ true)
-    ⊎ ((m : ℕ) × (slice_index_or o.holders.items m Nobody ≡ Several))

@@ -7,13 +7,13 @@ ghost use Rattle.ysymbols.specs.Grammar.{number_bound};
 ghost use Rattle.ysymbols.specs.NameTexts.{texts};
 ghost use Rattle.ygrammar.specs.Numbers.{AreHolders, IsOwn, is_held, with_holder};
 ghost use Rattle.youtline.specs.Outline.{Outlines};
-ghost use Rattle.ygrammar.specs.OwnTable.{IsFaulty, Owns};
+ghost use Rattle.ygrammar.specs.OwnTable.{Owns};
 ghost use Rattle.youtline.specs.Owned.{AllSmall};
 ghost use Rattle.ysyntax.specs.Tree.{Tree as TreeOf};
 ghost use Rattle.ygrammar.specs.declared.holders.Holders.TheVariants.{Nobody, Several};
 
 use std::alloc::{AllocError, Global};
-use youtline::given::{GivenNumbers, fit_number, given_numbers, own_numbers};
+use youtline::given::{fit_number, given_numbers, own_numbers};
 use youtline::identifiers::number_of;
 use youtline::mistake::{Mistake, Refused};
 use youtline::outline::{Listed, Outline};
@@ -159,18 +159,6 @@ pub struct OwnTable {
 }
 
 impl OwnTable {
-    /// These numbers of the tokens, with the holders of each. It fails only when memory runs out.
-    fn of(alloc: Global, numbers: Vec<Option<u32>>) -> Result<OwnTable, AllocError>
-        requires { AllSmall numbers.items }
-        ensures numbers { IfOk result (λ o. o.numbers.items ≡ numbers.items) }
-        ensures few { IfOk result (λ o. length o.holders.items ≤ number_bound) }
-        ensures holders { IfOk result (λ o. AreHolders (length o.holders.items) numbers.items
-            o.holders.items) }
-    {
-        let holders = own_holders(alloc, &numbers, bound_of(&numbers))?;
-        Ok(OwnTable { numbers, holders })
-    }
-
     /// A table of no tokens.
     pub fn new(alloc: Global) -> OwnTable
         ensures numbers { result.numbers.items ≡ [] }
@@ -193,26 +181,6 @@ impl Drop for OwnTable {
     }
 }
 
-/// The place of the first number at fault, as `first_at_fault` tells it; `None` where no listing is
-/// at fault and no two tokens hold one number. It fails only when memory runs out.
-fn place_at_fault(
-    alloc: Global,
-    tokens: &SymbolTable,
-    outline: &Outline,
-    table: &OwnTable,
-    fault: Option<usize>,
-) -> Result<Option<usize>, AllocError>
-    requires { AllSmall table.now.numbers.items }
-    ensures { IfOk result (λ at. IsFaulty table.now fault at) }
-{
-    if fault.is_none() && !has_shared(&table.holders) {
-        return Ok(None);
-    }
-    let mut holders = own_holders(alloc, &table.numbers, NUMBERS)?;
-    hold_given(&mut holders, tokens, &outline.listed);
-    Ok(Some(first_at_fault(&outline.listed, fault, &holders)))
-}
-
 /// The numbers that the tokens have by themselves. The mistake in them is the first number that is
 /// out of range, a second one for its token, or also held by another token; memory may run out
 /// too.
@@ -224,14 +192,17 @@ pub fn own_table(
     ensures { (t : TreeOf) → Outlines outline.now t → texts tokens.now ≡ tokens_of_tree t →
         Owns t result }
 {
-    let GivenNumbers { first, fault } = given_numbers(alloc, tokens, &outline.listed)?;
-    let numbers = own_numbers(tokens, first, &outline.declared, &outline.used);
-    let table = OwnTable::of(alloc, numbers)?;
-    match place_at_fault(alloc, tokens, outline, &table, fault)? {
-        None => Ok(table),
-        Some(at) => Err(Refused::Mistake {
-            what: Mistake::BadNumber,
-            at,
-        }),
+    let given = given_numbers(alloc, tokens, &outline.listed)?;
+    let fault = given.fault;
+    let numbers = own_numbers(tokens, given.first, &outline.declared, &outline.used);
+    let holders = own_holders(alloc, &numbers, bound_of(&numbers))?;
+    if fault.is_none() && !has_shared(&holders) {
+        return Ok(OwnTable { numbers, holders });
     }
+    let mut holders = own_holders(alloc, &numbers, NUMBERS)?;
+    hold_given(&mut holders, tokens, &outline.listed);
+    Err(Refused::Mistake {
+        what: Mistake::BadNumber,
+        at: first_at_fault(&outline.listed, fault, &holders),
+    })
 }

@@ -1,9 +1,10 @@
-use Rattle.std.proofs.Common.{List, ℕ}
+use Rattle.std.proofs.Common.{List, ℕ, arith}
 use Rattle.ysyntax.specs.declared.tree.BodyPart.{BodyPart}
 use Rattle.ysymbols.specs.NameTexts.{texts}
 use Rattle.ysymbols.specs.Names.{number_in}
 use Rattle.ygrammar.specs.Numbered.{inner_numbers}
-use Rattle.ygrammar.proofs.InnerSteps.{inner_pushed, next_pushed, part_room, symbols_pushed}
+use Rattle.ygrammar.proofs.InnerSteps.{inner_all, inner_pushed, next_pushed, part_room}
+use Rattle.ygrammar.proofs.InnerSteps.{symbols_all, symbols_pushed}
 use Rattle.ygrammar.proofs.rules.number_body.Goals as goal
 
 pub loop-item-preserved : goal.loop-item-preserved
@@ -24,3 +25,11 @@ loop-item-preserved c =
 pub push-requires : goal.push-requires
 push-requires c = part_room c.args.items.now c.loop-item.item-index _ _ _ _ c.loop-item-test.true
     c.loop-item.invariant.next c.requires
+
+pub returns-clause-rules : goal.returns-clause-rules
+returns-clause-rules c = inner_all (inner_numbers (texts c.args.names.now)) c.args.items.now
+    c.loop-item.item-index _ _ _ (omega arith) c.loop-item.invariant.rules
+
+pub returns-clause-symbols : goal.returns-clause-symbols
+returns-clause-symbols c = symbols_all (number_in (texts c.args.names.now)) c.args.items.now
+    c.loop-item.item-index _ _ _ (omega arith) c.loop-item.invariant.symbols
