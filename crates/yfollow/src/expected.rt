@@ -112,7 +112,8 @@ impl<'a> Trial<'a> {
         goto_of(self.tables.automaton(), self.top(), left)
     }
 
-    /// Replaces the body of a rule by its left side; the token can't come where that leads nowhere.
+    /// Replaces the body of a rule by its left side. Where that leads nowhere, the token can't
+    /// come.
     fn reduce(&mut self, rule: usize) -> Result<Option<Answer>, AllocError> {
         match self.leave(rule) {
             Some(state) => {

@@ -2,8 +2,8 @@
 //! the grammar file, and the text that its tokens were read from; and verdicts on inputs.
 //!
 //! `source` has the text and what counts its lines, `parse` the session with its past, `start`
-//! makes one of its two files, and has the trait of what opens them. `expected` has the tokens that
-//! can come over a stack, and `check` the verdicts on tokens files.
+//! makes one of its two files, and has the trait of what opens them. `expected` has the tokens
+//! that can come over a stack, and `check` the verdicts on tokens files.
 #![tactic(auto)]
 
 pub mod check;
