@@ -145,7 +145,11 @@ fn report<W: Write>(
 }
 
 /// Verdicts on inputs.
-fn check<W: Write>(rt: &HostRuntime, matches: &ArgMatches<'_>, out: &mut W) -> Result<u8, Refused> {
+fn check_files<W: Write>(
+    rt: &HostRuntime,
+    matches: &ArgMatches<'_>,
+    out: &mut W,
+) -> Result<u8, Refused> {
     let asked = check::Asked {
         grammar: grammar_in(matches)?,
         inputs: matches.get_strs("tokens").unwrap_or(&[]),
@@ -199,7 +203,7 @@ fn import<W: Write>(
 }
 
 /// The tokens of a text.
-fn tokens<W: Write>(
+fn cut_file<W: Write>(
     rt: &HostRuntime,
     matches: &ArgMatches<'_>,
     out: &mut W,
@@ -210,7 +214,7 @@ fn tokens<W: Write>(
 }
 
 /// A sketch of how tokens look.
-fn sketch<W: Write>(
+fn sketch_file<W: Write>(
     rt: &HostRuntime,
     matches: &ArgMatches<'_>,
     out: &mut W,
@@ -275,11 +279,11 @@ fn obey<W: Write>(
     match form {
         Form::Debug => debug_files(rt, matches, out),
         Form::Conflicts => report(rt, matches, out),
-        Form::Check => check(rt, matches, out),
+        Form::Check => check_files(rt, matches, out),
         Form::Page => page(rt, matches, out),
         Form::Import => import(rt, matches, out),
-        Form::Tokens => tokens(rt, matches, out),
-        Form::Sketch => sketch(rt, matches, out),
+        Form::Tokens => cut_file(rt, matches, out),
+        Form::Sketch => sketch_file(rt, matches, out),
     }
 }
 
