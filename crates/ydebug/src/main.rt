@@ -19,7 +19,7 @@ mod source;
 mod tokens;
 mod told;
 
-use crate::check::{self, check_inputs};
+use crate::check::check_inputs;
 use crate::forms::{Form, USAGE, command_of, form_of, name_of};
 use crate::grammars::{GrammarFile, open_file};
 use crate::sketch::run_sketch;
