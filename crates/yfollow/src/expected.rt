@@ -61,23 +61,12 @@ impl Wanted {
 
 /// A stack of states that is tried: some of those given, and others above them; and how many more
 /// reductions may be made.
+#[derive(Drop)]
 struct Trial<'a> {
     tables: &'a Tables,
     below: &'a [usize],
     above: Vec<usize>,
     left: usize,
-}
-
-impl Drop for Trial<'_> {
-    // A call in each owner, which keeps their proofs short.
-    fn drop(self) {
-        let Trial {
-            tables: _,
-            below: _,
-            above: _,
-            left: _,
-        } = self;
-    }
 }
 
 impl<'a> Trial<'a> {
