@@ -79,13 +79,7 @@ impl<W: Write, F: Files + AllocGlobal + Clone + Drop> Report<'_, W, F> {
     }
 
     /// Writes a kind of conflict and why it is settled so.
-    fn put_group(
-        &mut self,
-        tables: &Tables,
-        number: usize,
-        kind: &Kind,
-        group: Group,
-    ) {
+    fn put_group(&mut self, tables: &Tables, number: usize, kind: &Kind, group: Group) {
         self.page.end();
         self.page.put("conflict ");
         self.page.number(number);

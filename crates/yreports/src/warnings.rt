@@ -166,8 +166,8 @@ impl<W: Write> Warner<'_, W> {
     }
 }
 
-/// Writes a line for each warning by what is done and how symbols are named, and says how many there
-/// are.
+/// Writes a line for each warning by what is done and how symbols are named, and says how many
+/// there are.
 fn put_each<W: Write>(warner: &mut Warner<'_, W>, done: &Done, named: &Named) -> usize {
     warner.put_lost(done);
     warner.put_idle_tokens(done, named);
