@@ -152,6 +152,7 @@ fn put_found<W: Write, F: Files + AllocGlobal + Clone + Drop>(
     session: &mut Session,
     found: &Conflicts,
 ) -> io::Result<()> {
+    report.page.checked()?;
     report.folder.clear()?;
     if found.cells == 0 {
         return Ok(());
