@@ -1,17 +1,17 @@
 -- What elaboration gives: the grammar that a tree means, or its first mistake.
 use Rattle.std.specs.Prelude.{ℕ, ◌≡◌, ◌<◌, ◌≤◌, List, length, map, Option, Result, Ok, Err}
 use Rattle.ygrammar.specs.declared.elaboration.Named.{Named}
-use Rattle.youtline.specs.declared.mistake.Mistake.TheVariants.{TokenLeft, Undefined}
-use Rattle.youtline.specs.declared.mistake.Mistake.TheVariants.{TwicePrecedence}
-use Rattle.youtline.specs.declared.mistake.Mistake.TheVariants.{Unproductive}
-use Rattle.youtline.specs.declared.mistake.Refused.{Refused}
-use Rattle.youtline.specs.declared.mistake.Refused.TheVariants as refused
-use Rattle.youtline.specs.Elaboration.{bare_of, rules, symbols, token_precedences, tokens}
+use Rattle.ysyntax.specs.declared.mistake.Mistake.TheVariants.{TokenLeft, Undefined}
+use Rattle.ysyntax.specs.declared.mistake.Mistake.TheVariants.{TwicePrecedence}
+use Rattle.ysyntax.specs.declared.mistake.Mistake.TheVariants.{Unproductive}
+use Rattle.ysyntax.specs.declared.mistake.Refused.{Refused}
+use Rattle.ysyntax.specs.declared.mistake.Refused.TheVariants as refused
+use Rattle.ysyntax.specs.Elaboration.{bare_of, rules, symbols, token_precedences, tokens}
 use Rattle.ysymbols.specs.Forms.{Productive}
 use Rattle.ysymbols.specs.Grammar.{ContextFree, GrammarValue, RuleValue}
 use Rattle.ysymbols.specs.Marking.{AreIn}
 use Rattle.ygrammar.specs.Meaning.{IsMeaning}
-use Rattle.youtline.specs.Mistakes.{HasNone, Holds, IsFirst, order}
+use Rattle.ysyntax.specs.Mistakes.{HasNone, Holds, IsFirst, order}
 use Rattle.ysymbols.specs.NameTexts.{texts}
 use Rattle.ygrammar.specs.Numbered.{rule_numbers}
 use Rattle.ygrammar.specs.OwnTable.{IsOwnTable}
@@ -55,14 +55,14 @@ abbrev pub AreNumbered : Tree → List RuleValue → Type 0
 AreNumbered t vs = vs ≡ map (rule_numbers (symbols t) (token_precedences t)) (rules t)
 
 -- No mistake stands in the tree, and each nonterminal derives a list of tokens.
-pub record IsSound (t : Tree) : Type 0 where
+pub record IsFaultless (t : Tree) : Type 0 where
   pub none : HasNone t order
   pub productive : (s : ℕ) → length (tokens t) ≤ s → s < length (symbols t) →
       Productive (bare_of t) s
 
--- the tree is sound, or this is its first mistake, or no memory
+-- the tree has no mistake, or this is its first one, or no memory
 abbrev pub Decides : {A : Type 0} → Tree → Result A Refused → Type 0
-Decides t (Ok v) = IsSound t
+Decides t (Ok v) = IsFaultless t
 Decides t (Err e) = IsFirstRefused t e
 
 -- The rules are numbered and have their texts, and no mistake stands in the tree.

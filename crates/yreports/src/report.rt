@@ -1,9 +1,7 @@
 //! `ydebug conflicts`: each kind of conflict with its rivals, what settled it, and lists of tokens
 //! that get there; then the warnings.
 
-use crate::finding::{ALL_STEPS, Finding, Seeker, file_tokens};
 use crate::kinds::{put_counts, put_named, put_states};
-use crate::list_text::{ListText, put_unfound};
 use crate::saving::Folder;
 use crate::warnings::put_warnings;
 use std::alloc::Global;
@@ -15,7 +13,10 @@ use yexplain::lines::Lines;
 use yexplain::reads::grammar_of;
 use yexplain::why::{Question, explain};
 use yfaults::opening::Opened;
-use yparse::{Session, Tokens};
+use yfindings::finding::{ALL_STEPS, Finding, Seeker, file_tokens};
+use yfindings::list_text::{ListText, put_unfound};
+use yfindings::trial::empty_session;
+use yparse::Session;
 use yshow::page::Page;
 use ytables::Tables;
 
@@ -230,14 +231,6 @@ fn put_all<W: Write, E: Write, F: Files + AllocGlobal + Clone + Drop>(
 ) -> io::Result<u8> {
     let found = Conflicts::new(rt.alloc(), session.tables())?;
     put_both(rt, asked, &found, page, errors, session, lines)
-}
-
-/// A session without tokens.
-pub fn empty_session(alloc: Global, tables: Tables) -> Session {
-    let tokens = Tokens {
-        symbols: Vec::new(alloc),
-    };
-    Session::new(alloc, tables, tokens)
 }
 
 /// Writes the conflicts and the warnings of a grammar that is open, and gives the exit status: 0;

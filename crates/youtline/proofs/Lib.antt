@@ -1,4 +1,0 @@
-pub mod TellingSteps
-pub mod OwnSteps
-pub mod TokenSteps
-pub mod GivenTables
