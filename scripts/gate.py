@@ -5,12 +5,15 @@
 
 Each QUICK is a script that ends with status 0 where all is well; the first that doesn't ends the
 gate. A RUNNER is a command: that of the scenarios, and that of hostile devices. The last line,
-`N passed, M failed`, is the sum of `rt ci` and the runners.
+`N passed, M failed`, is the sum of `rt ci` and the runners. The line before it says how long they
+took, by the clock and in processor time, and how much of that time other machines took away.
 """
 import os
 import re
+import resource
 import subprocess
 import sys
+import time
 from pathlib import Path
 
 SUM = re.compile(r"(\d+) passed, (\d+) failed\s*")
@@ -74,7 +77,25 @@ def parts_of(words):
     return parts
 
 
+def stolen():
+    """Seconds that a virtual machine's processors were kept from it, 0 where nobody says."""
+    words = words_of("/proc/stat")
+    return int(words[8]) / os.sysconf("SC_CLK_TCK") if len(words) > 8 else 0
+
+
+def tell_time(begun, stolen_before):
+    """Says how long the gate took, by the clock and in processor time."""
+    used = resource.getrusage(resource.RUSAGE_CHILDREN)
+    wall, processor = time.monotonic() - begun, used.ru_utime + used.ru_stime
+    lost = stolen() - stolen_before
+    print(
+        f"gate: {wall / 60:.1f} minutes, {processor / 60:.1f} of processor time on"
+        f" {len(os.sched_getaffinity(0))} processors, {lost / 60:.1f} stolen"
+    )
+
+
 def main():
+    begun, stolen_before = time.monotonic(), stolen()
     checks, *runners = parts_of(sys.argv[1:])
     for check in checks:
         if subprocess.run([sys.executable, check]).returncode:
@@ -82,6 +103,7 @@ def main():
             return 1
     sums = [counted(words) for words in (["rt", "ci"], *runners)]
     passed, failed = map(sum, zip(*sums))
+    tell_time(begun, stolen_before)
     print(f"{passed} passed, {failed} failed")
     return 1 if failed else 0
 
