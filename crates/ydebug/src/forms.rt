@@ -105,9 +105,9 @@ const HOW_TOKENS_LOOK: &str = "The file that says how the tokens of a text look"
 
 const FROM_BISON: &str = "bison: the grammar is a file of bison or byacc";
 
-const DEBUG: [Word; 4] = [GRAMMAR, INPUT, LEX, FROM];
+const DEBUG: &[Word] = &[GRAMMAR, INPUT, LEX, FROM];
 
-const CONFLICTS: [Word; 4] = [
+const CONFLICTS: &[Word] = &[
     GRAMMAR,
     Word(
         "save",
@@ -122,7 +122,7 @@ const CONFLICTS: [Word; 4] = [
     ),
 ];
 
-const CHECK: [Word; 5] = [
+const CHECK: &[Word] = &[
     GRAMMAR,
     Word(
         "tokens",
@@ -138,7 +138,7 @@ const CHECK: [Word; 5] = [
     ),
 ];
 
-const PAGE: [Word; 7] = [
+const PAGE: &[Word] = &[
     GRAMMAR,
     INPUT,
     Word(
@@ -160,16 +160,16 @@ const PAGE: [Word; 7] = [
     ),
 ];
 
-const TOKENS: [Word; 4] = [
+const TOKENS: &[Word] = &[
     GRAMMAR,
     Word("tokens", Given::File("input"), "The text"),
     Word("lex", Given::Required("SPEC"), HOW_TOKENS_LOOK),
     FROM,
 ];
 
-const SKETCH: [Word; 2] = [GRAMMAR, FROM];
+const SKETCH: &[Word] = &[GRAMMAR, FROM];
 
-const IMPORT: [Word; 2] = [
+const IMPORT: &[Word] = &[
     Word("file", Given::File("file"), "The file of bison or byacc"),
     Word("output", Given::Output, "Writes the grammar to this file"),
 ];
@@ -211,50 +211,24 @@ fn with_words<'a>(alloc: Global, form: Form, words: &[Word]) -> Result<Command<'
     Ok(command)
 }
 
-/// The command line of a session.
-fn debug_command<'a>(alloc: Global) -> Result<Command<'a>, AllocError> {
-    Ok(with_words(alloc, Form::Debug, &DEBUG)?.after_help(FORMS))
-}
-
-/// The command line of the report on conflicts.
-fn conflicts_command<'a>(alloc: Global) -> Result<Command<'a>, AllocError> {
-    with_words(alloc, Form::Conflicts, &CONFLICTS)
-}
-
-/// The command line of verdicts.
-fn check_command<'a>(alloc: Global) -> Result<Command<'a>, AllocError> {
-    with_words(alloc, Form::Check, &CHECK)
-}
-
-/// The command line of a page.
-fn page_command<'a>(alloc: Global) -> Result<Command<'a>, AllocError> {
-    with_words(alloc, Form::Page, &PAGE)
-}
-
-/// The command line of tokens.
-fn tokens_command<'a>(alloc: Global) -> Result<Command<'a>, AllocError> {
-    with_words(alloc, Form::Tokens, &TOKENS)
-}
-
-/// The command line of a sketch.
-fn sketch_command<'a>(alloc: Global) -> Result<Command<'a>, AllocError> {
-    with_words(alloc, Form::Sketch, &SKETCH)
-}
-
-/// The command line of an import.
-fn import_command<'a>(alloc: Global) -> Result<Command<'a>, AllocError> {
-    with_words(alloc, Form::Import, &IMPORT)
-}
-
-/// The command line of a form.
-pub fn command_of<'a>(alloc: Global, form: Form) -> Result<Command<'a>, AllocError> {
+/// The words of a form.
+fn words_of(form: Form) -> &'static [Word] {
     match form {
-        Form::Debug => debug_command(alloc),
-        Form::Conflicts => conflicts_command(alloc),
-        Form::Check => check_command(alloc),
-        Form::Page => page_command(alloc),
-        Form::Import => import_command(alloc),
-        Form::Tokens => tokens_command(alloc),
-        Form::Sketch => sketch_command(alloc),
+        Form::Debug => DEBUG,
+        Form::Conflicts => CONFLICTS,
+        Form::Check => CHECK,
+        Form::Page => PAGE,
+        Form::Import => IMPORT,
+        Form::Tokens => TOKENS,
+        Form::Sketch => SKETCH,
+    }
+}
+
+/// The command line of a form. Help on the first one names the others.
+pub fn command_of<'a>(alloc: Global, form: Form) -> Result<Command<'a>, AllocError> {
+    let command = with_words(alloc, form, words_of(form))?;
+    match form {
+        Form::Debug => Ok(command.after_help(FORMS)),
+        _ => Ok(command),
     }
 }

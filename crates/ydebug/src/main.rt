@@ -39,12 +39,12 @@ use ypage::walk::Part;
 use yreports::report::{Asked, put_conflicts};
 
 /// Why nothing was done.
-#[derive(Drop)]
+#[derive(Clone, Copy)]
 enum Refused {
     /// The words are not those of the program.
     Words,
-    /// Help was asked for.
-    Help(String),
+    /// Help was asked for, and is written.
+    Helped,
     /// Memory ran out.
     Memory,
     /// The standard streams fail.
@@ -66,19 +66,35 @@ impl From<io::Error> for Refused {
     }
 }
 
+/// Writes the help that was asked for.
+fn put_help(rt: &HostRuntime, help: &clap::Error) -> Refused {
+    match format!(in rt.alloc(); "{help}") {
+        Ok(text) => {
+            let _ = rt.stdout().write_all(text.as_bytes());
+            Refused::Helped
+        }
+        Err(_) => Refused::Memory,
+    }
+}
+
+/// Why words are refused. Help that they ask for is written.
+fn refused_for(rt: &HostRuntime, error: &clap::Error) -> Refused {
+    match error.kind() {
+        ErrorKind::DisplayHelp => put_help(rt, error),
+        ErrorKind::OutOfMemory => Refused::Memory,
+        _ => Refused::Words,
+    }
+}
+
 /// What a command line makes of words.
 fn matches_by<'a>(
-    alloc: Global,
-    command: Result<Command<'a>, AllocError>,
+    rt: &HostRuntime,
+    command: Command<'a>,
     words: &'a [&'a str],
 ) -> Result<ArgMatches<'a>, Refused> {
-    match command?.try_get_matches_from(words) {
+    match command.try_get_matches_from(words) {
         Ok(matches) => Ok(matches),
-        Err(error) => match error.kind() {
-            ErrorKind::DisplayHelp => Err(Refused::Help(format!(in alloc; "{error}")?)),
-            ErrorKind::OutOfMemory => Err(Refused::Memory),
-            _ => Err(Refused::Words),
-        },
+        Err(error) => Err(refused_for(rt, &error)),
     }
 }
 
@@ -302,7 +318,7 @@ fn obey_all<W: Write>(
 /// Does what words ask for, and gives the exit status. The first one is the name of the program.
 fn obey_words(rt: &HostRuntime, form: Form, words: &[&str]) -> Result<u8, Refused> {
     let alloc = rt.alloc();
-    let matches = matches_by(alloc, command_of(alloc, form), words)?;
+    let matches = matches_by(rt, command_of(alloc, form)?, words)?;
     let mut out = BufWriter::new(alloc, rt.stdout())?;
     obey_all(rt, form, &matches, &mut out)
 }
@@ -334,21 +350,20 @@ fn run(rt: &HostRuntime) -> Result<u8, Refused> {
 }
 
 /// Says why nothing was done, and gives the exit status.
-fn refuse(rt: &HostRuntime, refused: &Refused) -> u8 {
-    let mut errors = rt.stderr();
-    let (told, status) = match refused {
-        Refused::Help(text) => (rt.stdout().write_all(text.as_bytes()), 0),
-        Refused::Words => (errors.write_all(USAGE), 2),
-        Refused::Memory => (errors.write_all(b"ydebug: no memory\n"), 3),
-        Refused::Outside => (errors.write_all(b"ydebug: cannot read or write\n"), 3),
+fn refuse(rt: &HostRuntime, refused: Refused) -> u8 {
+    let (text, status): (&[u8], u8) = match refused {
+        Refused::Helped => (b"", 0),
+        Refused::Words => (USAGE, 2),
+        Refused::Memory => (b"ydebug: no memory\n", 3),
+        Refused::Outside => (b"ydebug: cannot read or write\n", 3),
     };
-    let _ = told;
+    let _ = rt.stderr().write_all(text);
     status
 }
 
 fn main(rt: HostRuntime) -> ExitCode {
     match run(&rt) {
         Ok(status) => ExitCode::from(status),
-        Err(refused) => ExitCode::from(refuse(&rt, &refused)),
+        Err(refused) => ExitCode::from(refuse(&rt, refused)),
     }
 }
