@@ -4,27 +4,12 @@
 //! that `yacc` reads out of one for bison. With `--lex SPEC` a text stands in place of a tokens
 //! file; `ydebug tokens` writes the tokens of one, and `ydebug lex-spec` sketches a SPEC.
 //!
-//! What the forms are given: `grammars` opens grammar files of yacc or of bison, `told` says why a
-//! SPEC or a text is refused, `reading` opens SPECs, `cut` cuts texts, `source` opens parses, and
-//! `check`, `tokens` and `sketch` are forms of their own.
+//! `forms` has the words of the forms; what they are given is opened by `ysources`.
 #![tactic(auto)]
 
-mod check;
-mod cut;
 mod forms;
-mod grammars;
-mod reading;
-mod sketch;
-mod source;
-mod tokens;
-mod told;
 
-use crate::check::check_inputs;
 use crate::forms::{Form, USAGE, command_of, form_of, name_of};
-use crate::grammars::{GrammarFile, open_file};
-use crate::sketch::run_sketch;
-use crate::source::Source;
-use crate::tokens::run_tokens;
 use clap::error::ErrorKind;
 use clap::{ArgMatches, Command};
 use std::alloc::{AllocError, Global};
@@ -37,6 +22,11 @@ use yimported::run::{Asked as Import, run_import};
 use ypage::page::{self, run_page};
 use ypage::walk::Part;
 use yreports::report::{Asked, put_conflicts};
+use ysources::check::{self, check_inputs};
+use ysources::grammars::{GrammarFile, open_file};
+use ysources::sketch::run_sketch;
+use ysources::source::Source;
+use ysources::tokens::run_tokens;
 
 /// Why nothing was done.
 #[derive(Clone, Copy)]
