@@ -2,11 +2,11 @@
 //! deserves a warning.
 #![tactic(auto)]
 
-pub mod costs;
+mod costs;
 pub mod groups;
-pub mod lists;
-pub mod moves;
-pub mod needs;
-pub mod queue;
+mod lists;
+mod moves;
+mod needs;
+mod queue;
 pub mod search;
 pub mod sentences;

@@ -5,15 +5,15 @@
 //! done to a parse goes through the calls of `Session` alone.
 #![tactic(auto)]
 
-pub mod conflicts;
-pub mod desk;
-pub mod edits;
-pub mod expected;
-pub mod history;
-pub mod moves;
-pub mod reload;
-pub mod tail;
-pub mod text;
-pub mod views;
+mod conflicts;
+mod desk;
+mod edits;
+mod expected;
+mod history;
+mod moves;
+mod reload;
+mod tail;
+mod text;
+mod views;
 
 pub use desk::{Setting, debug};

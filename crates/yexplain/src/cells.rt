@@ -1,10 +1,9 @@
 //! What a cell could say and what it says: the candidates of a state and a token, how each rule
 //! stands against the shift, and which case settled it.
 
-use crate::reads::{action_of, is_complete, items_of, level_of, looks_at, next_of, rule_of};
+use crate::reads::{is_complete, items_of, level_of, looks_at, next_of, rule_of};
 use ylalr::{Automaton, Item};
 use ysymbols::{Associativity, Grammar, Precedence, Sym};
-use ytables::{Action, Tables};
 
 /// How a rule stands against the shift of a token.
 #[derive(Clone, Copy, Drop, PartialEq, Eq)]
@@ -209,16 +208,4 @@ pub fn survey_of(
 pub fn survey_at(automaton: &Automaton, state: usize, token: Sym) -> Survey {
     let shifts = shifts_at(automaton, state, token);
     survey_of(automaton, state, token, shifts, items_of(automaton, state))
-}
-
-/// Whether what the tables say of a cell is what settled it; a default rule stands in for errors.
-pub fn agrees(tables: &Tables, state: usize, token: Sym) -> bool {
-    let case = survey_at(tables.automaton(), state, token).case();
-    match (action_of(tables, state, token), case) {
-        (Action::Shift(_) | Action::Accept, Case::Shift | Case::Kept | Case::Open) => true,
-        (Action::Reduce(r), Case::Reduce(s) | Case::Least(s) | Case::Beaten(s)) => r == s,
-        (Action::Error | Action::Reduce(_), Case::Empty) => true,
-        (Action::Error, Case::Banned(_)) => true,
-        _ => false,
-    }
 }

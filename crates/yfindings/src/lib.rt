@@ -3,5 +3,5 @@
 
 pub mod finding;
 pub mod list_text;
-pub mod others;
+mod others;
 pub mod trial;

@@ -135,16 +135,6 @@ impl<'a> Trial<'a> {
     }
 }
 
-/// Whether a token can come over these states, the first state of all at the bottom.
-pub fn can_come(
-    alloc: Global,
-    tables: &Tables,
-    states: &[usize],
-    token: Sym,
-) -> Result<Answer, AllocError> {
-    Trial::new(alloc, tables, MOST_REDUCTIONS).answer(states, token)
-}
-
 /// The tokens that can come over these states, the first state of all at the bottom; `error` is
 /// not among them.
 pub fn expected(alloc: Global, tables: &Tables, states: &[usize]) -> Result<Wanted, AllocError> {

@@ -8,7 +8,7 @@
 
 pub mod check;
 pub mod expected;
-pub mod parse;
+mod parse;
 pub mod source;
 pub mod start;
 

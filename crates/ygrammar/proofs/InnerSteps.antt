@@ -10,7 +10,7 @@ use Rattle.ysyntax.specs.declared.tree.BodyPart.TheVariants as items
 use Rattle.ysyntax.specs.declared.tree.BracedText.{BracedText}
 use Rattle.ysyntax.specs.declared.tree.RuleText.{RuleText as CodeRuleText}
 use Rattle.ysyntax.specs.TreeViews.{body_part_view, rule_text_view}
-use Rattle.ysyntax.specs.Elaboration.{Body, Rule, body_from, final_of, split_last}
+use Rattle.youtline.specs.Elaboration.{Body, Rule, body_from, final_of, split_last}
 use Rattle.ysymbols.specs.Grammar.{RuleValue}
 use Rattle.ysymbols.specs.Names.{Name}
 use Rattle.ylexemes.specs.Lexemes.{Lexeme, fixed}

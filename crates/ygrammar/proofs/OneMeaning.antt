@@ -4,13 +4,13 @@ use Rattle.std.proofs.Common.{List, [], ◌∷◌, length, Option, Some, None, r
 use Rattle.std.proofs.Common.{arith, get_or}
 use Rattle.std.specs.List.{slice_get}
 use Rattle.std.proofs.lemmas.Bool.{cases_order}
-use Rattle.ysyntax.specs.declared.mistake.Mistake.{Mistake}
+use Rattle.youtline.specs.declared.mistake.Mistake.{Mistake}
 use Rattle.ysymbols.specs.declared.precedence.Precedence.{Precedence}
-use Rattle.ysyntax.specs.Elaboration.{bare_of, own_numbers, rules, symbols, token_precedences}
+use Rattle.youtline.specs.Elaboration.{bare_of, own_numbers, rules, symbols, token_precedences}
 use Rattle.ysymbols.specs.Forms.{IsReachable}
 use Rattle.ysymbols.specs.Grammar.{ContextFree, GrammarValue}
 use Rattle.ygrammar.specs.Meaning.{IsMeaning}
-use Rattle.ysyntax.specs.Mistakes.{HasNone, Holds, IsFirst}
+use Rattle.youtline.specs.Mistakes.{HasNone, Holds, IsFirst}
 use Rattle.ygrammar.specs.Numbers.{AreNumbers, IsLeast, IsOwn}
 use Rattle.ysyntax.specs.Tree.{Tree}
 use Rattle.ygrammar.proofs.LastTokens.{one_precedences}

@@ -5,14 +5,14 @@ use Rattle.std.specs.Result.{IsErrOf}
 use Rattle.ysyntax.specs.Answers.{Answers, views}
 use Rattle.ysyntax.specs.declared.fault.GrammarFault.{GrammarFault}
 use Rattle.ysyntax.specs.declared.fault.GrammarFault.TheVariants as faults
-use Rattle.ysyntax.specs.declared.mistake.Mistake.{Mistake}
-use Rattle.ysyntax.specs.declared.mistake.Mistake.TheVariants.{TokenLeft, Undefined}
-use Rattle.ysyntax.specs.declared.mistake.Mistake.TheVariants.{TwicePrecedence, BadNumber}
-use Rattle.ysyntax.specs.declared.mistake.Mistake.TheVariants.{BadStart, Unproductive}
-use Rattle.ysyntax.specs.declared.mistake.Mistake.TheVariants.{BadPrec}
-use Rattle.ysyntax.specs.declared.mistake.Mistake.TheVariants.{Limit}
-use Rattle.ysyntax.specs.declared.mistake.Refused.{Refused}
-use Rattle.ysyntax.specs.declared.mistake.Refused.TheVariants as refused
+use Rattle.youtline.specs.declared.mistake.Mistake.{Mistake}
+use Rattle.youtline.specs.declared.mistake.Mistake.TheVariants.{TokenLeft, Undefined}
+use Rattle.youtline.specs.declared.mistake.Mistake.TheVariants.{TwicePrecedence, BadNumber}
+use Rattle.youtline.specs.declared.mistake.Mistake.TheVariants.{BadStart, Unproductive}
+use Rattle.youtline.specs.declared.mistake.Mistake.TheVariants.{BadPrec}
+use Rattle.youtline.specs.declared.mistake.Mistake.TheVariants.{Limit}
+use Rattle.youtline.specs.declared.mistake.Refused.{Refused}
+use Rattle.youtline.specs.declared.mistake.Refused.TheVariants as refused
 use Rattle.ysyntax.specs.declared.lexer.Placed.{Placed}
 use Rattle.ysyntax.specs.Lexer.{Refusal, SpellsSyntax}
 use Rattle.ygrammar.specs.Elaborated.{IsFirstRefused}
@@ -22,7 +22,7 @@ use Rattle.ygrammar.specs.GrammarOf.{AnswersGrammar, AnswersMistake, AnswersRefu
 use Rattle.ygrammar.specs.GrammarOf.{IsFaultOf, IsMistaken, mistake_at}
 use Rattle.ylexemes.specs.Lexemes.{Lexeme}
 use Rattle.ygrammar.specs.Meaning.{IsMeaning}
-use Rattle.ysyntax.specs.Mistakes.{IsFirst, order}
+use Rattle.youtline.specs.Mistakes.{IsFirst, order}
 use Rattle.ysyntax.specs.Tree.{IsTree, Tree, yield}
 use Rattle.ygrammar.proofs.OneMeaning.{none_first, one_first, one_meaning}
 use Rattle.ysyntax.proofs.OneTree.{one_tree}

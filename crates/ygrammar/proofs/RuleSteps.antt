@@ -9,8 +9,8 @@ use Rattle.ysyntax.specs.declared.tree.Occurrence.{Occurrence}
 use Rattle.ysyntax.specs.Tree.{BodyPart, symbol, action, Identifier, RuleText}
 use Rattle.ysyntax.specs.TreeViews.{braced_view, body_part_view, occurrence_view}
 use Rattle.ysymbols.specs.Sources.{option_view}
-use Rattle.ysyntax.specs.Elaboration.{split_last, final_of, Body, Rule, body_from, inner_rule}
-use Rattle.ysyntax.specs.Elaboration.{or_else, precedence_at, rules_from}
+use Rattle.youtline.specs.Elaboration.{split_last, final_of, Body, Rule, body_from, inner_rule}
+use Rattle.youtline.specs.Elaboration.{or_else, precedence_at, rules_from}
 use Rattle.ysymbols.specs.declared.precedence.Precedence.{Precedence}
 use Rattle.ysymbols.specs.Names.{Name, number_in}
 use Rattle.ygrammar.specs.Numbered.{chosen_token, inner_numbers, rule_numbers, rule_precedence}

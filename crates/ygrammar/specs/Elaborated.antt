@@ -1,17 +1,17 @@
 -- What elaboration gives: the grammar that a tree means, or its first mistake.
 use Rattle.std.specs.Prelude.{ℕ, ◌≡◌, ◌<◌, ◌≤◌, List, length, map, Option, Result, Ok, Err}
 use Rattle.ygrammar.specs.declared.elaboration.Named.{Named}
-use Rattle.ysyntax.specs.declared.mistake.Mistake.TheVariants.{TokenLeft, Undefined}
-use Rattle.ysyntax.specs.declared.mistake.Mistake.TheVariants.{TwicePrecedence}
-use Rattle.ysyntax.specs.declared.mistake.Mistake.TheVariants.{Unproductive}
-use Rattle.ysyntax.specs.declared.mistake.Refused.{Refused}
-use Rattle.ysyntax.specs.declared.mistake.Refused.TheVariants as refused
-use Rattle.ysyntax.specs.Elaboration.{bare_of, rules, symbols, token_precedences, tokens}
+use Rattle.youtline.specs.declared.mistake.Mistake.TheVariants.{TokenLeft, Undefined}
+use Rattle.youtline.specs.declared.mistake.Mistake.TheVariants.{TwicePrecedence}
+use Rattle.youtline.specs.declared.mistake.Mistake.TheVariants.{Unproductive}
+use Rattle.youtline.specs.declared.mistake.Refused.{Refused}
+use Rattle.youtline.specs.declared.mistake.Refused.TheVariants as refused
+use Rattle.youtline.specs.Elaboration.{bare_of, rules, symbols, token_precedences, tokens}
 use Rattle.ysymbols.specs.Forms.{Productive}
 use Rattle.ysymbols.specs.Grammar.{ContextFree, GrammarValue, RuleValue}
 use Rattle.ysymbols.specs.Marking.{AreIn}
 use Rattle.ygrammar.specs.Meaning.{IsMeaning}
-use Rattle.ysyntax.specs.Mistakes.{HasNone, Holds, IsFirst, order}
+use Rattle.youtline.specs.Mistakes.{HasNone, Holds, IsFirst, order}
 use Rattle.ysymbols.specs.NameTexts.{texts}
 use Rattle.ygrammar.specs.Numbered.{rule_numbers}
 use Rattle.ygrammar.specs.OwnTable.{IsOwnTable}

@@ -2,8 +2,8 @@
 use Rattle.std.specs.Prelude.{ℕ, ◌≡◌, ◌+◌, List, take}
 use Rattle.ysyntax.specs.declared.fault.GrammarFault.{GrammarFault}
 use Rattle.ysyntax.specs.declared.fault.GrammarFault.TheVariants as faults
-use Rattle.ysyntax.specs.declared.mistake.Refused.{Refused}
-use Rattle.ysyntax.specs.declared.mistake.Refused.TheVariants as refused
+use Rattle.youtline.specs.declared.mistake.Refused.{Refused}
+use Rattle.youtline.specs.declared.mistake.Refused.TheVariants as refused
 use Rattle.ysyntax.specs.Lexer.{newlines}
 use Rattle.ygrammar.specs.GrammarOf.{mistake_at}
 

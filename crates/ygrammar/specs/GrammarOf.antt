@@ -2,18 +2,18 @@
 use Rattle.std.specs.Prelude.{ℕ, ◌≡◌, ◌<◌, ◌≤◌, List, length, Result, Ok, Err}
 use Rattle.ysyntax.specs.declared.fault.GrammarFault.{GrammarFault}
 use Rattle.ysyntax.specs.declared.fault.GrammarFault.TheVariants as faults
-use Rattle.ysyntax.specs.declared.mistake.Mistake.{Mistake}
-use Rattle.ysyntax.specs.declared.mistake.Mistake.TheVariants.{TokenLeft, Undefined}
-use Rattle.ysyntax.specs.declared.mistake.Mistake.TheVariants.{TwicePrecedence, BadNumber}
-use Rattle.ysyntax.specs.declared.mistake.Mistake.TheVariants.{BadStart, Unproductive}
-use Rattle.ysyntax.specs.declared.mistake.Mistake.TheVariants.{BadPrec}
-use Rattle.ysyntax.specs.declared.mistake.Mistake.TheVariants.{Limit}
+use Rattle.youtline.specs.declared.mistake.Mistake.{Mistake}
+use Rattle.youtline.specs.declared.mistake.Mistake.TheVariants.{TokenLeft, Undefined}
+use Rattle.youtline.specs.declared.mistake.Mistake.TheVariants.{TwicePrecedence, BadNumber}
+use Rattle.youtline.specs.declared.mistake.Mistake.TheVariants.{BadStart, Unproductive}
+use Rattle.youtline.specs.declared.mistake.Mistake.TheVariants.{BadPrec}
+use Rattle.youtline.specs.declared.mistake.Mistake.TheVariants.{Limit}
 use Rattle.ysyntax.specs.Lexer.{Refusal, Outcome, SpellsSyntax, refusal}
 use Rattle.ylexemes.specs.Front.{Fault, unfinished}
 use Rattle.ylexemes.specs.Front.{bad_literal, foreign, syntax}
 use Rattle.ysymbols.specs.Grammar.{GrammarValue, longest_file}
 use Rattle.ygrammar.specs.Meaning.{IsMeaning}
-use Rattle.ysyntax.specs.Mistakes.{IsFirst, order}
+use Rattle.youtline.specs.Mistakes.{IsFirst, order}
 use Rattle.ysyntax.specs.Tree.{IsTree, Tree, yield}
 
 -- the file is not too long, and spells the syntax of this tree

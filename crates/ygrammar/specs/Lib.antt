@@ -13,6 +13,6 @@ pub use Rattle.ysymbols.specs.WellFormed
 pub use Rattle.ysymbols.specs.Names
 pub use Rattle.ysyntax.specs.Lexer
 pub use Rattle.ysyntax.specs.Tree
-pub use Rattle.ysyntax.specs.Printed
-pub use Rattle.ysyntax.specs.Elaboration
-pub use Rattle.ysyntax.specs.Mistakes
+pub use Rattle.youtline.specs.Printed
+pub use Rattle.youtline.specs.Elaboration
+pub use Rattle.youtline.specs.Mistakes

@@ -6,18 +6,18 @@ ghost use Rattle.std.specs.List.{find, AllByRecursion};
 ghost use Rattle.ysyntax.specs.Lexer.{SpellsSyntax};
 ghost use Rattle.ygrammar.specs.Elaborated.{AreNamed, AreNumbered, Decides, Elaborates, Fruitful};
 ghost use Rattle.ygrammar.specs.Elaborated.{GivesNamed, IsFirstRefused, IsReady};
-ghost use Rattle.ysyntax.specs.declared.mistake.Mistake.TheVariants.{BadStart, Undefined};
-ghost use Rattle.ysyntax.specs.Mistakes.{Holds};
-ghost use Rattle.ysyntax.specs.Elaboration.{symbols as symbols_of_tree, tokens as tokens_of_tree};
-ghost use Rattle.ysyntax.specs.Elaboration.{tokens_of};
+ghost use Rattle.youtline.specs.declared.mistake.Mistake.TheVariants.{BadStart, Undefined};
+ghost use Rattle.youtline.specs.Mistakes.{Holds};
+ghost use Rattle.youtline.specs.Elaboration.{symbols as symbols_of_tree, tokens as tokens_of_tree};
+ghost use Rattle.youtline.specs.Elaboration.{tokens_of};
 ghost use Rattle.ysymbols.specs.Marking.{AreIn, numbered_grammar};
 ghost use Rattle.ysymbols.specs.NameTexts.{texts};
 ghost use Rattle.ysymbols.specs.Names.{number_in};
 ghost use Rattle.ygrammar.specs.Numbered.{inner_after};
 ghost use Rattle.ysyntax.specs.TreeTexts.{RuleTextStands};
 ghost use Rattle.ysyntax.specs.Tree.{IsTree, Tree as TreeOf, yield};
-ghost use Rattle.ysyntax.specs.Outline.{Outlines, listed_view};
-ghost use Rattle.ysyntax.specs.Owned.{Clears};
+ghost use Rattle.youtline.specs.Outline.{Outlines, listed_view};
+ghost use Rattle.youtline.specs.Owned.{Clears};
 ghost use Rattle.ysyntax.specs.TreeViews.{name_view, occurrence_view, tree_view};
 ghost use Rattle.ysymbols.specs.Sources.{option_view};
 
@@ -29,14 +29,14 @@ use crate::refusals::{
 use crate::rules::{intern_nonterminals, kept_texts, number_rules};
 use crate::tokens::tokens;
 use std::alloc::{AllocError, Global};
+use youtline::given::precedences;
+use youtline::mistake::{Mistake, Refused};
+use youtline::outline::Outline;
 use ysymbols::names::{SymbolTable, number_in};
 use ysymbols::productive::productive;
 use ysymbols::reachable::reachable;
 use ysymbols::texts::Texts;
 use ysymbols::{Grammar, Precedence, Rule};
-use ysyntax::given::precedences;
-use ysyntax::mistake::{Mistake, Refused};
-use ysyntax::outline::Outline;
 use ysyntax::tree::{NameAt, Tree};
 
 /// The symbols by number, the tokens first, and what is given to the tokens.

@@ -2,23 +2,23 @@
 
 ghost use Rattle.std.specs.Prelude.{◌≡◌, ◌<◌, ◌≤◌, ℕ, IfOk, MatchBool, length, slice_index_or};
 ghost use Rattle.std.specs.Prelude.{[], slice_set};
-ghost use Rattle.ysyntax.specs.Elaboration.{tokens as tokens_of_tree};
+ghost use Rattle.youtline.specs.Elaboration.{tokens as tokens_of_tree};
 ghost use Rattle.ysymbols.specs.Grammar.{number_bound};
 ghost use Rattle.ysymbols.specs.NameTexts.{texts};
 ghost use Rattle.ygrammar.specs.Numbers.{AreHolders, IsOwn, is_held, with_holder};
-ghost use Rattle.ysyntax.specs.Outline.{Outlines};
+ghost use Rattle.youtline.specs.Outline.{Outlines};
 ghost use Rattle.ygrammar.specs.OwnTable.{Owns};
-ghost use Rattle.ysyntax.specs.Owned.{AllSmall};
+ghost use Rattle.youtline.specs.Owned.{AllSmall};
 ghost use Rattle.ysyntax.specs.Tree.{Tree as TreeOf};
 ghost use Rattle.ygrammar.specs.declared.holders.Holders.TheVariants.{Nobody, Several};
 
 use std::alloc::{AllocError, Global};
+use youtline::given::{fit_number, given_numbers, own_numbers};
+use youtline::identifiers::number_of;
+use youtline::mistake::{Mistake, Refused};
+use youtline::outline::{Listed, Outline};
 use ysymbols::limits::NUMBERS;
 use ysymbols::names::SymbolTable;
-use ysyntax::given::{fit_number, given_numbers, own_numbers};
-use ysyntax::identifiers::number_of;
-use ysyntax::mistake::{Mistake, Refused};
-use ysyntax::outline::{Listed, Outline};
 
 /// The tokens that hold a number.
 #[derive(Clone, Copy, Drop)]

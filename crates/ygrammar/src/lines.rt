@@ -4,8 +4,8 @@ ghost use Rattle.std.specs.Prelude.{◌≡◌};
 ghost use Rattle.ygrammar.specs.Faults.{IsRefusal, line_of};
 ghost use Rattle.ygrammar.specs.GrammarOf.{mistake_at};
 
+use youtline::mistake::{Mistake, Refused};
 use ysyntax::fault::GrammarFault;
-use ysyntax::mistake::{Mistake, Refused};
 
 /// The fault that is this mistake, on a line.
 fn at_line(what: Mistake, line: usize) -> GrammarFault

@@ -6,7 +6,7 @@ ghost use Rattle.ysyntax.specs.Lexer.{Refusal};
 ghost use Rattle.ygrammar.specs.GrammarOf.{AnswersGrammar, AnswersMistake, AnswersRefusal};
 ghost use Rattle.ygrammar.specs.GrammarOf.{GivesGrammar, IsFaultOf, IsGrammarOf, IsMistaken};
 ghost use Rattle.ygrammar.specs.GrammarOf.{IsRefused};
-ghost use Rattle.ysyntax.specs.declared.mistake.Mistake.{Mistake};
+ghost use Rattle.youtline.specs.declared.mistake.Mistake.{Mistake};
 
 use crate::elaboration::elaborate;
 use crate::lines::in_file;

@@ -2,25 +2,25 @@
 //! of it.
 
 ghost use Rattle.std.specs.Prelude.{◌≡◌, ◌∷◌, length, map};
-ghost use Rattle.ysyntax.specs.Elaboration.{rules as rules_of_tree, symbols as symbols_of_tree};
-ghost use Rattle.ysyntax.specs.Elaboration.{token_precedences, tokens as tokens_of_tree};
+ghost use Rattle.youtline.specs.Elaboration.{rules as rules_of_tree, symbols as symbols_of_tree};
+ghost use Rattle.youtline.specs.Elaboration.{token_precedences, tokens as tokens_of_tree};
 ghost use Rattle.ysymbols.specs.NameTexts.{texts};
 ghost use Rattle.ygrammar.specs.Numbered.{rule_numbers};
-ghost use Rattle.ysyntax.specs.Outline.{Outlines};
-ghost use Rattle.ysyntax.specs.Owned.{Clears};
+ghost use Rattle.youtline.specs.Outline.{Outlines};
+ghost use Rattle.youtline.specs.Owned.{Clears};
 ghost use Rattle.ysyntax.specs.Tree.{Tree as TreeOf};
-ghost use Rattle.ysyntax.specs.declared.mistake.Mistake.TheVariants.{BadPrec, BadStart};
-ghost use Rattle.ysyntax.specs.declared.mistake.Mistake.TheVariants.{Limit};
-ghost use Rattle.ysyntax.specs.declared.mistake.Mistake.TheVariants.{TokenLeft, Undefined};
+ghost use Rattle.youtline.specs.declared.mistake.Mistake.TheVariants.{BadPrec, BadStart};
+ghost use Rattle.youtline.specs.declared.mistake.Mistake.TheVariants.{Limit};
+ghost use Rattle.youtline.specs.declared.mistake.Mistake.TheVariants.{TokenLeft, Undefined};
 
 use crate::checks::{
     any_long, bad_start, first_nonterminal, first_token, first_undefined, first_unknown,
 };
+use youtline::mistake::{Mistake, Refused};
+use youtline::outline::Outline;
 use ysymbols::Rule;
 use ysymbols::limits::{MOST_RULES, MOST_SYMBOLS};
 use ysymbols::names::SymbolTable;
-use ysyntax::mistake::{Mistake, Refused};
-use ysyntax::outline::Outline;
 
 /// Refuses a token that is a left side, or is named by `%type`.
 pub fn refuse_token_left(outline: &Outline, tokens: &SymbolTable) -> Result<(), Refused>

@@ -1,18 +1,18 @@
 //! The tokens of a file by number.
 
 ghost use Rattle.std.specs.Prelude.{◌≡◌, ◌++◌, ◌∷◌, [], filter, map, codes, IfOk, OnOk};
-ghost use Rattle.ysyntax.specs.Elaboration.{is_literal, listed_name, token_names_of, tokens_of};
+ghost use Rattle.youtline.specs.Elaboration.{is_literal, listed_name, token_names_of, tokens_of};
 ghost use Rattle.ysymbols.specs.NameTexts.{texts};
 ghost use Rattle.ysymbols.specs.Names.{is_among, with_names};
-ghost use Rattle.ysyntax.specs.Printed.{printed_name};
-ghost use Rattle.ysyntax.specs.Outline.{listed_view};
+ghost use Rattle.youtline.specs.Printed.{printed_name};
+ghost use Rattle.youtline.specs.Outline.{listed_view};
 ghost use Rattle.ysyntax.specs.TreeViews.{occurrence_view};
 
 use indexmap::IndexSet;
 use std::alloc::{AllocError, Global};
+use youtline::identifiers::{intern_identifier, is_named};
+use youtline::outline::{Listed, Outline};
 use ysymbols::names::{SymbolTable, intern};
-use ysyntax::identifiers::{intern_identifier, is_named};
-use ysyntax::outline::{Listed, Outline};
 use ysyntax::tree::{Identifier, Occurrence};
 
 fn intern_first(alloc: Global, names: &mut SymbolTable) -> Result<(), AllocError>

@@ -2,8 +2,8 @@
 //! (`ydebug import`), with what is said of them.
 #![tactic(auto)]
 
-pub mod counts;
-pub mod equals;
+mod counts;
+mod equals;
 pub mod opening;
 pub mod run;
-pub mod told;
+mod told;

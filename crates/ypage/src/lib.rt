@@ -5,14 +5,14 @@
 //! `style` and `script` are the page itself, and `page` writes it.
 #![tactic(auto)]
 
-pub mod cards;
-pub mod cells;
-pub mod data;
-pub mod frame;
-pub mod input;
+mod cards;
+mod cells;
+mod data;
+mod frame;
+mod input;
 pub mod page;
-pub mod record;
-pub mod script;
-pub mod style;
-pub mod table;
+mod record;
+mod script;
+mod style;
+mod table;
 pub mod walk;

@@ -1,8 +1,8 @@
 //! The report on the conflicts of a grammar, with what else deserves a warning.
 #![tactic(auto)]
 
-pub mod kinds;
+mod kinds;
 pub mod report;
-pub mod saving;
-pub mod unused;
-pub mod warnings;
+mod saving;
+mod unused;
+mod warnings;

@@ -7,7 +7,7 @@ use std::io::Write;
 use yexplain::reads::{grammar_of, left_of};
 use ylalr::END;
 use yparse::{Session, TreeNode, TreeView};
-use ysymbols::{Grammar, Sym};
+use ysymbols::Grammar;
 
 /// How deep a line is indented at most, in levels.
 const DEEPEST: usize = 40;

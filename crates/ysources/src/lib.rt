@@ -6,10 +6,10 @@
 #![tactic(auto)]
 
 pub mod check;
-pub mod cut;
+mod cut;
 pub mod grammars;
-pub mod reading;
+mod reading;
 pub mod sketch;
 pub mod source;
 pub mod tokens;
-pub mod told;
+mod told;

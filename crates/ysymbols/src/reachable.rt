@@ -7,7 +7,7 @@ ghost use Rattle.ysymbols.specs.Marking.{AreIn, Grows, IsMarked, IsSpread, IsWai
 ghost use Rattle.ysymbols.specs.Marking.{OnlyReachable, numbered_grammar, rule_at};
 
 use crate::occurrences::{body_at, left_at, rules_by_left};
-use crate::rule::{Rule, Sym};
+use crate::rule::Rule;
 use crate::worklist::Worklist;
 use std::alloc::{AllocError, Global};
 

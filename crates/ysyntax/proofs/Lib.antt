@@ -7,7 +7,3 @@ pub mod Answering
 pub mod Trees
 pub mod OneTree
 pub mod TreeSteps
-pub mod TellingSteps
-pub mod OwnSteps
-pub mod TokenSteps
-pub mod GivenTables

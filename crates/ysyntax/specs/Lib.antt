@@ -6,9 +6,3 @@ pub mod Tree
 pub mod TreeViews
 pub mod TreeBuilder
 pub mod TreeTexts
-pub mod Printed
-pub mod Elaboration
-pub mod Outline
-pub mod Told
-pub mod Mistakes
-pub mod Owned

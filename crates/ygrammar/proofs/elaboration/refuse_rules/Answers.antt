@@ -1,8 +1,8 @@
 use Rattle.std.proofs.Common.{refl, sym, subst, take, ◌≤◌, ◌∙◌}
-use Rattle.ysyntax.specs.declared.mistake.Mistake.TheVariants as mistakes
+use Rattle.youtline.specs.declared.mistake.Mistake.TheVariants as mistakes
 use Rattle.ygrammar.specs.Elaborated.{Decides}
 use Rattle.ysymbols.specs.Marking.{AreIn}
-use Rattle.ysyntax.specs.Mistakes.{order}
+use Rattle.youtline.specs.Mistakes.{order}
 use Rattle.ysymbols.proofs.NameSteps.{length_texts}
 use Rattle.ygrammar.proofs.ElaborationSteps.{clear_5, clear_6, decides, more, refuses}
 use Rattle.ygrammar.proofs.MeaningSteps.{all_productive, bare_same, symbols_counted, unproductive}

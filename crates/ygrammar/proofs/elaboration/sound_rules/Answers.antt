@@ -1,8 +1,8 @@
 use Rattle.std.proofs.Common.{ap, refl, sym, subst, length, List, ℕ, ◌≤◌, ◌∙◌}
-use Rattle.ysyntax.specs.declared.mistake.Mistake.TheVariants as mistakes
+use Rattle.youtline.specs.declared.mistake.Mistake.TheVariants as mistakes
 use Rattle.ygrammar.specs.Elaborated.{AreNumbered, Decides}
-use Rattle.ysyntax.specs.Elaboration.{tokens}
-use Rattle.ysyntax.specs.Mistakes.{Holds}
+use Rattle.youtline.specs.Elaboration.{tokens}
+use Rattle.youtline.specs.Mistakes.{Holds}
 use Rattle.ysymbols.specs.NameTexts.{texts}
 use Rattle.ysyntax.specs.TreeViews.{tree_view}
 use Rattle.ygrammar.proofs.ElaborationSteps.{passes, refuses}

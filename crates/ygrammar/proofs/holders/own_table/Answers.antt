@@ -1,16 +1,16 @@
 use Rattle.std.proofs.Common.{◌≡◌, ◌≤◌, ap, sym, ◌∙◌, map, subst, refl, inr, List, [], is_some}
 use Rattle.std.proofs.Common.{false, get_or}
 use Rattle.ygrammar.specs.declared.holders.Holders.TheVariants.{Nobody, Several}
-use Rattle.ysyntax.specs.declared.outline.Listed.{Listed}
+use Rattle.youtline.specs.declared.outline.Listed.{Listed}
 use Rattle.ysyntax.specs.declared.tree.Occurrence.{Occurrence}
-use Rattle.ysyntax.specs.Elaboration.{digits_number, listings, own_numbers, tokens}
+use Rattle.youtline.specs.Elaboration.{digits_number, listings, own_numbers, tokens}
 use Rattle.ysymbols.specs.Grammar.{number_bound}
 use Rattle.ysymbols.specs.NameTexts.{texts}
-use Rattle.ysyntax.specs.Mistakes.{Clashes}
+use Rattle.youtline.specs.Mistakes.{Clashes}
 use Rattle.ygrammar.specs.Numbers.{AreHolders, IsOwn}
-use Rattle.ysyntax.specs.Outline.{Outlines, listed_view}
-use Rattle.ysyntax.specs.Owned.{AllFit, TellsNumbers}
-use Rattle.ysyntax.specs.Told.{IsTold}
+use Rattle.youtline.specs.Outline.{Outlines, listed_view}
+use Rattle.youtline.specs.Owned.{AllFit, TellsNumbers}
+use Rattle.youtline.specs.Told.{IsTold}
 use Rattle.ysyntax.specs.Tree.{Identifier, Tree}
 use Rattle.ysyntax.specs.TreeViews.{occurrence_view}
 use Rattle.ygrammar.proofs.NumberSteps.{clash_held, none_clash}

@@ -7,7 +7,7 @@ use Rattle.ysyntax.specs.declared.fault.GrammarFault.TheVariants.{TooLong}
 use Rattle.ysyntax.specs.Answers.{StandIn, views}
 use Rattle.ygrammar.specs.GrammarOf.{AnswersRefusal, HasTree}
 use Rattle.ylexemes.specs.Lexemes.{Lexeme}
-use Rattle.ysyntax.specs.Mistakes.{IsFirst, order}
+use Rattle.youtline.specs.Mistakes.{IsFirst, order}
 use Rattle.ysyntax.specs.TreeViews.{tree_view}
 use Rattle.ysyntax.specs.Tree.{yield}
 use Rattle.ylexemes.specs.Views.{lexeme_view}

@@ -1,7 +1,7 @@
 use Rattle.std.proofs.Common.{ap, sym, ◌∙◌, map, length, refl, List}
-use Rattle.ysyntax.specs.declared.outline.Started.{Started}
+use Rattle.youtline.specs.declared.outline.Started.{Started}
 use Rattle.ysymbols.specs.NameTexts.{texts}
-use Rattle.ysyntax.specs.Outline.{start_view}
+use Rattle.youtline.specs.Outline.{start_view}
 use Rattle.ygrammar.proofs.MistakeSteps.{no_start, start_found}
 use Rattle.ygrammar.proofs.refusals.refuse_start.Goals as goal
 use Rattle.std.proofs.lemmas.List.{length-map}

@@ -1,5 +1,5 @@
 use Rattle.std.proofs.Common.{IfErr, refl}
-use Rattle.ysyntax.specs.declared.mistake.Mistake.TheVariants as mistakes
+use Rattle.youtline.specs.declared.mistake.Mistake.TheVariants as mistakes
 use Rattle.ygrammar.specs.Elaborated.{IsFirstRefused}
 use Rattle.ysyntax.specs.TreeViews.{tree_view}
 use Rattle.ygrammar.proofs.ElaborationSteps.{refuses}

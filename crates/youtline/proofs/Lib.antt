@@ -1,0 +1,4 @@
+pub mod TellingSteps
+pub mod OwnSteps
+pub mod TokenSteps
+pub mod GivenTables

@@ -1,0 +1,12 @@
+use Rattle.std.proofs.Common.{map, drop}
+use Rattle.ysymbols.specs.NameTexts.{texts}
+use Rattle.youtline.specs.Outline.{listed_view}
+use Rattle.youtline.specs.Owned.{AllSmall, TellsNumbers}
+use Rattle.youtline.proofs.given.given_numbers.Given as goal
+
+abbrev pub invariant-loop-i : goal.invariant-loop-i
+invariant-loop-i l = record {
+  small : AllSmall l.given.first.items;
+  told : TellsNumbers (texts l.tokens) (map listed_view (drop l.i l.listed))
+      (map listed_view l.listed) l.given.first.items l.given.fault;
+}

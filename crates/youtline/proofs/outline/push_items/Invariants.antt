@@ -1,0 +1,11 @@
+use Rattle.std.proofs.Common.{◌≡◌, ◌++◌, map, drop}
+use Rattle.std.specs.List.{flat_map}
+use Rattle.youtline.specs.Elaboration.{body_part_identifier}
+use Rattle.ysyntax.specs.TreeViews.{body_part_view, occurrence_view}
+use Rattle.youtline.proofs.outline.push_items.Given as goal
+
+abbrev pub invariant-loop-item : goal.invariant-loop-item
+invariant-loop-item l = map occurrence_view l.found.items ++ flat_map body_part_identifier
+    (map body_part_view (drop l.item-index l.items)) ≡ map occurrence_view l.fn.found.items ++
+    flat_map
+    body_part_identifier (map body_part_view l.items)

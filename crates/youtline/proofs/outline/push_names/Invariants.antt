@@ -1,0 +1,7 @@
+use Rattle.std.proofs.Common.{◌≡◌, ◌++◌, map, drop}
+use Rattle.ysyntax.specs.TreeViews.{name_view}
+use Rattle.youtline.proofs.outline.push_names.Given as goal
+
+abbrev pub invariant-loop-name : goal.invariant-loop-name
+invariant-loop-name l = map name_view l.found.items ++ map name_view (drop l.name-index l.names) ≡
+    map name_view l.fn.found.items ++ map name_view l.names

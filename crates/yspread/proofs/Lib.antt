@@ -1,0 +1,4 @@
+pub mod LinkSteps
+pub mod OrderSteps
+pub mod Spreading
+pub mod WaitingSteps

@@ -1,0 +1,4 @@
+pub mod Links
+pub mod Order
+pub mod Spread
+pub mod Waiting
