@@ -1,16 +1,17 @@
 #!/usr/bin/env python3
 """Refuses allocations of a run: each of them once by itself, and from each of them on all.
 
-    refuse.py yacc=PATH ystep=PATH verdicts=PATH [--few | GRAMMAR..]
+    refuse.py yacc=PATH ystep=PATH ydebug=PATH verdicts=PATH [--few | GRAMMAR..]
 
 An allocator in front of that of C refuses the calls of some numbers, over every example and some
 scenarios, or over a few of them. Each run must end as usual, or with `no memory` and status 3,
 nothing on standard output and of each file a beginning. A session may also go on: then each step
 that was refused says `no memory`, and all else is as if nothing had been asked for there. A
 verdict may be `no memory`. `verdicts --calls`, which makes each call by itself, makes a refused
-one again, and where it is refused once more, goes on with the calls that take no memory. Of each
-GRAMMAR, whose runs are long, the first 2,000 allocations are refused, then every 97th, and the
-last 97. The last line is `N passed, M failed`.
+one again, and where it is refused once more, goes on with the calls that take no memory. What
+`ydebug check` says of an input may be `no memory`, with status 3; it may also end behind a line.
+Of each GRAMMAR, whose runs are long, the first 2,000 allocations are refused, then every 97th, and
+the last 97. The last line is `N passed, M failed`.
 """
 import os
 import re
@@ -171,6 +172,24 @@ def is_verdict(made, it):
     return made["message"].endswith(NO_MEMORY) and made["status"] in (b"1\n", b"3\n")
 
 
+def told_of(lines):
+    """The files that lines say something of, in turn; the text of a file stands behind blanks."""
+    return [line.split(b":")[0] for line in lines if not line.startswith(b" ")]
+
+
+def is_told(made, it):
+    """Whether `ydebug` says no memory in place of lines, or ends with it behind some, and all
+    other lines are as usual."""
+    refused = made["message"] == b"ydebug: " + NO_MEMORY
+    if it.words[0] != "ydebug" or made["status"] != b"3\n" or made["message"] and not refused:
+        return False
+    usual, lines = (text.splitlines() for text in (it.wanted["stdout"], made["stdout"]))
+    others, left = [line for line in lines if not line.endswith(b": no memory")], iter(usual)
+    files, all_files = map(told_of, (lines, usual))
+    is_begun = files == all_files[: len(files)] if refused else files == all_files
+    return is_begun and (refused or others != lines) and all(line in left for line in others)
+
+
 def way_of(made, it, programs):
     """How a run has ended, or none where it may not end so."""
     if not wrong(made, it.wanted):
@@ -181,7 +200,7 @@ def way_of(made, it, programs):
         return "go on behind a step"
     if is_made_again(made, it):
         return "make a call again, or what takes no memory"
-    return "say no memory" if is_verdict(made, it) else None
+    return "say no memory" if is_verdict(made, it) or is_told(made, it) else None
 
 
 # What is run
