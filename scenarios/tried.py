@@ -13,6 +13,10 @@ from pathlib import Path
 
 from folders import Fault, came_back, lay
 
+# How many programs are built side by side, each by two processes. With a fourth beside them the
+# longest ends later.
+BUILDS = 3
+CRATES = Path(__file__).resolve().parent.parent / "crates.txt"
 # The option of a program that says where its files go, and where they go without it.
 PREFIXES = {"yacc": ("b", "y")}
 ENDED = re.compile(rb"case=(\w+) run=(\w+)(?: status=(\d+))?")
@@ -95,11 +99,28 @@ def try_all(scenarios, program):
             return [Fault(f"rt try does not start: {error}") for _ in scenarios]
 
 
+def libraries_of(name, lines):
+    """All libraries that a crate stands on, by the lines of crates.txt."""
+    found, waiting = set(), [name]
+    while waiting:
+        new = {*lines.get(waiting.pop(), [])} - found
+        found |= new
+        waiting += new
+    return found
+
+
+def longest_first(names):
+    """The programs in an order in which the one that takes longest to build begins first."""
+    told = (it.split(":") for it in CRATES.read_text().splitlines() if it and it[0] != "#")
+    lines = {crate: libraries.split() for crate, libraries in told}
+    return sorted(names, key=lambda name: (-len(libraries_of(name, lines)), name))
+
+
 def run_all(scenarios, programs):
-    """What comes back of each scenario, in their order; the programs are built side by side."""
-    names = sorted({it.words[0] for it in scenarios})
+    """What comes back of each scenario, in their order; some programs are built side by side."""
+    names = longest_first({it.words[0] for it in scenarios})
     parts = [[it for it in scenarios if it.words[0] == name] for name in names]
-    with ThreadPoolExecutor() as pool:
+    with ThreadPoolExecutor(BUILDS) as pool:
         tried = pool.map(try_all, parts, [programs[name] for name in names])
         made = {name: iter(results) for name, results in zip(names, tried)}
     return [next(made[it.words[0]]) for it in scenarios]
