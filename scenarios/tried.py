@@ -8,14 +8,11 @@ import os
 import re
 import subprocess
 import tempfile
-from concurrent.futures import ThreadPoolExecutor
+from concurrent.futures import ThreadPoolExecutor, wait
 from pathlib import Path
 
 from folders import Fault, came_back, lay
 
-# How many programs are built side by side, each by two processes. With a fourth beside them the
-# longest ends later.
-BUILDS = 3
 CRATES = Path(__file__).resolve().parent.parent / "crates.txt"
 # The option of a program that says where its files go, and where they go without it.
 PREFIXES = {"yacc": ("b", "y")}
@@ -116,11 +113,20 @@ def longest_first(names):
     return sorted(names, key=lambda name: (-len(libraries_of(name, lines)), name))
 
 
+def begun(names, build):
+    """What will come back of each program's build. The longest begins with one other beside it, and
+    the rest when that one has ended: the more there are at once, the later each of them ends."""
+    with ThreadPoolExecutor() as pool:
+        made = [pool.submit(build, name) for name in names[:2]]
+        wait(made[1:])
+        made += [pool.submit(build, name) for name in names[2:]]
+    return made
+
+
 def run_all(scenarios, programs):
-    """What comes back of each scenario, in their order; some programs are built side by side."""
+    """What comes back of each scenario, in their order; the programs are built side by side."""
     names = longest_first({it.words[0] for it in scenarios})
-    parts = [[it for it in scenarios if it.words[0] == name] for name in names]
-    with ThreadPoolExecutor(BUILDS) as pool:
-        tried = pool.map(try_all, parts, [programs[name] for name in names])
-        made = {name: iter(results) for name, results in zip(names, tried)}
+    parts = {name: [it for it in scenarios if it.words[0] == name] for name in names}
+    made = begun(names, lambda name: try_all(parts[name], programs[name]))
+    made = {name: iter(it.result()) for name, it in zip(names, made)}
     return [next(made[it.words[0]]) for it in scenarios]
