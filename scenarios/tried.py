@@ -6,16 +6,23 @@ an absolute one. Under `rt try` each program's own name is `program`.
 """
 import os
 import re
+import signal
 import subprocess
 import tempfile
-from concurrent.futures import ThreadPoolExecutor, wait
+import time
+from concurrent.futures import ThreadPoolExecutor
+from contextlib import suppress
 from pathlib import Path
 
 from folders import Fault, came_back, lay
 
+# How many programs are built side by side: with one more, each takes longer.
+BUILDS = 3
 CRATES = Path(__file__).resolve().parent.parent / "crates.txt"
 # The option of a program that says where its files go, and where they go without it.
 PREFIXES = {"yacc": ("b", "y")}
+# What the look at names is told to begin with, and the tenths of a second within which it begins.
+NO_NAME, SOON = b"\0no function\0", 50
 ENDED = re.compile(rb"case=(\w+) run=(\w+)(?: status=(\d+))?")
 
 
@@ -77,12 +84,37 @@ def result(name, ran, scenario, room):
     return came_back(out.replace(here, b""), message.replace(here, b""), status + b"\n", room)
 
 
+def children_of(pid):
+    """The processes that one has begun, each with its words."""
+    for child in Path(f"/proc/{pid}/task/{pid}/children").read_text().split():
+        yield int(child), Path(f"/proc/{child}/cmdline").read_bytes()
+
+
+def end_look_at_names(pid):
+    """Ends what `rt try` begins beside a build: a look at names that a check would refuse. The gate
+    refuses them too, and as long as this look goes on it slows all builds."""
+    for _ in range(SOON):
+        with suppress(OSError):
+            for child, words in children_of(pid):
+                if NO_NAME in words:
+                    return os.kill(child, signal.SIGKILL)
+        time.sleep(0.1)
+
+
+def alone(words, crate):
+    """What `rt try` comes to, with nothing beside its build."""
+    pipes = {"stdout": subprocess.PIPE, "stderr": subprocess.PIPE}
+    with subprocess.Popen(words, cwd=crate, stdin=subprocess.DEVNULL, **pipes) as running:
+        end_look_at_names(running.pid)
+        out, message = running.communicate()
+    return subprocess.CompletedProcess(words, running.returncode, out, message)
+
+
 def try_in(room, scenarios, crate):
     cases, named = f"{room}/cases", [f"case{at:04}" for at in range(len(scenarios))]
     for name, scenario in zip(named, scenarios):
         lay_case(cases, name, scenario, f"{room}/{name}")
-    words = ["rt", "try", "--cases", cases]
-    ran = subprocess.run(words, cwd=crate, stdin=subprocess.DEVNULL, capture_output=True)
+    ran = alone(["rt", "try", "--cases", cases], crate)
     given = zip(named, scenarios)
     return [result(name.encode(), ran, it, f"{room}/{name}") for name, it in given]
 
@@ -113,20 +145,11 @@ def longest_first(names):
     return sorted(names, key=lambda name: (-len(libraries_of(name, lines)), name))
 
 
-def begun(names, build):
-    """What will come back of each program's build. The longest begins with one other beside it, and
-    the rest when that one has ended: the more there are at once, the later each of them ends."""
-    with ThreadPoolExecutor() as pool:
-        made = [pool.submit(build, name) for name in names[:2]]
-        wait(made[1:])
-        made += [pool.submit(build, name) for name in names[2:]]
-    return made
-
-
 def run_all(scenarios, programs):
     """What comes back of each scenario, in their order; the programs are built side by side."""
     names = longest_first({it.words[0] for it in scenarios})
-    parts = {name: [it for it in scenarios if it.words[0] == name] for name in names}
-    made = begun(names, lambda name: try_all(parts[name], programs[name]))
-    made = {name: iter(it.result()) for name, it in zip(names, made)}
+    parts = [[it for it in scenarios if it.words[0] == name] for name in names]
+    with ThreadPoolExecutor(BUILDS) as pool:
+        tried = pool.map(try_all, parts, [programs[name] for name in names])
+        made = {name: iter(results) for name, results in zip(names, tried)}
     return [next(made[it.words[0]]) for it in scenarios]
