@@ -16,7 +16,7 @@ from pathlib import Path
 
 from folders import Fault, came_back, lay
 
-# How many programs are built side by side: with one more, each takes longer.
+# How many programs are built side by side; each slows the others.
 BUILDS = 3
 CRATES = Path(__file__).resolve().parent.parent / "crates.txt"
 # The option of a program that says where its files go, and where they go without it.
