@@ -90,14 +90,21 @@ def children_of(pid):
         yield int(child), Path(f"/proc/{child}/cmdline").read_bytes()
 
 
-def end_look_at_names(pid):
-    """Ends what `rt try` begins beside a build: a look at names that a check would refuse. The gate
-    refuses them too, and as long as this look goes on it slows all builds."""
+def look_at_names(pid):
+    """What `rt try` begins beside a build: a look at names that a check would refuse."""
+    with suppress(OSError):
+        return next((child for child, words in children_of(pid) if NO_NAME in words), None)
+
+
+def end_look_at_names(running):
+    """Ends that look, which slows all builds as long as it goes on; the gate refuses such names."""
     for _ in range(SOON):
-        with suppress(OSError):
-            for child, words in children_of(pid):
-                if NO_NAME in words:
-                    return os.kill(child, signal.SIGKILL)
+        look = look_at_names(running.pid)
+        if look:
+            with suppress(ProcessLookupError):
+                os.kill(look, signal.SIGKILL)
+        if look or running.poll() is not None:
+            return
         time.sleep(0.1)
 
 
@@ -105,7 +112,7 @@ def alone(words, crate):
     """What `rt try` comes to, with nothing beside its build."""
     pipes = {"stdout": subprocess.PIPE, "stderr": subprocess.PIPE}
     with subprocess.Popen(words, cwd=crate, stdin=subprocess.DEVNULL, **pipes) as running:
-        end_look_at_names(running.pid)
+        end_look_at_names(running)
         out, message = running.communicate()
     return subprocess.CompletedProcess(words, running.returncode, out, message)
 
