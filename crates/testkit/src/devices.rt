@@ -1,6 +1,6 @@
-//! A writer that takes little at a time, and fails where a test says.
+//! A writer that takes little at a time, and fails where a test says; a device that counts.
 
-use std::io::{self, ErrorKind, Write};
+use std::io::{self, ErrorKind, Read, Write};
 
 /// How many bytes a writer holds.
 const ROOM: usize = 8192;
@@ -68,5 +68,48 @@ impl Write for Sink {
             Refusal::Refuses(call) if call == self.calls => Err(io::Error::from(ErrorKind::Other)),
             _ => Ok(()),
         }
+    }
+}
+
+/// How often a device was asked to do what.
+#[derive(Clone, Copy, Debug, Default, PartialEq, Eq)]
+pub struct Calls {
+    /// Reads.
+    pub reads: usize,
+    /// Writes.
+    pub writes: usize,
+    /// Flushes.
+    pub flushes: usize,
+}
+
+/// A device that is always at its end, takes all bytes, and counts what is asked of it.
+#[derive(Default, Drop)]
+pub struct Counted {
+    calls: Calls,
+}
+
+impl Counted {
+    /// What was asked so far.
+    pub fn calls(&self) -> Calls {
+        self.calls
+    }
+}
+
+impl Read for Counted {
+    fn read(&mut self, _buf: &mut [u8]) -> io::Result<usize> {
+        self.calls.reads = self.calls.reads.saturating_add(1);
+        Ok(0)
+    }
+}
+
+impl Write for Counted {
+    fn write(&mut self, buf: &[u8]) -> io::Result<usize> {
+        self.calls.writes = self.calls.writes.saturating_add(1);
+        Ok(buf.len())
+    }
+
+    fn flush(&mut self) -> io::Result<()> {
+        self.calls.flushes = self.calls.flushes.saturating_add(1);
+        Ok(())
     }
 }

@@ -6,5 +6,4 @@ pub mod Transcripts
 pub mod Running
 pub mod Sources
 pub mod Spelled
-pub mod Starting
 pub mod Written

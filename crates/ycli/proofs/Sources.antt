@@ -1,6 +1,6 @@
--- Tables of a grammar's bytes, and of the first bytes of a reader.
-use Rattle.std.proofs.Common.{ℕ, suc, ◌≡◌, ◌<◌, ◌≤◌, ◌↔◌, List, Option, Some, None, Result, Err, IfSome}
-use Rattle.std.proofs.Common.{length, take, refl, subst, sym, ◌∙◌, inl, inr, arith}
+-- Tables of a grammar's bytes, and of the first bytes of a file.
+use Rattle.std.proofs.Common.{ℕ, suc, ◌≡◌, ◌<◌, ◌≤◌, ◌↔◌, List, Result, Err}
+use Rattle.std.proofs.Common.{length, take, subst, sym, ◌∙◌, inl, inr, arith}
 use Rattle.std.proofs.Common.{length-take-le}
 use Rattle.std.specs.Prelude.{IsErrOf}
 use Rattle.std.proofs.lemmas.Bool.{cases_lt}
@@ -10,10 +10,9 @@ use Rattle.ysyntax.specs.declared.fault.GrammarFault.{GrammarFault}
 use Rattle.ysyntax.specs.declared.fault.GrammarFault.TheVariants as grammars
 use Rattle.ygrammar.specs.GrammarOf.{IsFaultOf}
 use Rattle.ytables.specs.Tables.{TablesValue as Tables}
-use Rattle.ylink.specs.Open.{Tells, TellsFront}
 use Rattle.ycli.specs.declared.source.SourceFault.{SourceFault}
 use Rattle.ycli.specs.declared.source.SourceFault.TheVariants as faults
-use Rattle.ycli.specs.Halves.{AreTablesOf, NoTables, SourceFails}
+use Rattle.ycli.specs.Halves.{AreTablesOf, HasTables, NoTables, SourceFails}
 
 -- ---- the first bytes decide
 
@@ -87,40 +86,34 @@ no_tables_up faults.Tables all lacks = by_all (λ s. NoTables s faults.Tables) a
 no_tables_up faults.Unread all lacks = absurd lacks
 no_tables_up faults.NoRoom all lacks = absurd lacks
 
--- ---- the bytes of a reader
+-- ---- the bytes of a file
 
-whole : (P : List ℕ → Type 0) (bytes : List ℕ) (known : Option (List ℕ))
-    → ((all : List ℕ) → P (front all) → P all) → IfSome known (λ all. bytes ≡ front all) → P bytes
-    → (source : List ℕ) × IfSome known (λ all. source ≡ all) × P source
-whole P bytes None up told p = (bytes, tt, p)
-whole P bytes (Some all) up told p = (all, refl, up all (subst P told p))
+module _ {D : Type 0} (reads : D → List ℕ → List ℕ → D → Type 0)
+    (unreadable : D → List ℕ → Type 0) (path : List ℕ) (old new : D) (bytes : List ℕ)
+    (was : (all : List ℕ) × reads old path all new × (bytes ≡ front all)) where
+  -- tables of the first bytes are tables of the file
+  pub file_tables : (t : Tables) → AreTablesOf bytes t → HasTables reads path old new t
+  file_tables t are =
+      let (all, read, is) = was in record {
+        source = all;
+        read = read;
+        are = tables_up t all (subst (λ (s : List ℕ). AreTablesOf s t) is are);
+      }
 
-module _ {S D : Type 0} (opens : S → D → Type 0) (remaining : D → Option (List ℕ)) (opener : S) where
-  told : (P : List ℕ → Type 0) (bytes : List ℕ) → ((all : List ℕ) → P (front all) → P all)
-      → TellsFront opens remaining opener (suc longest_file) bytes → P bytes
-      → (source : List ℕ) × Tells opens remaining opener source × P source
-  told P bytes up (reader, opened, is) p =
-      let (source, tells, q) = whole P bytes (remaining reader) up is p in
-      (source, (reader, opened, tells), q)
+  known : (fault : SourceFault) → NoTables bytes fault
+      → (all : List ℕ) × reads old path all new × NoTables all fault
+  known fault lacks =
+      let (all, read, is) = was in
+      (all, read, no_tables_up fault all (subst (λ (s : List ℕ). NoTables s fault) is lacks))
 
-  -- tables of the first bytes are tables of all bytes of the reader
-  pub told_tables : (t : Tables) (bytes : List ℕ)
-      → TellsFront opens remaining opener (suc longest_file) bytes → AreTablesOf bytes t
-      → (source : List ℕ) × Tells opens remaining opener source × AreTablesOf source t
-  told_tables t bytes is are = told (λ s. AreTablesOf s t) bytes (tables_up t) is are
-
-  -- where the first bytes have no tables, the reader has none for the same reason
-  pub told_fails : (fault : SourceFault) (bytes : List ℕ)
-      → TellsFront opens remaining opener (suc longest_file) bytes → NoTables bytes fault
-      → SourceFails (Tells opens remaining opener) fault
-  told_fails faults.Unread bytes is lacks = tt
-  told_fails faults.NoRoom bytes is lacks = tt
-  told_fails (faults.Grammar fault) bytes is lacks =
-      told (λ s. NoTables s (faults.Grammar fault)) bytes (no_tables_up (faults.Grammar fault)) is lacks
-  told_fails (faults.Build fault) bytes is lacks =
-      told (λ s. NoTables s (faults.Build fault)) bytes (no_tables_up (faults.Build fault)) is lacks
-  told_fails faults.Tables bytes is lacks =
-      told (λ s. NoTables s faults.Tables) bytes (no_tables_up faults.Tables) is lacks
+  -- where the first bytes have no tables, the file has none for the same reason
+  pub file_fails : (fault : SourceFault) → NoTables bytes fault
+      → SourceFails reads unreadable path old new fault
+  file_fails faults.Unread lacks = absurd lacks
+  file_fails faults.NoRoom lacks = absurd lacks
+  file_fails (faults.Grammar fault) lacks = known (faults.Grammar fault) lacks
+  file_fails (faults.Build fault) lacks = known (faults.Build fault) lacks
+  file_fails faults.Tables lacks = known faults.Tables lacks
 
 -- ---- a refused grammar file
 

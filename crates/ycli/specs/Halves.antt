@@ -33,11 +33,20 @@ NoTables source Tables = (v : GrammarValue) × IsGrammarOf source v
 NoTables source Unread = ⊥
 NoTables source NoRoom = ⊥
 
--- why there are no tables of what a reader has: it can't be read, or its bytes have no tables
-abbrev pub SourceFails : (List ℕ → Type 0) → SourceFault → Type 0
-SourceFails told Unread = Unit {0}
-SourceFails told NoRoom = Unit {0}
-SourceFails told fault = (source : List ℕ) × told source × NoTables source fault
+module _ {D : Type 0} (reads : D → List ℕ → List ℕ → D → Type 0) where
+  -- the tables are those of the grammar file at this path, which was read
+  pub record HasTables (path : List ℕ) (old new : D) (t : TablesValue) : Type 0 where
+    pub source : List ℕ
+    pub read : reads old path source new
+    pub are : AreTablesOf source t
+
+  -- why there are no tables of the file at this path: it can't be read, and isn't; or it was read, and
+  -- its bytes have no tables
+  abbrev pub SourceFails : (D → List ℕ → Type 0) → List ℕ → D → D → SourceFault → Type 0
+  SourceFails unreadable path old new Unread = unreadable old path × (new ≡ old)
+  SourceFails unreadable path old new NoRoom = new ≡ old
+  SourceFails unreadable path old new fault =
+      (source : List ℕ) × reads old path source new × NoTables source fault
 
 -- The machine is that of the grammar: its cells are those of the merged canonical LR(1) items. The
 -- history is the first configuration of the tokens which the file means. What the machine accepts

@@ -4,7 +4,7 @@ use Rattle.std.specs.Prelude.{Result, Ok, Err}
 use Rattle.ylink.specs.declared.link.Link.{Link}
 use Rattle.ylink.specs.Link.{device_of}
 use Rattle.ytables.specs.Tables.{TablesValue}
-use Rattle.ytokens.specs.Reading.{Gives}
+use Rattle.ytokens.specs.Reading.{Gives, TokensOf}
 use Rattle.ymachine.specs.Machine.{Machine}
 use Rattle.ymachine.specs.MachineOver.{machine_over}
 use Rattle.ymachine.specs.History.{History}
@@ -13,7 +13,7 @@ use Rattle.ycli.specs.declared.fault.SessionFault.TheVariants as streams
 use Rattle.ycli.specs.declared.stepper.StepperFault.{StepperFault}
 use Rattle.ycli.specs.declared.stepper.StepperFault.TheVariants.{Source, Unread, NoRoom, Tokens}
 use Rattle.ycli.specs.declared.stepper.StepperFault.TheVariants.{Session}
-use Rattle.ycli.specs.Halves.{AreTablesOf, Parses, SourceFails}
+use Rattle.ycli.specs.Halves.{AreTablesOf, HasTables, Parses, SourceFails}
 use Rattle.ycli.specs.Plain.{HasOneText}
 use Rattle.ycli.specs.Transcript.{Tells}
 
@@ -25,44 +25,58 @@ pub record Begins (source tokens : List ℕ) (m : Machine) (h : History) : Type 
   pub machine : m ≡ machine_over tables
   pub parses : Parses tables.built.grammar tokens m h
 
--- why there are no tokens for these tables: they can't be read, or their text has a fault
-abbrev pub TokensFail : (List ℕ → Type 0) → TablesValue → StepperFault → Type 0
-TokensFail tokens t Unread = Unit {0}
-TokensFail tokens t NoRoom = Unit {0}
-TokensFail tokens t (Tokens fault) =
-    (text : List ℕ) × tokens text × Gives t.built.grammar text (Err fault)
-TokensFail tokens t (Source fault) = ⊥
-TokensFail tokens t (Session fault) = ⊥
+module _ {D : Type 0} (reads : D → List ℕ → List ℕ → D → Type 0) where
+  -- these are the tokens of the file at this path, for such tables
+  pub record HasTokens (path : List ℕ) (old new : D) (t : TablesValue) (symbols : List ℕ)
+      : Type 0 where
+    pub text : List ℕ
+    pub read : reads old path text new
+    pub names : TokensOf t.built.grammar text (Ok symbols)
 
-module _ (grammar tokens : List ℕ → Type 0) where
-  -- a session starts so over the texts that the readers have
+  -- why there are no tokens of the file at this path, for such tables: it can't be read, and isn't;
+  -- or it was read, and its text has a fault
+  abbrev pub TokensFail : (D → List ℕ → Type 0) → List ℕ → D → D → TablesValue → StepperFault
+      → Type 0
+  TokensFail unreadable path old new t Unread = unreadable old path × (new ≡ old)
+  TokensFail unreadable path old new t NoRoom = new ≡ old
+  TokensFail unreadable path old new t (Tokens fault) =
+      (text : List ℕ) × reads old path text new × Gives t.built.grammar text (Err fault)
+  TokensFail unreadable path old new t (Source fault) = ⊥
+  TokensFail unreadable path old new t (Session fault) = ⊥
+
+module _ {D : Type 0} (reads : D → List ℕ → List ℕ → D → Type 0) (grammar tokens : List ℕ)
+    (old new : D) where
+  -- a session starts so over the texts of these two files: the grammar's was read, then the tokens'
   pub record Starts (m : Machine) (h : History) : Type 0 where
     pub source : List ℕ
-    pub told : grammar source
+    pub between : D
+    pub told : reads old grammar source between
     pub text : List ℕ
-    pub names : tokens text
+    pub names : reads between tokens text new
     pub begins : Begins source text m h
 
+module _ {D : Type 0} (reads : D → List ℕ → List ℕ → D → Type 0)
+    (unreadable : D → List ℕ → Type 0) (grammar tokens : List ℕ) (old new : D) where
   -- there are no tokens for tables of the grammar
   pub record LacksTokens (fault : StepperFault) : Type 0 where
-    pub source : List ℕ
-    pub told : grammar source
+    pub between : D
     pub tables : TablesValue
-    pub are : AreTablesOf source tables
-    pub fails : TokensFail tokens tables fault
+    pub has : HasTables reads grammar old between tables
+    pub fails : TokensFail reads unreadable tokens between new tables fault
 
   -- why there is no session: there are no tables, and then the tokens were not opened; or there are
   -- tables and no tokens
-  abbrev pub StartFails : Type 0 → StepperFault → Type 0
-  StartFails unopened (Source fault) = SourceFails grammar fault × unopened
-  StartFails unopened fault = LacksTokens fault
+  abbrev pub StartFails : StepperFault → Type 0
+  StartFails (Source fault) = SourceFails reads unreadable grammar old new fault
+  StartFails fault = LacksTokens fault
 
 -- nothing was read or written
 pub record Rests {R W : Type 0} (r : R) (reader : Link R) (w : W) (writer : Link W) : Type 0 where
   pub reader_stays : device_of reader ≡ r
   pub writer_stays : device_of writer ≡ w
 
-module _ (grammar tokens : List ℕ → Type 0) (unopened : Type 0) {R W : Type 0}
+module _ {D : Type 0} (reads : D → List ℕ → List ℕ → D → Type 0)
+    (unreadable : D → List ℕ → Type 0) (grammar tokens : List ℕ) (old new : D) {R W : Type 0}
     (remaining : R → Option (List ℕ)) (contents : W → Option (List ℕ))
     (r : R) (reader : Link R) (w : W) (writer : Link W) where
   -- A session was served from such a start: where the bytes of the reader are known, what was
@@ -71,7 +85,7 @@ module _ (grammar tokens : List ℕ → Type 0) (unopened : Type 0) {R W : Type 
   pub record Served (ending : Result (Unit {0}) SessionFault) : Type 0 where
     pub machine : Machine
     pub history : History
-    pub starts : Starts grammar tokens machine history
+    pub starts : Starts reads grammar tokens old new machine history
     pub plain : (lines : List (List ℕ)) → HasOneText machine history lines
     pub tells : IfSome (remaining r) (λ input. length input < 2 ^ 63 →
         Tells machine history input (remaining (device_of reader)) (contents w)
@@ -81,7 +95,7 @@ module _ (grammar tokens : List ℕ → Type 0) (unopened : Type 0) {R W : Type 
   abbrev pub Ends : Result (Unit {0}) StepperFault → Type 0
   Ends (Ok done) = Served (Ok done)
   Ends (Err (Session fault)) = Served (Err fault)
-  Ends (Err fault) = StartFails grammar tokens unopened fault × Rests r reader w writer
+  Ends (Err fault) = StartFails reads unreadable grammar tokens old new fault × Rests r reader w writer
 
 -- whether the link of the reader failed
 abbrev pub reader_failed : Result (Unit {0}) StepperFault → Bool

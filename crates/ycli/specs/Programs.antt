@@ -1,47 +1,35 @@
 -- What a program does, except its exit: what it was asked for, its message and its exit status.
-use Rattle.std.specs.Prelude.{ℕ, ◌≡◌, ◌≢◌, ◌<◌, ◌^◌, ◌⊎◌, false, List, [], length, Option, IfSome}
-use Rattle.std.specs.Prelude.{Result, Ok, Err}
+use Rattle.std.specs.Prelude.{ℕ, ◌≡◌, ◌≢◌, ◌⊎◌, false, List, [], Option, Result, Ok, Err}
 use Rattle.std.specs.Borrow.{Bor}
 use Rattle.std.specs.Io.KnownBytes.{Appends}
 use Rattle.clap.specs.Words.{App, IsAmong, fault_of}
 use Rattle.clap.specs.declared.error.kind.ErrorKind.{ErrorKind}
 use Rattle.clap.specs.declared.error.kind.ErrorKind.TheVariants as kinds
 use Rattle.ylink.specs.declared.link.Link.{Link}
-use Rattle.ytables.specs.Tables.{TablesValue as Tables}
+use Rattle.ylink.specs.Link.{device_of, has_failed}
+use Rattle.ylink.specs.Sends.{Begins}
 use Rattle.ysyntax.specs.declared.fault.GrammarFault.{GrammarFault}
 use Rattle.ysyntax.specs.declared.fault.GrammarFault.TheVariants as grammars
-use Rattle.ysymbols.specs.Grammar.{GrammarValue}
-use Rattle.ygrammar.specs.GrammarOf.{IsFaultOf, IsGrammarOf}
-use Rattle.ylalr.specs.Collection.{TooMany}
 use Rattle.ylalr.specs.declared.fault.BuildFault.{BuildFault}
 use Rattle.ylalr.specs.declared.fault.BuildFault.TheVariants as building
 use Rattle.ytokens.specs.declared.tokens.TokenFault.{TokenFault}
 use Rattle.ytokens.specs.declared.tokens.TokenFault.TheVariants as tokens
-use Rattle.ycli.specs.declared.fault.SessionFault.{SessionFault}
 use Rattle.ywords.specs.declared.arguments.YstepWords.{YstepWords}
+use Rattle.ywords.specs.Arguments.{ystep_app, ArePathsIn}
 use Rattle.ycli.specs.declared.message.Program.{Program}
 use Rattle.ycli.specs.declared.message.Program.TheVariants.{Ystep}
 use Rattle.ycli.specs.declared.message.Trouble.{Trouble}
 use Rattle.ycli.specs.declared.message.Trouble.TheVariants.{Usage, Grammar, Tokens, TooManySets}
-use Rattle.ycli.specs.declared.message.Trouble.TheVariants.{NoMemory, CannotRead, CannotWrite}
+use Rattle.ycli.specs.declared.message.Trouble.TheVariants.{NoMemory, CannotRead}
 use Rattle.ycli.specs.declared.message.Trouble.TheVariants.{Session}
 use Rattle.ycli.specs.declared.programs.Request.{Request}
 use Rattle.ycli.specs.declared.programs.Request.TheVariants as requests
-use Rattle.ylink.specs.Link.{device_of, has_failed}
-use Rattle.ycli.specs.Messages.{message}
-use Rattle.ylink.specs.Sends.{Begins}
-use Rattle.ytokens.specs.Reading.{TokensOf}
-use Rattle.ymachine.specs.Machine.{Machine}
-use Rattle.ymachine.specs.History.{History}
 use Rattle.ycli.specs.declared.source.SourceFault.{SourceFault}
 use Rattle.ycli.specs.declared.source.SourceFault.TheVariants as sources
 use Rattle.ycli.specs.declared.stepper.StepperFault.{StepperFault}
 use Rattle.ycli.specs.declared.stepper.StepperFault.TheVariants as starts
-use Rattle.ycli.specs.Halves.{AreTablesOf}
-use Rattle.ycli.specs.Headline.{Starts}
-use Rattle.ycli.specs.Plain.{HasOneText}
-use Rattle.ycli.specs.Transcript.{Tells, failed_read, failed_write}
-use Rattle.ywords.specs.Arguments.{ystep_app, ArePathsIn}
+use Rattle.ycli.specs.Headline.{Ends, reader_failed, writer_failed}
+use Rattle.ycli.specs.Messages.{message}
 
 -- ---- statuses, and what a fault is to a program
 
@@ -122,48 +110,6 @@ Asks words (Err trouble) = WordsFail ystep_app words trouble
 
 -- ---- how a run ended
 
--- why there are no tables of the grammar file at this path: a fault is one that some bytes have
-abbrev pub GrammarFails : Bor (List ℕ) → Trouble → Type 0
-GrammarFails path (Grammar grammars.Memory) = ⊥
-GrammarFails path (Grammar fault) = (source : List ℕ) × IsFaultOf source fault
-GrammarFails path TooManySets =
-    (source : List ℕ) × (v : GrammarValue) × IsGrammarOf source v × TooMany v.bare
-GrammarFails path NoMemory = Unit {0}
-GrammarFails path (CannotRead unread) = unread ≡ path
-GrammarFails path _ = ⊥
-
--- why there are no tokens in the file at this path, for tables of the grammar of some bytes
-abbrev pub TokensFail : Bor (List ℕ) → Trouble → Type 0
-TokensFail path (Tokens tokens.Memory) = ⊥
-TokensFail path (Tokens fault) =
-    (source : List ℕ) × (t : Tables) × (bytes : List ℕ) × AreTablesOf source t
-    × TokensOf t.built.grammar bytes (Err fault)
-TokensFail path NoMemory = Unit {0}
-TokensFail path (CannotRead unread) = unread ≡ path
-TokensFail path _ = ⊥
-
--- why there is no session over these files
-abbrev pub FilesFail : YstepWords → Trouble → Type 0
-FilesFail paths trouble = GrammarFails paths.grammar trouble ⊎ TokensFail paths.tokens trouble
-
--- the files were opened and have these bytes, which no clause knows
-abbrev pub some_bytes : List ℕ → Type 0
-some_bytes bytes = Unit {0}
-
--- a session was served from its start; unless memory runs out its text is a function of its lines
-pub record Serves {R W : Type 0} (remaining : R → Option (List ℕ)) (contents : W → Option (List ℕ))
-    (r : R) (reader : Link R) (w : W) (writer : Link W)
-    (ending : Result (Unit {0}) SessionFault) : Type 0 where
-  pub machine : Machine
-  pub history : History
-  pub starts : Starts some_bytes some_bytes machine history
-  pub plain : (lines : List (List ℕ)) → HasOneText machine history lines
-  pub tells : IfSome (remaining r) (λ input. length input < 2 ^ 63 →
-      Tells machine history input (remaining (device_of reader)) (contents w)
-      (contents (device_of writer)) ending)
-  pub read_fault : has_failed reader ≡ failed_read ending
-  pub write_fault : has_failed writer ≡ failed_write ending
-
 -- a link was not touched, and no call of it failed
 pub record IsUntouched {D : Type 0} (d : D) (link : Link D) : Type 0 where
   pub stays : device_of link ≡ d
@@ -179,49 +125,58 @@ pub record Says {E : Type 0} (contents : E → Option (List ℕ)) (e : E) (error
 abbrev pub SaysSome : {W : Type 0} → (W → Option (List ℕ)) → W → Link W → Type 0
 SaysSome contents w writer = (text : List ℕ) × Says contents w writer text
 
-module _ {R W : Type 0} (remaining : R → Option (List ℕ)) (contents : W → Option (List ℕ))
-    (paths : YstepWords) (r : R) (reader : Link R) (w : W) (writer : Link W) where
-  -- how a run over these files ended
-  abbrev pub FilesEnd : Result (Unit {0}) Trouble → Type 0
-  FilesEnd (Ok done) = Serves remaining contents r reader w writer (Ok done)
-  FilesEnd (Err (Session fault)) = Serves remaining contents r reader w writer (Err fault)
-  FilesEnd (Err trouble) =
-      FilesFail paths trouble × IsUntouched r reader × IsUntouched w writer
+-- the program's answer where the stepper gave this one
+abbrev pub passed_on : YstepWords → Result (Unit {0}) StepperFault → Result (Unit {0}) Trouble
+passed_on paths (Ok done) = Ok done
+passed_on paths (Err fault) = Err (of_start paths fault)
 
--- no session came of the words
-pub record Fails (words : List (List ℕ)) (trouble : Trouble) : Type 0 where
-  pub paths : YstepWords
-  pub taken : AreTaken ystep_app words
-  pub given : ArePathsIn words paths
-  pub files : FilesFail paths trouble
+module _ {D : Type 0} (reads : D → List ℕ → List ℕ → D → Type 0)
+    (unreadable : D → List ℕ → Type 0) (old new : D) {R W : Type 0}
+    (remaining : R → Option (List ℕ)) (contents : W → Option (List ℕ))
+    (r : R) (reader : Link R) (w : W) (writer : Link W) where
+  -- the program passes on such an answer of the stepper over the files of these words; a link failed
+  -- exactly where the answer says so
+  pub record PassesOn (paths : YstepWords) (told : Result (Unit {0}) Trouble) : Type 0 where
+    pub answer : Result (Unit {0}) StepperFault
+    pub ends : Ends reads unreadable paths.grammar.now paths.tokens.now old new remaining contents
+        r reader w writer answer
+    pub is : told ≡ passed_on paths answer
+    pub read_fault : has_failed reader ≡ reader_failed answer
+    pub write_fault : has_failed writer ≡ writer_failed answer
 
-module _ {R W : Type 0} (remaining : R → Option (List ℕ)) (contents : W → Option (List ℕ))
-    (words : List (List ℕ)) (r : R) (reader : Link R) (w : W) (writer : Link W) where
-  -- nothing was read or written
-  abbrev Rest : Type 0
-  Rest = IsUntouched r reader × IsUntouched w writer
+  module _ (words : List (List ℕ)) where
+    -- the words were taken, the stepper ran over their files, and its answer was passed on
+    pub record Steps (told : Result (Unit {0}) Trouble) : Type 0 where
+      pub paths : YstepWords
+      pub are : AreTaken ystep_app words × ArePathsIn words paths
+      pub passed : PassesOn paths told
 
-  -- how a run over these words ended
-  abbrev pub EndsIn : Result (Unit {0}) Trouble → Type 0
-  EndsIn (Ok done) =
-      (AskHelp ystep_app words × IsUntouched r reader × SaysSome contents w writer)
-      ⊎ (AreTaken ystep_app words × Serves remaining contents r reader w writer (Ok done))
-  EndsIn (Err (Session fault)) =
-      AreTaken ystep_app words × Serves remaining contents r reader w writer (Err fault)
-  EndsIn (Err Usage) = AreMistaken ystep_app words × Rest
-  EndsIn (Err NoMemory) = Rest
-  EndsIn (Err (Grammar fault)) = Fails words (Grammar fault) × Rest
-  EndsIn (Err (Tokens fault)) = Fails words (Tokens fault) × Rest
-  EndsIn (Err TooManySets) = Fails words TooManySets × Rest
-  EndsIn (Err (CannotRead path)) = Fails words (CannotRead path) × Rest
-  EndsIn (Err (CannotWrite prefix ending)) = ⊥
+    -- the words were not taken; no file was opened, and nothing was read or written
+    pub record Refuses (trouble : Trouble) : Type 0 where
+      pub words_fail : WordsFail ystep_app words trouble
+      pub stays : new ≡ old
+      pub unread : IsUntouched r reader
+      pub unwritten : IsUntouched w writer
+
+    -- help was asked for, and written; no file was opened, and nothing was read
+    pub record Helps : Type 0 where
+      pub asked : AskHelp ystep_app words
+      pub stays : new ≡ old
+      pub unread : IsUntouched r reader
+      pub says : SaysSome contents w writer
+
+    -- how a run over these words ended
+    abbrev pub EndsIn : Result (Unit {0}) Trouble → Type 0
+    EndsIn (Ok done) = Helps ⊎ Steps (Ok done)
+    EndsIn (Err trouble) = Refuses trouble ⊎ Steps (Err trouble)
 
 -- what a run answers and does: its end, with the status and the message of that end
-pub record Runs {R W E : Type 0} (remaining : R → Option (List ℕ)) (contents : W → Option (List ℕ))
-    (messages : E → Option (List ℕ)) (words : List (List ℕ))
+pub record Runs {D R W E : Type 0} (reads : D → List ℕ → List ℕ → D → Type 0)
+    (unreadable : D → List ℕ → Type 0) (old new : D) (remaining : R → Option (List ℕ))
+    (contents : W → Option (List ℕ)) (messages : E → Option (List ℕ)) (words : List (List ℕ))
     (r : R) (reader : Link R) (w : W) (writer : Link W) (e : E) (errors : Link E)
     (answer : ℕ) : Type 0 where
   pub ending : Result (Unit {0}) Trouble
-  pub ends : EndsIn remaining contents words r reader w writer ending
+  pub ends : EndsIn reads unreadable old new remaining contents r reader w writer words ending
   pub answers : answer ≡ status_after ending
   pub says : Says messages e errors (message_after Ystep ending)

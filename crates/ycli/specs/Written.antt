@@ -1,8 +1,10 @@
--- What the generator promises of the bytes that it reads and writes.
-use Rattle.std.specs.Prelude.{ℕ, ◌≡◌, Bool, true, false, List, Option, Result, Ok, Err}
-use Rattle.std.specs.Prelude.{codes}
+-- What the generator promises of the files that it reads and writes.
+use Rattle.std.specs.Prelude.{ℕ, ◌≡◌, ◌⊎◌, ◌++◌, Bool, true, false, List, Option, Some, None}
+use Rattle.std.specs.Prelude.{Result, Ok, Err, codes}
+use Rattle.std.specs.Io.KnownBytes.{Appends}
 use Rattle.ylalr.specs.Collection.{Guide, IsGuide}
-use Rattle.ylink.specs.Sends.{Grows}
+use Rattle.ylink.specs.declared.link.Link.{Link}
+use Rattle.ylink.specs.Link.{device_of, has_failed}
 use Rattle.ytables.specs.declared.tables.Counts.{Counts}
 use Rattle.ytables.specs.Tables.{TablesValue}
 use Rattle.ytables.specs.Table.{table_of}
@@ -12,65 +14,123 @@ use Rattle.ycli.specs.declared.generate.GenerateFault.TheVariants.{Source, Unope
 use Rattle.ycli.specs.declared.generate.GenerateFault.TheVariants.{Unwritten}
 use Rattle.ycli.specs.declared.generate.Text.{Text}
 use Rattle.ycli.specs.declared.generate.Text.TheVariants.{Table, Report}
-use Rattle.ycli.specs.Halves.{AreTablesOf, SourceFails}
+use Rattle.ycli.specs.Halves.{HasTables, SourceFails}
 
 -- the text that is written of tables
 abbrev pub text_of : TablesValue → Guide → Text → List ℕ
 text_of t u Table = table_of t
 text_of t u Report = report_of t u
 
--- what follows the prefix in the name of its file
+-- what follows the prefix in the name of its file (POSIX yacc, "Output Files")
 abbrev pub ending_of : Text → List ℕ
 ending_of Table = codes ".tab"
 ending_of Report = codes ".output"
 
--- when the device was let go, it had taken the whole text, or only a beginning of it
-abbrev pub Sent : {W : Type 0} → (W → Option (List ℕ)) → W → TablesValue → Text → Bool → Type 0
-Sent {W} contents device t text whole = (left : W) × ((u : Guide) → IsGuide t.built u
-    → Grows (contents device) (contents left) whole (text_of t u text))
+-- the path of its file
+abbrev pub path_of : List ℕ → Text → List ℕ
+path_of prefix text = prefix ++ ending_of text
 
--- a device was opened, and took the whole text, or only a beginning of it
-abbrev pub Writes : {S D : Type 0} → (S → D → Type 0) → (D → Option (List ℕ)) → S → TablesValue
-    → Text → Bool → Type 0
-Writes {S} {D} opens contents opener t text whole =
-    (device : D) × opens opener device × Sent contents device t text whole
+-- what a device holds is a beginning of what it held, where that is known, and then the text
+abbrev pub HoldsFront : Option (List ℕ) → Option (List ℕ) → List ℕ → Type 0
+HoldsFront None new text = Unit {0}
+HoldsFront (Some xs) None text = ⊥
+HoldsFront (Some xs) (Some ys) text = (rest : List ℕ) × (xs ++ text ≡ ys ++ rest)
 
--- why only a beginning of a text was written: its device can't be opened, or its link failed
-abbrev pub WriteFails : (Bool → Type 0) → Text → GenerateFault → Type 0
-WriteFails writes text (Source fault) = ⊥
-WriteFails writes text (Unopened failed) = failed ≡ text
-WriteFails writes text (NoRoom failed) = failed ≡ text
-WriteFails writes text (Unwritten failed) = (failed ≡ text) × writes false
+-- what a device took of a text: all of it, and where a call of it failed no more than a beginning
+pub record Takes (old new : Option (List ℕ)) (failed : Bool) (text : List ℕ) : Type 0 where
+  pub whole : failed ≡ false → Appends old new text
+  pub front : HoldsFront old new text
 
-module _ (table report : Bool → Type 0) (unopened : Type 0) where
-  -- the table was written, and the report where it is wanted; else it was not opened
-  abbrev pub WritesAll : Bool → Type 0
-  WritesAll true = table true × report true
-  WritesAll false = table true × unopened
+-- why the file of a text isn't open: it refuses, or memory ran out; then nothing was opened
+abbrev pub OpenFails : {D : Type 0} → (D → List ℕ → Type 0) → List ℕ → Text → D → D → GenerateFault
+    → Type 0
+OpenFails unwritable path text old new (Unopened failed) =
+    (failed ≡ text) × unwritable old path × (new ≡ old)
+OpenFails unwritable path text old new (NoRoom failed) = (failed ≡ text) × (new ≡ old)
+OpenFails unwritable path text old new (Source fault) = ⊥
+OpenFails unwritable path text old new (Unwritten failed) = ⊥
 
-  -- why not all was written: the table was not, and then the report was not opened; or the table
-  -- was, but the report, which is wanted, was not
-  abbrev pub AllFail : Bool → GenerateFault → Type 0
-  AllFail verbose (Source fault) = ⊥
-  AllFail verbose (Unopened Table) = unopened
-  AllFail verbose (NoRoom Table) = unopened
-  AllFail verbose (Unwritten Table) = table false × unopened
-  AllFail verbose (Unopened Report) = table true × (verbose ≡ true)
-  AllFail verbose (NoRoom Report) = table true × (verbose ≡ true)
-  AllFail verbose (Unwritten Report) = table true × (verbose ≡ true) × report false
+module _ {D F : Type 0} (closes : D → Link F → D → Type 0) (contents : F → Option (List ℕ)) where
+  -- an open file took the text, all of it, or where a call of it failed no more than a beginning;
+  -- then it was closed
+  pub record Fills (t : TablesValue) (text : Text) (failed : Bool) (file : F) (old new : D)
+      : Type 0 where
+    pub link : Link F
+    pub takes : (u : Guide) → IsGuide t.built u
+        → Takes (contents file) (contents (device_of link)) failed (text_of t u text)
+    pub flag : has_failed link ≡ failed
+    pub closed : closes old link new
 
-module _ (grammar : List ℕ → Type 0) (table report : TablesValue → Bool → Type 0)
-    (table_unopened report_unopened : Type 0) (verbose : Bool) where
-  -- the tables are those of the grammar that a reader has
-  abbrev Stand : TablesValue → Type 0
-  Stand t = (source : List ℕ) × grammar source × AreTablesOf source t
+  -- how writing to an open file ended: it took the text; or a call of it failed; or memory ran out
+  -- before anything was written, and nobody closed it
+  abbrev pub FillsBy : TablesValue → Text → F → D → D → Result (Unit {0}) GenerateFault → Type 0
+  FillsBy t text file old new (Ok done) = Fills t text false file old new
+  FillsBy t text file old new (Err (Unwritten failed)) =
+      (failed ≡ text) × Fills t text true file old new
+  FillsBy t text file old new (Err (NoRoom failed)) = (failed ≡ text) × (new ≡ old)
+  FillsBy t text file old new (Err (Source fault)) = ⊥
+  FillsBy t text file old new (Err (Unopened failed)) = ⊥
 
-  -- how it ended: all was written that is wanted, and the conflicts are those of all cells; or there
-  -- are no tables, and nothing was opened to be written; or not all was written
+module _ {D F : Type 0} (opens : D → List ℕ → F → D → Type 0) (closes : D → Link F → D → Type 0)
+    (contents : F → Option (List ℕ)) where
+  -- from one folder to the next, a file was opened once at this path, took the text, and was closed
+  pub record Writes (path : List ℕ) (t : TablesValue) (text : Text) (failed : Bool) (old new : D)
+      : Type 0 where
+    pub file : F
+    pub between : D
+    pub opened : opens old path file between
+    pub filled : Fills closes contents t text failed file between new
+
+  module _ (unwritable : D → List ℕ → Type 0) (prefix : List ℕ) (t : TablesValue) where
+    -- why a text wasn't written to its file: it isn't open; or memory ran out before anything was
+    -- written; or a call of it failed
+    abbrev pub WriteFails : Text → D → D → GenerateFault → Type 0
+    WriteFails text old new (NoRoom failed) =
+        (failed ≡ text) × ((new ≡ old) ⊎ ((file : F) × opens old (path_of prefix text) file new))
+    WriteFails text old new (Unwritten failed) =
+        (failed ≡ text) × Writes (path_of prefix text) t text true old new
+    WriteFails text old new fault = OpenFails unwritable (path_of prefix text) text old new fault
+
+    -- the table was written, and then the report where it is wanted
+    abbrev pub WritesAll : Bool → D → D → Type 0
+    WritesAll true old new = (between : D)
+        × Writes (path_of prefix Table) t Table false old between
+        × Writes (path_of prefix Report) t Report false between new
+    WritesAll false old new = Writes (path_of prefix Table) t Table false old new
+
+    -- why not all was written: the table wasn't, and the report was not opened; or the table was,
+    -- but the report, which is wanted, wasn't
+    abbrev pub AllFail : Bool → D → D → GenerateFault → Type 0
+    AllFail verbose old new fault =
+        WriteFails Table old new fault
+        ⊎ ((verbose ≡ true) × (between : D)
+        × Writes (path_of prefix Table) t Table false old between
+        × WriteFails Report between new fault)
+
+module _ {D F : Type 0} (reads : D → List ℕ → List ℕ → D → Type 0)
+    (unreadable : D → List ℕ → Type 0) (opens : D → List ℕ → F → D → Type 0)
+    (unwritable : D → List ℕ → Type 0) (closes : D → Link F → D → Type 0)
+    (contents : F → Option (List ℕ)) (grammar prefix : List ℕ) (verbose : Bool) (old new : D) where
+  -- all was written that is wanted of the tables of the grammar file, and these are the conflicts of
+  -- all their cells
+  pub record Generates (counts : Counts) : Type 0 where
+    pub tables : TablesValue
+    pub between : D
+    pub has : HasTables reads grammar old between tables
+    pub shift_reduce : counts.shift_reduce ≡ tables.shift_reduce
+    pub reduce_reduce : counts.reduce_reduce ≡ tables.reduce_reduce
+    pub wrote : WritesAll opens closes contents unwritable prefix tables verbose between new
+
+  -- there are tables of the grammar file, and not all was written
+  pub record Stops (fault : GenerateFault) : Type 0 where
+    pub tables : TablesValue
+    pub between : D
+    pub has : HasTables reads grammar old between tables
+    pub fails : AllFail opens closes contents unwritable prefix tables verbose between new fault
+
+  -- how it ended: all was written; or there are no tables, and nothing was opened to be written; or
+  -- not all was written
   abbrev pub Generated : Result Counts GenerateFault → Type 0
-  Generated (Ok counts) = (t : TablesValue) × Stand t × (counts.shift_reduce ≡ t.shift_reduce)
-      × (counts.reduce_reduce ≡ t.reduce_reduce)
-      × WritesAll (table t) (report t) report_unopened verbose
-  Generated (Err (Source fault)) = SourceFails grammar fault × table_unopened × report_unopened
-  Generated (Err fault) =
-      (t : TablesValue) × Stand t × AllFail (table t) (report t) report_unopened verbose fault
+  Generated (Ok counts) = Generates counts
+  Generated (Err (Source fault)) = SourceFails reads unreadable grammar old new fault
+  Generated (Err fault) = Stops fault

@@ -1,18 +1,18 @@
-//! The generator between openers: a grammar in, its table and its report out.
+//! The generator over a folder: a grammar file in, its table and its report out.
 
-ghost use Rattle.std.specs.Prelude.{◌≡◌, true, IfErr, OnOk, is_some};
+ghost use Rattle.std.specs.Prelude.{◌≡◌, false, not, IfErr, IfOk, IfSome, OnOk, string_bytes};
 ghost use Rattle.ylalr.specs.Collection.{Guide, IsGuide};
-ghost use Rattle.ylink.specs.Link.{device_of};
+ghost use Rattle.ylink.specs.Link.{device_of, has_failed};
 ghost use Rattle.ylink.specs.Sends.{Grows};
-ghost use Rattle.ylink.specs.Open.{Tells};
-ghost use Rattle.ycli.specs.Written.{text_of, Sent, Writes, WriteFails, WritesAll, AllFail};
-ghost use Rattle.ycli.specs.Written.{Generated, ending_of};
+ghost use Rattle.ycli.specs.Written.{text_of, Takes, OpenFails, Writes, FillsBy, WriteFails};
+ghost use Rattle.ycli.specs.Written.{WritesAll, AllFail, Generated, ending_of, path_of};
 
 use crate::source::{SourceFault, tables_from};
-use std::alloc::Global;
-use std::io::{ErrorKind, Read, Write};
+use std::alloc::{AllocError, Global};
+use std::io::{ErrorKind, Write};
 use thiserror::Error;
-use ylink::Open;
+use yfolder::Folder;
+use ylink::Buffered;
 use ytables::{Counts, Link, Tables};
 
 /// The texts that can be written of a grammar.
@@ -42,57 +42,44 @@ pub enum GenerateFault {
     /// There are no tables of the grammar.
     #[error("{0}")]
     Source(SourceFault),
-    /// The device of this text can't be opened.
+    /// The file of this text can't be opened.
     #[error("cannot open what is to be written")]
     Unopened(Text),
-    /// Memory ran out while the device of this text was opened.
+    /// Memory ran out before anything of this text was written.
     #[error("no memory")]
     NoRoom(Text),
-    /// The link to the device of this text failed.
+    /// A call of the file of this text failed.
     #[error("write fault")]
     Unwritten(Text),
 }
 
-/// Writes a text. `None` where the link failed: then only a beginning of it was written.
-fn put_text<W: Write>(tables: &Tables, text: Text, link: &mut Link<W>) -> Option<()>
-    ensures { (u : Guide) → IsGuide tables.now.built u
-        → Grows (W.contents (device_of link.old)) (W.contents (device_of link.new)) (is_some result)
-        (text_of tables.now u text) }
+/// The path of the file of a text.
+fn path_of(alloc: Global, prefix: &str, text: Text) -> Result<String, AllocError>
+    ensures { IfOk result (λ path. string_bytes path ≡ path_of prefix.now text) }
 {
-    match text {
-        Text::Table => tables.write_table(link).ok(),
-        Text::Report => tables.write_report(link).ok(),
-    }
+    let mut path = String::new(alloc);
+    path.push_str(prefix)?;
+    path.push_str(text.ending())?;
+    Ok(path)
 }
 
-/// Writes a text to a device and flushes it; false where only a beginning of it was written.
-fn send<W: Write + Drop>(tables: &Tables, text: Text, device: W) -> bool
-    ensures { Sent W.contents device tables.now text result }
-{
-    let mut link = Link::new(device);
-    let Some(()) = put_text(tables, text, &mut link) else {
-        return false;
-    };
-    link.flush()
-}
-
-/// Opens the device of a text and writes it.
-fn write_text<O: Open>(tables: &Tables, text: Text, opener: &mut O) -> Result<(), GenerateFault>
-where
-    O::Device: Write,
-    ensures wrote { OnOk result
-        (Writes O.opens O.Device.contents opener.old tables.now text true) }
+/// Opens the file of a text.
+fn open_text<D: Folder>(
+    alloc: Global,
+    folder: &mut D,
+    prefix: &str,
+    text: Text,
+) -> Result<D::File, GenerateFault>
+    ensures opened { IfOk result (λ file.
+        D.opens folder.old (path_of prefix.now text) file folder.new) }
     ensures fails { IfErr result
-        (WriteFails (Writes O.opens O.Device.contents opener.old tables.now text) text) }
+        (OpenFails D.unwritable (path_of prefix.now text) text folder.old folder.new) }
 {
-    match opener.open() {
-        Ok(device) => {
-            if send(tables, text, device) {
-                Ok(())
-            } else {
-                Err(GenerateFault::Unwritten(text))
-            }
-        }
+    let Ok(path) = path_of(alloc, prefix, text) else {
+        return Err(GenerateFault::NoRoom(text));
+    };
+    match folder.open(path.as_str()) {
+        Ok(file) => Ok(file),
         Err(error) => match error.kind() {
             ErrorKind::OutOfMemory => Err(GenerateFault::NoRoom(text)),
             _ => Err(GenerateFault::Unopened(text)),
@@ -100,58 +87,115 @@ where
     }
 }
 
-/// Writes the table, and then the report where it is wanted.
-fn write_texts<T: Open, P: Open>(
+/// Writes a text; whether the link took all of it.
+fn put_text<W: Write>(tables: &Tables, text: Text, link: &mut Link<W>) -> bool
+    ensures text { (u : Guide) → IsGuide tables.now.built u
+        → Grows (W.contents (device_of link.old)) (W.contents (device_of link.new)) result
+        (text_of tables.now u text) }
+    ensures failed { has_failed link.new ≡ not result }
+{
+    match text {
+        Text::Table => tables.write_table(link).is_ok(),
+        Text::Report => tables.write_report(link).is_ok(),
+    }
+}
+
+/// Writes a text to a file, through a buffer, and flushes it: the link to the file, whose flag says
+/// whether a call of it failed. `None` where memory ran out before anything was written.
+fn send<W: Write + Drop>(alloc: Global, tables: &Tables, text: Text, file: W) -> Option<Link<W>>
+    ensures { IfSome result (λ link. (u : Guide) → IsGuide tables.now.built u
+        → Takes (W.contents file) (W.contents (device_of link)) (has_failed link)
+        (text_of tables.now u text)) }
+{
+    let Ok(buffer) = Buffered::new(alloc, file) else {
+        return None;
+    };
+    let mut link = Link::new(buffer);
+    let _whole = put_text(tables, text, &mut link);
+    Some(link.finish())
+}
+
+/// Writes a text to the file that was opened for it, and closes the file.
+fn write_file<D: Folder>(
+    alloc: Global,
     tables: &Tables,
-    table: &mut T,
-    report: &mut P,
+    text: Text,
+    folder: &mut D,
+    file: D::File,
+) -> Result<(), GenerateFault>
+    ensures { FillsBy D.closes D.File.contents tables.now text file folder.old folder.new result }
+{
+    let Some(link) = send(alloc, tables, text, file) else {
+        return Err(GenerateFault::NoRoom(text));
+    };
+    let failed = link.failed();
+    folder.close(link);
+    if failed {
+        Err(GenerateFault::Unwritten(text))
+    } else {
+        Ok(())
+    }
+}
+
+/// Opens the file of a text and writes it.
+fn write_text<D: Folder>(
+    alloc: Global,
+    tables: &Tables,
+    text: Text,
+    folder: &mut D,
+    prefix: &str,
+) -> Result<(), GenerateFault>
+    ensures wrote { OnOk result (Writes D.opens D.closes D.File.contents
+        (path_of prefix.now text) tables.now text false folder.old folder.new) }
+    ensures fails { IfErr result (WriteFails D.opens D.closes D.File.contents D.unwritable
+        prefix.now tables.now text folder.old folder.new) }
+{
+    match open_text(alloc, folder, prefix, text) {
+        Ok(file) => write_file(alloc, tables, text, folder, file),
+        Err(fault) => Err(fault),
+    }
+}
+
+/// Writes the table, and then the report where it is wanted.
+fn write_texts<D: Folder>(
+    alloc: Global,
+    tables: &Tables,
+    folder: &mut D,
+    prefix: &str,
     verbose: bool,
 ) -> Result<(), GenerateFault>
-where
-    T::Device: Write,
-    P::Device: Write,
-    ensures wrote { OnOk result
-        (WritesAll (Writes T.opens T.Device.contents table.old tables.now Text.Table)
-        (Writes P.opens P.Device.contents report.old tables.now Text.Report)
-        (report.new ≡ report.old) verbose) }
-    ensures fails { IfErr result
-        (AllFail (Writes T.opens T.Device.contents table.old tables.now Text.Table)
-        (Writes P.opens P.Device.contents report.old tables.now Text.Report)
-        (report.new ≡ report.old) verbose) }
+    ensures wrote { OnOk result (WritesAll D.opens D.closes D.File.contents D.unwritable prefix.now
+        tables.now verbose folder.old folder.new) }
+    ensures fails { IfErr result (AllFail D.opens D.closes D.File.contents D.unwritable prefix.now
+        tables.now verbose folder.old folder.new) }
 {
-    match write_text(tables, Text::Table, table) {
-        Ok(()) if verbose => write_text(tables, Text::Report, report),
+    match write_text(alloc, tables, Text::Table, folder, prefix) {
+        Ok(()) if verbose => write_text(alloc, tables, Text::Report, folder, prefix),
         written => written,
     }
 }
 
-/// Generates from a grammar: opens and reads it, writes its table, and then its report where that
-/// is wanted (`verbose`). The answer counts the conflicts of all its cells.
+/// Generates from a grammar file: reads it, writes its table, and then its report where that is
+/// wanted (`verbose`), to the files of this prefix. The answer counts the conflicts of all cells.
 ///
-/// Each text is written to its end, unless the link to its device failed: then only a beginning of
-/// it was written. Nothing is opened to be written before there are tables, and the report is
-/// opened only after the table was written.
-pub fn generate<G: Open, T: Open, P: Open>(
+/// Each file is opened once at most, takes its text and nothing else, is flushed and closed; where a
+/// call of it failed, it has taken no more than a beginning. Nothing is opened to be written before
+/// there are tables, and the report is opened only after the table was written.
+pub fn generate<D: Folder>(
     alloc: Global,
-    grammar: &mut G,
-    table: &mut T,
-    report: &mut P,
+    folder: &mut D,
+    grammar: &str,
+    prefix: &str,
     verbose: bool,
 ) -> Result<Counts, GenerateFault>
-where
-    G::Device: Read,
-    T::Device: Write,
-    P::Device: Write,
-    ensures { Generated (Tells G.opens G.Device.remaining grammar.old)
-        (λ t. Writes T.opens T.Device.contents table.old t Text.Table)
-        (λ t. Writes P.opens P.Device.contents report.old t Text.Report)
-        (table.new ≡ table.old) (report.new ≡ report.old) verbose result }
+    ensures { Generated D.reads D.unreadable D.opens D.unwritable D.closes D.File.contents
+        grammar.now prefix.now verbose folder.old folder.new result }
 {
-    let tables = match tables_from(alloc, grammar) {
+    let tables = match tables_from(alloc, folder, grammar) {
         Ok(tables) => tables,
         Err(fault) => return Err(GenerateFault::Source(fault)),
     };
-    let written = write_texts(&tables, table, report, verbose);
+    let written = write_texts(alloc, &tables, folder, prefix, verbose);
     let counts = tables.conflicts();
     drop(tables);
     match written {

@@ -1,21 +1,18 @@
 //! What `yacc` does, except its exit.
 
-ghost use Rattle.std.specs.Prelude.{◌≡◌, false, IfOk, IfErr, map, is_some};
+ghost use Rattle.std.specs.Prelude.{◌≡◌, false, map, is_some};
 ghost use Rattle.ylink.specs.Link.{device_of, has_failed};
 ghost use Rattle.ylink.specs.Sends.{Sends};
-ghost use Rattle.ycli.specs.Generating.{Asks, EndsIn, FilesFail, Generates, PassesOn, Runs};
-ghost use Rattle.ycli.specs.Generating.{said_of};
-ghost use Rattle.ycli.specs.Written.{Generated, Writes};
-ghost use Rattle.ylink.specs.Open.{Tells};
+ghost use Rattle.ycli.specs.Generating.{Asks, EndsIn, PassesOn, Runs, said_of};
+ghost use Rattle.yfolder.specs.Disk.{disk_over};
 
-use crate::generate::{Text, generate};
+use crate::generate::generate;
 use crate::message::{Program, Trouble, put_conflicts, put_help};
 use clap::error::ErrorKind;
 use std::alloc::Global;
-use std::io::{Read, Write};
+use std::io::Write;
 use std::rt::Files;
-use ylink::Open;
-use ylink::files::{NewFile, OldFile};
+use yfolder::{Disk, Folder};
 use ytables::{Counts, Link};
 use ywords::arguments::{YaccWords, yacc_words};
 
@@ -65,83 +62,67 @@ fn request_of<'a>(alloc: Global, words: &'a [&'a str]) -> Result<Request<'a>, Tr
     }
 }
 
-/// Generates from what one opener opens to what the others open, as the words say.
-fn generate_as<'a, G: Open, T: Open, P: Open>(
+/// Generates from the files of these words.
+fn generate_files<'a, D: Folder>(
     alloc: Global,
+    folder: &mut D,
     words: YaccWords<'a>,
-    grammar: &mut G,
-    table: &mut T,
-    report: &mut P,
 ) -> Result<Counts, Trouble<'a>>
-where
-    G::Device: Read,
-    T::Device: Write,
-    P::Device: Write,
-    ensures passes { PassesOn (Generated (Tells G.opens G.Device.remaining grammar.old)
-        (λ t. Writes T.opens T.Device.contents table.old t Text.Table)
-        (λ t. Writes P.opens P.Device.contents report.old t Text.Report)
-        (table.new ≡ table.old) (report.new ≡ report.old) words.entry.verbose)
-        words.entry result }
-    ensures wrote { IfOk result Generates }
-    ensures fails { IfErr result (FilesFail words.entry) }
+    ensures { PassesOn D.reads D.unreadable D.opens D.unwritable D.closes D.File.contents folder.old
+        folder.new words.entry result }
 {
-    match generate(alloc, grammar, table, report, words.verbose()) {
+    let (grammar, prefix) = (words.grammar(), words.prefix());
+    match generate(alloc, folder, grammar, prefix, words.verbose()) {
         Ok(counts) => Ok(counts),
         Err(fault) => Err(Trouble::of_generating(words, fault)),
     }
 }
 
-/// Writes the files of a grammar and counts its conflicts.
-fn generate_files<'a, F: Files + AllocGlobal>(
-    rt: &F,
-    words: YaccWords<'a>,
-) -> Result<Counts, Trouble<'a>>
-    ensures wrote { IfOk result Generates }
-    ensures fails { IfErr result (FilesFail words.entry) }
-{
-    let mut grammar = OldFile::new(rt, words.grammar());
-    let mut table = NewFile::new(rt, words.prefix(), Text::Table.ending());
-    let mut report = NewFile::new(rt, words.prefix(), Text::Report.ending());
-    generate_as(rt.alloc(), words, &mut grammar, &mut table, &mut report)
-}
-
 /// Does what the words ask for.
-fn obey<'a, F: Files + AllocGlobal, W: Write>(
-    rt: &F,
+fn obey<'a, D: Folder, W: Write>(
+    alloc: Global,
+    folder: &mut D,
     words: &'a [&'a str],
     writer: &mut Link<W>,
 ) -> Result<Done, Trouble<'a>>
     requires { has_failed writer.old ≡ false }
-    ensures { EndsIn W.contents (map (λ word. word.now) words.entry.now) (device_of writer.old)
+    ensures { EndsIn D.reads D.unreadable D.opens D.unwritable D.closes D.File.contents folder.old
+        folder.new W.contents (map (λ word. word.now) words.entry.now) (device_of writer.old)
         writer.new result }
 {
-    match request_of(rt.alloc(), words)? {
-        Request::Generate(words) => Ok(Done::Wrote(generate_files(rt, words)?)),
-        Request::Help(text) => {
+    match request_of(alloc, words) {
+        Ok(Request::Generate(words)) => match generate_files(alloc, folder, words) {
+            Ok(counts) => Ok(Done::Wrote(counts)),
+            Err(trouble) => Err(trouble),
+        },
+        Ok(Request::Help(text)) => {
             put_help(writer, text.as_str());
             Ok(Done::Helped)
         }
+        Err(trouble) => Err(trouble),
     }
 }
 
-/// All that `yacc` does, except its exit: `yacc [-v] [-b prefix] grammar` writes the table of the
-/// grammar to the file `prefix.tab`, with `-v` its report to `prefix.output`. A line on conflicts,
-/// where there are some, goes to the last link, as messages do. Help goes to the writer. The
-/// answer is the exit status: 0 where all was done, 1 where the grammar file is refused, 2 where
+/// All that `yacc` does over a folder, except its exit: `yacc [-v] [-b prefix] grammar` writes the
+/// table of the grammar to the file `prefix.tab`, with `-v` its report to `prefix.output`. A line on
+/// conflicts, where there are some, goes to the last link, as messages do. Help goes to the writer.
+/// The answer is the exit status: 0 where all was done, 1 where the grammar file is refused, 2 where
 /// the words are, 3 where a file can't be read or written, memory runs out, or there are too many
 /// item sets. Where a message or a help text can't be written, nothing more is said.
-pub fn yacc_run<'a, F: Files + AllocGlobal, W: Write, E: Write>(
-    rt: &F,
+pub fn yacc_in<'a, D: Folder, W: Write, E: Write>(
+    alloc: Global,
+    folder: &mut D,
     words: &'a [&'a str],
     writer: &mut Link<W>,
     errors: &mut Link<E>,
 ) -> u8
-    ensures { Runs W.contents E.contents (map (λ word. word.now) words.entry.now)
+    ensures { Runs D.reads D.unreadable D.opens D.unwritable D.closes D.File.contents folder.old
+        folder.new W.contents E.contents (map (λ word. word.now) words.entry.now)
         (device_of writer.old) writer.new (device_of errors.old) errors.new result }
 {
     writer.clear();
     errors.clear();
-    match obey(rt, words, writer) {
+    match obey(alloc, folder, words, writer) {
         Ok(done) => {
             let _ = done.put(errors);
             let _ = errors.flush();
@@ -153,4 +134,21 @@ pub fn yacc_run<'a, F: Files + AllocGlobal, W: Write, E: Write>(
             trouble.status()
         }
     }
+}
+
+/// All that `yacc` does, except its exit: [`yacc_in`] over the files of the file system.
+pub fn yacc_run<'a, F: Files + AllocGlobal + 'a, W: Write, E: Write>(
+    rt: &F,
+    words: &'a [&'a str],
+    writer: &mut Link<W>,
+    errors: &mut Link<E>,
+) -> u8
+    ensures { (after : _) × Runs ⟦<Disk<'a, F> as Folder>⟧.reads ⟦<Disk<'a, F> as Folder>⟧.unreadable
+        ⟦<Disk<'a, F> as Folder>⟧.opens ⟦<Disk<'a, F> as Folder>⟧.unwritable
+        ⟦<Disk<'a, F> as Folder>⟧.closes F.File.contents (disk_over rt.entry) after
+        W.contents E.contents (map (λ word. word.now) words.entry.now)
+        (device_of writer.old) writer.new (device_of errors.old) errors.new result }
+{
+    let mut disk = Disk::new(rt);
+    yacc_in(rt.alloc(), &mut disk, words, writer, errors)
 }

@@ -2,7 +2,8 @@
 
 ghost use Rattle.std.specs.Prelude.{◌≡◌, false, map};
 ghost use Rattle.ylink.specs.Link.{device_of, has_failed};
-ghost use Rattle.ycli.specs.Programs.{Asks, EndsIn, FilesEnd, Runs};
+ghost use Rattle.ycli.specs.Programs.{Asks, EndsIn, PassesOn, Runs};
+ghost use Rattle.yfolder.specs.Disk.{disk_over};
 
 use crate::message::{Program, Trouble, put_help};
 use crate::stepper::step_through;
@@ -10,7 +11,7 @@ use clap::error::ErrorKind;
 use std::alloc::Global;
 use std::io::{Read, Write};
 use std::rt::Files;
-use ylink::files::OldFile;
+use yfolder::{Disk, Folder};
 use ytables::Link;
 use ywords::arguments::{YstepWords, ystep_words};
 
@@ -39,65 +40,69 @@ fn request_of<'a>(alloc: Global, words: &'a [&'a str]) -> Result<Request<'a>, Tr
     }
 }
 
-/// Steps through the parse of a tokens file by a grammar file.
-fn step_files<'a, F: Files + AllocGlobal, R: Read, W: Write>(
-    rt: &F,
+/// Steps through the parse of the tokens file by the grammar file of these words.
+fn step_files<'a, D: Folder, R: Read, W: Write>(
+    alloc: Global,
+    folder: &mut D,
     words: YstepWords<'a>,
     reader: &mut Link<R>,
     writer: &mut Link<W>,
 ) -> Result<(), Trouble<'a>>
-    ensures { FilesEnd R.remaining W.contents words.entry (device_of reader.old) reader.new
-        (device_of writer.old) writer.new result }
+    ensures { PassesOn D.reads D.unreadable folder.old folder.new R.remaining W.contents
+        (device_of reader.old) reader.new (device_of writer.old) writer.new words.entry result }
 {
-    let mut grammar = OldFile::new(rt, words.grammar());
-    let mut tokens = OldFile::new(rt, words.tokens());
-    match step_through(rt.alloc(), &mut grammar, &mut tokens, reader, writer) {
+    let (grammar, tokens) = (words.grammar(), words.tokens());
+    match step_through(alloc, folder, grammar, tokens, reader, writer) {
         Ok(()) => Ok(()),
         Err(fault) => Err(Trouble::of_start(words, fault)),
     }
 }
 
 /// Does what the words ask for.
-fn obey<'a, F: Files + AllocGlobal, R: Read, W: Write>(
-    rt: &F,
+fn obey<'a, D: Folder, R: Read, W: Write>(
+    alloc: Global,
+    folder: &mut D,
     words: &'a [&'a str],
     reader: &mut Link<R>,
     writer: &mut Link<W>,
 ) -> Result<(), Trouble<'a>>
     requires reader_clear { has_failed reader.old ≡ false }
     requires writer_clear { has_failed writer.old ≡ false }
-    ensures { EndsIn R.remaining W.contents (map (λ word. word.now) words.entry.now)
-        (device_of reader.old) reader.new (device_of writer.old) writer.new result }
+    ensures { EndsIn D.reads D.unreadable folder.old folder.new R.remaining W.contents
+        (device_of reader.old) reader.new (device_of writer.old) writer.new
+        (map (λ word. word.now) words.entry.now) result }
 {
-    match request_of(rt.alloc(), words)? {
-        Request::Session(words) => step_files(rt, words, reader, writer),
-        Request::Help(text) => {
+    match request_of(alloc, words) {
+        Ok(Request::Session(words)) => step_files(alloc, folder, words, reader, writer),
+        Ok(Request::Help(text)) => {
             put_help(writer, text.as_str());
             Ok(())
         }
+        Err(trouble) => Err(trouble),
     }
 }
 
-/// All that `ystep` does, except its exit: `ystep grammar tokens` runs a session with command
-/// lines from the reader and replies to the writer. Messages go to the last link. The answer is
-/// the exit status: 0 where the session was served or help was asked for, 1 where a file is
+/// All that `ystep` does over a folder, except its exit: `ystep grammar tokens` runs a session with
+/// command lines from the reader and replies to the writer. Messages go to the last link. The answer
+/// is the exit status: 0 where the session was served or help was asked for, 1 where a file is
 /// refused, 2 where the words are, 3 where a file or stream fails, memory runs out, or there are
 /// too many item sets. Where a message or a help text can't be written, nothing more is said.
-pub fn ystep_run<'a, F: Files + AllocGlobal, R: Read, W: Write, E: Write>(
-    rt: &F,
+pub fn ystep_in<'a, D: Folder, R: Read, W: Write, E: Write>(
+    alloc: Global,
+    folder: &mut D,
     words: &'a [&'a str],
     reader: &mut Link<R>,
     writer: &mut Link<W>,
     errors: &mut Link<E>,
 ) -> u8
-    ensures { Runs R.remaining W.contents E.contents (map (λ word. word.now) words.entry.now)
-        (device_of reader.old) reader.new (device_of writer.old) writer.new
-        (device_of errors.old) errors.new result }
+    ensures { Runs D.reads D.unreadable folder.old folder.new R.remaining W.contents E.contents
+        (map (λ word. word.now) words.entry.now) (device_of reader.old) reader.new
+        (device_of writer.old) writer.new (device_of errors.old) errors.new result }
 {
     reader.clear();
     writer.clear();
     errors.clear();
-    match obey(rt, words, reader, writer) {
+    match obey(alloc, folder, words, reader, writer) {
         Ok(()) => 0,
         Err(trouble) => {
             let _ = trouble.put(errors, Program::Ystep);
@@ -105,4 +110,21 @@ pub fn ystep_run<'a, F: Files + AllocGlobal, R: Read, W: Write, E: Write>(
             trouble.status()
         }
     }
+}
+
+/// All that `ystep` does, except its exit: [`ystep_in`] over the files of the file system.
+pub fn ystep_run<'a, F: Files + AllocGlobal + 'a, R: Read, W: Write, E: Write>(
+    rt: &F,
+    words: &'a [&'a str],
+    reader: &mut Link<R>,
+    writer: &mut Link<W>,
+    errors: &mut Link<E>,
+) -> u8
+    ensures { (after : _) × Runs ⟦<Disk<'a, F> as Folder>⟧.reads ⟦<Disk<'a, F> as Folder>⟧.unreadable
+        (disk_over rt.entry) after R.remaining W.contents E.contents
+        (map (λ word. word.now) words.entry.now) (device_of reader.old) reader.new
+        (device_of writer.old) writer.new (device_of errors.old) errors.new result }
+{
+    let mut disk = Disk::new(rt);
+    ystep_in(rt.alloc(), &mut disk, words, reader, writer, errors)
 }

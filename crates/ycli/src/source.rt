@@ -1,20 +1,18 @@
-//! The tables of a grammar: of its bytes, or of those that an opener's reader has.
+//! The tables of a grammar: of its bytes, or of a file.
 
-ghost use Rattle.std.specs.Prelude.{IfOk, IfErr, ℕ, List};
-ghost use Rattle.ylink.specs.Open.{Tells};
-ghost use Rattle.ycli.specs.Halves.{AreTablesOf, NoTables, SourceFails};
+ghost use Rattle.std.specs.Prelude.{IfOk, IfErr};
+ghost use Rattle.ycli.specs.Halves.{AreTablesOf, HasTables, NoTables, SourceFails};
 
 use std::alloc::Global;
-use std::io::{ErrorKind, Read};
+use std::io::ErrorKind;
 use thiserror::Error;
+use yfolder::Folder;
 use ygrammar::{GrammarFault, LONGEST_FILE, read_grammar};
 use ylalr::{BuildFault, build};
-use ylink::Open;
-use ylink::bytes::first_bytes;
 use ytables::{Tables, resolve};
 
 /// So many bytes of a grammar show that it is too long, even where it never ends.
-const GRAMMAR_BYTES: u64 = LONGEST_FILE as u64 + 1;
+const GRAMMAR_BYTES: usize = LONGEST_FILE + 1;
 
 /// Why there are no tables of a grammar.
 #[derive(Debug, Drop, Error)]
@@ -56,16 +54,17 @@ pub(crate) fn tables_over(alloc: Global, source: &[u8]) -> Result<Tables, Source
     }
 }
 
-/// The tables of the grammar that an opener's reader has.
-pub(crate) fn tables_from<G: Open>(alloc: Global, grammar: &mut G) -> Result<Tables, SourceFault>
-where
-    G::Device: Read,
-    ensures tables { IfOk result (λ t. (source : List ℕ)
-        × Tells G.opens G.Device.remaining grammar.old source × AreTablesOf source t) }
-    ensures fails { IfErr result (λ fault.
-        SourceFails (Tells G.opens G.Device.remaining grammar.old) fault) }
+/// The tables of the grammar file at this path.
+pub(crate) fn tables_from<D: Folder>(
+    alloc: Global,
+    folder: &mut D,
+    grammar: &str,
+) -> Result<Tables, SourceFault>
+    ensures tables { IfOk result (HasTables D.reads grammar.now folder.old folder.new) }
+    ensures fails { IfErr result
+        (SourceFails D.reads D.unreadable grammar.now folder.old folder.new) }
 {
-    match first_bytes(alloc, grammar, GRAMMAR_BYTES) {
+    match folder.read(alloc, grammar, Some(GRAMMAR_BYTES)) {
         Ok(bytes) => tables_over(alloc, &bytes),
         Err(error) => match error.kind() {
             ErrorKind::OutOfMemory => Err(SourceFault::NoRoom),

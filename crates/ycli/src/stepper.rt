@@ -1,12 +1,11 @@
-//! The stepper between openers and links: a grammar, tokens and command lines in, replies out.
+//! The stepper over a folder and links: a grammar, tokens and command lines in, replies out.
 
-ghost use Rattle.std.specs.Prelude.{IfOk, IfErr, ◌≡◌, ℕ, List, Ok};
-ghost use Rattle.ylink.specs.Open.{Tells};
+ghost use Rattle.std.specs.Prelude.{IfOk, IfErr, ◌≡◌, Ok};
 ghost use Rattle.ylink.specs.Link.{device_of, has_failed};
 ghost use Rattle.yparse.specs.Session.{machine_of, history_of};
 ghost use Rattle.ytokens.specs.Reading.{TokensOf};
 ghost use Rattle.ytokens.specs.Tokens.{Fits, symbols_of};
-ghost use Rattle.ycli.specs.Headline.{Ends, Starts, StartFails, TokensFail};
+ghost use Rattle.ycli.specs.Headline.{Ends, HasTokens, Starts, StartFails, TokensFail};
 ghost use Rattle.ycli.specs.Headline.{reader_failed, writer_failed};
 
 use crate::fault::SessionFault;
@@ -15,8 +14,7 @@ use crate::source::{SourceFault, tables_from};
 use std::alloc::Global;
 use std::io::{ErrorKind, Read, Write};
 use thiserror::Error;
-use ylink::Open;
-use ylink::bytes::bytes_of;
+use yfolder::Folder;
 use yparse::{Session, TokenFault, Tokens, read_tokens};
 use ytables::{Link, Tables};
 
@@ -40,22 +38,20 @@ pub enum StepperFault {
     Session(SessionFault),
 }
 
-/// The tokens that an opener's reader has.
-fn tokens_from<T: Open>(
+/// The tokens of the file at this path.
+fn tokens_from<D: Folder>(
     alloc: Global,
     tables: &Tables,
-    tokens: &mut T,
+    folder: &mut D,
+    tokens: &str,
 ) -> Result<Tokens, StepperFault>
-where
-    T::Device: Read,
-    ensures tokens { IfOk result (λ found. (text : List ℕ)
-        × Tells T.opens T.Device.remaining tokens.old text
-        × TokensOf tables.now.built.grammar text (Ok (symbols_of found))) }
+    ensures tokens { IfOk result (λ found. HasTokens D.reads tokens.now folder.old folder.new
+        tables.now (symbols_of found)) }
     ensures fits { IfOk result (λ found. Fits tables.now.built.grammar (symbols_of found)) }
-    ensures fails { IfErr result (λ fault.
-        TokensFail (Tells T.opens T.Device.remaining tokens.old) tables.now fault) }
+    ensures fails { IfErr result
+        (TokensFail D.reads D.unreadable tokens.now folder.old folder.new tables.now) }
 {
-    match bytes_of(alloc, tokens) {
+    match folder.read(alloc, tokens, None) {
         Ok(bytes) => match read_tokens(alloc, tables, &bytes) {
             Ok(tokens) => Ok(tokens),
             Err(fault) => Err(StepperFault::Tokens(fault)),
@@ -67,28 +63,24 @@ where
     }
 }
 
-/// A session at its start, over a grammar and tokens. The tokens are opened only once there are
-/// tables.
-fn session_from<G: Open, T: Open>(
+/// A session at its start, over a grammar file and a tokens file. The tokens are opened only once
+/// there are tables.
+fn session_from<D: Folder>(
     alloc: Global,
-    grammar: &mut G,
-    tokens: &mut T,
+    folder: &mut D,
+    grammar: &str,
+    tokens: &str,
 ) -> Result<Session, StepperFault>
-where
-    G::Device: Read,
-    T::Device: Read,
-    ensures starts { IfOk result (λ session.
-        Starts (Tells G.opens G.Device.remaining grammar.old)
-        (Tells T.opens T.Device.remaining tokens.old) (machine_of session) (history_of session)) }
-    ensures fails { IfErr result (λ fault.
-        StartFails (Tells G.opens G.Device.remaining grammar.old)
-        (Tells T.opens T.Device.remaining tokens.old) (tokens.new ≡ tokens.old) fault) }
+    ensures starts { IfOk result (λ session. Starts D.reads grammar.now tokens.now folder.old
+        folder.new (machine_of session) (history_of session)) }
+    ensures fails { IfErr result
+        (StartFails D.reads D.unreadable grammar.now tokens.now folder.old folder.new) }
 {
-    let tables = match tables_from(alloc, grammar) {
+    let tables = match tables_from(alloc, folder, grammar) {
         Ok(tables) => tables,
         Err(fault) => return Err(StepperFault::Source(fault)),
     };
-    match tokens_from(alloc, &tables, tokens) {
+    match tokens_from(alloc, &tables, folder, tokens) {
         Ok(tokens) => Ok(Session::new(alloc, tables, tokens)),
         Err(fault) => {
             drop(tables);
@@ -97,26 +89,23 @@ where
     }
 }
 
-/// Steps through the parse of tokens by a grammar: opens and reads both, and then serves a session
-/// between the links, up to a `quit` or to the end of the input.
+/// Steps through the parse of a tokens file by a grammar file: opens and reads both, by their
+/// paths, and then serves a session between the links, up to a `quit` or to the end of the input.
 ///
 /// What is written is a text of the machine of the merged canonical LR(1) items of that grammar,
 /// which keeps all its past configurations; the forms of what it accepts without error steps are a
 /// rightmost derivation of those tokens. A fault of a link is answered exactly where that link
 /// failed. With any other fault nothing was read from a link or written to one. The tokens are
-/// opened only where there are tables of the grammar.
-pub fn step_through<G: Open, T: Open, R: Read, W: Write>(
+/// opened only where there are tables of the grammar; each file is opened once at most.
+pub fn step_through<D: Folder, R: Read, W: Write>(
     alloc: Global,
-    grammar: &mut G,
-    tokens: &mut T,
+    folder: &mut D,
+    grammar: &str,
+    tokens: &str,
     reader: &mut Link<R>,
     writer: &mut Link<W>,
 ) -> Result<(), StepperFault>
-where
-    G::Device: Read,
-    T::Device: Read,
-    ensures ends { Ends (Tells G.opens G.Device.remaining grammar.old)
-        (Tells T.opens T.Device.remaining tokens.old) (tokens.new ≡ tokens.old)
+    ensures ends { Ends D.reads D.unreadable grammar.now tokens.now folder.old folder.new
         R.remaining W.contents (device_of reader.old) reader.new (device_of writer.old) writer.new
         result }
     ensures read_fault { has_failed reader.new ≡ reader_failed result }
@@ -124,7 +113,7 @@ where
 {
     reader.clear();
     writer.clear();
-    let session = match session_from(alloc, grammar, tokens) {
+    let session = match session_from(alloc, folder, grammar, tokens) {
         Ok(session) => session,
         Err(fault) => return Err(fault),
     };

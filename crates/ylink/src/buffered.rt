@@ -1,9 +1,9 @@
 //! A writer through a buffer that offers its device nothing twice.
 
-ghost use Rattle.std.specs.Prelude.{◌≡◌, [], IfOk, IfErr};
+ghost use Rattle.std.specs.Prelude.{◌≡◌, [], not, IfOk, IfErr};
 ghost use Rattle.std.specs.Io.Buffered.{writer_buffer, writer_contents, writer_inner};
 ghost use Rattle.std.specs.IoError.{error_kind};
-ghost use Rattle.ylink.specs.Buffered.{buffer_of};
+ghost use Rattle.ylink.specs.Buffered.{Drains, buffer_of};
 
 use std::alloc::Global;
 use std::io::{self, BufWriter, ErrorKind, Write};
@@ -33,6 +33,17 @@ impl<W: Write + Drop> Buffered<W> {
             }),
             Err(error) => Err(error),
         }
+    }
+
+    /// Passes on what the buffer holds and flushes the device, unless a call has failed before;
+    /// the device, and whether all of this was done.
+    pub(crate) fn finish(self) -> (W, bool)
+        ensures { Drains W.contents (buffer_of self) result.0 (not result.1) }
+    {
+        let Buffered { mut buffer, failed } = self;
+        let done = !failed && buffer.flush().is_ok();
+        let (device, _left) = buffer.into_parts();
+        (device, done)
     }
 }
 

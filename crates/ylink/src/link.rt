@@ -3,8 +3,10 @@
 ghost use Rattle.std.specs.Prelude.{◌≡◌, true, false, is_ok, is_some, if◌then◌else◌};
 ghost use Rattle.std.specs.Io.{ReadsAtMost};
 ghost use Rattle.std.specs.Io.KnownBytes.{Keeps, ReadConsumes};
+ghost use Rattle.ylink.specs.Buffered.{Drains, buffer_of};
 ghost use Rattle.ylink.specs.Link.{device_of, has_failed, LinkReads, LinkWrites};
 
+use crate::buffered::Buffered;
 use std::io::{self, Read, Write};
 
 /// A reader or a writer, and whether a call of it failed since the flag was cleared.
@@ -124,6 +126,24 @@ impl<W: Write> Link<W> {
                 self.failed = true;
                 false
             }
+        }
+    }
+}
+
+impl<W: Write + Drop> Link<Buffered<W>> {
+    /// The link to the device below: what the buffer holds is passed on, and the device flushed,
+    /// unless a call has failed since the flag was cleared. The flag says whether one of these calls
+    /// failed, or one before.
+    pub fn finish(self) -> Link<W>
+        ensures bytes { Drains W.contents (buffer_of (device_of self)) (device_of result)
+            (has_failed result) }
+        ensures failed { has_failed self ≡ true → has_failed result ≡ true }
+    {
+        let Link { device, failed } = self;
+        let (device, done) = device.finish();
+        Link {
+            device,
+            failed: failed || !done,
         }
     }
 }

@@ -1,10 +1,10 @@
-//! Writers of a byte a call, and those that fail at each of their calls.
+//! Writers of a byte a call, and those that fail at each of their calls; how often a link asks.
 
 use crate::made::tables_of;
 use std::alloc::Global;
-use std::io::Write;
+use std::io::{Read, Write};
 use std::test::Fail;
-use testkit::devices::{Refusal, Sink};
+use testkit::devices::{Calls, Counted, Refusal, Sink};
 use testkit::worked::DANGLING;
 use ytables::{Link, TableFault, Tables};
 
@@ -61,5 +61,45 @@ fn texts_are_cut_where_a_writer_fails(rt: HostRuntime) -> Result<(), Fail> {
         && is_sent(rt.alloc(), &tables, Text::Table);
     drop(tables);
     assert!(rt; right);
+    Ok(())
+}
+
+/// A call of a link.
+#[derive(Clone, Copy)]
+enum Ask {
+    Write,
+    Flush,
+    Read,
+    ReadAsReader,
+}
+
+/// What a device is asked by one call of its link.
+fn asked(ask: Ask) -> Calls {
+    let mut link = Link::new(Counted::default());
+    let mut room = [0; 8];
+    let _done = match ask {
+        Ask::Write => link.write(b"text").is_some(),
+        Ask::Flush => link.flush(),
+        Ask::Read => link.read(&mut room).is_some(),
+        Ask::ReadAsReader => Read::read(&mut link, &mut room).is_ok(),
+    };
+    link.into_inner().calls()
+}
+
+/// So many calls.
+fn calls(reads: usize, writes: usize, flushes: usize) -> Calls {
+    Calls {
+        reads,
+        writes,
+        flushes,
+    }
+}
+
+#[test]
+fn each_call_of_a_link_is_one_of_its_device(rt: HostRuntime) -> Result<(), Fail> {
+    assert!(rt; asked(Ask::Write) == calls(0, 1, 0));
+    assert!(rt; asked(Ask::Flush) == calls(0, 0, 1));
+    assert!(rt; asked(Ask::Read) == calls(1, 0, 0));
+    assert!(rt; asked(Ask::ReadAsReader) == calls(1, 0, 0));
     Ok(())
 }

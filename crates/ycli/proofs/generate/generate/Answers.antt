@@ -1,13 +1,38 @@
-use Rattle.ylink.specs.Open.{Tells}
-use Rattle.ycli.specs.declared.generate.Text.TheVariants.{Table, Report}
-use Rattle.ycli.specs.Written.{Writes}
-use Rattle.ycli.proofs.Written.{all_fail}
+use Rattle.std.proofs.Common.{ℕ, Bool, List, Option, Err, inl, inr}
+use Rattle.ylink.specs.declared.link.Link.{Link}
+use Rattle.ycli.specs.declared.generate.GenerateFault.{GenerateFault}
+use Rattle.ycli.specs.declared.generate.GenerateFault.TheVariants as faults
+use Rattle.ycli.specs.Written.{AllFail, Generated, Stops}
+use Rattle.ytables.specs.Tables.{TablesValue}
 use Rattle.ycli.proofs.generate.generate.Goals as goal
+
+module _ {D F : Type 0} (reads : D → List ℕ → List ℕ → D → Type 0)
+    (unreadable : D → List ℕ → Type 0) (opens : D → List ℕ → F → D → Type 0)
+    (unwritable : D → List ℕ → Type 0) (closes : D → Link F → D → Type 0)
+    (contents : F → Option (List ℕ)) (grammar prefix : List ℕ) (verbose : Bool) (old new : D) where
+  -- no text is left unwritten for want of tables
+  has_tables : (t : TablesValue) (fault : _) (between : D)
+      → AllFail opens closes contents unwritable prefix t verbose between new (faults.Source fault) → ⊥
+  has_tables t fault between (inl is) = is
+  has_tables t fault between (inr (_, _, _, is)) = is
+
+  -- there are tables, and not all was written of them
+  stops : (fault : GenerateFault)
+      → Stops reads unreadable opens unwritable closes contents grammar prefix verbose old new fault
+      → Generated reads unreadable opens unwritable closes contents grammar prefix verbose old new
+      (Err fault)
+  stops (faults.Source fault) is = absurd (has_tables is.tables fault is.between is.fails)
+  stops (faults.Unopened text) is = is
+  stops (faults.NoRoom text) is = is
+  stops (faults.Unwritten text) is = is
 
 pub returns-in-Err-written : goal.returns-in-Err-written
 returns-in-Err-written g c =
-    all_fail (Tells g.G.Open.opens g.G.Device.Read.remaining c.args.grammar.now)
-    (λ t. Writes g.T.Open.opens g.T.Device.Write.contents c.args.table.now t Table)
-    (λ t. Writes g.P.Open.opens g.P.Device.Write.contents c.args.report.now t Report) _ _
-    c.args.verbose c.in-Ok.tables c.in-Err-written.fault c.in-Ok.ensures.tables
-    c.in-Err-written.ensures.fails
+    stops g.D.Folder.reads g.D.Folder.unreadable g.D.Folder.opens g.D.Folder.unwritable
+    g.D.Folder.closes g.D.File.Write.contents c.args.grammar.now c.args.prefix.now c.args.verbose
+    c.args.folder.now c.write_texts-written.new.folder c.in-Err-written.fault (record {
+      tables = c.in-Ok.tables;
+      between = c.tables_from.new.folder;
+      has = c.in-Ok.ensures.tables;
+      fails = c.in-Err-written.ensures.fails;
+    })

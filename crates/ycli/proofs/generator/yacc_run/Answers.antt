@@ -1,44 +1,4 @@
-use Rattle.std.proofs.Common.{List, ℕ, Bor, Ok, Err, is_some, map, refl, subst}
-use Rattle.ylink.specs.Link.{device_of}
-use Rattle.ycli.specs.declared.message.Program.TheVariants.{Yacc}
-use Rattle.ycli.specs.Messages.{message}
-use Rattle.ycli.specs.Programs.{Says}
-use Rattle.ycli.specs.Generating.{EndsIn, said_of}
-use Rattle.ycli.proofs.Running.{Says-flushed}
 use Rattle.ycli.proofs.generator.yacc_run.Goals as goal
 
-pub returns-in-Ok : goal.returns-in-Ok
-returns-in-Ok g c =
-    let messages = g.E.Write.contents in
-    let ws : List (List ℕ) = map (λ (word : Bor (List ℕ)). word.now) c.args.words.now in
-    let said : Says messages (device_of c.clear-2.new.self) c.flush.new.self
-    (said_of c.in-Ok.done) =
-    Says-flushed messages c.clear-2.new.self c.put.new.link c.flush.new.self
-    (is_some c.put.result) c.flush.result (said_of c.in-Ok.done) c.put.ensures
-    c.flush.ensures.bytes c.flush.ensures.failed in
-    record {
-      ending = Ok c.in-Ok.done;
-      ends = subst (λ (w : g.row.W.Denot). EndsIn g.W.Write.contents ws w c.obey.new.writer (Ok c.in-Ok.done))
-          c.clear.ensures.device c.in-Ok.ensures;
-      answers = refl;
-      says = subst (λ (e : g.row.E.Denot). Says messages e c.flush.new.self (said_of c.in-Ok.done))
-          c.clear-2.ensures.device said;
-    }
-
-pub returns-in-Err : goal.returns-in-Err
-returns-in-Err g c =
-    let messages = g.E.Write.contents in
-    let ws : List (List ℕ) = map (λ (word : Bor (List ℕ)). word.now) c.args.words.now in
-    let said : Says messages (device_of c.clear-2.new.self) c.flush-in-Err.new.self
-    (message Yacc c.in-Err.trouble) =
-    Says-flushed messages c.clear-2.new.self c.put-in-Err.new.link c.flush-in-Err.new.self
-    (is_some c.put-in-Err.result) c.flush-in-Err.result (message Yacc c.in-Err.trouble)
-    c.put-in-Err.ensures c.flush-in-Err.ensures.bytes c.flush-in-Err.ensures.failed in
-    record {
-      ending = Err c.in-Err.trouble;
-      ends = subst (λ (w : g.row.W.Denot). EndsIn g.W.Write.contents ws w c.obey.new.writer (Err c.in-Err.trouble))
-          c.clear.ensures.device c.in-Err.ensures;
-      answers = c.status.ensures;
-      says = subst (λ (e : g.row.E.Denot). Says messages e c.flush-in-Err.new.self
-          (message Yacc c.in-Err.trouble)) c.clear-2.ensures.device said;
-    }
+pub returns : goal.returns
+returns g c = (c.yacc_in.new.folder, rw c.new-disk.ensures at c.yacc_in.ensures)

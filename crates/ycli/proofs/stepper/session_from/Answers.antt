@@ -9,13 +9,15 @@ use Rattle.ycli.specs.declared.stepper.StepperFault.TheVariants as starts
 use Rattle.ycli.specs.Headline.{LacksTokens, StartFails}
 use Rattle.ycli.proofs.stepper.session_from.Goals as goal
 
-lacks : (grammar tokens : List ℕ → Type 0) (unopened : Type 0) (fault : StepperFault)
-    → LacksTokens grammar tokens fault → StartFails grammar tokens unopened fault
-lacks grammar tokens unopened (starts.Source fault) is = absurd is.fails
-lacks grammar tokens unopened starts.Unread is = is
-lacks grammar tokens unopened starts.NoRoom is = is
-lacks grammar tokens unopened (starts.Tokens fault) is = is
-lacks grammar tokens unopened (starts.Session fault) is = is
+module _ {D : Type 0} (reads : D → List ℕ → List ℕ → D → Type 0)
+    (unreadable : D → List ℕ → Type 0) (grammar tokens : List ℕ) (old new : D) where
+  lacks : (fault : StepperFault) → LacksTokens reads unreadable grammar tokens old new fault
+      → StartFails reads unreadable grammar tokens old new fault
+  lacks (starts.Source fault) is = absurd is.fails
+  lacks starts.Unread is = is
+  lacks starts.NoRoom is = is
+  lacks (starts.Tokens fault) is = is
+  lacks (starts.Session fault) is = is
 
 pub returns-in-Ok-tokens_from-clause-starts : goal.returns-in-Ok-tokens_from-clause-starts
 returns-in-Ok-tokens_from-clause-starts g c =
@@ -25,19 +27,20 @@ returns-in-Ok-tokens_from-clause-starts g c =
     let found = c.in-Ok.ensures.tables in
     let named = c.in-Ok-tokens_from.ensures.tokens in
     record {
-      source = found.0;
-      told = found.1;
-      text = named.0;
-      names = named.1;
+      source = found.source;
+      between = c.tables_from.new.folder;
+      told = found.read;
+      text = named.text;
+      names = named.read;
       begins = record {
         tables = t;
-        are = found.2;
+        are = found.are;
         machine = c.new.ensures.machine;
         parses = record {
           goes = subst (λ (m : Machine). IsMachineOf v m) (sym c.new.ensures.machine)
               c.new.ensures.goes;
           symbols = symbols;
-          names = named.2;
+          names = named.names;
           first = c.new.ensures.history;
           derives = λ (later : History).
               subst (λ (m : Machine). UnwindsRight v.bare m symbols later)
@@ -48,11 +51,10 @@ returns-in-Ok-tokens_from-clause-starts g c =
 
 pub returns-in-Err-tokens_from-clause-fails : goal.returns-in-Err-tokens_from-clause-fails
 returns-in-Err-tokens_from-clause-fails g c =
-    let found = c.in-Ok.ensures.tables in
-    lacks _ _ _ c.in-Err-tokens_from.fault (record {
-      source = found.0;
-      told = found.1;
+    lacks g.D.Folder.reads g.D.Folder.unreadable c.args.grammar.now c.args.tokens.now
+    c.args.folder.now c.tokens_from.new.folder c.in-Err-tokens_from.fault (record {
+      between = c.tables_from.new.folder;
       tables = c.in-Ok.tables;
-      are = found.2;
+      has = c.in-Ok.ensures.tables;
       fails = c.in-Err-tokens_from.ensures.fails;
     })

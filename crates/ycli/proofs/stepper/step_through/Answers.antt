@@ -11,16 +11,17 @@ use Rattle.ycli.specs.Plain.{HasOneText}
 use Rattle.ycli.specs.Transcript.{Tells}
 use Rattle.ycli.proofs.stepper.step_through.Goals as goal
 
-module _ (grammar tokens : List ℕ → Type 0) (unopened : Type 0) {R W : Type 0}
+module _ {D : Type 0} (reads : D → List ℕ → List ℕ → D → Type 0)
+    (unreadable : D → List ℕ → Type 0) (grammar tokens : List ℕ) (old new : D) {R W : Type 0}
     (remaining : R → Option (List ℕ)) (contents : W → Option (List ℕ)) where
   -- a session was served from such a start, between links that were cleared
   served : (m : Machine) (h : History) (r cleared : R) (reader : Link R) (w clear : W)
-      (writer : Link W) (ending : Result (Unit {0}) SessionFault) → Starts grammar tokens m h
+      (writer : Link W) (ending : Result (Unit {0}) SessionFault) → Starts reads grammar tokens old new m h
       → ((lines : List (List ℕ)) → HasOneText m h lines) → cleared ≡ r → clear ≡ w
       → IfSome (remaining cleared) (λ input. length input < 2 ^ 63
       → Tells m h input (remaining (device_of reader)) (contents clear)
       (contents (device_of writer)) ending)
-      → Served grammar tokens unopened remaining contents r reader w writer ending
+      → Served reads unreadable grammar tokens old new remaining contents r reader w writer ending
   served m h r cleared reader w clear writer ending starts plain e f told =
       record {
         machine = m;
@@ -38,7 +39,8 @@ module _ (grammar tokens : List ℕ → Type 0) (unopened : Type 0) {R W : Type 
 pub returns-in-Ok-run_session-clause-ends : goal.returns-in-Ok-run_session-clause-ends
 returns-in-Ok-run_session-clause-ends g c =
     let session = c.in-Ok.session in
-    served _ _ _ g.R.Read.remaining g.W.Write.contents (machine_of session) (history_of session) _
+    served g.D.Folder.reads g.D.Folder.unreadable c.args.grammar.now c.args.tokens.now c.args.folder.now
+    c.session_from.new.folder g.R.Read.remaining g.W.Write.contents (machine_of session) (history_of session) _
     _ c.run_session.new.reader _ _ c.run_session.new.writer (Ok tt) c.in-Ok.ensures.starts
     c.in-Ok-run_session.ensures.plain c.clear.ensures.device c.clear-2.ensures.device
     c.in-Ok-run_session.ensures.tells
@@ -46,7 +48,8 @@ returns-in-Ok-run_session-clause-ends g c =
 pub returns-in-Err-run_session-clause-ends : goal.returns-in-Err-run_session-clause-ends
 returns-in-Err-run_session-clause-ends g c =
     let session = c.in-Ok.session in
-    served _ _ _ g.R.Read.remaining g.W.Write.contents (machine_of session) (history_of session) _
+    served g.D.Folder.reads g.D.Folder.unreadable c.args.grammar.now c.args.tokens.now c.args.folder.now
+    c.session_from.new.folder g.R.Read.remaining g.W.Write.contents (machine_of session) (history_of session) _
     _ c.run_session.new.reader _ _ c.run_session.new.writer (Err c.in-Err-run_session.fault)
     c.in-Ok.ensures.starts c.in-Err-run_session.ensures.plain c.clear.ensures.device
     c.clear-2.ensures.device c.in-Err-run_session.ensures.tells
