@@ -4,7 +4,7 @@
 # make accept NAME..   keeps what comes back of these scenarios as what is wanted, and marks them unread
 # make build      proves the programs and leaves them in bin/
 # make bench      times whole runs of the programs, on growing grammars and over long parses; FILES="a.y b.y" adds grammar files to them
-# make refuse     refuses allocations of a run, each once and each with all behind it, on every example and some scenarios; FILES="a.y b.y" refuses some thousands over these grammar files instead
+# make refuse     refuses allocations of a run, each once and each with all behind it, on every example and some scenarios, and counts those of each line of every session; FILES="a.y b.y" refuses some thousands over these grammar files instead
 # make debug      refuses the allocations of twelve sessions and eight commands of ydebug in turn, gives it 100,000 random command lines over random grammars, and shows its screens at a terminal, which needs tmux
 # make page-test  steps through the pages of every example in a browser without a window, which apt-get installs where it is missing, and compares them with ystep; keeps pictures in screenshots/
 # make compare    compares the programs that make build left with plain machines in Python, on grammars drawn at random, for a minute, verdicts with sessions over every scenario, and texts with a lexer in Python, for a minute; FILES="a.y b.y" adds these, cut off and spoiled, with a second reader
@@ -15,7 +15,7 @@
 # make imports    imports grammars of some source packages of Debian, by the programs that make build left, and compares their tables with bison's; FILES="a.y b.y" or PACKAGES="bash" names others. It takes bison and a network
 # make hostile    runs both programs, proved, between devices that fail and on files and streams that are no one's friends
 # make edits      tries every wrong body that the prover must refuse, also those that the gate leaves out; some 40 minutes
-# make test       the gate: every proof from nothing, the wrong bodies in must-fail, the tests, the stored runs, the scenarios, make hostile, make refuse over three examples
+# make test       the gate: every proof from nothing, the wrong bodies in must-fail, the tests, the stored runs, the scenarios, make hostile, make refuse over three examples, the allocations of every session
 .PHONY: demo examples scenarios accept build bench refuse debug page-test compare drivers install uninstall dist imports hostile edits test
 
 programs := $(foreach file,$(wildcard crates/*/src/main.rt),$(notdir $(file:/src/main.rt=)))
@@ -23,6 +23,7 @@ run := python3 scenarios/run.py $(foreach name,$(programs),$(name)=crates/$(name
 both := --at scenarios --at examples --at docs/TUTORIAL.md --at docs/FAULTS.md
 hostile := python3 scripts/hostile.py $(foreach name,yacc ystep,$(name)=crates/$(name)/out/$(name))
 refuse := python3 scripts/refuse.py $(foreach name,$(programs),$(name)=crates/$(name)/out/$(name))
+allocations := python3 scripts/allocations.py ystep=crates/ystep/out/ystep
 
 PREFIX ?= /usr/local
 VERSION ?= 1.0
@@ -48,6 +49,7 @@ bench: build
 
 refuse: build
 	@$(refuse) $(FILES)
+	@$(if $(FILES),true,$(allocations))
 
 debug: build
 	@python3 scripts/refuse_debug.py bin/ydebug
@@ -120,7 +122,7 @@ edits:
 	@python3 scripts/edits.py
 
 test:
-	@python3 scripts/gate.py scripts/rings.py scripts/faults.py scenarios/kinds.py examples/trace.py -- $(run) $(both) -- $(hostile) -- $(refuse) --few
+	@python3 scripts/gate.py scripts/rings.py scripts/faults.py scenarios/kinds.py examples/trace.py -- $(run) $(both) -- $(hostile) -- $(refuse) --few -- $(allocations)
 
 # The names of scenarios stand behind `accept` as goals of their own.
 ifeq (accept,$(firstword $(MAKECMDGOALS)))

@@ -66,7 +66,8 @@ NO_MEMORY = b"no memory\n"
 OTHERS = """
 yacc/absent-grammar yacc/help yacc/no-word yacc/old-files-replaced yacc/refused-grammar
 yacc/shift-reduce-conflict ystep/absent-tokens ystep/fault-foreign-byte ystep/help ystep/no-word
-sessions/inner-action tokens/unknown-word edits/missing-operator recovery/counter
+sessions/inner-action sessions/dangling-else trees/sum-and-product tokens/unknown-word
+edits/missing-operator recovery/counter
 """.split()
 FEW = ["edits", "one-rule", "recovery"]
 

@@ -89,3 +89,43 @@ SESSIONS = [
         ],
     ),
 ]
+SHORT = Session(
+    "%%\ns : 'x' ;\n",
+    "'x'\n",
+    [
+        ("run 9", lines("1 shift 'x'", "2 reduce 1", "3 accept")),
+        ("back 9", lines("2 undo accept", "1 undo reduce 1", "0 undo shift 'x'")),
+        ("show", lines("0 running", "stack:", "rest: 'x'", "counter: 0", "errors: 0")),
+    ],
+)
+# The second error comes before three tokens are shifted behind the first, and isn't reported.
+ERROR_STEPS = [*LIST_STEPS[:9], "detect", "pop NUM", "shift error", "discard NUM", "shift ';'"]
+ERROR_STEPS += ["reduce 3", "accept"]
+ERRORS = Session(
+    LIST,
+    "NUM NUM ';' NUM NUM ';'\n",
+    [
+        ("run 20", lines(*steps(ERROR_STEPS))),
+        ("back 16", lines(*undone(ERROR_STEPS))),
+        (
+            "show",
+            lines("0 running", "stack:", "rest: NUM NUM ';' NUM NUM ';'", "counter: 0", "errors: 0"),
+        ),
+    ],
+)
+EDITED = Session(
+    SHORT.grammar,
+    "'x' 'x'\n",
+    [
+        ("step", lines("1 shift 'x'")),
+        ("drop", lines("2 drop 'x'")),
+        ("drop", lines("no token")),
+        ("insert s", lines("bad token")),
+        ("run 9", lines("3 reduce 1", "4 accept")),
+        ("drop", lines("halted")),
+        ("tree", lines("(1 'x'@1)")),
+        ("back 3", lines("3 undo accept", "2 undo reduce 1", "1 undo drop 'x'")),
+        ("show", lines("1 running", "stack: 'x'", "rest: 'x'", "counter: 0", "errors: 0")),
+        ("back 3", lines("0 undo shift 'x'")),
+    ],
+)

@@ -4,6 +4,7 @@ pub mod Plain
 pub mod Replying
 pub mod Transcripts
 pub mod Running
+pub mod Histories
 pub mod Sources
 pub mod Spelled
 pub mod Written

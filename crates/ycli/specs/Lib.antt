@@ -5,6 +5,7 @@ pub mod Line
 pub mod Lines
 pub mod Reply
 pub mod Transcript
+pub mod Reached
 pub mod Plain
 pub mod Serving
 pub mod Programs

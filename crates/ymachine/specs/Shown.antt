@@ -1,5 +1,5 @@
--- The history that the contents of a journal show.
-use Rattle.std.specs.Prelude.{◌≡◌, map, Some}
+-- The history that the contents of a journal show, and what they count.
+use Rattle.std.specs.Prelude.{◌≡◌, ◌+◌, List, [], ◌∷◌, map, Some}
 use Rattle.std.specs.Option.{option_map}
 use Rattle.ymachine.specs.declared.machine.Deed.{Deed}
 use Rattle.ymachine.specs.declared.machine.Edit.{Edit}
@@ -21,6 +21,12 @@ past_view p = record { now = configuration_of p.now; earlier = map step_view p.e
 -- the step began with the tables and the tokens of this content
 abbrev pub KeepsGround : Place → StepKind × Place → Type 0
 KeepsGround p step = (step.1.tables ≡ p.tables) × (step.1.tokens ≡ p.tokens)
+
+-- each content counts one step more than the one before it, and the first one none
+abbrev pub Counts : Place → List (StepKind × Place) → Type 0
+Counts now [] = now.content.steps ≡ 0
+Counts now (step ∷ earlier) =
+    (now.content.steps ≡ step.1.content.steps + 1) × Counts step.1 earlier
 
 -- What a parser makes of a content, seen by its configuration, is what the machine of its tables
 -- makes of that; the tables and the tokens stay.

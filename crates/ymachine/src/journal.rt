@@ -16,8 +16,8 @@ const MOST_STEPS: usize = 1_000_000;
 /// A machine, and the changes of the steps and edits that stand, the newest last.
 #[derive(Drop)]
 pub struct Journal<M: Reversible> {
-    /// The machine as it is now.
-    pub machine: M,
+    /// The machine as it is now. Only this crate changes it, and only what it writes with.
+    pub(crate) machine: M,
     changes: Vec<M::Change>,
 }
 
@@ -105,9 +105,11 @@ impl<M: Reversible> Journal<M> {
         &self.machine
     }
 
-    /// The changes of the steps and edits that stand, the newest last.
+    /// The changes of the steps and edits that stand, the newest last. Taken back one after another
+    /// from the machine as it is now, they lead to each content before.
     pub fn changes(&self) -> &[M::Change]
-        ensures { map M.kind (reverse result.now) ≡ map (λ step. step.0) self.now.earlier }
+        ensures past { past_by M.before M.kind self.now.now result.now ≡ self.now }
+        ensures kinds { map M.kind (reverse result.now) ≡ map (λ step. step.0) self.now.earlier }
     {
         &self.changes
     }

@@ -144,7 +144,7 @@ impl PlaceParser {
 
     /// Writes a line for each entry of the stack, from the bottom: its tree. `None` where the link
     /// failed. It takes no memory.
-    pub fn write_trees<W: Write>(&mut self, link: &mut Link<W>) -> Option<()>
+    pub(crate) fn write_trees<W: Write>(&mut self, link: &mut Link<W>) -> Option<()>
         ensures text { Sends W.contents link.old link.new (is_some result)
             (tree_lines (machine_over self.old.tables) (configuration_of self.old).stack) }
         ensures place { self.new ≡ self.old }
@@ -236,18 +236,24 @@ impl Reversible for PlaceParser {
 }
 
 impl Journal<PlaceParser> {
-    ghost use Rattle.std.specs.Prelude.{is_some};
-    ghost use Rattle.ylink.specs.Sends.{Sends};
+    ghost use Rattle.std.specs.Prelude.{is_some, if◌then◌else◌, false, true};
+    ghost use Rattle.ylink.specs.Link.{device_of, has_failed};
+    ghost use Rattle.ylink.specs.Sends.{Grows};
     ghost use Rattle.ymachine.specs.Content.{configuration_of};
     ghost use Rattle.ymachine.specs.MachineOver.{machine_over};
     ghost use Rattle.ymachine.specs.Unwinding.{tree_lines};
 
-    /// Writes the trees of a parse as it is now. `None` where the link failed.
+    /// Writes the trees of a parse as it is now: a line for each entry of the stack, from the
+    /// bottom. `None` exactly where the link failed in this call; the text is cut off then. It
+    /// takes no memory.
     pub fn write_trees<W: Write>(&mut self, link: &mut Link<W>) -> Option<()>
-        ensures text { Sends W.contents link.old link.new (is_some result)
+        ensures text { Grows (W.contents (device_of link.old)) (W.contents (device_of link.new))
+            (is_some result)
             (tree_lines (machine_over self.old.now.tables) (configuration_of self.old.now).stack) }
+        ensures failed { has_failed link.new ≡ (if is_some result then false else true) }
         ensures past { self.new ≡ self.old }
     {
+        link.clear();
         self.machine.write_trees(link)
     }
 }

@@ -1,14 +1,17 @@
 -- What the steps of a journal of a parse in place are to the history that it shows.
-use Rattle.std.proofs.Common.{Vec, Global, length, ◌+◌, ℕ, ◌≡◌, ◌<◌, ◌≤◌, drop, inl, inr, true}
+use Rattle.std.proofs.Common.{Vec, Global, length, ◌+◌, ℕ, ◌≡◌, ◌⊎◌, ◌<◌, ◌≤◌, drop, inl, inr, true}
 use Rattle.std.proofs.Common.{false, List, [], ◌∷◌, suc, map, Option, Some, None, Result, Ok, Err}
 use Rattle.std.proofs.Common.{IsTrue, refl, sym, ◌∙◌, ap, subst, arith}
 use Rattle.std.specs.Prelude.{vec_len, vec_capacity, IsSome, IfSome, is_some, unwrap_or, slice_get}
 use Rattle.std.specs.Option.{option_map}
 use Rattle.std.specs.List.{All}
+use Rattle.std.proofs.lemmas.Bool.{cases_lt}
+use Rattle.std.proofs.lemmas.Grind.{not_there}
 use Rattle.std.proofs.lemmas.List.Elements.{All-cons}
 use Rattle.std.proofs.Math.Logic.{∥∥₁_map}
 use Rattle.ytables.specs.Tables.{TablesValue as Tables}
 use Rattle.ymachine.specs.declared.machine.StepKind.{StepKind}
+use Rattle.ymachine.specs.declared.machine.StepKind.TheVariants as kinds
 use Rattle.ymachine.specs.declared.machine.StepFault.{StepFault}
 use Rattle.ymachine.specs.declared.machine.StepFault.TheVariants.{Memory}
 use Rattle.ymachine.specs.declared.machine.AtStart.{AtStart}
@@ -23,8 +26,8 @@ use Rattle.ymachine.specs.Reversible.{StepsOn, StepsBack}
 use Rattle.yparse.specs.Session.{setting_at}
 use Rattle.ymachine.specs.Sound.{Sound}
 use Rattle.ymachine.specs.Content.{Place, place_after, place_next, place_edited, place_deed}
-use Rattle.ymachine.specs.Content.{configuration_of, valid}
-use Rattle.ymachine.specs.Shown.{KeepsGround, step_view, past_view}
+use Rattle.ymachine.specs.Content.{Content, configuration_of, content_after, valid}
+use Rattle.ymachine.specs.Shown.{Counts, KeepsGround, step_view, past_view}
 use Rattle.ymachine.proofs.Places.{onward, step_reaches, edit_reaches}
 use Rattle.ymachine.proofs.Shown.{length-map}
 
@@ -71,6 +74,21 @@ record Led (p q : Place) (found : Option (StepKind × Configuration)) (kind : St
     pub shown : found ≡ Some (kind, configuration_of q)
     pub tables : q.tables ≡ p.tables
     pub tokens : q.tokens ≡ p.tokens
+    pub steps : q.content.steps ≡ p.content.steps + 1
+
+-- what a step makes of a content counts as the content does
+after_counts : (t : Tables) (kind : StepKind) (c : Content)
+    → (content_after t kind c).steps ≡ c.steps
+after_counts t (kinds.Shift token) c = refl
+after_counts t (kinds.Reduce rule) c = refl
+after_counts t kinds.Accept c = refl
+after_counts t kinds.Detect c = refl
+after_counts t (kinds.Pop symbol) c = refl
+after_counts t kinds.ShiftError c = refl
+after_counts t (kinds.Discard token) c = refl
+after_counts t kinds.Fail c = refl
+after_counts t (kinds.Insert token) c = refl
+after_counts t (kinds.Drop token) c = refl
 
 led : (p q : Place) (what : Place
     → Option (StepKind × Place)) (found : Option (StepKind × Configuration)) (kind : StepKind)
@@ -92,6 +110,8 @@ led p q what found kind d e = by found refl (sym d.is ∙ e)
               Some (x.0, configuration_of x.1) in step) y;
           tables = sym (ap (λ (x : StepKind × Place). x.1.tables) y);
           tokens = sym (ap (λ (x : StepKind × Place). x.1.tokens) y);
+          steps = sym (ap (λ (x : StepKind × Place). x.1.content.steps) y)
+              ∙ ap (λ n. n + 1) (after_counts p.tables s.0 p.content);
         }
 
 -- the kind of the newest step, where one was made
@@ -152,6 +172,17 @@ module _ (what : Place → Option (StepKind × Place)) (found : Option (StepKind
   stays_ground (Err fault) steps g =
       subst (λ (x : Past StepKind Place). All (KeepsGround x.now) x.earlier) (sym steps.1) g
 
+  -- whatever is answered, each content counts one step more than the one before it
+  pub stays_counted : (r : Result (Unit {0}) StepFault) → StepsOn place_next what h r new
+      → ∥ Counts h.now h.earlier ∥₁ → ∥ Counts new.now new.earlier ∥₁
+  stays_counted (Ok done) steps n =
+      ∥∥₁_map n (λ (counts : Counts h.now h.earlier).
+      let g = led h.now new.now what found steps.0 d steps.1.1.0 in
+      let on : Counts new.now ((steps.0, h.now) ∷ h.earlier) = (g.steps, counts) in
+      subst (Counts new.now) (sym steps.1.1.1) on)
+  stays_counted (Err fault) steps n =
+      subst (λ (x : Past StepKind Place). ∥ Counts x.now x.earlier ∥₁) (sym steps.1) n
+
   -- what was made, as the history shows it
   pub deed_shown : (shown : Configuration → Option (StepKind × Configuration))
       → shown (configuration_of h.now) ≡ found → (kind : StepKind)
@@ -196,16 +227,21 @@ module _ (what : Place → Option (StepKind × Place)) (found : Option (StepKind
   pub settled : (o : Option StepKind) (after : Past StepKind Place) → IfSome o (λ kind. after ≡ new)
       → (is_some o ≡ false → StepsBack {E = AtStart} new (Ok tt) after)
       → StepsOn place_next what h (Ok tt) new → ∥ IsShown h ∥₁ → All (KeepsGround h.now) h.earlier
+      → ∥ Counts h.now h.earlier ∥₁
       → (∥ IsShown after ∥₁) × All (KeepsGround after.now) after.earlier
-  settled (Some kind) after e back steps i g = (
+      × (∥ Counts after.now after.earlier ∥₁)
+  settled (Some kind) after e back steps i g n = (
     subst (λ (x : Past StepKind Place). ∥ IsShown x ∥₁) (sym e) (stays_shown (Ok tt) steps i),
     subst (λ (x : Past StepKind Place). All (KeepsGround x.now) x.earlier) (sym e)
         (stays_ground (Ok tt) steps g),
+    subst (λ (x : Past StepKind Place). ∥ Counts x.now x.earlier ∥₁) (sym e)
+        (stays_counted (Ok tt) steps n),
   )
-  settled None after e back steps i g =
+  settled None after e back steps i g n =
       let same = undone_deed after steps (back refl) in (
         subst (λ (x : Past StepKind Place). ∥ IsShown x ∥₁) (sym same) i,
         subst (λ (x : Past StepKind Place). All (KeepsGround x.now) x.earlier) (sym same) g,
+        subst (λ (x : Past StepKind Place). ∥ Counts x.now x.earlier ∥₁) (sym same) n,
       )
 
   -- what was made is taken back since memory ran out
@@ -238,6 +274,37 @@ shorter_ground (Ok done) h new back g =
     moved h.now new.now new.earlier s.0 s.1 (λ k d l. all (suc k) d (omega (arith, l)))
 shorter_ground (Err e) h new back g =
     subst (λ (x : Past StepKind Place). All (KeepsGround x.now) x.earlier) (sym back.1) g
+
+pub shorter_counts : {E : Type 0} (r : Result (Unit {0}) E) (h new : Past StepKind Place)
+    → StepsBack h r new → ∥ Counts h.now h.earlier ∥₁ → ∥ Counts new.now new.earlier ∥₁
+shorter_counts (Ok done) h new back n =
+    ∥∥₁_map n (λ (counts : Counts h.now h.earlier). (subst (Counts h.now) back.1 counts).1)
+shorter_counts (Err e) h new back n =
+    subst (λ (x : Past StepKind Place). ∥ Counts x.now x.earlier ∥₁) (sym back.1) n
+
+-- so the content now counts the steps that stand
+counts_all : (now : Place) (earlier : List (StepKind × Place)) → Counts now earlier
+    → now.content.steps ≡ length earlier
+counts_all now [] n = n
+counts_all now (step ∷ earlier) n =
+    let e = counts_all step.1 earlier n.1 in
+    let one = n.0 in
+    omega (arith, one, e)
+
+-- and where it is only known to
+pub counted : (now : Place) (earlier : List (StepKind × Place)) → ∥ Counts now earlier ∥₁
+    → now.content.steps ≡ length earlier
+counted now earlier t =
+    by (cases_lt (length earlier) now.content.steps) (cases_lt now.content.steps (length earlier))
+  where
+    by : (length earlier < now.content.steps) ⊎ (now.content.steps ≤ length earlier)
+        → (now.content.steps < length earlier) ⊎ (length earlier ≤ now.content.steps)
+        → now.content.steps ≡ length earlier
+    by (inl over) under = absurd (not_there t (λ (n : Counts now earlier).
+        let e = counts_all now earlier n in omega (arith, e, over)))
+    by (inr few) (inl under) = absurd (not_there t (λ (n : Counts now earlier).
+        let e = counts_all now earlier n in omega (arith, e, under)))
+    by (inr few) (inr many) = omega (arith, few, many)
 
 -- ---- back
 

@@ -7,7 +7,7 @@ ghost use Rattle.ymachine.specs.Content.{place_next, place_deed};
 ghost use Rattle.ymachine.specs.Reversible.{StepsOn, StepsBack};
 ghost use Rattle.ymachine.specs.History.{IsHistory};
 ghost use Rattle.ymachine.specs.MachineOver.{machine_over};
-ghost use Rattle.ymachine.specs.Shown.{KeepsGround, past_view};
+ghost use Rattle.ymachine.specs.Shown.{Counts, KeepsGround, past_view};
 
 use std::alloc::Global;
 use ymachine::machine::{AtStart, Deed, Edit, StepFault, StepKind};
@@ -26,6 +26,7 @@ pub struct Session {
     ghost steps: { ∥ IsHistory (machine_over journal.now.tables) journal.now.tokens
         (past_view journal) ∥₁ },
     ghost ground: { All (KeepsGround journal.now) journal.earlier },
+    ghost count: { ∥ Counts journal.now journal.earlier ∥₁ },
     ghost room: { vec_len later + length journal.earlier ≤ vec_capacity later },
 }
 
@@ -197,14 +198,16 @@ impl Session {
     }
 
     /// How many steps and edits stand, 0 to 1,000,000. This call also says that each configuration
-    /// is made from the one before by a step or an edit, from the first one on, and that the
-    /// recovery counter of each is at most 3.
+    /// is made from the one before by a step or an edit, from the first one on, that the recovery
+    /// counter of each is at most 3, and that the parse itself counts as many steps: so it has no
+    /// more nodes than that (`PlaceParser::kept`).
     pub fn position(&self) -> usize
         ensures position { result ≡ position (history_of self.now) }
         ensures few { result ≤ most_steps }
         ensures history { ∥ IsHistory (machine_of self.now) (tokens_of self.now)
             (history_of self.now) ∥₁ }
         ensures counters { CountsToThree (history_of self.now) }
+        ensures counted { (past_of self.now).now.content.steps ≡ result }
     {
         self.journal.position()
     }

@@ -68,7 +68,6 @@ impl Session {
         ensures history { history_of self.new ≡ history_of self.old }
         ensures setting { setting_of self.new ≡ setting_of self.old }
     {
-        link.clear();
         self.journal.write_trees(link).ok_or(UnwindFault::Write)
     }
 }

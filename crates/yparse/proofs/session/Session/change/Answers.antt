@@ -7,6 +7,7 @@ use Rattle.ymachine.specs.MachineOver.{machine_over}
 use Rattle.ymachine.specs.Past.{Past}
 use Rattle.ymachine.specs.Content.{Place, valid, place_deed, configuration_of}
 use Rattle.yparse.specs.Session.{setting_of, history_of}
+use Rattle.yparse.proofs.Sessions.{stays_counted}
 use Rattle.yparse.proofs.Sessions.{IsDeed, a_deed, stays_shown, stays_ground, settled, deed_shown}
 use Rattle.yparse.proofs.session.Session.change.Goals.{After-kept}
 use Rattle.yparse.proofs.session.Session.change.Goals as goal
@@ -28,6 +29,8 @@ invariant_of-self c =
           c.make.ensures s.steps;
       ground = stays_ground (place_deed c.args.deed) _ s.journal c.make.new.journal d
           c.make.result c.make.ensures s.ground;
+      count = stays_counted (place_deed c.args.deed) _ s.journal c.make.new.journal d
+          c.make.result c.make.ensures s.count;
       room = subst (λ (h : Past StepKind Place). vec_len s.later + length h.earlier
           ≤ vec_capacity s.later) (sym c.in-Err.ensures.1) s.room;
     }
@@ -37,10 +40,11 @@ invariant_of-self-in-Ok c =
     let s = c.args.self.now in
     let done = settled (place_deed c.args.deed) _ s.journal c.make.new.journal
     (deed (goal.at.invariant_of-self-in-Ok c).After-kept) c.settle.result c.settle.new.journal
-    c.settle.ensures.kept c.settle.ensures.back c.in-Ok.ensures s.steps s.ground in
+    c.settle.ensures.kept c.settle.ensures.back c.in-Ok.ensures s.steps s.ground s.count in
     record {
       steps = done.0;
       ground = done.1;
+      count = done.2;
       room = c.settle.ensures.room;
     }
 

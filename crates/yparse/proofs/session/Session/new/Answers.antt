@@ -1,4 +1,4 @@
-use Rattle.std.proofs.Common.{length, arith, ◌≡◌, refl, sym, ◌∙◌, ap, subst}
+use Rattle.std.proofs.Common.{length, [], arith, ◌≡◌, refl, sym, ◌∙◌, ap, subst}
 use Rattle.std.proofs.lemmas.Grind.{common_steps}
 use Rattle.std.specs.List.{All}
 use Rattle.std.proofs.lemmas.List.Elements.{All-nil}
@@ -9,7 +9,7 @@ use Rattle.ymachine.specs.MachineOver.{machine_over}
 use Rattle.ymachine.specs.Rightmost.{UnwindsRight}
 use Rattle.ytokens.specs.Tokens.{symbols_of}
 use Rattle.ymachine.specs.Content.{Place, first_place}
-use Rattle.ymachine.specs.Shown.{KeepsGround}
+use Rattle.ymachine.specs.Shown.{Counts, KeepsGround}
 use Rattle.yparse.proofs.Sessions.{IsShown}
 use Rattle.yparse.proofs.session.Session.new.Goals as goal
 
@@ -28,6 +28,8 @@ invariant_of-result c =
           grind (arith, common_steps, none, c.new-2.ensures));
       ground = subst (λ (h : Past StepKind Place). All (KeepsGround h.now) h.earlier) (sym past)
           (All-nil (KeepsGround at));
+      count = let none : Counts at [] = refl in
+          ∣ subst (λ (h : Past StepKind Place). Counts h.now h.earlier) (sym past) none ∣₁;
     }
 
 pub returns-clause-derives : goal.returns-clause-derives

@@ -1,7 +1,7 @@
 use Rattle.std.proofs.Common.{sym, ◌∙◌}
 use Rattle.yparse.specs.Session.{setting_of, history_of}
 use Rattle.yparse.proofs.Sessions.{shorter, shorter_ground, shorter_room, ground_before, no_step}
-use Rattle.yparse.proofs.Sessions.{setting_same}
+use Rattle.yparse.proofs.Sessions.{setting_same, shorter_counts}
 use Rattle.yparse.proofs.session.Session.undo.Goals as goal
 
 pub returns-in-None-clause-undoes : goal.returns-in-None-clause-undoes
@@ -19,6 +19,7 @@ invariant_of-self c =
       steps = shorter c.back.result s.journal new c.back.ensures s.ground s.steps;
       room = shorter_room c.back.result s.journal new c.back.ensures s.later s.room;
       ground = shorter_ground c.back.result s.journal new c.back.ensures s.ground;
+      count = shorter_counts c.back.result s.journal new c.back.ensures s.count;
     }
 
 pub returns-clause-setting : goal.returns-clause-setting

@@ -4,7 +4,7 @@ use Rattle.std.specs.List.{All}
 use Rattle.ymachine.specs.declared.machine.StepKind.{StepKind}
 use Rattle.ymachine.specs.Content.{Place}
 use Rattle.ymachine.specs.Past.{Past}
-use Rattle.ymachine.specs.Shown.{KeepsGround}
+use Rattle.ymachine.specs.Shown.{Counts, KeepsGround}
 use Rattle.yparse.proofs.Sessions.{IsShown}
 use Rattle.yparse.proofs.session.Session.write_trees.Goals as goal
 
@@ -18,4 +18,6 @@ invariant_of-self g c =
           ≤ vec_capacity s.later) (sym c.write_trees.ensures.past) s.room;
       ground = subst (λ (h : Past StepKind Place). All (KeepsGround h.now) h.earlier)
           (sym c.write_trees.ensures.past) s.ground;
+      count = subst (λ (h : Past StepKind Place). ∥ Counts h.now h.earlier ∥₁)
+          (sym c.write_trees.ensures.past) s.count;
     }
