@@ -15,6 +15,7 @@ use Rattle.ycli.specs.declared.stepper.StepperFault.TheVariants.{Source, Unread,
 use Rattle.ycli.specs.declared.stepper.StepperFault.TheVariants.{Session}
 use Rattle.ycli.specs.Halves.{AreTablesOf, HasTables, Parses, SourceFails}
 use Rattle.ycli.specs.Plain.{HasOneText}
+use Rattle.ycli.specs.Reached.{ReachesHistories}
 use Rattle.ycli.specs.Transcript.{Tells}
 
 -- the machine is that of the grammar which the first text means, by its tables; the history is the
@@ -81,12 +82,16 @@ module _ {D : Type 0} (reads : D → List ℕ → List ℕ → D → Type 0)
     (r : R) (reader : Link R) (w : W) (writer : Link W) where
   -- A session was served from such a start: where the bytes of the reader are known, what was
   -- written is a text of the machine for them, and after a fault a beginning of one. The text is a
-  -- function of the lines, unless memory runs out.
+  -- function of the lines, unless memory runs out. Whatever history the replies come to is one of
+  -- these tokens, and its forms, where it is accepted without error steps, are a rightmost
+  -- derivation: so what `unwind` writes is one.
   pub record Served (ending : Result (Unit {0}) SessionFault) : Type 0 where
     pub machine : Machine
     pub history : History
     pub starts : Starts reads grammar tokens old new machine history
     pub plain : (lines : List (List ℕ)) → HasOneText machine history lines
+    pub reached : ReachesHistories starts.begins.tables.built.grammar.bare machine
+        starts.begins.parses.symbols history
     pub tells : IfSome (remaining r) (λ input. length input < 2 ^ 63 →
         Tells machine history input (remaining (device_of reader)) (contents w)
         (contents (device_of writer)) ending)

@@ -9,6 +9,7 @@ use Rattle.ycli.specs.declared.fault.SessionFault.{SessionFault}
 use Rattle.ycli.specs.Headline.{Served, Starts}
 use Rattle.ycli.specs.Plain.{HasOneText}
 use Rattle.ycli.specs.Transcript.{Tells}
+use Rattle.ycli.proofs.Histories.{reaches_histories}
 use Rattle.ycli.proofs.stepper.step_through.Goals as goal
 
 module _ {D : Type 0} (reads : D → List ℕ → List ℕ → D → Type 0)
@@ -28,6 +29,8 @@ module _ {D : Type 0} (reads : D → List ℕ → List ℕ → D → Type 0)
         history = h;
         starts = starts;
         plain = plain;
+        reached = reaches_histories starts.begins.tables.built.grammar starts.text m h
+            starts.begins.parses;
         tells = subst (λ (x : R). IfSome (remaining x) (λ input. length input < 2 ^ 63
             → Tells m h input (remaining (device_of reader)) (contents w)
             (contents (device_of writer)) ending)) e
