@@ -1,0 +1,7 @@
+%token A
+%%
+s : A "one \
+two" A
+  | A "one \
+two" "three"
+  ;
