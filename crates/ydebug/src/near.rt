@@ -40,6 +40,11 @@ fn put_near_option<W: Write>(
     }
 }
 
+/// Whether a word is the path of a file, or is spelled as no command can be.
+fn is_path<F: Files>(rt: &F, word: &str) -> bool {
+    word.contains('/') || fs::metadata(rt, word).is_ok()
+}
+
 /// Asks whether a command was meant by the first word of a session, where that is no file.
 pub fn put_near_form<F: Files + AllocGlobal, W: Write>(
     rt: &F,
@@ -47,7 +52,7 @@ pub fn put_near_form<F: Files + AllocGlobal, W: Write>(
     word: &str,
 ) -> io::Result<()> {
     match near_in(rt.alloc(), &BY_WORD, word)? {
-        Some(near) if fs::metadata(rt, word).is_err() => {
+        Some(near) if !is_path(rt, word) => {
             writeln!(out, "ydebug: there is no command {word}; did you mean {near}?")
         }
         _ => Ok(()),
