@@ -24,17 +24,15 @@ fn near_option<'a>(
 }
 
 /// Asks whether another option was meant by a word, where it begins as one.
-fn put_near_option<W: Write>(
-    alloc: Global,
-    out: &mut W,
-    form: Form,
-    word: &str,
-) -> io::Result<()> {
+fn put_near_option<W: Write>(alloc: Global, out: &mut W, form: Form, word: &str) -> io::Result<()> {
     let name = word.strip_prefix("--").unwrap_or("");
     let name = name.split('=').next().unwrap_or(name);
     match near_option(alloc, form, name)? {
         Some(near) => {
-            writeln!(out, "ydebug: there is no option --{name}; did you mean --{near}?")
+            writeln!(
+                out,
+                "ydebug: there is no option --{name}; did you mean --{near}?"
+            )
         }
         None => Ok(()),
     }
@@ -53,7 +51,10 @@ pub fn put_near_form<F: Files + AllocGlobal, W: Write>(
 ) -> io::Result<()> {
     match near_in(rt.alloc(), &BY_WORD, word)? {
         Some(near) if !is_path(rt, word) => {
-            writeln!(out, "ydebug: there is no command {word}; did you mean {near}?")
+            writeln!(
+                out,
+                "ydebug: there is no command {word}; did you mean {near}?"
+            )
         }
         _ => Ok(()),
     }

@@ -37,11 +37,7 @@ fn within(bytes: Vec<u8>, most: u64) -> Option<Vec<u8>> {
 }
 
 /// All bytes of a reader, or `None` where it has more than so many; one more is read at most.
-pub fn all_bytes<R: Read>(
-    alloc: Global,
-    reader: &mut R,
-    most: u64,
-) -> io::Result<Option<Vec<u8>>> {
+pub fn all_bytes<R: Read>(alloc: Global, reader: &mut R, most: u64) -> io::Result<Option<Vec<u8>>> {
     let mut bytes = Vec::new(alloc);
     let mut first = reader.by_ref().take(most.saturating_add(1));
     first.read_to_end(&mut bytes)?;

@@ -74,11 +74,7 @@ pub fn bytes_of<F: Files + AllocGlobal, R: Read>(
 }
 
 /// Writes that a tokens file, or a text, has more bytes than it may have.
-pub fn put_long<F: Files, W: Write>(
-    rt: &F,
-    out: &mut W,
-    file: Limited<'_>,
-) -> io::Result<Said> {
+pub fn put_long<F: Files, W: Write>(rt: &F, out: &mut W, file: Limited<'_>) -> io::Result<Said> {
     file.put_long_input(rt, out)?;
     Ok(Said::Bad)
 }

@@ -196,7 +196,11 @@ pub fn run_page<F: Files + AllocGlobal, S: Opens, W: Write, E: Write>(
     out: &mut W,
     errors: &mut E,
 ) -> io::Result<u8> {
-    let inputs = [asked.grammar, asked.tokens, asked.spec.unwrap_or(asked.grammar)];
+    let inputs = [
+        asked.grammar,
+        asked.tokens,
+        asked.spec.unwrap_or(asked.grammar),
+    ];
     if let Some(status) = refused_output(rt, asked.file, &inputs, errors)? {
         return Ok(status);
     }

@@ -157,11 +157,7 @@ fn line_of(width: u64) -> u64 {
 }
 
 /// How many bytes all forms take, from one that takes so many on.
-fn size_of_forms(
-    grammar: &Grammar,
-    form: &mut Form<'_>,
-    first: u64,
-) -> Result<u64, AllocError> {
+fn size_of_forms(grammar: &Grammar, form: &mut Form<'_>, first: u64) -> Result<u64, AllocError> {
     let mut width = first;
     let mut size = line_of(width);
     for _ in 0..=MOST_NODES {

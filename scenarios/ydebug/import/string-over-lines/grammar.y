@@ -4,4 +4,5 @@ s : A "one \
 two" A
   | A "one \
 two" "three"
+  | "one two" "three"
   ;
