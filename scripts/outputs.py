@@ -86,10 +86,11 @@ def unread(it, stream, programs):
 
 
 def pipes(programs):
-    inputs = {"list.y": LIST, "far.y": FAR, "tokens": b"'x'\n", "a.lex": SPEC, "bad.y": b"%%\n"}
+    inputs = {"list.y": LIST, "far.y": FAR, "bad.y": b"%%\n"}
+    inputs |= {"tokens": b"'x'\n", "text": b"x\n", "a.lex": SPEC}
     forms = ["list.y tokens", "conflicts far.y", "check list.y tokens", "page list.y tokens"]
-    forms += ["import list.y", "tokens list.y --lex a.lex tokens", "lex-spec list.y"]
-    forms += ["--help", "conflicts --help", "check list.y --lex a.lex tokens", "check list.y none"]
+    forms += ["import list.y", "tokens list.y --lex a.lex text", "lex-spec list.y", "--help"]
+    forms += ["conflicts --help", "check list.y --lex a.lex text", "check list.y none"]
     for form in forms:
         it = scenario(["ydebug", *form.split()], inputs, b"run\ngrammar\n")
         yield partial(unread, it, "stdout", programs)
