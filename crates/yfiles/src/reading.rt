@@ -44,10 +44,11 @@ pub fn all_bytes<R: Read>(alloc: Global, reader: &mut R, most: u64) -> io::Resul
     Ok(within(bytes, most))
 }
 
-/// How many bytes a plain file has; `None` for a pipe, a device, or where that can't be told.
-fn size_of<F: Files>(rt: &F, path: &str) -> Option<u64> {
+/// How many bytes a plain file has, where they are more than so many; `None` for a pipe, a device,
+/// or where that can't be told.
+fn size_above<F: Files>(rt: &F, path: &str, most: u64) -> Option<u64> {
     match fs::metadata(rt, path) {
-        Ok(there) if there.is_file() => Some(there.len()),
+        Ok(there) if there.is_file() && there.len() > most => Some(there.len()),
         _ => None,
     }
 }
@@ -64,7 +65,7 @@ impl Limited<'_> {
     /// known.
     pub fn put_long<F: Files, W: Write>(self, rt: &F, out: &mut W) -> io::Result<()> {
         let Limited { path, most } = self;
-        match size_of(rt, path) {
+        match size_above(rt, path, most) {
             Some(size) => writeln!(out, "{path}: it has {size} bytes; {most} are the limit"),
             None => writeln!(out, "{path}: it has more than {most} bytes, the limit"),
         }
