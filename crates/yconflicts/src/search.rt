@@ -358,7 +358,8 @@ impl Finder {
             item,
             search.token,
         )?;
-        self.spend(self.needs.looked());
+        let looked = self.needs.looked();
+        self.spend(looked);
         let stretch = search.keep(&needs)?;
         search.opened.insert((state, item), stretch)?;
         Ok(stretch)
@@ -436,8 +437,9 @@ impl Finder {
             .length
             .saturating_add(self.shortest.length(symbol).unwrap_or(0));
         let digest = self.shortest.digest(symbol).before(node.digest);
-        self.spend(self.moves.before(state).len());
-        for place in 0..self.moves.before(state).len() {
+        let states = self.moves.before(state).len();
+        self.spend(states);
+        for place in 0..states {
             let before = self.moves.state_before(state, place);
             let firsts = first.before(automaton, before, search.token);
             let seconds = second.before(automaton, before, search.token);
