@@ -1,6 +1,8 @@
 """What `ydebug` writes where a disk is full, into a pipe that nobody reads, over files with rights
-and names of their own; and files that change under it."""
+and names of their own; files that change under it, and reports whose steps are spent."""
 import os
+import random
+import re
 import resource
 import signal
 import subprocess
@@ -188,8 +190,38 @@ def reloaded(programs):
     ]
 
 
+# Reports whose steps are spent
+
+
+def dense(count, seed):
+    """A grammar at random, nearly every cell of which has conflicts."""
+    rng, tokens = random.Random(seed), [f"T{number}" for number in range(12)]
+    names = [f"n{number}" for number in range(count)]
+    lines = [f"%token {' '.join(tokens)}", "%%"]
+    for name in names:
+        lengths = [rng.choice([0, 1, 1, 2, 2, 3, 4]) for _ in range(5)]
+        bodies = [[rng.choice(names if rng.random() < 0.65 else tokens)] * it for it in lengths]
+        bodies = [*(" ".join(body) for body in bodies), rng.choice(tokens)]
+        lines.append(f"{name} : {' | '.join(bodies)} ;")
+    return "\n".join([*lines, ""]).encode()
+
+
+def spent(count, programs):
+    """A kind of conflict is explained with its lists, or it is counted with those left out."""
+    it = scenario(["ydebug", "conflicts", "dense.y"], {"dense.y": dense(count, count)})
+    text = run(it, programs)["stdout"].decode()
+    kinds = re.match(r"dense.y: .* of (\d+) kinds\n", text)
+    told = len(re.findall(r"^conflict \d+: ", text, re.M))
+    rest = r"^(\d+) kinds more; the search for their lists of tokens would take too long:$"
+    more = re.search(rest, text, re.M)
+    counted = kinds and more and told + int(more[1]) == int(kinds[1])
+    differs = [] if counted else [f"{told} told; {kinds and kinds[0]}{more and more[0]}\n"]
+    yield f"conflicts of {count} dense nonterminals", differs
+
+
 def tasks(programs, _):
     if "ydebug" in programs:
         for some in (disks, pipes, owned):
             yield from some(programs)
         yield partial(reloaded, programs)
+        yield partial(spent, 120, programs)
