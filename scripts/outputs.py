@@ -200,9 +200,9 @@ def dense(count, seed):
     lines = [f"%token {' '.join(tokens)}", "%%"]
     for name in names:
         lengths = [rng.choice([0, 1, 1, 2, 2, 3, 4]) for _ in range(5)]
-        bodies = [[rng.choice(names if rng.random() < 0.65 else tokens)] * it for it in lengths]
-        bodies = [*(" ".join(body) for body in bodies), rng.choice(tokens)]
-        lines.append(f"{name} : {' | '.join(bodies)} ;")
+        kinds = [[rng.choice([names, names, tokens]) for _ in range(it)] for it in lengths]
+        bodies = [" ".join(rng.choice(of) for of in body) for body in kinds]
+        lines.append(f"{name} : {' | '.join([*bodies, rng.choice(tokens)])} ;")
     return "\n".join([*lines, ""]).encode()
 
 
