@@ -13,7 +13,7 @@
 # make uninstall  takes the same files away
 # make dist       packs what git has of this state into bin/; VERSION=1.0 names it
 # make imports    imports grammars of some source packages of Debian, by the programs that make build left, and compares their tables with bison's; FILES="a.y b.y" or PACKAGES="bash" names others. It takes bison and a network
-# make hostile    runs both programs, proved, between devices that fail and on files and streams that are no one's friends
+# make hostile    runs both programs, proved, between devices that fail and on files and streams that are no one's friends, and ydebug on full disks and pipes that nobody reads
 # make edits      tries every wrong body that the prover must refuse, also those that the gate leaves out; some 40 minutes
 # make test       the gate: every proof from nothing, the wrong bodies in must-fail, the tests, the stored runs, the scenarios, make hostile, make refuse over three examples, the allocations of every session
 .PHONY: demo examples scenarios accept build bench refuse debug page-test compare drivers install uninstall dist imports hostile edits test
@@ -21,7 +21,7 @@
 programs := $(foreach file,$(wildcard crates/*/src/main.rt),$(notdir $(file:/src/main.rt=)))
 run := python3 scenarios/run.py $(foreach name,$(programs),$(name)=crates/$(name)/out/$(name))
 both := --at scenarios --at examples --at docs/TUTORIAL.md --at docs/FAULTS.md
-hostile := python3 scripts/hostile.py $(foreach name,yacc ystep,$(name)=crates/$(name)/out/$(name))
+hostile := python3 scripts/hostile.py $(foreach name,yacc ystep ydebug,$(name)=crates/$(name)/out/$(name))
 refuse := python3 scripts/refuse.py $(foreach name,$(programs),$(name)=crates/$(name)/out/$(name))
 allocations := python3 scripts/allocations.py ystep=crates/ystep/out/ystep
 

@@ -5,7 +5,8 @@
 
 Over the grammar and tokens of every scenario and example, and over 1,000 random ones, both drivers
 make the steps of `ystep`, line for line. Of 10,000 tables with bytes changed or cut both say the
-same: the line that is at fault, or the same steps. C runs as it is and with the sanitizers of the
+same: the line that is at fault, or the same steps. Each beginning of a table is refused with its
+last line. C runs as it is and with the sanitizers of the
 compiler (CC, or cc). Both calculators, and the program of the tutorial, answer as they should.
 With --try the programs are built by `rt try`.
 """
@@ -164,6 +165,16 @@ def compare_spoiled(cases, program, rng):
     return counts
 
 
+def compare_beginnings(table, program):
+    """Both drivers on each beginning of a table, as a run that is killed leaves one."""
+    cases = [(table[:end], [], "cut") for end in range(len(table))]
+    for case, theirs in zip(cases, steps_of_c(program, cases, FEW)):
+        ours, last = steps_of_python(case[0], [], FEW), f"line {case[0].count(10) + 1}: "
+        if ours != theirs or not theirs[1].startswith(last):
+            differ("a beginning of a table", case, last, (ours, theirs))
+    return len(cases)
+
+
 def table_of(grammar, way, programs):
     """The table of a grammar."""
     run = Scenario(HERE, ["yacc", "grammar"], b"", {"grammar": grammar}, {}, {}, {})
@@ -231,10 +242,13 @@ def main():
         built = {name: build(folder, name, "steps.c", flags) for name, flags in WAYS.items()}
         compare_steps(cases, built)
         counts = compare_spoiled(cases, built["checked"], rng)
+        short = min((table for table, _, _ in cases), key=len)
+        beginnings = compare_beginnings(short, built["checked"])
         compare_calculators(folder, way, programs)
         compare_tutorial(folder, way, programs)
     steps = sum(steps.count("\n") for _, _, steps in cases)
     print(f"{of_scenarios} cases of scenarios, {given.sessions} at random, {steps} steps: the same")
+    print(f"{beginnings} beginnings of a table: each is refused with its last line")
     print(f"{TABLES} wrong tables: {', '.join(f'{n} {what}' for what, n in counts.most_common())}")
 
 

@@ -1,7 +1,8 @@
 #!/usr/bin/env python3
-"""Runs both programs between devices that fail, and on files and streams that are no one's friends.
+"""Runs both programs between devices that fail, and on files and streams that are no one's friends,
+and the debugger on full disks and pipes that nobody reads.
 
-    hostile.py yacc=PATH ystep=PATH
+    hostile.py yacc=PATH ystep=PATH [ydebug=PATH]
 
 Each run must leave a beginning of the usual text, the message and the status that docs/FORMATS.md
 has for it, and nothing else. So must files that are cut off anywhere, and files at each limit. The
@@ -19,10 +20,11 @@ sys.dont_write_bytecode = True
 import beginnings
 import between
 import limits
+import outputs
 import strange
 from devices import library_in
 
-MODULES = (limits, between, strange, beginnings)
+MODULES = (limits, between, strange, beginnings, outputs)
 
 
 def results_of(task):

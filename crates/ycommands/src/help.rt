@@ -4,6 +4,7 @@ use crate::verb::{VERBS, Verb};
 use crate::words::{Found, begins, find, near_in};
 use std::alloc::{AllocError, Global};
 use std::io::Write;
+use yexplain::text::Escaped;
 use yshow::{Page, Paint};
 
 /// The command that a word means.
@@ -37,7 +38,9 @@ pub fn put_unknown<W: Write>(
     word: &str,
 ) -> Result<(), AllocError> {
     let near = near_in(alloc, &VERBS, word)?;
-    page.painted(Paint::Bad, word);
+    page.paint(Paint::Bad);
+    page.show(Escaped(word.as_bytes()));
+    page.paint(Paint::Plain);
     page.put(" is no command; ");
     match near {
         Some(best) => {

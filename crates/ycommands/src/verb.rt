@@ -150,7 +150,8 @@ impl Verb {
             Verb::Insert => "T is spelled as in a tokens file: NAME, or a literal such as '+'.",
             Verb::Tree => "Entries are counted from 1 at the bottom, as stack shows them.\n\
                 1,000 lines are written unless all are asked for.",
-            Verb::Derivation => "100 forms are written unless told otherwise.",
+            Verb::Derivation => "100 forms are written unless told otherwise.\n\
+                Beyond 100 MB, all forms are written by derivation all! alone.",
             Verb::Expected => "Each token is tried on a copy of the stack.",
             Verb::Save | Verb::SaveOver => "The file can be given to ydebug as its tokens.",
             Verb::Reload => "Edits are made again at their positions.",

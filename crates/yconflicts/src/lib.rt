@@ -2,6 +2,7 @@
 //! deserves a warning.
 #![tactic(auto)]
 
+mod budget;
 mod costs;
 pub mod groups;
 mod lists;

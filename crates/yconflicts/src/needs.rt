@@ -60,6 +60,8 @@ pub struct Needs {
     round: usize,
     /// The left sides of this round.
     lefts: Vec<Sym>,
+    /// How many items were looked at in this round.
+    looked: usize,
 }
 
 /// What the form behind a nonterminal is to a token.
@@ -92,7 +94,13 @@ impl Needs {
             met: vec![in alloc; 0usize; symbols]?,
             round: 0,
             lefts: Vec::new(alloc),
+            looked: 0,
         })
+    }
+
+    /// How many items were looked at last.
+    pub fn looked(&self) -> usize {
+        self.looked
     }
 
     /// Adds the left side of a rule, where it wasn't met in this round.
@@ -141,6 +149,7 @@ impl Needs {
         token: Sym,
         found: &mut Vec<Need>,
     ) -> Result<bool, AllocError> {
+        self.looked = self.looked.saturating_add(items.len());
         for item in items {
             if self.take(automaton, state, *item, token, found)? {
                 return Ok(true);
@@ -161,6 +170,7 @@ impl Needs {
         token: Sym,
     ) -> Result<Vec<Need>, AllocError> {
         let mut found = Vec::new(alloc);
+        self.looked = 0;
         if item.dot > 0 {
             found.push(Need::Item(item))?;
             return Ok(found);

@@ -1,6 +1,7 @@
 //! The shortest ways to a state on which complete items have a token as their lookahead, by the
 //! canonical LR(1) items: sought backward from the state, the least possible length first.
 
+use crate::budget::{Budget, MOST_SPOTS};
 use crate::costs::{Digest, Shortest, occurrences};
 use crate::lists::Lists;
 use crate::moves::Moves;
@@ -11,21 +12,6 @@ use std::alloc::{AllocError, Global};
 use yexplain::reads::{body_of, left_of};
 use ylalr::{Automaton, Item};
 use ysymbols::{Grammar, Sym};
-
-/// The most spots that the search for one way meets.
-const MOST_SPOTS: usize = 200_000;
-
-/// The most spots that the search for several ways meets.
-const MOST_FOR_SEVERAL: usize = 30_000;
-
-/// How many spots any search may meet.
-const LEAST_SPOTS: usize = 2_000;
-
-/// How many spots all searches for one way of a run may meet together, and all those for several,
-/// beside those that each of them may meet in any case.
-const ALL_FOR_ONE: usize = 2_000_000;
-
-const ALL_FOR_SEVERAL: usize = 1_000_000;
 
 /// A cell, and the rules that are all to be possible there; one that is left out is no condition.
 #[derive(Clone, Copy, Drop)]
@@ -121,9 +107,8 @@ pub struct Finder {
     shortest: Shortest,
     moves: Moves,
     needs: Needs,
-    /// How many spots searches for one way may still meet, and those for several.
-    left: usize,
-    left_for_several: usize,
+    /// How many steps may still be taken.
+    budget: Budget,
 }
 
 impl Drop for Finder {
@@ -136,15 +121,9 @@ impl Drop for Finder {
             shortest: _,
             moves: _,
             needs: _,
-            left: _,
-            left_for_several: _,
+            budget: _,
         } = self;
     }
-}
-
-/// How many spots a search may meet: a part of those that may still be met.
-fn allowance(left: usize, most: usize) -> usize {
-    (left / 8).min(most).max(LEAST_SPOTS)
 }
 
 /// What has to hold in a state so that a rule can be reduced there.
@@ -260,9 +239,18 @@ impl Finder {
             shortest,
             moves,
             needs: Needs::new(alloc, grammar.symbols())?,
-            left: ALL_FOR_ONE,
-            left_for_several: ALL_FOR_SEVERAL,
+            budget: Budget::new(),
         })
+    }
+
+    /// Whether there are steps left for further searches.
+    pub fn has_steps(&self) -> bool {
+        self.budget.has_steps()
+    }
+
+    /// Takes steps from those that are left.
+    pub fn spend(&mut self, steps: usize) {
+        self.budget.spend(steps);
     }
 
     /// The rules of a left side.
@@ -301,11 +289,7 @@ impl Finder {
         target: Target,
         ways: usize,
     ) -> Result<Search, AllocError> {
-        let left = if ways == 1 {
-            allowance(self.left, MOST_SPOTS)
-        } else {
-            allowance(self.left_for_several, MOST_FOR_SEVERAL)
-        };
+        let left = self.budget.allowance(ways);
         let mut search = Search::new(self.alloc, target.token, ways, left)?;
         let grammar = automaton.grammar();
         let node = Node {
@@ -329,7 +313,7 @@ impl Finder {
         search: &mut Search,
     ) -> Result<Found, AllocError> {
         for _ in 0..MOST_SPOTS {
-            if search.left == 0 {
+            if search.left == 0 || !self.has_steps() {
                 break;
             }
             let Some((number, node)) = search.take()? else {
@@ -348,17 +332,8 @@ impl Finder {
         let best = node
             .length
             .saturating_add(self.moves.length(node.spot.state));
-        self.count(search.tries);
+        self.budget.count(search.tries);
         search.put(node, best)
-    }
-
-    /// Counts a spot that is met in a search for so many ways.
-    fn count(&mut self, ways: usize) {
-        if ways == 1 {
-            self.left = self.left.saturating_sub(1);
-        } else {
-            self.left_for_several = self.left_for_several.saturating_sub(1);
-        }
     }
 
     /// What has to hold in a state, so that a need of it is fulfilled: any one of these.
@@ -383,6 +358,8 @@ impl Finder {
             item,
             search.token,
         )?;
+        let looked = self.needs.looked();
+        self.spend(looked);
         let stretch = search.keep(&needs)?;
         search.opened.insert((state, item), stretch)?;
         Ok(stretch)
@@ -460,7 +437,9 @@ impl Finder {
             .length
             .saturating_add(self.shortest.length(symbol).unwrap_or(0));
         let digest = self.shortest.digest(symbol).before(node.digest);
-        for place in 0..self.moves.before(state).len() {
+        let states = self.moves.before(state).len();
+        self.spend(states);
+        for place in 0..states {
             let before = self.moves.state_before(state, place);
             let firsts = first.before(automaton, before, search.token);
             let seconds = second.before(automaton, before, search.token);

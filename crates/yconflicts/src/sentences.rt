@@ -18,6 +18,8 @@ pub struct Sentences {
     queue: Queue,
     /// How many forms may still be taken in.
     left: usize,
+    /// How many symbols the forms had that were offered.
+    symbols: usize,
 }
 
 /// A form in which other symbols stand for the one at a place.
@@ -41,7 +43,13 @@ impl Sentences {
             forms: IndexSet::new(alloc),
             queue: Queue::new(alloc),
             left: most,
+            symbols: 0,
         }
+    }
+
+    /// How many symbols the forms had that were offered.
+    pub fn symbols(&self) -> usize {
+        self.symbols
     }
 
     /// The length of the next sentence.
@@ -51,6 +59,7 @@ impl Sentences {
 
     /// Takes a form in, where it is new and not too long.
     pub fn add(&mut self, finder: &Finder, form: Vec<Sym>) -> Result<(), AllocError> {
+        self.symbols = self.symbols.saturating_add(form.len());
         let length = finder.length(&form);
         if self.left == 0 || form.len() > MOST_SYMBOLS || length > MOST_SYMBOLS as u64 {
             return Ok(());

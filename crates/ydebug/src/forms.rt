@@ -19,7 +19,8 @@ pub const USAGE: &[u8] = b"usage: ydebug grammar tokens [--lex SPEC]\n\
     \x20      ydebug tokens grammar --lex SPEC input\n\
     \x20      ydebug lex-spec grammar\n\
     \x20      ydebug import file [-o grammar]\n\
-    With --from bison the grammar is a file of bison or byacc.\n";
+    With --from bison the grammar is a file of bison or byacc.\n\
+    With --limit N an input has up to N bytes; without it, up to 16777216.\n";
 
 /// A form of the command line.
 #[derive(Clone, Copy)]
@@ -40,17 +41,24 @@ pub enum Form {
     Sketch,
 }
 
+/// Each form but the first by its word.
+pub const BY_WORD: [(&str, Form); 6] = [
+    ("conflicts", Form::Conflicts),
+    ("check", Form::Check),
+    ("page", Form::Page),
+    ("import", Form::Import),
+    ("tokens", Form::Tokens),
+    ("lex-spec", Form::Sketch),
+];
+
 /// The form that a first word means.
 pub fn form_of(word: Option<&&str>) -> Form {
-    match word {
-        Some(&"conflicts") => Form::Conflicts,
-        Some(&"check") => Form::Check,
-        Some(&"page") => Form::Page,
-        Some(&"import") => Form::Import,
-        Some(&"tokens") => Form::Tokens,
-        Some(&"lex-spec") => Form::Sketch,
-        _ => Form::Debug,
+    for (name, form) in &BY_WORD {
+        if word == Some(name) {
+            return *form;
+        }
     }
+    Form::Debug
 }
 
 /// The whole name of the program with the word for a form.
@@ -87,7 +95,17 @@ enum Given {
 
 /// A word of a form: its name, how it is given, and what help says of it.
 #[derive(Clone, Copy)]
-struct Word(&'static str, Given, &'static str);
+pub struct Word(&'static str, Given, &'static str);
+
+impl Word {
+    /// The option that it is, without its two dashes, where it is one.
+    pub fn option(&self) -> Option<&'static str> {
+        match self.1 {
+            Given::File(_) | Given::Files | Given::Output => None,
+            Given::Flag | Given::Value(_) | Given::Required(_) | Given::Again(_) => Some(self.0),
+        }
+    }
+}
 
 const GRAMMAR: Word = Word("grammar", Given::File("grammar"), "The grammar file");
 
@@ -99,13 +117,17 @@ const INPUT: Word = Word(
 
 const LEX: Word = Word("lex", Given::Value("SPEC"), HOW_TOKENS_LOOK);
 
+const LIMIT: Word = Word("limit", Given::Value("N"), HOW_LONG);
+
 const FROM: Word = Word("from", Given::Value("FORM"), FROM_BISON);
 
 const HOW_TOKENS_LOOK: &str = "The file that says how the tokens of a text look";
 
+const HOW_LONG: &str = "The most bytes of an input; without it, 16777216";
+
 const FROM_BISON: &str = "bison: the grammar is a file of bison or byacc";
 
-const DEBUG: &[Word] = &[GRAMMAR, INPUT, LEX, FROM];
+const DEBUG: &[Word] = &[GRAMMAR, INPUT, LEX, LIMIT, FROM];
 
 const CONFLICTS: &[Word] = &[
     GRAMMAR,
@@ -130,6 +152,7 @@ const CHECK: &[Word] = &[
         "The tokens files, or with --lex texts; - is standard input",
     ),
     LEX,
+    LIMIT,
     FROM,
     Word(
         "choice",
@@ -147,6 +170,7 @@ const PAGE: &[Word] = &[
         "The file that the page goes to; without it, standard output",
     ),
     LEX,
+    LIMIT,
     Word(
         "from",
         Given::Again("from"),
@@ -164,6 +188,7 @@ const TOKENS: &[Word] = &[
     GRAMMAR,
     Word("tokens", Given::File("input"), "The text"),
     Word("lex", Given::Required("SPEC"), HOW_TOKENS_LOOK),
+    LIMIT,
     FROM,
 ];
 
@@ -212,7 +237,7 @@ fn with_words<'a>(alloc: Global, form: Form, words: &[Word]) -> Result<Command<'
 }
 
 /// The words of a form.
-fn words_of(form: Form) -> &'static [Word] {
+pub fn words_of(form: Form) -> &'static [Word] {
     match form {
         Form::Debug => DEBUG,
         Form::Conflicts => CONFLICTS,

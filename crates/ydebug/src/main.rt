@@ -4,12 +4,15 @@
 //! that `yacc` reads out of one for bison. With `--lex SPEC` a text stands in place of a tokens
 //! file; `ydebug tokens` writes the tokens of one, and `ydebug lex-spec` sketches a SPEC.
 //!
-//! `forms` has the words of the forms; what they are given is opened by `ysources`.
+//! `forms` has the words of the forms, and `near` what could be meant by others; what the forms are
+//! given is opened by `ysources`.
 #![tactic(auto)]
 
 mod forms;
+mod near;
 
 use crate::forms::{Form, USAGE, command_of, form_of, name_of};
+use crate::near::{put_near_form, put_near_words};
 use clap::error::ErrorKind;
 use clap::{ArgMatches, Command};
 use std::alloc::{AllocError, Global};
@@ -17,6 +20,7 @@ use std::env;
 use std::io::{self, BufWriter, IsTerminal, Write};
 use std::process::ExitCode;
 use ydebugger::{Setting, debug};
+use yfiles::reading::{LONGEST_INPUT, Limited};
 use yfollow::Opens;
 use yimported::run::{Asked as Import, run_import};
 use ypage::page::{self, run_page};
@@ -28,6 +32,9 @@ use ysources::sketch::run_sketch;
 use ysources::source::Source;
 use ysources::tokens::run_tokens;
 
+/// The exit status of a program that a signal ends since its pipe has no reader any more.
+const ENDED_BY_PIPE: u8 = 141;
+
 /// Why nothing was done.
 #[derive(Clone, Copy)]
 enum Refused {
@@ -37,6 +44,8 @@ enum Refused {
     Helped,
     /// Memory ran out.
     Memory,
+    /// Nobody reads what is written any more.
+    Unread,
     /// The standard streams fail.
     Outside,
 }
@@ -51,6 +60,7 @@ impl From<io::Error> for Refused {
     fn from(error: io::Error) -> Refused {
         match error.kind() {
             io::ErrorKind::OutOfMemory => Refused::Memory,
+            io::ErrorKind::BrokenPipe => Refused::Unread,
             _ => Refused::Outside,
         }
     }
@@ -58,12 +68,12 @@ impl From<io::Error> for Refused {
 
 /// Writes the help that was asked for.
 fn put_help(rt: &HostRuntime, help: &clap::Error) -> Refused {
-    match format!(in rt.alloc(); "{help}") {
-        Ok(text) => {
-            let _ = rt.stdout().write_all(text.as_bytes());
-            Refused::Helped
-        }
-        Err(_) => Refused::Memory,
+    let Ok(text) = format!(in rt.alloc(); "{help}") else {
+        return Refused::Memory;
+    };
+    match rt.stdout().write_all(text.as_bytes()) {
+        Err(error) if error.kind() == io::ErrorKind::BrokenPipe => Refused::Unread,
+        _ => Refused::Helped,
     }
 }
 
@@ -121,6 +131,20 @@ fn number_of(matches: &ArgMatches<'_>, name: &str) -> Result<Option<usize>, Refu
     }
 }
 
+/// An input, and how long it may be.
+fn input_of<'a>(matches: &ArgMatches<'a>, path: &'a str) -> Result<Limited<'a>, Refused> {
+    let most = most_of(matches)?;
+    Ok(Limited { path, most })
+}
+
+/// How many bytes an input may have.
+fn most_of(matches: &ArgMatches<'_>) -> Result<u64, Refused> {
+    match number_of(matches, "limit")? {
+        Some(most) => Ok(most as u64),
+        None => Ok(LONGEST_INPUT),
+    }
+}
+
 /// What stands behind each `--from` of a page: `bison`, and a first position, each once at most.
 fn page_from(words: &[&str]) -> Result<(bool, usize), Refused> {
     match words {
@@ -144,6 +168,11 @@ fn report<W: Write>(
         save: matches.get_str("save"),
         strict: is_given(matches, "strict"),
     };
+    if asked.save == Some("") {
+        rt.stderr()
+            .write_all(b"ydebug: --save wants the name of a folder\n")?;
+        return Ok(2);
+    }
     match open_file(rt, file, &mut rt.stderr())? {
         Ok(opened) => Ok(put_conflicts(rt, out, &mut rt.stderr(), asked, opened)?),
         Err(status) => Ok(status),
@@ -161,6 +190,7 @@ fn check_files<W: Write>(
         inputs: matches.get_strs("tokens").unwrap_or(&[]),
         spec: matches.get_str("lex"),
         choice: is_given(matches, "choice"),
+        most: most_of(matches)?,
     };
     let streams = (&mut rt.stdin(), out);
     Ok(check_inputs(rt, asked, streams, &mut rt.stderr())?)
@@ -172,6 +202,7 @@ fn page_asked<'a>(matches: &ArgMatches<'a>) -> Result<(page::Asked<'a>, bool), R
     let asked = page::Asked {
         grammar: value_of(matches, "grammar")?,
         tokens: value_of(matches, "tokens")?,
+        spec: matches.get_str("lex"),
         file: matches.get_str("file"),
         part: Part {
             from,
@@ -189,8 +220,8 @@ fn page<W: Write>(rt: &HostRuntime, matches: &ArgMatches<'_>, out: &mut W) -> Re
     let source = Source {
         rt,
         grammar: GrammarFile { path, bison },
-        input: asked.tokens,
-        spec: matches.get_str("lex"),
+        input: input_of(matches, asked.tokens)?,
+        spec: asked.spec,
     };
     Ok(run_page(rt, &source, asked, out, &mut rt.stderr())?)
 }
@@ -215,8 +246,9 @@ fn cut_file<W: Write>(
     out: &mut W,
 ) -> Result<u8, Refused> {
     let file = grammar_in(matches)?;
-    let paths = (value_of(matches, "lex")?, value_of(matches, "tokens")?);
-    Ok(run_tokens(rt, file, paths, out, &mut rt.stderr())?)
+    let input = input_of(matches, value_of(matches, "tokens")?)?;
+    let files = (value_of(matches, "lex")?, input);
+    Ok(run_tokens(rt, file, files, out, &mut rt.stderr())?)
 }
 
 /// A sketch of how tokens look.
@@ -263,7 +295,7 @@ fn debug_files<W: Write>(
     let source = Source {
         rt,
         grammar: grammar_in(matches)?,
-        input: value_of(matches, "tokens")?,
+        input: input_of(matches, value_of(matches, "tokens")?)?,
         spec: matches.get_str("lex"),
     };
     match source.open(&mut rt.stderr())? {
@@ -271,7 +303,10 @@ fn debug_files<W: Write>(
             let ended = debug(rt, &source, setting_of(rt), parse, rt.stdin(), out);
             ended.map(|()| 0).map_err(Refused::from)
         }
-        Err(status) => Ok(status),
+        Err(status) => {
+            put_near_form(rt, &mut rt.stderr(), source.grammar.path)?;
+            Ok(status)
+        }
     }
 }
 
@@ -325,8 +360,13 @@ fn named<'a>(alloc: Global, name: &'a str, words: &[&'a str]) -> Result<Vec<&'a 
 fn obey_given(rt: &HostRuntime, words: &[&str]) -> Result<u8, Refused> {
     let form = form_of(words.get(1));
     let first = if matches!(form, Form::Debug) { 1 } else { 2 };
-    let words = named(rt.alloc(), name_of(form), words.get(first..).unwrap_or(&[]))?;
-    obey_words(rt, form, &words)
+    let given = words.get(first..).unwrap_or(&[]);
+    let words = named(rt.alloc(), name_of(form), given)?;
+    let obeyed = obey_words(rt, form, &words);
+    if let Err(Refused::Words) = obeyed {
+        put_near_words(rt, &mut rt.stderr(), form, given)?;
+    }
+    obeyed
 }
 
 /// Reads the words and does what they ask for.
@@ -345,6 +385,7 @@ fn refuse(rt: &HostRuntime, refused: Refused) -> u8 {
         Refused::Helped => (b"", 0),
         Refused::Words => (USAGE, 2),
         Refused::Memory => (b"ydebug: no memory\n", 3),
+        Refused::Unread => (b"", ENDED_BY_PIPE),
         Refused::Outside => (b"ydebug: cannot read or write\n", 3),
     };
     let _ = rt.stderr().write_all(text);

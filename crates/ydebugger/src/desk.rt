@@ -98,7 +98,10 @@ impl<'a, F: Files + AllocGlobal, S: Opens> Desk<'a, F, S> {
             _ if wants_word == text.is_empty() => put_refusal(page, misused(verb)),
             Verb::Insert => return insert(self.rt.alloc(), &mut self.parse, page, text),
             Verb::Drop => drop_next(&mut self.parse, page),
-            verb => save(self.rt, &self.parse, page, text, verb == Verb::SaveOver),
+            verb => {
+                let over = verb == Verb::SaveOver;
+                save(self.rt, self.source, &self.parse, page, text, over);
+            }
         }
         Ok(())
     }

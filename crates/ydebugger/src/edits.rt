@@ -3,11 +3,11 @@
 use crate::history::put_tokens;
 use crate::views::refuse_name;
 use std::alloc::{AllocError, Global};
-use std::fs::{self, File};
 use std::io::{self, ErrorKind, Write};
 use std::rt::Files;
 use ycommands::refusal::{Refusal, edit_words};
-use yfollow::Parse;
+use yfiles::writing::{write_new, write_over};
+use yfollow::{Opens, Parse};
 use yparse::machine::{StepFault, StepKind};
 use yshow::page::Page;
 use yshow::step_line::{StepLine, put_made};
@@ -50,17 +50,6 @@ fn text_of(alloc: Global, parse: &Parse) -> io::Result<Vec<u8>> {
     Ok(page.into_out())
 }
 
-/// Opens a file and writes a text to it. Without `over` there must be no such file.
-fn save_to<F: Files>(rt: &F, text: &[u8], path: &str, over: bool) -> io::Result<()> {
-    let mut device = if over {
-        fs::create(rt, path)?
-    } else {
-        File::create_new(rt, path)?
-    };
-    device.write_all(text)?;
-    device.flush()
-}
-
 /// Writes the tokens, edits included, to a file. Without `over` there must be no such file.
 fn save_tokens<F: Files + AllocGlobal>(
     rt: &F,
@@ -69,17 +58,27 @@ fn save_tokens<F: Files + AllocGlobal>(
     over: bool,
 ) -> io::Result<()> {
     let text = text_of(rt.alloc(), parse)?;
-    save_to(rt, &text, path, over)
+    if over {
+        write_over(rt, path, &text)
+    } else {
+        write_new(rt, path, &text)
+    }
 }
 
-/// Writes the whole input with its edits to a file, and says so, or why not.
-pub fn save<F: Files + AllocGlobal, W: Write>(
+/// Writes the whole input with its edits to a file that isn't guarded, and says so, or why not.
+pub fn save<F: Files + AllocGlobal, S: Opens, W: Write>(
     rt: &F,
+    source: &S,
     parse: &Parse,
     page: &mut Page<W>,
     path: &str,
     over: bool,
 ) {
+    if source.guards(path) {
+        page.put(path);
+        page.line(" is an input, and isn't written over.");
+        return;
+    }
     let words = match save_tokens(rt, parse, path, over) {
         Ok(()) => " has the tokens, edits included.",
         Err(error) => match error.kind() {

@@ -13,7 +13,7 @@ use yexplain::why::{Question, explain};
 use yfollow::Parse;
 use yparse::Session;
 use yparse::machine::Mode;
-use yshow::derivation::{SOME_FORMS, put_derivation};
+use yshow::derivation::{SOME_FORMS, put_derivation, size_of_derivation};
 use yshow::grammar_view::Rules;
 use yshow::page::Page;
 use yshow::reading::{last_rule, last_state, token_ahead};
@@ -188,6 +188,25 @@ pub fn show_tree<W: Write>(
     }
 }
 
+/// The most bytes of a derivation that is written whole without a sign that this is meant.
+const LARGE: u64 = 100_000_000;
+
+/// All forms of the derivation up to here, or how many bytes they would take, where that is much.
+fn show_forms<W: Write>(
+    alloc: Global,
+    parse: &Parse,
+    page: &mut Page<W>,
+) -> Result<(), AllocError> {
+    let size = size_of_derivation(alloc, parse.session())?;
+    if size <= LARGE {
+        return put_derivation(alloc, page, parse.session(), usize::MAX);
+    }
+    page.put("That would be ");
+    page.show(size);
+    page.line(" bytes; derivation all! writes them.");
+    Ok(())
+}
+
 /// The rightmost derivation up to here.
 pub fn show_derivation<W: Write>(
     alloc: Global,
@@ -196,6 +215,8 @@ pub fn show_derivation<W: Write>(
     text: &str,
 ) -> Result<(), AllocError> {
     match amount(text, SOME_FORMS) {
+        _ if text == "all" => show_forms(alloc, parse, page),
+        _ if text == "all!" => put_derivation(alloc, page, parse.session(), usize::MAX),
         Ok(most) => put_derivation(alloc, page, parse.session(), most),
         Err(refusal) => {
             put_misuse(page, Verb::Derivation, refusal);

@@ -24,6 +24,23 @@ impl fmt::Display for Bytes<'_> {
     }
 }
 
+/// Some bytes, those that aren't printed as hexadecimal digits behind `\\x`.
+#[derive(Clone, Copy)]
+pub struct Escaped<'a>(pub &'a [u8]);
+
+impl fmt::Display for Escaped<'_> {
+    fn fmt<W: fmt::Write>(&self, f: &mut fmt::Formatter<W>) -> fmt::Result {
+        for byte in self.0 {
+            if byte.is_ascii_graphic() || *byte == b' ' {
+                f.write_char(char::from(*byte))?;
+            } else {
+                write!(f, "\\x{byte:02x}")?;
+            }
+        }
+        Ok(())
+    }
+}
+
 /// A symbol by its printed name.
 #[derive(Clone, Copy)]
 pub struct Name<'a>(pub &'a Grammar, pub Sym);

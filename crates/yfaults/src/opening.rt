@@ -6,10 +6,10 @@ use crate::shown::{Place, put_whole};
 use crate::told::{nearest_token, put_grammar_fault, put_question};
 use crate::words::{token_code, words_of};
 use std::alloc::{AllocError, Global};
-use std::fs;
-use std::io::{self, ErrorKind, Read, Write};
+use std::io::{self, ErrorKind, Write};
 use std::rt::Files;
 use yexplain::lines::Lines;
+use yfiles::reading::first_bytes;
 use ygrammar::{Grammar, GrammarFault, LONGEST_FILE};
 use ylalr::BuildFault;
 use ytables::Tables;
@@ -66,13 +66,6 @@ impl From<BuildFault> for Trouble {
             BuildFault::Memory => Trouble::Memory,
         }
     }
-}
-
-/// At most so many bytes of a file.
-pub fn first_bytes<F: Files + AllocGlobal>(rt: &F, path: &str, most: u64) -> io::Result<Vec<u8>> {
-    let mut bytes = Vec::new(rt.alloc());
-    fs::open(rt, path)?.take(most).read_to_end(&mut bytes)?;
-    Ok(bytes)
 }
 
 /// The bytes of a grammar file, one more than it may have at most.

@@ -252,6 +252,7 @@ impl Seeker<'_> {
         let most = allowance(self.steps, MOST_STEPS);
         let (trial, steps) = self.trial(goal, &list.tokens, most)?;
         self.steps = self.steps.saturating_sub(steps);
+        self.finder.spend(steps);
         list.trial = trial;
         if trial.is_missed() {
             self.try_others(goal, list)?;
@@ -285,7 +286,7 @@ impl Seeker<'_> {
                 break;
             };
             left = left.saturating_sub(self.try_new(goal, tokens, left, list)?);
-            if left == 0 || list.other.is_some() {
+            if left == 0 || list.other.is_some() || !self.finder.has_steps() {
                 break;
             }
         }
@@ -317,6 +318,7 @@ impl Seeker<'_> {
         list.tried = list.tried.saturating_add(1);
         let (trial, steps) = self.trial(goal, &tokens, most)?;
         self.steps_for_others = self.steps_for_others.saturating_sub(steps);
+        self.finder.spend(steps);
         if let Trial::Reached(steps) = trial {
             list.other = Some((tokens, steps));
         }

@@ -42,8 +42,20 @@ impl Others {
         })
     }
 
-    /// The next list.
+    /// The next list; the finder's steps are spent on it.
     pub fn next(
+        &mut self,
+        finder: &mut Finder,
+        automaton: &Automaton,
+    ) -> Result<Option<Vec<Sym>>, AllocError> {
+        let before = self.sentences.symbols();
+        let found = self.next_sentence(finder, automaton);
+        finder.spend(self.sentences.symbols().saturating_sub(before));
+        found
+    }
+
+    /// The next list.
+    fn next_sentence(
         &mut self,
         finder: &mut Finder,
         automaton: &Automaton,

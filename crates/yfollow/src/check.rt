@@ -2,11 +2,11 @@
 
 use crate::expected::{Wanted, expected, states_after};
 use std::alloc::{AllocError, Global};
-use std::fs;
 use std::io::{self, ErrorKind, Read, Write};
 use std::rt::Files;
 use yexplain::reads::grammar_of;
 use yfaults::opening::{put_near_token, put_token_fault};
+use yfiles::reading::{Limited, all_bytes};
 use ylalr::END;
 use yparse::{JudgeFault, TokenFault, Verdict, judge, read_tokens};
 use yshow::Page;
@@ -27,6 +27,8 @@ pub struct Check<'a> {
     pub tokens: &'a [&'a str],
     /// Whether to say first if a cell of the tables has a choice.
     pub choice: bool,
+    /// The most bytes of a tokens file.
+    pub most: u64,
 }
 
 /// What is said of a tokens file: what came of it, for the exit status.
@@ -58,18 +60,23 @@ struct Judge<'a> {
     tables: &'a Tables,
 }
 
-/// All bytes of a file, or of standard input where the path is a dash.
+/// All bytes of a file, or of standard input where the path is a dash; `None` where there are
+/// more than it may have.
 pub fn bytes_of<F: Files + AllocGlobal, R: Read>(
     rt: &F,
     input: &mut R,
-    path: &str,
-) -> io::Result<Vec<u8>> {
-    if path != "-" {
-        return fs::read(rt, path);
+    file: Limited<'_>,
+) -> io::Result<Option<Vec<u8>>> {
+    match file.path {
+        "-" => all_bytes(rt.alloc(), input, file.most),
+        _ => file.bytes(rt),
     }
-    let mut bytes = Vec::new(rt.alloc());
-    input.read_to_end(&mut bytes)?;
-    Ok(bytes)
+}
+
+/// Writes that a tokens file, or a text, has more bytes than it may have.
+pub fn put_long<F: Files, W: Write>(rt: &F, out: &mut W, file: Limited<'_>) -> io::Result<Said> {
+    file.put_long_input(rt, out)?;
+    Ok(Said::Bad)
 }
 
 /// Writes a line of these texts.
@@ -315,11 +322,12 @@ fn put_input<F: Files + AllocGlobal, R: Read, W: Write>(
     input: &mut R,
     out: &mut W,
     judge: Judge<'_>,
-    path: &str,
+    file: Limited<'_>,
 ) -> io::Result<Said> {
-    match bytes_of(rt, input, path) {
-        Ok(bytes) => judge.put_file(out, path, &bytes),
-        Err(error) => put_unread(out, path, &error),
+    match bytes_of(rt, input, file) {
+        Ok(Some(bytes)) => judge.put_file(out, file.path, &bytes),
+        Ok(None) => put_long(rt, out, file),
+        Err(error) => put_unread(out, file.path, &error),
     }
 }
 
@@ -329,11 +337,12 @@ fn put_all<F: Files + AllocGlobal, R: Read, W: Write>(
     input: &mut R,
     out: &mut W,
     judge: Judge<'_>,
-    files: &[&str],
+    asked: Check<'_>,
 ) -> io::Result<u8> {
     let mut status = 0;
-    for path in files {
-        let said = put_input(rt, input, out, judge, path)?;
+    let most = asked.most;
+    for path in asked.tokens {
+        let said = put_input(rt, input, out, judge, Limited { path, most })?;
         status = said.status().max(status);
     }
     Ok(status)
@@ -355,5 +364,5 @@ pub fn run_check<F: Files + AllocGlobal, R: Read, W: Write>(
     if asked.choice {
         put_choice(out, tables, asked.grammar)?;
     }
-    put_all(rt, input, out, judge, asked.tokens)
+    put_all(rt, input, out, judge, asked)
 }

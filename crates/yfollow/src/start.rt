@@ -54,6 +54,10 @@ pub trait Opens {
     /// file that can't be read.
     fn open<E: Write>(&self, errors: &mut E) -> io::Result<Result<Parse, u8>>;
 
+    /// Whether a path means one of the files, which then isn't written over. A tokens file isn't
+    /// guarded: tokens may be written over those that they come from.
+    fn guards(&self, path: &str) -> bool;
+
     /// The grammar file alone, opened once more.
     fn open_grammar<E: Write>(&self, errors: &mut E) -> io::Result<Result<Opened, u8>>;
 }

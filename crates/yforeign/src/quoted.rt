@@ -5,11 +5,12 @@ use ylexemes::bytes::{is_blank, is_name_byte, is_name_start};
 use ylexemes::literal::literal_at;
 
 /// How many bytes stand up to the closing quote, with both quotes. A backslash and the byte behind
-/// it belong together, and a newline ends the search.
+/// it belong together; so byacc reads on behind a newline with a backslash before it, and any other
+/// newline ends the search.
 fn quoted_length(bytes: &[u8], quote: u8) -> Result<usize, Flaw> {
     let mut escaped = false;
     for (at, b) in bytes.iter().enumerate().skip(1) {
-        if *b == b'\n' {
+        if *b == b'\n' && !escaped {
             break;
         }
         if !escaped && *b == quote {

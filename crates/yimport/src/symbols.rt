@@ -186,6 +186,22 @@ impl<'a> Work<'a> {
         self.edits.write(&name);
     }
 
+    /// A string without the ends of lines that have a backslash before them: byacc reads on behind
+    /// them, so one string is spelled with them and without.
+    fn unbroken(&mut self, text: &[u8]) -> Vec<u8> {
+        let mut whole = Vec::new(self.alloc);
+        let mut escaped = false;
+        for b in text {
+            if escaped && *b == b'\n' {
+                let _ = whole.pop();
+            } else {
+                self.edits.trouble.append(&mut whole, &[*b]);
+            }
+            escaped = !escaped && *b == b'\\';
+        }
+        whole
+    }
+
     /// Writes the token that a string is, and gives the reason.
     fn spell_text(&mut self, text: &Lexeme) -> Reason {
         if let Some(token) = self.survey.alias(self.source, text) {
@@ -194,8 +210,8 @@ impl<'a> Work<'a> {
             }
             return Reason::AliasUsed;
         }
-        let key = inside(self.source, text);
-        self.write_made(key);
+        let key = self.unbroken(inside(self.source, text));
+        self.write_made(&key);
         if key.len() == 1 {
             Reason::MadeSign
         } else {

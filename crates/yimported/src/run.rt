@@ -7,10 +7,11 @@ use crate::told::{
     put_equal, put_expected, put_notes, put_refused, put_unreadable, put_weighty_notes,
 };
 use std::alloc::Global;
-use std::fs;
-use std::io::{self, ErrorKind, Write};
+use std::io::{self, Write};
 use std::rt::Files;
 use yfaults::opening::{Opened, Trouble, grammar_bytes, put_trouble, put_unread};
+use yfiles::same::refused_output;
+use yfiles::writing::put_file;
 use ygrammar::{GrammarFault, LONGEST_FILE};
 use yimport::import::{Imported, import};
 use yimport::refusal;
@@ -116,23 +117,6 @@ fn try_out<E: Write>(
     }
 }
 
-/// Writes the text of an import to a file, and gives the exit status.
-fn save<F: Files + AllocGlobal, E: Write>(
-    rt: &F,
-    errors: &mut E,
-    path: &str,
-    text: &[u8],
-) -> io::Result<u8> {
-    match fs::write(rt, path, text) {
-        Ok(()) => Ok(0),
-        Err(error) if error.kind() == ErrorKind::OutOfMemory => Err(error),
-        Err(_) => {
-            writeln!(errors, "ydebug: cannot write {path}")?;
-            Ok(3)
-        }
-    }
-}
-
 /// Writes an import, with what is said of it, and gives the exit status.
 fn put_import<F: Files + AllocGlobal, W: Write, E: Write>(
     rt: &F,
@@ -146,7 +130,7 @@ fn put_import<F: Files + AllocGlobal, W: Write, E: Write>(
         return Ok(status);
     }
     match asked.output {
-        Some(path) => save(rt, errors, path, &imported.text),
+        Some(path) => put_file(rt, errors, path, &imported.text),
         None => {
             out.write_all(&imported.text)?;
             Ok(0)
@@ -196,13 +180,17 @@ fn import_bytes<F: Files + AllocGlobal, W: Write, E: Write>(
 }
 
 /// Writes what is asked for, with a line on `errors` for each change, and gives the exit status:
-/// 0; 1 where the file is refused; 3 where a file can't be read or written, or memory runs out.
+/// 0; 1 where the file is refused; 2 where the output is the file itself; 3 where a file can't be
+/// read or written, or memory runs out.
 pub fn run_import<F: Files + AllocGlobal, W: Write, E: Write>(
     rt: &F,
     asked: Asked<'_>,
     out: &mut W,
     errors: &mut E,
 ) -> io::Result<u8> {
+    if let Some(status) = refused_output(rt, asked.output, &[asked.file], errors)? {
+        return Ok(status);
+    }
     match grammar_bytes(rt, asked.file) {
         Ok(bytes) => import_bytes(rt, asked, out, errors, &bytes),
         Err(error) => put_unread(errors, asked.file, &error),

@@ -62,10 +62,10 @@ fn wrong_at(error: Error, at: usize) -> SpecFault {
     }
 }
 
-/// The expression of a line, which matches at the front alone.
-fn anchored(alloc: Global, rule: Rule<'_>) -> Result<Regex, SpecFault> {
+/// The expression of a line, with this behind it, which matches at the front alone.
+fn anchored(alloc: Global, rule: Rule<'_>, behind: &str) -> Result<Regex, SpecFault> {
     let expression = rule.expression;
-    let text = format!(in alloc; "^(?:{expression})")?;
+    let text = format!(in alloc; "^(?:{expression}{behind})")?;
     match Regex::new(alloc, &text) {
         Ok(regex) => Ok(regex),
         Err(Error::OutOfMemory) => Err(SpecFault::Memory),
@@ -73,6 +73,15 @@ fn anchored(alloc: Global, rule: Rule<'_>) -> Result<Regex, SpecFault> {
             rule.at,
             Wrong::Expression("the expression can't stand in a group"),
         )),
+    }
+}
+
+/// The expression of a line in a group. A comment at its end, which `(?x)` allows, would go over
+/// the end of the group, and a newline ends it.
+fn in_group(alloc: Global, rule: Rule<'_>) -> Result<Regex, SpecFault> {
+    match anchored(alloc, rule, "") {
+        Err(SpecFault::At(_, _)) => anchored(alloc, rule, "\n"),
+        found => found,
     }
 }
 
@@ -87,7 +96,7 @@ fn compiled(alloc: Global, rule: Rule<'_>) -> Result<Regex, SpecFault> {
     if let Err(error) = Regex::new(alloc, rule.expression) {
         return Err(wrong_at(error, rule.at));
     }
-    let regex = anchored(alloc, rule)?;
+    let regex = in_group(alloc, rule)?;
     if is_empty(alloc, &regex)? {
         return Err(SpecFault::At(rule.at, Wrong::Empty));
     }

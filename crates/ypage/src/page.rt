@@ -7,9 +7,10 @@ use crate::script::SCRIPT;
 use crate::style::STYLE;
 use crate::walk::{MOST_STEPS, Part, Trail, Walked, walk_part};
 use std::alloc::{AllocError, Global};
-use std::fs;
-use std::io::{self, ErrorKind, Write};
+use std::io::{self, Write};
 use std::rt::Files;
+use yfiles::same::refused_output;
+use yfiles::writing::put_file;
 use yfollow::{Opens, Parse};
 
 /// What is asked for: the page of the parse of a tokens file by a grammar file, where it goes, the
@@ -20,6 +21,8 @@ pub struct Asked<'a> {
     pub grammar: &'a str,
     /// The path of the tokens file.
     pub tokens: &'a str,
+    /// The path of the SPEC by which a text in its place is cut.
+    pub spec: Option<&'a str>,
     /// The path to which the page goes; `None` for standard output.
     pub file: Option<&'a str>,
     /// The positions that the page shows.
@@ -61,23 +64,18 @@ fn page_of(alloc: Global, shown: Shown<'_>) -> io::Result<Vec<u8>> {
 }
 
 /// Writes a page to where it is wanted, and gives the exit status.
-fn write_page<F: Files, W: Write, E: Write>(
+fn write_page<F: Files + AllocGlobal, W: Write, E: Write>(
     rt: &F,
     file: Option<&str>,
     page: &[u8],
     out: &mut W,
     errors: &mut E,
 ) -> io::Result<u8> {
-    let Some(path) = file else {
-        out.write_all(page)?;
-        return Ok(0);
-    };
-    match fs::write(rt, path, page) {
-        Ok(()) => Ok(0),
-        Err(error) if error.kind() == ErrorKind::OutOfMemory => Err(error),
-        Err(_) => {
-            writeln!(errors, "ydebug: cannot write {path}")?;
-            Ok(3)
+    match file {
+        Some(path) => put_file(rt, errors, path, page),
+        None => {
+            out.write_all(page)?;
+            Ok(0)
         }
     }
 }
@@ -189,8 +187,8 @@ fn open_parse<F: Files + AllocGlobal, S: Opens, W: Write, E: Write>(
 
 /// Writes the page that is asked for, and gives the exit status: 0; 1 where a file is refused,
 /// there are more steps than a page shows, or the parse ends before the part; 2 where the part
-/// ends before it begins; 3 where a file can't be read or written, there are too many states, or
-/// memory runs out.
+/// ends before it begins, or the page would go to an input; 3 where a file can't be read or
+/// written, there are too many states, or memory runs out.
 pub fn run_page<F: Files + AllocGlobal, S: Opens, W: Write, E: Write>(
     rt: &F,
     source: &S,
@@ -198,6 +196,14 @@ pub fn run_page<F: Files + AllocGlobal, S: Opens, W: Write, E: Write>(
     out: &mut W,
     errors: &mut E,
 ) -> io::Result<u8> {
+    let inputs = [
+        asked.grammar,
+        asked.tokens,
+        asked.spec.unwrap_or(asked.grammar),
+    ];
+    if let Some(status) = refused_output(rt, asked.file, &inputs, errors)? {
+        return Ok(status);
+    }
     let from = asked.part.from;
     match asked.part.to {
         Some(to) if to < from => {

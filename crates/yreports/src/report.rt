@@ -45,13 +45,14 @@ struct Report<'a, W, F> {
 }
 
 impl<W: Write, F: Files + AllocGlobal + Clone + Drop> Report<'_, W, F> {
-    /// Writes the conflicts of the first kinds, with their lists.
+    /// Writes the conflicts of the first kinds, with their lists, as long as there are steps to
+    /// seek them, and says how many kinds these are.
     fn put_groups(
         &mut self,
         finder: &mut Finder,
         session: &mut Session,
         found: &Conflicts,
-    ) -> io::Result<()> {
+    ) -> io::Result<usize> {
         let mut number: usize = 0;
         let mut seeker = Seeker {
             alloc: self.alloc,
@@ -61,10 +62,13 @@ impl<W: Write, F: Files + AllocGlobal + Clone + Drop> Report<'_, W, F> {
             steps_for_others: ALL_STEPS,
         };
         for (kind, group) in found.groups.iter().take(MOST_GROUPS) {
+            if !seeker.finder.has_steps() {
+                break;
+            }
             number = number.saturating_add(1);
             self.put_kind(&mut seeker, number, kind, *group)?;
         }
-        Ok(())
+        Ok(number)
     }
 
     /// Writes a kind of conflict, with the lists that are found for it.
@@ -125,24 +129,29 @@ impl<W: Write, F: Files + AllocGlobal + Clone + Drop> Report<'_, W, F> {
         self.page.checked()
     }
 
-    /// Names the kinds for which no lists are made.
-    fn put_rest(&mut self, tables: &Tables, found: &Conflicts) {
-        let rest = found.groups.len().saturating_sub(MOST_GROUPS);
+    /// Names the kinds for which no lists are made: those behind so many.
+    fn put_rest(&mut self, tables: &Tables, found: &Conflicts, first: usize) {
+        let rest = found.groups.len().saturating_sub(first);
         if rest > 0 {
             self.page.end();
             self.page.count(rest, "kind", "kinds");
-            self.page.line(" more, without lists of tokens:");
-            put_named(self.page, tables, self.lines, found, MOST_GROUPS);
+            self.page.line(if first < MOST_GROUPS {
+                " more; the search for their lists of tokens would take too long:"
+            } else {
+                " more, without lists of tokens:"
+            });
+            put_named(self.page, tables, self.lines, found, first);
         }
     }
 }
 
-/// Writes the conflicts of the first kinds, with lists of tokens.
+/// Writes the conflicts of the first kinds, with lists of tokens, and says how many kinds these
+/// are.
 fn put_first<W: Write, F: Files + AllocGlobal + Clone + Drop>(
     report: &mut Report<'_, W, F>,
     session: &mut Session,
     found: &Conflicts,
-) -> io::Result<()> {
+) -> io::Result<usize> {
     let mut finder = Finder::new(report.alloc, session.tables().automaton())?;
     report.put_groups(&mut finder, session, found)
 }
@@ -159,8 +168,8 @@ fn put_found<W: Write, F: Files + AllocGlobal + Clone + Drop>(
         return Ok(());
     }
     report.folder.make()?;
-    put_first(report, session, found)?;
-    report.put_rest(session.tables(), found);
+    let first = put_first(report, session, found)?;
+    report.put_rest(session.tables(), found, first);
     Ok(())
 }
 
@@ -192,6 +201,7 @@ fn put_lists<'a, W: Write, F: Files + AllocGlobal + Clone + Drop>(
         folder: Folder {
             rt,
             path: asked.save,
+            grammar: asked.grammar,
             failed: None,
         },
     };

@@ -5,6 +5,8 @@ use std::fs::{self, DirEntry};
 use std::io::{self, ErrorKind, Write};
 use std::rt::Files;
 use yexplain::text::{Name, Names};
+use yfiles::same::is_same_file;
+use yfiles::writing::write_over;
 use yshow::page::Page;
 use ysymbols::{Grammar, Sym};
 
@@ -15,6 +17,8 @@ pub struct Folder<'a, F> {
     pub rt: &'a F,
     /// The path of the folder.
     pub path: Option<&'a str>,
+    /// The path of the grammar file, which is neither removed nor written over.
+    pub grammar: &'a str,
     /// What couldn't be written; nothing is kept behind that.
     pub failed: Option<String>,
 }
@@ -78,10 +82,16 @@ fn is_of_list(name: &str) -> bool {
 
 /// Removes a file of a folder, where its name is that of a list, and says whether that was done
 /// where it had to be.
-fn is_cleared<F: Files + Drop>(rt: &F, entry: io::Result<DirEntry<F, Global>>) -> io::Result<bool> {
+fn is_cleared<F: Files + Drop>(
+    rt: &F,
+    grammar: &str,
+    entry: io::Result<DirEntry<F, Global>>,
+) -> io::Result<bool> {
     match entry {
         Ok(entry) if is_of_list(entry.file_name()) => {
-            is_written(fs::remove_file(rt, entry.path()))
+            let path = entry.path();
+            let is_free = !is_same_file(rt, path.as_str(), grammar);
+            Ok(is_free && is_written(fs::remove_file(rt, path))?)
         }
         Err(error) if error.kind() == ErrorKind::OutOfMemory => Err(error),
         _ => Ok(true),
@@ -90,7 +100,11 @@ fn is_cleared<F: Files + Drop>(rt: &F, entry: io::Result<DirEntry<F, Global>>) -
 
 /// Removes the lists that stand in a folder, and says whether that was done; a folder that isn't
 /// there has none.
-fn are_cleared<F: Files + AllocGlobal + Clone + Drop>(rt: &F, path: &str) -> io::Result<bool> {
+fn are_cleared<F: Files + AllocGlobal + Clone + Drop>(
+    rt: &F,
+    grammar: &str,
+    path: &str,
+) -> io::Result<bool> {
     let entries = match fs::read_dir(rt, path) {
         Ok(entries) => entries,
         Err(error) => match error.kind() {
@@ -101,7 +115,7 @@ fn are_cleared<F: Files + AllocGlobal + Clone + Drop>(rt: &F, path: &str) -> io:
     };
     let mut are_cleared = true;
     for entry in entries {
-        are_cleared = is_cleared(rt, entry)? && are_cleared;
+        are_cleared = is_cleared(rt, grammar, entry)? && are_cleared;
     }
     Ok(are_cleared)
 }
@@ -113,7 +127,7 @@ impl<F: Files + AllocGlobal + Clone + Drop> Folder<'_, F> {
         let Some(path) = self.path else {
             return Ok(());
         };
-        if !are_cleared(self.rt, path)? {
+        if !are_cleared(self.rt, self.grammar, path)? {
             self.failed = Some(String::from_str(self.rt.alloc(), path)?);
         }
         Ok(())
@@ -165,6 +179,6 @@ impl<F: Files + AllocGlobal + Clone + Drop> Folder<'_, F> {
         let alloc: Global = self.rt.alloc();
         let mut text = Vec::new(alloc);
         put_tokens(&mut text, grammar, tokens, last)?;
-        is_written(fs::write(self.rt, path, unspaced(&text)))
+        is_written(write_over(self.rt, path, unspaced(&text)))
     }
 }

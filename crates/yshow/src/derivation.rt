@@ -11,6 +11,10 @@ use ysymbols::{Grammar, Sym};
 
 /// How many nodes a parse has at most: no step makes more than one.
 const MOST_NODES: usize = 1_000_000;
+
+/// What is written for a form without a symbol.
+const EMPTY: &str = " (empty)";
+
 /// How many forms are written unless all are asked for.
 pub const SOME_FORMS: usize = 100;
 
@@ -97,10 +101,23 @@ impl<'a> Form<'a> {
         }
     }
 
+    /// How many bytes it takes.
+    fn width(&self, grammar: &Grammar) -> u64 {
+        let roots = self
+            .trees
+            .iter()
+            .map(|tree| symbol_of(grammar, tree.node()));
+        let mut width: u64 = 0;
+        for symbol in roots.chain(self.tokens.iter().copied()) {
+            width = width.saturating_add(width_of(grammar, symbol));
+        }
+        width
+    }
+
     /// Writes the form.
     fn put<W: Write>(&self, page: &mut Page<W>, grammar: &Grammar) {
         if self.trees.is_empty() && self.tokens.is_empty() {
-            page.line(" (empty)");
+            page.line(EMPTY);
             return;
         }
         for tree in &self.trees {
@@ -113,6 +130,57 @@ impl<'a> Form<'a> {
         }
         page.end();
     }
+}
+
+/// How many bytes a symbol takes in a form.
+fn width_of(grammar: &Grammar, symbol: Sym) -> u64 {
+    (name_of(grammar, symbol).len() as u64).saturating_add(1)
+}
+
+/// How many bytes the children of a tree take in a form.
+fn width_of_children(grammar: &Grammar, tree: &TreeView<'_>) -> u64 {
+    let mut width: u64 = 0;
+    for index in 0..tree.children() {
+        if let Some(child) = child_of(tree, index) {
+            width = width.saturating_add(width_of(grammar, symbol_of(grammar, child.node())));
+        }
+    }
+    width
+}
+
+/// How many bytes a line takes for a form of so many.
+fn line_of(width: u64) -> u64 {
+    match width {
+        0 => EMPTY.len() as u64 + 1,
+        _ => width.saturating_add(1),
+    }
+}
+
+/// How many bytes all forms take, from one that takes so many on.
+fn size_of_forms(grammar: &Grammar, form: &mut Form<'_>, first: u64) -> Result<u64, AllocError> {
+    let mut width = first;
+    let mut size = line_of(width);
+    for _ in 0..=MOST_NODES {
+        let Some(tree) = form.trees.pop() else {
+            break;
+        };
+        if let TreeNode::Rule(_) = tree.node() {
+            width = width
+                .saturating_sub(width_of(grammar, symbol_of(grammar, tree.node())))
+                .saturating_add(width_of_children(grammar, &tree));
+            size = size.saturating_add(line_of(width));
+            form.open(&tree)?;
+        }
+    }
+    Ok(size)
+}
+
+/// How many bytes all forms take.
+pub fn size_of_derivation(alloc: Global, session: &Session) -> Result<u64, AllocError> {
+    let grammar = grammar_of(session.tables());
+    let mut form = Form::now(alloc, session)?;
+    let width = form.width(grammar);
+    size_of_forms(grammar, &mut form, width)
 }
 
 /// The further forms, at most so many, up to a fault of the page.

@@ -10,9 +10,10 @@ use yexplain::reads::grammar_of;
 use yexplain::text::Name;
 use yfaults::opening::Opened;
 use yfaults::shown::Place;
+use yfiles::reading::Limited;
 use yfollow::check::{
-    Check, Said, bytes_of, put_accepted, put_choice, put_limit, put_memory, put_unread, put_wanted,
-    run_check, wanted_after,
+    Check, Said, bytes_of, put_accepted, put_choice, put_limit, put_long, put_memory, put_unread,
+    put_wanted, run_check, wanted_after,
 };
 use yfollow::expected::Wanted;
 use ylalr::END;
@@ -33,6 +34,8 @@ pub struct Asked<'a> {
     pub spec: Option<&'a str>,
     /// Whether to say if the grammar is free of choices.
     pub choice: bool,
+    /// The most bytes of an input.
+    pub most: u64,
 }
 
 /// Texts that are judged, each cut into the same list of tokens.
@@ -41,6 +44,7 @@ struct Texts<'a, F, R, W> {
     rt: &'a F,
     tables: &'a Tables,
     paths: &'a [&'a str],
+    most: u64,
     lexed: &'a mut Lexed,
     input: &'a mut R,
     out: &'a mut W,
@@ -132,8 +136,10 @@ impl<F: Files + AllocGlobal, R: Read, W: Write> Texts<'_, F, R, W> {
 
     /// Writes the verdict on a text.
     fn put_file(&mut self, lexer: &mut Lexer<'_>, path: &str) -> io::Result<Said> {
-        match bytes_of(self.rt, self.input, path) {
-            Ok(bytes) => self.put_text(lexer, path, &bytes),
+        let most = self.most;
+        match bytes_of(self.rt, self.input, Limited { path, most }) {
+            Ok(Some(bytes)) => self.put_text(lexer, path, &bytes),
+            Ok(None) => put_long(self.rt, self.out, Limited { path, most }),
             Err(error) => put_unread(self.out, path, &error),
         }
     }
@@ -171,6 +177,7 @@ fn check_texts<'a, F: Files + AllocGlobal, R: Read, W: Write, E: Write>(
         rt,
         tables: &opened.tables,
         paths: asked.inputs,
+        most: asked.most,
         lexed: &mut lexed,
         input,
         out,
@@ -193,6 +200,7 @@ fn check_opened<F: Files + AllocGlobal, R: Read, W: Write, E: Write>(
                 grammar: asked.grammar.path,
                 tokens: asked.inputs,
                 choice: asked.choice,
+                most: asked.most,
             };
             run_check(rt, check, &opened.tables, input, out)
         }

@@ -4,10 +4,10 @@ use crate::grammars::SpecFile;
 use crate::reading::{Uses, with_lexer};
 use crate::told::put_text_fault;
 use std::alloc::Global;
-use std::fs;
 use std::io::{self, Write};
 use std::rt::Files;
 use yfaults::opening::{Opened, put_unread};
+use yfiles::reading::Limited;
 use ylex::lexer::{Lexed, Lexer};
 
 /// A text, and its tokens.
@@ -36,7 +36,7 @@ impl Cut {
 #[derive(Drop)]
 struct Cutting<'a, F> {
     rt: &'a F,
-    path: &'a str,
+    input: Limited<'a>,
     cut: &'a mut Cut,
 }
 
@@ -55,12 +55,13 @@ fn cut_text<E: Write>(
 
 impl<F: Files + AllocGlobal> Uses for Cutting<'_, F> {
     fn use_lexer<E: Write>(&mut self, lexer: &mut Lexer<'_>, errors: &mut E) -> io::Result<u8> {
-        match fs::read(self.rt, self.path) {
-            Ok(bytes) => {
+        match self.input.bytes(self.rt) {
+            Ok(Some(bytes)) => {
                 self.cut.bytes = bytes;
-                cut_text(lexer, self.path, self.cut, errors)
+                cut_text(lexer, self.input.path, self.cut, errors)
             }
-            Err(error) => put_unread(errors, self.path, &error),
+            Ok(None) => self.input.put_long_input(self.rt, errors).map(|()| 1),
+            Err(error) => put_unread(errors, self.input.path, &error),
         }
     }
 }
@@ -71,10 +72,10 @@ pub fn cut_file<F: Files + AllocGlobal, E: Write>(
     rt: &F,
     opened: &Opened,
     spec: SpecFile<'_>,
-    path: &str,
+    input: Limited<'_>,
     cut: &mut Cut,
     errors: &mut E,
 ) -> io::Result<u8> {
-    let mut cutting = Cutting { rt, path, cut };
+    let mut cutting = Cutting { rt, input, cut };
     with_lexer(rt, opened, spec, &mut cutting, errors)
 }

@@ -4,11 +4,11 @@ use crate::grammars::{SpecFile, used_in};
 use crate::told::{put_spec_fault, put_ungiven};
 use regex::bytes::Regex;
 use std::alloc::{AllocError, Global};
-use std::fs;
 use std::io::{self, ErrorKind, Write};
 use std::rt::Files;
 use yexplain::reads::grammar_of;
 use yfaults::opening::{Opened, put_unread};
+use yfiles::reading::{LONGEST_SPEC, Limited};
 use ylex::lexer::{Lexer, compile};
 use ylex::spec::{Spec, needs_line, read_spec};
 use ysymbols::{Grammar, Sym};
@@ -88,8 +88,12 @@ pub fn with_lexer<F: Files + AllocGlobal, U: Uses, E: Write>(
     user: &mut U,
     errors: &mut E,
 ) -> io::Result<u8> {
-    match fs::read(rt, file.path) {
-        Ok(bytes) => {
+    let spec = Limited {
+        path: file.path,
+        most: LONGEST_SPEC,
+    };
+    match spec.bytes(rt) {
+        Ok(Some(bytes)) => {
             let given = Given {
                 alloc: rt.alloc(),
                 opened,
@@ -98,6 +102,7 @@ pub fn with_lexer<F: Files + AllocGlobal, U: Uses, E: Write>(
             };
             given.use_bytes(user, errors)
         }
+        Ok(None) => spec.put_long(rt, errors).map(|()| 1),
         Err(error) => put_unread(errors, file.path, &error),
     }
 }

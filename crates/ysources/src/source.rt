@@ -3,10 +3,11 @@
 use crate::cut::{Cut, cut_file};
 use crate::grammars::{GrammarFile, SpecFile, open_file};
 use std::alloc::Global;
-use std::fs;
 use std::io::{self, ErrorKind, Write};
 use std::rt::Files;
 use yfaults::opening::{Opened, put_unread};
+use yfiles::reading::Limited;
+use yfiles::same::is_same_file;
 use yfollow::Parse;
 use yfollow::source::Text;
 use yfollow::start::{Opens, parse_over};
@@ -21,8 +22,8 @@ pub struct Source<'a, F> {
     pub rt: &'a F,
     /// The grammar file.
     pub grammar: GrammarFile<'a>,
-    /// The path of the input.
-    pub input: &'a str,
+    /// The input.
+    pub input: Limited<'a>,
     /// The path of the SPEC by which the input is cut; without one, it is a tokens file.
     pub spec: Option<&'a str>,
 }
@@ -78,7 +79,7 @@ impl<F: Files + AllocGlobal> Source<'_, F> {
         cut: &mut Cut,
         errors: &mut E,
     ) -> io::Result<u8> {
-        cut.path.push_str(self.input)?;
+        cut.path.push_str(self.input.path)?;
         let file = SpecFile {
             path: spec,
             grammar: self.grammar.path,
@@ -110,13 +111,16 @@ impl<F: Files + AllocGlobal> Source<'_, F> {
         opened: Opened,
         errors: &mut E,
     ) -> io::Result<Result<Parse, u8>> {
-        match fs::read(self.rt, self.input) {
-            Ok(bytes) => parse_over(self.rt.alloc(), opened, self.input, &bytes, errors),
-            Err(error) => {
-                drop(opened);
-                put_unread(errors, self.input, &error).map(Err)
+        let path = self.input.path;
+        let status = match self.input.bytes(self.rt) {
+            Ok(Some(bytes)) => {
+                return parse_over(self.rt.alloc(), opened, path, &bytes, errors);
             }
-        }
+            Ok(None) => self.input.put_long_input(self.rt, errors).map(|()| 1),
+            Err(error) => put_unread(errors, path, &error),
+        };
+        drop(opened);
+        status.map(Err)
     }
 
     /// A parse of the input, by a grammar that is open.
@@ -137,6 +141,16 @@ impl<F: Files + AllocGlobal> Opens for Source<'_, F> {
         match open_file(self.rt, self.grammar, errors)? {
             Ok(opened) => self.open_input(opened, errors),
             Err(status) => Ok(Err(status)),
+        }
+    }
+
+    fn guards(&self, path: &str) -> bool {
+        let is_same = |other: &str| is_same_file(self.rt, path, other);
+        match self.spec {
+            Some(spec) => {
+                is_same(self.grammar.path) || is_same(spec) || is_same(self.input.path)
+            }
+            None => is_same(self.grammar.path),
         }
     }
 

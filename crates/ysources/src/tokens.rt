@@ -7,6 +7,7 @@ use std::rt::Files;
 use yexplain::reads::grammar_of;
 use yexplain::text::Name;
 use yfaults::opening::Opened;
+use yfiles::reading::Limited;
 use ysymbols::Grammar;
 
 /// Writes as many newlines as stand between two tokens, or a space where none does.
@@ -44,10 +45,10 @@ fn put_file<F: Files + AllocGlobal, W: Write, E: Write>(
     errors: &mut E,
     opened: &Opened,
     spec: SpecFile<'_>,
-    path: &str,
+    input: Limited<'_>,
 ) -> io::Result<u8> {
     let mut cut = Cut::new(rt.alloc());
-    let status = cut_file(rt, opened, spec, path, &mut cut, errors)?;
+    let status = cut_file(rt, opened, spec, input, &mut cut, errors)?;
     if status == 0 {
         put_tokens(out, grammar_of(&opened.tables), &cut)?;
     }
@@ -60,12 +61,12 @@ struct Cutting<'a, F, W> {
     rt: &'a F,
     out: &'a mut W,
     spec: SpecFile<'a>,
-    path: &'a str,
+    input: Limited<'a>,
 }
 
 impl<F: Files + AllocGlobal, W: Write> UsesGrammar for Cutting<'_, F, W> {
     fn use_grammar<E: Write>(&mut self, opened: &Opened, errors: &mut E) -> io::Result<u8> {
-        put_file(self.rt, self.out, errors, opened, self.spec, self.path)
+        put_file(self.rt, self.out, errors, opened, self.spec, self.input)
     }
 }
 
@@ -74,7 +75,7 @@ impl<F: Files + AllocGlobal, W: Write> UsesGrammar for Cutting<'_, F, W> {
 pub fn run_tokens<'a, F: Files + AllocGlobal, W: Write, E: Write>(
     rt: &'a F,
     file: GrammarFile<'a>,
-    (spec, path): (&'a str, &'a str),
+    (spec, input): (&'a str, Limited<'a>),
     out: &'a mut W,
     errors: &mut E,
 ) -> io::Result<u8> {
@@ -86,7 +87,7 @@ pub fn run_tokens<'a, F: Files + AllocGlobal, W: Write, E: Write>(
         rt,
         out,
         spec,
-        path,
+        input,
     };
     with_grammar(rt, file, &mut cutting, errors)
 }

@@ -3,7 +3,7 @@
 use crate::grammars::SpecFile;
 use std::io::{self, ErrorKind, Write};
 use yexplain::lines::Lines;
-use yexplain::text::Name;
+use yexplain::text::{Escaped, Name};
 use yfaults::shown::Place;
 use ylex::fault::{SpecFault, TextFault, Wrong};
 use ysymbols::{Grammar, Sym};
@@ -68,18 +68,13 @@ fn shown_at(source: &[u8], at: usize) -> &[u8] {
     rest.get(..end).unwrap_or(rest)
 }
 
-/// Writes the bytes at the front, those that aren't printed as hexadecimal digits.
+/// Writes the bytes at the front.
 fn put_bytes<W: Write>(out: &mut W, bytes: &[u8]) -> io::Result<()> {
-    for byte in bytes.iter().take(MOST_BYTES) {
-        if byte.is_ascii_graphic() || *byte == b' ' {
-            let shown = char::from(*byte);
-            write!(out, "{shown}")?;
-        } else {
-            write!(out, "\\x{byte:02x}")?;
-        }
-    }
-    let more = if bytes.len() > MOST_BYTES { ".." } else { "" };
-    writeln!(out, "{more}")
+    let (shown, more) = match bytes.get(..MOST_BYTES) {
+        Some(front) if bytes.len() > MOST_BYTES => (Escaped(front), ".."),
+        _ => (Escaped(bytes), ""),
+    };
+    writeln!(out, "{shown}{more}")
 }
 
 /// Writes why a text of these bytes isn't cut into tokens, and gives the exit status.

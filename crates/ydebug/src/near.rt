@@ -1,0 +1,77 @@
+//! What could be meant by words that are no command and no option.
+
+use crate::forms::{BY_WORD, Form, words_of};
+use std::alloc::{AllocError, Global};
+use std::fs;
+use std::io::{self, Write};
+use std::rt::Files;
+use ycommands::words::{Nearest, near_in};
+
+/// The option of a form that is near to a name, where that isn't one itself.
+fn near_option<'a>(
+    alloc: Global,
+    form: Form,
+    name: &'a str,
+) -> Result<Option<&'a str>, AllocError> {
+    let mut nearest = Nearest::new(name);
+    for option in words_of(form).iter().filter_map(|word| word.option()) {
+        if option == name {
+            return Ok(None);
+        }
+        nearest.offer(alloc, option)?;
+    }
+    Ok(nearest.best())
+}
+
+/// Asks whether another option was meant by a word, where it begins as one.
+fn put_near_option<W: Write>(alloc: Global, out: &mut W, form: Form, word: &str) -> io::Result<()> {
+    let name = word.strip_prefix("--").unwrap_or("");
+    let name = name.split('=').next().unwrap_or(name);
+    match near_option(alloc, form, name)? {
+        Some(near) => {
+            writeln!(
+                out,
+                "ydebug: there is no option --{name}; did you mean --{near}?"
+            )
+        }
+        None => Ok(()),
+    }
+}
+
+/// Whether a word is the path of a file, or is spelled as no command can be.
+fn is_path<F: Files>(rt: &F, word: &str) -> bool {
+    word.contains('/') || fs::metadata(rt, word).is_ok()
+}
+
+/// Asks whether a command was meant by the first word of a session, where that is no file.
+pub fn put_near_form<F: Files + AllocGlobal, W: Write>(
+    rt: &F,
+    out: &mut W,
+    word: &str,
+) -> io::Result<()> {
+    match near_in(rt.alloc(), &BY_WORD, word)? {
+        Some(near) if !is_path(rt, word) => {
+            writeln!(
+                out,
+                "ydebug: there is no command {word}; did you mean {near}?"
+            )
+        }
+        _ => Ok(()),
+    }
+}
+
+/// Asks whether other words were meant by those of a form, which are refused.
+pub fn put_near_words<F: Files + AllocGlobal, W: Write>(
+    rt: &F,
+    out: &mut W,
+    form: Form,
+    words: &[&str],
+) -> io::Result<()> {
+    if let (Form::Debug, Some(first)) = (form, words.first()) {
+        put_near_form(rt, out, first)?;
+    }
+    for word in words {
+        put_near_option(rt.alloc(), out, form, word)?;
+    }
+    Ok(())
+}

@@ -1,0 +1,3 @@
+%token A
+%%
+list : A | list A ;

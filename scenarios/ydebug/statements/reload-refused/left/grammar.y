@@ -1,1 +1,0 @@
-IF '(' ID '<' NUM ')' IF '(' ID ')' RETURN NUM ';' ELSE ID '=' NUM ';'
