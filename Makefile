@@ -12,7 +12,7 @@
 # make install    copies programs, manual pages, drivers and books below PREFIX (/usr/local), and with DESTDIR below that; make build comes first
 # make uninstall  takes the same files away
 # make dist       packs what git has of this state into bin/; VERSION=1.0 names it
-# make imports    imports grammars of some source packages of Debian, by the programs that make build left, and compares their tables with bison's; FILES="a.y b.y" or PACKAGES="bash" names others. It takes bison and a network
+# make imports    imports grammars drawn at random, for a minute, and those of some source packages of Debian, by the programs that make build left, and compares their tables with bison's; FILES="a.y b.y" or PACKAGES="bash" names others. It takes bison and a network
 # make hostile    runs both programs, proved, between devices that fail and on files and streams that are no one's friends
 # make edits      tries every wrong body that the prover must refuse, also those that the gate leaves out; some 40 minutes
 # make test       the gate: every proof from nothing, the wrong bodies in must-fail, the tests, the stored runs, the scenarios, make hostile, make refuse over three examples
@@ -111,6 +111,7 @@ dist:
 	@mkdir -p bin
 	@git archive --prefix=ydriver-$(VERSION)/ -o bin/ydriver-$(VERSION).tar.gz HEAD
 imports:
+	@python3 compare/cells.py bin/ydebug
 	@python3 compare/imports.py bin/ydebug bin/yacc $(FILES) $(PACKAGES)
 
 hostile: build

@@ -132,12 +132,12 @@ class State:
         found = list(actions.iterfind("transitions/transition"))
         self.ways = {it.get("symbol"): int(it.get("state")) for it in found}
         self.errors = {it.get("symbol") for it in actions.iterfind("errors/error")}
-        self.reductions, self.lost = {}, set()
+        self.reductions, self.lost = {}, Counter()
         for it in actions.iterfind("reductions/reduction"):
             if it.get("enabled") == "true":
                 self.reductions[it.get("symbol")] = it.get("rule")
             else:
-                self.lost.add(it.get("symbol"))
+                self.lost[it.get("symbol")] += 1
 
 
 def bison_of(path, folder):
@@ -190,9 +190,10 @@ class Comparison:
             if self.deed(state, name, accepts) != wanted:
                 self.deeds.append((ours, name))
             is_shifted = name == self.end and name in bison.ways and not accepts
-            lost = name in bison.lost
+            # Where the token is forbidden, one rule that is left is no conflict.
+            lost = bison.lost[name] > (name in bison.errors)
             if is_shifted and not lost:
-                lost = self.end in self.states[bison.ways[name]].lost
+                lost = self.states[bison.ways[name]].lost[self.end] > 0
             elif is_shifted:
                 self.conflicts.append((ours, name))
             if lost != counts:

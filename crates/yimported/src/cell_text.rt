@@ -75,7 +75,7 @@ impl<'a> CellText<'a> {
         write!(
             out,
             "refused: {name} in state {state}: {} {} wins against the shift, and bison compares no \
-             rule after it: ",
+             rule after it; ",
             self.numbered(winner),
             self.text(winner)
         )?;
