@@ -3,8 +3,10 @@
 #![tactic(auto)]
 
 pub mod cells;
+mod hints;
 pub mod lines;
 pub mod reads;
 pub mod roles;
+pub mod supposed;
 pub mod text;
 pub mod why;

@@ -178,7 +178,10 @@ impl<'a> CellText<'a> {
 pub fn put_cells<W: Write>(out: &mut W, path: &str, found: &Compared) -> io::Result<()> {
     if found.conflicts > 1 {
         let more = found.conflicts.saturating_sub(1);
-        writeln!(out, "{path}: cells more with conflicts that aren't those of bison: {more}")?;
+        writeln!(
+            out,
+            "{path}: cells more with conflicts that aren't those of bison: {more}"
+        )?;
     }
     if found.cut > 0 {
         let cut = found.cut;

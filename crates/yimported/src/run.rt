@@ -4,9 +4,7 @@ use crate::cell_text::{CellText, put_cells};
 use crate::compared::{Compared, Other};
 use crate::opening::open_bytes;
 use crate::peer::Peer;
-use crate::told::{
-    Source, Telling, put_expected, put_notes, put_refused, put_unreadable,
-};
+use crate::told::{Source, Telling, put_expected, put_notes, put_refused, put_unreadable};
 use std::alloc::{AllocError, Global};
 use std::fs;
 use std::io::{self, ErrorKind, Write};

@@ -112,11 +112,7 @@ pub fn put_notes<W: Write>(
 }
 
 /// Writes why a file is refused.
-pub fn put_refused<W: Write>(
-    out: &mut W,
-    source: Source<'_>,
-    refused: Refused,
-) -> io::Result<()> {
+pub fn put_refused<W: Write>(out: &mut W, source: Source<'_>, refused: Refused) -> io::Result<()> {
     let text = shown(source.bytes, refused.from, refused.to);
     put_place(out, source.path, refused.line, text)?;
     let why = refused.refusal.text();
