@@ -7,7 +7,7 @@
 # make refuse     refuses allocations of a run, each once and each with all behind it, on every example and some scenarios; FILES="a.y b.y" refuses some thousands over these grammar files instead
 # make debug      refuses the allocations of twelve sessions and eight commands of ydebug in turn, gives it 100,000 random command lines over random grammars, and shows its screens at a terminal, which needs tmux
 # make page-test  steps through the pages of every example in a browser without a window, which apt-get installs where it is missing, and compares them with ystep; keeps pictures in screenshots/
-# make compare    compares the programs that make build left with plain machines in Python, on grammars drawn at random, for a minute, verdicts with sessions over every scenario, and texts with a lexer in Python, for a minute; FILES="a.y b.y" adds these, cut off and spoiled, with a second reader
+# make compare    compares the programs that make build left with plain machines in Python, on grammars drawn at random, for a minute, verdicts with sessions over every scenario, texts with a lexer in Python, and what hints and warnings on conflicts say with changed grammars, for a minute each; FILES="a.y b.y" adds these, cut off and spoiled, with a second reader
 # make drivers    builds the drivers in C and Python, and compares their steps with those of ystep, over scenarios, at random and by tables that are wrong
 # make install    copies programs, manual pages, drivers and books below PREFIX (/usr/local), and with DESTDIR below that; make build comes first
 # make uninstall  takes the same files away
@@ -61,6 +61,7 @@ compare:
 	@python3 compare/compare.py bin/yacc bin/ystep
 	@python3 compare/verdicts.py bin/verdicts bin/ystep
 	@python3 compare/texts.py bin/ydebug
+	@python3 compare/hints.py bin/ydebug
 	@$(if $(FILES),python3 compare/faults.py bin/ystep $(FILES),true)
 
 bin/libydriver.a: drivers/c/ydriver.c drivers/c/ydriver.h

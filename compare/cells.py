@@ -28,13 +28,14 @@ from tables import Tables
 COUNTED = re.compile(r"(shift|reduce)/reduce conflicts, as bison counts them: (\d+)")
 STAY, MAY_NOT = "; language and conflicts stay", "; the language stays"
 LEVELS = ["left", "right", "nonassoc", "precedence"]
+EXPECTED = ["%expect 99999", "%expect-rr 99999"]
 
 
 class Draw:
     """A file for bison, and the grammar that it becomes."""
 
-    def __init__(self, rng):
-        self.rng = rng
+    def __init__(self, rng, kinds=LEVELS):
+        self.rng, self.kinds = rng, kinds
         self.tokens = ["A", "B", "C", "D"][: rng.randint(2, 4)]
         self.lows = ["LOW", "HIGH"][: rng.randint(0, 2)]
         self.lefts = ["s", "r", "t", "u", "v"][: rng.randint(2, 5)]
@@ -46,7 +47,7 @@ class Draw:
         free = self.tokens + self.lows
         self.rng.shuffle(free)
         while free and len(self.levels) < 4:
-            kind = self.rng.choice(LEVELS)
+            kind = self.rng.choice(self.kinds)
             listed, free = free[:2], free[2:]
             listed = listed[: self.rng.randint(1, 2)]
             self.levels.append((kind, listed))
@@ -72,8 +73,8 @@ class Draw:
                 self.rules.append((left, body, last, ends))
         return self
 
-    def text(self):
-        lines = ["%expect 99999", "%expect-rr 99999", "%token " + " ".join(self.tokens + self.lows)]
+    def text(self, *head):
+        lines = [*head, "%token " + " ".join(self.tokens + self.lows)]
         lines += ["%token END 0"] * self.has_end
         lines += ["%" + " ".join([kind, *listed]) for kind, listed in self.levels]
         lines.append("%%")
@@ -214,8 +215,7 @@ def counts_of(path, folder):
 
 def wanted_of(draw, folder):
     """What is to be said of a file: whether it is refused, whether conflicts stay, the counts."""
-    source = draw.text()
-    (folder / "bison.y").write_text(re.sub(r"%expect.*", "", source))
+    (folder / "bison.y").write_text(draw.text())
     found = Comparison(draw, bison_of("bison.y", folder))
     return bool(found.deeds), not found.conflicts, counts_of("bison.y", folder)
 
@@ -252,7 +252,7 @@ def main():
         folder = Path(room)
         while time.monotonic() < until:
             draw = drawn(rng)
-            (folder / "grammar.y").write_text(draw.text())
+            (folder / "grammar.y").write_text(draw.text(*EXPECTED))
             words = [os.path.abspath(ydebug), "import", "grammar.y"]
             ran = subprocess.run(words, cwd=folder, capture_output=True, text=True)
             wanted = wanted_of(draw, folder)
