@@ -6,6 +6,7 @@ pub mod cells;
 mod hints;
 pub mod lines;
 pub mod reads;
+mod rivals;
 pub mod roles;
 pub mod supposed;
 pub mod text;

@@ -1,9 +1,9 @@
 //! Why a cell says what it says: its candidates, what settled it, and how to choose otherwise.
 
 use crate::cells::{Case, Standing, Survey, reduces_at, standing_of, survey_at};
-use crate::hints::Hints;
 use crate::lines::Lines;
 use crate::reads::{action_of, default_of, items_of, next_of};
+use crate::rivals::Rivals;
 use crate::text::{ItemText, Name, Numbered, RuleText};
 use std::io::{self, Write};
 use ylalr::{END, Item};
@@ -230,7 +230,7 @@ impl<'a> Question<'a> {
     fn put_banned<W: Write>(self, out: &mut W) -> io::Result<()> {
         let name = self.name();
         writeln!(out, "  So {name} can't come here; nothing is counted.")?;
-        Hints::new(self).put_banned(out)
+        Rivals::new(self).put_banned(out)
     }
 
     fn put_beaten<W: Write>(self, out: &mut W, rule: usize, survey: Survey) -> io::Result<()> {
@@ -242,14 +242,14 @@ impl<'a> Question<'a> {
                 "  Of the rules that don't lose, the first in the file is taken: a conflict."
             )?;
         }
-        Hints::new(self).put_shift(out, survey.winner.unwrap_or(rule))
+        Rivals::new(self).put_shift(out, survey.winner.unwrap_or(rule))
     }
 
     fn put_kept<W: Write>(self, out: &mut W) -> io::Result<()> {
         let name = self.name();
         writeln!(out, "  So {name} is shifted; nothing is counted.")?;
         match self.items().iter().find(|item| self.reduces(**item)) {
-            Some(item) => Hints::new(self).put_reduce(out, item.rule),
+            Some(item) => Rivals::new(self).put_reduce(out, item.rule),
             None => Ok(()),
         }
     }
@@ -265,7 +265,7 @@ impl<'a> Question<'a> {
             "  So yacc {deed}: a conflict, counted once for each such rule."
         )?;
         match survey.least {
-            Some(rule) => Hints::new(self).put_advice(out, rule),
+            Some(rule) => Rivals::new(self).put_advice(out, rule),
             None => Ok(()),
         }
     }
