@@ -5,6 +5,7 @@
 pub mod cells;
 mod hints;
 pub mod lines;
+mod question;
 pub mod reads;
 mod rivals;
 pub mod roles;

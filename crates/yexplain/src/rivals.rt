@@ -2,10 +2,10 @@
 //! their lines may be put.
 
 use crate::lines::Lines;
+use crate::question::Question;
 use crate::reads::{level_of, rule_of};
 use crate::supposed::{BOTTOM, Deed, Supposed, TOP, line, place_of};
 use crate::text::Name;
-use crate::why::Question;
 use std::fmt;
 use ysymbols::{Associativity, Grammar, Precedence, Sym};
 
@@ -172,7 +172,12 @@ impl<'a> Rivals<'a> {
     }
 
     /// Whether this is done in the cell, wherever the line of the token is put between two places.
-    pub fn is_done_between(&self, (from, to): (usize, usize), kind: Associativity, deed: Deed) -> bool {
+    pub fn is_done_between(
+        &self,
+        (from, to): (usize, usize),
+        kind: Associativity,
+        deed: Deed,
+    ) -> bool {
         self.places()
             .iter()
             .filter(|place| from < **place && **place < to)

@@ -1,30 +1,17 @@
 //! Why a cell says what it says: its candidates, what settled it, and how to choose otherwise.
 
-use crate::cells::{Case, Standing, Survey, reduces_at, standing_of, survey_at};
-use crate::lines::Lines;
-use crate::reads::{action_of, default_of, items_of, next_of};
+use crate::cells::{Case, Standing, Survey, standing_of, survey_at};
+pub use crate::question::Question;
+use crate::reads::{action_of, default_of, next_of};
 use crate::rivals::Rivals;
 use crate::text::{ItemText, Name, Numbered, RuleText};
 use std::io::{self, Write};
 use ylalr::{END, Item};
-use ysymbols::{Associativity, Grammar, Sym};
-use ytables::{Action, Tables};
+use ysymbols::Associativity;
+use ytables::Action;
 
 /// The most candidates of one kind that are shown.
 const MOST_SHOWN: usize = 10;
-
-/// A cell to be explained: that of a state and a token.
-#[derive(Clone, Copy)]
-pub struct Question<'a> {
-    /// The tables.
-    pub tables: &'a Tables,
-    /// Where rules stand in the grammar's file.
-    pub lines: &'a Lines,
-    /// The state.
-    pub state: usize,
-    /// The token.
-    pub token: Sym,
-}
 
 /// Writes what a cell says: `state 33 on ELSE: shift, to state 35`.
 pub fn put_cell<W: Write>(out: &mut W, asked: Question<'_>) -> io::Result<()> {
@@ -55,21 +42,6 @@ pub fn explain_rivals<W: Write>(out: &mut W, asked: Question<'_>) -> io::Result<
 }
 
 impl<'a> Question<'a> {
-    /// The grammar.
-    pub fn grammar(self) -> &'a Grammar {
-        self.tables.automaton().grammar()
-    }
-
-    /// The name of the token.
-    pub fn name(self) -> Name<'a> {
-        Name(self.grammar(), self.token)
-    }
-
-    /// The items of the state.
-    pub fn items(self) -> &'a [Item] {
-        items_of(self.tables.automaton(), self.state)
-    }
-
     /// Writes what settled the cell, with its candidates where there are several.
     fn put_reason<W: Write>(self, out: &mut W) -> io::Result<()> {
         let survey = survey_at(self.tables.automaton(), self.state, self.token);
@@ -156,11 +128,6 @@ impl<'a> Question<'a> {
             writeln!(out, "  and {more} rules more")?;
         }
         Ok(())
-    }
-
-    /// Whether an item of the state can be reduced at the token.
-    pub fn reduces(self, item: Item) -> bool {
-        reduces_at(self.tables.automaton(), self.state, item, self.token)
     }
 
     /// Writes how the rules stand against the shift, where there is one.

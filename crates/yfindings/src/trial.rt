@@ -9,7 +9,7 @@ use yparse::{Session, Tokens};
 use ysymbols::Sym;
 use ytables::Tables;
 
-/// The most reductions in a row of a trial.
+/// The most steps without a shift in a row of a trial.
 const MOST_IN_A_ROW: usize = 10_000;
 
 /// What a parse over a list of tokens comes to.
@@ -115,15 +115,14 @@ fn go(session: &mut Session, goal: Goal) -> io::Result<Trial> {
         if let Some(trial) = goal.reached(session, steps, had_error) {
             return Ok(trial);
         }
-        let kind = match step(session)? {
-            Some(kind) if row < MOST_IN_A_ROW => kind,
-            Some(_) => return Ok(Trial::Late(steps)),
-            None => return Ok(Trial::Missed),
+        let Some(kind) = step(session)? else {
+            return Ok(Trial::Missed);
         };
         had_error = had_error || kind == StepKind::Detect;
         row = match kind {
             StepKind::Shift(_) => 0,
-            _ => row.saturating_add(1),
+            _ if row < MOST_IN_A_ROW => row.saturating_add(1),
+            _ => return Ok(Trial::Late(steps)),
         };
     }
     Ok(Trial::Late(goal.most))

@@ -133,7 +133,10 @@ impl<'a> CellText<'a> {
             (None, None) => {
                 self.put_line(out, rule)?;
                 let (name, state) = (self.name(), self.other.state);
-                write!(out, "refused: not so yacc, in state {state} on {name}: ")?;
+                write!(
+                    out,
+                    "refused: yacc does something else in state {state} on {name}: "
+                )?;
                 self.put_peer(out)?;
                 writeln!(out)
             }
