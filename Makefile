@@ -7,12 +7,12 @@
 # make refuse     refuses allocations of a run, each once and each with all behind it, on every example and some scenarios, and counts those of each line of every session; FILES="a.y b.y" refuses some thousands over these grammar files instead
 # make debug      refuses the allocations of twelve sessions and eight commands of ydebug in turn, gives it 100,000 random command lines over random grammars, and shows its screens at a terminal, which needs tmux
 # make page-test  steps through the pages of every example in a browser without a window, which apt-get installs where it is missing, and compares them with ystep; keeps pictures in screenshots/
-# make compare    compares the programs that make build left with plain machines in Python, on grammars drawn at random, for a minute, verdicts with sessions over every scenario, and texts with a lexer in Python, for a minute; FILES="a.y b.y" adds these, cut off and spoiled, with a second reader
+# make compare    compares the programs that make build left with plain machines in Python, on grammars drawn at random, for a minute, verdicts with sessions over every scenario, texts with a lexer in Python, and what hints and warnings on conflicts say with changed grammars, for a minute each; FILES="a.y b.y" adds these, cut off and spoiled, with a second reader
 # make drivers    builds the drivers in C and Python, and compares their steps with those of ystep, over scenarios, at random and by tables that are wrong
 # make install    copies programs, manual pages, drivers and books below PREFIX (/usr/local), and with DESTDIR below that; make build comes first
 # make uninstall  takes the same files away
 # make dist       packs what git has of this state into bin/; VERSION=1.0 names it
-# make imports    imports grammars of some source packages of Debian, by the programs that make build left, and compares their tables with bison's; FILES="a.y b.y" or PACKAGES="bash" names others. It takes bison and a network
+# make imports    imports grammars drawn at random, for a minute, and those of some source packages of Debian, by the programs that make build left, and compares their tables with bison's; FILES="a.y b.y" or PACKAGES="bash" names others. It takes bison and a network
 # make hostile    runs both programs, proved, between devices that fail and on files and streams that are no one's friends, and ydebug on full disks and pipes that nobody reads
 # make edits      tries every wrong body that the prover must refuse, also those that the gate leaves out; some 40 minutes
 # make test       the gate: every proof from nothing, the wrong bodies in must-fail, the tests, the stored runs, the scenarios, make hostile, make refuse over three examples, the allocations of every session
@@ -63,6 +63,7 @@ compare:
 	@python3 compare/compare.py bin/yacc bin/ystep
 	@python3 compare/verdicts.py bin/verdicts bin/ystep
 	@python3 compare/texts.py bin/ydebug
+	@python3 compare/hints.py bin/ydebug
 	@$(if $(FILES),python3 compare/faults.py bin/ystep $(FILES),true)
 
 bin/libydriver.a: drivers/c/ydriver.c drivers/c/ydriver.h
@@ -113,6 +114,7 @@ dist:
 	@mkdir -p bin
 	@git archive --prefix=ydriver-$(VERSION)/ -o bin/ydriver-$(VERSION).tar.gz HEAD
 imports:
+	@python3 compare/cells.py bin/ydebug
 	@python3 compare/imports.py bin/ydebug bin/yacc $(FILES) $(PACKAGES)
 
 hostile: build

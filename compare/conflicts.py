@@ -131,6 +131,10 @@ def parts_of(text):
     return [it for it in found if it and HEAD.match(it[0])]
 
 
+# What is said of a parse that comes to the state by a recovery alone.
+AFTER_ERROR = " only after an error, "
+
+
 class Told:
     """A list of tokens that was told: the rules that it is for, whether for them alone, its tokens,
     what was said of a parse over it, and the other list, where there is one."""
@@ -199,7 +203,8 @@ def wrong_list(checked, told, state, token, first, others):
     if ERROR in told.tokens or token == ERROR:
         return None if "Not tried" in told.said else "error is tried"
     reached = checked.reaches(told.tokens, token, state)
-    if reached != told.said.startswith(("  A parse comes to", "  A parse begins in")):
+    is_said = told.said.startswith(("  A parse comes to", "  A parse begins in"))
+    if reached != (is_said and AFTER_ERROR not in told.said):
         return "the trial"
     if told.other is not None and (reached or not checked.reaches(told.other, token, state)):
         return "the other list"
@@ -232,6 +237,7 @@ COUNTED = {
     "without what is taken": (" alone:", "without what is taken:"),
     "with error": ("  Not tried",),
     "missed by a parse": ("settled otherwise", "given up"),
+    "of these after an error": (AFTER_ERROR,),
     "of these with another list": ("  Over these",),
     "rules never reduced": ("is never reduced",),
 }

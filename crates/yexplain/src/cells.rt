@@ -111,7 +111,8 @@ pub struct Survey {
 }
 
 impl Survey {
-    fn new(shifts: bool) -> Survey {
+    /// A cell without rules, in which the token can be shifted, or can't.
+    pub fn new(shifts: bool) -> Survey {
         Survey {
             shifts,
             rules: 0,
@@ -124,7 +125,7 @@ impl Survey {
     }
 
     /// Takes a rule in.
-    fn add(&mut self, rule: usize, standing: Standing) {
+    pub fn add(&mut self, rule: usize, standing: Standing) {
         self.rules = self.rules.saturating_add(1);
         if self.shifts && standing.loses() {
             return;

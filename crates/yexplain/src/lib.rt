@@ -3,8 +3,12 @@
 #![tactic(auto)]
 
 pub mod cells;
+mod hints;
 pub mod lines;
+mod question;
 pub mod reads;
+mod rivals;
 pub mod roles;
+pub mod supposed;
 pub mod text;
 pub mod why;

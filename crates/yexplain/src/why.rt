@@ -1,29 +1,17 @@
 //! Why a cell says what it says: its candidates, what settled it, and how to choose otherwise.
 
-use crate::cells::{Case, Standing, Survey, reduces_at, standing_of, survey_at};
-use crate::lines::Lines;
-use crate::reads::{action_of, default_of, items_of, level_of, next_of};
+use crate::cells::{Case, Standing, Survey, standing_of, survey_at};
+pub use crate::question::Question;
+use crate::reads::{action_of, default_of, next_of};
+use crate::rivals::Rivals;
 use crate::text::{ItemText, Name, Numbered, RuleText};
 use std::io::{self, Write};
 use ylalr::{END, Item};
-use ysymbols::{Associativity, Grammar, Sym};
-use ytables::{Action, Tables};
+use ysymbols::Associativity;
+use ytables::Action;
 
 /// The most candidates of one kind that are shown.
 const MOST_SHOWN: usize = 10;
-
-/// A cell to be explained: that of a state and a token.
-#[derive(Clone, Copy)]
-pub struct Question<'a> {
-    /// The tables.
-    pub tables: &'a Tables,
-    /// Where rules stand in the grammar's file.
-    pub lines: &'a Lines,
-    /// The state.
-    pub state: usize,
-    /// The token.
-    pub token: Sym,
-}
 
 /// Writes what a cell says: `state 33 on ELSE: shift, to state 35`.
 pub fn put_cell<W: Write>(out: &mut W, asked: Question<'_>) -> io::Result<()> {
@@ -54,18 +42,6 @@ pub fn explain_rivals<W: Write>(out: &mut W, asked: Question<'_>) -> io::Result<
 }
 
 impl<'a> Question<'a> {
-    fn grammar(self) -> &'a Grammar {
-        self.tables.automaton().grammar()
-    }
-
-    fn name(self) -> Name<'a> {
-        Name(self.grammar(), self.token)
-    }
-
-    fn items(self) -> &'a [Item] {
-        items_of(self.tables.automaton(), self.state)
-    }
-
     /// Writes what settled the cell, with its candidates where there are several.
     fn put_reason<W: Write>(self, out: &mut W) -> io::Result<()> {
         let survey = survey_at(self.tables.automaton(), self.state, self.token);
@@ -154,10 +130,6 @@ impl<'a> Question<'a> {
         Ok(())
     }
 
-    fn reduces(self, item: Item) -> bool {
-        reduces_at(self.tables.automaton(), self.state, item, self.token)
-    }
-
     /// Writes how the rules stand against the shift, where there is one.
     fn put_standings<W: Write>(self, out: &mut W, survey: Survey) -> io::Result<()> {
         let mut left = if survey.shifts { MOST_SHOWN } else { 0 };
@@ -225,10 +197,7 @@ impl<'a> Question<'a> {
     fn put_banned<W: Write>(self, out: &mut W) -> io::Result<()> {
         let name = self.name();
         writeln!(out, "  So {name} can't come here; nothing is counted.")?;
-        writeln!(
-            out,
-            "  To choose otherwise, write %left in place of %nonassoc to reduce, %right to shift."
-        )
+        Rivals::new(self).put_banned(out)
     }
 
     fn put_beaten<W: Write>(self, out: &mut W, rule: usize, survey: Survey) -> io::Result<()> {
@@ -240,36 +209,15 @@ impl<'a> Question<'a> {
                 "  Of the rules that don't lose, the first in the file is taken: a conflict."
             )?;
         }
-        self.put_swap(out, survey.winner.unwrap_or(rule), true)
+        Rivals::new(self).put_shift(out, survey.winner.unwrap_or(rule))
     }
 
     fn put_kept<W: Write>(self, out: &mut W) -> io::Result<()> {
         let name = self.name();
         writeln!(out, "  So {name} is shifted; nothing is counted.")?;
         match self.items().iter().find(|item| self.reduces(**item)) {
-            Some(item) => self.put_swap(out, item.rule, false),
+            Some(item) => Rivals::new(self).put_reduce(out, item.rule),
             None => Ok(()),
-        }
-    }
-
-    /// Writes how to turn what the precedences of a rule and the token have settled.
-    fn put_swap<W: Write>(self, out: &mut W, rule: usize, reduced: bool) -> io::Result<()> {
-        let (deed, kind, place) = if reduced {
-            ("shift", "%right", "a later")
-        } else {
-            ("reduce", "%left", "an earlier")
-        };
-        let name = self.name();
-        write!(out, "  To {deed} instead, ")?;
-        match standing_of(self.grammar(), rule, self.token) {
-            Standing::Level(_) => writeln!(out, "write {kind} for the line of {name}."),
-            _ => match self.lines.giver(self.grammar(), rule) {
-                Some(token) => {
-                    let token = Name(self.grammar(), token);
-                    writeln!(out, "name {name} on {place} line than {token}.")
-                }
-                None => writeln!(out, "give rule {rule} another %prec."),
-            },
         }
     }
 
@@ -284,90 +232,9 @@ impl<'a> Question<'a> {
             "  So yacc {deed}: a conflict, counted once for each such rule."
         )?;
         match survey.least {
-            Some(rule) => self.put_advice(out, rule),
+            Some(rule) => Rivals::new(self).put_advice(out, rule),
             None => Ok(()),
         }
-    }
-
-    /// Writes how to give precedences to a rule and the token.
-    fn put_advice<W: Write>(self, out: &mut W, rule: usize) -> io::Result<()> {
-        if self.token == END {
-            return writeln!(
-                out,
-                "  The end takes no precedence: change the grammar to choose."
-            );
-        }
-        let name = self.name();
-        match self.lines.giver(self.grammar(), rule) {
-            Some(token) if token == self.token => writeln!(
-                out,
-                "  To choose, name {name} in a line: %left reduces, %right shifts."
-            ),
-            Some(token) => self.put_giver(out, rule, token),
-            None => self.put_own(out, rule),
-        }
-    }
-
-    /// Writes how the token that would give a rule its precedence chooses.
-    fn put_giver<W: Write>(self, out: &mut W, rule: usize, token: Sym) -> io::Result<()> {
-        match standing_of(self.grammar(), rule, self.token) {
-            Standing::NoToken => self.put_line(out, rule, self.token, token),
-            Standing::NoRule => self.put_line(out, rule, token, self.token),
-            _ => self.put_lines(out, rule, token),
-        }
-    }
-
-    /// Writes how a line for one token chooses, where the other has one.
-    fn put_line<W: Write>(
-        self,
-        out: &mut W,
-        rule: usize,
-        token: Sym,
-        other: Sym,
-    ) -> io::Result<()> {
-        let (shifts, reduces) = if token == self.token {
-            ("later", "earlier")
-        } else {
-            ("earlier", "later")
-        };
-        let token = Name(self.grammar(), token);
-        let other = Name(self.grammar(), other);
-        let name = self.name();
-        writeln!(
-            out,
-            "  To choose, name {token} on a line of %left, %right or %nonassoc: {shifts} than \
-             {other} shifts {name}, {reduces} reduces by rule {rule}."
-        )
-    }
-
-    /// Writes how a name of its own gives a rule a precedence.
-    fn put_own<W: Write>(self, out: &mut W, rule: usize) -> io::Result<()> {
-        let name = self.name();
-        let line = match level_of(self.grammar(), self.token) {
-            Some(_) => "the line of",
-            None => "%nonassoc",
-        };
-        writeln!(
-            out,
-            "  To choose, write %nonassoc LOW above {line} {name}, and %prec LOW at the end of \
-             rule {rule}: that shifts, and the other order of the lines reduces."
-        )
-    }
-
-    /// Writes how the lines of two tokens choose.
-    fn put_lines<W: Write>(self, out: &mut W, rule: usize, token: Sym) -> io::Result<()> {
-        let token = Name(self.grammar(), token);
-        let name = self.name();
-        writeln!(
-            out,
-            "  To choose, name {name} and {token} on two lines of %left, %right or %nonassoc: \
-             {name} on the later one shifts, {token} on it reduces."
-        )?;
-        writeln!(
-            out,
-            "  In place of {token}, rule {rule} can have a name of its own, by %prec NAME at its \
-             end."
-        )
     }
 
     fn put_least<W: Write>(self, out: &mut W, rule: usize) -> io::Result<()> {

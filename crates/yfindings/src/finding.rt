@@ -58,6 +58,8 @@ pub struct List {
     pub other: Option<(Vec<Sym>, usize)>,
     /// How many further lists were tried.
     pub tried: usize,
+    /// Whether a parse over one of them comes to the state after an error.
+    pub recovered: bool,
 }
 
 impl Drop for List {
@@ -70,6 +72,7 @@ impl Drop for List {
             trial: _,
             other: _,
             tried: _,
+            recovered: _,
         } = self;
     }
 }
@@ -241,6 +244,7 @@ impl Seeker<'_> {
             trial: Trial::Missed,
             other: None,
             tried: 0,
+            recovered: false,
         };
         self.try_first(goal, &mut list)?;
         Ok(list)
@@ -319,8 +323,10 @@ impl Seeker<'_> {
         let (trial, steps) = self.trial(goal, &tokens, most)?;
         self.steps_for_others = self.steps_for_others.saturating_sub(steps);
         self.finder.spend(steps);
-        if let Trial::Reached(steps) = trial {
-            list.other = Some((tokens, steps));
+        match trial {
+            Trial::Reached(steps) => list.other = Some((tokens, steps)),
+            Trial::Recovered(_) => list.recovered = true,
+            Trial::Missed | Trial::Late(_) | Trial::HasError => {}
         }
         Ok(steps)
     }

@@ -129,6 +129,13 @@ impl<'a> ListText<'a> {
                 page.line(".");
                 self.put_other(page, list);
             }
+            Trial::Recovered(steps) => {
+                self.put_parse(page, "comes to");
+                page.put(" only after an error, in ");
+                page.count(steps, "step", "steps");
+                page.line(": an earlier choice is settled otherwise.");
+                self.put_other(page, list);
+            }
             Trial::Missed => {
                 self.put_parse(page, "doesn't come to");
                 page.line(": an earlier choice is settled otherwise.");
@@ -153,7 +160,10 @@ impl<'a> ListText<'a> {
     fn put_other<W: Write>(self, page: &mut Page<W>, list: &List) {
         match &list.other {
             Some((tokens, steps)) => {
-                page.put("  Over these it comes to the state, in ");
+                page.put(match list.trial {
+                    Trial::Recovered(_) => "  Over these it comes to the state without one, in ",
+                    _ => "  Over these it comes to the state, in ",
+                });
                 page.count(*steps, "step", "steps");
                 page.line(":");
                 self.put_tokens(page, tokens);
@@ -162,7 +172,10 @@ impl<'a> ListText<'a> {
             None => {
                 page.put("  Nor does one over ");
                 page.count(list.tried, "other list", "other lists");
-                page.line(" come to the state.");
+                page.line(match list.trial {
+                    Trial::Missed if !list.recovered => " come to the state.",
+                    _ => " come to the state without an error.",
+                });
             }
         }
     }

@@ -9,7 +9,7 @@ use yparse::{Session, Tokens};
 use ysymbols::Sym;
 use ytables::Tables;
 
-/// The most reductions in a row of a trial.
+/// The most steps without a shift in a row of a trial.
 const MOST_IN_A_ROW: usize = 10_000;
 
 /// What a parse over a list of tokens comes to.
@@ -17,6 +17,8 @@ const MOST_IN_A_ROW: usize = 10_000;
 pub enum Trial {
     /// After so many steps the state is reached with the token ahead.
     Reached(usize),
+    /// After so many steps the state is reached with the token ahead, but after an error.
+    Recovered(usize),
     /// The parse goes another way.
     Missed,
     /// The parse was given up after so many steps.
@@ -26,10 +28,10 @@ pub enum Trial {
 }
 
 impl Trial {
-    /// Whether the parse doesn't come to the state, or was given up before.
+    /// Whether the parse doesn't come to the state without an error, or was given up before.
     pub fn is_missed(self) -> bool {
         match self {
-            Trial::Missed | Trial::Late(_) => true,
+            Trial::Missed | Trial::Recovered(_) | Trial::Late(_) => true,
             Trial::Reached(_) | Trial::HasError => false,
         }
     }
@@ -52,16 +54,18 @@ impl Goal {
         if self.token == END { 0 } else { 1 }
     }
 
-    /// What the parse has come to after so many steps; `None` where it may go on.
-    fn reached(self, session: &Session, steps: usize) -> Option<Trial> {
+    /// What the parse has come to after so many steps, after an error or none; `None` where it may
+    /// go on.
+    fn reached(self, session: &Session, steps: usize, had_error: bool) -> Option<Trial> {
         let rest = session.view().rest_len();
-        if rest < self.left() || session.view().mode() != Mode::Running {
-            return Some(Trial::Missed);
+        match session.view().mode() {
+            _ if rest < self.left() => Some(Trial::Missed),
+            Mode::Running if rest > self.left() || session.state() != self.state => None,
+            Mode::Running if had_error => Some(Trial::Recovered(steps)),
+            Mode::Running => Some(Trial::Reached(steps)),
+            Mode::Popping => None,
+            Mode::Accepted | Mode::Failed => Some(Trial::Missed),
         }
-        if rest == self.left() && session.state() == self.state {
-            return Some(Trial::Reached(steps));
-        }
-        None
     }
 }
 
@@ -94,13 +98,10 @@ fn put_all(session: &mut Session, tokens: &[Sym]) -> io::Result<bool> {
     Ok(true)
 }
 
-/// Makes a step, and says whether it is a shift; `None` where the parse can't go on without an
-/// error.
-fn step(session: &mut Session) -> io::Result<Option<bool>> {
+/// Makes a step, and says which; `None` where the parse can't go on.
+fn step(session: &mut Session) -> io::Result<Option<StepKind>> {
     match session.step() {
-        Ok(StepKind::Detect) => Ok(None),
-        Ok(StepKind::Shift(_)) => Ok(Some(true)),
-        Ok(_) => Ok(Some(false)),
+        Ok(kind) => Ok(Some(kind)),
         Err(StepFault::Memory) => Err(fault_of(StepFault::Memory)),
         Err(_) => Ok(None),
     }
@@ -109,15 +110,19 @@ fn step(session: &mut Session) -> io::Result<Option<bool>> {
 /// Goes on until the parse comes to the goal, or can't.
 fn go(session: &mut Session, goal: Goal) -> io::Result<Trial> {
     let mut row: usize = 0;
+    let mut had_error = false;
     for steps in 0..goal.most {
-        if let Some(trial) = goal.reached(session, steps) {
+        if let Some(trial) = goal.reached(session, steps, had_error) {
             return Ok(trial);
         }
-        row = match step(session)? {
-            Some(true) => 0,
-            Some(false) if row < MOST_IN_A_ROW => row.saturating_add(1),
-            Some(false) => return Ok(Trial::Late(steps)),
-            None => return Ok(Trial::Missed),
+        let Some(kind) = step(session)? else {
+            return Ok(Trial::Missed);
+        };
+        had_error = had_error || kind == StepKind::Detect;
+        row = match kind {
+            StepKind::Shift(_) => 0,
+            _ if row < MOST_IN_A_ROW => row.saturating_add(1),
+            _ => return Ok(Trial::Late(steps)),
         };
     }
     Ok(Trial::Late(goal.most))

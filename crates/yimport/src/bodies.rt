@@ -2,7 +2,7 @@
 
 use crate::note::{How, Reason};
 use crate::refusal::Refusal;
-use crate::symbols::Work;
+use crate::symbols::{Ended, Work};
 use yforeign::directive::{Directive, directive_of, is_symbol};
 use yforeign::lexeme::{Kind, Lexeme};
 
@@ -82,7 +82,19 @@ impl Work<'_> {
             self.edits.refuse(Refusal::EndBehindAction, lexeme);
         } else {
             self.edits.take_out(lexeme, Reason::EndInBody);
+            self.note_end(lexeme);
         }
+    }
+
+    /// Notes that the end was taken out of the body.
+    fn note_end(&mut self, lexeme: &Lexeme) {
+        let ended = Ended {
+            body: self.bodies,
+            line: lexeme.line,
+            from: lexeme.from,
+            to: lexeme.to,
+        };
+        self.edits.trouble.push(&mut self.ended, ended);
     }
 
     /// Takes in what `%prec` names.
@@ -182,6 +194,7 @@ impl Work<'_> {
 
     /// Takes in a body with what ends it.
     pub fn import_body(&mut self, body: &[Lexeme]) {
+        self.bodies = self.bodies.saturating_add(1);
         let mut place = Place {
             prec: None,
             moves: false,

@@ -3,7 +3,7 @@
 use crate::applied::applied;
 use crate::note::Note;
 use crate::refusal::{Refusal, Trouble};
-use crate::symbols::{Expected, Work};
+use crate::symbols::{Ended, Expected, Work};
 use std::alloc::Global;
 use std::mem;
 use yforeign::groups::{Group, Head, groups_of};
@@ -23,6 +23,8 @@ pub struct Imported {
     pub shift_reduce: Option<Expected>,
     /// The reduce/reduce conflicts that the file expects.
     pub reduce_reduce: Option<Expected>,
+    /// The ends that were taken out of bodies, in their order.
+    pub ended: Vec<Ended>,
 }
 
 impl Drop for Imported {
@@ -35,6 +37,7 @@ impl Drop for Imported {
             levels: _,
             shift_reduce: _,
             reduce_reduce: _,
+            ended: _,
         } = self;
     }
 }
@@ -106,6 +109,7 @@ impl Work<'_> {
             levels: mem::replace(&mut self.levels, Vec::new(alloc)),
             shift_reduce: self.shift_reduce,
             reduce_reduce: self.reduce_reduce,
+            ended: mem::replace(&mut self.ended, Vec::new(alloc)),
         }
     }
 }

@@ -12,10 +12,12 @@ pub enum Effect {
 }
 
 impl Effect {
-    /// What is said of it.
-    pub fn text(self) -> &'static str {
+    /// What is said of it; whether conflicts stay with those changes that can't change any was
+    /// looked up in the tables.
+    pub fn text(self, conflicts_stay: bool) -> &'static str {
         match self {
-            Effect::None => "language and conflicts stay",
+            Effect::None if conflicts_stay => "language and conflicts stay",
+            Effect::None => "the language stays",
             Effect::Conflicts => "conflicts can change",
             Effect::Language => "the language can change",
         }
@@ -129,7 +131,9 @@ impl Reason {
             Reason::Expected => "yacc counts conflicts itself",
             Reason::TablesAsked => "yacc makes LALR(1) tables alone",
             Reason::OldWord => "it's yacc's word for this",
-            Reason::Precedence => "yacc has no %precedence, and no cell meets equal levels of it",
+            Reason::Precedence => {
+                "yacc has no %precedence, and no cell that can be reached meets equal levels of it"
+            }
             Reason::NoType => "no nonterminal with a tag stands in it",
             Reason::TypedToken => "it's a token",
             Reason::TypedUnknown => "it's no left side of a rule",

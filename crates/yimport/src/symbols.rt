@@ -18,6 +18,19 @@ pub struct Expected {
     pub number: usize,
 }
 
+/// An end that was taken out of a body.
+#[derive(Clone, Copy, Drop)]
+pub struct Ended {
+    /// The body, by its number in the file, counted from 1.
+    pub body: usize,
+    /// The line of the end, counted from 1.
+    pub line: usize,
+    /// How many bytes stand before it.
+    pub from: usize,
+    /// How many bytes stand before what follows it.
+    pub to: usize,
+}
+
 /// A file while it is imported.
 pub struct Work<'a> {
     /// The allocator.
@@ -40,6 +53,10 @@ pub struct Work<'a> {
     pub shift_reduce: Option<Expected>,
     /// The reduce/reduce conflicts that the file expects.
     pub reduce_reduce: Option<Expected>,
+    /// How many bodies were met.
+    pub bodies: usize,
+    /// The ends that were taken out of bodies, in their order.
+    pub ended: Vec<Ended>,
     /// The left side of the rule.
     pub left: Option<Lexeme>,
     /// Whether a `%start` was met.
@@ -62,6 +79,8 @@ impl Drop for Work<'_> {
             levels: _,
             shift_reduce: _,
             reduce_reduce: _,
+            bodies: _,
+            ended: _,
             left: _,
             has_start: _,
             text: _,
@@ -85,6 +104,8 @@ impl<'a> Work<'a> {
             levels: Vec::new(alloc),
             shift_reduce: None,
             reduce_reduce: None,
+            bodies: 0,
+            ended: Vec::new(alloc),
             left: None,
             has_start: false,
             text: Vec::new(alloc),

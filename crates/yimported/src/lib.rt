@@ -2,8 +2,9 @@
 //! (`ydebug import`), with what is said of them.
 #![tactic(auto)]
 
-mod counts;
-mod equals;
+mod cell_text;
+mod compared;
 pub mod opening;
+mod peer;
 pub mod run;
 mod told;

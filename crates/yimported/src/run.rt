@@ -1,21 +1,22 @@
 //! `ydebug import`.
 
-use crate::counts::Counts;
-use crate::equals::equal_of;
+use crate::cell_text::{CellText, put_cells};
+use crate::compared::{Compared, Other};
 use crate::opening::open_bytes;
-use crate::told::{
-    put_equal, put_expected, put_notes, put_refused, put_unreadable, put_weighty_notes,
-};
-use std::alloc::Global;
+use crate::peer::Peer;
+use crate::told::{Source, Telling, put_expected, put_notes, put_refused, put_unreadable};
+use std::alloc::{AllocError, Global};
 use std::io::{self, Write};
 use std::rt::Files;
+use yexplain::lines::is_inner;
 use yfaults::opening::{Opened, Trouble, grammar_bytes, put_trouble, put_unread};
 use yfiles::same::refused_output;
 use yfiles::writing::put_file;
 use ygrammar::{GrammarFault, LONGEST_FILE};
 use yimport::import::{Imported, import};
 use yimport::refusal;
-use ytables::Tables;
+use yimport::symbols::Ended;
+use ysymbols::Grammar;
 
 /// What is asked for: the import of a file, to a file of this path or to standard output.
 #[derive(Clone, Copy)]
@@ -26,46 +27,101 @@ pub struct Asked<'a> {
     pub output: Option<&'a str>,
 }
 
-/// A file that is imported: its path and its bytes.
+/// A file, what it becomes, and which changes are told.
 #[derive(Clone, Copy)]
-struct Source<'a> {
-    path: &'a str,
-    bytes: &'a [u8],
+struct Looked<'a> {
+    source: Source<'a>,
+    imported: &'a Imported,
+    telling: Telling,
 }
 
-/// Looks at the tables of what a file becomes, and gives the exit status: 1 where a cell isn't the
-/// same.
+/// For each rule, which of the ends that were taken out of bodies stood in its own. The bodies of a
+/// file are the rules but those of inner actions, in their order.
+fn ended_rules(
+    alloc: Global,
+    grammar: &Grammar,
+    ends: &[Ended],
+) -> Result<Vec<Option<usize>>, AllocError> {
+    let mut ended = Vec::with_capacity(alloc, grammar.rules())?;
+    let mut body: usize = 0;
+    for rule in 0..grammar.rules() {
+        let is_body = rule > 0 && !is_inner(grammar, rule);
+        body = body.saturating_add(usize::from(is_body));
+        let end = ends.binary_search_by_key(&body, |end| end.body);
+        ended.push(end.ok().filter(|_| is_body))?;
+    }
+    Ok(ended)
+}
+
+/// Writes what was changed, and which conflicts aren't those of bison.
+fn put_changes<E: Write>(
+    errors: &mut E,
+    asked: Looked<'_>,
+    found: &Compared,
+    text: Option<CellText<'_>>,
+) -> io::Result<()> {
+    let Looked {
+        source,
+        imported,
+        telling,
+    } = asked;
+    put_notes(errors, source, imported, telling, found.conflicts_stay())?;
+    if let Some(text) = text {
+        text.put_conflict(errors)?;
+    }
+    put_cells(errors, source.path, found)?;
+    put_expected(errors, source.path, imported, found.counts)
+}
+
+/// Compares the cells of what a file becomes with bison's, says what is to be said of the import,
+/// and gives the exit status: 1 where bison does something else in a cell.
 fn look_at<E: Write>(
     alloc: Global,
     errors: &mut E,
-    path: &str,
-    imported: &Imported,
-    tables: &Tables,
+    asked: Looked<'_>,
+    opened: &Opened,
 ) -> io::Result<u8> {
+    let Opened { tables, lines } = opened;
     let automaton = tables.automaton();
-    if let Some(equal) = equal_of(automaton, &imported.levels) {
-        put_equal(errors, path, automaton.grammar(), equal)?;
-        return Ok(1);
+    let ends = &asked.imported.ended;
+    let ended = ended_rules(alloc, automaton.grammar(), ends)?;
+    let peer = Peer {
+        automaton,
+        levels: &asked.imported.levels,
+        ended: &ended,
+    };
+    let found = Compared::new(alloc, tables, peer)?;
+    let text = |other: Other| CellText {
+        source: asked.source,
+        peer,
+        lines,
+        ends,
+        other,
+    };
+    match found.deed {
+        Some(other) => {
+            text(other).put_refused(errors)?;
+            Ok(1)
+        }
+        None => {
+            put_changes(errors, asked, &found, found.conflict.map(text))?;
+            Ok(0)
+        }
     }
-    if imported.shift_reduce.is_some() || imported.reduce_reduce.is_some() {
-        let counts = Counts::new(alloc, automaton)?;
-        put_expected(errors, path, imported, counts)?;
-    }
-    Ok(0)
 }
 
 /// Says why `yacc` doesn't read what a file becomes, and gives the exit status.
 fn put_unopened<E: Write>(
     errors: &mut E,
     alloc: Global,
-    path: &str,
-    imported: &Imported,
+    asked: Looked<'_>,
     trouble: &Trouble,
 ) -> io::Result<u8> {
+    let path = asked.source.path;
     if trouble.status() == 1 {
         put_unreadable(errors, path)?;
     }
-    put_trouble(errors, alloc, path, &imported.text, trouble)?;
+    put_trouble(errors, alloc, path, &asked.imported.text, trouble)?;
     Ok(trouble.status())
 }
 
@@ -73,11 +129,10 @@ fn put_unopened<E: Write>(
 fn stands<E: Write>(
     alloc: Global,
     errors: &mut E,
-    path: &str,
-    imported: &Imported,
+    asked: Looked<'_>,
     opened: Opened,
 ) -> io::Result<Result<Opened, u8>> {
-    match look_at(alloc, errors, path, imported, &opened.tables) {
+    match look_at(alloc, errors, asked, &opened) {
         Ok(0) => Ok(Ok(opened)),
         status => {
             drop(opened);
@@ -90,49 +145,44 @@ fn stands<E: Write>(
 fn open_imported<E: Write>(
     alloc: Global,
     errors: &mut E,
-    path: &str,
-    imported: &Imported,
+    asked: Looked<'_>,
 ) -> io::Result<Result<Opened, u8>> {
-    let trouble = match open_bytes(alloc, &imported.text) {
-        Ok(opened) => return stands(alloc, errors, path, imported, opened),
+    let trouble = match open_bytes(alloc, &asked.imported.text) {
+        Ok(opened) => return stands(alloc, errors, asked, opened),
         Err(trouble) => trouble,
     };
-    put_unopened(errors, alloc, path, imported, &trouble).map(Err)
+    put_unopened(errors, alloc, asked, &trouble).map(Err)
 }
 
 /// Reads what a file becomes as `yacc` does, and gives the exit status: 0 where it stands.
-fn try_out<E: Write>(
-    alloc: Global,
-    errors: &mut E,
-    path: &str,
-    imported: &Imported,
-) -> io::Result<u8> {
-    match open_bytes(alloc, &imported.text) {
+fn try_out<E: Write>(alloc: Global, errors: &mut E, asked: Looked<'_>) -> io::Result<u8> {
+    match open_bytes(alloc, &asked.imported.text) {
         Ok(opened) => {
-            let status = look_at(alloc, errors, path, imported, &opened.tables);
+            let status = look_at(alloc, errors, asked, &opened);
             drop(opened);
             status
         }
-        Err(trouble) => put_unopened(errors, alloc, path, imported, &trouble),
+        Err(trouble) => put_unopened(errors, alloc, asked, &trouble),
     }
 }
 
 /// Writes an import, with what is said of it, and gives the exit status.
 fn put_import<F: Files + AllocGlobal, W: Write, E: Write>(
     rt: &F,
-    imported: &Imported,
-    asked: Asked<'_>,
+    looked: Looked<'_>,
+    output: Option<&str>,
     out: &mut W,
     errors: &mut E,
 ) -> io::Result<u8> {
-    let status = try_out(rt.alloc(), errors, asked.file, imported)?;
+    let status = try_out(rt.alloc(), errors, looked)?;
     if status != 0 {
         return Ok(status);
     }
-    match asked.output {
-        Some(path) => put_file(rt, errors, path, &imported.text),
+    let text = &looked.imported.text;
+    match output {
+        Some(path) => put_file(rt, errors, path, text),
         None => {
-            out.write_all(&imported.text)?;
+            out.write_all(text)?;
             Ok(0)
         }
     }
@@ -146,7 +196,7 @@ fn put_unmade<E: Write>(
 ) -> io::Result<u8> {
     match trouble {
         refusal::Trouble::Refused(refused) => {
-            put_refused(errors, source.path, source.bytes, refused)?;
+            put_refused(errors, source, refused)?;
             Ok(1)
         }
         refusal::Trouble::Memory => {
@@ -170,12 +220,17 @@ fn import_bytes<F: Files + AllocGlobal, W: Write, E: Write>(
         put_trouble(errors, rt.alloc(), path, bytes, &trouble)?;
         return Ok(1);
     }
+    let source = Source { path, bytes };
     match import(rt.alloc(), bytes) {
         Ok(imported) => {
-            put_notes(errors, path, bytes, &imported)?;
-            put_import(rt, &imported, asked, out, errors)
+            let looked = Looked {
+                source,
+                imported: &imported,
+                telling: Telling::All,
+            };
+            put_import(rt, looked, asked.output, out, errors)
         }
-        Err(trouble) => put_unmade(errors, Source { path, bytes }, trouble),
+        Err(trouble) => put_unmade(errors, source, trouble),
     }
 }
 
@@ -211,11 +266,16 @@ pub fn open_foreign<E: Write>(
         put_trouble(errors, alloc, path, bytes, &trouble)?;
         return Ok(Err(1));
     }
+    let source = Source { path, bytes };
     match import(alloc, bytes) {
         Ok(imported) => {
-            put_weighty_notes(errors, path, bytes, &imported)?;
-            open_imported(alloc, errors, path, &imported)
+            let looked = Looked {
+                source,
+                imported: &imported,
+                telling: Telling::Weighty,
+            };
+            open_imported(alloc, errors, looked)
         }
-        Err(trouble) => put_unmade(errors, Source { path, bytes }, trouble).map(Err),
+        Err(trouble) => put_unmade(errors, source, trouble).map(Err),
     }
 }

@@ -1,20 +1,27 @@
 //! What is said of an import.
 
-use crate::counts::Counts;
-use crate::equals::Equal;
+use crate::compared::Counts;
 use std::io::{self, Write};
-use yexplain::text::{Bytes, Name, RuleText};
+use yexplain::text::Bytes;
 use yimport::import::Imported;
 use yimport::note::{Effect, How, Note};
 use yimport::refusal::Refused;
 use yimport::symbols::Expected;
-use ysymbols::Grammar;
 
 /// The most bytes of the file that a line shows.
 const MOST_SHOWN: usize = 40;
 
+/// A file that is imported: its path and its bytes.
+#[derive(Clone, Copy)]
+pub struct Source<'a> {
+    /// The path.
+    pub path: &'a str,
+    /// The bytes.
+    pub bytes: &'a [u8],
+}
+
 /// The bytes of a place as they are shown: those of its first line, and dots for more.
-fn shown(source: &[u8], from: usize, to: usize) -> (&[u8], &'static str) {
+pub fn shown(source: &[u8], from: usize, to: usize) -> (&[u8], &'static str) {
     let text = source.get(from..to).unwrap_or(&[]);
     let line = text
         .iter()
@@ -26,7 +33,7 @@ fn shown(source: &[u8], from: usize, to: usize) -> (&[u8], &'static str) {
 }
 
 /// Writes the file, the line, and what stands there.
-fn put_place<W: Write>(
+pub fn put_place<W: Write>(
     out: &mut W,
     path: &str,
     line: usize,
@@ -55,32 +62,13 @@ fn put_how<W: Write>(out: &mut W, texts: &[u8], how: How) -> io::Result<()> {
     }
 }
 
-/// Writes a change.
-fn put_note<W: Write>(
-    out: &mut W,
-    path: &str,
-    source: &[u8],
-    texts: &[u8],
-    note: &Note,
-) -> io::Result<()> {
-    put_place(out, path, note.line, shown(source, note.from, note.to))?;
-    put_how(out, texts, note.how)?;
-    let why = note.reason.text();
-    let effect = note.reason.effect().text();
-    writeln!(out, "; {why}; {effect}")
-}
-
-/// Writes all changes.
-pub fn put_notes<W: Write>(
-    out: &mut W,
-    path: &str,
-    source: &[u8],
-    imported: &Imported,
-) -> io::Result<()> {
-    for note in &imported.notes {
-        put_note(out, path, source, &imported.texts, note)?;
-    }
-    Ok(())
+/// Which changes are told.
+#[derive(Clone, Copy, PartialEq, Eq)]
+pub enum Telling {
+    /// All of them.
+    All,
+    /// Those by which the language or a conflict can change.
+    Weighty,
 }
 
 /// Whether the language or a conflict can change by a change.
@@ -91,47 +79,44 @@ fn is_weighty(note: &Note) -> bool {
     }
 }
 
-/// Writes the changes by which the language or a conflict can change.
-pub fn put_weighty_notes<W: Write>(
+/// Writes a change, and whether conflicts stay with it.
+fn put_note<W: Write>(
     out: &mut W,
-    path: &str,
-    source: &[u8],
-    imported: &Imported,
+    source: Source<'_>,
+    texts: &[u8],
+    note: &Note,
+    conflicts_stay: bool,
 ) -> io::Result<()> {
-    for note in imported.notes.iter().filter(|note| is_weighty(note)) {
-        put_note(out, path, source, &imported.texts, note)?;
+    let place = shown(source.bytes, note.from, note.to);
+    put_place(out, source.path, note.line, place)?;
+    put_how(out, texts, note.how)?;
+    let why = note.reason.text();
+    let effect = note.reason.effect().text(conflicts_stay);
+    writeln!(out, "; {why}; {effect}")
+}
+
+/// Writes the changes, and whether conflicts stay with them.
+pub fn put_notes<W: Write>(
+    out: &mut W,
+    source: Source<'_>,
+    imported: &Imported,
+    telling: Telling,
+    conflicts_stay: bool,
+) -> io::Result<()> {
+    for note in &imported.notes {
+        if telling == Telling::All || is_weighty(note) {
+            put_note(out, source, &imported.texts, note, conflicts_stay)?;
+        }
     }
     Ok(())
 }
 
 /// Writes why a file is refused.
-pub fn put_refused<W: Write>(
-    out: &mut W,
-    path: &str,
-    source: &[u8],
-    refused: Refused,
-) -> io::Result<()> {
-    let text = shown(source, refused.from, refused.to);
-    put_place(out, path, refused.line, text)?;
+pub fn put_refused<W: Write>(out: &mut W, source: Source<'_>, refused: Refused) -> io::Result<()> {
+    let text = shown(source.bytes, refused.from, refused.to);
+    put_place(out, source.path, refused.line, text)?;
     let why = refused.refusal.text();
     writeln!(out, "refused: {why}")
-}
-
-/// Writes that a file is refused for a cell in which equal levels meet.
-pub fn put_equal<W: Write>(
-    out: &mut W,
-    path: &str,
-    grammar: &Grammar,
-    equal: Equal,
-) -> io::Result<()> {
-    let (line, state) = (equal.line, equal.state);
-    let name = Name(grammar, equal.token);
-    let text = RuleText(grammar, equal.rule);
-    writeln!(
-        out,
-        "{path}:{line}: %precedence: refused: {name} and the rule {text} have one level of it, and \
-         meet in state {state}: a conflict to bison, an error to yacc"
-    )
 }
 
 /// Writes that bison's count isn't what is expected.

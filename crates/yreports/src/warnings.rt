@@ -17,6 +17,8 @@ use ytables::Tables;
 struct Named {
     /// Where each symbol is named first.
     first: Vec<Option<usize>>,
+    /// Where each stands in a line of precedence.
+    levelled: Vec<Option<usize>>,
     /// Which are named in a rule, and which in a body.
     used: Vec<bool>,
     in_body: Vec<bool>,
@@ -35,6 +37,7 @@ impl Named {
     fn new(alloc: Global, grammar: &Grammar, mentions: &[Mention]) -> Result<Named, AllocError> {
         let mut named = Named {
             first: vec![in alloc; None; grammar.symbols()]?,
+            levelled: vec![in alloc; None; grammar.symbols()]?,
             used: vec![in alloc; false; grammar.symbols()]?,
             in_body: vec![in alloc; false; grammar.symbols()]?,
         };
@@ -45,10 +48,9 @@ impl Named {
     }
 
     fn take(&mut self, mention: Mention) {
-        if let Some(first) = self.first.get_mut(mention.symbol) {
-            if first.is_none() {
-                *first = Some(mention.line);
-            }
+        note_line(&mut self.first, mention);
+        if mention.how == How::Levelled {
+            note_line(&mut self.levelled, mention);
         }
         if mention.how == How::Used {
             mark(&mut self.in_body, mention.symbol);
@@ -70,6 +72,18 @@ impl Named {
 
     fn line(&self, symbol: Sym) -> Option<usize> {
         self.first.get(symbol).copied().flatten()
+    }
+
+    /// The line that gives a token its precedence.
+    fn level_line(&self, symbol: Sym) -> Option<usize> {
+        self.levelled.get(symbol).copied().flatten()
+    }
+}
+
+/// Notes the line of a symbol, unless one was noted before.
+fn note_line(lines: &mut [Option<usize>], mention: Mention) {
+    if let Some(line) = lines.get_mut(mention.symbol) {
+        *line = line.or(Some(mention.line));
     }
 }
 
@@ -124,7 +138,7 @@ impl<W: Write> Warner<'_, W> {
             let settles = done.by_token.get(token).copied().unwrap_or(true);
             let is_meant = named.is_used(token) && level_of(self.grammar, token).is_some();
             if is_meant && !settles {
-                let line = named.line(token);
+                let line = named.level_line(token);
                 self.warn(line, "the precedence of ", token, " settles nothing");
             }
         }
@@ -138,7 +152,11 @@ impl<W: Write> Warner<'_, W> {
                 self.begin(self.lines.rule(rule));
                 self.page.put("the %prec of rule ");
                 self.page.number(rule);
-                self.page.line(" settles nothing");
+                self.page.line(if done.all_tried {
+                    " settles nothing"
+                } else {
+                    " may settle nothing"
+                });
             }
         }
     }
@@ -186,7 +204,7 @@ pub fn put_warnings<W: Write>(
     lines: &Lines,
 ) -> Result<usize, AllocError> {
     let grammar = grammar_of(tables);
-    let mut done = Done::new(alloc, tables)?;
+    let mut done = Done::new(alloc, tables, lines)?;
     done.spread(grammar, lines);
     let named = Named::new(alloc, grammar, lines.mentions())?;
     let mut warner = Warner {

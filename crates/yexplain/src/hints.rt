@@ -1,0 +1,309 @@
+//! How to choose otherwise than a cell with a shift does. Each hint is tried on the cell first, with
+//! the precedences that it asks for.
+
+use crate::cells::{Standing, standing_of};
+use crate::lines::is_inner;
+use crate::reads::level_of;
+use crate::rivals::{Kinds, Pair, Rivals, around};
+use crate::supposed::{BOTTOM, Deed, TOP, place_of};
+use std::io::{self, Write};
+use ylalr::END;
+use ysymbols::{Associativity, Sym};
+
+impl Rivals<'_> {
+    /// Writes how precedences of all rules choose, which is always so.
+    fn put_general<W: Write>(&self, out: &mut W) -> io::Result<()> {
+        let name = self.name();
+        let mut inner = self.rules().iter();
+        if self.token() == END || inner.any(|rule| is_inner(self.grammar(), *rule)) {
+            return writeln!(out, "  To choose, change the grammar.");
+        }
+        write!(out, "  To choose, ")?;
+        if level_of(self.grammar(), self.token()).is_none() {
+            write!(out, "name {name} on a line of %nonassoc, and ")?;
+        }
+        writeln!(
+            out,
+            "give each of these rules a %prec: {name} is shifted where all their lines stand above \
+             that of {name}, and one rule whose line stands below it is reduced."
+        )
+    }
+
+    /// Writes how to turn what is forbidden.
+    pub fn put_banned<W: Write>(&self, out: &mut W) -> io::Result<()> {
+        let reduces = self.reduces(self.with_word(Associativity::Left));
+        let shifts = self.is_done(self.with_word(Associativity::Right), Deed::Shift);
+        match (reduces, shifts) {
+            (true, true) => writeln!(
+                out,
+                "  To choose otherwise, write %left in place of %nonassoc to reduce, %right to \
+                 shift."
+            ),
+            (true, false) => {
+                writeln!(
+                    out,
+                    "  To reduce instead, write %left in place of %nonassoc."
+                )
+            }
+            (false, true) => {
+                writeln!(
+                    out,
+                    "  To shift instead, write %right in place of %nonassoc."
+                )
+            }
+            (false, false) => self.put_general(out),
+        }
+    }
+
+    /// Writes how to shift where a rule has won.
+    pub fn put_shift<W: Write>(&self, out: &mut W, rule: usize) -> io::Result<()> {
+        let name = self.name();
+        let giver = self.lines().giver(self.grammar(), rule);
+        let at = self.place(rule).unwrap_or(BOTTOM);
+        let later = self.kinds_between((at, usize::MAX), Deed::Shift);
+        match (standing_of(self.grammar(), rule, self.token()), giver) {
+            (Standing::Level(_), _) => {
+                if self.is_done(self.with_word(Associativity::Right), Deed::Shift) {
+                    let hint = "write %right for the line of";
+                    return writeln!(out, "  To shift instead, {hint} {name}.");
+                }
+                self.put_general(out)
+            }
+            (_, Some(token)) if later.any() => {
+                let token = self.named(token);
+                write!(
+                    out,
+                    "  To shift instead, name {name} on a later line than {token}"
+                )?;
+                self.put_words(out, later)
+            }
+            _ => self.put_general(out),
+        }
+    }
+
+    /// Ends a hint, with the words of the line where not all hold.
+    fn put_words<W: Write>(&self, out: &mut W, kinds: Kinds) -> io::Result<()> {
+        if kinds.left && kinds.right && kinds.nonassoc {
+            writeln!(out, ".")
+        } else {
+            writeln!(out, ", one of {kinds}.")
+        }
+    }
+
+    /// Writes how to reduce where the token has won against a rule.
+    pub fn put_reduce<W: Write>(&self, out: &mut W, rule: usize) -> io::Result<()> {
+        let name = self.name();
+        let giver = self.lines().giver(self.grammar(), rule);
+        let at = self.place(rule).unwrap_or(TOP);
+        let kinds = Kinds {
+            left: self.reduces_above(at, Associativity::Left),
+            right: self.reduces_above(at, Associativity::Right),
+            nonassoc: self.reduces_above(at, Associativity::Nonassoc),
+        };
+        match (standing_of(self.grammar(), rule, self.token()), giver) {
+            (Standing::Level(_), _) => {
+                if self.reduces(self.with_word(Associativity::Left)) {
+                    let hint = "write %left for the line of";
+                    return writeln!(out, "  To reduce instead, {hint} {name}.");
+                }
+                self.put_general(out)
+            }
+            (_, Some(token)) if kinds.any() => {
+                let token = self.named(token);
+                write!(
+                    out,
+                    "  To reduce instead, name {name} on an earlier line than {token}"
+                )?;
+                self.put_words(out, kinds)
+            }
+            _ => self.put_general(out),
+        }
+    }
+
+    /// Writes how to give precedences to a rule and the token.
+    pub fn put_advice<W: Write>(&self, out: &mut W, rule: usize) -> io::Result<()> {
+        if self.token() == END {
+            return writeln!(
+                out,
+                "  The end takes no precedence: change the grammar to choose."
+            );
+        }
+        match self.lines().giver(self.grammar(), rule) {
+            Some(token) if token == self.token() => self.put_both(out, rule),
+            Some(token) => self.put_giver(out, rule, token),
+            None if is_inner(self.grammar(), rule) => writeln!(
+                out,
+                "  The rule of an action inside a body takes no precedence: change the grammar to \
+                 choose."
+            ),
+            None => self.put_own(out, rule),
+        }
+    }
+
+    /// Writes how a line for the token that gives the rule its precedence too chooses.
+    fn put_both<W: Write>(&self, out: &mut W, rule: usize) -> io::Result<()> {
+        let name = self.name();
+        let all = (0, usize::MAX);
+        let reduces = self.is_done_between(all, Associativity::Left, Deed::Reduce(rule));
+        let shifts = self.is_done_between(all, Associativity::Right, Deed::Shift);
+        match (reduces, shifts) {
+            (true, true) => writeln!(
+                out,
+                "  To choose, name {name} in a line: %left reduces, %right shifts."
+            ),
+            (true, false) => writeln!(
+                out,
+                "  To reduce by rule {rule}, name {name} in a line of %left."
+            ),
+            (false, true) => writeln!(out, "  To shift {name}, name it in a line of %right."),
+            (false, false) => self.put_general(out),
+        }
+    }
+
+    /// Writes how the token that would give a rule its precedence chooses.
+    fn put_giver<W: Write>(&self, out: &mut W, rule: usize, token: Sym) -> io::Result<()> {
+        match standing_of(self.grammar(), rule, self.token()) {
+            Standing::NoToken => self.put_token_line(out, rule, token),
+            Standing::NoRule => self.put_rule_line(out, rule, token),
+            _ => self.put_lines(out, rule, token),
+        }
+    }
+
+    /// Writes how a line for the token chooses, where the rule has one of another token.
+    fn put_token_line<W: Write>(&self, out: &mut W, rule: usize, other: Sym) -> io::Result<()> {
+        let at = self.place(rule).unwrap_or(TOP);
+        let shifts = self.kinds_between((at, usize::MAX), Deed::Shift);
+        let reduces = self.kinds_between((0, at), Deed::Reduce(rule));
+        let both = shifts.and(reduces);
+        let (name, other) = (self.name(), self.named(other));
+        if both.any() {
+            return writeln!(
+                out,
+                "  To choose, name {name} on a line of {both}: later than {other} shifts {name}, \
+                 earlier reduces by rule {rule}."
+            );
+        }
+        if shifts.any() {
+            return writeln!(
+                out,
+                "  To shift {name}, name it on a line of {shifts} later than {other}."
+            );
+        }
+        if reduces.any() {
+            return writeln!(
+                out,
+                "  To reduce by rule {rule}, name {name} on a line of {reduces} earlier than \
+                 {other}."
+            );
+        }
+        self.put_general(out)
+    }
+
+    /// Writes how a line for the token that would give the rule its precedence chooses, where the
+    /// token of the cell has one.
+    fn put_rule_line<W: Write>(&self, out: &mut W, rule: usize, giver: Sym) -> io::Result<()> {
+        let level = level_of(self.grammar(), self.token()).map_or(0, |it| it.level);
+        let (above, below) = around(place_of(level));
+        let shifts = self.is_done(self.with_giver(giver, above), Deed::Shift);
+        let reduces = self.is_done(self.with_giver(giver, below), Deed::Reduce(rule));
+        if !shifts || !reduces {
+            return self.put_general(out);
+        }
+        let (name, giver) = (self.name(), self.named(giver));
+        writeln!(
+            out,
+            "  To choose, name {giver} on a line of %left, %right or %nonassoc: earlier than \
+             {name} shifts {name}, later reduces by rule {rule}."
+        )
+    }
+
+    /// Writes how a name of its own gives a rule a precedence.
+    fn put_own<W: Write>(&self, out: &mut W, rule: usize) -> io::Result<()> {
+        let name = self.name();
+        let line = match level_of(self.grammar(), self.token()) {
+            Some(_) => "the line of",
+            None => "%nonassoc",
+        };
+        if !self.chooses_by(rule, Associativity::Nonassoc) {
+            return self.put_general(out);
+        }
+        writeln!(
+            out,
+            "  To choose, write %nonassoc LOW above {line} {name}, and %prec LOW at the end of \
+             rule {rule}: that shifts, and the other order of the lines reduces."
+        )
+    }
+
+    /// Writes how the lines of two tokens choose.
+    fn put_lines<W: Write>(&self, out: &mut W, rule: usize, token: Sym) -> io::Result<()> {
+        let (mine, giver) = (self.token(), token);
+        let shift = Pair {
+            later: mine,
+            earlier: giver,
+        };
+        let reduce = Pair {
+            later: giver,
+            earlier: mine,
+        };
+        let shifts = self.kinds_by(shift, Deed::Shift);
+        let reduces = self.kinds_by(reduce, Deed::Reduce(rule));
+        self.put_two(out, rule, token, (shifts, reduces))
+    }
+
+    /// Writes that lines of these words for two tokens choose.
+    fn put_two<W: Write>(
+        &self,
+        out: &mut W,
+        rule: usize,
+        token: Sym,
+        (shifts, reduces): (Kinds, Kinds),
+    ) -> io::Result<()> {
+        let both = shifts.and(reduces);
+        let (name, token) = (self.name(), self.named(token));
+        if both.any() {
+            writeln!(
+                out,
+                "  To choose, name {name} and {token} on two lines of {both}: {name} on the later \
+                 one shifts, {token} on it reduces."
+            )?;
+            return self.put_own_name(out, rule, both);
+        }
+        if shifts.any() {
+            writeln!(
+                out,
+                "  To shift {name}, name it and {token} on two lines of {shifts}, {name} on the \
+                 later one."
+            )?;
+        }
+        if reduces.any() {
+            writeln!(
+                out,
+                "  To reduce by rule {rule}, name {name} and {token} on two lines of {reduces}, \
+                 {token} on the later one."
+            )?;
+        }
+        if !shifts.any() && !reduces.any() {
+            return self.put_general(out);
+        }
+        Ok(())
+    }
+
+    /// Writes that a rule can have a name of its own, where that chooses with all of these words.
+    fn put_own_name<W: Write>(&self, out: &mut W, rule: usize, kinds: Kinds) -> io::Result<()> {
+        let left = !kinds.left || self.chooses_by(rule, Associativity::Left);
+        let right = !kinds.right || self.chooses_by(rule, Associativity::Right);
+        let nonassoc = !kinds.nonassoc || self.chooses_by(rule, Associativity::Nonassoc);
+        if !left || !right || !nonassoc {
+            return Ok(());
+        }
+        match self.lines().giver(self.grammar(), rule) {
+            Some(token) => writeln!(
+                out,
+                "  In place of {}, rule {rule} can have a name of its own, by %prec NAME at its \
+                 end.",
+                self.named(token)
+            ),
+            None => Ok(()),
+        }
+    }
+}

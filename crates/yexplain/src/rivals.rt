@@ -1,0 +1,271 @@
+//! A cell with a shift and its rules, and what would be done in it with other precedences, wherever
+//! their lines may be put.
+
+use crate::lines::Lines;
+use crate::question::Question;
+use crate::reads::{level_of, rule_of};
+use crate::supposed::{BOTTOM, Deed, Supposed, TOP, line, place_of};
+use crate::text::Name;
+use std::fmt;
+use ysymbols::{Associativity, Grammar, Precedence, Sym};
+
+/// The most rules of a cell with which hints are tried.
+const MOST_RULES: usize = 10;
+
+/// The words for lines of precedence with which a hint holds.
+#[derive(Clone, Copy, Drop)]
+pub struct Kinds {
+    /// `%left`.
+    pub left: bool,
+    /// `%right`.
+    pub right: bool,
+    /// `%nonassoc`.
+    pub nonassoc: bool,
+}
+
+impl Kinds {
+    /// Those with which another hint holds too.
+    pub fn and(self, other: Kinds) -> Kinds {
+        Kinds {
+            left: self.left && other.left,
+            right: self.right && other.right,
+            nonassoc: self.nonassoc && other.nonassoc,
+        }
+    }
+
+    /// Whether there is one.
+    pub fn any(self) -> bool {
+        self.left || self.right || self.nonassoc
+    }
+}
+
+impl fmt::Display for Kinds {
+    fn fmt<W: fmt::Write>(&self, f: &mut fmt::Formatter<W>) -> fmt::Result {
+        f.write_str(match (self.left, self.right, self.nonassoc) {
+            (true, true, true) => "%left, %right or %nonassoc",
+            (true, true, false) => "%left or %right",
+            (true, false, true) => "%left or %nonassoc",
+            (false, true, true) => "%right or %nonassoc",
+            (true, false, false) => "%left",
+            (false, true, false) => "%right",
+            (false, false, _) => "%nonassoc",
+        })
+    }
+}
+
+/// Two tokens of which each is to stand on a line of its own.
+#[derive(Clone, Copy)]
+pub struct Pair {
+    /// The one on the later line.
+    pub later: Sym,
+    /// The one on the earlier line.
+    pub earlier: Sym,
+}
+
+/// A cell with a shift, and its rules.
+#[derive(Clone, Copy)]
+pub struct Rivals<'a> {
+    asked: Question<'a>,
+    rules: [usize; 10],
+    count: usize,
+}
+
+impl<'a> Rivals<'a> {
+    /// The cell that is asked for.
+    pub fn new(asked: Question<'a>) -> Rivals<'a> {
+        let mut rules = [0usize; 10];
+        let mut places = rules.iter_mut();
+        let mut count: usize = 0;
+        for item in asked.items() {
+            if asked.reduces(*item) {
+                count = count.saturating_add(1);
+                if let Some(place) = places.next() {
+                    *place = item.rule;
+                }
+            }
+        }
+        Rivals {
+            asked,
+            rules,
+            count,
+        }
+    }
+
+    /// The grammar.
+    pub fn grammar(&self) -> &'a Grammar {
+        self.asked.grammar()
+    }
+
+    /// Where rules stand in the file.
+    pub fn lines(&self) -> &'a Lines {
+        self.asked.lines
+    }
+
+    /// The token of the cell.
+    pub fn token(&self) -> Sym {
+        self.asked.token
+    }
+
+    /// The name of that token.
+    pub fn name(&self) -> Name<'a> {
+        self.asked.name()
+    }
+
+    /// The name of a token.
+    pub fn named(&self, token: Sym) -> Name<'a> {
+        Name(self.grammar(), token)
+    }
+
+    /// The rules of the cell.
+    pub fn rules(&self) -> &[usize] {
+        self.rules.get(..self.count).unwrap_or(&self.rules)
+    }
+
+    /// The precedences as they are.
+    pub fn supposed(&self) -> Supposed<'a> {
+        Supposed::new(self.grammar(), self.lines())
+    }
+
+    /// Whether this is done in the cell; never, where it has too many rules to be tried.
+    pub fn is_done(&self, supposed: Supposed<'a>, deed: Deed) -> bool {
+        self.count <= MOST_RULES && supposed.deed(self.token(), self.rules()) == deed
+    }
+
+    /// Whether some rule is reduced in the cell.
+    pub fn reduces(&self, supposed: Supposed<'a>) -> bool {
+        let deed = supposed.deed(self.token(), self.rules());
+        self.count <= MOST_RULES && deed != Deed::Shift && deed != Deed::Nothing
+    }
+
+    /// The place of the line of a rule, where it has one.
+    pub fn place(&self, rule: usize) -> Option<usize> {
+        let precedence = rule_of(self.grammar(), rule)?.precedence()?;
+        Some(place_of(precedence.level))
+    }
+
+    /// Where a line can be put: above, at and below that of each rule, at the top and the bottom.
+    fn places(&self) -> [usize; 32] {
+        let mut found = [BOTTOM; 32];
+        let mut entries = found.iter_mut();
+        if let Some(entry) = entries.next() {
+            *entry = TOP;
+        }
+        for rule in self.rules() {
+            let Some(at) = self.place(*rule) else {
+                continue;
+            };
+            for place in [at.saturating_sub(1), at, at.saturating_add(1)] {
+                if let Some(entry) = entries.next() {
+                    *entry = place;
+                }
+            }
+        }
+        found
+    }
+
+    /// The precedences where the token stands on a line at a place.
+    pub fn with_token(&self, place: usize, kind: Associativity) -> Supposed<'a> {
+        Supposed {
+            token: Some((self.token(), line(place, kind))),
+            ..self.supposed()
+        }
+    }
+
+    /// Whether this is done in the cell, wherever the line of the token is put between two places.
+    pub fn is_done_between(
+        &self,
+        (from, to): (usize, usize),
+        kind: Associativity,
+        deed: Deed,
+    ) -> bool {
+        self.places()
+            .iter()
+            .filter(|place| from < **place && **place < to)
+            .all(|place| self.is_done(self.with_token(*place, kind), deed))
+    }
+
+    /// The words with which this is done wherever the line of the token is put between two places.
+    pub fn kinds_between(&self, places: (usize, usize), deed: Deed) -> Kinds {
+        Kinds {
+            left: self.is_done_between(places, Associativity::Left, deed),
+            right: self.is_done_between(places, Associativity::Right, deed),
+            nonassoc: self.is_done_between(places, Associativity::Nonassoc, deed),
+        }
+    }
+
+    /// Whether this is done where two tokens stand on lines of this word, one below the other,
+    /// above all other lines and below all.
+    fn is_done_by(&self, pair: Pair, kind: Associativity, deed: Deed) -> bool {
+        [TOP, BOTTOM].iter().all(|place| {
+            let supposed = Supposed {
+                token: Some((pair.later, line(place.saturating_add(1), kind))),
+                other: Some((pair.earlier, line(*place, kind))),
+                ..self.supposed()
+            };
+            self.is_done(supposed, deed)
+        })
+    }
+
+    /// The words of lines for two tokens with which this is done.
+    pub fn kinds_by(&self, pair: Pair, deed: Deed) -> Kinds {
+        Kinds {
+            left: self.is_done_by(pair, Associativity::Left, deed),
+            right: self.is_done_by(pair, Associativity::Right, deed),
+            nonassoc: self.is_done_by(pair, Associativity::Nonassoc, deed),
+        }
+    }
+
+    /// The precedences where the line of the token has another word.
+    pub fn with_word(&self, kind: Associativity) -> Supposed<'a> {
+        let level = level_of(self.grammar(), self.token()).map_or(0, |it| it.level);
+        self.with_token(place_of(level), kind)
+    }
+
+    /// Whether some rule is reduced, wherever the line of the token is put above a place.
+    pub fn reduces_above(&self, to: usize, kind: Associativity) -> bool {
+        self.places()
+            .iter()
+            .filter(|place| **place < to)
+            .all(|place| self.reduces(self.with_token(*place, kind)))
+    }
+
+    /// The precedences where a token that gives rules theirs stands on a line at a place.
+    pub fn with_giver(&self, token: Sym, place: usize) -> Supposed<'a> {
+        Supposed {
+            other: Some((token, line(place, Associativity::Nonassoc))),
+            ..self.supposed()
+        }
+    }
+
+    /// The precedences where a rule has a line of its own at a place, and the token one, too.
+    pub fn with_own(&self, rule: usize, place: usize, token: Precedence) -> Supposed<'a> {
+        Supposed {
+            token: Some((self.token(), token)),
+            rule: Some((rule, Some(line(place, Associativity::Nonassoc)))),
+            ..self.supposed()
+        }
+    }
+
+    /// Whether a name of its own for a rule chooses, where the token stands on this line.
+    fn chooses(&self, rule: usize, token: Precedence) -> bool {
+        let (above, below) = around(token.level);
+        self.is_done(self.with_own(rule, above, token), Deed::Shift)
+            && self.is_done(self.with_own(rule, below, token), Deed::Reduce(rule))
+    }
+
+    /// Whether a name of its own for a rule chooses, where the token has a line of this word.
+    pub fn chooses_by(&self, rule: usize, kind: Associativity) -> bool {
+        match level_of(self.grammar(), self.token()) {
+            Some(level) => self.chooses(rule, line(place_of(level.level), level.kind)),
+            None => [TOP, BOTTOM].iter().all(|place| self.chooses(
+                rule,
+                line(place.saturating_add(1), kind),
+            )),
+        }
+    }
+}
+
+/// The places above and below a line.
+pub fn around(place: usize) -> (usize, usize) {
+    (place.saturating_sub(1), place.saturating_add(1))
+}

@@ -1,0 +1,225 @@
+//! The cells of tables beside bison's.
+
+use crate::peer::{Left, Peer};
+use std::alloc::{AllocError, Global};
+use yexplain::reads::{action_of, goto_of};
+use ylalr::token_count;
+use ysymbols::Sym;
+use ytables::{Action, Tables};
+
+/// The conflicts of an automaton as bison counts them. Where a shift meets two reductions, there
+/// is one of each kind.
+#[derive(Clone, Copy, Drop)]
+pub struct Counts {
+    /// Shift/reduce conflicts.
+    pub shift_reduce: usize,
+    /// Reduce/reduce conflicts.
+    pub reduce_reduce: usize,
+}
+
+/// A cell that isn't bison's.
+#[derive(Clone, Copy, Drop)]
+pub struct Other {
+    /// The state.
+    pub state: usize,
+    /// The token.
+    pub token: Sym,
+    /// What bison leaves in it.
+    pub left: Left,
+    /// What is done in it.
+    pub action: Action,
+}
+
+/// What a comparison finds.
+#[derive(Clone, Copy, Drop)]
+pub struct Compared {
+    /// The conflicts of the states that bison keeps.
+    pub counts: Counts,
+    /// The first cell in which bison does something else.
+    pub deed: Option<Other>,
+    /// The first cell that has a conflict to bison and none here, or one of another kind.
+    pub conflict: Option<Other>,
+    /// How many such cells there are.
+    pub conflicts: usize,
+    /// How many cells have a conflict, but stand in a state that bison leaves out.
+    pub cut: usize,
+}
+
+/// A walk over the states that can be reached by what bison leaves in the cells.
+#[derive(Drop)]
+struct Walk<'a> {
+    tables: &'a Tables,
+    peer: Peer<'a>,
+    found: Compared,
+    /// The states that were reached, in the order in which they were.
+    reached: Vec<usize>,
+    is_reached: Vec<bool>,
+}
+
+/// Whether bison does the same. It shifts the end in a body, and reduces by its rule then.
+fn does(left: &Left, action: Action) -> bool {
+    match action {
+        Action::Reduce(rule) if left.ends > 0 => left.ended == Some(rule),
+        Action::Reduce(rule) => {
+            !left.shift && left.banning.is_none() && left.first == Some(rule)
+        }
+        Action::Shift(_) | Action::Accept => left.shift,
+        Action::Error => left.banning.is_some(),
+    }
+}
+
+/// How many cells of a state count conflicts.
+fn conflicts_of(tables: &Tables, state: usize) -> usize {
+    if state < tables.automaton().states() {
+        tables.conflicts_in(state).len()
+    } else {
+        0
+    }
+}
+
+/// Whether a cell counts a conflict.
+fn has_conflict(tables: &Tables, state: usize, token: Sym) -> bool {
+    state < tables.automaton().states()
+        && tables
+            .conflicts_in(state)
+            .binary_search_by_key(&token, |conflict| conflict.token)
+            .is_ok()
+}
+
+impl Walk<'_> {
+    /// Reaches a state.
+    fn reach(&mut self, state: usize) -> Result<(), AllocError> {
+        if let Some(mark) = self.is_reached.get_mut(state) {
+            if !*mark {
+                *mark = true;
+                self.reached.push(state)?;
+            }
+        }
+        Ok(())
+    }
+
+    /// Reaches the state to which a symbol leads.
+    fn reach_by(&mut self, state: usize, symbol: Sym) -> Result<(), AllocError> {
+        match goto_of(self.peer.automaton, state, symbol) {
+            Some(next) => self.reach(next),
+            None => Ok(()),
+        }
+    }
+
+    /// Counts the conflicts that bison leaves in a cell.
+    fn count(&mut self, left: &Left) {
+        let counts = &mut self.found.counts;
+        counts.shift_reduce = counts.shift_reduce.saturating_add(left.shift_reduce());
+        counts.reduce_reduce = counts.reduce_reduce.saturating_add(left.reduce_reduce());
+    }
+
+    /// Whether a conflict of bison in a cell has no counterpart here.
+    fn is_other(&self, state: usize, token: Sym, left: &Left) -> bool {
+        let conflicts = left.shift_reduce().saturating_add(left.reduce_reduce());
+        let is_other_kind = left.ends > 0 && left.reductions > 0;
+        is_other_kind || (conflicts > 0) != has_conflict(self.tables, state, token)
+    }
+
+    /// Compares a cell.
+    fn compare(&mut self, state: usize, token: Sym, left: Left) {
+        let action = action_of(self.tables, state, token);
+        let other = Other {
+            state,
+            token,
+            left,
+            action,
+        };
+        if !does(&left, action) {
+            self.found.deed = self.found.deed.or(Some(other));
+        } else if self.is_other(state, token, &left) {
+            self.found.conflict = self.found.conflict.or(Some(other));
+            self.found.conflicts = self.found.conflicts.saturating_add(1);
+        }
+    }
+
+    /// Looks at the cells of a state.
+    fn look_at(&mut self, alloc: Global, state: usize) -> Result<(), AllocError> {
+        let ready = self.peer.ready_items(alloc, state)?;
+        for token in 0..token_count(self.peer.automaton.grammar()) {
+            let left = self.peer.left_in(state, token, &ready);
+            if left.is_filled() {
+                self.count(&left);
+                self.compare(state, token, left);
+            }
+            if left.shift {
+                self.reach_by(state, token)?;
+            }
+        }
+        Ok(())
+    }
+
+    /// Reaches the states to which nonterminals lead.
+    fn pass(&mut self, state: usize) -> Result<(), AllocError> {
+        let grammar = self.peer.automaton.grammar();
+        for symbol in token_count(grammar)..grammar.symbols() {
+            self.reach_by(state, symbol)?;
+        }
+        Ok(())
+    }
+
+    /// Counts the cells with a conflict of the states that weren't reached.
+    fn count_cut(&mut self) {
+        for (state, is_reached) in self.is_reached.iter().enumerate() {
+            if !*is_reached {
+                let cells = conflicts_of(self.tables, state);
+                self.found.cut = self.found.cut.saturating_add(cells);
+            }
+        }
+    }
+
+    /// Looks at all states that can be reached.
+    fn run(&mut self, alloc: Global) -> Result<(), AllocError> {
+        self.reach(0)?;
+        for at in 0..self.peer.automaton.states() {
+            let Some(state) = self.reached.get(at).copied() else {
+                break;
+            };
+            self.look_at(alloc, state)?;
+            self.pass(state)?;
+        }
+        self.count_cut();
+        Ok(())
+    }
+}
+
+impl Compared {
+    /// Nothing yet.
+    fn nothing() -> Compared {
+        Compared {
+            counts: Counts {
+                shift_reduce: 0,
+                reduce_reduce: 0,
+            },
+            deed: None,
+            conflict: None,
+            conflicts: 0,
+            cut: 0,
+        }
+    }
+
+    /// Compares the cells of tables with bison's, in the states that bison keeps: those that can
+    /// be reached by what it leaves in the cells.
+    pub fn new(alloc: Global, tables: &Tables, peer: Peer<'_>) -> Result<Compared, AllocError> {
+        let mut walk = Walk {
+            tables,
+            peer,
+            found: Compared::nothing(),
+            reached: Vec::new(alloc),
+            is_reached: vec![in alloc; false; peer.automaton.states()]?,
+        };
+        match walk.run(alloc) {
+            Ok(()) => Ok(walk.found),
+            Err(error) => Err(error),
+        }
+    }
+
+    /// Whether the same cells have conflicts to bison.
+    pub fn conflicts_stay(&self) -> bool {
+        self.conflicts == 0 && self.cut == 0
+    }
+}

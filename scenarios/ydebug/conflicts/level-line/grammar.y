@@ -1,0 +1,5 @@
+%token A B
+
+%left A
+%%
+s : A B ;

@@ -1,0 +1,7 @@
+%token G
+%right A
+%%
+s : '(' s ')'
+  | A s %prec G
+  | 'x'
+  ;

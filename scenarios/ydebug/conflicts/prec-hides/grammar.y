@@ -1,0 +1,6 @@
+%token G
+%right A
+%%
+s : s A s %prec G
+  | A
+  ;

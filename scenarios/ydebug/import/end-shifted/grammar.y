@@ -1,0 +1,4 @@
+%token END 0
+%token D
+%%
+s : D | D END ;

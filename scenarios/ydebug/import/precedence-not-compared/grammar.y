@@ -1,0 +1,6 @@
+%precedence A
+%left B
+%%
+s : 'x' A 'q' | r A | t A ;
+r : 'x' %prec B ;
+t : 'x' %prec A ;

@@ -1,0 +1,4 @@
+%precedence A
+%token X
+%%
+s : s A s %prec X | X ;
