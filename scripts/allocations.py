@@ -159,7 +159,7 @@ def sessions():
             yield name, stored(name)
     for page in (TOP / "docs" / "TUTORIAL.md", TOP / "docs" / "FAULTS.md"):
         for it in scenarios_of(page):
-            yield it.folder.name, it
+            yield "/".join(it.folder.parts[-3:]), it
     for at, it in enumerate((*SESSIONS, SHORT, ERRORS, EDITED)):
         yield f"session {at}", it.scenario()
 
@@ -170,7 +170,7 @@ def counts_right(name, it, programs, library):
     kinds, differs = Counter(), wrong(summed(made, it.wanted), it.wanted)
     for line in obeyed:
         kind = kind_of(line)
-        kinds[kind] += line.asked if kind == "steps" else 1
+        kinds[kind] += line.asked if kind == "steps" else not line.asked
         if line.asked and kind != "steps":
             differs.append(f"{line.asked} allocations at {line.text!r}\n")
     return name, differs, kinds

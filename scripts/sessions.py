@@ -107,10 +107,7 @@ ERRORS = Session(
     [
         ("run 20", lines(*steps(ERROR_STEPS))),
         ("back 16", lines(*undone(ERROR_STEPS))),
-        (
-            "show",
-            lines("0 running", "stack:", "rest: NUM NUM ';' NUM NUM ';'", "counter: 0", "errors: 0"),
-        ),
+        ("show", lines(FIRST[0], FIRST[1], "rest: NUM NUM ';' NUM NUM ';'", *FIRST[3:])),
     ],
 )
 EDITED = Session(

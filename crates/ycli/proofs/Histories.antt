@@ -7,7 +7,7 @@ use Rattle.ymachine.specs.declared.machine.Edit.TheVariants as edits
 use Rattle.ymachine.specs.declared.machine.StepKind.{StepKind}
 use Rattle.ymachine.specs.Machine.{Machine, Configuration, next, edited}
 use Rattle.ymachine.specs.Past.{Steps, Comes, LeadsTo, back_from, position}
-use Rattle.ymachine.specs.History.{History, IsHistory, first_configuration, first_history}
+use Rattle.ymachine.specs.History.{History, IsHistory, first_configuration}
 use Rattle.ycli.specs.Command.{Command}
 use Rattle.ycli.specs.Command.{Run, Back, To, Show, Tree, Unwind, Insert, Drop, Unknown}
 use Rattle.ycli.specs.Halves.{Parses}

@@ -1,5 +1,4 @@
-use Rattle.std.proofs.Common.{List, ap, map, reverse, ◌∙◌}
-use Rattle.ymachine.specs.Reversible.{past_by}
+use Rattle.std.proofs.Common.{ap, map, reverse, ◌∙◌}
 use Rattle.ymachine.proofs.Pasts.{kinds_before}
 use Rattle.ymachine.proofs.journal.Journal.changes.Goals as goal
 
