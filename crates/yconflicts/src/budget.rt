@@ -17,7 +17,22 @@ const ALL_FOR_SEVERAL: usize = 1_000_000;
 
 /// How many steps of all kinds a run may take: spots that are met, states and items that are looked
 /// at for them, symbols of forms, steps of trials.
-const ALL_STEPS: usize = 4_000_000;
+const ALL_STEPS: usize = 16_000_000;
+
+/// With so few steps left no further search is begun.
+const TOO_FEW_STEPS: usize = 1_000_000;
+
+/// A search ends after one part in so many of the steps that are left, so that others can follow.
+const PARTS: usize = 4;
+
+/// What one search may take.
+#[derive(Clone, Copy)]
+pub struct Allowance {
+    /// How many spots it may meet.
+    pub spots: usize,
+    /// With so few steps left it ends.
+    pub end: usize,
+}
 
 /// How many steps may still be taken.
 #[derive(Clone, Copy, Drop)]
@@ -25,7 +40,7 @@ pub struct Budget {
     /// How many spots searches for one way may still meet, and those for several.
     left: usize,
     left_for_several: usize,
-    /// How many steps of all kinds may still be taken; without one, each search ends late.
+    /// How many steps of all kinds may still be taken.
     steps: usize,
 }
 
@@ -44,13 +59,15 @@ impl Budget {
         }
     }
 
-    /// How many spots a search for so many ways may meet.
-    pub fn allowance(&self, ways: usize) -> usize {
-        if ways == 1 {
+    /// What a search for so many ways may take that begins now.
+    pub fn allowance(&self, ways: usize) -> Allowance {
+        let spots = if ways == 1 {
             part_of(self.left, MOST_SPOTS)
         } else {
             part_of(self.left_for_several, MOST_FOR_SEVERAL)
-        }
+        };
+        let end = self.steps.saturating_sub(self.steps / PARTS);
+        Allowance { spots, end }
     }
 
     /// Counts a spot that is met in a search for so many ways.
@@ -63,9 +80,14 @@ impl Budget {
         }
     }
 
-    /// Whether there are steps left.
+    /// Whether there are steps left for a further search.
     pub fn has_steps(&self) -> bool {
-        self.steps > 0
+        self.has_more_than(TOO_FEW_STEPS)
+    }
+
+    /// Whether more than so many steps are left.
+    pub fn has_more_than(&self, steps: usize) -> bool {
+        self.steps > steps
     }
 
     /// Takes steps from those that are left.

@@ -1,7 +1,7 @@
 //! The shortest ways to a state on which complete items have a token as their lookahead, by the
 //! canonical LR(1) items: sought backward from the state, the least possible length first.
 
-use crate::budget::{Budget, MOST_SPOTS};
+use crate::budget::{Allowance, Budget, MOST_SPOTS};
 use crate::costs::{Digest, Shortest, occurrences};
 use crate::lists::Lists;
 use crate::moves::Moves;
@@ -66,8 +66,8 @@ pub struct Search {
     token: Sym,
     /// How often a spot may be left: as many ways are found.
     tries: usize,
-    /// How many spots may still be met.
-    left: usize,
+    /// What may still be taken.
+    left: Allowance,
     nodes: Vec<Node>,
     queue: Queue,
     /// How often each spot was left; where several ways are wanted, with which lists of tokens.
@@ -149,7 +149,7 @@ fn rules_by_left(alloc: Global, grammar: &Grammar) -> Result<Lists<usize>, Alloc
 }
 
 impl Search {
-    fn new(alloc: Global, token: Sym, tries: usize, left: usize) -> Result<Search, AllocError> {
+    fn new(alloc: Global, token: Sym, tries: usize, left: Allowance) -> Result<Search, AllocError> {
         let mut needs = Vec::new(alloc);
         needs.push(Need::Free)?;
         Ok(Search {
@@ -167,7 +167,7 @@ impl Search {
 
     /// A spot waits, where at best a way of this length goes over it.
     fn put(&mut self, node: Node, best: u64) -> Result<(), AllocError> {
-        self.left = self.left.saturating_sub(1);
+        self.left.spots = self.left.spots.saturating_sub(1);
         let number = self.nodes.len();
         self.nodes.push(node)?;
         self.queue.put(best, number)
@@ -313,7 +313,7 @@ impl Finder {
         search: &mut Search,
     ) -> Result<Found, AllocError> {
         for _ in 0..MOST_SPOTS {
-            if search.left == 0 || !self.has_steps() {
+            if search.left.spots == 0 || !self.budget.has_more_than(search.left.end) {
                 break;
             }
             let Some((number, node)) = search.take()? else {
@@ -392,7 +392,7 @@ impl Finder {
         let firsts = self.opened(automaton, search, state, node.spot.first)?;
         let seconds = self.opened(automaton, search, state, node.spot.second)?;
         for place in firsts.start..firsts.end {
-            if search.left == 0 {
+            if search.left.spots == 0 {
                 break;
             }
             let first = search.need(place);
