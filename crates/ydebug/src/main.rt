@@ -304,7 +304,8 @@ fn debug_files<W: Write>(
             ended.map(|()| 0).map_err(Refused::from)
         }
         Err(status) => {
-            put_near_form(rt, &mut rt.stderr(), source.grammar.path)?;
+            // Why there is no session is said; memory may have run out, and a hint is no more.
+            let _ = put_near_form(rt, &mut rt.stderr(), source.grammar.path);
             Ok(status)
         }
     }
