@@ -1,5 +1,5 @@
 -- What `yacc` does, except its exit: how a run ended, its message and its exit status.
-use Rattle.std.specs.Prelude.{ℕ, ◌≡◌, ◌⊎◌, List, [], Option, Result, Ok, Err}
+use Rattle.std.specs.Prelude.{ℕ, ◌≡◌, ◌⊎◌, Bool, List, [], Option, Result, Ok, Err}
 use Rattle.ylink.specs.declared.link.Link.{Link}
 use Rattle.ytables.specs.declared.tables.Counts.{Counts}
 use Rattle.ywords.specs.declared.arguments.YaccWords.{YaccWords}
@@ -46,7 +46,7 @@ IsAnswer said (Err fault) (Err trouble) = IsGenerating said fault trouble
 
 module _ {D F : Type 0} (reads : D → List ℕ → List ℕ → D → Type 0)
     (unreadable : D → List ℕ → Type 0) (opens : D → List ℕ → F → D → Type 0)
-    (unwritable : D → List ℕ → Type 0) (closes : D → Link F → D → Type 0)
+    (unwritable : D → List ℕ → Type 0) (closes : D → Link F → Bool → D → Type 0)
     (contents : F → Option (List ℕ)) (old new : D) where
   -- the program passes on such an answer of the generator over the files of these words
   pub record PassesOn (said : YaccWords) (told : Result Counts Trouble) : Type 0 where
@@ -95,7 +95,7 @@ message_after (Err trouble) = message Yacc trouble
 -- what a run answers and does: its end, with the status and the message of that end
 pub record Runs {D F W E : Type 0} (reads : D → List ℕ → List ℕ → D → Type 0)
     (unreadable : D → List ℕ → Type 0) (opens : D → List ℕ → F → D → Type 0)
-    (unwritable : D → List ℕ → Type 0) (closes : D → Link F → D → Type 0)
+    (unwritable : D → List ℕ → Type 0) (closes : D → Link F → Bool → D → Type 0)
     (contents : F → Option (List ℕ)) (old new : D) (taken : W → Option (List ℕ))
     (messages : E → Option (List ℕ)) (words : List (List ℕ)) (w : W) (writer : Link W)
     (e : E) (errors : Link E) (answer : ℕ) : Type 0 where

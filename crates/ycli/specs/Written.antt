@@ -50,36 +50,45 @@ OpenFails unwritable path text old new (NoRoom failed) = (failed ≡ text) × (n
 OpenFails unwritable path text old new (Source fault) = ⊥
 OpenFails unwritable path text old new (Unwritten failed) = ⊥
 
-module _ {D F : Type 0} (closes : D → Link F → D → Type 0) (contents : F → Option (List ℕ)) where
+module _ {D F : Type 0} (closes : D → Link F → Bool → D → Type 0) (contents : F → Option (List ℕ))
+    where
   -- an open file took the text, all of it, or where a call of it failed no more than a beginning;
-  -- then it was closed
-  pub record Fills (t : TablesValue) (text : Text) (failed : Bool) (file : F) (old new : D)
+  -- then it was flushed and closed, and this is the answer: whether no call of it failed
+  pub record Fills (t : TablesValue) (text : Text) (done : Bool) (file : F) (old new : D)
       : Type 0 where
     pub link : Link F
     pub takes : (u : Guide) → IsGuide t.built u
-        → Takes (contents file) (contents (device_of link)) failed (text_of t u text)
-    pub flag : has_failed link ≡ failed
-    pub closed : closes old link new
+        → Takes (contents file) (contents (device_of link)) (has_failed link) (text_of t u text)
+    pub closed : closes old link done new
+    pub failed : has_failed link ≡ true → done ≡ false
 
   -- how writing to an open file ended: it took the text; or a call of it failed; or memory ran out
   -- before anything was written, and nobody closed it
   abbrev pub FillsBy : TablesValue → Text → F → D → D → Result (Unit {0}) GenerateFault → Type 0
-  FillsBy t text file old new (Ok done) = Fills t text false file old new
+  FillsBy t text file old new (Ok done) = Fills t text true file old new
   FillsBy t text file old new (Err (Unwritten failed)) =
-      (failed ≡ text) × Fills t text true file old new
+      (failed ≡ text) × Fills t text false file old new
   FillsBy t text file old new (Err (NoRoom failed)) = (failed ≡ text) × (new ≡ old)
   FillsBy t text file old new (Err (Source fault)) = ⊥
   FillsBy t text file old new (Err (Unopened failed)) = ⊥
 
-module _ {D F : Type 0} (opens : D → List ℕ → F → D → Type 0) (closes : D → Link F → D → Type 0)
-    (contents : F → Option (List ℕ)) where
+module _ {D F : Type 0} (opens : D → List ℕ → F → D → Type 0)
+    (closes : D → Link F → Bool → D → Type 0) (contents : F → Option (List ℕ)) where
   -- from one folder to the next, a file was opened once at this path, took the text, and was closed
-  pub record Writes (path : List ℕ) (t : TablesValue) (text : Text) (failed : Bool) (old new : D)
+  -- with this answer
+  pub record Writes (path : List ℕ) (t : TablesValue) (text : Text) (done : Bool) (old new : D)
       : Type 0 where
     pub file : F
     pub between : D
     pub opened : opens old path file between
-    pub filled : Fills closes contents t text failed file between new
+    pub filled : Fills closes contents t text done file between new
+
+  -- the table was written, and then the report where it is wanted
+  abbrev pub WritesAll : List ℕ → TablesValue → Bool → D → D → Type 0
+  WritesAll prefix t true old new = (between : D)
+      × Writes (path_of prefix Table) t Table true old between
+      × Writes (path_of prefix Report) t Report true between new
+  WritesAll prefix t false old new = Writes (path_of prefix Table) t Table true old new
 
   module _ (unwritable : D → List ℕ → Type 0) (prefix : List ℕ) (t : TablesValue) where
     -- why a text wasn't written to its file: it isn't open; or memory ran out before anything was
@@ -88,15 +97,8 @@ module _ {D F : Type 0} (opens : D → List ℕ → F → D → Type 0) (closes 
     WriteFails text old new (NoRoom failed) =
         (failed ≡ text) × ((new ≡ old) ⊎ ((file : F) × opens old (path_of prefix text) file new))
     WriteFails text old new (Unwritten failed) =
-        (failed ≡ text) × Writes (path_of prefix text) t text true old new
+        (failed ≡ text) × Writes (path_of prefix text) t text false old new
     WriteFails text old new fault = OpenFails unwritable (path_of prefix text) text old new fault
-
-    -- the table was written, and then the report where it is wanted
-    abbrev pub WritesAll : Bool → D → D → Type 0
-    WritesAll true old new = (between : D)
-        × Writes (path_of prefix Table) t Table false old between
-        × Writes (path_of prefix Report) t Report false between new
-    WritesAll false old new = Writes (path_of prefix Table) t Table false old new
 
     -- why not all was written: the table wasn't, and the report was not opened; or the table was,
     -- but the report, which is wanted, wasn't
@@ -104,12 +106,12 @@ module _ {D F : Type 0} (opens : D → List ℕ → F → D → Type 0) (closes 
     AllFail verbose old new fault =
         WriteFails Table old new fault
         ⊎ ((verbose ≡ true) × (between : D)
-        × Writes (path_of prefix Table) t Table false old between
+        × Writes (path_of prefix Table) t Table true old between
         × WriteFails Report between new fault)
 
 module _ {D F : Type 0} (reads : D → List ℕ → List ℕ → D → Type 0)
     (unreadable : D → List ℕ → Type 0) (opens : D → List ℕ → F → D → Type 0)
-    (unwritable : D → List ℕ → Type 0) (closes : D → Link F → D → Type 0)
+    (unwritable : D → List ℕ → Type 0) (closes : D → Link F → Bool → D → Type 0)
     (contents : F → Option (List ℕ)) (grammar prefix : List ℕ) (verbose : Bool) (old new : D) where
   -- all was written that is wanted of the tables of the grammar file, and these are the conflicts of
   -- all their cells
@@ -119,7 +121,7 @@ module _ {D F : Type 0} (reads : D → List ℕ → List ℕ → D → Type 0)
     pub has : HasTables reads grammar old between tables
     pub shift_reduce : counts.shift_reduce ≡ tables.shift_reduce
     pub reduce_reduce : counts.reduce_reduce ≡ tables.reduce_reduce
-    pub wrote : WritesAll opens closes contents unwritable prefix tables verbose between new
+    pub wrote : WritesAll opens closes contents prefix tables verbose between new
 
   -- there are tables of the grammar file, and not all was written
   pub record Stops (fault : GenerateFault) : Type 0 where

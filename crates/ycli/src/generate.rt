@@ -100,8 +100,8 @@ fn put_text<W: Write>(tables: &Tables, text: Text, link: &mut Link<W>) -> bool
     }
 }
 
-/// Writes a text to a file, through a buffer, and flushes it: the link to the file, whose flag says
-/// whether a call of it failed. `None` where memory ran out before anything was written.
+/// Writes a text to a file, through a buffer, which is then empty: the link to the file, whose flag
+/// says whether a call of it failed. `None` where memory ran out before anything was written.
 fn send<W: Write + Drop>(alloc: Global, tables: &Tables, text: Text, file: W) -> Option<Link<W>>
     ensures { IfSome result (λ link. (u : Guide) → IsGuide tables.now.built u
         → Takes (W.contents file) (W.contents (device_of link)) (has_failed link)
@@ -115,7 +115,7 @@ fn send<W: Write + Drop>(alloc: Global, tables: &Tables, text: Text, file: W) ->
     Some(link.finish())
 }
 
-/// Writes a text to the file that was opened for it, and closes the file.
+/// Writes a text to the file that was opened for it, flushes the file and closes it.
 fn write_file<D: Folder>(
     alloc: Global,
     tables: &Tables,
@@ -128,12 +128,10 @@ fn write_file<D: Folder>(
     let Some(link) = send(alloc, tables, text, file) else {
         return Err(GenerateFault::NoRoom(text));
     };
-    let failed = link.failed();
-    folder.close(link);
-    if failed {
-        Err(GenerateFault::Unwritten(text))
-    } else {
+    if folder.close(link) {
         Ok(())
+    } else {
+        Err(GenerateFault::Unwritten(text))
     }
 }
 
@@ -146,7 +144,7 @@ fn write_text<D: Folder>(
     prefix: &str,
 ) -> Result<(), GenerateFault>
     ensures wrote { OnOk result (Writes D.opens D.closes D.File.contents
-        (path_of prefix.now text) tables.now text false folder.old folder.new) }
+        (path_of prefix.now text) tables.now text true folder.old folder.new) }
     ensures fails { IfErr result (WriteFails D.opens D.closes D.File.contents D.unwritable
         prefix.now tables.now text folder.old folder.new) }
 {
@@ -164,8 +162,8 @@ fn write_texts<D: Folder>(
     prefix: &str,
     verbose: bool,
 ) -> Result<(), GenerateFault>
-    ensures wrote { OnOk result (WritesAll D.opens D.closes D.File.contents D.unwritable prefix.now
-        tables.now verbose folder.old folder.new) }
+    ensures wrote { OnOk result (WritesAll D.opens D.closes D.File.contents prefix.now tables.now
+        verbose folder.old folder.new) }
     ensures fails { IfErr result (AllFail D.opens D.closes D.File.contents D.unwritable prefix.now
         tables.now verbose folder.old folder.new) }
 {

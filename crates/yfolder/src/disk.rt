@@ -1,6 +1,7 @@
 //! The files of the file system.
 
-ghost use Rattle.std.specs.Prelude.{◌≡◌, ◌≤◌, ℕ, List, IfOk, IfSome, ⊤, length, take};
+ghost use Rattle.std.specs.Prelude.{◌≡◌, ◌≤◌, ℕ, true, false, List, IfOk, IfSome, ⊤, length, take};
+ghost use Rattle.ylink.specs.Link.{has_failed};
 ghost use Rattle.yfolder.specs.Disk.{disk_over};
 ghost use Rattle.yfolder.specs.Folder.{front};
 
@@ -71,7 +72,7 @@ impl<'a, F: Files> Folder for Disk<'a, F> {
 
     ghost unwritable = { λ _ _. ⊤ };
 
-    ghost closes = { λ before link after. after ≡ before };
+    ghost closes = { λ before link done after. after ≡ before };
 
     fn read(&mut self, alloc: Global, path: &str, most: Option<usize>) -> io::Result<Vec<u8>> {
         first_bytes(alloc, Link::new(fs::open(self.files, path)?), most)
@@ -81,9 +82,10 @@ impl<'a, F: Files> Folder for Disk<'a, F> {
         fs::create(self.files, path)
     }
 
-    fn close(&mut self, link: Link<F::File>)
-        ensures { self.new ≡ self.old }
+    fn close(&mut self, mut link: Link<F::File>) -> bool
+        ensures stays { self.new ≡ self.old }
+        ensures failed { has_failed link ≡ true → result ≡ false }
     {
-        drop(link);
+        !link.failed() && link.flush()
     }
 }

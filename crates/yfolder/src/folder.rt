@@ -1,7 +1,8 @@
 //! Files by their paths, as a contract can speak of them.
 
-ghost use Rattle.std.specs.Prelude.{◌≡◌, ◌≢◌, ℕ, List, IfOk, IfErr, OnErr};
+ghost use Rattle.std.specs.Prelude.{◌≡◌, ◌≢◌, ℕ, Bool, true, false, List, IfOk, IfErr, OnErr};
 ghost use Rattle.std.specs.IoError.{error_kind};
+ghost use Rattle.ylink.specs.Link.{has_failed};
 ghost use Rattle.ylink.specs.declared.link.Link.{Link};
 ghost use Rattle.yfolder.specs.Folder.{front};
 
@@ -32,9 +33,9 @@ pub trait Folder {
     /// A file at this path may refuse to be opened to be written.
     ghost unwritable: { Self → List ℕ → Type 0 };
 
-    /// From the first folder, the link's file was closed with what it has taken; that led to the
-    /// second folder.
-    ghost closes: { Self → Link Self.File → Self → Type 0 };
+    /// From the first folder, the link's file was flushed and closed with what it has taken, and
+    /// this is the answer: whether no call of it failed. That led to the second folder.
+    ghost closes: { Self → Link Self.File → Bool → Self → Type 0 };
 
     /// The first bytes of the file at this path: all, or at most so many where there is a limit.
     ///
@@ -55,7 +56,9 @@ pub trait Folder {
             error_kind error ≢ ErrorKind.OutOfMemory → unwritable self.old path.now) }
         ensures stays { OnErr result (self.new ≡ self.old) };
 
-    /// Closes a file.
-    fn close(&mut self, link: Link<Self::File>)
-        ensures { closes self.old link self.new };
+    /// Flushes a file and closes it: whether no call of it failed. Where one has failed before, the
+    /// file isn't flushed, only closed.
+    fn close(&mut self, link: Link<Self::File>) -> bool
+        ensures closed { closes self.old link result self.new }
+        ensures failed { has_failed link ≡ true → result ≡ false };
 }

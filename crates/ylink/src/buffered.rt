@@ -35,15 +35,23 @@ impl<W: Write + Drop> Buffered<W> {
         }
     }
 
-    /// Passes on what the buffer holds and flushes the device, unless a call has failed before;
-    /// the device, and whether all of this was done.
+    /// Passes on what the buffer holds, unless a call has failed before; the device, and whether it
+    /// took all.
     pub(crate) fn finish(self) -> (W, bool)
         ensures { Drains W.contents (buffer_of self) result.0 (not result.1) }
     {
-        let Buffered { mut buffer, failed } = self;
-        let done = !failed && buffer.flush().is_ok();
-        let (device, _left) = buffer.into_parts();
-        (device, done)
+        let Buffered { buffer, failed } = self;
+        if failed {
+            let (device, _left) = buffer.into_parts();
+            return (device, false);
+        }
+        match buffer.into_inner() {
+            Ok(device) => (device, true),
+            Err(error) => {
+                let (device, _left) = error.into_inner().into_parts();
+                (device, false)
+            }
+        }
     }
 }
 

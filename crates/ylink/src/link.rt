@@ -131,9 +131,9 @@ impl<W: Write> Link<W> {
 }
 
 impl<W: Write + Drop> Link<Buffered<W>> {
-    /// The link to the device below: what the buffer holds is passed on, and the device flushed,
-    /// unless a call has failed since the flag was cleared. The flag says whether one of these calls
-    /// failed, or one before.
+    /// The link to the device below: what the buffer holds is passed on, unless a call has failed
+    /// since the flag was cleared. The flag says whether one of these calls failed, or one before.
+    /// The device isn't flushed.
     pub fn finish(self) -> Link<W>
         ensures bytes { Drains W.contents (buffer_of (device_of self)) (device_of result)
             (has_failed result) }

@@ -1,8 +1,9 @@
 //! Two texts in memory as a folder: a session over them reads no file, and none of them can refuse.
 #![tactic(auto)]
 
-ghost use Rattle.std.specs.Prelude.{◌≡◌, ◌≢◌, ⊤, List, ℕ, IfErr, IfOk, IfSome, IfNone};
+ghost use Rattle.std.specs.Prelude.{◌≡◌, ◌≢◌, ⊤, true, false, List, ℕ, IfErr, IfOk, IfSome, IfNone};
 ghost use Rattle.std.specs.IoError.{error_kind};
+ghost use Rattle.ylink.specs.Link.{has_failed};
 ghost use Rattle.yfolder.specs.Folder.{front};
 ghost use Rattle.ytexts.specs.Texts.{Has, HasNone};
 
@@ -90,7 +91,7 @@ impl<'a> Folder for Texts<'a> {
 
     ghost unwritable = { λ _ _. ⊤ };
 
-    ghost closes = { λ before link after. after ≡ before };
+    ghost closes = { λ before link done after. after ≡ before };
 
     fn read(&mut self, alloc: Global, path: &str, most: Option<usize>) -> io::Result<Vec<u8>> {
         match self.at(path) {
@@ -103,9 +104,10 @@ impl<'a> Folder for Texts<'a> {
         Err(io::Error::from(ErrorKind::ReadOnlyFilesystem))
     }
 
-    fn close(&mut self, link: Link<io::Sink>)
-        ensures { self.new ≡ self.old }
+    fn close(&mut self, mut link: Link<io::Sink>) -> bool
+        ensures stays { self.new ≡ self.old }
+        ensures failed { has_failed link ≡ true → result ≡ false }
     {
-        drop(link);
+        !link.failed() && link.flush()
     }
 }

@@ -8,7 +8,7 @@ use Rattle.ycli.proofs.generate.generate.Goals as goal
 
 module _ {D F : Type 0} (reads : D → List ℕ → List ℕ → D → Type 0)
     (unreadable : D → List ℕ → Type 0) (opens : D → List ℕ → F → D → Type 0)
-    (unwritable : D → List ℕ → Type 0) (closes : D → Link F → D → Type 0)
+    (unwritable : D → List ℕ → Type 0) (closes : D → Link F → Bool → D → Type 0)
     (contents : F → Option (List ℕ)) (grammar prefix : List ℕ) (verbose : Bool) (old new : D) where
   -- no text is left unwritten for want of tables
   has_tables : (t : TablesValue) (fault : _) (between : D)
