@@ -4,7 +4,7 @@
 use std::env;
 use std::io::{self, ErrorKind, Write};
 use std::process::ExitCode;
-use ycli::generator::yacc_run;
+use ygenerate::generator::yacc_run;
 use ylink::Buffered;
 use ytables::Link;
 

@@ -1,0 +1,5 @@
+pub mod Sources
+pub mod Written
+pub mod Messages
+pub mod Programs
+pub mod Generating

@@ -1,0 +1,12 @@
+use Rattle.std.proofs.Common.{◌≡◌, ◌<◌, ◌^◌, drop}
+use Rattle.std.specs.Str.{all_ascii_digits}
+use Rattle.std.specs.Str.Parse.{digits_value, digits_value_after}
+use Rattle.ystepper.proofs.command.number_in.Given as goal
+
+-- digits so far with this value, and what is left is as it was
+abbrev pub invariant-loop-digit : goal.invariant-loop-digit
+invariant-loop-digit l = record {
+  small : l.number < 10 ^ l.digit-index;
+  value : digits_value_after 10 l.number (drop l.digit-index l.digits) ≡ digits_value 10 l.digits;
+  digits : all_ascii_digits (drop l.digit-index l.digits) ≡ all_ascii_digits l.digits;
+}

@@ -1,0 +1,14 @@
+use Rattle.std.proofs.Common.{◌≡◌, ◌-◌}
+use Rattle.yparse.specs.Session.{machine_of, history_of}
+use Rattle.ystepper.specs.Command as commands
+use Rattle.ystepper.proofs.Replying.{Replied, Undos}
+use Rattle.ystepper.proofs.reply.back.Given as goal
+
+-- whatever the remaining undos reply completes the whole reply
+abbrev pub invariant-loop-i : goal.invariant-loop-i
+invariant-loop-i g l = record {
+  machine : machine_of l.session ≡ machine_of l.initial.session;
+  replied : Replied g.W.Write.contents l.initial.writer l.writer (machine_of l.initial.session)
+      (history_of l.initial.session) (commands.Back l.count)
+      (Undos (machine_of l.initial.session) (l.count - l._i) l.made (history_of l.session));
+}

@@ -1,0 +1,10 @@
+pub mod Headline
+pub mod Command
+pub mod Line
+pub mod Lines
+pub mod Reply
+pub mod Transcript
+pub mod Reached
+pub mod Plain
+pub mod Serving
+pub mod Programs
