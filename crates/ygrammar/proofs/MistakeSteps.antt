@@ -23,10 +23,7 @@ use Rattle.ysymbols.proofs.NameSteps.{false_true}
 use Rattle.youtline.proofs.TokenSteps.{noted_behind, number_behind}
 use Rattle.ysymbols.proofs.NameSteps.{among_number, number_among}
 use Rattle.youtline.proofs.TokenSteps.{number_stays, token_among}
-
-or_split : (a b : Bool) → (a || b) ≡ true → (a ≡ true) ⊎ (b ≡ true)
-or_split true b h = inl refl
-or_split false b h = inr h
+use Rattle.std.proofs.lemmas.Bool.{cases_lt, or_cases}
 
 or_none : (a b : Bool) → (a || b) ≡ false → (a ≡ false) × (b ≡ false)
 or_none true b h = absurd (false_true (sym h))
@@ -43,7 +40,7 @@ not_false false h = absurd (false_true (sym h))
 there : {A : Type 0} (p : A → Bool) (xs : List A) → list_any p xs ≡ true → (x : A) × Contains xs x ×
     (p x ≡ true)
 there p [] h = absurd (false_true h)
-there {A = A} p (x ∷ xs) h = go (or_split (p x) (list_any p xs) h) (λ r. there p xs r)
+there {A = A} p (x ∷ xs) h = go (or_cases (p x) (list_any p xs) h) (λ r. there p xs r)
   where
     go : (p x ≡ true) ⊎ (list_any p xs ≡ true) → (list_any p xs ≡ true → (y : A) × Contains xs y ×
         (p y ≡ true)) → (y : A) × Contains (x ∷ xs) y × (p y ≡ true)
@@ -213,10 +210,7 @@ between_is t n = go (is_among (tokens t) n) refl
         (number_behind (tokens t) (noted_behind (tokens t) (map rule_left (rules t))).0 n h))
         (among_number (symbols t) n e) ∙ sym e
     behind h false e = past (length (tokens t)) (length (symbols t)) (number_in (symbols t) n)
-        (far (below_or (number_in (symbols t) n) (length (symbols t)))) ∙ sym e
-      where
-        below_or : (a b : ℕ) → (a < b) ⊎ (b ≤ a)
-        below_or a b = grind (arith)
+        (far (cases_lt (number_in (symbols t) n) (length (symbols t)))) ∙ sym e
 
         far : (number_in (symbols t) n < length (symbols t)) ⊎
             (length (symbols t) ≤ number_in (symbols t) n) → length (symbols t) ≤ number_in
@@ -273,7 +267,7 @@ pub start_found : (t : Tree) (ns : List Name) (k m : ℕ) (is : List Identifier)
     (λ i. not (is_between k (length ns) (number_in ns (printed_name i)))) is) → o ≡ Some a →
     Holds t BadStart
 start_found t ns k m is o a e f g j h q =
-    go (or_split (nat_le 2 m)
+    go (or_cases (nat_le 2 m)
     (list_any (λ i. not (is_between k (length ns) (number_in ns (printed_name i)))) is)
     (sym h ∙ some_true o a q))
   where

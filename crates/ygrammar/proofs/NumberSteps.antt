@@ -14,6 +14,8 @@ use Rattle.youtline.specs.Mistakes.{Clashes}
 use Rattle.ygrammar.specs.Numbers.{AreHolders, AreNumbers, IsHolders, IsLeast, IsOwn}
 use Rattle.ygrammar.specs.Numbers.{is_held, with_holder}
 use Rattle.ysymbols.proofs.NameSteps.{false_true}
+use Rattle.std.proofs.lemmas.Bool.{cases_eq}
+use Rattle.ysymbols.proofs.Numbers.{below_or_last}
 
 -- Of each number the holders among the first i tokens.
 pub record Holding (count : ℕ) (own : List (Option ℕ)) (table : List Holders) (i : ℕ) : Type 0 where
@@ -36,12 +38,6 @@ not_both : (own : List (Option ℕ)) (i a : ℕ) → slice_get own i ≡ Some No
 not_both own i a e f = false_true
     (ap (λ (o : Option (Option ℕ)).
     elim o [ None ↦ false | Some x ↦ elim x [ None ↦ false | Some n ↦ true ] ]) (sym e ∙ f))
-
-last_or : (j i : ℕ) → j < i + 1 → (j < i) ⊎ (j ≡ i)
-last_or j i h = grind (arith)
-
-same_or : (a b : ℕ) → (a ≡ b) ⊎ (a ≢ b)
-same_or a b = grind arith
 
 -- ---- holders
 
@@ -103,7 +99,7 @@ pub holders_skip : (count : ℕ) (own : List (Option ℕ)) (table : List Holders
 holders_skip count own table i e s = record {
   each = s.each;
   exact = λ m. same_holders (get_or table m Nobody) _ _
-      (λ k p. let l = p.0 in (omega arith, p.1)) (λ k p. back m k (last_or k i p.0) p.1) (s.exact
+      (λ k p. let l = p.0 in (omega arith, p.1)) (λ k p. back m k (below_or_last k i p.0) p.1) (s.exact
       m);
 }
   where
@@ -118,7 +114,7 @@ pub holders_more : (count : ℕ) (own : List (Option ℕ)) (table : List Holders
     Holding count own (set table n (with_holder (get_or table n Nobody) i)) (i + 1)
 holders_more count own table i n e within s = record {
   each = length-set table n (with_holder (get_or table n Nobody) i) ∙ s.each;
-  exact = λ m. at m (same_or m n);
+  exact = λ m. at m (cases_eq m n);
 }
   where
     more : (m k : ℕ) → (k < i) × (slice_get own k ≡ Some (Some m)) →
@@ -146,12 +142,12 @@ holders_more count own table i n e within s = record {
         (subst (λ h. IsHolders h (λ k. (k < i + 1) × (slice_get own k ≡ Some (Some n))))
         (sym (get_or-set_same table n (with_holder (get_or table n Nobody) i) Nobody within))
         (one_more (get_or table n Nobody) i _ _ (more n) (omega arith, e)
-        (λ k p. split k (last_or k i p.0) p.1) (s.exact n)))
+        (λ k p. split k (below_or_last k i p.0) p.1) (s.exact n)))
     at m (inr d) =
         subst (λ h. IsHolders h (λ k. (k < i + 1) × (slice_get own k ≡ Some (Some m))))
         (sym (get_or-set_other table n m (with_holder (get_or table n Nobody) i) Nobody d))
         (same_holders (get_or table m Nobody) _ _ (more m)
-        (λ k p. before m k d (last_or k i p.0) p.1) (s.exact m))
+        (λ k p. before m k d (below_or_last k i p.0) p.1) (s.exact m))
 
 pub holders_all : (count : ℕ) (own : List (Option ℕ)) (table : List Holders) (i : ℕ) →
     length own ≤ i → Holding count own table i → AreHolders count own table
@@ -241,9 +237,9 @@ numbers_own own ns new i cursor m e q s = subst (λ (xs : List ℕ). SoFar own x
       each = length_push ns m ∙ ap (λ n. n + 1) s.each;
       low = s.low;
       high = let h = s.high in omega arith;
-      kept = λ j n h f. kept_last j n (last_or j i h) f;
-      given = λ j n h f g. given_last j n (last_or j i h) f g;
-      below = λ j p h f g. below_last j p (last_or j i h) f g;
+      kept = λ j n h f. kept_last j n (below_or_last j i h) f;
+      given = λ j n h f g. given_last j n (below_or_last j i h) f g;
+      below = λ j p h f g. below_last j p (below_or_last j i h) f g;
       taken = λ u a b. taken_more u (s.taken u a b);
     })
   where
@@ -293,10 +289,10 @@ numbers_free own table ns new i cursor m few k e from bound free all q s =
       each = length_push ns m ∙ ap (λ n. n + 1) s.each;
       low = let h = s.low in omega arith;
       high = high_of (length table) few bound s.high;
-      kept = λ j n h f. kept_last j n (last_or j i h) f;
-      given = λ j n h f g. given_last j n (last_or j i h) f g;
-      below = λ j p h f g. below_last j p (last_or j i h) f g;
-      taken = λ u a b. taken_more u a (last_or u m b);
+      kept = λ j n h f. kept_last j n (below_or_last j i h) f;
+      given = λ j n h f g. given_last j n (below_or_last j i h) f g;
+      below = λ j p h f g. below_last j p (below_or_last j i h) f g;
+      taken = λ u a b. taken_more u a (below_or_last u m b);
     })
   where
     high_of : (n : ℕ) → n ≤ number_bound → m ≤ max cursor n → cursor ≤ number_bound + i →

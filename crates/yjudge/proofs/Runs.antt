@@ -3,7 +3,7 @@ use Rattle.std.proofs.Common.{ℕ, suc, ◌≡◌, ◌<◌, ◌≤◌, ◌+◌, 
 use Rattle.std.proofs.Common.{if◌then◌else◌, List, [], ◌∷◌, ◌++◌, Option, Some, None}
 use Rattle.std.proofs.Common.{length, drop, refl, sym, ◌∙◌, ap, subst, arith, reverse}
 use Rattle.std.specs.Prelude.{unwrap_or, IsSome}
-use Rattle.std.proofs.lemmas.Bool.{lt-ltb}
+use Rattle.std.proofs.lemmas.Bool.{lt-ltb, cases_lt}
 use Rattle.std.proofs.lemmas.List.{get_or_past, map-append}
 use Rattle.std.proofs.lemmas.List.Elements.{All-nil, All-cons}
 use Rattle.ylalr.specs.Collection.{bare_of, goto_in}
@@ -33,9 +33,6 @@ use Rattle.yjudge.specs.declared.verdict.Verdict.TheVariants as verdicts
 use Rattle.yjudge.specs.Judge.{Basis, AreStates, Reaches, CanReduce, top_of, ahead, below, reduced}
 use Rattle.yjudge.proofs.RunStates.{walk-append, no_symbols, on_top, pushed, cut}
 use Rattle.yjudge.proofs.OneVerdict.{limit_says}
-
-within_or_past : (n m : ℕ) → (n < m) ⊎ (m ≤ n)
-within_or_past n m = grind arith
 
 some_of : (o : Option ℕ) → IsSome o → o ≡ Some (unwrap_or o 0)
 some_of None h = let bad : false ≡ true = h in cc
@@ -133,7 +130,7 @@ module _ (t : Tables) (b : Basis t) where
 
   module _ (tokens : List ℕ) (f : Fits t.built.grammar tokens) where
     ahead_within : (taken : ℕ) → ahead tokens taken < count
-    ahead_within taken = by (within_or_past taken (length tokens))
+    ahead_within taken = by (cases_lt taken (length tokens))
       where
         by : (taken < length tokens) ⊎ (length tokens ≤ taken) → ahead tokens taken < count
         by (inl h) = (f taken 0 h).1
@@ -270,7 +267,7 @@ module _ (t : Tables) (b : Basis t) where
 
       -- the place of the token ahead, or of the end
       place : place_ahead tokens c.rest ≡ taken + 1
-      place = by (within_or_past taken (length tokens))
+      place = by (cases_lt taken (length tokens))
         where
           by : (taken < length tokens) ⊎ (length tokens ≤ taken)
               → place_ahead tokens c.rest ≡ taken + 1

@@ -9,7 +9,7 @@ use Rattle.yrows.specs.Marks.{Has}
 use Rattle.yrows.specs.Rows.{BitRows, Holds, Grows, IsSized}
 use Rattle.yrows.proofs.Growth.{sized_then}
 use Rattle.yrows.proofs.MarkSteps.{kept_marked, marked_cases, none_marked}
-use Rattle.yrows.proofs.Turn.{below_or_is}
+use Rattle.ysymbols.proofs.Numbers.{below_or_last}
 use Rattle.ylalr.specs.Behind.{FormHas, AddsAtMost, HasForm, rest_of, BehindTo}
 
 -- no rule was noted
@@ -70,11 +70,11 @@ module _ (g : ContextFree) (n : List Bool) (m : BitRows) (k : ℕ) (o w : BitRow
     marks = s.marks ∙ i.marks;
     begun = λ r b. (
       (λ h. begun_to r b (s.sound r b h)),
-      (λ z. begun_from r b (below_or_is r k z.0) z.1),
+      (λ z. begun_from r b (below_or_last r k z.0) z.1),
     );
     vanishes = λ r. (
       (λ h. vanishes_to r ((s.marked r).0 h)),
-      (λ z. vanishes_from r (below_or_is r k z.0) z.1),
+      (λ z. vanishes_from r (below_or_last r k z.0) z.1),
     );
   }
 

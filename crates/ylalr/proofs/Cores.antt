@@ -14,6 +14,7 @@ use Rattle.ylalr.specs.States.{StateLists, set_at, AreStates, IsState, GotoIs, s
 use Rattle.ylalr.proofs.Ascending.{same_ascending}
 use Rattle.ylalr.proofs.Live.{live_from_valid}
 use Rattle.ylalr.proofs.Fruitful.{valid_from_live, valid_rule}
+use Rattle.std.proofs.Math.Nat.{eq-zero-or-pos}
 
 pub closed_map : {g : ContextFree} {K L : ℕ → ℕ → Type 0} {r d : ℕ} → ((r d : ℕ) → K r d → L r d) →
     Closure g K r d → Closure g L r d
@@ -158,12 +159,9 @@ module _ (g : ContextFree) (t : StateLists) (are : AreStates g t) (p : List ℕ)
       begin_dot : (i : Item) → Begin i.rule i.dot → 0 < i.dot → ⊥
       begin_dot i b h = begin_zero b h
 
-  zero_or : (q : ℕ) → (q ≡ 0) ⊎ (0 < q)
-  zero_or q = grind arith
-
   pub once : (q n : ℕ) → q < length t.closures → n < length t.closures →
       IsCore g p (set_at t.closures q) → IsCore g p (set_at t.closures n) → q ≡ n
-  once q n a b c e = go (zero_or q) (zero_or n)
+  once q n a b c e = go (eq-zero-or-pos q) (eq-zero-or-pos n)
     where
       go : (q ≡ 0) ⊎ (0 < q) → (n ≡ 0) ⊎ (0 < n) → q ≡ n
       go (inl x) (inl y) = x ∙ sym y

@@ -29,6 +29,7 @@ use Rattle.ylalr.proofs.BeginsWith.{found_first, last_first, cases}
 use Rattle.yrows.proofs.Turn.{same_default}
 use Rattle.yspread.proofs.LinkSteps.{link_cases, links_push, no_link, are_links_none}
 use Rattle.ylalr.proofs.LookSteps.{some_spread, spread_token}
+use Rattle.ysymbols.proofs.Numbers.{below_or_last}
 
 order : (j k : ℕ) → (j < k) ⊎ ((j ≡ k) ⊎ (k < j))
 order j k = grind arith
@@ -439,16 +440,13 @@ no_links P m l e none z w = record {
   carried = λ p t h. absurd (no_link l none p t h);
 }
 
-below_or : (k i : ℕ) → k < i + 1 → (k < i) ⊎ (k ≡ i)
-below_or k i h = grind arith
-
 -- one more item of a state is served
 pub served_more : (P : Lr0) (d e : DraftValue) (q k : ℕ) (xs : List Item) (rows : List ℕ)
     (v : Item) → xs ≡ set_at P.states.closures q → rows ≡ rows_at P.item_rows q → k < length xs →
     Further d e → ((i : Item) (p : ℕ) (z : RowIn P q i p) → z.at.index < k → ServesAt P d q i p) →
     ServesAt P e q (get_or xs k v) (get_or rows k 0) → (i : Item) (p : ℕ) (z : RowIn P q i p) →
     z.at.index < k + 1 → ServesAt P e q i p
-served_more P d e q k xs rows v ex er h m s last i p z l = go (below_or z.at.index k l)
+served_more P d e q k xs rows v ex er h m s last i p z l = go (below_or_last z.at.index k l)
   where
     go : (z.at.index < k) ⊎ (z.at.index ≡ k) → ServesAt P e q i p
     go (inl w) = serves_kept P d e q p i m (s i p z w)

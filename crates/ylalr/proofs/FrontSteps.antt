@@ -12,7 +12,7 @@ use Rattle.yrows.specs.Marks.{Has}
 use Rattle.yrows.specs.Rows.{BitRows, Holds}
 use Rattle.ylalr.specs.Sets.{FirstRule, itself, through}
 use Rattle.yspread.proofs.LinkSteps.{link_there, link_kept, link_cases, are_links_none, no_link}
-use Rattle.yrows.proofs.Turn.{below_or_is}
+use Rattle.ysymbols.proofs.Numbers.{below_or_last}
 
 -- s stands at one of the first k places of x
 abbrev pub StandsBelow : List ℕ → ℕ → ℕ → Type 0
@@ -53,7 +53,7 @@ below_push x k to l m v a h e s t = (λ c. down (link_cases m v (get_or x k 0) t
 
     up : Link l s t ⊎ (StandsBelow x (k + 1) s × (t ≡ to)) → Link v s t
     up (inl c) = link_kept m v (get_or x k 0) to h e s t ((a s t).1 (inl c))
-    up (inr c) = new c.1 c.0.0 c.0.2 (below_or_is c.0.0 k c.0.1)
+    up (inr c) = new c.1 c.0.0 c.0.2 (below_or_last c.0.0 k c.0.1)
 
 -- the places below k are those in front
 front_whole : (n : List Bool) (x : List ℕ) (k to : ℕ) (l v : List (List ℕ)) →
@@ -132,7 +132,7 @@ pub leads_more : (g : ContextFree) (n : List Bool) (r to : ℕ) (x : List ℕ) (
     AddsFront n x to l v → AreFrontLinks g n r l → AreFrontLinks g n (r + 1) v
 leads_more g n r to x l v w et ex el a b = record {
   links = record { sized = el ∙ b.links.sized; within = λ s t h. within s t ((a s t).0 h) };
-  exact = λ s t. (λ h. down s t ((a s t).0 h), λ h. up s t h (below_or_is h.rule r h.below));
+  exact = λ s t. (λ h. down s t ((a s t).0 h), λ h. up s t h (below_or_last h.rule r h.below));
 }
   where
     within : (s t : ℕ) → Link l s t ⊎ ((t ≡ to) × InFront n x s) → t < g.symbols
@@ -174,7 +174,7 @@ leads_more g n r to x l v w et ex el a b = record {
 pub each_more : (row : ℕ → ℕ) (k to : ℕ) (m o : BitRows) → to ≡ row k →
     ((s c : ℕ) → Holds o s c ↔ (Holds m s c ⊎ ((s ≡ to) × (c ≡ k)))) → HasEach row k m →
     HasEach row (k + 1) o
-each_more row k to m o e a h s c = (λ x. down ((a s c).0 x), λ x. up x (below_or_is c k x.0))
+each_more row k to m o e a h s c = (λ x. down ((a s c).0 x), λ x. up x (below_or_last c k x.0))
   where
     down : Holds m s c ⊎ ((s ≡ to) × (c ≡ k)) → (c < k + 1) × (s ≡ row c)
     down (inl x) = let y = (h s c).0 x in ((let z = y.0 in omega arith), y.1)

@@ -12,14 +12,12 @@ use Rattle.ysymbols.specs.WellFormed.{WellFormed}
 use Rattle.ysymbols.proofs.Derivations.{within, token_productive, words}
 use Rattle.ylalr.specs.Sets.{Closure, given, opened, Kernel, moved, Begin, begin}
 use Rattle.ylalr.proofs.Live.{Live}
+use Rattle.std.proofs.lemmas.Bool.{cases_lt}
 
 symbol_productive : (g : ContextFree) → WellFormed g → (s : ℕ) → s < g.symbols →
     (s < g.tokens) ⊎ (g.tokens ≤ s) → Productive g s
 symbol_productive g w s h (inl t) = token_productive g s t
 symbol_productive g w s h (inr t) = w.productive s t h
-
-below_or : (a b : ℕ) → (a < b) ⊎ (b ≤ a)
-below_or a b = grind arith
 
 front : (g : ContextFree) (x : List ℕ) (a : ℕ) (w : List ℕ) → All (IsToken g) w → IsToken g a →
     Derives (IsRule g) x (w ++ a ∷ []) → (b : ℕ) × First g x b
@@ -32,7 +30,7 @@ pub some_first : (g : ContextFree) → WellFormed g → (y : List ℕ) (a : ℕ)
     All (λ s. s < g.symbols) y → IsToken g a → (b : ℕ) × First g (y ++ a ∷ []) b
 some_first g w y a h k =
     let v = words g y (All-weaker (λ s. s < g.symbols) (Productive g)
-    (λ s k. symbol_productive g w s k (below_or s g.tokens)) y h) in
+    (λ s k. symbol_productive g w s k (cases_lt s g.tokens)) y h) in
     front g (y ++ a ∷ []) a v.word v.tokens k (within [] (a ∷ []) v.derives)
 
 pub valid_token : {g : ContextFree} {p : List ℕ} {r d a : ℕ} → WellFormed g → Valid g p r d a →

@@ -15,7 +15,9 @@ use Rattle.ylalr.specs.Gotos.{lookup, IsAscendingRow}
 use Rattle.ylalr.specs.States.{StateLists, set_at, AreStates, Extends, MayJoin, IsKernel, GotoIs}
 use Rattle.ylalr.specs.States.{RowIs, RowsAre}
 use Rattle.ylalr.proofs.Cores.{may_join, moved_dot}
-use Rattle.ylalr.proofs.StateSteps.{push_old, push_new, last_or}
+use Rattle.ylalr.proofs.StateSteps.{push_old, push_new}
+use Rattle.ysymbols.proofs.Numbers.{below_or_last}
+use Rattle.std.proofs.lemmas.Bool.{cases_lt, cases_eq}
 
 pub goto_kept : (g : ContextFree) (s t : StateLists) (q x : ℕ) (to : Option ℕ) → Extends s t →
     q < length s.closures → GotoIs g s q x to → GotoIs g t q x to
@@ -51,9 +53,6 @@ goto_some g s t q x n k a e h l z = (
   subst (λ v. IsAdvanced g v x (set_at t.kernels n)) (sym (e.closures q h))
       (subst (λ j. IsAdvanced g (set_at s.closures q) x j) (sym z) a),
 )
-
-same_or : (a b : ℕ) → (a ≡ b) ⊎ (a ≢ b)
-same_or a b = grind arith
 
 test_other : {X : Type 0} (a b : ℕ) (x y : X) → a ≢ b → (if a == b then x else y) ≡ y
 test_other a b x y n = grind (arith, nat_tests)
@@ -97,9 +96,6 @@ rowing_kept g s t q n row e h r = record {
   order = r.order;
 }
 
-below_or : (x n : ℕ) → (x < n) ⊎ (n ≤ x)
-below_or x n = grind arith
-
 lower : (n : ℕ) {m : ℕ} (row : List Goto) → n ≤ m → All (λ (a : Goto). a.symbol < n) row →
     All (λ (a : Goto). a.symbol < m) row
 lower n row le f k d h = let l = f k d h in omega arith
@@ -111,7 +107,7 @@ wider n row f k d h = let l = f k d h in omega arith
 pub rowing_skip : (g : ContextFree) (s : StateLists) (q n m : ℕ) (row : List Goto) → n ≤ m →
     ((x : ℕ) → n ≤ x → x < m → GotoIs g s q x None) → Rowing g s q n row → Rowing g s q m row
 rowing_skip g s q n m row le z r = record {
-  gotos = λ x h. go x h (below_or x n);
+  gotos = λ x h. go x h (cases_lt x n);
   below =
       lower n row le r.below;
   order = r.order;
@@ -126,7 +122,7 @@ pub rowing_push : (g : ContextFree) (s : StateLists) (q n m : ℕ) (row : List G
     (Some m) → Rowing g s q n row → Rowing g s q (n + 1)
     (row ++ record { symbol = n; state = m } ∷ [])
 rowing_push g s q n m row z r = record {
-  gotos = λ x h. go x (last_or x n h);
+  gotos = λ x h. go x (below_or_last x n h);
   below = All-push (λ (a : Goto). a.symbol < n + 1) row (record { symbol = n; state = m })
       (wider n row r.below) (omega arith);
   order = all_pairs_push (λ (a b : Goto). a.symbol < b.symbol) row
@@ -148,8 +144,8 @@ pub rows_push : (g : ContextFree) (s t : StateLists) (n : ℕ) (xs : List (List 
     (o : List Goto) → Extends s t → n ≤ length s.closures → length xs ≡ n → RowsAre g s n xs →
     RowIs g t n o → IsAscendingRow o → RowsAre g t (n + 1) (xs ++ o ∷ [])
 rows_push g s t n xs o e l z r i a = record {
-  gotos = λ q h. go q (last_or q n h);
-  order = λ q h. asc q (last_or q n h);
+  gotos = λ q h. go q (below_or_last q n h);
+  order = λ q h. asc q (below_or_last q n h);
 }
   where
     go : (q : ℕ) → (q < n) ⊎ (q ≡ n) → RowIs g t q (get_or (xs ++ o ∷ []) q [])

@@ -11,15 +11,14 @@ use Rattle.ylalr.specs.Sets.{Before, IsAscending, InRange}
 use Rattle.ylalr.specs.States.{StateLists, set_at, start_item}
 use Rattle.ylalr.specs.ItemRows.{ItemRows, At, Starts, Shares, AreRows, FillRows, AreLefts, TakesRow}
 use Rattle.ylalr.specs.ItemRows.{AreItemRows, HasTwin, TakesOne}
-use Rattle.ylalr.proofs.StateSteps.{push_old, push_new, push_length, last_or}
-
-same_or : (a b : ℕ) → (a ≡ b) ⊎ (a ≢ b)
-same_or a b = grind arith
+use Rattle.ylalr.proofs.StateSteps.{push_old, push_new, push_length}
+use Rattle.ysymbols.proofs.Numbers.{below_or_last}
+use Rattle.std.proofs.lemmas.Bool.{cases_eq}
 
 pub at_push : (xs : List Item) (rows : List ℕ) (x i : Item) (p t : ℕ) → length rows ≡ length xs →
     At (xs ++ x ∷ []) (rows ++ p ∷ []) i t → At xs rows i t ⊎ ((i ≡ x) × (t ≡ p))
 at_push xs rows x i p t e a =
-    go (last_or a.index (length xs) (subst (λ k. a.index < k) (push_length xs x) a.within))
+    go (below_or_last a.index (length xs) (subst (λ k. a.index < k) (push_length xs x) a.within))
   where
     go : (a.index < length xs) ⊎ (a.index ≡ length xs) → At xs rows i t ⊎ ((i ≡ x) × (t ≡ p))
     go (inl h) = inl (record {
@@ -192,14 +191,14 @@ module _ (g : ContextFree) (xs : List Item) (rows : List ℕ) (first end next p 
   shared i k t u (inr a) (inr b) d o = a.1 ∙ sym b.1
 
   grown : end ≤ next
-  grown = go (same_or p end)
+  grown = go (cases_eq p end)
     where
       go : (p ≡ end) ⊎ (p ≢ end) → end ≤ next
       go (inl e) = let z = same e in omega arith
       go (inr e) = let z = other e in omega arith
 
   little : next ≤ end + 1
-  little = go (same_or p end)
+  little = go (cases_eq p end)
     where
       go : (p ≡ end) ⊎ (p ≢ end) → next ≤ end + 1
       go (inl e) = let z = same e in omega arith
@@ -242,7 +241,7 @@ module _ (g : ContextFree) (xs : List Item) (rows : List ℕ) (first end next p 
       go (inl (inl z)) = kept (subst (λ (l : List (Option ℕ)). get_or l s None ≡ Some t) z.2 e)
       go (inl (inr (ep, inl z))) =
           kept (subst (λ (l : List (Option ℕ)). get_or l s None ≡ Some t) z.1 e)
-      go (inl (inr (ep, inr z))) = given ep z.0 (same_or s (left_of g x.rule))
+      go (inl (inr (ep, inr z))) = given ep z.0 (cases_eq s (left_of g x.rule))
           (subst (λ (l : List (Option ℕ)). get_or l s None ≡ Some t) z.2 e)
 
   every : (i : Item) (t : ℕ) → At xs rows i t ⊎ ((i ≡ x) × (t ≡ p)) → i.dot ≡ 0 →
@@ -325,9 +324,9 @@ pub placing_push : (g : ContextFree) (s : StateLists) (q : ℕ) (rows more : Lis
 placing_push g s q rows more list total end p em f hn = subst (λ xs. Placing g s (q + 1) xs end)
     (sym em) (record {
       sized = push_length rows list ∙ ap (λ n. n + 1) p.sized;
-      each = λ n h. each n (last_or n q h);
-      below = λ n i t h a. below n i t (last_or n q h) a;
-      apart = λ n m i k t h l a b. apart n m i k t (last_or n q h) (last_or m q l) a b;
+      each = λ n h. each n (below_or_last n q h);
+      below = λ n i t h a. below n i t (below_or_last n q h) a;
+      apart = λ n m i k t h l a b. apart n m i k t (below_or_last n q h) (below_or_last m q l) a b;
       small = (let a = p.small in let b = f.short in omega (arith, a, b, hn));
     })
   where

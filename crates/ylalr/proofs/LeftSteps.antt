@@ -7,15 +7,9 @@ use Rattle.ysymbols.specs.Grammar.{ContextFree, left_of}
 use Rattle.ylalr.specs.declared.items.Item.{Item}
 use Rattle.ylalr.specs.ItemRows.{At, Starts, AreRows, AreLefts}
 use Rattle.yrows.proofs.Turn.{same_default}
-
-same_or : (a b : ℕ) → (a ≡ b) ⊎ (a ≢ b)
-same_or a b = grind arith
-
-last_or : (k n : ℕ) → k < n + 1 → (k < n) ⊎ (k ≡ n)
-last_or k n h = grind arith
-
-zero_or : (n : ℕ) → (n ≡ 0) ⊎ (0 < n)
-zero_or n = grind arith
+use Rattle.std.proofs.Math.Nat.{eq-zero-or-pos}
+use Rattle.ysymbols.proofs.Numbers.{below_or_last}
+use Rattle.std.proofs.lemmas.Bool.{cases_eq}
 
 -- the items before place k were noted
 pub record Noting (g : ContextFree) (xs : List Item) (rows : List ℕ) (k : ℕ)
@@ -43,7 +37,7 @@ module _ (g : ContextFree) (xs : List Item) (rows : List ℕ) (k : ℕ) (x : Ite
   noting_moved d e = subst (Noting g xs rows (k + 1)) (sym e) (record {
     sized = n.sized;
     found = n.found;
-    every = λ i t a h z. every i t a z (last_or a.index k h);
+    every = λ i t a h z. every i t a z (below_or_last a.index k h);
   })
     where
       every : (i : Item) (t : ℕ) (a : At xs rows i t) → i.dot ≡ 0 → (a.index < k) ⊎ (a.index ≡ k) →
@@ -56,9 +50,9 @@ module _ (g : ContextFree) (xs : List Item) (rows : List ℕ) (k : ℕ) (x : Ite
       (k + 1) new
   noting_set d e = subst (Noting g xs rows (k + 1)) (sym e) (record {
     sized = length-set old (left_of g x.rule) (Some p) ∙ n.sized;
-    found = λ s t h. found s t (same_or s (left_of g x.rule)) h;
-    every = λ i t a h z. every i t a z (last_or a.index k h)
-        (same_or (left_of g i.rule) (left_of g x.rule));
+    found = λ s t h. found s t (cases_eq s (left_of g x.rule)) h;
+    every = λ i t a h z. every i t a z (below_or_last a.index k h)
+        (cases_eq (left_of g i.rule) (left_of g x.rule));
   })
     where
       now : get_or (set old (left_of g x.rule) (Some p)) (left_of g x.rule) None ≡ Some p
@@ -90,7 +84,7 @@ module _ (g : ContextFree) (xs : List Item) (rows : List ℕ) (k : ℕ) (x : Ite
 
   pub noting_push : (x.dot ≡ 0 → new ≡ set old (left_of g x.rule) (Some p)) →
       (0 < x.dot → new ≡ old) → Noting g xs rows (k + 1) new
-  noting_push f m = go (zero_or x.dot)
+  noting_push f m = go (eq-zero-or-pos x.dot)
     where
       go : (x.dot ≡ 0) ⊎ (0 < x.dot) → Noting g xs rows (k + 1) new
       go (inl d) = noting_set d (f d)

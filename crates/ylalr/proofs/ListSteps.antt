@@ -12,6 +12,8 @@ use Rattle.yrows.specs.Rows.{BitRows, Holds, AddsFrom}
 use Rattle.ylalr.specs.Sets.{Before, IsAscending, InRange, ItemsOf, Closure, given, IsClosure}
 use Rattle.ylalr.specs.Sets.{LeadsTo, FirstRule}
 use Rattle.ylalr.proofs.ClosureSteps.{closed_cases, closed_from_opened}
+use Rattle.std.proofs.Math.Nat.{eq-zero-or-pos}
+use Rattle.std.proofs.lemmas.Bool.{cases_lt}
 
 pub before_then : (i j k : Item) → Before i j → Before j k → Before i k
 before_then i j k (inl x) (inl y) = inl (omega arith)
@@ -44,12 +46,6 @@ contains_push xs p i = (down, up)
     up : Contains xs i ⊎ (i ≡ p) → Contains (xs ++ p ∷ []) i
     up (inl x) = Contains-append_left xs (p ∷ []) i x
     up (inr e) = subst (λ j. Contains (xs ++ p ∷ []) j) (sym e) (Contains-push xs p)
-
-cases_lt : (a b : ℕ) → (a < b) ⊎ (b ≤ a)
-cases_lt a b = grind arith
-
-cases_zero : (a : ℕ) → (a ≡ 0) ⊎ (0 < a)
-cases_zero a = grind arith
 
 abbrev pub first_of : ℕ → Item
 first_of r = record { rule = r; dot = 0 }
@@ -152,7 +148,7 @@ pub record Until (p : Item) (to : ℕ) : Type 0 where
 
 -- an opened item is before p
 opened_before : (p i : Item) (to : ℕ) → Until p to → i.dot ≡ 0 → i.rule < to → Before i p
-opened_before p i to u z l = go (cases_zero p.dot)
+opened_before p i to u z l = go (eq-zero-or-pos p.dot)
   where
     go : (p.dot ≡ 0) ⊎ (0 < p.dot) → Before i p
     go (inl y) = inl (let b = u.first y in omega arith)
@@ -249,7 +245,7 @@ merge_step w kernel out more n at to p asc m h e u o = record {
             (inl ((o.exact (record { rule = r; dot = 0 })).1 (inl (m.opened r y x))))
         go (inr y) (inl z) = (contains_push more p (record { rule = r; dot = 0 })).1
             (inl ((o.exact (record { rule = r; dot = 0 })).1 (inr (refl, y, z, x))))
-        go (inr y) (inr z) = last (cases_zero p.dot) z
+        go (inr y) (inr z) = last (eq-zero-or-pos p.dot) z
 
     rest : (k : ℕ) (d : Item) → n + 1 ≤ k → k < length kernel →
         All (λ i. Before i (get_or kernel k d)) (more ++ p ∷ [])

@@ -10,6 +10,7 @@ use Rattle.ylalr.specs.Sets.{IsClosure, IsAscending, InRange}
 use Rattle.ylalr.specs.States.{StateLists, set_at, start_item, IsState, AreStates, Extends, MayJoin}
 use Rattle.ylalr.specs.States.{with_state, IsFresh, Overflows}
 use Rattle.ylalr.proofs.Cores.{core_start}
+use Rattle.ysymbols.proofs.Numbers.{below_or_last}
 
 pub push_old : {X : Type 0} (xs : List X) (x d : X) (k : ℕ) → k < length xs →
     get_or (xs ++ x ∷ []) k d ≡ get_or xs k d
@@ -27,9 +28,6 @@ push_new (y ∷ xs) x d (suc k) e = push_new xs x d k (omega arith)
 pub push_length : {X : Type 0} (xs : List X) (x : X) → length (xs ++ x ∷ []) ≡ length xs + 1
 push_length [] x = omega arith
 push_length (y ∷ xs) x = let z = push_length xs x in omega arith
-
-pub last_or : (k n : ℕ) → k < n + 1 → (k < n) ⊎ (k ≡ n)
-last_or k n h = grind arith
 
 pub extends_then : (s t u : StateLists) → Extends s t → Extends t u → Extends s u
 extends_then s t u a b = record {
@@ -53,7 +51,7 @@ states_push g s k w are may fresh shut asc range = record {
   where
     place : (q : ℕ) → q < length (s.closures ++ w ∷ []) → (q < length s.closures) ⊎
         (q ≡ length s.closures)
-    place q h = last_or q (length s.closures) (subst (λ t. q < t) (push_length s.closures w) h)
+    place q h = below_or_last q (length s.closures) (subst (λ t. q < t) (push_length s.closures w) h)
 
     kernel_old : (q : ℕ) → q < length s.closures → set_at (s.kernels ++ k ∷ []) q ≡ set_at s.kernels
         q

@@ -22,6 +22,7 @@ use Rattle.ylalr.specs.Collection.{HasStates, IsGoto, Guide, IsGuide, TooMany}
 use Rattle.yrows.specs.Limits.{most_states}
 use Rattle.ylalr.proofs.Cores.{every, once, core_start, core_goto, source_item}
 use Rattle.ylalr.proofs.LookSteps.{looks_exact, looks_none}
+use Rattle.std.proofs.lemmas.Bool.{or_cases}
 
 contains_filled : (k : List Item) (i : Item) → Contains k i → 0 < length k
 contains_filled k i c = let h = c.1 in omega arith
@@ -110,10 +111,6 @@ item_to i j e =
     let x : i.rule ≡ j.rule = ap (λ (t : Item). t.rule) e in
     let y : i.dot ≡ j.dot = ap (λ (t : Item). t.dot) e in
     grind (arith, nat_tests)
-
-or_cases : (a b : Bool) → (a || b) ≡ true → (a ≡ true) ⊎ (b ≡ true)
-or_cases true b e = inl refl
-or_cases false b e = inr e
 
 and_cases : (a b : Bool) → (a && b) ≡ true → (a ≡ true) × (b ≡ true)
 and_cases true b e = (refl, e)

@@ -13,6 +13,7 @@ use Rattle.ytables.specs.Tables.{default_by, tokens_of}
 use Rattle.ymachine.specs.Machine.{Machine}
 use Rattle.ymachine.specs.MachineOver.{move_of}
 use Rattle.ymachine.specs.Headline.{IsStateOf, IsDead, move_by, IsMachineOf}
+use Rattle.std.proofs.lemmas.Bool.{cases_lt}
 
 same_bool : (a b : Bool) (P : Type 0) → IsTrue a ↔ P → IsTrue b ↔ P → a ≡ b
 same_bool true true P f h = refl
@@ -61,14 +62,11 @@ module _ (v : GrammarValue) (k : List Item) (one two : Item → ℕ → Bool) (s
 -- two machines of one grammar have the same cells
 pub one_machine : (v : GrammarValue) (m n : Machine) → IsMachineOf v m → IsMachineOf v n
     → (stack : List ℕ) (t : ℕ) → m.cell stack t ≡ n.cell stack t
-one_machine v m n f h stack t = by (f.state stack) (side t v.bare.tokens)
-  where
-    side : (a b : ℕ) → (a < b) ⊎ (b ≤ a)
-    side a b = grind arith
+one_machine v m n f h stack t = by (f.state stack) (cases_lt t v.bare.tokens)
 
     by : IsDead v.bare stack ⊎ ((k : List Item) × IsStateOf v.bare stack k)
         → (t < v.bare.tokens) ⊎ (v.bare.tokens ≤ t) → m.cell stack t ≡ n.cell stack t
-    by (inl d) side = f.dead stack t d ∙ sym (h.dead stack t d)
+    by (inl d) cases_lt = f.dead stack t d ∙ sym (h.dead stack t d)
     by (inr k) (inr l) = f.beyond stack t l ∙ sym (h.beyond stack t l)
     by (inr k) (inl l) =
         let a = f.cell stack k.0 t k.1 l in

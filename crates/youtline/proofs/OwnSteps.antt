@@ -32,6 +32,7 @@ use Rattle.ysymbols.proofs.NameSteps.{eq_self}
 use Rattle.youtline.proofs.TellingSteps.{is_none, passes, same_number, says, skips_at}
 use Rattle.ysymbols.proofs.NameSteps.{false_true}
 use Rattle.youtline.proofs.TellingSteps.{twice}
+use Rattle.std.proofs.lemmas.Bool.{cases_eq}
 
 -- one more digit
 pub value_more : (ds : List ℕ) (i value digit d : ℕ) → i < length ds → value ≡ digits_value 10
@@ -84,10 +85,7 @@ unfit n h = go (small_or n)
 
 pub fit_more : (table : List (Option ℕ)) (k v : ℕ) → k < length table → IsFit v → AllFit table →
     AllFit (set table k (Some v))
-fit_more table k v h f all j m e = go (same_or j k)
-  where
-    same_or : (a b : ℕ) → (a ≡ b) ⊎ (a ≢ b)
-    same_or a b = grind arith
+fit_more table k v h f all j m e = go (cases_eq j k)
 
     some : ℕ → Option ℕ
     some a = Some a

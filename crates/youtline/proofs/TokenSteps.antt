@@ -17,12 +17,10 @@ use Rattle.ysyntax.specs.Tree.{Definition, Entry, Identifier, Tree, start, union
 use Rattle.ysyntax.specs.Tree.{types}
 use Rattle.ysymbols.proofs.NameSteps.{among_all, eq_self}
 use Rattle.ysymbols.proofs.NameSteps.{among_number, false_true, number_among, or_left, or_right}
+use Rattle.ysymbols.proofs.Numbers.{below_or_last}
+use Rattle.std.proofs.lemmas.Bool.{or_cases}
 
 -- ---- names among names
-
-or_cases : (a b : Bool) → (a || b) ≡ true → (a ≡ true) ⊎ (b ≡ true)
-or_cases true b h = inl refl
-or_cases false b h = inr h
 
 same_bool : (a b : Bool) → (a ≡ true → b ≡ true) → (b ≡ true → a ≡ true) → a ≡ b
 same_bool true b f g = sym (f refl)
@@ -291,9 +289,6 @@ distinct_noted ns m d = go (is_among ns m) refl
     get_last [] x = refl
     get_last (y ∷ xs) x = get_last xs x
 
-    last_or : (i k : ℕ) → i < k + 1 → (i < k) ⊎ (i ≡ k)
-    last_or i k h = grind (arith)
-
     there : (i : ℕ) → (h : i < length ns) → is_among ns (get_or ns i []) ≡ true
     there i h = number_among ns (get_or ns i []) (subst (λ k. k < length ns) (sym (d i h)) h)
 
@@ -318,7 +313,7 @@ distinct_noted ns m d = go (is_among ns m) refl
         (get_or (cond (is_among ns m) ns (ns ++ m ∷ [])) i []) ≡ i
     go true q = rw q d
     go false q = rw q (λ i h.
-        placed q i (last_or i (length ns) (subst (λ k. i < k) (length-append ns (m ∷ [])) h)))
+        placed q i (below_or_last i (length ns) (subst (λ k. i < k) (length-append ns (m ∷ [])) h)))
 
 pub distinct_all : (ns ms : List Name) → Distinct ns → Distinct (with_names ns ms)
 distinct_all ns [] d = d

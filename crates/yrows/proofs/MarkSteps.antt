@@ -4,12 +4,10 @@ use Rattle.std.proofs.Common.{◌∙◌, ap, subst, inl, inr, arith, get_or-set_
 use Rattle.std.proofs.Math.ListN.{set, length-set}
 use Rattle.std.proofs.lemmas.Grind.{common_steps}
 use Rattle.yrows.specs.Marks.{Has}
-
-same_or : (a b : ℕ) → (a ≡ b) ⊎ (a ≢ b)
-same_or a b = grind arith
+use Rattle.std.proofs.lemmas.Bool.{cases_eq}
 
 pub marked_cases : (m : List Bool) (i s : ℕ) → Has (set m i true) s → (s ≡ i) ⊎ Has m s
-marked_cases m i s h = go (same_or s i)
+marked_cases m i s h = go (cases_eq s i)
   where
     go : (s ≡ i) ⊎ (s ≢ i) → (s ≡ i) ⊎ Has m s
     go (inl e) = inl e
@@ -23,7 +21,7 @@ mark_size m n p e = ap (λ (x : List Bool). length x) e ∙ length-set m p true
 
 pub kept_marked : (m n : List Bool) (p q : ℕ) → p < length m → n ≡ set m p true → Has m q →
     Has n q
-kept_marked m n p q h e c = subst (λ (x : List Bool). Has x q) (sym e) (go (same_or q p))
+kept_marked m n p q h e c = subst (λ (x : List Bool). Has x q) (sym e) (go (cases_eq q p))
   where
     go : (q ≡ p) ⊎ (q ≢ p) → Has (set m p true) q
     go (inl z) = subst (Has (set m p true)) (sym z) (get_or-set_same m p true false h)

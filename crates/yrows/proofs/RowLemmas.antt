@@ -4,7 +4,7 @@ use Rattle.std.proofs.Common.{get_or, sym, ◌∙◌, ap, subst, inl, inr, arith
 use Rattle.std.proofs.Common.{get_or-set_same, get_or-set_other, Bool, true, false, ◌||◌}
 use Rattle.std.specs.Int.{bit_at, trailing_zeros, w64}
 use Rattle.std.specs.Int.Count.{trailing_of_zero}
-use Rattle.std.proofs.Math.Nat.{div-div-eq-div-mul}
+use Rattle.std.proofs.Math.Nat.{div-div-eq-div-mul, eq-zero-or-pos}
 use Rattle.std.proofs.Math.ListN.{set, length-set}
 use Rattle.std.proofs.lemmas.Nat.{le_or_l, same_from_place, one_shl, div-add-mod', mod_below}
 use Rattle.std.proofs.lemmas.Nat.{mul-add-lt, pow-add}
@@ -13,6 +13,8 @@ use Rattle.std.proofs.lemmas.Nat.Bits.{bit_at-zero, bit_at-trailing_zeros}
 use Rattle.std.proofs.lemmas.List.Sums.{sum_by-set}
 use Rattle.yrows.specs.Rows.{BitRows, IsBitRows, Holds, word_of, room, unite, AddsFrom, GrowsIf}
 use Rattle.yrows.proofs.Growth.{less_then, same_then}
+use Rattle.ysymbols.proofs.Numbers.{below_or_last}
+use Rattle.std.proofs.lemmas.Bool.{cases_eq}
 
 less : ℕ → ℕ
 less w = 2 ^ 64 - 1 - w
@@ -54,9 +56,6 @@ max_left a b k e = omega arith
 max_right : (a b : ℕ) → a < 2 → b ≡ 1 → max a b ≡ 1
 max_right a b k e = omega arith
 
-same_or : (a b : ℕ) → (a ≡ b) ⊎ (a ≢ b)
-same_or a b = grind arith
-
 pub in_span : (m : BitRows) → IsBitRows m → (c : ℕ) → c < m.width → c / 64 < m.span
 in_span m f c h =
     let w = f.wide in
@@ -94,7 +93,7 @@ unite_holds m f r j more hr hj i k = (to, from)
 
     to : Holds (unite m (r * m.span + j) more) i k → Holds m i k ⊎
         ((i ≡ r) × (k < m.width) × (k / 64 ≡ j) × (bit_at more (k % 64) ≡ 1))
-    to h = go (same_or (i * m.span + k / 64) (r * m.span + j))
+    to h = go (cases_eq (i * m.span + k / 64) (r * m.span + j))
       where
         pick : (i * m.span + k / 64 ≡ r * m.span + j) → (bit_at (word_of m i k) (k % 64) ≡ 1) ⊎
             (bit_at more (k % 64) ≡ 1) → Holds m i k ⊎ ((i ≡ r) × (k < m.width) × (k / 64 ≡ j) ×
@@ -123,7 +122,7 @@ unite_holds m f r j more hr hj i k = (to, from)
       row = h.row;
       column = h.column;
       bit =
-          go (same_or (i * m.span + k / 64) (r * m.span + j));
+          go (cases_eq (i * m.span + k / 64) (r * m.span + j));
     }
       where
         go : (i * m.span + k / 64 ≡ r * m.span + j) ⊎ (i * m.span + k / 64 ≢ r * m.span + j) →
@@ -166,7 +165,7 @@ mark_holds m f r c hr hc i k = (to, from)
     u = unite_holds m f r (c / 64) ((1 * 2 ^ (c % 64)) % 2 ^ 64) hr (in_span m f c hc) i k
 
     bit_place : bit_at ((1 * 2 ^ (c % 64)) % 2 ^ 64) (k % 64) ≡ 1 → k % 64 ≡ c % 64
-    bit_place b = go (same_or (k % 64) (c % 64))
+    bit_place b = go (cases_eq (k % 64) (c % 64))
       where
         go : (k % 64 ≡ c % 64) ⊎ (k % 64 ≢ c % 64) → k % 64 ≡ c % 64
         go (inl e) = e
@@ -210,9 +209,6 @@ adds_none m to P r c = ((λ h. inl h), back)
     back (inl h) = h
     back (inr h) = absurd (let l = h.2 in omega arith)
 
-below_or_is : (k i : ℕ) → k < i + 1 → (k < i) ⊎ (k ≡ i)
-below_or_is k i h = grind arith
-
 pub adds_word : (m n : BitRows) → IsBitRows n → (to k more : ℕ) (P : ℕ → Type 0) →
     n.width ≡ m.width → to < n.height → k < n.span → AddsWords m n to P k →
     ((c : ℕ) → c < m.width → c / 64 ≡ k → bit_at more (c % 64) ≡ 1 ↔ P c) →
@@ -241,7 +237,7 @@ adds_word m n f to k more P same ht hk a b r c = (down, up)
     up : Holds m r c ⊎ ((r ≡ to) × (c < m.width) × (c / 64 < k + 1) × P c) →
         Holds (unite n (to * n.span + k) more) r c
     up (inl x) = u.1 (inl ((a r c).1 (inl x)))
-    up (inr x) = go (below_or_is (c / 64) k x.2)
+    up (inr x) = go (below_or_last (c / 64) k x.2)
       where
         go : (c / 64 < k) ⊎ (c / 64 ≡ k) → Holds (unite n (to * n.span + k) more) r c
         go (inl l) = u.1 (inl ((a r c).1 (inr (x.0, x.1, l, x.3))))
@@ -353,12 +349,9 @@ shifted_bit : (n s i : ℕ) → bit_at (n / 2 ^ s) i ≡ bit_at n (s + i)
 shifted_bit n s i = ap (λ (t : ℕ). t % 2) (div-div-eq-div-mul n (2 ^ s) (2 ^ i) ∙ ap
     (λ (t : ℕ). n / t) (sym (pow-add 2 s i)))
 
-zero_or : (n : ℕ) → (n ≡ 0) ⊎ (0 < n)
-zero_or n = grind arith
-
 -- the zero bits of a word below its first one
 clear_bits : (n i : ℕ) → n < 2 ^ 64 → i < trailing_zeros w64 n → bit_at n i ≡ 0
-clear_bits n i h l = go (zero_or n)
+clear_bits n i h l = go (eq-zero-or-pos n)
   where
     go : (n ≡ 0) ⊎ (0 < n) → bit_at n i ≡ 0
     go (inl e) = ap (λ (t : ℕ). bit_at t i) e ∙ bit_at-zero i
@@ -386,8 +379,8 @@ after_none m r c k step hw hz hs le lt h =
 -- where the row lacks the column, the next set bit stands behind it
 pub after_further : (m : BitRows) (r c : ℕ) → r < m.height → c < m.width → word_of m r c / 2 ^
     (c % 64) < 2 ^ 64 → (Holds m r c → ⊥) → 0 < trailing_zeros w64 (word_of m r c / 2 ^ (c % 64))
-after_further m r c hr hc hw absent = go (zero_or (word_of m r c / 2 ^ (c % 64)))
-    (zero_or (trailing_zeros w64 (word_of m r c / 2 ^ (c % 64))))
+after_further m r c hr hc hw absent = go (eq-zero-or-pos (word_of m r c / 2 ^ (c % 64)))
+    (eq-zero-or-pos (trailing_zeros w64 (word_of m r c / 2 ^ (c % 64))))
   where
     go : (word_of m r c / 2 ^ (c % 64) ≡ 0) ⊎ (0 < word_of m r c / 2 ^ (c % 64)) →
         (trailing_zeros w64 (word_of m r c / 2 ^ (c % 64)) ≡ 0) ⊎

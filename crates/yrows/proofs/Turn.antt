@@ -1,9 +1,6 @@
 -- One more turn of a loop, a loop that counts down, and an element by its place.
-use Rattle.std.proofs.Common.{ℕ, zero, suc, ◌≡◌, ◌<◌, ◌+◌, ◌-◌, ◌⊎◌, List, [], ◌∷◌, length, get_or}
+use Rattle.std.proofs.Common.{ℕ, zero, suc, ◌≡◌, ◌<◌, ◌-◌, List, [], ◌∷◌, length, get_or}
 use Rattle.std.proofs.Common.{refl, subst, arith}
-
-pub below_or_is : (k i : ℕ) → k < i + 1 → (k < i) ⊎ (k ≡ i)
-below_or_is k i h = grind arith
 
 -- a loop that counts down meets each number
 pub from_turned : (P : ℕ → Type 0) (n i : ℕ) → i ≡ n → ((k : ℕ) → k < i → P (n - 1 - k)) →

@@ -8,9 +8,7 @@ use Rattle.std.proofs.lemmas.List.Elements.{Contains-append_left}
 use Rattle.std.specs.List.{Contains, All}
 use Rattle.yspread.specs.Links.{AreLinks, Link}
 use Rattle.yrows.proofs.Turn.{same_default}
-
-same_or : (x y : ℕ) → (x ≡ y) ⊎ (x ≢ y)
-same_or x y = grind arith
+use Rattle.std.proofs.lemmas.Bool.{cases_eq}
 
 module _ (l more : List (List ℕ)) (from to : ℕ) (h : from < length l)
     (e : more ≡ set l from (get_or l from [] ++ to ∷ [])) where
@@ -32,7 +30,7 @@ module _ (l more : List (List ℕ)) (from to : ℕ) (h : from < length l)
       (Contains-push (get_or l from []) to)
 
   pub link_kept : (p t : ℕ) → Link l p t → Link more p t
-  link_kept p t c = go (same_or p from)
+  link_kept p t c = go (cases_eq p from)
     where
       go : (p ≡ from) ⊎ (p ≢ from) → Link more p t
       go (inl q) = subst (λ xs. Contains xs t) (sym (at_from p q))
@@ -40,7 +38,7 @@ module _ (l more : List (List ℕ)) (from to : ℕ) (h : from < length l)
       go (inr q) = subst (λ xs. Contains xs t) (sym (elsewhere p q)) c
 
   pub link_cases : (p t : ℕ) → Link more p t → Link l p t ⊎ ((p ≡ from) × (t ≡ to))
-  link_cases p t c = go (same_or p from)
+  link_cases p t c = go (cases_eq p from)
     where
       two : (p ≡ from) → Contains (get_or l p []) t ⊎ (to ≡ t) → Link l p t ⊎
           ((p ≡ from) × (t ≡ to))

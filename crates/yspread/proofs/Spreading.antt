@@ -12,6 +12,7 @@ use Rattle.yspread.specs.Waiting.{waiting_in}
 use Rattle.yspread.specs.Links.{AreLinks, Reaches, given, passed, PassesOn, IsSpread}
 use Rattle.yspread.specs.Spread.{SameRow, Gives}
 use Rattle.yspread.proofs.WaitingSteps.{marked_still, nearer}
+use Rattle.std.proofs.lemmas.Bool.{cases_eq}
 
 pub record Spreading (l : List (List ℕ)) (m n : BitRows) (w : List Bool) : Type 0 where
   pub sized : IsSized m.height m.width n
@@ -31,9 +32,6 @@ spreading_none l m w e every = record {
   waits = λ p h. inr (every p h);
 }
 
-same_or : (a b : ℕ) → (a ≡ b) ⊎ (a ≢ b)
-same_or a b = grind arith
-
 -- the row in front has given
 pub spreading_give : (l : List (List ℕ)) (m n o : BitRows) (v w x : List Bool) (p : ℕ) →
     Spreading l m n v → w ≡ set v p false →
@@ -46,7 +44,7 @@ spreading_give l m n o v w x p s ew g = record {
   marks = g.marks ∙ ap (λ (y : List Bool). length y) ew ∙ length-set v p false ∙ s.marks;
   sound = sound;
   kept = λ r c h. (g.adds r c).1 (inl (s.kept r c h));
-  waits = λ r h. waits r (same_or r p) (s.waits r h) (g.waits r);
+  waits = λ r h. waits r (cases_eq r p) (s.waits r h) (g.waits r);
 }
   where
     sound : (r c : ℕ) → Holds o r c → Reaches l m r c
@@ -146,8 +144,8 @@ gives_grew to p t m n o v w x g a es less ex h = record {
   sized = record { rows = es.rows ∙ g.sized.rows; columns = es.columns ∙ g.sized.columns };
   marks = ap (λ (y : List Bool). length y) ex ∙ length-set w t true ∙ g.marks;
   adds = λ r c. adds_push to p t m n o g.adds a r c;
-  waits = λ r. waits r (same_or r t) (g.waits r);
-  kept = λ r z. kept r (same_or r t) (g.kept r z);
+  waits = λ r. waits r (cases_eq r t) (g.waits r);
+  kept = λ r z. kept r (cases_eq r t) (g.kept r z);
   fewer = (let y = g.fewer in omega arith);
   calm = inl (let y = g.fewer in omega arith);
 }

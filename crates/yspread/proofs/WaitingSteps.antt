@@ -10,9 +10,7 @@ use Rattle.std.proofs.lemmas.List.Sums.{sum_by-set, count_by-le-length}
 use Rattle.std.proofs.lemmas.Nat.{mul-add-lt}
 use Rattle.yrows.specs.Marks.{Has}
 use Rattle.yspread.specs.Waiting.{InEither, AreListed, AreOut, IsOut, waiting_in}
-
-same_or : (a b : ℕ) → (a ≡ b) ⊎ (a ≢ b)
-same_or a b = grind arith
+use Rattle.std.proofs.lemmas.Bool.{cases_eq}
 
 true_false : true ≡ false → ⊥
 true_false e = absurd (cc)
@@ -46,7 +44,7 @@ out_unmarked m a b a' b' p l o e = record {
 pub out_marked : (m : List Bool) (a b a' b' : List ℕ) (p : ℕ) → AreListed m a b →
     IsOut a b a' b' p → AreListed (set m p false) a' b'
 out_marked m a b a' b' p l o = record {
-  listed = λ r h. go r (same_or r p) h;
+  listed = λ r h. go r (cases_eq r p) h;
   within = λ r h. let e = length-set m p false in let z = l.within r (o.old r h) in omega arith;
 }
   where
@@ -64,7 +62,7 @@ out_marked m a b a' b' p l o = record {
 pub put_marked : (m : List Bool) (a b : List ℕ) (p : ℕ) → AreListed m a b → p < length m →
     AreListed (set m p true) a (b ++ p ∷ [])
 put_marked m a b p l h = record {
-  listed = λ r x. go r (same_or r p) x;
+  listed = λ r x. go r (cases_eq r p) x;
   within = λ r x. let e = length-set m p true in let z = inside r x in omega arith;
 }
   where

@@ -9,9 +9,8 @@ use Rattle.std.proofs.lemmas.List.Elements.{Contains-push_cases}
 use Rattle.ysymbols.specs.Grammar.{Production, RuleValue}
 use Rattle.ysymbols.specs.Marking.{IsFiled, IsFiledEach, AreListed, list_at, rule_at}
 use Rattle.ysymbols.proofs.MarkingSteps.{alone}
-
-same_or : (a b : ℕ) → (a ≡ b) ⊎ (a ≢ b)
-same_or a b = grind arith
+use Rattle.ysymbols.proofs.Numbers.{below_or_last}
+use Rattle.std.proofs.lemmas.Bool.{cases_eq}
 
 at_other : (ls : List (List ℕ)) (s t : ℕ) (l : List ℕ) → t ≢ s → get_or (set ls s l) t [] ≡ get_or
     ls t []
@@ -49,12 +48,9 @@ filed ls s r h = record {
   sized = length-set ls s (get_or ls s [] ++ r ∷ []);
   here = subst (λ (x : List ℕ). Contains x r)
       (sym (at_same ls s s (get_or ls s [] ++ r ∷ []) h refl)) (Contains-push (get_or ls s []) r);
-  kept = λ t q k. kept_by ls s r t q h (same_or t s) k;
-  only = λ t q k. only_by ls s r t q h (same_or t s) k;
+  kept = λ t q k. kept_by ls s r t q h (cases_eq t s) k;
+  only = λ t q k. only_by ls s r t q h (cases_eq t s) k;
 }
-
-last_or : (k n : ℕ) → k < n + 1 → (k < n) ⊎ (k ≡ n)
-last_or k n h = grind arith
 
 none_in : (q : ℕ) → Contains [] q → ⊥
 none_in q (k, h, e) = omega arith
@@ -91,7 +87,7 @@ pub filed_more : (body : List ℕ) (i r s : ℕ) (ls0 ls ls2 : List (List ℕ)) 
     FiledSoFar body (i + 1) r ls0 ls2
 filed_more body i r s ls0 ls ls2 l e f g = record {
   sized = g.sized ∙ f.sized;
-  here = λ k h. filed_here body i r s ls0 ls ls2 e f g k (last_or k i h);
+  here = λ k h. filed_here body i r s ls0 ls ls2 e f g k (below_or_last k i h);
   kept = λ t q k. g.kept t q (f.kept t q k);
   only = λ t q k. each_only ls ls0 body r t q s
       (subst (Contains body) (sym e) (Contains-get_or body i 0 l)) (f.only t q) (g.only t q k);
@@ -151,7 +147,7 @@ module _ {part : Production → List ℕ} (rules : List RuleValue) (r n : ℕ) (
   listed_more = record {
     sized = f.sized ∙ o.sized;
     within = λ s q c. within_next s q (f.only s q c);
-    each = λ q k h l. each_next q k (last_or q r h) l;
+    each = λ q k h l. each_next q k (below_or_last q r h) l;
   }
 
 pub pushed_empty : (ls : List (List ℕ)) (s : ℕ) → ((t : ℕ) → get_or ls t [] ≡ []) →

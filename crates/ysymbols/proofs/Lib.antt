@@ -1,3 +1,4 @@
+pub mod Numbers
 pub mod Derivations
 pub mod NameSteps
 pub mod MarkingSteps

@@ -8,9 +8,8 @@ use Rattle.std.proofs.Math.ListN.{get_or-append, length-set}
 use Rattle.std.proofs.Math.Seq.{get_or-append_seam}
 use Rattle.ysymbols.specs.Marking.{WorklistValue, IsMarked, IsUnmarked, unmarked_count, IsWaiting}
 use Rattle.ysymbols.specs.Marking.{IsWorklist, Keeps, Grows, Takes, IsClosed, stuck, ahead, marked}
-
-same_or : (a b : ℕ) → (a ≡ b) ⊎ (a ≢ b)
-same_or a b = grind arith
+use Rattle.ysymbols.proofs.Numbers.{below_or_last}
+use Rattle.std.proofs.lemmas.Bool.{cases_eq}
 
 bool_or : (b : Bool) → (b ≡ true) ⊎ (b ≡ false)
 bool_or true = inl refl
@@ -75,13 +74,10 @@ in_order : (w : WorklistValue) (s k : ℕ) → s < length w.marks → IsWorklist
     → (k < length w.order) ⊎ (k ≡ length w.order)
     → IsMarked (set w.marks s true) (get_or (w.order ++ s ∷ []) k 0)
 in_order w s k l i (inl h) = rw (get_or-append w.order (s ∷ []) 0 k h)
-    (kept_by w.marks s (get_or w.order k 0) l (same_or (get_or w.order k 0) s) (i.marked k h))
+    (kept_by w.marks s (get_or w.order k 0) l (cases_eq (get_or w.order k 0) s) (i.marked k h))
 in_order w s k l i (inr e) = subst (λ (u : ℕ). IsMarked (set w.marks s true) u)
     (sym (ap (λ (j : ℕ). get_or (w.order ++ s ∷ []) j 0) e ∙ get_or-append_seam w.order s [] 0))
     (get_or-set_same w.marks s true false l)
-
-last_or : (k n : ℕ) → k < n + 1 → (k < n) ⊎ (k ≡ n)
-last_or k n h = grind arith
 
 -- a symbol that was not marked waits
 pub grows_new : (w : WorklistValue) (s : ℕ) → s < length w.marks → w.taken ≤ length w.order
@@ -89,18 +85,18 @@ pub grows_new : (w : WorklistValue) (s : ℕ) → s < length w.marks → w.taken
 grows_new w s l d = record {
   keeps = record {
     sized = length-set w.marks s true;
-    kept = λ t k. kept_by w.marks s t l (same_or t s) k;
+    kept = λ t k. kept_by w.marks s t l (cases_eq t s) k;
   };
   taken = refl;
   ahead = λ t a. waiting_more w s t a;
-  waits = λ t k. waits_by w s t d (only_by w.marks s t (same_or t s) k);
+  waits = λ t k. waits_by w s t d (only_by w.marks s t (cases_eq t s) k);
 }
 
 pub worklist_new : (w : WorklistValue) (s : ℕ) → s < length w.marks → IsUnmarked w.marks s
     → IsWorklist w → IsWorklist (with_mark w s)
 worklist_new w s l h i = record {
   marked = λ k j. in_order w s k l i
-      (last_or k (length w.order) (omega (arith, length-append w.order (s ∷ []))));
+      (below_or_last k (length w.order) (omega (arith, length-append w.order (s ∷ []))));
   few = let f = i.few in omega (
     arith,
     length-append w.order (s ∷ []),

@@ -22,12 +22,13 @@ use Rattle.ytables.specs.Tables.{cell_by, row_by, default_by, tokens_of, action_
 use Rattle.ytables.specs.Allowed.{complete_of, accept_item, Allows}
 use Rattle.ytables.proofs.AmongSteps.{Among, among_contains, filter_among, map_among, any_among}
 use Rattle.ytables.proofs.RowSteps.{complete_dot}
+use Rattle.std.proofs.Math.Nat.{eq-zero-or-pos}
 
 min_is : (a b : ℕ) → (min a b ≡ a) ⊎ (min a b ≡ b)
-min_is a b = go (side a b)
+min_is a b = go (eq-zero-or-pos a b)
   where
-    side : (a b : ℕ) → (a ≤ b) ⊎ (b ≤ a)
-    side a b = grind arith
+    eq-zero-or-pos : (a b : ℕ) → (a ≤ b) ⊎ (b ≤ a)
+    eq-zero-or-pos a b = grind arith
 
     go : (a ≤ b) ⊎ (b ≤ a) → (min a b ≡ a) ⊎ (min a b ≡ b)
     go (inl h) = inl (omega arith)
@@ -140,10 +141,7 @@ module _ (g : ContextFree) (w : WellFormed g) (k : List Item) (range : InRange g
   -- the dot before the end stands in rule 0 alone
   end_item : (i : Item) (y : List ℕ) → i.rule < length g.rules → after_dot g i ≡ end_token ∷ y →
       i ≡ accept_item
-  end_item i y l e = go (side i.rule)
-    where
-      side : (r : ℕ) → (r ≡ 0) ⊎ (0 < r)
-      side r = grind arith
+  end_item i y l e = go (eq-zero-or-pos i.rule)
 
       at : (d : ℕ) → drop d (start_of g ∷ end_token ∷ []) ≡ end_token ∷ y → d ≡ 1
       at zero e = absurd (let s : start_of g ≡ 0 = ap (λ l. get_or l 0 0) e in

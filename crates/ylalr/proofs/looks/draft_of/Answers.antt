@@ -1,6 +1,6 @@
 use Rattle.std.proofs.Common.{inl, inr, sym, subst, arith}
 use Rattle.ylalr.specs.Draft.{ServesState}
-use Rattle.yrows.proofs.Turn.{below_or_is}
+use Rattle.ysymbols.proofs.Numbers.{below_or_last}
 use Rattle.ylalr.proofs.DraftSteps.{serves_kept}
 use Rattle.ylalr.proofs.looks.draft_of.Goals as goal
 
@@ -13,7 +13,7 @@ loop-q-preserved c =
       lefts = e.lefts;
       sound = e.sound;
       start = λ p ip. e.further.looks p 0 (i.start p ip);
-      serves = λ n h. elim (below_or_is n c.loop-q.q h) as
+      serves = λ n h. elim (below_or_last n c.loop-q.q h) as
           (λ _. ServesState P c.visit_state.new.draft n) [
             | inl l ↦ (λ k p z. serves_kept P c.loop-q.draft c.visit_state.new.draft n p k e.further
                 (i.serves n l k p z))
