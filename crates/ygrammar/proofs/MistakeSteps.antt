@@ -211,7 +211,7 @@ between_is t n = go (is_among (tokens t) n) refl
         (among_number (symbols t) n e) ∙ sym e
     behind h false e = past (length (tokens t)) (length (symbols t)) (number_in (symbols t) n)
         (far (cases_lt (number_in (symbols t) n) (length (symbols t)))) ∙ sym e
-
+      where
         far : (number_in (symbols t) n < length (symbols t)) ⊎
             (length (symbols t) ≤ number_in (symbols t) n) → length (symbols t) ≤ number_in
             (symbols t) n

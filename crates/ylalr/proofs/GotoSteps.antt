@@ -17,7 +17,7 @@ use Rattle.ylalr.specs.States.{RowIs, RowsAre}
 use Rattle.ylalr.proofs.Cores.{may_join, moved_dot}
 use Rattle.ylalr.proofs.StateSteps.{push_old, push_new}
 use Rattle.ysymbols.proofs.Numbers.{below_or_last}
-use Rattle.std.proofs.lemmas.Bool.{cases_lt, cases_eq}
+use Rattle.std.proofs.lemmas.Bool.{cases_lt}
 
 pub goto_kept : (g : ContextFree) (s t : StateLists) (q x : ℕ) (to : Option ℕ) → Extends s t →
     q < length s.closures → GotoIs g s q x to → GotoIs g t q x to

@@ -20,7 +20,7 @@ not_found : {X : Type 0} (ord : X → Ordering) (xs : List X) (at j : ℕ) (d : 
     IsNonDecreasingBy (λ y. ordering_index (ord y)) xs → IsBinarySearchResult ord xs (Err at) →
     j < length xs → ord (get_or xs j d) ≡ Equal → ⊥
 not_found ord xs at j d rises parted h e = go (cases_lt j at)
-
+  where
     go : (j < at) ⊎ (at ≤ j) → ⊥
     go (inl l) = let y : ord (get_or xs j d) ≡ Less = (parted rises).0 j d (omega arith) l in
         absurd (cc)
@@ -114,9 +114,9 @@ row_none row x k a e = sym (lookup_not row x (λ j d h s.
     upto j k d l w (inr z) = subst (λ t. (get_or row j d).symbol ≤ (get_or row t d).symbol) z
         (omega arith)
 
-    cases_lt : (j k : ℕ) → j ≤ k → (j < k) ⊎ (j ≡ k)
-    cases_lt j k h = grind arith
+    split : (j k : ℕ) → j ≤ k → (j < k) ⊎ (j ≡ k)
+    split j k h = grind arith
 
     rises : IsNonDecreasingBy (λ (y : Goto). ordering_index (nat_cmp y.symbol x)) row
     rises j k d l w = index (get_or row j d).symbol (get_or row k d).symbol x
-        (upto j k d l w (cases_lt j k l))
+        (upto j k d l w (split j k l))

@@ -63,10 +63,10 @@ module _ (v : GrammarValue) (k : List Item) (one two : Item → ℕ → Bool) (s
 pub one_machine : (v : GrammarValue) (m n : Machine) → IsMachineOf v m → IsMachineOf v n
     → (stack : List ℕ) (t : ℕ) → m.cell stack t ≡ n.cell stack t
 one_machine v m n f h stack t = by (f.state stack) (cases_lt t v.bare.tokens)
-
+  where
     by : IsDead v.bare stack ⊎ ((k : List Item) × IsStateOf v.bare stack k)
         → (t < v.bare.tokens) ⊎ (v.bare.tokens ≤ t) → m.cell stack t ≡ n.cell stack t
-    by (inl d) cases_lt = f.dead stack t d ∙ sym (h.dead stack t d)
+    by (inl d) side = f.dead stack t d ∙ sym (h.dead stack t d)
     by (inr k) (inr l) = f.beyond stack t l ∙ sym (h.beyond stack t l)
     by (inr k) (inl l) =
         let a = f.cell stack k.0 t k.1 l in

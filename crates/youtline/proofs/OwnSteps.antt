@@ -86,7 +86,7 @@ unfit n h = go (small_or n)
 pub fit_more : (table : List (Option ℕ)) (k v : ℕ) → k < length table → IsFit v → AllFit table →
     AllFit (set table k (Some v))
 fit_more table k v h f all j m e = go (cases_eq j k)
-
+  where
     some : ℕ → Option ℕ
     some a = Some a
 

@@ -25,10 +25,10 @@ use Rattle.ytables.proofs.RowSteps.{complete_dot}
 use Rattle.std.proofs.Math.Nat.{eq-zero-or-pos}
 
 min_is : (a b : ℕ) → (min a b ≡ a) ⊎ (min a b ≡ b)
-min_is a b = go (eq-zero-or-pos a b)
+min_is a b = go (side a b)
   where
-    eq-zero-or-pos : (a b : ℕ) → (a ≤ b) ⊎ (b ≤ a)
-    eq-zero-or-pos a b = grind arith
+    side : (a b : ℕ) → (a ≤ b) ⊎ (b ≤ a)
+    side a b = grind arith
 
     go : (a ≤ b) ⊎ (b ≤ a) → (min a b ≡ a) ⊎ (min a b ≡ b)
     go (inl h) = inl (omega arith)
@@ -142,7 +142,7 @@ module _ (g : ContextFree) (w : WellFormed g) (k : List Item) (range : InRange g
   end_item : (i : Item) (y : List ℕ) → i.rule < length g.rules → after_dot g i ≡ end_token ∷ y →
       i ≡ accept_item
   end_item i y l e = go (eq-zero-or-pos i.rule)
-
+    where
       at : (d : ℕ) → drop d (start_of g ∷ end_token ∷ []) ≡ end_token ∷ y → d ≡ 1
       at zero e = absurd (let s : start_of g ≡ 0 = ap (λ l. get_or l 0 0) e in
           let a = w.start_nonterminal in let b = w.ends in omega (arith, s, a, b))
