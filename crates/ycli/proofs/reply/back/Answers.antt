@@ -1,5 +1,5 @@
 use Rattle.std.proofs.Common.{◌+◌, ◌-◌, ℕ, List, refl, arith, ◌∙◌, codes, true, false}
-use Rattle.yparse.proofs.Settings.{same_machine}
+use Rattle.ysession.proofs.Settings.{same_machine}
 use Rattle.ymachine.specs.Machine.{Machine}
 use Rattle.ymachine.specs.Past.{back_by}
 use Rattle.ymachine.specs.History.{History}

@@ -1,5 +1,5 @@
 use Rattle.std.proofs.Common.{codes, refl, inl, inr, subst, is_some}
-use Rattle.yparse.proofs.Settings.{same_machine}
+use Rattle.ysession.proofs.Settings.{same_machine}
 use Rattle.ymachine.specs.Machine.{Machine}
 use Rattle.ymachine.specs.History.{History}
 use Rattle.yparse.specs.Session.{machine_of, history_of}

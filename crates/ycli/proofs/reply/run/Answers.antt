@@ -1,6 +1,6 @@
 use Rattle.std.proofs.Common.{◌+◌, ◌-◌, ℕ, List, refl, arith, subst, ◌∙◌, codes, is_some, true}
 use Rattle.std.proofs.Common.{false}
-use Rattle.yparse.proofs.Settings.{same_machine}
+use Rattle.ysession.proofs.Settings.{same_machine}
 use Rattle.ymachine.specs.Machine.{Machine}
 use Rattle.ymachine.specs.History.{History}
 use Rattle.yparse.specs.Session.{machine_of, history_of}
