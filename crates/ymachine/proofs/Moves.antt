@@ -2,7 +2,7 @@
 -- leads back.
 use Rattle.std.proofs.Common.{ℕ, zero, suc, ◌≡◌, ◌<◌, ◌≤◌, ◌+◌, ◌-◌, ◌==◌, Bool, true, false}
 use Rattle.std.proofs.Common.{if◌then◌else◌, List, [], ◌∷◌, ◌++◌, Option, Some, None, length, take}
-use Rattle.std.proofs.Common.{map, reverse, refl, sym, ◌∙◌, ap, subst, arith}
+use Rattle.std.proofs.Common.{map, get_or, reverse, refl, sym, ◌∙◌, ap, subst, arith}
 use Rattle.std.specs.Prelude.{IsSome, is_some, unwrap_or}
 use Rattle.std.proofs.lemmas.Bool.{eqb-true}
 use Rattle.std.proofs.lemmas.List.{map-append, take-map, reverse-append, reverse-reverse}
@@ -36,11 +36,11 @@ use Rattle.ymachine.specs.Content.{Content, Place, entry, width_of, top_state, l
 use Rattle.ymachine.specs.Content.{kind_running, kind_popping, kind_in, place_after, content_after}
 use Rattle.ymachine.specs.Content.{one_step}
 use Rattle.ymachine.specs.Content.{one_back, content_before, place_before, change_at, trees_over}
-use Rattle.ymachine.specs.Content.{entry_view}
+use Rattle.ymachine.specs.Content.{entry_view, state_from}
 use Rattle.ymachine.specs.Content.{rest_of, configuration_of, edit_kind}
 use Rattle.ymachine.proofs.Ends.{without_last-append, last_ones-append, both_ends, length-last_ones}
 use Rattle.ymachine.proofs.Ends.{top_back}
-use Rattle.ymachine.proofs.States.{leads_walk, leads-take}
+use Rattle.ymachine.proofs.States.{leads_walk, leads_walk_to, leads-take, state_from-last}
 use Rattle.ymachine.proofs.Rests.{left, none_left, ahead_is, left_by_ahead, taken_back, inserted_back}
 use Rattle.ymachine.proofs.Rests.{inserted_first, fits_taken, fits_inserted}
 use Rattle.ymachine.proofs.Facts.{Facts, FactsOf, grow, fold, pop, stay, advance}
@@ -122,6 +122,18 @@ shown_state p f =
     ap (λ (l : List ℕ). state_after p.tables l)
     (shown-symbols (trees_over p.content.children p.content.nodes) p.content.stack)
     ∙ at_top p f
+
+-- and that after its symbols up to an entry, with it, is the entry's
+pub shown_state_at : (p : Place) → FactsOf p → (i : ℕ) → i < length p.content.stack
+    → state_after p.tables (take (i + 1) (symbols (configuration_of p).stack))
+    ≡ Some (get_or p.content.stack i (entry 0 0 0)).state
+shown_state_at p f i l =
+    let next : i + 1 ≡ suc i = omega arith in
+    ap (λ (xs : List ℕ). state_after p.tables (take (i + 1) xs))
+    (shown-symbols (trees_over p.content.children p.content.nodes) p.content.stack)
+    ∙ leads_walk_to p.tables 0 (i + 1) p.content.stack (omega (arith, l)) f.states
+    ∙ ap Some (ap (λ (n : ℕ). state_from 0 n p.content.stack) next
+    ∙ state_from-last 0 i p.content.stack l)
 
 module _ (p : Place) (s : Sound p.tables) (f : FactsOf p) where
   cell_is : (token : ℕ) → (machine_over p.tables).cell (symbols (configuration_of p).stack) token

@@ -27,6 +27,18 @@ module _ (t : Tables) where
       (state_is (goto_at t q e.symbol) e.state (first _ _ h))
       ∙ leads_walk e.state stack (second _ _ h)
 
+  -- and its first n symbols to the state after them
+  pub leads_walk_to : (q n : ℕ) (stack : List StackEntry) → n ≤ length stack
+      → leads t q stack ≡ true
+      → walk t (Some q) (take n (map (λ (e : StackEntry). e.symbol) stack))
+      ≡ Some (state_from q n stack)
+  leads_walk_to q zero stack l h = refl
+  leads_walk_to q (suc n) [] l h = absurd (omega (arith, l))
+  leads_walk_to q (suc n) (e ∷ stack) l h =
+      ap (λ (o : Option ℕ). walk t o (take n (map (λ (x : StackEntry). x.symbol) stack)))
+      (state_is (goto_at t q e.symbol) e.state (first _ _ h))
+      ∙ leads_walk_to e.state n stack (omega (arith, l)) (second _ _ h)
+
   pub leads-push : (q : ℕ) (stack : List StackEntry) (symbol to number : ℕ) → leads t q stack ≡ true
       → goto_at t (state_from q (length stack) stack) symbol ≡ Some to
       → leads t q (stack ++ entry to symbol number ∷ []) ≡ true

@@ -1,7 +1,7 @@
 -- The past of anything that changes by steps and edits: whole contents, each made from the one
 -- before.
 use Rattle.std.specs.Prelude.{ℕ, suc, ◌≡◌, ◌⊎◌, ◌<◌, ◌≤◌, List, [], ◌∷◌, length, Option, Some, None}
-use Rattle.std.specs.Prelude.{IsSome, Result, Ok, Err}
+use Rattle.std.specs.Prelude.{IsSome, Result, Ok, Err, map, reverse}
 use Prim.Native.Nat.{zero}
 use Rattle.ymachine.specs.declared.machine.StepFault.{StepFault}
 use Rattle.ymachine.specs.declared.machine.StepFault.TheVariants.{Halted, NoToken, Limit, Memory}
@@ -14,6 +14,10 @@ pub record Past (K S : Type 0) : Type 0 where
 -- how many steps stand
 abbrev pub position : {K S : Type 0} → Past K S → ℕ
 position h = length h.earlier
+
+-- the kinds of the steps that stand, the first one first
+abbrev pub kinds_of : {K S : Type 0} → Past K S → List K
+kinds_of h = reverse (map (λ step. step.0) h.earlier)
 
 -- how many steps may stand
 abbrev pub most_steps : ℕ

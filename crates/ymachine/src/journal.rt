@@ -105,6 +105,17 @@ impl<M: Reversible> Journal<M> {
         &self.machine
     }
 
+    /// The machine as it is now, once its past is done with.
+    pub fn into_machine(self) -> M
+        ensures { result ≡ self.now }
+    {
+        let Journal {
+            machine,
+            changes: _,
+        } = self;
+        machine
+    }
+
     /// The changes of the steps and edits that stand, the newest last. Taken back one after another
     /// from the machine as it is now, they lead to each content before.
     pub fn changes(&self) -> &[M::Change]

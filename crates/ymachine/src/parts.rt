@@ -5,7 +5,7 @@ ghost use Rattle.std.specs.Prelude.{vec_capacity};
 ghost use Rattle.ymachine.specs.Content.{state_from, lead, with_entry, with_parent, without_parent};
 ghost use Rattle.ymachine.specs.Content.{with_error, content_after, one_step};
 ghost use Rattle.ymachine.specs.Content.{first_content};
-ghost use Rattle.ymachine.specs.Content.{content_before, without_entry, one_back, change_at};
+ghost use Rattle.ymachine.specs.Content.{content_before, one_back, change_at};
 ghost use Rattle.ymachine.specs.Content.{taken_by};
 ghost use Rattle.ymachine.specs.declared.machine.StepKind.TheVariants as kinds;
 ghost use Rattle.ymachine.specs.Parts.{content_of, HasRoom, HasRoomFor, KeepsRoom};
@@ -333,15 +333,6 @@ pub(crate) fn make(tables: &Tables, parts: &mut Parts, kind: StepKind) -> PlaceC
     change
 }
 
-/// Takes the entry on top away, with its node.
-fn ungrow(parts: &mut Parts)
-    ensures content { content_of parts.new ≡ without_entry (content_of parts.old) }
-    ensures capacity { KeepsRoom parts.old parts.new }
-{
-    parts.stack.pop();
-    parts.nodes.pop();
-}
-
 /// Takes a change back. It takes no memory.
 pub(crate) fn unmake(tables: &Tables, parts: &mut Parts, change: PlaceChange)
     requires stack { length (one_back change (content_before tables.now change change.kind
@@ -357,7 +348,8 @@ pub(crate) fn unmake(tables: &Tables, parts: &mut Parts, change: PlaceChange)
     parts.steps = parts.steps.saturating_sub(1);
     match change.kind {
         StepKind::Shift(token) => {
-            ungrow(parts);
+            parts.stack.pop();
+            parts.nodes.pop();
             rest::give_back(&mut parts.rest, change.place, token);
         }
         StepKind::Reduce(rule) => unfold(parts, rule_of(tables, rule).1.len()),
@@ -374,7 +366,10 @@ pub(crate) fn unmake(tables: &Tables, parts: &mut Parts, change: PlaceChange)
             };
             parts.stack.push(entry).unwrap();
         }
-        StepKind::ShiftError => ungrow(parts),
+        StepKind::ShiftError => {
+            parts.stack.pop();
+            parts.nodes.pop();
+        }
         StepKind::Discard(token) | StepKind::Drop(token) => {
             rest::give_back(&mut parts.rest, change.place, token);
         }

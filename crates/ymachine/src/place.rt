@@ -1,7 +1,7 @@
 //! A parse by tables that steps forward and back in place.
 
 ghost use Rattle.std.specs.Prelude.{◌≡◌, ◌<◌, IsTrue, IfSome, Option, is_some, length};
-ghost use Rattle.std.specs.Prelude.{slice_index_or, Some};
+ghost use Rattle.std.specs.Prelude.{◌+◌, slice_index_or, take, Some};
 ghost use Rattle.ymachine.specs.Ahead.{LeadsOn};
 ghost use Rattle.ymachine.specs.Content.{Place, configuration_of, first_place, place_after, valid};
 ghost use Rattle.ymachine.specs.Content.{place_next, place_before, place_fits};
@@ -41,23 +41,12 @@ use ytokens::tokens::{Tokens, has_blank_end, only_token};
 /// A parse of some tokens by some tables, as it is now. Trees lie in flat lists, and a step back
 /// cuts off their ends. The walk has room for all nodes of a tree that may be open at once; each
 /// step makes that room, so trees are written without memory.
+#[derive(Drop)]
 pub struct PlaceParser {
     tables: Tables,
     tokens: Tokens,
     parts: Parts,
     walk: Vec<Frame>,
-}
-
-impl Drop for PlaceParser {
-    // A call in each owner, which keeps their proofs short.
-    fn drop(self) {
-        let PlaceParser {
-            tables: _,
-            tokens: _,
-            parts: _,
-            walk: _,
-        } = self;
-    }
 }
 
 impl Model for PlaceParser {
@@ -100,6 +89,29 @@ impl PlaceParser {
             ≡ Some result }
     {
         state_below(&self.parts.stack, self.parts.stack.len())
+    }
+
+    /// The state to which the gotos lead over the symbols of the stack up to the entry at this
+    /// index, counted from 0 at the bottom, and over its own.
+    pub fn state_at(&self, index: usize) -> usize
+        requires { index < length self.now.content.stack }
+        ensures { state_after self.now.tables
+            (take (index + 1) (symbols (configuration_of self.now).stack)) ≡ Some result }
+    {
+        self.parts.stack[index].state
+    }
+
+    /// Its tables, once the parse is done with.
+    pub fn into_tables(self) -> Tables
+        ensures { result ≡ self.tables }
+    {
+        let PlaceParser {
+            tables,
+            tokens: _,
+            parts: _,
+            walk: _,
+        } = self;
+        tables
     }
 
     /// The printed name of a symbol; empty for a number that is no symbol.

@@ -36,21 +36,11 @@ pub struct SnapshotChange {
 
 /// A parse of some tokens by some tables, as it is now. A step is made on a copy, so what was
 /// before it stays unchanged.
+#[derive(Drop)]
 pub struct SnapshotParser {
     tables: Tables,
     tokens: Tokens,
     parts: Parts,
-}
-
-impl Drop for SnapshotParser {
-    // A call in each owner, which keeps their proofs short.
-    fn drop(self) {
-        let SnapshotParser {
-            tables: _,
-            tokens: _,
-            parts: _,
-        } = self;
-    }
 }
 
 impl Model for SnapshotParser {

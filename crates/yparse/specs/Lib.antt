@@ -1,5 +1,5 @@
-pub mod Session
-pub mod Unwound
+pub use Rattle.ysession.specs.Session
+pub use Rattle.ysession.specs.Unwound
 pub use Rattle.ymachine.specs.History
 pub use Rattle.ymachine.specs.Machine
 pub use Rattle.ymachine.specs.MachineOver

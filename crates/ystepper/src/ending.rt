@@ -9,8 +9,8 @@ use crate::fault::SessionFault;
 use crate::stepper::StepperFault;
 use std::io::Write;
 use ygenerate::message::{Program, Trouble};
-use yparse::TokenFault;
 use ytables::Link;
+use ytokens::TokenFault;
 use ywords::arguments::YstepWords;
 
 /// Why `ystep` ends before its work is done.

@@ -6,7 +6,7 @@ ghost use Rattle.ystepper.specs.Command as commands;
 ghost use Rattle.ylink.specs.Link.{has_failed};
 ghost use Rattle.ylink.specs.Sends.{Sends};
 ghost use Rattle.ymachine.specs.Past.{position};
-ghost use Rattle.yparse.specs.Session.{machine_of, history_of};
+ghost use Rattle.ysession.specs.Session.{machine_of, history_of};
 ghost use Rattle.ystepper.specs.Reply.{step_line, refusal, kind_word, kind_tail};
 ghost use Rattle.ystepper.specs.Reply.{mode_word, configuration_text};
 ghost use Rattle.ystepper.specs.Reply.{head_text, stack_text, rest_text, errors_text};
@@ -19,8 +19,8 @@ use ygrammar::Sym;
 use ylink::pieces::Piece::{Number, Words};
 use ylink::pieces::{END, put_pieces};
 use ylink::put::{put, put_all};
-use yparse::Session;
-use yparse::machine::{AtStart, Mode, StepFault, StepKind, UnwindFault};
+use ymachine::machine::{AtStart, Mode, StepFault, StepKind, UnwindFault};
+use ysession::Session;
 use ytables::Link;
 
 /// The words of a step or an edit.

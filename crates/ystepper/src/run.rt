@@ -3,7 +3,7 @@
 ghost use Rattle.std.specs.Prelude.{◌≡◌, ◌<◌, ◌^◌, List, [], ℕ, length, take, ◌||◌, true, false};
 ghost use Rattle.std.specs.Prelude.{is_some, IfSome, if◌then◌else◌};
 ghost use Rattle.ylink.specs.Link.{device_of, has_failed};
-ghost use Rattle.yparse.specs.Session.{machine_of, history_of};
+ghost use Rattle.ysession.specs.Session.{machine_of, history_of};
 ghost use Rattle.ystepper.specs.Transcript.{Tells, failed_read, failed_write};
 ghost use Rattle.ystepper.specs.Plain.{HasOneText};
 ghost use Rattle.ystepper.specs.Line.{AreTold, line_room};
@@ -14,7 +14,7 @@ use crate::fault::SessionFault;
 use crate::line_buffer::LineBuffer;
 use crate::reply::answer;
 use std::io::{Read, Write};
-use yparse::Session;
+use ysession::Session;
 use ytables::Link;
 
 /// How many bytes are read at once.

@@ -2,7 +2,7 @@
 
 ghost use Rattle.std.specs.Prelude.{IfOk, IfErr, ◌≡◌, Ok};
 ghost use Rattle.ylink.specs.Link.{device_of, has_failed};
-ghost use Rattle.yparse.specs.Session.{machine_of, history_of};
+ghost use Rattle.ysession.specs.Session.{machine_of, history_of};
 ghost use Rattle.ytokens.specs.Reading.{TokensOf};
 ghost use Rattle.ytokens.specs.Tokens.{Fits, symbols_of};
 ghost use Rattle.ystepper.specs.Headline.{Ends, HasTokens, Starts, StartFails, TokensFail};
@@ -15,8 +15,9 @@ use std::io::{ErrorKind, Read, Write};
 use thiserror::Error;
 use yfolder::Folder;
 use ygenerate::source::{SourceFault, tables_from};
-use yparse::{Session, TokenFault, Tokens, read_tokens};
+use ysession::Session;
 use ytables::{Link, Tables};
+use ytokens::{TokenFault, Tokens, read_tokens};
 
 /// Why there is no session over a grammar and tokens, or why it ended early.
 #[derive(Debug, Drop, Error)]

@@ -1,6 +1,6 @@
 use Rattle.std.proofs.Common.{Bool, true, ap, ◌∙◌, if◌then◌else◌}
 use Rattle.ylink.specs.Link.{has_failed}
-use Rattle.yparse.specs.Session.{machine_of, history_of}
+use Rattle.ysession.specs.Session.{machine_of, history_of}
 use Rattle.ystepper.specs.Command.{command_view}
 use Rattle.ystepper.proofs.Replying.{answered-unflushed}
 use Rattle.ystepper.proofs.reply.answer.Goals as goal

@@ -1,9 +1,9 @@
 use Rattle.std.proofs.Common.{◌+◌, ◌-◌, ℕ, List, refl, arith, ◌∙◌, codes, true, false}
-use Rattle.yparse.proofs.Settings.{same_machine}
+use Rattle.ysession.proofs.Settings.{same_machine}
 use Rattle.ymachine.specs.Machine.{Machine}
 use Rattle.ymachine.specs.Past.{back_by}
 use Rattle.ymachine.specs.History.{History}
-use Rattle.yparse.specs.Session.{machine_of, history_of}
+use Rattle.ysession.specs.Session.{machine_of, history_of}
 use Rattle.ystepper.specs.Reply.{undo_text}
 use Rattle.ystepper.specs.Command as commands
 use Rattle.ystepper.proofs.Replying.{replied_none, replied_line, replied_cut, replied_last, replied_all}

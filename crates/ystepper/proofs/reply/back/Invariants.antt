@@ -1,5 +1,5 @@
 use Rattle.std.proofs.Common.{◌≡◌, ◌-◌}
-use Rattle.yparse.specs.Session.{machine_of, history_of}
+use Rattle.ysession.specs.Session.{machine_of, history_of}
 use Rattle.ystepper.specs.Command as commands
 use Rattle.ystepper.proofs.Replying.{Replied, Undos}
 use Rattle.ystepper.proofs.reply.back.Given as goal

@@ -1,8 +1,8 @@
 use Rattle.std.proofs.Common.{codes, refl, inl, inr, subst, is_some}
-use Rattle.yparse.proofs.Settings.{same_machine}
+use Rattle.ysession.proofs.Settings.{same_machine}
 use Rattle.ymachine.specs.Machine.{Machine}
 use Rattle.ymachine.specs.History.{History}
-use Rattle.yparse.specs.Session.{machine_of, history_of}
+use Rattle.ysession.specs.Session.{machine_of, history_of}
 use Rattle.ystepper.specs.Command as commands
 use Rattle.ystepper.specs.Reply.{edit_text}
 use Rattle.ylink.specs.Sends.{Sends}

@@ -1,5 +1,5 @@
 use Rattle.ylink.proofs.Sent.{Sends-then}
-use Rattle.yparse.specs.Session.{machine_of, history_of}
+use Rattle.ysession.specs.Session.{machine_of, history_of}
 use Rattle.ystepper.specs.Reply.{configuration_text}
 use Rattle.ystepper.proofs.Replying.{front_none, front_then, front_cut}
 use Rattle.ystepper.proofs.reply.put_configuration.Goals as goal

@@ -3,7 +3,7 @@ use Rattle.std.proofs.Common.{arith}
 use Rattle.ylink.specs.Sends.{Sends}
 use Rattle.ytables.specs.Text.{spaced_names}
 use Rattle.ymachine.specs.Machine.{Configuration, Machine}
-use Rattle.yparse.specs.Session.{machine_of, history_of}
+use Rattle.ysession.specs.Session.{machine_of, history_of}
 use Rattle.ymachine.specs.Unwinding.{tokens_left}
 use Rattle.ylink.proofs.Sent.{Sends-part, Sends-next}
 use Rattle.ystepper.proofs.Replying.{rest_at, rest_count}

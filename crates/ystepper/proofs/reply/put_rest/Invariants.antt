@@ -1,7 +1,7 @@
 use Rattle.std.proofs.Common.{true, take, map}
 use Rattle.ylink.specs.Sends.{Sends}
 use Rattle.ytables.specs.Text.{spaced_names}
-use Rattle.yparse.specs.Session.{machine_of, history_of}
+use Rattle.ysession.specs.Session.{machine_of, history_of}
 use Rattle.ystepper.proofs.reply.put_rest.Given as goal
 
 -- the names so far were sent

@@ -3,7 +3,7 @@ use Rattle.std.proofs.Common.{◌∙◌, arith}
 use Rattle.std.proofs.lemmas.List.{length-map}
 use Rattle.ylink.specs.Sends.{Sends}
 use Rattle.ymachine.specs.Machine.{Configuration, Entry, symbols}
-use Rattle.yparse.specs.Session.{machine_of, history_of}
+use Rattle.ysession.specs.Session.{machine_of, history_of}
 use Rattle.ylink.proofs.Sent.{Sends-part}
 use Rattle.ystepper.proofs.reply.put_stack.Goals as goal
 

@@ -1,7 +1,7 @@
 use Rattle.std.proofs.Common.{refl, inl, inr, is_some, codes}
 use Rattle.ymachine.specs.Past.{to_first}
 use Rattle.ymachine.specs.Unwinding.{forms_text}
-use Rattle.yparse.specs.Session.{machine_of, history_of}
+use Rattle.ysession.specs.Session.{machine_of, history_of}
 use Rattle.ystepper.specs.Command as commands
 use Rattle.ystepper.proofs.Replying.{answered-later}
 use Rattle.ystepper.proofs.reply.unwind.Goals as goal

@@ -1,6 +1,6 @@
 use Rattle.std.proofs.Common.{◌≡◌, ◌==◌, ℕ, List, [], Bool, true, false, is_some, length, ap, sym}
 use Rattle.std.proofs.Common.{◌∙◌}
-use Rattle.yparse.specs.Session.{machine_of, history_of}
+use Rattle.ysession.specs.Session.{machine_of, history_of}
 use Rattle.ystepper.specs.Command.{command_view}
 use Rattle.ystepper.proofs.Transcripts.{ends_line, ends_quit, line_read}
 use Rattle.ystepper.proofs.run.answer_last.Goals as goal

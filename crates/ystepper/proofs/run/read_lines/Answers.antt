@@ -2,7 +2,7 @@ use Rattle.std.proofs.Common.{◌≡◌, ◌++◌, ℕ, List, [], length, take, 
 use Rattle.std.proofs.Common.{refl, length-append, length-take-le}
 use Rattle.std.proofs.KnownBytes.{Consumes-nil, Consumes-trans}
 use Rattle.ylink.proofs.Sent.{Sends-nothing}
-use Rattle.yparse.specs.Session.{machine_of, history_of}
+use Rattle.ysession.specs.Session.{machine_of, history_of}
 use Rattle.ystepper.specs.declared.run.Flow.TheVariants.{GoesOn, Quit}
 use Rattle.ystepper.proofs.Transcripts.{Replies_none, read_on, read_fault, quit_ends}
 use Rattle.ystepper.proofs.run.read_lines.Goals as goal

@@ -2,7 +2,7 @@ use Rattle.std.proofs.Common.{ℕ, List, ◌≡◌, ◌≤◌, length, take, tru
 use Rattle.std.specs.Io.KnownBytes.{Consumes}
 use Rattle.ylink.specs.Link.{device_of, has_failed}
 use Rattle.ylink.specs.Sends.{Sends}
-use Rattle.yparse.specs.Session.{machine_of, history_of}
+use Rattle.ysession.specs.Session.{machine_of, history_of}
 use Rattle.ystepper.specs.declared.run.Flow.TheVariants.{GoesOn}
 use Rattle.ystepper.specs.Line.{line_room}
 use Rattle.ystepper.specs.Serving.{whole_lines, rest_line, Replies}

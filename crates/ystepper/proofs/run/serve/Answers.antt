@@ -2,7 +2,7 @@ use Rattle.std.proofs.Common.{true, false, Result, Err, ap, sym, ◌∙◌, subs
 use Rattle.std.proofs.lemmas.Result.{err_from_is_err_and}
 use Rattle.ystepper.specs.declared.fault.SessionFault.{SessionFault}
 use Rattle.ylink.specs.Link.{device_of}
-use Rattle.yparse.specs.Session.{machine_of, history_of}
+use Rattle.ysession.specs.Session.{machine_of, history_of}
 use Rattle.ystepper.proofs.Transcripts.{Told, told_err, told_quit, told_last}
 use Rattle.ystepper.proofs.run.serve.Goals as goal
 

@@ -4,7 +4,7 @@ use Rattle.std.proofs.Common.{Some, take, drop, get_or, sym, ◌∙◌, subst}
 use Rattle.std.proofs.lemmas.List.{take_more, take_all}
 use Rattle.ymachine.specs.Machine.{Machine}
 use Rattle.ymachine.specs.History.{History}
-use Rattle.yparse.specs.Session.{machine_of, history_of}
+use Rattle.ysession.specs.Session.{machine_of, history_of}
 use Rattle.ystepper.specs.Command.{command_view}
 use Rattle.ystepper.specs.declared.run.Flow.{Flow}
 use Rattle.ystepper.specs.declared.run.Flow.TheVariants.{GoesOn}

@@ -1,6 +1,6 @@
 use Rattle.std.proofs.Common.{ℕ, List, ◌≡◌, take, Some}
 use Rattle.ylink.specs.Link.{has_failed}
-use Rattle.yparse.specs.Session.{machine_of, history_of}
+use Rattle.ysession.specs.Session.{machine_of, history_of}
 use Rattle.ystepper.specs.declared.run.Flow.TheVariants.{GoesOn}
 use Rattle.ystepper.specs.Line.{line_room}
 use Rattle.ystepper.specs.Serving.{ChunkTells}

@@ -4,7 +4,7 @@ use Rattle.ylink.specs.declared.link.Link.{Link}
 use Rattle.ylink.specs.Link.{device_of}
 use Rattle.ymachine.specs.Machine.{Machine}
 use Rattle.ymachine.specs.History.{History}
-use Rattle.yparse.specs.Session.{machine_of, history_of}
+use Rattle.ysession.specs.Session.{machine_of, history_of}
 use Rattle.ystepper.specs.declared.fault.SessionFault.{SessionFault}
 use Rattle.ystepper.specs.Headline.{Served, Starts}
 use Rattle.ystepper.specs.Plain.{HasOneText}

@@ -1,3 +1,0 @@
-pub mod Unwound
-pub mod Sessions
-pub mod Settings

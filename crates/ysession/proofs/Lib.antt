@@ -1,0 +1,4 @@
+pub mod Unwound
+pub mod Sessions
+pub mod Settings
+pub mod Changed
