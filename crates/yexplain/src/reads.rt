@@ -1,8 +1,11 @@
 //! Reads of grammars and tables by any number: what is out of range has an answer.
 
-use ylalr::{Automaton, END, Item};
+ghost use Rattle.std.specs.Iterator.{at_most};
+
+use ycells::{Candidate, candidate_at, next_rule, shift_at};
+use ylalr::{Automaton, Item};
 use ysymbols::{Grammar, Precedence, Rule, Sym};
-use ytables::{Action, Tables};
+use ytables::{Action, Conflict, Tables};
 
 /// The grammar that tables were made for.
 pub fn grammar_of(tables: &Tables) -> &Grammar {
@@ -42,8 +45,8 @@ pub fn left_of(grammar: &Grammar, number: usize) -> Option<Sym> {
 
 /// The precedence of a token, where it has one; the end never has.
 pub fn level_of(grammar: &Grammar, token: Sym) -> Option<Precedence> {
-    if token != END && token < grammar.symbols() {
-        grammar.precedence(token)
+    if grammar.is_token(token) {
+        ytables::level_of(grammar, token)
     } else {
         None
     }
@@ -107,10 +110,15 @@ pub fn begins_with(automaton: &Automaton, symbol: Sym, token: Sym) -> bool {
     symbol < symbols && token < symbols && automaton.in_first(symbol, token)
 }
 
+/// Whether tables have a cell of a state and a token.
+fn has_cell(tables: &Tables, state: usize, token: Sym) -> bool {
+    let automaton = tables.automaton();
+    state < automaton.states() && automaton.grammar().is_token(token)
+}
+
 /// What is done in a state at a token; an error for a number of no state or no token.
 pub fn action_of(tables: &Tables, state: usize, token: Sym) -> Action {
-    let automaton = tables.automaton();
-    if state < automaton.states() && automaton.grammar().is_token(token) {
+    if has_cell(tables, state, token) {
         tables.action(state, token)
     } else {
         Action::Error
@@ -123,5 +131,84 @@ pub fn default_of(tables: &Tables, state: usize) -> Option<usize> {
         tables.default_rule(state)
     } else {
         None
+    }
+}
+
+/// What the cells of a state count, by rising tokens; nothing for a number of no state.
+pub fn conflicts_of(tables: &Tables, state: usize) -> &[Conflict] {
+    if state < tables.automaton().states() {
+        tables.conflicts_in(state)
+    } else {
+        &[]
+    }
+}
+
+/// What a cell counts, where it counts something.
+pub fn conflict_of(tables: &Tables, state: usize, token: Sym) -> Option<Conflict> {
+    let conflicts = conflicts_of(tables, state);
+    let place = conflicts.binary_search_by_key(&token, |conflict| conflict.token);
+    conflicts.get(place.ok()?).copied()
+}
+
+/// The shift that is a candidate in a cell, where one is.
+pub fn shift_of(tables: &Tables, state: usize, token: Sym) -> Option<Action> {
+    if has_cell(tables, state, token) {
+        shift_at(tables, state, token)
+    } else {
+        None
+    }
+}
+
+/// The candidate in a cell that the item at an index of the state is, where it is one.
+pub fn candidate_of(tables: &Tables, state: usize, token: Sym, index: usize) -> Option<Candidate> {
+    let is_item = index < items_of(tables.automaton(), state).len();
+    if is_item && has_cell(tables, state, token) {
+        candidate_at(tables, state, token, index)
+    } else {
+        None
+    }
+}
+
+/// The rules that are candidates in a cell, in their order.
+#[derive(Clone, Copy, Drop)]
+pub struct Candidates<'a> {
+    tables: &'a Tables,
+    state: usize,
+    token: Sym,
+    /// Where the next one is sought among the items of the state.
+    index: usize,
+    /// There are no more than these.
+    most: usize,
+}
+
+impl Iterator for Candidates<'_> {
+    type Item = Candidate;
+
+    ghost remaining = { λ s. at_most s.most };
+
+    fn next(&mut self) -> Option<Candidate> {
+        if self.most == 0 {
+            return None;
+        }
+        self.most -= 1;
+        let candidate = next_rule(self.tables, self.state, self.token, self.index)?;
+        self.index = candidate.index.saturating_add(1);
+        Some(candidate)
+    }
+}
+
+/// The rules that are candidates in a cell; none for a number of no state or no token.
+pub fn candidates_of(tables: &Tables, state: usize, token: Sym) -> Candidates<'_> {
+    let most = if has_cell(tables, state, token) {
+        items_of(tables.automaton(), state).len()
+    } else {
+        0
+    };
+    Candidates {
+        tables,
+        state,
+        token,
+        index: 0,
+        most,
     }
 }
