@@ -110,15 +110,10 @@ pub fn begins_with(automaton: &Automaton, symbol: Sym, token: Sym) -> bool {
     symbol < symbols && token < symbols && automaton.in_first(symbol, token)
 }
 
-/// Whether tables have a cell of a state and a token.
-fn has_cell(tables: &Tables, state: usize, token: Sym) -> bool {
-    let automaton = tables.automaton();
-    state < automaton.states() && automaton.grammar().is_token(token)
-}
-
 /// What is done in a state at a token; an error for a number of no state or no token.
 pub fn action_of(tables: &Tables, state: usize, token: Sym) -> Action {
-    if has_cell(tables, state, token) {
+    let automaton = tables.automaton();
+    if state < automaton.states() && automaton.grammar().is_token(token) {
         tables.action(state, token)
     } else {
         Action::Error
@@ -150,9 +145,15 @@ pub fn conflict_of(tables: &Tables, state: usize, token: Sym) -> Option<Conflict
     conflicts.get(place.ok()?).copied()
 }
 
+/// How many rules a cell counts beside what is done in it: one of its two counts is 0.
+pub fn rivals_in(conflict: Conflict) -> usize {
+    conflict.shift_reduce.max(conflict.reduce_reduce)
+}
+
 /// The shift that is a candidate in a cell, where one is.
 pub fn shift_of(tables: &Tables, state: usize, token: Sym) -> Option<Action> {
-    if has_cell(tables, state, token) {
+    let automaton = tables.automaton();
+    if state < automaton.states() && automaton.grammar().is_token(token) {
         shift_at(tables, state, token)
     } else {
         None
@@ -161,9 +162,22 @@ pub fn shift_of(tables: &Tables, state: usize, token: Sym) -> Option<Action> {
 
 /// The candidate in a cell that the item at an index of the state is, where it is one.
 pub fn candidate_of(tables: &Tables, state: usize, token: Sym, index: usize) -> Option<Candidate> {
-    let is_item = index < items_of(tables.automaton(), state).len();
-    if is_item && has_cell(tables, state, token) {
+    let automaton = tables.automaton();
+    if state >= automaton.states() || !automaton.grammar().is_token(token) {
+        return None;
+    }
+    if index < automaton.items(state).len() {
         candidate_at(tables, state, token, index)
+    } else {
+        None
+    }
+}
+
+/// The first rule that is a candidate in a cell, of those from an index of the state on.
+fn rule_from(tables: &Tables, state: usize, token: Sym, index: usize) -> Option<Candidate> {
+    let automaton = tables.automaton();
+    if state < automaton.states() && automaton.grammar().is_token(token) {
+        next_rule(tables, state, token, index)
     } else {
         None
     }
@@ -191,7 +205,7 @@ impl Iterator for Candidates<'_> {
             return None;
         }
         self.most -= 1;
-        let candidate = next_rule(self.tables, self.state, self.token, self.index)?;
+        let candidate = rule_from(self.tables, self.state, self.token, self.index)?;
         self.index = candidate.index.saturating_add(1);
         Some(candidate)
     }
@@ -199,16 +213,11 @@ impl Iterator for Candidates<'_> {
 
 /// The rules that are candidates in a cell; none for a number of no state or no token.
 pub fn candidates_of(tables: &Tables, state: usize, token: Sym) -> Candidates<'_> {
-    let most = if has_cell(tables, state, token) {
-        items_of(tables.automaton(), state).len()
-    } else {
-        0
-    };
     Candidates {
         tables,
         state,
         token,
         index: 0,
-        most,
+        most: items_of(tables.automaton(), state).len(),
     }
 }
