@@ -2,11 +2,10 @@
 
 use indexmap::IndexMap;
 use std::alloc::{AllocError, Global};
-use yexplain::cells::{Case, Survey, reduces_at, standing_of, survey_of};
-use yexplain::reads::{action_of, body_of, is_complete, items_of, looks_at, next_of};
-use ylalr::{Automaton, Item, token_count};
+use yexplain::reads::{candidates_of, conflicts_of, items_of, next_of, rivals_in, shift_of};
+use ylalr::Automaton;
 use ysymbols::Sym;
-use ytables::{Action, Tables};
+use ytables::{Class, Conflict, Tables};
 
 /// The most rivals that are shown; kinds are compared by these.
 pub const MOST_RIVALS: usize = 10;
@@ -85,31 +84,15 @@ impl Kind {
     }
 }
 
-/// Whether a rule that can be reduced doesn't lose to the shift, where there is one.
-fn is_kept(automaton: &Automaton, survey: Survey, rule: usize, token: Sym) -> bool {
-    let standing = standing_of(automaton.grammar(), rule, token);
-    !survey.shifts || !standing.loses()
-}
-
-/// The first of the rules that don't lose, in the order of the file.
-fn first_rules(
-    automaton: &Automaton,
-    state: usize,
-    token: Sym,
-    survey: Survey,
-    ready: &[Item],
-) -> [usize; 10] {
+/// The first of the rules that don't lose to the shift, where there is one, in the order of the
+/// file.
+fn first_rules(tables: &Tables, state: usize, token: Sym) -> [usize; 10] {
+    let shifts = shift_of(tables, state, token).is_some();
+    let kept = candidates_of(tables, state, token).filter(|candidate| !shifts
+        || candidate.standing.class() != Class::Lose);
     let mut rules = [0usize; 10];
-    let mut places = rules.iter_mut();
-    for item in ready {
-        if reduces_at(automaton, state, *item, token)
-            && is_kept(automaton, survey, item.rule, token)
-        {
-            match places.next() {
-                Some(place) => *place = item.rule,
-                None => break,
-            }
-        }
+    for (place, candidate) in rules.iter_mut().zip(kept) {
+        *place = candidate.rule;
     }
     rules
 }
@@ -130,67 +113,15 @@ fn shifted(automaton: &Automaton, state: usize, token: Sym) -> u64 {
     number
 }
 
-/// The kind of a cell that counts a conflict.
-fn kind_of(
-    automaton: &Automaton,
-    state: usize,
-    token: Sym,
-    survey: Survey,
-    ready: &[Item],
-) -> Kind {
+/// The kind of a conflict of a state.
+fn kind_of(tables: &Tables, state: usize, conflict: Conflict) -> Kind {
+    let token = conflict.token;
     Kind {
         token,
-        shifted: shifted(automaton, state, token),
-        shift: survey.case() == Case::Open,
-        rivals: survey.conflicts(),
-        rules: first_rules(automaton, state, token, survey, ready),
-    }
-}
-
-/// Whether there is something to be done in a cell, beside what a default rule puts there.
-fn has_candidate(tables: &Tables, state: usize, token: Sym) -> bool {
-    match action_of(tables, state, token) {
-        Action::Shift(_) | Action::Accept => true,
-        Action::Reduce(rule) => {
-            let automaton = tables.automaton();
-            let dot = body_of(automaton.grammar(), rule).len();
-            looks_at(automaton, state, Item { rule, dot }, token)
-        }
-        Action::Error => false,
-    }
-}
-
-/// The look at a state.
-#[derive(Drop)]
-struct Look {
-    /// The state in which a token stood behind a dot last, plus one.
-    before: Vec<usize>,
-    ready: Vec<Item>,
-}
-
-impl Look {
-    /// Takes in the items of a state.
-    fn fill(&mut self, automaton: &Automaton, state: usize) -> Result<(), AllocError> {
-        self.ready.clear();
-        for item in items_of(automaton, state) {
-            if is_complete(automaton.grammar(), *item) {
-                self.ready.push(*item)?;
-            } else if let Some(symbol) = next_of(automaton.grammar(), *item) {
-                self.mark(symbol, state);
-            }
-        }
-        Ok(())
-    }
-
-    fn mark(&mut self, symbol: Sym, state: usize) {
-        if let Some(entry) = self.before.get_mut(symbol) {
-            *entry = state.saturating_add(1);
-        }
-    }
-
-    /// Whether the token stands behind a dot of the state.
-    fn shifts(&self, state: usize, token: Sym) -> bool {
-        self.before.get(token).copied() == Some(state.saturating_add(1))
+        shifted: shifted(tables.automaton(), state, token),
+        shift: conflict.shift_reduce > 0,
+        rivals: rivals_in(conflict),
+        rules: first_rules(tables, state, token),
     }
 }
 
@@ -202,64 +133,29 @@ impl Conflicts {
             cells: 0,
             others: 0,
         };
-        found.look_at_all(alloc, tables)?;
+        found.look_at_all(tables)?;
         Ok(found)
     }
 
     /// Notes the conflicts of all states.
-    fn look_at_all(&mut self, alloc: Global, tables: &Tables) -> Result<(), AllocError> {
-        let automaton = tables.automaton();
-        let tokens = token_count(automaton.grammar());
-        let mut look = Look {
-            before: vec![in alloc; 0usize; tokens]?,
-            ready: Vec::new(alloc),
-        };
-        for state in 0..automaton.states() {
-            look.fill(automaton, state)?;
-            self.look_at(tables, state, tokens, &look)?;
+    fn look_at_all(&mut self, tables: &Tables) -> Result<(), AllocError> {
+        for state in 0..tables.automaton().states() {
+            self.look_at(tables, state)?;
         }
         Ok(())
     }
 
     /// Notes the conflicts of a state.
-    fn look_at(
-        &mut self,
-        tables: &Tables,
-        state: usize,
-        tokens: usize,
-        look: &Look,
-    ) -> Result<(), AllocError> {
-        if look.ready.is_empty() {
-            return Ok(());
-        }
-        for token in 0..tokens {
-            let is_worth = look.ready.len() > 1 || look.shifts(state, token);
-            if is_worth && has_candidate(tables, state, token) {
-                self.look_at_cell(tables.automaton(), state, token, look)?;
+    fn look_at(&mut self, tables: &Tables, state: usize) -> Result<(), AllocError> {
+        for conflict in conflicts_of(tables, state) {
+            self.cells = self.cells.saturating_add(1);
+            if self.groups.len() >= MOST_KINDS {
+                self.others = self.others.saturating_add(1);
+            } else {
+                self.note(kind_of(tables, state, *conflict), state)?;
             }
         }
         Ok(())
-    }
-
-    /// Notes the conflict of a cell, where it has one.
-    fn look_at_cell(
-        &mut self,
-        automaton: &Automaton,
-        state: usize,
-        token: Sym,
-        look: &Look,
-    ) -> Result<(), AllocError> {
-        let shifts = look.shifts(state, token);
-        let survey = survey_of(automaton, state, token, shifts, &look.ready);
-        if survey.conflicts() == 0 {
-            return Ok(());
-        }
-        self.cells = self.cells.saturating_add(1);
-        if self.groups.len() >= MOST_KINDS {
-            self.others = self.others.saturating_add(1);
-            return Ok(());
-        }
-        self.note(kind_of(automaton, state, token, survey, &look.ready), state)
     }
 
     /// Notes a conflict of a kind in a state.

@@ -1,14 +1,15 @@
 //! How to choose otherwise than a cell with a shift does. Each hint is tried on the cell first, with
 //! the precedences that it asks for.
 
-use crate::cells::{Standing, standing_of};
 use crate::lines::is_inner;
 use crate::reads::level_of;
 use crate::rivals::{Kinds, Pair, Rivals, around};
-use crate::supposed::{BOTTOM, Deed, TOP, place_of};
+use crate::supposed::{BOTTOM, TOP, place_of};
 use std::io::{self, Write};
+use ycells::Candidate;
 use ylalr::END;
 use ysymbols::{Associativity, Sym};
+use ytables::{Action, Standing};
 
 impl Rivals<'_> {
     /// Writes how precedences of all rules choose, which is always so.
@@ -32,7 +33,7 @@ impl Rivals<'_> {
     /// Writes how to turn what is forbidden.
     pub fn put_banned<W: Write>(&self, out: &mut W) -> io::Result<()> {
         let reduces = self.reduces(self.with_word(Associativity::Left));
-        let shifts = self.is_done(self.with_word(Associativity::Right), Deed::Shift);
+        let shifts = self.is_done(self.with_word(Associativity::Right), self.shift);
         match (reduces, shifts) {
             (true, true) => writeln!(
                 out,
@@ -56,14 +57,15 @@ impl Rivals<'_> {
     }
 
     /// Writes how to shift where a rule has won.
-    pub fn put_shift<W: Write>(&self, out: &mut W, rule: usize) -> io::Result<()> {
+    pub fn put_shift<W: Write>(&self, out: &mut W, candidate: Candidate) -> io::Result<()> {
         let name = self.name();
+        let rule = candidate.rule;
         let giver = self.lines().giver(self.grammar(), rule);
         let at = self.place(rule).unwrap_or(BOTTOM);
-        let later = self.kinds_between((at, usize::MAX), Deed::Shift);
-        match (standing_of(self.grammar(), rule, self.token()), giver) {
+        let later = self.kinds_between((at, usize::MAX), self.shift);
+        match (candidate.standing, giver) {
             (Standing::Level(_), _) => {
-                if self.is_done(self.with_word(Associativity::Right), Deed::Shift) {
+                if self.is_done(self.with_word(Associativity::Right), self.shift) {
                     let hint = "write %right for the line of";
                     return writeln!(out, "  To shift instead, {hint} {name}.");
                 }
@@ -91,8 +93,9 @@ impl Rivals<'_> {
     }
 
     /// Writes how to reduce where the token has won against a rule.
-    pub fn put_reduce<W: Write>(&self, out: &mut W, rule: usize) -> io::Result<()> {
+    pub fn put_reduce<W: Write>(&self, out: &mut W, candidate: Candidate) -> io::Result<()> {
         let name = self.name();
+        let rule = candidate.rule;
         let giver = self.lines().giver(self.grammar(), rule);
         let at = self.place(rule).unwrap_or(TOP);
         let kinds = Kinds {
@@ -100,7 +103,7 @@ impl Rivals<'_> {
             right: self.reduces_above(at, Associativity::Right),
             nonassoc: self.reduces_above(at, Associativity::Nonassoc),
         };
-        match (standing_of(self.grammar(), rule, self.token()), giver) {
+        match (candidate.standing, giver) {
             (Standing::Level(_), _) => {
                 if self.reduces(self.with_word(Associativity::Left)) {
                     let hint = "write %left for the line of";
@@ -121,7 +124,8 @@ impl Rivals<'_> {
     }
 
     /// Writes how to give precedences to a rule and the token.
-    pub fn put_advice<W: Write>(&self, out: &mut W, rule: usize) -> io::Result<()> {
+    pub fn put_advice<W: Write>(&self, out: &mut W, candidate: Candidate) -> io::Result<()> {
+        let rule = candidate.rule;
         if self.token() == END {
             return writeln!(
                 out,
@@ -130,7 +134,7 @@ impl Rivals<'_> {
         }
         match self.lines().giver(self.grammar(), rule) {
             Some(token) if token == self.token() => self.put_both(out, rule),
-            Some(token) => self.put_giver(out, rule, token),
+            Some(token) => self.put_giver(out, candidate, token),
             None if is_inner(self.grammar(), rule) => writeln!(
                 out,
                 "  The rule of an action inside a body takes no precedence: change the grammar to \
@@ -144,8 +148,8 @@ impl Rivals<'_> {
     fn put_both<W: Write>(&self, out: &mut W, rule: usize) -> io::Result<()> {
         let name = self.name();
         let all = (0, usize::MAX);
-        let reduces = self.is_done_between(all, Associativity::Left, Deed::Reduce(rule));
-        let shifts = self.is_done_between(all, Associativity::Right, Deed::Shift);
+        let reduces = self.is_done_between(all, Associativity::Left, Action::Reduce(rule));
+        let shifts = self.is_done_between(all, Associativity::Right, self.shift);
         match (reduces, shifts) {
             (true, true) => writeln!(
                 out,
@@ -161,8 +165,9 @@ impl Rivals<'_> {
     }
 
     /// Writes how the token that would give a rule its precedence chooses.
-    fn put_giver<W: Write>(&self, out: &mut W, rule: usize, token: Sym) -> io::Result<()> {
-        match standing_of(self.grammar(), rule, self.token()) {
+    fn put_giver<W: Write>(&self, out: &mut W, candidate: Candidate, token: Sym) -> io::Result<()> {
+        let rule = candidate.rule;
+        match candidate.standing {
             Standing::NoToken => self.put_token_line(out, rule, token),
             Standing::NoRule => self.put_rule_line(out, rule, token),
             _ => self.put_lines(out, rule, token),
@@ -172,8 +177,8 @@ impl Rivals<'_> {
     /// Writes how a line for the token chooses, where the rule has one of another token.
     fn put_token_line<W: Write>(&self, out: &mut W, rule: usize, other: Sym) -> io::Result<()> {
         let at = self.place(rule).unwrap_or(TOP);
-        let shifts = self.kinds_between((at, usize::MAX), Deed::Shift);
-        let reduces = self.kinds_between((0, at), Deed::Reduce(rule));
+        let shifts = self.kinds_between((at, usize::MAX), self.shift);
+        let reduces = self.kinds_between((0, at), Action::Reduce(rule));
         let both = shifts.and(reduces);
         let (name, other) = (self.name(), self.named(other));
         if both.any() {
@@ -204,8 +209,8 @@ impl Rivals<'_> {
     fn put_rule_line<W: Write>(&self, out: &mut W, rule: usize, giver: Sym) -> io::Result<()> {
         let level = level_of(self.grammar(), self.token()).map_or(0, |it| it.level);
         let (above, below) = around(place_of(level));
-        let shifts = self.is_done(self.with_giver(giver, above), Deed::Shift);
-        let reduces = self.is_done(self.with_giver(giver, below), Deed::Reduce(rule));
+        let shifts = self.is_done(self.with_giver(giver, above), self.shift);
+        let reduces = self.is_done(self.with_giver(giver, below), Action::Reduce(rule));
         if !shifts || !reduces {
             return self.put_general(out);
         }
@@ -245,8 +250,8 @@ impl Rivals<'_> {
             later: giver,
             earlier: mine,
         };
-        let shifts = self.kinds_by(shift, Deed::Shift);
-        let reduces = self.kinds_by(reduce, Deed::Reduce(rule));
+        let shifts = self.kinds_by(shift, self.shift);
+        let reduces = self.kinds_by(reduce, Action::Reduce(rule));
         self.put_two(out, rule, token, (shifts, reduces))
     }
 

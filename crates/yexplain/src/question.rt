@@ -1,12 +1,11 @@
 //! A cell that is asked for.
 
-use crate::cells::reduces_at;
 use crate::lines::Lines;
-use crate::reads::items_of;
+use crate::reads::{Candidates, candidates_of, items_of, shift_of};
 use crate::text::Name;
 use ylalr::Item;
 use ysymbols::{Grammar, Sym};
-use ytables::Tables;
+use ytables::{Action, Tables};
 
 /// A cell to be explained: that of a state and a token.
 #[derive(Clone, Copy)]
@@ -37,8 +36,13 @@ impl<'a> Question<'a> {
         items_of(self.tables.automaton(), self.state)
     }
 
-    /// Whether an item of the state can be reduced at the token.
-    pub fn reduces(self, item: Item) -> bool {
-        reduces_at(self.tables.automaton(), self.state, item, self.token)
+    /// The shift that is a candidate in the cell, where one is.
+    pub fn shift(self) -> Option<Action> {
+        shift_of(self.tables, self.state, self.token)
+    }
+
+    /// The rules that are candidates in the cell.
+    pub fn candidates(self) -> Candidates<'a> {
+        candidates_of(self.tables, self.state, self.token)
     }
 }

@@ -1,8 +1,11 @@
 //! Reads of grammars and tables by any number: what is out of range has an answer.
 
-use ylalr::{Automaton, END, Item};
+ghost use Rattle.std.specs.Iterator.{at_most};
+
+use ycells::{Candidate, candidate_at, next_rule, shift_at};
+use ylalr::{Automaton, Item};
 use ysymbols::{Grammar, Precedence, Rule, Sym};
-use ytables::{Action, Tables};
+use ytables::{Action, Conflict, Tables};
 
 /// The grammar that tables were made for.
 pub fn grammar_of(tables: &Tables) -> &Grammar {
@@ -42,8 +45,8 @@ pub fn left_of(grammar: &Grammar, number: usize) -> Option<Sym> {
 
 /// The precedence of a token, where it has one; the end never has.
 pub fn level_of(grammar: &Grammar, token: Sym) -> Option<Precedence> {
-    if token != END && token < grammar.symbols() {
-        grammar.precedence(token)
+    if grammar.is_token(token) {
+        ytables::level_of(grammar, token)
     } else {
         None
     }
@@ -123,5 +126,98 @@ pub fn default_of(tables: &Tables, state: usize) -> Option<usize> {
         tables.default_rule(state)
     } else {
         None
+    }
+}
+
+/// What the cells of a state count, by rising tokens; nothing for a number of no state.
+pub fn conflicts_of(tables: &Tables, state: usize) -> &[Conflict] {
+    if state < tables.automaton().states() {
+        tables.conflicts_in(state)
+    } else {
+        &[]
+    }
+}
+
+/// What a cell counts, where it counts something.
+pub fn conflict_of(tables: &Tables, state: usize, token: Sym) -> Option<Conflict> {
+    let conflicts = conflicts_of(tables, state);
+    let place = conflicts.binary_search_by_key(&token, |conflict| conflict.token);
+    conflicts.get(place.ok()?).copied()
+}
+
+/// How many rules a cell counts beside what is done in it: one of its two counts is 0.
+pub fn rivals_in(conflict: Conflict) -> usize {
+    conflict.shift_reduce.max(conflict.reduce_reduce)
+}
+
+/// The shift that is a candidate in a cell, where one is.
+pub fn shift_of(tables: &Tables, state: usize, token: Sym) -> Option<Action> {
+    let automaton = tables.automaton();
+    if state < automaton.states() && automaton.grammar().is_token(token) {
+        shift_at(tables, state, token)
+    } else {
+        None
+    }
+}
+
+/// The candidate in a cell that the item at an index of the state is, where it is one.
+pub fn candidate_of(tables: &Tables, state: usize, token: Sym, index: usize) -> Option<Candidate> {
+    let automaton = tables.automaton();
+    if state >= automaton.states() || !automaton.grammar().is_token(token) {
+        return None;
+    }
+    if index < automaton.items(state).len() {
+        candidate_at(tables, state, token, index)
+    } else {
+        None
+    }
+}
+
+/// The first rule that is a candidate in a cell, of those from an index of the state on.
+fn rule_from(tables: &Tables, state: usize, token: Sym, index: usize) -> Option<Candidate> {
+    let automaton = tables.automaton();
+    if state < automaton.states() && automaton.grammar().is_token(token) {
+        next_rule(tables, state, token, index)
+    } else {
+        None
+    }
+}
+
+/// The rules that are candidates in a cell, in their order.
+#[derive(Clone, Copy, Drop)]
+pub struct Candidates<'a> {
+    tables: &'a Tables,
+    state: usize,
+    token: Sym,
+    /// Where the next one is sought among the items of the state.
+    index: usize,
+    /// There are no more than these.
+    most: usize,
+}
+
+impl Iterator for Candidates<'_> {
+    type Item = Candidate;
+
+    ghost remaining = { λ s. at_most s.most };
+
+    fn next(&mut self) -> Option<Candidate> {
+        if self.most == 0 {
+            return None;
+        }
+        self.most -= 1;
+        let candidate = rule_from(self.tables, self.state, self.token, self.index)?;
+        self.index = candidate.index.saturating_add(1);
+        Some(candidate)
+    }
+}
+
+/// The rules that are candidates in a cell; none for a number of no state or no token.
+pub fn candidates_of(tables: &Tables, state: usize, token: Sym) -> Candidates<'_> {
+    Candidates {
+        tables,
+        state,
+        token,
+        index: 0,
+        most: items_of(tables.automaton(), state).len(),
     }
 }

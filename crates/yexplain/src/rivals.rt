@@ -4,13 +4,12 @@
 use crate::lines::Lines;
 use crate::question::Question;
 use crate::reads::{level_of, rule_of};
-use crate::supposed::{BOTTOM, Deed, Supposed, TOP, line, place_of};
+use crate::supposed::{BOTTOM, Supposed, TOP, line, place_of};
 use crate::text::Name;
 use std::fmt;
+use ycells::{Rival, settle};
 use ysymbols::{Associativity, Grammar, Precedence, Sym};
-
-/// The most rules of a cell with which hints are tried.
-const MOST_RULES: usize = 10;
+use ytables::{Action, Standing};
 
 /// The words for lines of precedence with which a hint holds.
 #[derive(Clone, Copy, Drop)]
@@ -66,6 +65,8 @@ pub struct Pair {
 #[derive(Clone, Copy)]
 pub struct Rivals<'a> {
     asked: Question<'a>,
+    /// The shift.
+    pub shift: Action,
     rules: [usize; 10],
     count: usize,
 }
@@ -74,20 +75,14 @@ impl<'a> Rivals<'a> {
     /// The cell that is asked for.
     pub fn new(asked: Question<'a>) -> Rivals<'a> {
         let mut rules = [0usize; 10];
-        let mut places = rules.iter_mut();
-        let mut count: usize = 0;
-        for item in asked.items() {
-            if asked.reduces(*item) {
-                count = count.saturating_add(1);
-                if let Some(place) = places.next() {
-                    *place = item.rule;
-                }
-            }
+        for (place, candidate) in rules.iter_mut().zip(asked.candidates()) {
+            *place = candidate.rule;
         }
         Rivals {
             asked,
+            shift: asked.shift().unwrap_or(Action::Error),
             rules,
-            count,
+            count: asked.candidates().count(),
         }
     }
 
@@ -126,15 +121,28 @@ impl<'a> Rivals<'a> {
         Supposed::new(self.grammar(), self.lines())
     }
 
+    /// What is done in the cell; `None` where it has too many rules to be tried.
+    fn deed(&self, supposed: Supposed<'a>) -> Option<Action> {
+        let nothing = Rival {
+            rule: 0,
+            standing: Standing::Neither,
+        };
+        let mut rivals = [nothing; 10];
+        for (rival, rule) in rivals.iter_mut().zip(self.rules()) {
+            *rival = supposed.rival(*rule, self.token());
+        }
+        let rivals = rivals.get(..self.count)?;
+        Some(settle(Some(self.shift), rivals).action)
+    }
+
     /// Whether this is done in the cell; never, where it has too many rules to be tried.
-    pub fn is_done(&self, supposed: Supposed<'a>, deed: Deed) -> bool {
-        self.count <= MOST_RULES && supposed.deed(self.token(), self.rules()) == deed
+    pub fn is_done(&self, supposed: Supposed<'a>, action: Action) -> bool {
+        self.deed(supposed) == Some(action)
     }
 
     /// Whether some rule is reduced in the cell.
     pub fn reduces(&self, supposed: Supposed<'a>) -> bool {
-        let deed = supposed.deed(self.token(), self.rules());
-        self.count <= MOST_RULES && deed != Deed::Shift && deed != Deed::Nothing
+        matches!(self.deed(supposed), Some(Action::Reduce(_)))
     }
 
     /// The place of the line of a rule, where it has one.
@@ -176,42 +184,42 @@ impl<'a> Rivals<'a> {
         &self,
         (from, to): (usize, usize),
         kind: Associativity,
-        deed: Deed,
+        action: Action,
     ) -> bool {
         self.places()
             .iter()
             .filter(|place| from < **place && **place < to)
-            .all(|place| self.is_done(self.with_token(*place, kind), deed))
+            .all(|place| self.is_done(self.with_token(*place, kind), action))
     }
 
     /// The words with which this is done wherever the line of the token is put between two places.
-    pub fn kinds_between(&self, places: (usize, usize), deed: Deed) -> Kinds {
+    pub fn kinds_between(&self, places: (usize, usize), action: Action) -> Kinds {
         Kinds {
-            left: self.is_done_between(places, Associativity::Left, deed),
-            right: self.is_done_between(places, Associativity::Right, deed),
-            nonassoc: self.is_done_between(places, Associativity::Nonassoc, deed),
+            left: self.is_done_between(places, Associativity::Left, action),
+            right: self.is_done_between(places, Associativity::Right, action),
+            nonassoc: self.is_done_between(places, Associativity::Nonassoc, action),
         }
     }
 
     /// Whether this is done where two tokens stand on lines of this word, one below the other,
     /// above all other lines and below all.
-    fn is_done_by(&self, pair: Pair, kind: Associativity, deed: Deed) -> bool {
+    fn is_done_by(&self, pair: Pair, kind: Associativity, action: Action) -> bool {
         [TOP, BOTTOM].iter().all(|place| {
             let supposed = Supposed {
                 token: Some((pair.later, line(place.saturating_add(1), kind))),
                 other: Some((pair.earlier, line(*place, kind))),
                 ..self.supposed()
             };
-            self.is_done(supposed, deed)
+            self.is_done(supposed, action)
         })
     }
 
     /// The words of lines for two tokens with which this is done.
-    pub fn kinds_by(&self, pair: Pair, deed: Deed) -> Kinds {
+    pub fn kinds_by(&self, pair: Pair, action: Action) -> Kinds {
         Kinds {
-            left: self.is_done_by(pair, Associativity::Left, deed),
-            right: self.is_done_by(pair, Associativity::Right, deed),
-            nonassoc: self.is_done_by(pair, Associativity::Nonassoc, deed),
+            left: self.is_done_by(pair, Associativity::Left, action),
+            right: self.is_done_by(pair, Associativity::Right, action),
+            nonassoc: self.is_done_by(pair, Associativity::Nonassoc, action),
         }
     }
 
@@ -241,7 +249,7 @@ impl<'a> Rivals<'a> {
     pub fn with_own(&self, rule: usize, place: usize, token: Precedence) -> Supposed<'a> {
         Supposed {
             token: Some((self.token(), token)),
-            rule: Some((rule, Some(line(place, Associativity::Nonassoc)))),
+            rule: Some((rule, line(place, Associativity::Nonassoc))),
             ..self.supposed()
         }
     }
@@ -249,8 +257,8 @@ impl<'a> Rivals<'a> {
     /// Whether a name of its own for a rule chooses, where the token stands on this line.
     fn chooses(&self, rule: usize, token: Precedence) -> bool {
         let (above, below) = around(token.level);
-        self.is_done(self.with_own(rule, above, token), Deed::Shift)
-            && self.is_done(self.with_own(rule, below, token), Deed::Reduce(rule))
+        self.is_done(self.with_own(rule, above, token), self.shift)
+            && self.is_done(self.with_own(rule, below, token), Action::Reduce(rule))
     }
 
     /// Whether a name of its own for a rule chooses, where the token has a line of this word.

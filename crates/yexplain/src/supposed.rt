@@ -1,9 +1,10 @@
-//! Precedences as they could be, and what is done in a cell with them.
+//! Precedences as they could be, and how rules stand to tokens with them.
 
-use crate::cells::{Case, Standing, Survey};
 use crate::lines::Lines;
 use crate::reads::{level_of, rule_of};
+use ycells::Rival;
 use ysymbols::{Associativity, Grammar, Precedence, Sym};
+use ytables::standing_between;
 
 /// The place of a line above all others, with room for one between.
 pub const TOP: usize = 1;
@@ -27,17 +28,6 @@ pub fn line(place: usize, kind: Associativity) -> Precedence {
     Precedence { level: place, kind }
 }
 
-/// What is done in a cell.
-#[derive(Clone, Copy, Drop, PartialEq, Eq)]
-pub enum Deed {
-    /// The token is shifted.
-    Shift,
-    /// This rule is reduced.
-    Reduce(usize),
-    /// Neither.
-    Nothing,
-}
-
 /// Precedences of which some are other than those of the grammar.
 #[derive(Clone, Copy)]
 pub struct Supposed<'a> {
@@ -49,13 +39,13 @@ pub struct Supposed<'a> {
     pub token: Option<(Sym, Precedence)>,
     /// A second such token.
     pub other: Option<(Sym, Precedence)>,
-    /// A rule with another precedence, or none.
-    pub rule: Option<(usize, Option<Precedence>)>,
+    /// A rule with another precedence.
+    pub rule: Option<(usize, Precedence)>,
 }
 
-/// The precedence that is supposed of a token, where one is.
-fn among(supposed: Option<(Sym, Precedence)>, token: Sym) -> Option<Precedence> {
-    supposed.and_then(|(it, precedence)| (it == token).then_some(precedence))
+/// The precedence that is supposed of a token or a rule, where one is.
+fn among(supposed: Option<(usize, Precedence)>, number: usize) -> Option<Precedence> {
+    supposed.and_then(|(it, precedence)| (it == number).then_some(precedence))
 }
 
 impl<'a> Supposed<'a> {
@@ -91,32 +81,14 @@ impl<'a> Supposed<'a> {
 
     /// The precedence of a rule.
     fn of_rule(self, rule: usize) -> Option<Precedence> {
-        match self.rule {
-            Some((it, precedence)) if it == rule => precedence,
-            _ => self.given(rule),
-        }
+        among(self.rule, rule).or(self.given(rule))
     }
 
-    /// How a rule stands against the shift of a token.
-    pub fn standing(self, rule: usize, token: Sym) -> Standing {
-        Standing::between(self.of_token(token), self.of_rule(rule))
-    }
-
-    /// The candidates of a cell in which a token can be shifted, or these rules reduced.
-    pub fn survey(self, token: Sym, rules: &[usize]) -> Survey {
-        let mut survey = Survey::new(true);
-        for rule in rules {
-            survey.add(*rule, self.standing(*rule, token));
-        }
-        survey
-    }
-
-    /// What is done in such a cell.
-    pub fn deed(self, token: Sym, rules: &[usize]) -> Deed {
-        match self.survey(token, rules).case() {
-            Case::Shift | Case::Kept | Case::Open => Deed::Shift,
-            Case::Reduce(rule) | Case::Beaten(rule) | Case::Least(rule) => Deed::Reduce(rule),
-            Case::Empty | Case::Banned(_) => Deed::Nothing,
+    /// A rule in a cell of a token.
+    pub fn rival(self, rule: usize, token: Sym) -> Rival {
+        Rival {
+            rule,
+            standing: standing_between(self.of_token(token), self.of_rule(rule)),
         }
     }
 }

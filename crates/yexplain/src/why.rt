@@ -1,14 +1,15 @@
 //! Why a cell says what it says: its candidates, what settled it, and how to choose otherwise.
 
-use crate::cells::{Case, Standing, Survey, standing_of, survey_at};
+use crate::cells::{Case, case_of};
 pub use crate::question::Question;
-use crate::reads::{action_of, default_of, next_of};
+use crate::reads::{action_of, conflict_of, default_of, next_of};
 use crate::rivals::Rivals;
 use crate::text::{ItemText, Name, Numbered, RuleText};
 use std::io::{self, Write};
-use ylalr::{END, Item};
+use ycells::Candidate;
+use ylalr::END;
 use ysymbols::Associativity;
-use ytables::Action;
+use ytables::{Action, Class, Standing};
 
 /// The most candidates of one kind that are shown.
 const MOST_SHOWN: usize = 10;
@@ -44,17 +45,15 @@ pub fn explain_rivals<W: Write>(out: &mut W, asked: Question<'_>) -> io::Result<
 impl<'a> Question<'a> {
     /// Writes what settled the cell, with its candidates where there are several.
     fn put_reason<W: Write>(self, out: &mut W) -> io::Result<()> {
-        let survey = survey_at(self.tables.automaton(), self.state, self.token);
         let name = self.name();
-        match survey.case() {
+        match case_of(self.tables, self.state, self.token) {
             Case::Empty => self.put_empty(out),
             Case::Shift if self.token == END => writeln!(out, "  The input can only end here."),
             Case::Shift => writeln!(out, "  {name} can only be shifted here."),
-            Case::Reduce(_) => self.put_alone(out),
+            Case::Reduce => self.put_alone(out),
             case => {
-                self.put_candidates(out, survey)?;
-                self.put_standings(out, survey)?;
-                self.put_case(out, survey, case)
+                self.put_candidates(out)?;
+                self.put_case(out, case)
             }
         }
     }
@@ -80,12 +79,14 @@ impl<'a> Question<'a> {
         }
     }
 
-    /// Writes the candidates.
-    fn put_candidates<W: Write>(self, out: &mut W, survey: Survey) -> io::Result<()> {
-        if survey.shifts {
-            self.put_shifts(out)?;
+    /// Writes the candidates, and how the rules stand to the shift, where there is one.
+    fn put_candidates<W: Write>(self, out: &mut W) -> io::Result<()> {
+        if self.shift().is_none() {
+            return self.put_rules(out);
         }
-        self.put_rules(out, survey)
+        self.put_shifts(out)?;
+        self.put_rules(out)?;
+        self.put_standings(out)
     }
 
     /// Writes the items that could shift.
@@ -108,44 +109,32 @@ impl<'a> Question<'a> {
     }
 
     /// Writes the rules that could be reduced.
-    fn put_rules<W: Write>(self, out: &mut W, survey: Survey) -> io::Result<()> {
-        let mut left = MOST_SHOWN;
-        for item in self.items() {
-            if left > 0 && self.reduces(*item) {
-                let number = Numbered(self.lines, item.rule);
-                let text = RuleText(self.grammar(), item.rule);
-                writeln!(out, "  reduce  {number}  {text}")?;
-                left -= 1;
-            }
+    fn put_rules<W: Write>(self, out: &mut W) -> io::Result<()> {
+        for candidate in self.candidates().take(MOST_SHOWN) {
+            let number = Numbered(self.lines, candidate.rule);
+            let text = RuleText(self.grammar(), candidate.rule);
+            writeln!(out, "  reduce  {number}  {text}")?;
         }
-        self.put_more(out, survey.rules)
-    }
-
-    /// Writes how many rules are not shown.
-    fn put_more<W: Write>(self, out: &mut W, rules: usize) -> io::Result<()> {
-        if rules > MOST_SHOWN {
-            let more = rules.saturating_sub(MOST_SHOWN);
+        let more = self.candidates().skip(MOST_SHOWN).count();
+        if more > 0 {
             writeln!(out, "  and {more} rules more")?;
         }
         Ok(())
     }
 
-    /// Writes how the rules stand against the shift, where there is one.
-    fn put_standings<W: Write>(self, out: &mut W, survey: Survey) -> io::Result<()> {
-        let mut left = if survey.shifts { MOST_SHOWN } else { 0 };
-        for item in self.items() {
-            if left > 0 && self.reduces(*item) {
-                self.put_standing(out, item.rule)?;
-                left -= 1;
-            }
+    /// Writes how the rules stand to the token.
+    fn put_standings<W: Write>(self, out: &mut W) -> io::Result<()> {
+        for candidate in self.candidates().take(MOST_SHOWN) {
+            self.put_standing(out, candidate)?;
         }
         Ok(())
     }
 
-    /// Writes how a rule stands against the shift.
-    fn put_standing<W: Write>(self, out: &mut W, rule: usize) -> io::Result<()> {
+    /// Writes how a rule stands to the token.
+    fn put_standing<W: Write>(self, out: &mut W, candidate: Candidate) -> io::Result<()> {
+        let rule = candidate.rule;
         let name = self.name();
-        match standing_of(self.grammar(), rule, self.token) {
+        match candidate.standing {
             Standing::Higher => writeln!(out, "  Rule {rule} binds tighter than {name}."),
             Standing::Lower => writeln!(out, "  {name} binds tighter than rule {rule}."),
             Standing::Level(kind) => self.put_level(out, rule, kind),
@@ -183,12 +172,12 @@ impl<'a> Question<'a> {
     }
 
     /// Writes what settled the cell, and how to choose otherwise.
-    fn put_case<W: Write>(self, out: &mut W, survey: Survey, case: Case) -> io::Result<()> {
+    fn put_case<W: Write>(self, out: &mut W, case: Case) -> io::Result<()> {
         match case {
-            Case::Banned(_) => self.put_banned(out),
-            Case::Beaten(rule) => self.put_beaten(out, rule, survey),
+            Case::Banned => self.put_banned(out),
+            Case::Beaten(rule) => self.put_beaten(out, rule),
             Case::Kept => self.put_kept(out),
-            Case::Open => self.put_open(out, survey),
+            Case::Open => self.put_open(out),
             Case::Least(rule) => self.put_least(out, rule),
             _ => Ok(()),
         }
@@ -200,28 +189,42 @@ impl<'a> Question<'a> {
         Rivals::new(self).put_banned(out)
     }
 
-    fn put_beaten<W: Write>(self, out: &mut W, rule: usize, survey: Survey) -> io::Result<()> {
+    fn put_beaten<W: Write>(self, out: &mut W, rule: usize) -> io::Result<()> {
         let name = self.name();
         writeln!(out, "  So rule {rule} is reduced and {name} isn't shifted.")?;
-        if survey.kept > 1 {
+        if conflict_of(self.tables, self.state, self.token).is_some() {
             writeln!(
                 out,
                 "  Of the rules that don't lose, the first in the file is taken: a conflict."
             )?;
         }
-        Rivals::new(self).put_shift(out, survey.winner.unwrap_or(rule))
+        match self.last_winner() {
+            Some(candidate) => Rivals::new(self).put_shift(out, candidate),
+            None => Ok(()),
+        }
+    }
+
+    /// The last rule that beats the shift.
+    fn last_winner(self) -> Option<Candidate> {
+        let mut winner = None;
+        for candidate in self.candidates() {
+            if candidate.standing.class() == Class::Beat {
+                winner = Some(candidate);
+            }
+        }
+        winner
     }
 
     fn put_kept<W: Write>(self, out: &mut W) -> io::Result<()> {
         let name = self.name();
         writeln!(out, "  So {name} is shifted; nothing is counted.")?;
-        match self.items().iter().find(|item| self.reduces(**item)) {
-            Some(item) => Rivals::new(self).put_reduce(out, item.rule),
+        match self.candidates().next() {
+            Some(candidate) => Rivals::new(self).put_reduce(out, candidate),
             None => Ok(()),
         }
     }
 
-    fn put_open<W: Write>(self, out: &mut W, survey: Survey) -> io::Result<()> {
+    fn put_open<W: Write>(self, out: &mut W) -> io::Result<()> {
         let deed = if self.token == END {
             "accepts"
         } else {
@@ -231,8 +234,11 @@ impl<'a> Question<'a> {
             out,
             "  So yacc {deed}: a conflict, counted once for each such rule."
         )?;
-        match survey.least {
-            Some(rule) => Rivals::new(self).put_advice(out, rule),
+        let mut kept = self
+            .candidates()
+            .filter(|candidate| candidate.standing.class() != Class::Lose);
+        match kept.next() {
+            Some(candidate) => Rivals::new(self).put_advice(out, candidate),
             None => Ok(()),
         }
     }

@@ -26,7 +26,7 @@ pub struct CellText<'a> {
 
 impl<'a> CellText<'a> {
     fn grammar(self) -> &'a Grammar {
-        self.peer.automaton.grammar()
+        self.peer.grammar()
     }
 
     fn name(self) -> Name<'a> {

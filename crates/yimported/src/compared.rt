@@ -2,10 +2,10 @@
 
 use crate::peer::{Left, Peer};
 use std::alloc::{AllocError, Global};
-use yexplain::reads::{action_of, goto_of};
+use yexplain::reads::{action_of, conflict_of, conflicts_of, goto_of};
 use ylalr::token_count;
 use ysymbols::Sym;
-use ytables::{Action, Tables};
+use ytables::Action;
 
 /// The conflicts of an automaton as bison counts them. Where a shift meets two reductions, there
 /// is one of each kind.
@@ -48,7 +48,6 @@ pub struct Compared {
 /// A walk over the states that can be reached by what bison leaves in the cells.
 #[derive(Drop)]
 struct Walk<'a> {
-    tables: &'a Tables,
     peer: Peer<'a>,
     found: Compared,
     /// The states that were reached, in the order in which they were.
@@ -68,24 +67,6 @@ fn does(left: &Left, action: Action) -> bool {
     }
 }
 
-/// How many cells of a state count conflicts.
-fn conflicts_of(tables: &Tables, state: usize) -> usize {
-    if state < tables.automaton().states() {
-        tables.conflicts_in(state).len()
-    } else {
-        0
-    }
-}
-
-/// Whether a cell counts a conflict.
-fn has_conflict(tables: &Tables, state: usize, token: Sym) -> bool {
-    state < tables.automaton().states()
-        && tables
-            .conflicts_in(state)
-            .binary_search_by_key(&token, |conflict| conflict.token)
-            .is_ok()
-}
-
 impl Walk<'_> {
     /// Reaches a state.
     fn reach(&mut self, state: usize) -> Result<(), AllocError> {
@@ -100,7 +81,7 @@ impl Walk<'_> {
 
     /// Reaches the state to which a symbol leads.
     fn reach_by(&mut self, state: usize, symbol: Sym) -> Result<(), AllocError> {
-        match goto_of(self.peer.automaton, state, symbol) {
+        match goto_of(self.peer.tables.automaton(), state, symbol) {
             Some(next) => self.reach(next),
             None => Ok(()),
         }
@@ -117,12 +98,12 @@ impl Walk<'_> {
     fn is_other(&self, state: usize, token: Sym, left: &Left) -> bool {
         let conflicts = left.shift_reduce().saturating_add(left.reduce_reduce());
         let is_other_kind = left.ends > 0 && left.reductions > 0;
-        is_other_kind || (conflicts > 0) != has_conflict(self.tables, state, token)
+        is_other_kind || (conflicts > 0) != conflict_of(self.peer.tables, state, token).is_some()
     }
 
     /// Compares a cell.
     fn compare(&mut self, state: usize, token: Sym, left: Left) {
-        let action = action_of(self.tables, state, token);
+        let action = action_of(self.peer.tables, state, token);
         let other = Other {
             state,
             token,
@@ -140,7 +121,7 @@ impl Walk<'_> {
     /// Looks at the cells of a state.
     fn look_at(&mut self, alloc: Global, state: usize) -> Result<(), AllocError> {
         let ready = self.peer.ready_items(alloc, state)?;
-        for token in 0..token_count(self.peer.automaton.grammar()) {
+        for token in 0..token_count(self.peer.grammar()) {
             let left = self.peer.left_in(state, token, &ready);
             if left.is_filled() {
                 self.count(&left);
@@ -155,7 +136,7 @@ impl Walk<'_> {
 
     /// Reaches the states to which nonterminals lead.
     fn pass(&mut self, state: usize) -> Result<(), AllocError> {
-        let grammar = self.peer.automaton.grammar();
+        let grammar = self.peer.grammar();
         for symbol in token_count(grammar)..grammar.symbols() {
             self.reach_by(state, symbol)?;
         }
@@ -166,7 +147,7 @@ impl Walk<'_> {
     fn count_cut(&mut self) {
         for (state, is_reached) in self.is_reached.iter().enumerate() {
             if !*is_reached {
-                let cells = conflicts_of(self.tables, state);
+                let cells = conflicts_of(self.peer.tables, state).len();
                 self.found.cut = self.found.cut.saturating_add(cells);
             }
         }
@@ -175,7 +156,7 @@ impl Walk<'_> {
     /// Looks at all states that can be reached.
     fn run(&mut self, alloc: Global) -> Result<(), AllocError> {
         self.reach(0)?;
-        for at in 0..self.peer.automaton.states() {
+        for at in 0..self.peer.tables.automaton().states() {
             let Some(state) = self.reached.get(at).copied() else {
                 break;
             };
@@ -204,13 +185,12 @@ impl Compared {
 
     /// Compares the cells of tables with bison's, in the states that bison keeps: those that can
     /// be reached by what it leaves in the cells.
-    pub fn new(alloc: Global, tables: &Tables, peer: Peer<'_>) -> Result<Compared, AllocError> {
+    pub fn new(alloc: Global, peer: Peer<'_>) -> Result<Compared, AllocError> {
         let mut walk = Walk {
-            tables,
             peer,
             found: Compared::nothing(),
             reached: Vec::new(alloc),
-            is_reached: vec![in alloc; false; peer.automaton.states()]?,
+            is_reached: vec![in alloc; false; peer.tables.automaton().states()]?,
         };
         match walk.run(alloc) {
             Ok(()) => Ok(walk.found),

@@ -2,16 +2,17 @@
 //! after the other, as long as the shift is there.
 
 use std::alloc::{AllocError, Global};
-use yexplain::cells::{Standing, standing_of};
-use yexplain::reads::{goto_of, has_item, is_complete, items_of, looks_at, rule_of};
-use ylalr::{Automaton, END, Item};
-use ysymbols::Sym;
+use ycells::Candidate;
+use yexplain::reads::{candidate_of, is_complete, items_of, rule_of, shift_of};
+use ylalr::END;
+use ysymbols::{Grammar, Sym};
+use ytables::{Class, Tables};
 
 /// What bison compares rules and tokens by.
 #[derive(Clone, Copy)]
 pub struct Peer<'a> {
-    /// The automaton, without the ends that bodies of the file have.
-    pub automaton: &'a Automaton,
+    /// The tables, without the ends that bodies of the file have.
+    pub tables: &'a Tables,
     /// The line of `%precedence` for each level that comes from one.
     pub levels: &'a [Option<usize>],
     /// For each rule, which of the ends that were taken out of bodies stood in its own.
@@ -69,24 +70,28 @@ impl Left {
     }
 
     /// Leaves a rule that isn't compared with the shift.
-    fn pass(&mut self, rule: usize, standing: Standing) {
-        if standing.bans() && self.passed.is_none() {
-            self.passed = Some(rule);
+    fn pass(&mut self, candidate: Candidate) {
+        if candidate.standing.class() == Class::Ban && self.passed.is_none() {
+            self.passed = Some(candidate.rule);
         }
-        self.leave(rule);
+        self.leave(candidate.rule);
     }
 
     /// Compares a rule with the shift.
-    fn compare(&mut self, rule: usize, standing: Standing) {
-        if standing.bans() {
-            self.banning = Some(rule);
-            self.shift = false;
-        } else if standing.wins() {
-            self.winner = Some(rule);
-            self.shift = false;
-            self.leave(rule);
-        } else if !standing.loses() {
-            self.leave(rule);
+    fn compare(&mut self, candidate: Candidate) {
+        let rule = candidate.rule;
+        match candidate.standing.class() {
+            Class::Ban => {
+                self.banning = Some(rule);
+                self.shift = false;
+            }
+            Class::Beat => {
+                self.winner = Some(rule);
+                self.shift = false;
+                self.leave(rule);
+            }
+            Class::Rest => self.leave(rule),
+            Class::Lose => {}
         }
     }
 
@@ -116,26 +121,22 @@ impl Left {
     }
 }
 
-impl Peer<'_> {
-    /// Whether a token can be shifted, or the end accepted.
-    fn shifts(&self, state: usize, token: Sym) -> bool {
-        if token == END {
-            has_item(self.automaton, state, Item { rule: 0, dot: 1 })
-        } else {
-            goto_of(self.automaton, state, token).is_some()
-        }
+impl<'a> Peer<'a> {
+    /// The grammar of the tables.
+    pub fn grammar(&self) -> &'a Grammar {
+        self.tables.automaton().grammar()
     }
 
     /// The line of the `%precedence` that a rule has its level from, where it has it from one.
     pub fn line_of(&self, rule: usize) -> Option<usize> {
-        let precedence = rule_of(self.automaton.grammar(), rule)?.precedence()?;
+        let precedence = rule_of(self.grammar(), rule)?.precedence()?;
         let place = precedence.level.checked_sub(1)?;
         self.levels.get(place).copied()?
     }
 
     /// Whether bison leaves a rule and the shift beside each other where yacc forbids both.
-    fn is_equal(&self, rule: usize, standing: Standing) -> bool {
-        standing.bans() && self.line_of(rule).is_some()
+    fn is_equal(&self, candidate: Candidate) -> bool {
+        candidate.standing.class() == Class::Ban && self.line_of(candidate.rule).is_some()
     }
 
     /// Which of the ends that were taken out of bodies stood in that of a rule.
@@ -144,39 +145,37 @@ impl Peer<'_> {
     }
 
     /// Takes a rule into a cell that had a shift, or hadn't.
-    fn take(&self, left: &mut Left, rule: usize, token: Sym, shifts: bool) {
+    fn take(&self, left: &mut Left, candidate: Candidate, token: Sym, shifts: bool) {
+        let rule = candidate.rule;
         if token == END && self.end_of(rule).is_some() {
-            return left.take_ended(rule);
-        }
-        if !shifts {
-            return left.leave(rule);
-        }
-        let standing = standing_of(self.automaton.grammar(), rule, token);
-        if left.shift && !self.is_equal(rule, standing) {
-            left.compare(rule, standing);
+            left.take_ended(rule);
+        } else if !shifts {
+            left.leave(rule);
+        } else if left.shift && !self.is_equal(candidate) {
+            left.compare(candidate);
         } else {
-            left.pass(rule, standing);
+            left.pass(candidate);
         }
     }
 
-    /// What is left in a cell, with the items of its state that can be reduced.
-    pub fn left_in(&self, state: usize, token: Sym, ready: &[Item]) -> Left {
-        let shifts = self.shifts(state, token);
+    /// What is left in a cell, where the items at these places can be reduced.
+    pub fn left_in(&self, state: usize, token: Sym, ready: &[usize]) -> Left {
+        let shifts = shift_of(self.tables, state, token).is_some();
         let mut left = Left::new(shifts);
-        for item in ready {
-            if looks_at(self.automaton, state, *item, token) {
-                self.take(&mut left, item.rule, token, shifts);
+        for index in ready {
+            if let Some(candidate) = candidate_of(self.tables, state, token, *index) {
+                self.take(&mut left, candidate, token, shifts);
             }
         }
         left
     }
 
-    /// The items of a state that can be reduced.
-    pub fn ready_items(&self, alloc: Global, state: usize) -> Result<Vec<Item>, AllocError> {
+    /// Where the items of a state stand that can be reduced.
+    pub fn ready_items(&self, alloc: Global, state: usize) -> Result<Vec<usize>, AllocError> {
         let mut ready = Vec::new(alloc);
-        for item in items_of(self.automaton, state) {
-            if is_complete(self.automaton.grammar(), *item) {
-                ready.push(*item)?;
+        for (index, item) in items_of(self.tables.automaton(), state).iter().enumerate() {
+            if is_complete(self.grammar(), *item) {
+                ready.push(index)?;
             }
         }
         Ok(ready)

@@ -9,6 +9,7 @@ use std::alloc::{AllocError, Global};
 use std::io::{self, Write};
 use std::rt::Files;
 use yexplain::lines::is_inner;
+use yexplain::reads::grammar_of;
 use yfaults::opening::{Opened, Trouble, grammar_bytes, put_trouble, put_unread};
 use yfiles::same::refused_output;
 use yfiles::writing::put_file;
@@ -82,15 +83,14 @@ fn look_at<E: Write>(
     opened: &Opened,
 ) -> io::Result<u8> {
     let Opened { tables, lines } = opened;
-    let automaton = tables.automaton();
     let ends = &asked.imported.ended;
-    let ended = ended_rules(alloc, automaton.grammar(), ends)?;
+    let ended = ended_rules(alloc, grammar_of(tables), ends)?;
     let peer = Peer {
-        automaton,
+        tables,
         levels: &asked.imported.levels,
         ended: &ended,
     };
-    let found = Compared::new(alloc, tables, peer)?;
+    let found = Compared::new(alloc, peer)?;
     let text = |other: Other| CellText {
         source: asked.source,
         peer,

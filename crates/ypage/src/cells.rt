@@ -3,8 +3,8 @@
 use serde::Serialize;
 use std::alloc::{AllocError, Global};
 use std::{io, str};
-use yexplain::cells::survey_at;
 use yexplain::lines::Lines;
+use yexplain::reads::{conflict_of, rivals_in};
 use yexplain::why::{Question, explain_rivals};
 use ysymbols::Sym;
 use ytables::Tables;
@@ -39,7 +39,7 @@ pub fn cells_of(
 ) -> io::Result<Vec<Cell>> {
     let mut cells = Vec::new(alloc);
     for (state, token) in asked {
-        let survey = survey_at(tables.automaton(), *state, *token);
+        let conflict = conflict_of(tables, *state, *token);
         let asked = Question {
             tables,
             lines,
@@ -47,7 +47,7 @@ pub fn cells_of(
             token: *token,
         };
         let cell = Cell {
-            conflicts: survey.conflicts(),
+            conflicts: conflict.map_or(0, rivals_in),
             why: why_of(alloc, asked)?,
         };
         cells.push(cell).map_err(AllocError::from)?;

@@ -1,15 +1,16 @@
 //! What a grammar doesn't use: rules that are never reduced, precedences that settle nothing.
 
 use std::alloc::{AllocError, Global};
-use yexplain::cells::{reduces_at, standing_of};
+use std::mem;
+use ycells::{Rival, settle};
 use yexplain::lines::Lines;
 use yexplain::reads::{
-    action_of, body_of, default_of, grammar_of, is_complete, items_of, level_of, next_of, rule_of,
+    action_of, body_of, candidate_of, default_of, grammar_of, is_complete, items_of, level_of,
+    next_of, rule_of, shift_of,
 };
-use yexplain::supposed::{Supposed, line, place_of};
-use ylalr::{Automaton, Item, token_count};
+use ylalr::{Automaton, token_count};
 use ysymbols::{Grammar, Precedence, Sym};
-use ytables::{Action, Tables};
+use ytables::{Action, Class, Tables, standing_between};
 
 /// The most steps of all trials: one for each rule of a cell.
 const MOST_STEPS: usize = 2_000_000;
@@ -29,11 +30,11 @@ pub struct Done {
     /// Whether all cells were tried in which a `%prec` could have left one open.
     pub all_tried: bool,
     /// The rules of the cell.
-    rivals: Vec<usize>,
+    rivals: Vec<Rival>,
     /// How many steps trials may still take.
     steps: usize,
-    /// The complete items of a state.
-    ready: Vec<Item>,
+    /// Where the complete items of a state stand among its items.
+    ready: Vec<usize>,
 }
 
 /// Sets a mark, where it is one.
@@ -77,17 +78,17 @@ impl Done {
         self.fill(tables.automaton(), state)?;
         if !self.ready.is_empty() {
             self.look_at_cells(tables, state);
-            self.look_at_shifts(tables.automaton(), lines, state)?;
+            self.look_at_shifts(tables, lines, state)?;
         }
         Ok(())
     }
 
-    /// Takes in the complete items of a state.
+    /// Takes in where the complete items of a state stand.
     fn fill(&mut self, automaton: &Automaton, state: usize) -> Result<(), AllocError> {
         self.ready.clear();
-        for item in items_of(automaton, state) {
+        for (index, item) in items_of(automaton, state).iter().enumerate() {
             if is_complete(automaton.grammar(), *item) {
-                self.ready.push(*item)?;
+                self.ready.push(index)?;
             }
         }
         Ok(())
@@ -105,17 +106,17 @@ impl Done {
     /// Notes which precedences are compared in the cells with a shift.
     fn look_at_shifts(
         &mut self,
-        automaton: &Automaton,
+        tables: &Tables,
         lines: &Lines,
         state: usize,
     ) -> Result<(), AllocError> {
-        let grammar = automaton.grammar();
-        for item in items_of(automaton, state) {
+        let grammar = grammar_of(tables);
+        for item in items_of(tables.automaton(), state) {
             if let Some(token) = next_of(grammar, *item) {
-                if grammar.is_token(token) && level_of(grammar, token).is_some() {
-                    self.gather(automaton, state, token)?;
-                    self.compare(grammar, token);
-                    self.try_each(Supposed::new(grammar, lines), token);
+                if level_of(grammar, token).is_some() {
+                    self.gather(tables, state, token)?;
+                    self.compare(token);
+                    self.try_each(tables, lines, state, token);
                 }
             }
         }
@@ -123,36 +124,38 @@ impl Done {
     }
 
     /// Takes in the rules of a cell.
-    fn gather(
-        &mut self,
-        automaton: &Automaton,
-        state: usize,
-        token: Sym,
-    ) -> Result<(), AllocError> {
+    fn gather(&mut self, tables: &Tables, state: usize, token: Sym) -> Result<(), AllocError> {
         self.rivals.clear();
-        for item in &self.ready {
-            if reduces_at(automaton, state, *item, token) {
-                self.rivals.push(item.rule)?;
+        for index in &self.ready {
+            if let Some(candidate) = candidate_of(tables, state, token, *index) {
+                self.rivals.push(Rival {
+                    rule: candidate.rule,
+                    standing: candidate.standing,
+                })?;
             }
         }
         Ok(())
     }
 
     /// Notes which precedences are compared in the cell of these rules and a token.
-    fn compare(&mut self, grammar: &Grammar, token: Sym) {
-        for rule in &self.rivals {
-            if !standing_of(grammar, *rule, token).is_open() {
+    fn compare(&mut self, token: Sym) {
+        for rival in &self.rivals {
+            if rival.standing.class() != Class::Rest {
                 mark(&mut self.by_token, token);
-                mark(&mut self.by_rule, *rule);
+                mark(&mut self.by_rule, rival.rule);
             }
         }
     }
 
     /// Notes the rules of the cell that would settle it otherwise without their `%prec`.
-    fn try_each(&mut self, supposed: Supposed<'_>, token: Sym) {
-        for rule in &self.rivals {
-            let is_marked = self.by_rule.get(*rule).copied().unwrap_or(true);
-            let Some(hidden) = hidden_of(supposed, *rule) else {
+    fn try_each(&mut self, tables: &Tables, lines: &Lines, state: usize, token: Sym) {
+        let grammar = grammar_of(tables);
+        let shift = shift_of(tables, state, token);
+        let level = level_of(grammar, token);
+        for place in 0..self.rivals.len() {
+            let rule = self.rivals[place].rule;
+            let is_marked = self.by_rule.get(rule).copied().unwrap_or(true);
+            let Some(hidden) = hidden_of(grammar, lines, rule) else {
                 continue;
             };
             if is_marked {
@@ -163,8 +166,12 @@ impl Done {
                 break;
             }
             self.steps = self.steps.saturating_sub(self.rivals.len());
-            if settles(supposed, *rule, hidden, token, &self.rivals) {
-                mark(&mut self.by_rule, *rule);
+            let other = Rival {
+                rule,
+                standing: standing_between(level, Some(hidden)),
+            };
+            if settles(shift, &mut self.rivals, place, other) {
+                mark(&mut self.by_rule, rule);
             }
         }
     }
@@ -188,31 +195,26 @@ fn giver_of(grammar: &Grammar, lines: &Lines, rule: usize) -> Option<Sym> {
 }
 
 /// The precedence that a rule would have without its `%prec`, where that gives it none.
-fn hidden_of(supposed: Supposed<'_>, rule: usize) -> Option<Precedence> {
-    let Supposed { grammar, lines, .. } = supposed;
+fn hidden_of(grammar: &Grammar, lines: &Lines, rule: usize) -> Option<Precedence> {
     if lines.prec(rule).is_none() || rule_of(grammar, rule)?.precedence().is_some() {
         return None;
     }
     let body = body_of(grammar, rule);
     let last = body.iter().rev().find(|symbol| grammar.is_token(**symbol));
-    let Precedence { level, kind } = level_of(grammar, *last?)?;
-    Some(line(place_of(level), kind))
+    level_of(grammar, *last?)
 }
 
-/// Whether a cell does something else, or counts other conflicts, where one of its rules has this
-/// precedence.
-fn settles(
-    supposed: Supposed<'_>,
-    rule: usize,
-    hidden: Precedence,
-    token: Sym,
-    rules: &[usize],
-) -> bool {
-    let other = Supposed {
-        rule: Some((rule, Some(hidden))),
-        ..supposed
+/// Whether a cell does something else, or counts other conflicts, where one of its rules stands
+/// otherwise to the token.
+fn settles(shift: Option<Action>, rivals: &mut [Rival], place: usize, other: Rival) -> bool {
+    let before = settle(shift, rivals);
+    let Some(rival) = rivals.get_mut(place) else {
+        return false;
     };
-    let (before, after) = (supposed.survey(token, rules), other.survey(token, rules));
-    supposed.deed(token, rules) != other.deed(token, rules)
-        || before.conflicts() != after.conflicts()
+    let kept = mem::replace(rival, other);
+    let after = settle(shift, rivals);
+    if let Some(rival) = rivals.get_mut(place) {
+        *rival = kept;
+    }
+    before != after
 }

@@ -1,7 +1,6 @@
 //! Readings of a parse that answer for any number, and names as text.
 
 use std::str;
-use yexplain::cells::survey_at;
 use yexplain::reads;
 use ylalr::END;
 use yparse::machine::Mode;
@@ -31,7 +30,7 @@ pub fn last_state(tables: &Tables) -> usize {
 
 /// Whether a cell counts a conflict.
 pub fn has_conflict(tables: &Tables, state: usize, token: Sym) -> bool {
-    survey_at(tables.automaton(), state, token).conflicts() > 0
+    reads::conflict_of(tables, state, token).is_some()
 }
 
 /// The precedence of a rule.

@@ -3,9 +3,9 @@
 use crate::page::{Page, Paint};
 use crate::reading::{has_conflict, name_of};
 use std::io::{Sink, Write, sink};
-use yexplain::cells::survey_at;
 use yexplain::reads::{
-    action_of, default_of, goto_of, grammar_of, is_complete, items_of, looks_at, next_of,
+    action_of, candidates_of, default_of, goto_of, grammar_of, is_complete, items_of, looks_at,
+    next_of,
 };
 use yexplain::text::ItemText;
 use ylalr::{END, Item, token_count};
@@ -170,11 +170,12 @@ impl<'a> Shown<'a> {
 
     /// Whether a cell has a line of its own: what isn't a reduction, and what was settled.
     fn is_apart(self, token: Sym, action: Action) -> bool {
-        let survey = survey_at(self.tables.automaton(), self.state, token);
         match action {
             Action::Shift(_) | Action::Accept => true,
-            Action::Error => survey.rules > 0,
-            Action::Reduce(_) => survey.conflicts() > 0,
+            Action::Error => candidates_of(self.tables, self.state, token)
+                .next()
+                .is_some(),
+            Action::Reduce(_) => has_conflict(self.tables, self.state, token),
         }
     }
 

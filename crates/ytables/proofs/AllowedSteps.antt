@@ -88,7 +88,7 @@ cell_from class (Some s) rules = go (list_any (λ r. is_ban (class r)) rules)
         (filter_among (λ r. not (is_lose (class r))) r rules h).1)
     go false false = itself_from rules s
 
-begins_is : (t : ℕ) (l : List ℕ) → begins_with t l ≡ true → (y : List ℕ) × (l ≡ t ∷ y)
+pub begins_is : (t : ℕ) (l : List ℕ) → begins_with t l ≡ true → (y : List ℕ) × (l ≡ t ∷ y)
 begins_is t [] h = cc
 begins_is t (x ∷ y) h = (y, go (eqb_tells x t))
   where

@@ -183,7 +183,7 @@ leads_some P Q (Some n) h i p = (n, refl)
 
 module _ (m : Collection) (u : Guide) where
   -- a token that an item has its dot before leads on
-  leads_on : WellFormed (bare_of m) → HasStates m → (q t : ℕ) → q < length m.states →
+  pub leads_on : WellFormed (bare_of m) → HasStates m → (q t : ℕ) → q < length m.states →
       IsToken (bare_of m) t → ShiftsIn (bare_of m) (state_of m q) t →
       (n : ℕ) × (goto_in m q t ≡ Some n)
   leads_on w s q t h l i =

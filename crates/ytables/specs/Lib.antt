@@ -3,6 +3,7 @@ pub mod Allowed
 pub mod Cell
 pub mod Had
 pub mod Report
+pub mod Standing
 pub mod Table
 pub mod Tables
 pub mod Tally

@@ -21,7 +21,7 @@ pub enum Action {
 
 /// A cell of a state and a token: its action, what it counts, and whether it was chosen among
 /// several.
-#[derive(Clone, Copy, Drop)]
+#[derive(Clone, Copy, Debug, Drop, PartialEq, Eq)]
 pub struct Cell {
     /// What is done.
     pub action: Action,

@@ -16,7 +16,10 @@ mod table;
 mod tables;
 mod tallies;
 
-pub use cell::{Action, Conflict};
+pub use cell::{Action, Cell, Conflict, Tally};
+pub use class::{Class, Standing, standing_between};
+pub use dots::{is_ready, next_symbol};
 pub use fault::TableFault;
 pub use tables::{Counts, Tables, resolve};
+pub use tallies::level_of;
 pub use ylink::Link;

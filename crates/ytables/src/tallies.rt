@@ -16,7 +16,7 @@ use ylalr::{Automaton, END};
 use ysymbols::{Grammar, Precedence, Sym};
 
 /// The precedence of a token, where it has one; the end has none.
-fn level_of(grammar: &Grammar, t: Sym) -> Option<Precedence>
+pub fn level_of(grammar: &Grammar, t: Sym) -> Option<Precedence>
     requires { t < grammar.now.bare.tokens }
     ensures { result ≡ level_of grammar.now t }
 {

@@ -1,0 +1,3 @@
+pub mod ShiftSteps
+pub mod CandidateSteps
+pub mod SettledSteps
