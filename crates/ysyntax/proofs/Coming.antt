@@ -33,9 +33,10 @@ use Rattle.ysyntax.specs.Lexer.{Cuts, lexemes, kinds, is_mark, marks}
 use Rattle.ylexemes.specs.Front.{Part, lexeme, PartAt}
 use Rattle.ysyntax.specs.Lexer.{refusal, IsLine, ended, marked, lexical, stray}
 use Rattle.ylexemes.specs.Front.{syntax, FaultAt}
-use Rattle.ysyntax.specs.Lexer.{early, Outcome, Refusal, Stops}
+use Rattle.ysyntax.specs.Lexer.{early, Outcome, Refusal, Stops, StopsAt}
 use Rattle.ylexemes.specs.Views.{lexeme_view, fault_view}
-use Rattle.ysyntax.specs.Answers.{views, fault_at, Fails, Comes, StandIn, StandsIn}
+use Rattle.ysyntax.specs.Answers.{views, fault_at, FailsAt, Comes, StandIn, StandsIn}
+use Rattle.ysyntax.specs.declared.fault.PlacedFault.{PlacedFault}
 use Rattle.ysyntax.proofs.Accepted.{state_after_append, recognised}
 use Rattle.ysyntax.proofs.Shapes.{derived}
 use Rattle.ysyntax.proofs.Viable.{viable, not_viable}
@@ -278,22 +279,41 @@ outcome bytes rest ls q line r c l s = record {
   stops = s;
 }
 
-pub stops_lexical : (bytes rest : List ℕ) (ls : List Placed) (q : State) (f : LexicalFault)
-    (line : ℕ) → Comes bytes ls rest q → FaultAt rest (fault_view f) → IsLine bytes rest line →
-    Fails (fault_at f line) bytes
-stops_lexical bytes rest ls q code_faults.Unfinished line c h l =
-    outcome bytes rest ls q line _ c l (lexical h)
-stops_lexical bytes rest ls q code_faults.BadLiteral line c h l =
-    outcome bytes rest ls q line _ c l (lexical h)
-stops_lexical bytes rest ls q code_faults.Foreign line c h l =
-    outcome bytes rest ls q line _ c l (lexical h)
+stops_at : (bytes rest : List ℕ) (ls : List Placed) (q : State) (line at : ℕ)
+    (r : Result (List Lexeme) Refusal) → Comes bytes ls rest q → IsLine bytes rest line →
+    Stops (views ls) rest line r → at + length rest ≡ length bytes → StopsAt bytes at r
+unfolding outcome
+stops_at bytes rest ls q line at r c l s p =
+    record { outcome = outcome bytes rest ls q line r c l s; place = p }
 
-pub stops_stray : (bytes rest m : List ℕ) (ls : List Placed) (q : State) (l : Lexeme) (line : ℕ) →
-    Comes bytes ls rest q → PartAt rest (lexeme l) m → next_state q (kind_of l) ≡ None →
-    IsLine bytes rest line → Outcome bytes (Err (refusal syntax line))
-stops_stray bytes rest m ls q l line c h e i = outcome bytes rest ls q line _ c i
+-- a fault of some kind, at the place where reading stops
+abbrev pub IsStop : List ℕ → List ℕ → Option LexicalFault → PlacedFault → Type 0
+IsStop bytes rest f e = ((line : ℕ) × IsLine bytes rest line × (e.fault ≡ fault_at f line))
+    × (e.at + length rest ≡ length bytes)
+
+fails : (bytes : List ℕ) (f : Option LexicalFault) (line : ℕ) (e : PlacedFault) →
+    e.fault ≡ fault_at f line → FailsAt bytes e.at (fault_at f line) → FailsAt bytes e.at e.fault
+fails bytes f line e w h = subst (FailsAt bytes e.at) (sym w) h
+
+pub stops_lexical : (bytes rest : List ℕ) (ls : List Placed) (q : State) (f : LexicalFault)
+    (e : PlacedFault) → Comes bytes ls rest q → FaultAt rest (fault_view f) →
+    IsStop bytes rest (Some f) e → FailsAt bytes e.at e.fault
+stops_lexical bytes rest ls q f e c h ((line, l, w), p) =
+    fails bytes (Some f) line e w (go f h)
+  where
+    go : (f : LexicalFault) → FaultAt rest (fault_view f) →
+        FailsAt bytes e.at (fault_at (Some f) line)
+    go code_faults.Unfinished h = stops_at bytes rest ls q line e.at _ c l (lexical h) p
+    go code_faults.BadLiteral h = stops_at bytes rest ls q line e.at _ c l (lexical h) p
+    go code_faults.Foreign h = stops_at bytes rest ls q line e.at _ c l (lexical h) p
+
+pub stops_stray : (bytes rest m : List ℕ) (ls : List Placed) (q : State) (l : Lexeme)
+    (e : PlacedFault) → Comes bytes ls rest q → PartAt rest (lexeme l) m →
+    next_state q (kind_of l) ≡ None → IsStop bytes rest None e → FailsAt bytes e.at e.fault
+stops_stray bytes rest m ls q l e c h n ((line, i, w), p) = fails bytes None line e w
+    (stops_at bytes rest ls q line e.at _ c i
     (stray h (not_viable (kinds (views ls ++ l ∷ []))
-    (state_after_push (views ls) l q None c.state_is e)))
+    (state_after_push (views ls) l q None c.state_is n))) p)
 
 pub stops_marked : (bytes rest m : List ℕ) (ls new : List Placed) (q r : State) (p : Placed) →
     Comes bytes ls rest q → PartAt rest (lexeme (lexeme_view p.lexeme)) m
@@ -330,12 +350,13 @@ stops_ended bytes rest ls q c e h =
     outcome bytes rest ls q line _ c i
     (ended e (derived (kinds (views ls)) (ap is_final_at c.state_is ∙ h)))
 
-pub stops_early : (bytes rest : List ℕ) (ls : List Placed) (q : State) (line : ℕ) →
-    Comes bytes ls rest q → rest ≡ [] → is_final q ≡ false → IsLine bytes rest line →
-    Outcome bytes (Err (refusal syntax line))
-stops_early bytes rest ls q line c e h i = outcome bytes rest ls q line _ c i
-    (early e (λ s. both_ways (is_final q) h (sym (ap is_final_at c.state_is) ∙ recognised
-    (kinds (views ls)) s)))
+pub stops_early : (bytes rest : List ℕ) (ls : List Placed) (q : State) (e : PlacedFault) →
+    Comes bytes ls rest q → rest ≡ [] → is_final q ≡ false → IsStop bytes rest None e →
+    FailsAt bytes e.at e.fault
+stops_early bytes rest ls q e c n h ((line, i, w), p) = fails bytes None line e w
+    (stops_at bytes rest ls q line e.at _ c i
+    (early n (λ s. both_ways (is_final q) h (sym (ap is_final_at c.state_is) ∙ recognised
+    (kinds (views ls)) s))) p)
 
 pub empty_is : (rest : List ℕ) (r : Bool) → r ≡ eqb (length rest) 0 → r ≡ true → rest ≡ []
 empty_is [] r e f = refl

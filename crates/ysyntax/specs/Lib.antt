@@ -1,6 +1,7 @@
 pub mod Syntax
 pub mod Recogniser
 pub mod Lexer
+pub mod Placing
 pub mod Answers
 pub mod Tree
 pub mod TreeViews
