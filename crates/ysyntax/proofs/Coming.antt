@@ -1,9 +1,10 @@
 -- Reading one part after another comes to the file's outcome.
 use Rattle.std.proofs.Common.{ℕ, ◌≡◌, ◌≤◌, ◌+◌, ◌-◌, drop, Bool, true, false, cond, not, ◌&&◌, ◌||◌}
 use Rattle.std.proofs.Common.{◌⊎◌, inl, inr, eqb, List, [], ◌∷◌, ◌++◌, length, Option, Some, None}
-use Rattle.std.proofs.Common.{Ok, Err, refl, sym, ap, ◌∙◌, subst, arith, append-nil, length-append}
+use Rattle.std.proofs.Common.{Ok, Err, refl, sym, ap, ◌∙◌, subst, arith, append-nil, append_assoc}
+use Rattle.std.proofs.Common.{length-append, map}
 use Rattle.std.proofs.lemmas.Bool.{eqb-true, and_parts, or_cases, not-true, both_ways}
-use Rattle.std.proofs.lemmas.List.{map_push}
+use Rattle.std.proofs.lemmas.List.{map-append, map_push}
 use Rattle.std.proofs.Math.Seq.{drop-append_seam}
 use Rattle.std.proofs.Common.{Result}
 use Rattle.ysyntax.specs.declared.lexer.Placed.{Placed}
@@ -29,7 +30,9 @@ use Rattle.ysyntax.specs.declared.recogniser.State.TheVariants.{End}
 use Rattle.ysyntax.specs.Syntax.{BeginsSpec}
 use Rattle.ysyntax.specs.Recogniser.{next_state, state_after, is_final, is_final_at, is_end}
 use Rattle.ylexemes.specs.Lexemes.{Lexeme, fixed, kind_of}
-use Rattle.ysyntax.specs.Lexer.{Cuts, lexemes, kinds, is_mark, marks}
+use Rattle.ysyntax.specs.Lexer.{ComesTo, Cuts, lexemes, kinds, is_mark, marks}
+use Rattle.ysyntax.specs.Sites.{Mark, StandFrom, StandsBehind}
+use Rattle.ysyntax.specs.SiteViews.{marks_in, placed_mark}
 use Rattle.ylexemes.specs.Front.{Part, lexeme, PartAt}
 use Rattle.ysyntax.specs.Lexer.{refusal, IsLine, ended, marked, lexical, stray}
 use Rattle.ylexemes.specs.Front.{syntax, FaultAt}
@@ -183,6 +186,7 @@ goes_gap bytes rest m ls q p c e h = record {
   };
   state_is = c.state_is;
   placed = c.placed;
+  sites = c.sites;
 }
 
 views_push : (ls : List Placed) (p : Placed) → views (ls ++ p ∷ []) ≡ views ls ++ lexeme_view
@@ -204,15 +208,48 @@ here before rest at e =
     let n : at ≡ length before = let w = length-append before rest in omega (arith, e, w) in
     ap (λ i. drop i (before ++ rest)) n ∙ drop-append_seam before rest
 
+there : (bytes rest : List ℕ) (ls : List Placed) (q : State) (at : ℕ) → Comes bytes ls rest q →
+    at ≡ length bytes - length rest → drop at bytes ≡ rest
+there bytes rest ls q at c a =
+    let (before, w) = cut_before c.cut.parts bytes rest c.cut.cut in
+    ap (λ (x : List ℕ). drop at x) w ∙ here before rest at
+    (a ∙ ap (λ (x : List ℕ). length x - length rest) w)
+
+what_marks : (ls : List Placed) → map (λ (m : Mark). m.what) (marks_in ls) ≡ views ls
+what_marks [] = refl
+what_marks (p ∷ ls) = ap (λ z. lexeme_view p.lexeme ∷ z) (what_marks ls)
+
+stand_more : (source : List ℕ) (before : List Lexeme) (ms : List Mark) (m : Mark) →
+    StandFrom source before ms → StandsBehind source (before ++ map (λ (x : Mark). x.what) ms) m →
+    StandFrom source before (ms ++ m ∷ [])
+stand_more source before [] m h s =
+    (subst (λ (x : List Lexeme). StandsBehind source x m) (append-nil before) s, tt)
+stand_more source before (x ∷ ms) m h s = (h.0, stand_more source (before ++ x.what ∷ []) ms m h.1
+    (subst (λ (y : List Lexeme). StandsBehind source y m)
+    (sym (append_assoc before (x.what ∷ []) (map (λ (y : Mark). y.what) ms))) s))
+
+-- reading comes to the place of one more lexeme with those before it
+pub sites_more : (bytes rest m : List ℕ) (ls new : List Placed) (q : State) (p : Placed) →
+    Comes bytes ls rest q → PartAt rest (lexeme (lexeme_view p.lexeme)) m →
+    p.at ≡ length bytes - length rest → new ≡ ls ++ p ∷ [] → StandFrom bytes [] (marks_in new)
+sites_more bytes rest m ls new q p c h a f =
+    let e : drop p.at bytes ≡ rest = there bytes rest ls q p.at c a in
+    let one : StandsBehind bytes (views ls) (placed_mark p) = record {
+      comes = subst (ComesTo bytes (views ls)) (sym e) c.cut;
+      here = (m, subst (λ (x : List ℕ). PartAt x (lexeme (lexeme_view p.lexeme)) m) (sym e) h);
+    } in
+    subst (λ (x : List Mark). StandFrom bytes [] x)
+    (sym (ap marks_in f ∙ map-append placed_mark ls (p ∷ [])))
+    (stand_more bytes [] (marks_in ls) (placed_mark p) c.sites
+    (subst (λ (x : List Lexeme). StandsBehind bytes x (placed_mark p)) (sym (what_marks ls)) one))
+
 pub placed_more : (bytes rest m : List ℕ) (ls new : List Placed) (q : State) (p : Placed) →
     Comes bytes ls rest q → PartAt rest (lexeme (lexeme_view p.lexeme)) m →
     p.at ≡ length bytes - length rest → new ≡ ls ++ p ∷ [] → StandIn bytes new
 placed_more bytes rest m ls new q p c h a f =
-    let (before, w) = cut_before c.cut.parts bytes rest c.cut.cut in
-    let there : drop p.at bytes ≡ rest = ap (λ (x : List ℕ). drop p.at x) w ∙ here before rest p.at
-    (a ∙ ap (λ (x : List ℕ). length x - length rest) w) in
+    let e : drop p.at bytes ≡ rest = there bytes rest ls q p.at c a in
     let one : StandsIn bytes p =
-    (m, subst (λ (x : List ℕ). PartAt x (lexeme (lexeme_view p.lexeme)) m) (sym there) h) in
+    (m, subst (λ (x : List ℕ). PartAt x (lexeme (lexeme_view p.lexeme)) m) (sym e) h) in
     subst (StandIn bytes) (sym f) (all ls one c.placed)
   where
     all : (ls : List Placed) → StandsIn bytes p → StandIn bytes ls →
@@ -243,6 +280,7 @@ goes_lexeme bytes rest m ls new q r p c h a e n f =
       };
       state_is = s;
       placed = placed_more bytes rest m ls new q p c h a f;
+      sites = sites_more bytes rest m ls new q p c h a f;
     }
 
 -- ---- where reading stops

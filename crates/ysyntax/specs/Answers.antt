@@ -1,5 +1,5 @@
 -- What reading a file's lexemes gives.
-use Rattle.std.specs.Prelude.{◌≡◌, ℕ, List, drop, map, Result, Ok, Err, Option, Some, None}
+use Rattle.std.specs.Prelude.{◌≡◌, ℕ, List, [], drop, map, Result, Ok, Err, Option, Some, None}
 use Rattle.std.specs.List.{AllByRecursion}
 use Rattle.std.specs.Global.{Vec}
 use Rattle.ysyntax.specs.declared.recogniser.State.{State}
@@ -13,6 +13,8 @@ use Rattle.ysyntax.specs.declared.fault.GrammarFault.TheVariants as faults
 use Rattle.ysyntax.specs.declared.fault.PlacedFault.{PlacedFault}
 use Rattle.ylexemes.specs.Lexemes.{Lexeme}
 use Rattle.ysyntax.specs.Lexer.{kinds, ComesTo}
+use Rattle.ysyntax.specs.Sites.{StandFrom}
+use Rattle.ysyntax.specs.SiteViews.{marks_in}
 use Rattle.ylexemes.specs.Front.{lexeme, PartAt, unfinished, bad_literal}
 use Rattle.ysyntax.specs.Lexer.{refusal, Refusal, Outcome, StopsAt}
 use Rattle.ylexemes.specs.Front.{foreign, syntax}
@@ -71,3 +73,4 @@ pub record Comes (bytes : List ℕ) (ls : List Placed) (rest : List ℕ) (state 
   pub cut : ComesTo bytes (views ls) rest
   pub state_is : state_after (Some Declarations) (kinds (views ls)) ≡ Some state
   pub placed : StandIn bytes ls
+  pub sites : StandFrom bytes [] (marks_in ls)

@@ -22,9 +22,12 @@ use Rattle.ysyntax.specs.TreeViews.{occurrence_view, name_view, digits_view}
 abbrev pub placed_mark : Placed → Mark
 placed_mark p = mark (lexeme_view p.lexeme) p.at
 
+abbrev pub marks_in : List Placed → List Mark
+marks_in ls = map placed_mark ls
+
 -- the lexemes that name something
 abbrev pub named_in : List Placed → List Mark
-named_in ls = namings (map placed_mark ls)
+named_in ls = namings (marks_in ls)
 
 abbrev pub occurrence_mark : Occurrence → Mark
 occurrence_mark m = mark (identifier_yield (occurrence_view m)) m.at

@@ -1,12 +1,14 @@
 //! A grammar file cut into lexemes, up to its first fault.
 
-ghost use Rattle.std.specs.Prelude.{◌≡◌, ◌+◌, ◌++◌, ◌<◌, ◌≤◌, ◌↔◌, ℕ, List, length, Ok, Err, IfOk};
+ghost use Rattle.std.specs.Prelude.{◌≡◌, ◌+◌, ◌++◌, ◌<◌, ◌≤◌, ◌↔◌, ℕ, List, [], length, Ok, Err, IfOk};
 ghost use Rattle.std.specs.Prelude.{IsErrOf};
 ghost use Rattle.ysyntax.specs.Answers.{Gives, Answers, StandIn, fault_at, views};
 ghost use Rattle.ysyntax.specs.Placing.{too_long};
 ghost use Rattle.ysyntax.specs.Lexer.{IsLine, SpellsSyntax, Outcome, Refusal};
 ghost use Rattle.ysymbols.specs.Grammar.{longest_file};
 ghost use Rattle.ylexemes.specs.Lexemes.{Lexeme as LexemeOf};
+ghost use Rattle.ysyntax.specs.Sites.{StandFrom};
+ghost use Rattle.ysyntax.specs.SiteViews.{marks_in};
 ghost use Rattle.ysyntax.specs.Tree.{HasOneTree};
 
 use crate::fault::{GrammarFault, PlacedFault};
@@ -65,6 +67,7 @@ fn stopped(fault: Option<LexicalFault>, bytes: &[u8], rest: &[u8]) -> PlacedFaul
 pub fn read_lexemes<'a>(alloc: Global, bytes: &'a [u8]) -> Result<Vec<Placed<'a>>, PlacedFault>
     ensures outcome { Gives bytes.now result }
     ensures placed { IfOk result (λ v. StandIn bytes.now v.items) }
+    ensures sites { IfOk result (λ v. StandFrom bytes.now [] (marks_in v.items)) }
 {
     let mut lexemes = Vec::new(alloc);
     let mut state = State::Declarations;
@@ -118,6 +121,8 @@ pub fn read_syntax<'a>(alloc: Global, bytes: &'a [u8]) -> Result<Vec<Placed<'a>>
     ensures exact { length bytes.now ≤ longest_file → Gives bytes.now result }
     // Each lexeme stands at its place.
     ensures placed { IfOk result (λ v. StandIn bytes.now v.items) }
+    // Reading comes to the place of each with those before it.
+    ensures sites { IfOk result (λ v. StandFrom bytes.now [] (marks_in v.items)) }
 {
     if bytes.len() > LONGEST_FILE {
         return Err(PlacedFault {

@@ -3,7 +3,7 @@ use Rattle.ylexemes.specs.Front.{blank, comment}
 use Rattle.ylexemes.specs.Views.{lexeme_view}
 use Rattle.ysyntax.specs.Recogniser.{next_state}
 use Rattle.ysyntax.proofs.Coming.{comes_shorter, empty_is, goes_gap, goes_lexeme, place}
-use Rattle.ysyntax.proofs.Coming.{stops_early, stops_ended, placed_more, stops_lexical}
+use Rattle.ysyntax.proofs.Coming.{stops_early, stops_ended, placed_more, sites_more, stops_lexical}
 use Rattle.ysyntax.proofs.Coming.{stops_marked, stops_stray}
 use Rattle.ysyntax.proofs.lexer.read_lexemes.Goals as goal
 
@@ -95,6 +95,17 @@ pub returns-then-is_end-clause-placed : goal.returns-then-is_end-clause-placed
 returns-then-is_end-clause-placed c =
     let part = rw c.in-Lexeme.is at c.in-Ok.ensures in
     placed_more c.args.bytes.now c.parts.rest.now c.in-Ok.found.1.now c.parts.lexemes.items
+    c.push.new.self.items c.parts.state
+    (record {
+      lexeme = c.in-Lexeme.lexeme;
+      at = length c.args.bytes.now - length
+          c.parts.rest.now;
+    }) c.parts.invariant part refl c.in_ok-push-in-Lexeme.ensures.items
+
+pub returns-then-is_end-clause-sites : goal.returns-then-is_end-clause-sites
+returns-then-is_end-clause-sites c =
+    let part = rw c.in-Lexeme.is at c.in-Ok.ensures in
+    sites_more c.args.bytes.now c.parts.rest.now c.in-Ok.found.1.now c.parts.lexemes.items
     c.push.new.self.items c.parts.state
     (record {
       lexeme = c.in-Lexeme.lexeme;
