@@ -3,9 +3,9 @@
 
 mod barren;
 mod coming;
+mod long;
 mod names;
 mod nearest;
-mod numbers;
 pub mod opening;
 mod place;
 pub mod shown;

@@ -10,7 +10,7 @@ use std::io::{self, ErrorKind, Write};
 use std::rt::Files;
 use yexplain::lines::Lines;
 use yfiles::reading::first_bytes;
-use ygrammar::{Grammar, GrammarFault, LONGEST_FILE};
+use ygrammar::{Grammar, GrammarFault, LONGEST_FILE, PlacedFault};
 use ylalr::BuildFault;
 use ytables::Tables;
 use ytokens::token_words::{Front, front_of};
@@ -35,8 +35,8 @@ pub enum Trouble {
     Unread,
     /// Memory ran out.
     Memory,
-    /// It has a fault.
-    Grammar(GrammarFault),
+    /// It has a fault, at a place.
+    Grammar(PlacedFault),
     /// Its grammar has too many states.
     TooManySets,
 }
@@ -46,16 +46,18 @@ impl Trouble {
     /// out, a file can't be read, or there are too many states.
     pub fn status(&self) -> u8 {
         match self {
-            Trouble::Grammar(GrammarFault::Memory) => 3,
             Trouble::Grammar(_) => 1,
             Trouble::Unread | Trouble::Memory | Trouble::TooManySets => 3,
         }
     }
 }
 
-impl From<GrammarFault> for Trouble {
-    fn from(fault: GrammarFault) -> Trouble {
-        Trouble::Grammar(fault)
+impl From<PlacedFault> for Trouble {
+    fn from(placed: PlacedFault) -> Trouble {
+        match placed.fault {
+            GrammarFault::Memory => Trouble::Memory,
+            _ => Trouble::Grammar(placed),
+        }
     }
 }
 
@@ -92,10 +94,8 @@ pub fn put_trouble<W: Write>(
 ) -> io::Result<()> {
     match trouble {
         Trouble::Unread => writeln!(out, "ydebug: cannot read {path}"),
-        Trouble::Memory | Trouble::Grammar(GrammarFault::Memory) => {
-            writeln!(out, "ydebug: no memory")
-        }
-        Trouble::Grammar(fault) => put_grammar_fault(out, alloc, path, source, *fault),
+        Trouble::Memory => writeln!(out, "ydebug: no memory"),
+        Trouble::Grammar(placed) => put_grammar_fault(out, alloc, path, source, *placed),
         Trouble::TooManySets => match words_of("B1") {
             Some(words) => put_whole(out, path, words),
             None => Ok(()),

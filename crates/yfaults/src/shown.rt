@@ -183,17 +183,3 @@ pub fn put_whole<W: Write>(out: &mut W, path: &str, words: Words) -> io::Result<
     writeln!(out, "{path}: {code}: {what}")?;
     put_mend(out, words)
 }
-
-/// The place at which a line begins.
-pub fn line_start(source: &[u8], line: usize) -> usize {
-    let mut left = line.saturating_sub(1);
-    for (at, byte) in source.iter().enumerate() {
-        if left == 0 {
-            return at;
-        }
-        if *byte == b'\n' {
-            left -= 1;
-        }
-    }
-    source.len()
-}

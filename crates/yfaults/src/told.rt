@@ -3,16 +3,17 @@
 use crate::barren::barren;
 use crate::coming::Coming;
 use crate::nearest::Search;
-use crate::place::{grammar_place, roles_in, syntax_stop};
-use crate::shown::{Place, line_start, put_whole};
-use crate::words::{Words, grammar_code, grammar_line, words_at_end, words_of};
+use crate::long::long_rule;
+use crate::place::{roles_in, state_before};
+use crate::shown::{Place, put_whole};
+use crate::words::{Words, grammar_code, words_at_end, words_of};
 use std::alloc::{AllocError, Global};
 use std::io::{self, Write};
 use yexplain::reads::name_of;
 use yexplain::roles::{How, Role};
 use yexplain::text::Bytes;
 use yforeign::directive::is_imported;
-use ygrammar::{Grammar, GrammarFault};
+use ygrammar::{Grammar, GrammarFault, PlacedFault};
 use ylalr::token_count;
 use ylexemes::part::Lexeme;
 
@@ -122,7 +123,7 @@ fn put_help<W: Write>(
 ) -> io::Result<()> {
     match fault {
         GrammarFault::Syntax { .. } => {
-            let coming = Coming(syntax_stop(source).1);
+            let coming = Coming(state_before(source, at));
             writeln!(out, "  Here can come: {coming}")
         }
         GrammarFault::Undefined { .. } => match meant_symbol(alloc, source, at)? {
@@ -149,14 +150,6 @@ fn is_syntax(fault: GrammarFault) -> bool {
     }
 }
 
-/// Whether a grammar is above a limit.
-fn is_limit(fault: GrammarFault) -> bool {
-    match fault {
-        GrammarFault::Limit { .. } => true,
-        _ => false,
-    }
-}
-
 /// Writes a fault at a place, with a caret but at the end of the file, and what helps.
 fn put_at<W: Write>(
     out: &mut W,
@@ -172,28 +165,37 @@ fn put_at<W: Write>(
     put_help(out, alloc, source, fault, at)
 }
 
+/// Writes that a grammar is above a limit, at the rule that is too long, where one is.
+fn put_limit<W: Write>(
+    out: &mut W,
+    alloc: Global,
+    path: &str,
+    source: &[u8],
+    words: Words,
+) -> io::Result<()> {
+    match long_rule(&roles_in(alloc, source)?) {
+        Some(at) => Place { path, source, at }.put(out, words, true),
+        None => put_whole(out, path, words),
+    }
+}
+
 /// Writes a fault of a grammar file of these bytes: the line, what is wrong there, its text with a
-/// caret under the name at fault where that can be found, how to mend it, and what else helps.
-/// Where memory runs out while these are sought, the error says so.
+/// caret under its place, how to mend it, and what else helps. Where memory runs out while that is
+/// sought, the error says so.
 pub fn put_grammar_fault<'a, W: Write>(
     out: &mut W,
     alloc: Global,
     path: &'a str,
     source: &'a [u8],
-    fault: GrammarFault,
+    placed: PlacedFault,
 ) -> io::Result<()> {
+    let PlacedFault { fault, at } = placed;
     let Some(words) = words_of(grammar_code(fault)) else {
         return Ok(());
     };
-    let Some(line) = grammar_line(fault) else {
-        return put_whole(out, path, words);
-    };
-    if let Some(at) = grammar_place(alloc, source, fault)? {
-        return put_at(out, alloc, Place { path, source, at }, fault, words);
+    match fault {
+        GrammarFault::TooLong | GrammarFault::Memory => put_whole(out, path, words),
+        GrammarFault::Limit { .. } => put_limit(out, alloc, path, source, words),
+        _ => put_at(out, alloc, Place { path, source, at }, fault, words),
     }
-    if is_limit(fault) {
-        return put_whole(out, path, words);
-    }
-    let at = line_start(source, line);
-    Place { path, source, at }.put(out, words, false)
 }

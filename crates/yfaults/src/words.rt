@@ -160,25 +160,6 @@ pub fn grammar_code(fault: GrammarFault) -> &'static str {
     }
 }
 
-/// The line of a fault of a grammar file, where it has one.
-pub fn grammar_line(fault: GrammarFault) -> Option<usize> {
-    match fault {
-        GrammarFault::Unfinished { line }
-        | GrammarFault::BadLiteral { line }
-        | GrammarFault::Foreign { line }
-        | GrammarFault::Syntax { line }
-        | GrammarFault::TokenLeft { line }
-        | GrammarFault::Undefined { line }
-        | GrammarFault::TwicePrecedence { line }
-        | GrammarFault::BadNumber { line }
-        | GrammarFault::BadStart { line }
-        | GrammarFault::Unproductive { line }
-        | GrammarFault::BadPrec { line }
-        | GrammarFault::Limit { line } => Some(line),
-        GrammarFault::TooLong | GrammarFault::Memory => None,
-    }
-}
-
 /// The code of a fault of a tokens file, and the place of its word, counted from 1.
 pub fn token_code(fault: TokenFault) -> (&'static str, Option<usize>) {
     match fault {

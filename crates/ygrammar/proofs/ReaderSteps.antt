@@ -1,8 +1,9 @@
 -- A file has one grammar or one fault.
 use Rattle.std.proofs.Common.{ℕ, ◌≡◌, ◌<◌, ◌≤◌, ◌⊎◌, inl, inr, List, Result, Ok, Err, refl, sym, ap}
-use Rattle.std.proofs.Common.{subst, arith, true, false, length, ◌∙◌}
+use Rattle.std.proofs.Common.{subst, arith, true, false, length, take, ◌++◌, ◌+◌, ◌∙◌}
+use Rattle.std.proofs.Common.{length-append}
 use Rattle.std.specs.Result.{IsErrOf}
-use Rattle.ysyntax.specs.Answers.{Answers, views}
+use Rattle.ysyntax.specs.Answers.{FailsAt, IsOutcome, views}
 use Rattle.ysyntax.specs.declared.fault.GrammarFault.{GrammarFault}
 use Rattle.ysyntax.specs.declared.fault.GrammarFault.TheVariants as faults
 use Rattle.youtline.specs.declared.mistake.Mistake.{Mistake}
@@ -14,12 +15,21 @@ use Rattle.youtline.specs.declared.mistake.Mistake.TheVariants.{Limit}
 use Rattle.youtline.specs.declared.mistake.Refused.{Refused}
 use Rattle.youtline.specs.declared.mistake.Refused.TheVariants as refused
 use Rattle.ysyntax.specs.declared.lexer.Placed.{Placed}
-use Rattle.ysyntax.specs.Lexer.{Refusal, SpellsSyntax}
+use Rattle.ysyntax.specs.declared.fault.PlacedFault.{PlacedFault}
+use Rattle.ysyntax.specs.Placing.{placed_fault, too_long}
+use Rattle.ysyntax.specs.Lexer.{Refusal, SpellsSyntax, Stops, StopsAt, newlines, refusal}
+use Rattle.ysyntax.specs.Lexer.{ended, marked, lexical, stray, early}
+use Rattle.ylexemes.specs.Front.{syntax}
+use Rattle.std.specs.Prelude.{IfSome}
+use Rattle.std.proofs.lemmas.Bool.{cases_lt}
+use Rattle.std.proofs.Math.Seq.{take-append_seam}
 use Rattle.ygrammar.specs.Elaborated.{IsFirstRefused}
-use Rattle.ygrammar.specs.Faults.{IsRefusal, line_of}
+use Rattle.ygrammar.specs.Faults.{IsRefusal}
 use Rattle.ysymbols.specs.Grammar.{GrammarValue, longest_file}
 use Rattle.ygrammar.specs.GrammarOf.{AnswersGrammar, AnswersMistake, AnswersRefusal, HasTree}
-use Rattle.ygrammar.specs.GrammarOf.{IsFaultOf, IsMistaken, mistake_at}
+use Rattle.ygrammar.specs.GrammarOf.{HasLine, IsFaultAt, IsFaultOf, IsMistakenAt, IsMistakenOn}
+use Rattle.ygrammar.specs.GrammarOf.{line_in, line_of}
+use Rattle.ygrammar.specs.GrammarOf.{mistake_at}
 use Rattle.ylexemes.specs.Lexemes.{Lexeme}
 use Rattle.ygrammar.specs.Meaning.{IsMeaning}
 use Rattle.youtline.specs.Mistakes.{IsFirst, order}
@@ -27,6 +37,9 @@ use Rattle.ysyntax.specs.Tree.{IsTree, Tree, yield}
 use Rattle.ygrammar.proofs.OneMeaning.{none_first, one_first, one_meaning}
 use Rattle.ysyntax.proofs.OneTree.{one_tree}
 use Rattle.ysymbols.proofs.NameSteps.{false_true}
+
+abbrev err_of : GrammarFault → Result GrammarValue GrammarFault
+err_of f = Err f
 
 abbrev pub ok_of : {E T : Type 0} → T → Result T E
 ok_of x = Ok x
@@ -72,38 +85,136 @@ pub same_grammar : (source : List ℕ) (t u : Tree) (g h : GrammarValue) → u �
 same_grammar source t u g h e a b = one_meaning t g h a (subst (λ x. IsMeaning x h) e b)
 
 -- a file with a grammar has no mistake
-pub no_grammar : (source : List ℕ) (t u : Tree) (e : Refused) (f : GrammarFault)
+pub no_grammar : (source : List ℕ) (t u : Tree) (e : Refused) (f : PlacedFault)
     (h : GrammarValue) → u ≡ t → IsFirstRefused t e → IsRefusal source e f → IsMeaning u h →
-    AnswersGrammar (Err f) h
+    AnswersGrammar (err_of f.fault) h
 no_grammar source t u (refused.Mistake what at) f h e first is m =
     absurd (none_first t order what (subst (λ x. IsMeaning x h) e m).sound first)
 no_grammar source t u refused.Memory f h e first is m =
-    subst (λ (x : GrammarFault). AnswersGrammar (Err x) h) (sym is) tt
+    subst (λ (x : PlacedFault). AnswersGrammar (err_of x.fault) h) (sym is) tt
 
-mistaken : (source : List ℕ) (m : Mistake) (line : ℕ) → IsMistaken source m → IsFaultOf source
-    (mistake_at m line)
-mistaken source TokenLeft line p = p
-mistaken source Undefined line p = p
-mistaken source TwicePrecedence line p = p
-mistaken source BadNumber line p = p
-mistaken source BadStart line p = p
-mistaken source Unproductive line p = p
-mistaken source BadPrec line p = p
-mistaken source Limit line p = p
+mistaken : (source : List ℕ) (m : Mistake) (line at : ℕ) → IsMistakenAt source m at →
+    IsFaultAt source at (mistake_at m line)
+mistaken source TokenLeft line at p = p
+mistaken source Undefined line at p = p
+mistaken source TwicePrecedence line at p = p
+mistaken source BadNumber line at p = p
+mistaken source BadStart line at p = p
+mistaken source Unproductive line at p = p
+mistaken source BadPrec line at p = p
+mistaken source Limit line at p = p
 
--- the mistake of the tree is the fault of the file
-pub fault_of : (source : List ℕ) (t : Tree) (e : Refused) (f : GrammarFault) → HasTree source t →
-    IsFirstRefused t e → IsRefusal source e f → IsFaultOf source f
+-- a mistake with its place is a fault of the file
+pub mistake_of : (source : List ℕ) (t : Tree) (e : Refused) → HasTree source t →
+    IsFirstRefused t e → (m : Mistake) → (at : ℕ) → e ≡ refused.Mistake m at →
+    IsMistakenAt source m at
+mistake_of source t (refused.Mistake what place) h first m at is =
+    let same : what ≡ m = cc in
+    (t, h, subst (λ x. IsFirst t order x) same first, tt)
+mistake_of source t refused.Memory h first m at is = cc
+
+-- the mistake of the tree is the fault of the file, at its place
+pub fault_of : (source : List ℕ) (t : Tree) (e : Refused) (f : PlacedFault) → HasTree source t →
+    IsFirstRefused t e → IsRefusal source e f → IsFaultAt source f.at f.fault
 fault_of source t (refused.Mistake what at) f h first is =
-    subst (λ (x : GrammarFault). IsFaultOf source x) (sym is)
-    (mistaken source what (line_of source at) (t, h, first))
-fault_of source t refused.Memory f h first is = subst (λ (x : GrammarFault). IsFaultOf source x)
-    (sym is) tt
+    subst (λ (x : PlacedFault). IsFaultAt source x.at x.fault) (sym is)
+    (mistaken source what (line_of source at) at
+    (mistake_of source t (refused.Mistake what at) h first what at refl))
+fault_of source t refused.Memory f h first is =
+    subst (λ (x : PlacedFault). IsFaultAt source x.at x.fault) (sym is) refl
+
+-- the line of a refusal is that of its place
+pub refusal_line : (source : List ℕ) (e : Refused) (f : PlacedFault) → IsRefusal source e f →
+    HasLine source f
+refusal_line source (refused.Mistake what at) f is = subst (HasLine source) (sym is) (go what)
+  where
+    go : (m : Mistake) → HasLine source (placed_fault (mistake_at m (line_of source at)) at)
+    go TokenLeft = refl
+    go Undefined = refl
+    go TwicePrecedence = refl
+    go BadNumber = refl
+    go BadStart = refl
+    go Unproductive = refl
+    go BadPrec = refl
+    go Limit = refl
+refusal_line source refused.Memory f is = subst (HasLine source) (sym is) tt
+
+-- ---- where reading stops
+
+line_of_stop : (ls : List Lexeme) (rest : List ℕ) (n : ℕ) (r : Result (List Lexeme) Refusal) →
+    Stops ls rest n r → (d : Refusal) → r ≡ Err d → d.line ≡ n
+line_of_stop ls rest n _ (ended e h) d w = cc
+line_of_stop ls rest n _ (marked m i h) d w = cc
+line_of_stop ls rest n _ (lexical {fault = f} h) d w =
+    let same : refusal f n ≡ d = cc in ap (λ (x : Refusal). x.line) (sym same)
+line_of_stop ls rest n _ (stray m h) d w =
+    let same : refusal syntax n ≡ d = cc in ap (λ (x : Refusal). x.line) (sym same)
+line_of_stop ls rest n _ (early e h) d w =
+    let same : refusal syntax n ≡ d = cc in ap (λ (x : Refusal). x.line) (sym same)
+
+-- the line of a fault of the text is that of the place where reading stops
+stop_line : (source : List ℕ) (at : ℕ) (r : Refusal) → StopsAt source at (Err r) →
+    r.line ≡ line_of source at
+stop_line source at r s =
+    let o = s.outcome in
+    let w : length source ≡ length o.here.before + length o.rest =
+    ap (λ (x : List ℕ). length x) o.here.whole ∙ length-append o.here.before o.rest in
+    let p = s.place in
+    let n : at ≡ length o.here.before = omega (arith, w, p) in
+    let front : take at source ≡ o.here.before =
+    ap (λ (x : List ℕ). take at x) o.here.whole
+    ∙ ap (λ i. take i (o.here.before ++ o.rest)) n
+    ∙ take-append_seam o.here.before o.rest in
+    line_of_stop o.before o.rest o.line (Err r) o.stops r refl ∙ o.here.counted
+    ∙ ap (λ (x : List ℕ). newlines x + 1) (sym front)
+
+-- what the lexer answers is a fault of the file, at its place and on the line of that
+pub text_fault : (source : List ℕ) (e : PlacedFault) →
+    (longest_file < length source → e ≡ too_long) →
+    (length source ≤ longest_file → FailsAt source e.at e.fault) →
+    IsFaultAt source e.at e.fault × HasLine source e
+text_fault source e long short = elim (cases_lt longest_file (length source)) [
+      | inl h ↦ subst (λ (x : PlacedFault). IsFaultAt source x.at x.fault × HasLine source x)
+          (sym (long h)) (h, tt)
+      | inr h ↦ go h e.fault (short h)
+    ]
+  where
+    go : length source ≤ longest_file → (f : GrammarFault) → FailsAt source e.at f →
+        IsFaultAt source e.at f × IfSome (line_in f) (λ line. line ≡ line_of source e.at)
+    go h (faults.Unfinished line) s = ((h, s), stop_line source e.at _ s)
+    go h (faults.BadLiteral line) s = ((h, s), stop_line source e.at _ s)
+    go h (faults.Foreign line) s = ((h, s), stop_line source e.at _ s)
+    go h (faults.Syntax line) s = ((h, s), stop_line source e.at _ s)
+    go h faults.Memory s = (s, tt)
+    go h _ s = absurd s
+
+on_line : (source : List ℕ) (m : Mistake) (at line : ℕ) → IsMistakenAt source m at →
+    line ≡ line_of source at → IsMistakenOn source m line
+on_line source m at line (t, h, first, p) l = (t, h, first, (at, p, l))
+
+-- a fault at its place is one of the file
+pub fault_found : (source : List ℕ) (e : PlacedFault) → IsFaultAt source e.at e.fault →
+    HasLine source e → IsFaultOf source e.fault
+fault_found source e h l = go e.fault h l
+  where
+    go : (f : GrammarFault) → IsFaultAt source e.at f →
+        IfSome (line_in f) (λ line. line ≡ line_of source e.at) → IsFaultOf source f
+    go faults.TooLong h l = h
+    go (faults.Unfinished line) h l = (h.0, h.1.outcome)
+    go (faults.BadLiteral line) h l = (h.0, h.1.outcome)
+    go (faults.Foreign line) h l = (h.0, h.1.outcome)
+    go (faults.Syntax line) h l = (h.0, h.1.outcome)
+    go (faults.TokenLeft line) h l = on_line source TokenLeft e.at line h l
+    go (faults.Undefined line) h l = on_line source Undefined e.at line h l
+    go (faults.TwicePrecedence line) h l = on_line source TwicePrecedence e.at line h l
+    go (faults.BadNumber line) h l = on_line source BadNumber e.at line h l
+    go (faults.BadStart line) h l = on_line source BadStart e.at line h l
+    go (faults.Unproductive line) h l = on_line source Unproductive e.at line h l
+    go (faults.BadPrec line) h l = on_line source BadPrec e.at line h l
+    go (faults.Limit line) h l = on_line source Limit e.at line h l
+    go faults.Memory h l = tt
 
 -- ---- the other direction
-
-abbrev err_of : GrammarFault → Result GrammarValue GrammarFault
-err_of f = Err f
 
 -- a file whose lexemes are read has no fault of the syntax
 pub read_no_fault : (ls : List Lexeme) (r : Refusal) (A : Type 0) → read ls ≡ Err r → A
@@ -112,7 +223,7 @@ read_no_fault ls r A e = absurd
     e))
 
 -- the fault of the syntax that is answered is the file's
-pub same_refusal : (f : GrammarFault) (r : Refusal) → Answers (Err f) (Err r) → AnswersRefusal
+pub same_refusal : (f : GrammarFault) (r : Refusal) → IsOutcome f (Err r) → AnswersRefusal
     (err_of f) r
 same_refusal (faults.Unfinished line) r h = cc
 same_refusal (faults.BadLiteral line) r h = cc
@@ -122,27 +233,29 @@ same_refusal faults.Memory r h = tt
 same_refusal _ r h = absurd h
 
 -- each mistake is answered as itself
-answers_mistake : (m : Mistake) (line : ℕ) → AnswersMistake (err_of (mistake_at m line)) m
-answers_mistake TokenLeft line = (line, refl)
-answers_mistake Undefined line = (line, refl)
-answers_mistake TwicePrecedence line = (line, refl)
-answers_mistake BadNumber line = (line, refl)
-answers_mistake BadStart line = (line, refl)
-answers_mistake Unproductive line = (line, refl)
-answers_mistake BadPrec line = (line, refl)
-answers_mistake Limit line = (line, refl)
+answers_mistake : (source : List ℕ) (m : Mistake) (at : ℕ) → IsMistakenAt source m at →
+    AnswersMistake source (err_of (mistake_at m (line_of source at))) m
+answers_mistake source TokenLeft at h = (at, h, refl)
+answers_mistake source Undefined at h = (at, h, refl)
+answers_mistake source TwicePrecedence at h = (at, h, refl)
+answers_mistake source BadNumber at h = (at, h, refl)
+answers_mistake source BadStart at h = (at, h, refl)
+answers_mistake source Unproductive at h = (at, h, refl)
+answers_mistake source BadPrec at h = (at, h, refl)
+answers_mistake source Limit at h = (at, h, refl)
 
 -- the mistake that is answered is the file's first
-pub same_mistake : (source : List ℕ) (t u : Tree) (e : Refused) (f : GrammarFault) (m : Mistake) →
-    u ≡ t → IsFirstRefused t e → IsRefusal source e f → IsFirst u order m → AnswersMistake
-    (err_of f) m
-same_mistake source t u (refused.Mistake what at) f m e first is h =
-    let same : what ≡ m = one_first t order what m first (subst (λ x. IsFirst x order m) e h) in
-    subst (λ x. AnswersMistake (err_of x) m) (sym is)
-    (subst (λ x. AnswersMistake (err_of (mistake_at what (line_of source at))) x) same
-    (answers_mistake what (line_of source at)))
-same_mistake source t u refused.Memory f m e first is h = subst (λ x. AnswersMistake (err_of x) m)
-    (sym is) tt
+pub same_mistake : (source : List ℕ) (t u : Tree) (e : Refused) (f : PlacedFault) (m : Mistake) →
+    u ≡ t → HasTree source t → IsFirstRefused t e → IsRefusal source e f → IsFirst u order m →
+    AnswersMistake source (err_of f.fault) m
+same_mistake source t u (refused.Mistake what at) f m e h first is k =
+    let same : what ≡ m = one_first t order what m first (subst (λ x. IsFirst x order m) e k) in
+    subst (λ (x : PlacedFault). AnswersMistake source (err_of x.fault) m) (sym is)
+    (subst (λ x. AnswersMistake source (err_of (mistake_at what (line_of source at))) x) same
+    (answers_mistake source what at
+    (mistake_of source t (refused.Mistake what at) h first what at refl)))
+same_mistake source t u refused.Memory f m e h first is k =
+    subst (λ (x : PlacedFault). AnswersMistake source (err_of x.fault) m) (sym is) tt
 
 -- an answer is no error
 pub ok_err : {T E : Type 0} (x : T) (e : E) → IsErrOf (ok_of {E = E} x) e → ⊥

@@ -1,18 +1,21 @@
 -- The grammar of a file, or its fault (POSIX yacc, "Input Files" and "Extended Description").
-use Rattle.std.specs.Prelude.{ℕ, ◌≡◌, ◌<◌, ◌≤◌, List, length, Result, Ok, Err}
+use Rattle.std.specs.Prelude.{ℕ, ◌≡◌, ◌+◌, ◌<◌, ◌≤◌, List, length, take, Option, Some, None}
+use Rattle.std.specs.Prelude.{Result, Ok, Err, IfSome}
 use Rattle.ysyntax.specs.declared.fault.GrammarFault.{GrammarFault}
 use Rattle.ysyntax.specs.declared.fault.GrammarFault.TheVariants as faults
+use Rattle.ysyntax.specs.declared.fault.PlacedFault.{PlacedFault}
 use Rattle.youtline.specs.declared.mistake.Mistake.{Mistake}
 use Rattle.youtline.specs.declared.mistake.Mistake.TheVariants.{TokenLeft, Undefined}
 use Rattle.youtline.specs.declared.mistake.Mistake.TheVariants.{TwicePrecedence, BadNumber}
 use Rattle.youtline.specs.declared.mistake.Mistake.TheVariants.{BadStart, Unproductive}
 use Rattle.youtline.specs.declared.mistake.Mistake.TheVariants.{BadPrec}
 use Rattle.youtline.specs.declared.mistake.Mistake.TheVariants.{Limit}
-use Rattle.ysyntax.specs.Lexer.{Refusal, Outcome, SpellsSyntax, refusal}
+use Rattle.ysyntax.specs.Lexer.{Refusal, Outcome, SpellsSyntax, StopsAt, newlines, refusal}
 use Rattle.ylexemes.specs.Front.{Fault, unfinished}
 use Rattle.ylexemes.specs.Front.{bad_literal, foreign, syntax}
 use Rattle.ysymbols.specs.Grammar.{GrammarValue, longest_file}
 use Rattle.ygrammar.specs.Meaning.{IsMeaning}
+use Rattle.ygrammar.specs.Places.{IsPlace}
 use Rattle.youtline.specs.Mistakes.{IsFirst, order}
 use Rattle.ysyntax.specs.Tree.{IsTree, Tree, yield}
 
@@ -26,13 +29,31 @@ pub record HasTree (source : List ℕ) (t : Tree) : Type 0 where
 abbrev pub IsGrammarOf : List ℕ → GrammarValue → Type 0
 IsGrammarOf source g = (t : Tree) × HasTree source t × IsMeaning t g
 
+-- the line of the place with so many bytes before it: one more than the newlines among them
+abbrev pub line_of : List ℕ → ℕ → ℕ
+line_of source at = newlines (take at source) + 1
+
 -- the file has a syntax, and this is the first mistake in what it means
 abbrev pub IsMistaken : List ℕ → Mistake → Type 0
 IsMistaken source m = (t : Tree) × HasTree source t × IsFirst t order m
 
+-- the same, and where the mistake stands
+abbrev pub IsMistakenAt : List ℕ → Mistake → ℕ → Type 0
+IsMistakenAt source m at = (t : Tree) × HasTree source t × IsFirst t order m
+    × IsPlace source t m at
+
+-- the same, and the line on which the mistake stands
+abbrev pub IsMistakenOn : List ℕ → Mistake → ℕ → Type 0
+IsMistakenOn source m line = (t : Tree) × HasTree source t × IsFirst t order m
+    × ((at : ℕ) × IsPlace source t m at × (line ≡ line_of source at))
+
 -- the file is not too long, and has no syntax for this reason
 abbrev pub IsRefused : List ℕ → Refusal → Type 0
 IsRefused source r = (length source ≤ longest_file) × Outcome source (Err r)
+
+-- the same, and reading stops at this place
+abbrev pub IsRefusedAt : List ℕ → Refusal → ℕ → Type 0
+IsRefusedAt source r at = (length source ≤ longest_file) × StopsAt source at (Err r)
 
 -- the fault is one that the file has, or memory ran out
 abbrev pub IsFaultOf : List ℕ → GrammarFault → Type 0
@@ -41,15 +62,58 @@ IsFaultOf source (faults.Unfinished line) = IsRefused source (refusal unfinished
 IsFaultOf source (faults.BadLiteral line) = IsRefused source (refusal bad_literal line)
 IsFaultOf source (faults.Foreign line) = IsRefused source (refusal foreign line)
 IsFaultOf source (faults.Syntax line) = IsRefused source (refusal syntax line)
-IsFaultOf source (faults.TokenLeft line) = IsMistaken source TokenLeft
-IsFaultOf source (faults.Undefined line) = IsMistaken source Undefined
-IsFaultOf source (faults.TwicePrecedence line) = IsMistaken source TwicePrecedence
-IsFaultOf source (faults.BadNumber line) = IsMistaken source BadNumber
-IsFaultOf source (faults.BadStart line) = IsMistaken source BadStart
-IsFaultOf source (faults.Unproductive line) = IsMistaken source Unproductive
-IsFaultOf source (faults.BadPrec line) = IsMistaken source BadPrec
-IsFaultOf source (faults.Limit line) = IsMistaken source Limit
+IsFaultOf source (faults.TokenLeft line) = IsMistakenOn source TokenLeft line
+IsFaultOf source (faults.Undefined line) = IsMistakenOn source Undefined line
+IsFaultOf source (faults.TwicePrecedence line) = IsMistakenOn source TwicePrecedence line
+IsFaultOf source (faults.BadNumber line) = IsMistakenOn source BadNumber line
+IsFaultOf source (faults.BadStart line) = IsMistakenOn source BadStart line
+IsFaultOf source (faults.Unproductive line) = IsMistakenOn source Unproductive line
+IsFaultOf source (faults.BadPrec line) = IsMistakenOn source BadPrec line
+IsFaultOf source (faults.Limit line) = IsMistakenOn source Limit line
 IsFaultOf source faults.Memory = Unit {0}
+
+-- the fault is one that the file has at this place, or memory ran out
+abbrev pub IsFaultAt : List ℕ → ℕ → GrammarFault → Type 0
+IsFaultAt source at faults.TooLong = longest_file < length source
+IsFaultAt source at (faults.Unfinished line) = IsRefusedAt source (refusal unfinished line) at
+IsFaultAt source at (faults.BadLiteral line) = IsRefusedAt source (refusal bad_literal line) at
+IsFaultAt source at (faults.Foreign line) = IsRefusedAt source (refusal foreign line) at
+IsFaultAt source at (faults.Syntax line) = IsRefusedAt source (refusal syntax line) at
+IsFaultAt source at (faults.TokenLeft line) = IsMistakenAt source TokenLeft at
+IsFaultAt source at (faults.Undefined line) = IsMistakenAt source Undefined at
+IsFaultAt source at (faults.TwicePrecedence line) = IsMistakenAt source TwicePrecedence at
+IsFaultAt source at (faults.BadNumber line) = IsMistakenAt source BadNumber at
+IsFaultAt source at (faults.BadStart line) = IsMistakenAt source BadStart at
+IsFaultAt source at (faults.Unproductive line) = IsMistakenAt source Unproductive at
+IsFaultAt source at (faults.BadPrec line) = IsMistakenAt source BadPrec at
+IsFaultAt source at (faults.Limit line) = IsMistakenAt source Limit at
+IsFaultAt source at faults.Memory = at ≡ 0
+
+-- the line that a fault names, where it names one
+abbrev pub line_in : GrammarFault → Option ℕ
+line_in faults.TooLong = None
+line_in (faults.Unfinished line) = Some line
+line_in (faults.BadLiteral line) = Some line
+line_in (faults.Foreign line) = Some line
+line_in (faults.Syntax line) = Some line
+line_in (faults.TokenLeft line) = Some line
+line_in (faults.Undefined line) = Some line
+line_in (faults.TwicePrecedence line) = Some line
+line_in (faults.BadNumber line) = Some line
+line_in (faults.BadStart line) = Some line
+line_in (faults.Unproductive line) = Some line
+line_in (faults.BadPrec line) = Some line
+line_in (faults.Limit line) = Some line
+line_in faults.Memory = None
+
+-- the line that the fault names is that of its place
+abbrev pub HasLine : List ℕ → PlacedFault → Type 0
+HasLine source e = IfSome (line_in e.fault) (λ line. line ≡ line_of source e.at)
+
+-- an answer without the place of its fault
+abbrev pub unplaced : Result GrammarValue PlacedFault → Result GrammarValue GrammarFault
+unplaced (Ok g) = Ok g
+unplaced (Err e) = Err e.fault
 
 -- the grammar of the file, or a fault of it, or no memory
 abbrev pub GivesGrammar : List ℕ → Result GrammarValue GrammarFault → Type 0
@@ -73,11 +137,12 @@ mistake_at Unproductive line = faults.Unproductive line
 mistake_at BadPrec line = faults.BadPrec line
 mistake_at Limit line = faults.Limit line
 
--- the answer is this mistake, on some line, or no memory
-abbrev pub AnswersMistake : Result GrammarValue GrammarFault → Mistake → Type 0
-AnswersMistake (Ok g) m = ⊥
-AnswersMistake (Err faults.Memory) m = Unit {0}
-AnswersMistake (Err f) m = (line : ℕ) × (f ≡ mistake_at m line)
+-- the answer is this mistake, on its line, or no memory
+abbrev pub AnswersMistake : List ℕ → Result GrammarValue GrammarFault → Mistake → Type 0
+AnswersMistake source (Ok g) m = ⊥
+AnswersMistake source (Err faults.Memory) m = Unit {0}
+AnswersMistake source (Err f) m = (at : ℕ) × IsMistakenAt source m at
+    × (f ≡ mistake_at m (line_of source at))
 
 -- a fault of the syntax, on a line
 abbrev pub refusal_at : Fault → ℕ → GrammarFault

@@ -2,6 +2,7 @@ pub mod Numbered
 pub mod Numbers
 pub mod OwnTable
 pub mod Meaning
+pub mod Places
 pub mod Faults
 pub mod Elaborated
 pub mod Texts

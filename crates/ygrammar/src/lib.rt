@@ -13,7 +13,7 @@ mod refusals;
 mod rules;
 mod tokens;
 
-pub use reader::read_grammar;
+pub use reader::{read_grammar, read_placed};
 pub use ysymbols::limits::LONGEST_FILE;
 pub use ysymbols::{Associativity, Grammar, Precedence, Rule, Sym};
-pub use ysyntax::fault::GrammarFault;
+pub use ysyntax::fault::{GrammarFault, PlacedFault};

@@ -1,11 +1,11 @@
 //! The fault of a mistake, on the line of its place.
 
 ghost use Rattle.std.specs.Prelude.{◌≡◌};
-ghost use Rattle.ygrammar.specs.Faults.{IsRefusal, line_of};
-ghost use Rattle.ygrammar.specs.GrammarOf.{mistake_at};
+ghost use Rattle.ygrammar.specs.Faults.{IsRefusal};
+ghost use Rattle.ygrammar.specs.GrammarOf.{line_of, mistake_at};
 
 use youtline::mistake::{Mistake, Refused};
-use ysyntax::fault::GrammarFault;
+use ysyntax::fault::{GrammarFault, PlacedFault};
 
 /// The fault that is this mistake, on a line.
 fn at_line(what: Mistake, line: usize) -> GrammarFault
@@ -24,12 +24,18 @@ fn at_line(what: Mistake, line: usize) -> GrammarFault
 }
 
 /// The fault of a refusal, in a file of these bytes.
-pub fn in_file(refused: Refused, source: &[u8]) -> GrammarFault
+pub fn in_file(refused: Refused, source: &[u8]) -> PlacedFault
     ensures { IsRefusal source.now refused result }
 {
     match refused {
-        Refused::Mistake { what, at } => at_line(what, line_at(source, at)),
-        Refused::Memory => GrammarFault::Memory,
+        Refused::Mistake { what, at } => PlacedFault {
+            fault: at_line(what, line_at(source, at)),
+            at,
+        },
+        Refused::Memory => PlacedFault {
+            fault: GrammarFault::Memory,
+            at: 0,
+        },
     }
 }
 

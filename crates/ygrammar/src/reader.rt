@@ -3,18 +3,49 @@
 ghost use Rattle.std.specs.Prelude.{◌<◌, ◌↔◌, IfErr, IfOk, IsErrOf, length};
 ghost use Rattle.ysymbols.specs.Grammar.{GrammarValue, longest_file};
 ghost use Rattle.ysyntax.specs.Lexer.{Refusal};
+ghost use Rattle.ysyntax.specs.Placing.{too_long};
 ghost use Rattle.ygrammar.specs.GrammarOf.{AnswersGrammar, AnswersMistake, AnswersRefusal};
-ghost use Rattle.ygrammar.specs.GrammarOf.{GivesGrammar, IsFaultOf, IsGrammarOf, IsMistaken};
-ghost use Rattle.ygrammar.specs.GrammarOf.{IsRefused};
+ghost use Rattle.ygrammar.specs.GrammarOf.{GivesGrammar, HasLine, IsFaultAt, IsFaultOf, IsGrammarOf};
+ghost use Rattle.ygrammar.specs.GrammarOf.{IsMistaken, IsRefused, unplaced};
 ghost use Rattle.youtline.specs.declared.mistake.Mistake.{Mistake};
 
 use crate::elaboration::elaborate;
 use crate::lines::in_file;
 use std::alloc::Global;
 use ysymbols::Grammar;
-use ysyntax::fault::GrammarFault;
+use ysyntax::fault::{GrammarFault, PlacedFault};
 use ysyntax::lexer::read_syntax;
 use ysyntax::tree_builder::build_tree;
+
+/// The grammar of a grammar file, or the file's first fault and its place: `read_grammar` says
+/// which fault that is.
+///
+/// The place of `Unfinished`, `BadLiteral`, `Foreign` and `Syntax` is that where reading stops.
+pub fn read_placed(alloc: Global, source: &[u8]) -> Result<Grammar, PlacedFault>
+    // This comes before every other answer, and for no other file.
+    ensures too_long { IsErrOf result too_long ↔ (longest_file < length source.now) }
+    // What is read is the grammar of the file.
+    ensures found { IfOk result (λ g. IsGrammarOf source.now g) }
+    // A file that means a grammar is read.
+    ensures only { (g : GrammarValue) → IsGrammarOf source.now g →
+        AnswersGrammar (unplaced result) g }
+    // Where a file has no syntax, the first reason is answered.
+    ensures refused { (r : Refusal) → IsRefused source.now r → AnswersRefusal (unplaced result) r }
+    // Where it has a syntax and a mistake, the first mistake is answered.
+    ensures mistaken { (m : Mistake) → IsMistaken source.now m →
+        AnswersMistake source.now (unplaced result) m }
+    // A fault that is answered is one that the file has, at this place.
+    ensures fault { IfErr result (λ e. IsFaultAt source.now e.at e.fault) }
+    // The line of a fault is that of its place.
+    ensures line { IfErr result (λ e. HasLine source.now e) }
+{
+    let lexemes = read_syntax(alloc, source)?;
+    let tree = build_tree(alloc, &lexemes)?;
+    match elaborate(alloc, source, &tree) {
+        Ok(grammar) => Ok(grammar),
+        Err(refused) => Err(in_file(refused, source)),
+    }
+}
 
 /// The grammar of a grammar file, or the file's first fault (POSIX yacc, "Input Files" and
 /// "Extended Description").
@@ -32,17 +63,16 @@ pub fn read_grammar(alloc: Global, source: &[u8]) -> Result<Grammar, GrammarFaul
     ensures only { (g : GrammarValue) → IsGrammarOf source.now g → AnswersGrammar result g }
     // Where a file has no syntax, the first reason is answered, with its line.
     ensures refused { (r : Refusal) → IsRefused source.now r → AnswersRefusal result r }
-    // Where it has a syntax and a mistake, the first mistake is answered.
-    ensures mistaken { (m : Mistake) → IsMistaken source.now m → AnswersMistake result m }
+    // Where it has a syntax and a mistake, the first mistake is answered, with its line.
+    ensures mistaken { (m : Mistake) → IsMistaken source.now m →
+        AnswersMistake source.now result m }
     // A fault that is answered is one that the file has.
     ensures fault { IfErr result (λ f. IsFaultOf source.now f) }
     // There is no other answer.
     ensures exact { GivesGrammar source.now result }
 {
-    let lexemes = read_syntax(alloc, source)?;
-    let tree = build_tree(alloc, &lexemes)?;
-    match elaborate(alloc, source, &tree) {
+    match read_placed(alloc, source) {
         Ok(grammar) => Ok(grammar),
-        Err(refused) => Err(in_file(refused, source)),
+        Err(placed) => Err(placed.fault),
     }
 }

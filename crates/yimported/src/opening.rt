@@ -4,7 +4,7 @@ use std::alloc::Global;
 use std::io::{self, Write};
 use yexplain::lines::Lines;
 use yfaults::opening::{Opened, Trouble, put_trouble};
-use ygrammar::{Grammar, read_grammar};
+use ygrammar::{Grammar, read_placed};
 use ylalr::{Automaton, build};
 use ytables::resolve;
 
@@ -15,8 +15,11 @@ fn automaton_of(alloc: Global, grammar: Grammar) -> Result<Automaton, Trouble> {
 
 /// The tables of the grammar that the bytes mean, and where things stand in them.
 pub fn open_bytes(alloc: Global, source: &[u8]) -> Result<Opened, Trouble> {
-    let grammar = read_grammar(alloc, source)?;
-    let lines = Lines::new(alloc, source, &grammar)?;
+    let grammar = read_placed(alloc, source)?;
+    // The file has a syntax, so only memory can run out.
+    let Ok(lines) = Lines::new(alloc, source, &grammar) else {
+        return Err(Trouble::Memory);
+    };
     let automaton = automaton_of(alloc, grammar)?;
     match resolve(alloc, automaton) {
         Ok(tables) => Ok(Opened { tables, lines }),

@@ -13,11 +13,17 @@ use yexplain::reads::grammar_of;
 use yfaults::opening::{Opened, Trouble, grammar_bytes, put_trouble, put_unread};
 use yfiles::same::refused_output;
 use yfiles::writing::put_file;
-use ygrammar::{GrammarFault, LONGEST_FILE};
+use ygrammar::{GrammarFault, LONGEST_FILE, PlacedFault};
 use yimport::import::{Imported, import};
 use yimport::refusal;
 use yimport::symbols::Ended;
 use ysymbols::Grammar;
+
+/// What is said of a file that is too long.
+const TOO_LONG: PlacedFault = PlacedFault {
+    fault: GrammarFault::TooLong,
+    at: 0,
+};
 
 /// What is asked for: the import of a file, to a file of this path or to standard output.
 #[derive(Clone, Copy)]
@@ -216,7 +222,7 @@ fn import_bytes<F: Files + AllocGlobal, W: Write, E: Write>(
 ) -> io::Result<u8> {
     let path = asked.file;
     if bytes.len() > LONGEST_FILE {
-        let trouble = Trouble::Grammar(GrammarFault::TooLong);
+        let trouble = Trouble::Grammar(TOO_LONG);
         put_trouble(errors, rt.alloc(), path, bytes, &trouble)?;
         return Ok(1);
     }
@@ -262,7 +268,7 @@ pub fn open_foreign<E: Write>(
     bytes: &[u8],
 ) -> io::Result<Result<Opened, u8>> {
     if bytes.len() > LONGEST_FILE {
-        let trouble = Trouble::Grammar(GrammarFault::TooLong);
+        let trouble = Trouble::Grammar(TOO_LONG);
         put_trouble(errors, alloc, path, bytes, &trouble)?;
         return Ok(Err(1));
     }

@@ -2,3 +2,4 @@ pub mod TellingSteps
 pub mod OwnSteps
 pub mod TokenSteps
 pub mod GivenTables
+pub mod SiteSteps

@@ -8,6 +8,9 @@ ghost use Rattle.youtline.specs.Elaboration.{body_part_identifier};
 ghost use Rattle.youtline.specs.Elaboration.{level_at, listing_of, listings_from, option_list};
 ghost use Rattle.youtline.specs.Elaboration.{prec_of, starts_of, type_names, uses_of, who_of};
 ghost use Rattle.youtline.specs.Outline.{Outlines, listed_view, start_view};
+ghost use Rattle.youtline.specs.OutlineSites.{OutlineSites, entries_in, lefts_in, listed_entry};
+ghost use Rattle.youtline.specs.OutlineSites.{precs_in, starts_in, symbol_in, typed_in, used_in};
+ghost use Rattle.ysyntax.specs.SiteViews.{definition_sites, rule_text_sites};
 ghost use Rattle.ysyntax.specs.TreeViews.{rule_text_view, definition_view, entry_view};
 ghost use Rattle.ysyntax.specs.TreeViews.{body_part_view};
 ghost use Rattle.ysyntax.specs.TreeViews.{occurrence_view, name_view, tree_view};
@@ -121,8 +124,9 @@ fn all_starts<'a>(
     alloc: Global,
     definitions: &[Definition<'a>],
 ) -> Result<Vec<Started<'a>>, AllocError>
-    ensures { IfOk result (λ v. map start_view v.items
+    ensures names { IfOk result (λ v. map start_view v.items
         ≡ flat_map starts_of (map definition_view definitions.now)) }
+    ensures all { IfOk result (λ v. v.items ≡ flat_map starts_in definitions.now) }
 {
     let mut found = Vec::new(alloc);
     for definition in definitions {
@@ -135,7 +139,8 @@ fn all_starts<'a>(
 
 /// Adds names.
 fn push_names<'a>(found: &mut Vec<NameAt<'a>>, names: &[NameAt<'a>]) -> Result<(), AllocError>
-    ensures { OnOk result (map name_view found.new.items
+    ensures all { OnOk result (found.new.items ≡ found.old.items ++ names.now) }
+    ensures names { OnOk result (map name_view found.new.items
         ≡ map name_view found.old.items ++ map name_view names.now) }
 {
     for name in names {
@@ -148,8 +153,9 @@ fn all_typed<'a>(
     alloc: Global,
     definitions: &[Definition<'a>],
 ) -> Result<Vec<NameAt<'a>>, AllocError>
-    ensures { IfOk result (λ v. map name_view v.items
+    ensures names { IfOk result (λ v. map name_view v.items
         ≡ flat_map type_names (map definition_view definitions.now)) }
+    ensures all { IfOk result (λ v. v.items ≡ flat_map typed_in definitions.now) }
 {
     let mut found = Vec::new(alloc);
     for definition in definitions {
@@ -179,8 +185,10 @@ fn push_listed<'a>(
     gives: Option<Precedence>,
     entries: &[Entry<'a>],
 ) -> Result<(), AllocError>
-    ensures { OnOk result (map listed_view found.new.items
+    ensures listings { OnOk result (map listed_view found.new.items
         ≡ map listed_view found.old.items ++ map (listing_of gives) (map entry_view entries.now)) }
+    ensures all { OnOk result (map listed_entry found.new.items
+        ≡ map listed_entry found.old.items ++ entries.now) }
 {
     for entry in entries {
         found.push(Listed {
@@ -196,8 +204,10 @@ fn all_listed<'a>(
     alloc: Global,
     definitions: &[Definition<'a>],
 ) -> Result<Vec<Listed<'a>>, AllocError>
-    ensures { IfOk result (λ v. map listed_view v.items
+    ensures listings { IfOk result (λ v. map listed_view v.items
         ≡ listings_from 0 (map definition_view definitions.now)) }
+    ensures all { IfOk result (λ v. map listed_entry v.items
+        ≡ flat_map entries_in definitions.now) }
 {
     let mut found = Vec::new(alloc);
     let mut level: usize = 0;
@@ -213,8 +223,9 @@ fn all_listed<'a>(
 }
 
 fn all_lefts<'a>(alloc: Global, rule_texts: &[RuleText<'a>]) -> Result<Vec<NameAt<'a>>, AllocError>
-    ensures { IfOk result (λ v. map name_view v.items
+    ensures names { IfOk result (λ v. map name_view v.items
         ≡ flat_map left_of_rule (map rule_text_view rule_texts.now)) }
+    ensures all { IfOk result (λ v. v.items ≡ flat_map lefts_in rule_texts.now) }
 {
     let mut found = Vec::new(alloc);
     for rule_text in rule_texts {
@@ -227,9 +238,11 @@ fn all_lefts<'a>(alloc: Global, rule_texts: &[RuleText<'a>]) -> Result<Vec<NameA
 
 /// Adds the names and literals of a body.
 fn push_items<'a>(found: &mut Vec<Occurrence<'a>>, items: &[BodyPart<'a>]) -> Result<(), AllocError>
-    ensures { OnOk result (map occurrence_view found.new.items
+    ensures names { OnOk result (map occurrence_view found.new.items
         ≡ map occurrence_view found.old.items ++ flat_map body_part_identifier
         (map body_part_view items.now)) }
+    ensures all { OnOk result (found.new.items
+        ≡ found.old.items ++ flat_map symbol_in items.now) }
 {
     for item in items {
         if let BodyPart::Symbol(who) = item {
@@ -244,9 +257,10 @@ fn push_prec<'a>(
     found: &mut Vec<Occurrence<'a>>,
     prec: Option<Occurrence<'a>>,
 ) -> Result<(), AllocError>
-    ensures { OnOk result (map occurrence_view found.new.items
+    ensures names { OnOk result (map occurrence_view found.new.items
         ≡ map occurrence_view found.old.items ++ option_list
         (option_view occurrence_view prec.entry)) }
+    ensures all { OnOk result (found.new.items ≡ found.old.items ++ option_list prec.entry) }
 {
     if let Some(who) = prec {
         found.push(who)?;
@@ -258,8 +272,9 @@ fn all_used<'a>(
     alloc: Global,
     rule_texts: &[RuleText<'a>],
 ) -> Result<Vec<Occurrence<'a>>, AllocError>
-    ensures { IfOk result (λ v. map occurrence_view v.items
+    ensures names { IfOk result (λ v. map occurrence_view v.items
         ≡ flat_map uses_of (map rule_text_view rule_texts.now)) }
+    ensures all { IfOk result (λ v. v.items ≡ flat_map used_in rule_texts.now) }
 {
     let mut found = Vec::new(alloc);
     for rule_text in rule_texts {
@@ -273,8 +288,9 @@ fn all_precs<'a>(
     alloc: Global,
     rule_texts: &[RuleText<'a>],
 ) -> Result<Vec<Occurrence<'a>>, AllocError>
-    ensures { IfOk result (λ v. map occurrence_view v.items
+    ensures names { IfOk result (λ v. map occurrence_view v.items
         ≡ flat_map prec_of (map rule_text_view rule_texts.now)) }
+    ensures all { IfOk result (λ v. v.items ≡ flat_map precs_in rule_texts.now) }
 {
     let mut found = Vec::new(alloc);
     for rule_text in rule_texts {
@@ -286,7 +302,10 @@ fn all_precs<'a>(
 impl<'a> Outline<'a> {
     /// The lists of a tree. It fails only when memory runs out.
     pub fn new(alloc: Global, tree: &Tree<'a>) -> Result<Outline<'a>, AllocError>
-        ensures { IfOk result (λ o. Outlines o (tree_view tree.now)) }
+        ensures lists { IfOk result (λ o. Outlines o (tree_view tree.now)) }
+        ensures sites { IfOk result (λ o. OutlineSites o
+            (flat_map definition_sites tree.now.definitions.items)
+            (flat_map rule_text_sites tree.now.rule_texts.items)) }
     {
         Ok(Outline {
             listed: all_listed(alloc, &tree.definitions)?,

@@ -9,32 +9,32 @@ use Rattle.ylexemes.specs.Lexemes.{Lexeme}
 use Rattle.ysyntax.specs.Lexer.{SpellsSyntax, Refusal}
 use Rattle.ylexemes.specs.Front.{unfinished, bad_literal, foreign, syntax}
 use Rattle.ysyntax.specs.Lexer.{refusal, Outcome}
-use Rattle.ysyntax.specs.Answers.{views, Answers, Gives}
+use Rattle.ysyntax.specs.Answers.{views, Answers, FailsAt, Gives, IsOutcome}
+use Rattle.ysyntax.specs.declared.fault.PlacedFault.{PlacedFault}
 use Rattle.ysyntax.specs.Tree.{HasOneTree}
 use Rattle.ysyntax.proofs.Trees.{tree_of}
 use Rattle.ysyntax.proofs.OneTree.{one_tree}
 use Rattle.ysyntax.proofs.Outcomes.{one_outcome, outcome_spells}
 
-pub gives_spells : (bytes : List ℕ) (r : Result (Vec Placed) GrammarFault) → Gives bytes r →
+pub gives_spells : (bytes : List ℕ) (r : Result (Vec Placed) PlacedFault) → Gives bytes r →
     IfOk r (λ v. SpellsSyntax bytes (views v.items))
 gives_spells bytes (Ok v) h = outcome_spells bytes (views v.items) h
 gives_spells bytes (Err e) h = tt
 
-pub gives_answers : (bytes : List ℕ) (r : Result (Vec Placed) GrammarFault)
+pub gives_answers : (bytes : List ℕ) (r : Result (Vec Placed) PlacedFault)
     (o : Result (List Lexeme) Refusal) → Gives bytes r → Outcome bytes o → Answers r o
 gives_answers bytes (Ok v) o h k = one_outcome bytes o (Ok (views v.items)) k h
-gives_answers bytes (Err (faults.Unfinished line)) o h k = one_outcome bytes o
-    (Err (refusal unfinished line)) k h
-gives_answers bytes (Err (faults.BadLiteral line)) o h k = one_outcome bytes o
-    (Err (refusal bad_literal line)) k h
-gives_answers bytes (Err (faults.Foreign line)) o h k = one_outcome bytes o
-    (Err (refusal foreign line)) k h
-gives_answers bytes (Err (faults.Syntax line)) o h k = one_outcome bytes o
-    (Err (refusal syntax line)) k h
-gives_answers bytes (Err faults.Memory) o h k = tt
-gives_answers bytes (Err _) o h k = absurd h
+gives_answers bytes (Err e) o h k = go e.fault h
+  where
+    go : (f : GrammarFault) → FailsAt bytes e.at f → IsOutcome f o
+    go (faults.Unfinished line) s = one_outcome bytes o (Err (refusal unfinished line)) k s.outcome
+    go (faults.BadLiteral line) s = one_outcome bytes o (Err (refusal bad_literal line)) k s.outcome
+    go (faults.Foreign line) s = one_outcome bytes o (Err (refusal foreign line)) k s.outcome
+    go (faults.Syntax line) s = one_outcome bytes o (Err (refusal syntax line)) k s.outcome
+    go faults.Memory s = tt
+    go _ s = absurd s
 
-pub gives_tree : (bytes : List ℕ) (r : Result (Vec Placed) GrammarFault) → Gives bytes r →
+pub gives_tree : (bytes : List ℕ) (r : Result (Vec Placed) PlacedFault) → Gives bytes r →
     IfOk r (λ v. HasOneTree (views v.items))
 gives_tree bytes (Ok v) h =
     let s = outcome_spells bytes (views v.items) h in

@@ -1,9 +1,10 @@
 -- Reading one part after another comes to the file's outcome.
 use Rattle.std.proofs.Common.{ℕ, ◌≡◌, ◌≤◌, ◌+◌, ◌-◌, drop, Bool, true, false, cond, not, ◌&&◌, ◌||◌}
 use Rattle.std.proofs.Common.{◌⊎◌, inl, inr, eqb, List, [], ◌∷◌, ◌++◌, length, Option, Some, None}
-use Rattle.std.proofs.Common.{Ok, Err, refl, sym, ap, ◌∙◌, subst, arith, append-nil, length-append}
+use Rattle.std.proofs.Common.{Ok, Err, refl, sym, ap, ◌∙◌, subst, arith, append-nil, append_assoc}
+use Rattle.std.proofs.Common.{length-append, map}
 use Rattle.std.proofs.lemmas.Bool.{eqb-true, and_parts, or_cases, not-true, both_ways}
-use Rattle.std.proofs.lemmas.List.{map_push}
+use Rattle.std.proofs.lemmas.List.{map-append, map_push}
 use Rattle.std.proofs.Math.Seq.{drop-append_seam}
 use Rattle.std.proofs.Common.{Result}
 use Rattle.ysyntax.specs.declared.lexer.Placed.{Placed}
@@ -29,13 +30,16 @@ use Rattle.ysyntax.specs.declared.recogniser.State.TheVariants.{End}
 use Rattle.ysyntax.specs.Syntax.{BeginsSpec}
 use Rattle.ysyntax.specs.Recogniser.{next_state, state_after, is_final, is_final_at, is_end}
 use Rattle.ylexemes.specs.Lexemes.{Lexeme, fixed, kind_of}
-use Rattle.ysyntax.specs.Lexer.{Cuts, lexemes, kinds, is_mark, marks}
+use Rattle.ysyntax.specs.Lexer.{ComesTo, Cuts, lexemes, kinds, is_mark, marks}
+use Rattle.ysyntax.specs.Sites.{Mark, StandFrom, StandsBehind}
+use Rattle.ysyntax.specs.SiteViews.{marks_in, placed_mark}
 use Rattle.ylexemes.specs.Front.{Part, lexeme, PartAt}
 use Rattle.ysyntax.specs.Lexer.{refusal, IsLine, ended, marked, lexical, stray}
 use Rattle.ylexemes.specs.Front.{syntax, FaultAt}
-use Rattle.ysyntax.specs.Lexer.{early, Outcome, Refusal, Stops}
+use Rattle.ysyntax.specs.Lexer.{early, Outcome, Refusal, Stops, StopsAt}
 use Rattle.ylexemes.specs.Views.{lexeme_view, fault_view}
-use Rattle.ysyntax.specs.Answers.{views, fault_at, Fails, Comes, StandIn, StandsIn}
+use Rattle.ysyntax.specs.Answers.{views, fault_at, FailsAt, Comes, StandIn, StandsIn}
+use Rattle.ysyntax.specs.declared.fault.PlacedFault.{PlacedFault}
 use Rattle.ysyntax.proofs.Accepted.{state_after_append, recognised}
 use Rattle.ysyntax.proofs.Shapes.{derived}
 use Rattle.ysyntax.proofs.Viable.{viable, not_viable}
@@ -182,6 +186,7 @@ goes_gap bytes rest m ls q p c e h = record {
   };
   state_is = c.state_is;
   placed = c.placed;
+  sites = c.sites;
 }
 
 views_push : (ls : List Placed) (p : Placed) → views (ls ++ p ∷ []) ≡ views ls ++ lexeme_view
@@ -203,15 +208,48 @@ here before rest at e =
     let n : at ≡ length before = let w = length-append before rest in omega (arith, e, w) in
     ap (λ i. drop i (before ++ rest)) n ∙ drop-append_seam before rest
 
+there : (bytes rest : List ℕ) (ls : List Placed) (q : State) (at : ℕ) → Comes bytes ls rest q →
+    at ≡ length bytes - length rest → drop at bytes ≡ rest
+there bytes rest ls q at c a =
+    let (before, w) = cut_before c.cut.parts bytes rest c.cut.cut in
+    ap (λ (x : List ℕ). drop at x) w ∙ here before rest at
+    (a ∙ ap (λ (x : List ℕ). length x - length rest) w)
+
+what_marks : (ls : List Placed) → map (λ (m : Mark). m.what) (marks_in ls) ≡ views ls
+what_marks [] = refl
+what_marks (p ∷ ls) = ap (λ z. lexeme_view p.lexeme ∷ z) (what_marks ls)
+
+stand_more : (source : List ℕ) (before : List Lexeme) (ms : List Mark) (m : Mark) →
+    StandFrom source before ms → StandsBehind source (before ++ map (λ (x : Mark). x.what) ms) m →
+    StandFrom source before (ms ++ m ∷ [])
+stand_more source before [] m h s =
+    (subst (λ (x : List Lexeme). StandsBehind source x m) (append-nil before) s, tt)
+stand_more source before (x ∷ ms) m h s = (h.0, stand_more source (before ++ x.what ∷ []) ms m h.1
+    (subst (λ (y : List Lexeme). StandsBehind source y m)
+    (sym (append_assoc before (x.what ∷ []) (map (λ (y : Mark). y.what) ms))) s))
+
+-- reading comes to the place of one more lexeme with those before it
+pub sites_more : (bytes rest m : List ℕ) (ls new : List Placed) (q : State) (p : Placed) →
+    Comes bytes ls rest q → PartAt rest (lexeme (lexeme_view p.lexeme)) m →
+    p.at ≡ length bytes - length rest → new ≡ ls ++ p ∷ [] → StandFrom bytes [] (marks_in new)
+sites_more bytes rest m ls new q p c h a f =
+    let e : drop p.at bytes ≡ rest = there bytes rest ls q p.at c a in
+    let one : StandsBehind bytes (views ls) (placed_mark p) = record {
+      comes = subst (ComesTo bytes (views ls)) (sym e) c.cut;
+      here = (m, subst (λ (x : List ℕ). PartAt x (lexeme (lexeme_view p.lexeme)) m) (sym e) h);
+    } in
+    subst (λ (x : List Mark). StandFrom bytes [] x)
+    (sym (ap marks_in f ∙ map-append placed_mark ls (p ∷ [])))
+    (stand_more bytes [] (marks_in ls) (placed_mark p) c.sites
+    (subst (λ (x : List Lexeme). StandsBehind bytes x (placed_mark p)) (sym (what_marks ls)) one))
+
 pub placed_more : (bytes rest m : List ℕ) (ls new : List Placed) (q : State) (p : Placed) →
     Comes bytes ls rest q → PartAt rest (lexeme (lexeme_view p.lexeme)) m →
     p.at ≡ length bytes - length rest → new ≡ ls ++ p ∷ [] → StandIn bytes new
 placed_more bytes rest m ls new q p c h a f =
-    let (before, w) = cut_before c.cut.parts bytes rest c.cut.cut in
-    let there : drop p.at bytes ≡ rest = ap (λ (x : List ℕ). drop p.at x) w ∙ here before rest p.at
-    (a ∙ ap (λ (x : List ℕ). length x - length rest) w) in
+    let e : drop p.at bytes ≡ rest = there bytes rest ls q p.at c a in
     let one : StandsIn bytes p =
-    (m, subst (λ (x : List ℕ). PartAt x (lexeme (lexeme_view p.lexeme)) m) (sym there) h) in
+    (m, subst (λ (x : List ℕ). PartAt x (lexeme (lexeme_view p.lexeme)) m) (sym e) h) in
     subst (StandIn bytes) (sym f) (all ls one c.placed)
   where
     all : (ls : List Placed) → StandsIn bytes p → StandIn bytes ls →
@@ -242,6 +280,7 @@ goes_lexeme bytes rest m ls new q r p c h a e n f =
       };
       state_is = s;
       placed = placed_more bytes rest m ls new q p c h a f;
+      sites = sites_more bytes rest m ls new q p c h a f;
     }
 
 -- ---- where reading stops
@@ -278,22 +317,41 @@ outcome bytes rest ls q line r c l s = record {
   stops = s;
 }
 
-pub stops_lexical : (bytes rest : List ℕ) (ls : List Placed) (q : State) (f : LexicalFault)
-    (line : ℕ) → Comes bytes ls rest q → FaultAt rest (fault_view f) → IsLine bytes rest line →
-    Fails (fault_at f line) bytes
-stops_lexical bytes rest ls q code_faults.Unfinished line c h l =
-    outcome bytes rest ls q line _ c l (lexical h)
-stops_lexical bytes rest ls q code_faults.BadLiteral line c h l =
-    outcome bytes rest ls q line _ c l (lexical h)
-stops_lexical bytes rest ls q code_faults.Foreign line c h l =
-    outcome bytes rest ls q line _ c l (lexical h)
+stops_at : (bytes rest : List ℕ) (ls : List Placed) (q : State) (line at : ℕ)
+    (r : Result (List Lexeme) Refusal) → Comes bytes ls rest q → IsLine bytes rest line →
+    Stops (views ls) rest line r → at + length rest ≡ length bytes → StopsAt bytes at r
+unfolding outcome
+stops_at bytes rest ls q line at r c l s p =
+    record { outcome = outcome bytes rest ls q line r c l s; place = p }
 
-pub stops_stray : (bytes rest m : List ℕ) (ls : List Placed) (q : State) (l : Lexeme) (line : ℕ) →
-    Comes bytes ls rest q → PartAt rest (lexeme l) m → next_state q (kind_of l) ≡ None →
-    IsLine bytes rest line → Outcome bytes (Err (refusal syntax line))
-stops_stray bytes rest m ls q l line c h e i = outcome bytes rest ls q line _ c i
+-- a fault of some kind, at the place where reading stops
+abbrev pub IsStop : List ℕ → List ℕ → Option LexicalFault → PlacedFault → Type 0
+IsStop bytes rest f e = ((line : ℕ) × IsLine bytes rest line × (e.fault ≡ fault_at f line))
+    × (e.at + length rest ≡ length bytes)
+
+fails : (bytes : List ℕ) (f : Option LexicalFault) (line : ℕ) (e : PlacedFault) →
+    e.fault ≡ fault_at f line → FailsAt bytes e.at (fault_at f line) → FailsAt bytes e.at e.fault
+fails bytes f line e w h = subst (FailsAt bytes e.at) (sym w) h
+
+pub stops_lexical : (bytes rest : List ℕ) (ls : List Placed) (q : State) (f : LexicalFault)
+    (e : PlacedFault) → Comes bytes ls rest q → FaultAt rest (fault_view f) →
+    IsStop bytes rest (Some f) e → FailsAt bytes e.at e.fault
+stops_lexical bytes rest ls q f e c h ((line, l, w), p) =
+    fails bytes (Some f) line e w (go f h)
+  where
+    go : (f : LexicalFault) → FaultAt rest (fault_view f) →
+        FailsAt bytes e.at (fault_at (Some f) line)
+    go code_faults.Unfinished h = stops_at bytes rest ls q line e.at _ c l (lexical h) p
+    go code_faults.BadLiteral h = stops_at bytes rest ls q line e.at _ c l (lexical h) p
+    go code_faults.Foreign h = stops_at bytes rest ls q line e.at _ c l (lexical h) p
+
+pub stops_stray : (bytes rest m : List ℕ) (ls : List Placed) (q : State) (l : Lexeme)
+    (e : PlacedFault) → Comes bytes ls rest q → PartAt rest (lexeme l) m →
+    next_state q (kind_of l) ≡ None → IsStop bytes rest None e → FailsAt bytes e.at e.fault
+stops_stray bytes rest m ls q l e c h n ((line, i, w), p) = fails bytes None line e w
+    (stops_at bytes rest ls q line e.at _ c i
     (stray h (not_viable (kinds (views ls ++ l ∷ []))
-    (state_after_push (views ls) l q None c.state_is e)))
+    (state_after_push (views ls) l q None c.state_is n))) p)
 
 pub stops_marked : (bytes rest m : List ℕ) (ls new : List Placed) (q r : State) (p : Placed) →
     Comes bytes ls rest q → PartAt rest (lexeme (lexeme_view p.lexeme)) m
@@ -330,12 +388,13 @@ stops_ended bytes rest ls q c e h =
     outcome bytes rest ls q line _ c i
     (ended e (derived (kinds (views ls)) (ap is_final_at c.state_is ∙ h)))
 
-pub stops_early : (bytes rest : List ℕ) (ls : List Placed) (q : State) (line : ℕ) →
-    Comes bytes ls rest q → rest ≡ [] → is_final q ≡ false → IsLine bytes rest line →
-    Outcome bytes (Err (refusal syntax line))
-stops_early bytes rest ls q line c e h i = outcome bytes rest ls q line _ c i
-    (early e (λ s. both_ways (is_final q) h (sym (ap is_final_at c.state_is) ∙ recognised
-    (kinds (views ls)) s)))
+pub stops_early : (bytes rest : List ℕ) (ls : List Placed) (q : State) (e : PlacedFault) →
+    Comes bytes ls rest q → rest ≡ [] → is_final q ≡ false → IsStop bytes rest None e →
+    FailsAt bytes e.at e.fault
+stops_early bytes rest ls q e c n h ((line, i, w), p) = fails bytes None line e w
+    (stops_at bytes rest ls q line e.at _ c i
+    (early n (λ s. both_ways (is_final q) h (sym (ap is_final_at c.state_is) ∙ recognised
+    (kinds (views ls)) s))) p)
 
 pub empty_is : (rest : List ℕ) (r : Bool) → r ≡ eqb (length rest) 0 → r ≡ true → rest ≡ []
 empty_is [] r e f = refl

@@ -6,4 +6,5 @@ pub mod Coming
 pub mod Answering
 pub mod Trees
 pub mod OneTree
+pub mod SiteSteps
 pub mod TreeSteps

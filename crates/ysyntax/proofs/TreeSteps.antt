@@ -41,6 +41,8 @@ use Rattle.ylexemes.specs.Lexemes.{Lexeme, name, c_identifier, literal, number, 
 use Rattle.ylexemes.specs.Lexemes.{kind_of}
 use Rattle.ysyntax.specs.Lexer.{kinds}
 use Rattle.ysyntax.specs.Answers.{views}
+use Rattle.ysyntax.specs.Sites.{Mark, Site, site_mark}
+use Rattle.ysyntax.specs.SiteViews.{site_marks}
 use Rattle.ylexemes.specs.Views.{lexeme_view}
 use Rattle.ysyntax.specs.TreeBuilder.{NoneOf, NoBodyPart, NoSign, Takes, TakesTag}
 use Rattle.ysyntax.specs.Tree.{Identifier, named, quoted, BodyPart, symbol, action}
@@ -361,6 +363,20 @@ one_more_lexeme f v xs new x whole rest next e g h =
     (v x ∷ []) in
     e ∙ ap (λ z. map f (map v xs) ++ z) g ∙ sym
     (append_assoc (map f (map v xs)) (f (v x) ∷ []) next) ∙ ap (λ z. z ++ next) (sym made)
+
+-- one more piece that has sites
+pub one_more_site : {A : Type 0} (f : A → List Site) (xs new : List A) (x : A)
+    (whole rest next : List Mark) → whole ≡ site_marks (flat_map f xs) ++ rest →
+    rest ≡ site_marks (f x) ++ next → new ≡ xs ++ x ∷ [] →
+    whole ≡ site_marks (flat_map f new) ++ next
+one_more_site f xs new x whole rest next e g h =
+    let made : site_marks (flat_map f new) ≡ site_marks (flat_map f xs) ++ site_marks (f x) =
+    ap (λ z. site_marks (flat_map f z)) h ∙ ap site_marks (flat_map-append f xs (x ∷ []))
+    ∙ map-append site_mark (flat_map f xs) (f x ++ [])
+    ∙ ap (λ z. site_marks (flat_map f xs) ++ site_marks z) (append-nil (f x)) in
+    e ∙ ap (λ z. site_marks (flat_map f xs) ++ z) g
+    ∙ sym (append_assoc (site_marks (flat_map f xs)) (site_marks (f x)) next)
+    ∙ ap (λ z. z ++ next) (sym made)
 
 pub all_more : {A : Type 0} (P : A → Type 0) (xs new : List A) (x : A) → AllByRecursion P xs →
     P x → new ≡ xs ++ x ∷ [] → AllByRecursion P new

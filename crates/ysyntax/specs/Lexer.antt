@@ -1,7 +1,7 @@
 -- A file cut into blanks, comments and lexemes (Aho, Sethi and Ullman, section 3.5), and its first
 -- fault.
 use Rattle.std.specs.Prelude.{ℕ, suc, count_by, ◌≡◌, ◌≤◌, Result, Ok, Err, ◌+◌, Bool, true}
-use Rattle.std.specs.Prelude.{false, cond, ◌==◌, List, [], ◌∷◌, ◌++◌, map}
+use Rattle.std.specs.Prelude.{false, cond, ◌==◌, List, [], ◌∷◌, ◌++◌, length, map}
 use Rattle.ylexemes.specs.declared.kind.Kind.{Kind}
 use Rattle.ylexemes.specs.declared.kind.Kind.TheVariants as kind
 use Rattle.ylexemes.specs.declared.kind.Sign.TheVariants as sign
@@ -95,3 +95,8 @@ pub record Outcome (bytes : List ℕ) (result : Result (List Lexeme) Refusal) : 
   pub begun : BeginsSpec (kinds before)
   pub here : IsLine bytes rest line
   pub stops : Stops before rest line result
+
+-- Reading stops with this outcome, and so many bytes stand before the place where it stops.
+pub record StopsAt (bytes : List ℕ) (at : ℕ) (result : Result (List Lexeme) Refusal) : Type 0 where
+  pub outcome : Outcome bytes result
+  pub place : at + length outcome.rest ≡ length bytes

@@ -1,8 +1,11 @@
 pub mod Syntax
 pub mod Recogniser
 pub mod Lexer
+pub mod Placing
 pub mod Answers
 pub mod Tree
+pub mod Sites
 pub mod TreeViews
+pub mod SiteViews
 pub mod TreeBuilder
 pub mod TreeTexts

@@ -15,7 +15,7 @@ use Rattle.ysyntax.specs.declared.tree.BodyPart.{BodyPart as CodeBodyPart}
 use Rattle.ysyntax.specs.declared.tree.BodyPart.TheVariants as items
 use Rattle.ysyntax.specs.declared.tree.RuleText.{RuleText as CodeRuleText}
 use Rattle.ysyntax.specs.declared.tree.Tree.{Tree as CodeTree}
-use Rattle.ysymbols.specs.Sources.{option_view, text_view}
+use Rattle.ysymbols.specs.Sources.{option_view}
 use Rattle.ysyntax.specs.Tree.{Identifier, named, quoted, Word, token, left, right, nonassoc}
 use Rattle.ysyntax.specs.Tree.{Entry, Definition, start, union, block, listing, types, BodyPart}
 use Rattle.ysyntax.specs.Tree.{symbol, action, RuleText, Tree}
@@ -49,9 +49,10 @@ abbrev pub definition_view : CodeDefinition → Definition
 definition_view (definitions.Start m at) = start (occurrence_view m)
 definition_view (definitions.Union b) = union (braced_view b)
 definition_view definitions.Block = block
-definition_view (definitions.Listing l) = listing (word_view l.word) (text_view l.tag)
+definition_view (definitions.Listing l) = listing (word_view l.word)
+    (option_view name_view l.tag)
     (map entry_view l.entries.items)
-definition_view (definitions.Types t) = types t.tag.now (map name_view t.names.items)
+definition_view (definitions.Types t) = types (name_view t.tag) (map name_view t.names.items)
 
 abbrev pub body_part_view : CodeBodyPart → BodyPart
 body_part_view (items.Symbol m) = symbol (occurrence_view m)

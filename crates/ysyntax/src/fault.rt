@@ -2,6 +2,7 @@
 
 ghost use Rattle.std.specs.Prelude.{◌≡◌};
 ghost use Rattle.ysyntax.specs.declared.fault.GrammarFault.TheVariants.{Memory};
+ghost use Rattle.ysyntax.specs.Placing.{no_memory};
 
 use std::alloc::{AllocError, AllocFailed};
 use thiserror::Error;
@@ -55,6 +56,15 @@ pub enum GrammarFault {
     Memory,
 }
 
+/// The fault of a grammar file, and its place.
+#[derive(Clone, Copy, Debug, PartialEq, Eq, Drop)]
+pub struct PlacedFault {
+    /// The fault.
+    pub fault: GrammarFault,
+    /// How many bytes of the file stand before the place at fault; 0 where the fault has no line.
+    pub at: usize,
+}
+
 impl<T: Drop> From<AllocFailed<T>> for GrammarFault {
     ghost from_gives = { λ _ e. e ≡ Memory };
 
@@ -68,5 +78,35 @@ impl From<AllocError> for GrammarFault {
 
     fn from(_refused: AllocError) -> GrammarFault {
         GrammarFault::Memory
+    }
+}
+
+impl<T: Drop> From<AllocFailed<T>> for PlacedFault {
+    ghost from_gives = { λ _ e. e ≡ no_memory };
+
+    fn from(_refused: AllocFailed<T>) -> PlacedFault {
+        PlacedFault {
+            fault: GrammarFault::Memory,
+            at: 0,
+        }
+    }
+}
+
+impl From<AllocError> for PlacedFault {
+    ghost from_gives = { λ _ e. e ≡ no_memory };
+
+    fn from(_refused: AllocError) -> PlacedFault {
+        PlacedFault {
+            fault: GrammarFault::Memory,
+            at: 0,
+        }
+    }
+}
+
+impl From<PlacedFault> for GrammarFault {
+    ghost from_gives = { λ p e. e ≡ p.fault };
+
+    fn from(placed: PlacedFault) -> GrammarFault {
+        placed.fault
     }
 }

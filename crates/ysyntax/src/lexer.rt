@@ -1,14 +1,17 @@
 //! A grammar file cut into lexemes, up to its first fault.
 
-ghost use Rattle.std.specs.Prelude.{◌≡◌, ◌++◌, ◌<◌, ◌≤◌, ◌↔◌, ℕ, List, length, Ok, Err, IfOk};
+ghost use Rattle.std.specs.Prelude.{◌≡◌, ◌+◌, ◌++◌, ◌<◌, ◌≤◌, ◌↔◌, ℕ, List, [], length, Ok, Err, IfOk};
 ghost use Rattle.std.specs.Prelude.{IsErrOf};
 ghost use Rattle.ysyntax.specs.Answers.{Gives, Answers, StandIn, fault_at, views};
+ghost use Rattle.ysyntax.specs.Placing.{too_long};
 ghost use Rattle.ysyntax.specs.Lexer.{IsLine, SpellsSyntax, Outcome, Refusal};
 ghost use Rattle.ysymbols.specs.Grammar.{longest_file};
 ghost use Rattle.ylexemes.specs.Lexemes.{Lexeme as LexemeOf};
+ghost use Rattle.ysyntax.specs.Sites.{StandFrom};
+ghost use Rattle.ysyntax.specs.SiteViews.{marks_in};
 ghost use Rattle.ysyntax.specs.Tree.{HasOneTree};
 
-use crate::fault::GrammarFault;
+use crate::fault::{GrammarFault, PlacedFault};
 use crate::recogniser::State;
 use std::alloc::Global;
 use ylexemes::front::part_at;
@@ -33,22 +36,38 @@ fn line_of(bytes: &[u8], rest: &[u8]) -> usize
     before.iter().filter(|b| **b == b'\n').count() + 1
 }
 
-/// The fault of a file where no part begins, on a line.
-fn at_line(fault: LexicalFault, line: usize) -> GrammarFault
+/// The fault of a file where no part begins, or of one without syntax, on a line.
+fn at_line(fault: Option<LexicalFault>, line: usize) -> GrammarFault
     ensures { result ≡ fault_at fault line }
 {
     match fault {
-        LexicalFault::Unfinished => GrammarFault::Unfinished { line },
-        LexicalFault::BadLiteral => GrammarFault::BadLiteral { line },
-        LexicalFault::Foreign => GrammarFault::Foreign { line },
+        Some(LexicalFault::Unfinished) => GrammarFault::Unfinished { line },
+        Some(LexicalFault::BadLiteral) => GrammarFault::BadLiteral { line },
+        Some(LexicalFault::Foreign) => GrammarFault::Foreign { line },
+        None => GrammarFault::Syntax { line },
+    }
+}
+
+/// The fault of a file where no part begins, or of one without syntax, at the place where the rest
+/// of its bytes begins.
+fn stopped(fault: Option<LexicalFault>, bytes: &[u8], rest: &[u8]) -> PlacedFault
+    requires { (before : List ℕ) × (bytes.now ≡ before ++ rest.now) }
+    ensures line { (line : ℕ) × IsLine bytes.now rest.now line
+        × (result.fault ≡ fault_at fault line) }
+    ensures place { result.at + length rest.now ≡ length bytes.now }
+{
+    PlacedFault {
+        fault: at_line(fault, line_of(bytes, rest)),
+        at: bytes.len() - rest.len(),
     }
 }
 
 /// The lexemes of a grammar file, up to the second `%%` or the end, or its first fault; memory may
 /// run out in place of any answer.
-pub fn read_lexemes<'a>(alloc: Global, bytes: &'a [u8]) -> Result<Vec<Placed<'a>>, GrammarFault>
+pub fn read_lexemes<'a>(alloc: Global, bytes: &'a [u8]) -> Result<Vec<Placed<'a>>, PlacedFault>
     ensures outcome { Gives bytes.now result }
     ensures placed { IfOk result (λ v. StandIn bytes.now v.items) }
+    ensures sites { IfOk result (λ v. StandFrom bytes.now [] (marks_in v.items)) }
 {
     let mut lexemes = Vec::new(alloc);
     let mut state = State::Declarations;
@@ -56,16 +75,14 @@ pub fn read_lexemes<'a>(alloc: Global, bytes: &'a [u8]) -> Result<Vec<Placed<'a>
     'parts: while !rest.is_empty() {
         let (part, after) = match part_at(rest) {
             Ok(found) => found,
-            Err(fault) => return Err(at_line(fault, line_of(bytes, rest))),
+            Err(fault) => return Err(stopped(Some(fault), bytes, rest)),
         };
         match part {
             Part::Blank => {}
             Part::Comment => {}
             Part::Lexeme(lexeme) => {
                 match state.next(lexeme.kind()) {
-                    None => return Err(GrammarFault::Syntax {
-                        line: line_of(bytes, rest),
-                    }),
+                    None => return Err(stopped(None, bytes, rest)),
                     Some(next) => state = next,
                 }
                 let at = bytes.len() - rest.len();
@@ -80,18 +97,16 @@ pub fn read_lexemes<'a>(alloc: Global, bytes: &'a [u8]) -> Result<Vec<Placed<'a>
     if state.is_final() {
         Ok(lexemes)
     } else {
-        Err(GrammarFault::Syntax {
-            line: line_of(bytes, rest),
-        })
+        Err(stopped(None, bytes, rest))
     }
 }
 
 /// The lexemes of a grammar file of at most 1,048,576 bytes, or its first fault.
 ///
 /// Memory may run out in place of any answer but `TooLong`.
-pub fn read_syntax<'a>(alloc: Global, bytes: &'a [u8]) -> Result<Vec<Placed<'a>>, GrammarFault>
+pub fn read_syntax<'a>(alloc: Global, bytes: &'a [u8]) -> Result<Vec<Placed<'a>>, PlacedFault>
     // This comes before every other answer.
-    ensures too_long { IsErrOf result GrammarFault.TooLong ↔ (longest_file < length bytes.now) }
+    ensures too_long { IsErrOf result too_long ↔ (longest_file < length bytes.now) }
     // What is read is spelled.
     ensures found { IfOk result (λ v. SpellsSyntax bytes.now (views v.items)) }
     // Its lexemes are those of exactly one syntax tree.
@@ -99,16 +114,21 @@ pub fn read_syntax<'a>(alloc: Global, bytes: &'a [u8]) -> Result<Vec<Placed<'a>>
     // What is spelled is read.
     ensures only { (ls : List LexemeOf) → length bytes.now ≤ longest_file →
         SpellsSyntax bytes.now ls → Answers result (Ok ls) }
-    // The first fault of the file is answered, with its line.
+    // The first fault of the file is answered, with its line and its place.
     ensures fault { (r : Refusal) → length bytes.now ≤ longest_file → Outcome bytes.now (Err r) →
         Answers result (Err r) }
     // There is no other answer.
     ensures exact { length bytes.now ≤ longest_file → Gives bytes.now result }
     // Each lexeme stands at its place.
     ensures placed { IfOk result (λ v. StandIn bytes.now v.items) }
+    // Reading comes to the place of each with those before it.
+    ensures sites { IfOk result (λ v. StandFrom bytes.now [] (marks_in v.items)) }
 {
     if bytes.len() > LONGEST_FILE {
-        return Err(GrammarFault::TooLong);
+        return Err(PlacedFault {
+            fault: GrammarFault::TooLong,
+            at: 0,
+        });
     }
     read_lexemes(alloc, bytes)
 }

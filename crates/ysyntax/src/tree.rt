@@ -73,7 +73,7 @@ pub struct Listing<'a> {
     /// The word that begins the line.
     pub word: Word,
     /// The name of the tag.
-    pub tag: Option<&'a [u8]>,
+    pub tag: Option<NameAt<'a>>,
     /// The tokens, one or more.
     pub entries: Vec<Entry<'a>>,
 }
@@ -82,7 +82,7 @@ pub struct Listing<'a> {
 #[derive(Drop)]
 pub struct Types<'a> {
     /// The name of the tag.
-    pub tag: &'a [u8],
+    pub tag: NameAt<'a>,
     /// The names, one or more.
     pub names: Vec<NameAt<'a>>,
 }

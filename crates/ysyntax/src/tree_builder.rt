@@ -8,7 +8,7 @@ ghost use Rattle.std.specs.Prelude.{ℕ, ◌≡◌, ◌++◌, ◌∷◌, ◌<◌
 ghost use Rattle.std.specs.Prelude.{length, replicate, IfOk, IfSome, IsSome};
 ghost use Rattle.std.specs.List.{flat_map, AllByRecursion};
 ghost use Rattle.ylexemes.specs.declared.kind.Sign.TheVariants as sign;
-ghost use Rattle.ylexemes.specs.declared.kind.Sign.TheVariants.{Mark, Greater, Semicolon};
+ghost use Rattle.ylexemes.specs.declared.kind.Sign.TheVariants.{Mark, Greater, Semicolon, Start};
 ghost use Rattle.ysyntax.specs.declared.recogniser.State.TheVariants.{Declarations};
 ghost use Rattle.ysyntax.specs.declared.recogniser.State.TheVariants.{StartWord};
 ghost use Rattle.ysyntax.specs.declared.recogniser.State.TheVariants.{UnionWord, ListWord};
@@ -33,7 +33,11 @@ ghost use Rattle.ysyntax.specs.Tree.{end_yield, rule_text_yield, mark_yield, yie
 ghost use Rattle.ysyntax.specs.TreeTexts.{RuleTextStands, BodyPartStands, StandsAt};
 ghost use Rattle.ysyntax.specs.TreeViews.{braced_view, name_view, occurrence_view, digits_view};
 ghost use Rattle.ysyntax.specs.TreeViews.{word_view, entry_view, definition_view};
-ghost use Rattle.ysymbols.specs.Sources.{text_view};
+ghost use Rattle.ysyntax.specs.Sites.{each, mark, naming, prec_name, typed};
+ghost use Rattle.ysyntax.specs.SiteViews.{body_part_sites, definition_sites, digits_mark};
+ghost use Rattle.ysyntax.specs.SiteViews.{entry_sites, left_mark, left_marks, name_mark, name_site};
+ghost use Rattle.ysyntax.specs.SiteViews.{named_in, occurrence_mark, occurrence_site, one};
+ghost use Rattle.ysyntax.specs.SiteViews.{rule_text_sites, site_marks, tree_sites};
 ghost use Rattle.ysyntax.specs.TreeViews.{body_part_view, rule_text_view, tree_view};
 ghost use Rattle.ysymbols.specs.Sources.{option_view};
 
@@ -69,6 +73,7 @@ impl<'a> TreeBuilder<'_, 'a> {
         ensures place { IfSome result (λ n. n.at ≡ place_of self.old) }
         ensures taken { Takes name (option_view name_view result) (views self.old)
             (views self.new) }
+        ensures sites { named_in self.old ≡ one name_mark result ++ named_in self.new }
     {
         let [first, rest @ ..] = self.rest else {
             return None;
@@ -86,6 +91,7 @@ impl<'a> TreeBuilder<'_, 'a> {
         ensures place { IfSome result (λ d. d.at ≡ place_of self.old) }
         ensures taken { Takes number (option_view digits_view result) (views self.old)
             (views self.new) }
+        ensures sites { named_in self.old ≡ one digits_mark result ++ named_in self.new }
     {
         let [first, rest @ ..] = self.rest else {
             return None;
@@ -105,6 +111,7 @@ impl<'a> TreeBuilder<'_, 'a> {
     fn text(&mut self) -> Option<BracedText<'a>>
         ensures taken { Takes braced (option_view braced_view result) (views self.old)
             (views self.new) }
+        ensures sites { named_in self.old ≡ named_in self.new }
         ensures stands { (source : List ℕ) → StandIn source self.old →
             IfSome result (λ b. StandsAt source b) × StandIn source self.new }
     {
@@ -124,6 +131,7 @@ impl<'a> TreeBuilder<'_, 'a> {
         ensures place { IfSome result (λ m. m.at ≡ place_of self.old) }
         ensures taken { Takes identifier_yield (option_view occurrence_view result) (views self.old)
             (views self.new) }
+        ensures sites { named_in self.old ≡ one occurrence_mark result ++ named_in self.new }
         ensures stands { (source : List ℕ) → StandIn source self.old → StandIn source self.new }
     {
         let [first, rest @ ..] = self.rest else {
@@ -141,6 +149,8 @@ impl<'a> TreeBuilder<'_, 'a> {
     fn item(&mut self) -> Option<BodyPart<'a>>
         ensures taken { Takes body_part_yield (option_view body_part_view result) (views self.old)
             (views self.new) }
+        ensures sites { named_in self.old
+            ≡ site_marks (each body_part_sites result) ++ named_in self.new }
         ensures stands { (source : List ℕ) → StandIn source self.old →
             IfSome result (λ i. BodyPartStands source i) × StandIn source self.new }
     {
@@ -158,6 +168,7 @@ impl<'a> TreeBuilder<'_, 'a> {
         ensures place { IfSome result (λ left. IfSome left (λ n. n.at ≡ place_of self.old)) }
         ensures taken { Takes left_yield (option_view (λ n. option_view name_view n) result)
             (views self.old) (views self.new) }
+        ensures sites { named_in self.old ≡ left_marks result ++ named_in self.new }
         ensures stands { (source : List ℕ) → StandIn source self.old → StandIn source self.new }
     {
         let [first, rest @ ..] = self.rest else {
@@ -174,6 +185,7 @@ impl<'a> TreeBuilder<'_, 'a> {
 
     fn sign(&mut self, sign: Sign) -> bool
         ensures taken { TakesSign sign result (views self.old) (views self.new) }
+        ensures sites { (sign ≡ Start → ⊥) → named_in self.old ≡ named_in self.new }
         ensures stands { (source : List ℕ) → StandIn source self.old → StandIn source self.new }
     {
         let [first, rest @ ..] = self.rest else {
@@ -192,16 +204,17 @@ impl<'a> TreeBuilder<'_, 'a> {
 // Declarations. Behind a word, what it asks for is always there.
 impl<'a> TreeBuilder<'_, 'a> {
     /// The name of the tag in front, where one stands there.
-    fn tag(&mut self) -> Option<&'a [u8]>
-        ensures { TakesTag (text_view result) (views self.old) (views self.new) }
+    fn tag(&mut self) -> Option<NameAt<'a>>
+        ensures taken { TakesTag (option_view name_view result) (views self.old) (views self.new) }
+        ensures sites { named_in self.old ≡ one name_mark result ++ named_in self.new }
     {
-        let [less, name, greater, rest @ ..] = self.rest else {
+        let [less, tag, greater, rest @ ..] = self.rest else {
             return None;
         };
-        match (less.lexeme, name.lexeme, greater.lexeme) {
+        match (less.lexeme, tag.lexeme, greater.lexeme) {
             (Lexeme::Fixed(Sign::Less), Lexeme::Name(name), Lexeme::Fixed(Sign::Greater)) => {
                 self.rest = rest;
-                Some(name)
+                Some(NameAt { name, at: tag.at })
             }
             _ => None,
         }
@@ -214,6 +227,8 @@ impl<'a> TreeBuilder<'_, 'a> {
         ensures place { IfSome result.digits (λ d. d.at ≡ place_of self.old) }
         ensures whole { identifier_yield (occurrence_view who.entry) ∷ views self.old
             ≡ entry_yield (entry_view result) ++ views self.new }
+        ensures sites { occurrence_mark who.entry ∷ named_in self.old
+            ≡ site_marks (entry_sites result) ++ named_in self.new }
         ensures goes_on { GoesOn Numbered self.new }
     {
         let digits = self.digits();
@@ -225,6 +240,8 @@ impl<'a> TreeBuilder<'_, 'a> {
         requires { GoesOn ListTagged self.old }
         ensures whole { IfOk result (λ v. views self.old
             ≡ flat_map entry_yield (map entry_view v.items) ++ views self.new) }
+        ensures sites { IfOk result (λ v. named_in self.old
+            ≡ site_marks (flat_map entry_sites v.items) ++ named_in self.new) }
         ensures some { IfOk result (λ v. 0 < length v.items) }
         ensures goes_on { IfOk result (λ v. GoesOn Declarations self.new) }
     {
@@ -241,6 +258,8 @@ impl<'a> TreeBuilder<'_, 'a> {
         requires { GoesOn TypeTagged self.old }
         ensures whole { IfOk result (λ v. views self.old
             ≡ map name (map name_view v.items) ++ views self.new) }
+        ensures sites { IfOk result (λ v. named_in self.old
+            ≡ site_marks (map (name_site typed) v.items) ++ named_in self.new) }
         ensures some { IfOk result (λ v. 0 < length v.items) }
         ensures goes_on { IfOk result (λ v. GoesOn Declarations self.new) }
     {
@@ -254,7 +273,9 @@ impl<'a> TreeBuilder<'_, 'a> {
     /// A listing, behind its word.
     fn listing(&mut self, alloc: Global, word: Word) -> Result<Definition<'a>, AllocError>
         requires { GoesOn ListWord self.old }
-        ensures { IfOk result (λ d. IsRead (word_sign (word_view word)) d self.old self.new) }
+        ensures read { IfOk result (λ d. IsRead (word_sign (word_view word)) d self.old self.new) }
+        ensures sites { IfOk result (λ d. named_in self.old
+            ≡ site_marks (definition_sites d) ++ named_in self.new) }
     {
         let tag = self.tag();
         let entries = self.entries(alloc)?;
@@ -264,7 +285,9 @@ impl<'a> TreeBuilder<'_, 'a> {
     /// A tag and its names, behind `%type`.
     fn types(&mut self, alloc: Global) -> Result<Option<Definition<'a>>, AllocError>
         requires { GoesOn TypeWord self.old }
-        ensures { IfOk result (λ o. ReadsDeclaration sign.Types o self.old self.new) }
+        ensures read { IfOk result (λ o. ReadsDeclaration sign.Types o self.old self.new) }
+        ensures sites { IfOk result (λ o. named_in self.old
+            ≡ site_marks (each definition_sites o) ++ named_in self.new) }
     {
         let Some(tag) = self.tag() else {
             return Ok(None);
@@ -278,6 +301,8 @@ impl<'a> TreeBuilder<'_, 'a> {
         requires { GoesOn StartWord self.old }
         ensures place { IfSome result (λ d. DefinitionAt at d) }
         ensures read { ReadsDeclaration sign.Start result self.old self.new }
+        ensures sites { mark (fixed sign.Start) at ∷ named_in self.old
+            ≡ site_marks (each definition_sites result) ++ named_in self.new }
     {
         let symbol = self.occurrence()?;
         Some(Definition::Start(symbol, at))
@@ -286,7 +311,9 @@ impl<'a> TreeBuilder<'_, 'a> {
     /// A kept text, behind `%union`.
     fn union_text(&mut self) -> Option<Definition<'a>>
         requires { GoesOn UnionWord self.old }
-        ensures { ReadsDeclaration sign.Union result self.old self.new }
+        ensures read { ReadsDeclaration sign.Union result self.old self.new }
+        ensures sites { named_in self.old
+            ≡ site_marks (each definition_sites result) ++ named_in self.new }
     {
         let text = self.text()?;
         Some(Definition::Union(text))
@@ -303,6 +330,8 @@ impl<'a> TreeBuilder<'_, 'a> {
         requires { run Declarations (sign_kind word ∷ kinds (views self.old)) ≡ true }
         ensures place { IfOk result (λ o. IfSome o (λ d. DefinitionAt at d)) }
         ensures read { IfOk result (λ o. ReadsOrMark o (fixed word ∷ views self.old) self.new) }
+        ensures sites { IfOk result (λ o. naming (fixed word) at ++ named_in self.old
+            ≡ site_marks (each definition_sites o) ++ named_in self.new) }
     {
         match word {
             Sign::Start => Ok(self.start(at)),
@@ -321,6 +350,8 @@ impl<'a> TreeBuilder<'_, 'a> {
         requires { GoesOn Declarations self.old }
         ensures place { IfOk result (λ o. IfSome o (λ d. DefinitionAt (place_of self.old) d)) }
         ensures read { IfOk result (λ o. ReadsOrMark o (views self.old) self.new) }
+        ensures sites { IfOk result (λ o. named_in self.old
+            ≡ site_marks (each definition_sites o) ++ named_in self.new) }
     {
         let [first, rest @ ..] = self.rest else {
             return Ok(None);
@@ -339,6 +370,8 @@ impl<'a> TreeBuilder<'_, 'a> {
         ensures whole { IfOk result (λ v. views self.old
             ≡ flat_map definition_yield (map definition_view v.items) ++ fixed Mark
             ∷ views self.new) }
+        ensures sites { IfOk result (λ v. named_in self.old
+            ≡ site_marks (flat_map definition_sites v.items) ++ named_in self.new) }
         ensures shaped { IfOk result
             (λ v. AllByRecursion IsDefinition (map definition_view v.items)) }
         ensures goes_on { IfOk result (λ v. GoesOn RulesMark self.new) }
@@ -358,6 +391,8 @@ impl<'a> TreeBuilder<'_, 'a> {
         ensures whole { IfOk result (λ v. views self.old ≡ map body_part_yield
             (map body_part_view v.items)
             ++ views self.new) }
+        ensures sites { IfOk result (λ v. named_in self.old
+            ≡ site_marks (flat_map body_part_sites v.items) ++ named_in self.new) }
         ensures ended { IfOk result (λ v. NoBodyPart (views self.new)) }
         ensures goes_on { IfOk result (λ v. GoesOn Body self.new) }
         ensures stands { IfOk result (λ v. (source : List ℕ) → StandIn source self.old →
@@ -377,6 +412,8 @@ impl<'a> TreeBuilder<'_, 'a> {
         ensures whole { views self.old
             ≡ end_yield (option_view occurrence_view result.0) (option_view braced_view result.1) 0
             ++ views self.new }
+        ensures sites { named_in self.old
+            ≡ site_marks (one (occurrence_site prec_name) result.0) ++ named_in self.new }
         ensures shaped { IsSome (option_view braced_view result.1) →
             IsSome (option_view occurrence_view result.0) }
         ensures goes_on { GoesOn Semicolons self.new }
@@ -395,6 +432,7 @@ impl<'a> TreeBuilder<'_, 'a> {
     fn semicolons(&mut self) -> usize
         requires { GoesOn Semicolons self.old }
         ensures whole { views self.old ≡ replicate result (fixed Semicolon) ++ views self.new }
+        ensures sites { named_in self.old ≡ named_in self.new }
         ensures ended { NoSign Semicolon (views self.new) }
         ensures goes_on { GoesOn Semicolons self.new }
         ensures stands { (source : List ℕ) → StandIn source self.old → StandIn source self.new }
@@ -413,6 +451,8 @@ impl<'a> TreeBuilder<'_, 'a> {
         requires { GoesOn Body self.old }
         ensures whole { IfOk result (λ c. left_yield (option_view name_view left.entry)
             ∷ views self.old ≡ rule_text_yield (rule_text_view c) ++ views self.new) }
+        ensures sites { IfOk result (λ c. one left_mark left.entry ++ named_in self.old
+            ≡ site_marks (rule_text_sites c) ++ named_in self.new) }
         ensures left { IfOk result (λ c. c.left ≡ left.entry) }
         ensures shaped { IfOk result (λ c. IsRuleText (rule_text_view c)) }
         ensures ended { IfOk result (λ c. NoSign Semicolon (views self.new)) }
@@ -437,6 +477,8 @@ impl<'a> TreeBuilder<'_, 'a> {
         requires { GoesOn RulesMark self.old }
         ensures whole { IfOk result (λ v. views self.old
             ≡ flat_map rule_text_yield (map rule_text_view v.items) ++ views self.new) }
+        ensures sites { IfOk result (λ v. named_in self.old
+            ≡ site_marks (flat_map rule_text_sites v.items) ++ named_in self.new) }
         ensures shaped { IfOk result (λ v. AllByRecursion IsRuleText (map rule_text_view v.items)) }
         ensures first { IfOk result (λ v. BeginsWithName (map rule_text_view v.items)) }
         ensures ended { IfOk result (λ v. (b : Bool) × (views self.new ≡ mark_yield b)) }
@@ -457,6 +499,8 @@ pub fn build_tree<'a>(alloc: Global, lexemes: &[Placed<'a>]) -> Result<Tree<'a>,
     requires { IsSpec (kinds (views lexemes.now)) }
     ensures whole { IfOk result (λ t. views lexemes.now ≡ yield (tree_view t)) }
     ensures shaped { IfOk result (λ t. IsTree (tree_view t)) }
+    // What names something in the lexemes has its place in the tree.
+    ensures sites { IfOk result (λ t. named_in lexemes.now ≡ site_marks (tree_sites t)) }
     ensures stands { IfOk result (λ t. (source : List ℕ) → StandIn source lexemes.now →
         AllByRecursion (RuleTextStands source) t.rule_texts.items) }
 {

@@ -1,35 +1,34 @@
-use Rattle.std.proofs.Common.{refl, sym, ap, ◌∙◌, ◌-◌, length, subst}
-use Rattle.ysyntax.specs.Answers.{Fails}
+use Rattle.std.proofs.Common.{refl, sym, ap, ◌∙◌, ◌-◌, length}
 use Rattle.ylexemes.specs.Front.{blank, comment}
 use Rattle.ylexemes.specs.Views.{lexeme_view}
 use Rattle.ysyntax.specs.Recogniser.{next_state}
 use Rattle.ysyntax.proofs.Coming.{comes_shorter, empty_is, goes_gap, goes_lexeme, place}
-use Rattle.ysyntax.proofs.Coming.{stops_early, stops_ended, placed_more, stops_lexical}
+use Rattle.ysyntax.proofs.Coming.{stops_early, stops_ended, placed_more, sites_more, stops_lexical}
 use Rattle.ysyntax.proofs.Coming.{stops_marked, stops_stray}
 use Rattle.ysyntax.proofs.lexer.read_lexemes.Goals as goal
 
-pub line_of-requires : goal.line_of-requires
-line_of-requires c = place c.args.bytes.now c.parts.rest.now c.parts.lexemes.items c.parts.state
+pub stopped-requires : goal.stopped-requires
+stopped-requires c = place c.args.bytes.now c.parts.rest.now c.parts.lexemes.items c.parts.state
     c.parts.invariant
 
 pub returns-in-Err-clause-outcome : goal.returns-in-Err-clause-outcome
 returns-in-Err-clause-outcome c =
-    subst (λ e. Fails e c.args.bytes.now) (sym c.at_line.ensures)
-    (stops_lexical c.args.bytes.now c.parts.rest.now c.parts.lexemes.items c.parts.state
-    c.in-Err.fault c.line_of.result c.parts.invariant c.in-Err.ensures c.line_of.ensures)
+    stops_lexical c.args.bytes.now c.parts.rest.now c.parts.lexemes.items c.parts.state
+    c.in-Err.fault c.stopped.result c.parts.invariant c.in-Err.ensures
+    (c.stopped.ensures.line, c.stopped.ensures.place)
 
-pub line_of-requires-in-None : goal.line_of-requires-in-None
-line_of-requires-in-None c = place c.args.bytes.now c.parts.rest.now c.parts.lexemes.items
+pub stopped-requires-in-None : goal.stopped-requires-in-None
+stopped-requires-in-None c = place c.args.bytes.now c.parts.rest.now c.parts.lexemes.items
     c.parts.state c.parts.invariant
 
 pub returns-in-None-clause-outcome : goal.returns-in-None-clause-outcome
 returns-in-None-clause-outcome c =
     let part = rw c.in-Lexeme.is at c.in-Ok.ensures in
     stops_stray c.args.bytes.now c.parts.rest.now c.in-Ok.found.1.now c.parts.lexemes.items
-    c.parts.state (lexeme_view c.in-Lexeme.lexeme) c.line_of-in-None.result c.parts.invariant
+    c.parts.state (lexeme_view c.in-Lexeme.lexeme) c.stopped-in-None.result c.parts.invariant
     part
     (ap (next_state c.parts.state) (sym c.kind.ensures) ∙ sym c.in-None.ensures)
-    c.line_of-in-None.ensures
+    (c.stopped-in-None.ensures.line, c.stopped-in-None.ensures.place)
 
 pub overflow_sub-at : goal.overflow_sub-at
 overflow_sub-at c = comes_shorter c.args.bytes.now c.parts.rest.now c.parts.lexemes.items
@@ -80,21 +79,33 @@ returns-then-is_final-clause-outcome c =
     (empty_is c.parts.rest.now c.is_empty.result c.is_empty.ensures c.parts-test.false)
     (sym c.is_final.ensures ∙ c.if-is_final.true)
 
-pub line_of-requires-else-is_final : goal.line_of-requires-else-is_final
-line_of-requires-else-is_final c = place c.args.bytes.now c.parts.rest.now c.parts.lexemes.items
+pub stopped-requires-else-is_final : goal.stopped-requires-else-is_final
+stopped-requires-else-is_final c = place c.args.bytes.now c.parts.rest.now c.parts.lexemes.items
     c.parts.state c.parts.invariant
 
 pub returns-clause-outcome : goal.returns-clause-outcome
 returns-clause-outcome c =
     stops_early c.args.bytes.now c.parts.rest.now c.parts.lexemes.items c.parts.state
-    c.line_of-else-is_final.result c.parts.invariant
+    c.stopped-else-is_final.result c.parts.invariant
     (empty_is c.parts.rest.now c.is_empty.result c.is_empty.ensures c.parts-test.false)
-    (sym c.is_final.ensures ∙ c.if-is_final.false) c.line_of-else-is_final.ensures
+    (sym c.is_final.ensures ∙ c.if-is_final.false)
+    (c.stopped-else-is_final.ensures.line, c.stopped-else-is_final.ensures.place)
 
 pub returns-then-is_end-clause-placed : goal.returns-then-is_end-clause-placed
 returns-then-is_end-clause-placed c =
     let part = rw c.in-Lexeme.is at c.in-Ok.ensures in
     placed_more c.args.bytes.now c.parts.rest.now c.in-Ok.found.1.now c.parts.lexemes.items
+    c.push.new.self.items c.parts.state
+    (record {
+      lexeme = c.in-Lexeme.lexeme;
+      at = length c.args.bytes.now - length
+          c.parts.rest.now;
+    }) c.parts.invariant part refl c.in_ok-push-in-Lexeme.ensures.items
+
+pub returns-then-is_end-clause-sites : goal.returns-then-is_end-clause-sites
+returns-then-is_end-clause-sites c =
+    let part = rw c.in-Lexeme.is at c.in-Ok.ensures in
+    sites_more c.args.bytes.now c.parts.rest.now c.in-Ok.found.1.now c.parts.lexemes.items
     c.push.new.self.items c.parts.state
     (record {
       lexeme = c.in-Lexeme.lexeme;

@@ -10,6 +10,8 @@ use Rattle.ylexemes.specs.Lexemes.{Lexeme, fixed}
 use Rattle.ysyntax.specs.Tree.{rule_text_yield, definition_yield}
 use Rattle.ysyntax.specs.TreeViews.{rule_text_view, definition_view}
 use Rattle.ysyntax.proofs.Accepted.{recognised}
+use Rattle.ysyntax.specs.SiteViews.{definition_sites, named_in, rule_text_sites, site_marks}
+use Rattle.ysyntax.proofs.SiteSteps.{mark_named, named_behind, two_pieces}
 use Rattle.ysyntax.proofs.TreeSteps.{Goes, all_behind, end_marked, left_behind}
 use Rattle.ysyntax.proofs.tree_builder.build_tree.Goals as goal
 
@@ -56,6 +58,27 @@ returns-clause-whole c =
     ∙ ap (λ (x : List Lexeme). front ++ fixed Mark ∷ x)
     (sym same ∙ c.in_ok-rule_texts.ensures.whole
     ∙ ap (λ (x : List Lexeme). rules ++ x) (sym (ap views left) ∙ marked))
+
+pub returns-clause-sites : goal.returns-clause-sites
+returns-clause-sites c =
+    let rest : c.front.inside.rest.now ≡ c.definitions.new.self = c.front.view_is in
+    let n = length c.args.lexemes.now - length c.front.inside.rest.now in
+    let cut : views (drop n c.args.lexemes.now) ≡ views c.definitions.new.self =
+    ap (λ (x : List Placed). views
+    (drop (length c.args.lexemes.now - length x) c.args.lexemes.now)) rest ∙
+    (left_behind c.args.lexemes.now c.definitions.new.self (flat_map definition_yield
+    (map definition_view c.in_ok-definitions.definitions.items)) (fixed Mark)
+    c.in_ok-definitions.ensures.whole).1 in
+    let behind : named_in c.split_at.result.1.now ≡ named_in c.definitions.new.self =
+    ap named_in c.split_at.ensures.back ∙ named_behind n c.args.lexemes.now c.definitions.new.self
+    (site_marks (flat_map definition_sites c.in_ok-definitions.definitions.items))
+    c.in_ok-definitions.ensures.sites cut in
+    let (b, ended) = c.in_ok-rule_texts.ensures.ended in
+    two_pieces (flat_map definition_sites c.in_ok-definitions.definitions.items)
+    (flat_map rule_text_sites c.in_ok-rule_texts.rule_texts.items) (named_in c.args.lexemes.now)
+    (named_in c.definitions.new.self) (named_in c.rule_texts.new.self)
+    c.in_ok-definitions.ensures.sites (sym behind ∙ c.in_ok-rule_texts.ensures.sites)
+    (mark_named b c.rule_texts.new.self ended)
 
 pub returns-clause-stands : goal.returns-clause-stands
 returns-clause-stands c = λ source h.

@@ -5,7 +5,8 @@ use Rattle.ysyntax.specs.Tree.{IsRuleText, rule_text_yield, left_yield, end_yiel
 use Rattle.ysyntax.specs.TreeTexts.{RuleTextStands}
 use Rattle.ysyntax.specs.TreeViews.{rule_text_view}
 use Rattle.ysyntax.proofs.TreeSteps.{all_more, rules_begin, rules_end, first_keeps, first_there}
-use Rattle.ysyntax.proofs.TreeSteps.{one_more_piece, one_more_shaped, shorter}
+use Rattle.ysyntax.specs.SiteViews.{named_in, rule_text_sites, site_marks}
+use Rattle.ysyntax.proofs.TreeSteps.{one_more_piece, one_more_shaped, one_more_site, shorter}
 use Rattle.ysyntax.proofs.tree_builder.TreeBuilder.rule_texts.Goals as goal
 
 pub rules-init : goal.rules-init
@@ -13,6 +14,8 @@ rules-init c =
     let b = rules_begin (views c.args.self.now) c.requires in
     record {
       whole = ap (λ z. flat_map rule_text_yield (map rule_text_view z) ++ views c.args.self.now)
+          (sym c.new-rule_texts.ensures.items);
+      sites = ap (λ z. site_marks (flat_map rule_text_sites z) ++ named_in c.args.self.now)
           (sym c.new-rule_texts.ensures.items);
       shaped = subst (λ z. AllByRecursion IsRuleText (map rule_text_view z))
           (sym c.new-rule_texts.ensures.items) tt;
@@ -43,6 +46,9 @@ rules-preserved c =
           c.push.new.self.items x
           (views c.args.self.now) (views c.rules.self) (views c.rule_text.new.self)
           c.rules.invariant.whole (c.in-Some.ensures.taken ∙ e.whole) c.in_ok-push.ensures.items;
+      sites = one_more_site rule_text_sites c.rules.rule_texts.items c.push.new.self.items x
+          (named_in c.args.self.now) (named_in c.rules.self) (named_in c.rule_text.new.self)
+          c.rules.invariant.sites (c.in-Some.ensures.sites ∙ e.sites) c.in_ok-push.ensures.items;
       shaped = one_more_shaped IsRuleText rule_text_view c.rules.rule_texts.items
           c.push.new.self.items x
           c.rules.invariant.shaped e.shaped c.in_ok-push.ensures.items;

@@ -1,0 +1,289 @@
+-- The lists of a file are those of its sites.
+use Rattle.std.proofs.Common.{ℕ, ◌≡◌, Bool, true, false, List, [], ◌∷◌, ◌++◌, map, Option, Some, None}
+use Rattle.std.proofs.Common.{refl, sym, ap, subst, ◌∙◌, append-nil}
+use Rattle.std.proofs.lemmas.List.Elements.{filter_map-append}
+use Rattle.std.proofs.lemmas.List.{map-append}
+use Rattle.std.specs.List.{flat_map, AllByRecursion}
+use Rattle.ysymbols.specs.Sources.{option_view}
+use Rattle.youtline.specs.declared.outline.Listed.{Listed}
+use Rattle.youtline.specs.declared.outline.Started.{Started}
+use Rattle.ysyntax.specs.Tree.{Identifier}
+use Rattle.youtline.specs.Elaboration.{option_list}
+use Rattle.youtline.specs.OutlineSites.{entries_in, is_of_rule, left_of, lefts_in, listed_entry}
+use Rattle.youtline.specs.OutlineSites.{listed_of, name_at, occurrence_at, prec_of, precs_in, start_at}
+use Rattle.youtline.specs.OutlineSites.{starts_in, symbol_in, typed_in, typed_of, use_of, used_in}
+use Rattle.youtline.specs.Places.{select, start_of}
+use Rattle.ysyntax.specs.declared.tree.BodyPart.{BodyPart as CodeBodyPart}
+use Rattle.ysyntax.specs.declared.tree.BodyPart.TheVariants as items
+use Rattle.ysyntax.specs.declared.tree.Definition.{Definition as CodeDefinition}
+use Rattle.ysyntax.specs.declared.tree.Definition.TheVariants as definitions
+use Rattle.ysyntax.specs.declared.tree.Digits.{Digits}
+use Rattle.ysyntax.specs.declared.tree.Entry.{Entry as CodeEntry}
+use Rattle.ysyntax.specs.declared.tree.NameAt.{NameAt}
+use Rattle.ysyntax.specs.declared.tree.Occurrence.{Occurrence}
+use Rattle.ysyntax.specs.declared.tree.RuleText.{RuleText as CodeRuleText}
+use Rattle.ysyntax.specs.Sites.{Role, Site, prec_name, tag, typed, left_side}
+use Rattle.ysyntax.specs.SiteViews.{body_part_sites, definition_sites, digits_site, entry_sites}
+use Rattle.ysyntax.specs.SiteViews.{name_site, occurrence_site, one, rule_text_sites}
+
+-- ---- piece by piece
+
+select_append : {A : Type 0} (f : Role → Option A) (xs ys : List Site) →
+    select f (xs ++ ys) ≡ select f xs ++ select f ys
+select_append {A = A} f xs ys =
+    filter_map-append (λ (s : Site). option_view (λ (x : A). (x, s.at)) (f s.role)) xs ys
+
+-- where each piece has what stands in it, all have
+gather : {X Y A : Type 0} (f : Role → Option A) (g : X → List Site) (h : X → List Y)
+    (v : Y → A × ℕ) → ((x : X) → map v (h x) ≡ select f (g x)) → (xs : List X) →
+    map v (flat_map h xs) ≡ select f (flat_map g xs)
+gather f g h v same [] = refl
+gather f g h v same (x ∷ xs) = map-append v (h x) (flat_map h xs)
+    ∙ ap (λ z. z ++ map v (flat_map h xs)) (same x)
+    ∙ ap (λ z. select f (g x) ++ z) (gather f g h v same xs)
+    ∙ sym (select_append f (g x) (flat_map g xs))
+
+-- where no piece has any, there is none
+gather_none : {X A : Type 0} (f : Role → Option A) (g : X → List Site) →
+    ((x : X) → select f (g x) ≡ []) → (xs : List X) → select f (flat_map g xs) ≡ []
+gather_none f g same [] = refl
+gather_none f g same (x ∷ xs) = select_append f (g x) (flat_map g xs)
+    ∙ ap (λ z. z ++ select f (flat_map g xs)) (same x) ∙ gather_none f g same xs
+
+-- two pieces that have none, and the second alone
+behind_none : {A : Type 0} (f : Role → Option A) (xs ys : List Site) → select f xs ≡ [] →
+    select f (xs ++ ys) ≡ select f ys
+behind_none f xs ys e = select_append f xs ys ∙ ap (λ z. z ++ select f ys) e
+
+all_append : (P : Site → Type 0) (xs ys : List Site) → AllByRecursion P xs → AllByRecursion P ys →
+    AllByRecursion P (xs ++ ys)
+all_append P [] ys a b = b
+all_append P (x ∷ xs) ys a b = (a.0, all_append P xs ys a.1 b)
+
+all_pieces : {X : Type 0} (P : Site → Type 0) (g : X → List Site) →
+    ((x : X) → AllByRecursion P (g x)) → (xs : List X) → AllByRecursion P (flat_map g xs)
+all_pieces P g each [] = tt
+all_pieces P g each (x ∷ xs) = all_append P (g x) (flat_map g xs) (each x)
+    (all_pieces P g each xs)
+
+-- ---- declarations
+
+abbrev OfDeclaration : Site → Type 0
+OfDeclaration s = is_of_rule s.role ≡ false
+
+tag_no_type : (o : Option NameAt) → select typed_of (one (name_site tag) o) ≡ []
+tag_no_type None = refl
+tag_no_type (Some n) = refl
+
+entry_no_type : (e : CodeEntry) → select typed_of (entry_sites e) ≡ []
+entry_no_type e = go e.digits
+  where
+    go : (o : Option Digits) → select typed_of (one digits_site o) ≡ []
+    go None = refl
+    go (Some d) = refl
+
+names_typed : (ns : List NameAt) → map name_at ns ≡ select typed_of (map (name_site typed) ns)
+names_typed [] = refl
+names_typed (n ∷ ns) = ap (λ z. name_at n ∷ z) (names_typed ns)
+
+typed_piece : (d : CodeDefinition) → map name_at (typed_in d) ≡ select typed_of (definition_sites d)
+typed_piece (definitions.Types t) = names_typed t.names.items
+typed_piece (definitions.Start m at) = refl
+typed_piece (definitions.Union t) = refl
+typed_piece definitions.Block = refl
+typed_piece (definitions.Listing l) =
+    sym (behind_none typed_of (one (name_site tag) l.tag) (flat_map entry_sites l.entries.items)
+    (tag_no_type l.tag) ∙ gather_none typed_of entry_sites entry_no_type l.entries.items)
+
+tag_no_start : (o : Option NameAt) → select start_of (one (name_site tag) o) ≡ []
+tag_no_start None = refl
+tag_no_start (Some n) = refl
+
+entry_no_start : (e : CodeEntry) → select start_of (entry_sites e) ≡ []
+entry_no_start e = go e.digits
+  where
+    go : (o : Option Digits) → select start_of (one digits_site o) ≡ []
+    go None = refl
+    go (Some d) = refl
+
+names_no_start : (ns : List NameAt) → select start_of (map (name_site typed) ns) ≡ []
+names_no_start [] = refl
+names_no_start (n ∷ ns) = names_no_start ns
+
+start_piece : (d : CodeDefinition) → map start_at (starts_in d) ≡ select start_of (definition_sites d)
+start_piece (definitions.Types t) = sym (names_no_start t.names.items)
+start_piece (definitions.Start m at) = refl
+start_piece (definitions.Union t) = refl
+start_piece definitions.Block = refl
+start_piece (definitions.Listing l) =
+    sym (behind_none start_of (one (name_site tag) l.tag) (flat_map entry_sites l.entries.items)
+    (tag_no_start l.tag) ∙ gather_none start_of entry_sites entry_no_start l.entries.items)
+
+abbrev entry_at : CodeEntry → Identifier × ℕ
+entry_at e = occurrence_at e.who
+
+tag_no_token : (o : Option NameAt) → select listed_of (one (name_site tag) o) ≡ []
+tag_no_token None = refl
+tag_no_token (Some n) = refl
+
+digits_no_token : (o : Option Digits) → select listed_of (one digits_site o) ≡ []
+digits_no_token None = refl
+digits_no_token (Some d) = refl
+
+names_no_token : (ns : List NameAt) → select listed_of (map (name_site typed) ns) ≡ []
+names_no_token [] = refl
+names_no_token (n ∷ ns) = names_no_token ns
+
+entries_listed : (es : List CodeEntry) →
+    map entry_at es ≡ select listed_of (flat_map entry_sites es)
+entries_listed [] = refl
+entries_listed (e ∷ es) = ap (λ z. entry_at e ∷ z) (entries_listed es
+    ∙ sym (behind_none listed_of (one digits_site e.digits) (flat_map entry_sites es)
+    (digits_no_token e.digits)))
+
+listed_piece : (d : CodeDefinition) →
+    map entry_at (entries_in d) ≡ select listed_of (definition_sites d)
+listed_piece (definitions.Types t) = sym (names_no_token t.names.items)
+listed_piece (definitions.Start m at) = refl
+listed_piece (definitions.Union t) = refl
+listed_piece definitions.Block = refl
+listed_piece (definitions.Listing l) = entries_listed l.entries.items
+    ∙ sym (behind_none listed_of (one (name_site tag) l.tag) (flat_map entry_sites l.entries.items)
+    (tag_no_token l.tag))
+
+declaration_piece : (d : CodeDefinition) → AllByRecursion OfDeclaration (definition_sites d)
+declaration_piece (definitions.Types t) = (refl, go t.names.items)
+  where
+    go : (ns : List NameAt) → AllByRecursion OfDeclaration (map (name_site typed) ns)
+    go [] = tt
+    go (n ∷ ns) = (refl, go ns)
+declaration_piece (definitions.Start m at) = (refl, (refl, tt))
+declaration_piece (definitions.Union t) = tt
+declaration_piece definitions.Block = tt
+declaration_piece (definitions.Listing l) =
+    all_append OfDeclaration (one (name_site tag) l.tag) (flat_map entry_sites l.entries.items)
+    (tagged l.tag) (all_pieces OfDeclaration entry_sites (λ e. (refl, numbered e.digits))
+    l.entries.items)
+  where
+    tagged : (o : Option NameAt) → AllByRecursion OfDeclaration (one (name_site tag) o)
+    tagged None = tt
+    tagged (Some n) = (refl, tt)
+
+    numbered : (o : Option Digits) → AllByRecursion OfDeclaration (one digits_site o)
+    numbered None = tt
+    numbered (Some d) = (refl, tt)
+
+-- the sites of declarations are of no rule
+pub of_declarations : (ds : List CodeDefinition) →
+    AllByRecursion (λ s. is_of_rule s.role ≡ false) (flat_map definition_sites ds)
+of_declarations ds = all_pieces OfDeclaration definition_sites declaration_piece ds
+
+pub typed_sites : (ds : List CodeDefinition) (xs : List NameAt) → xs ≡ flat_map typed_in ds →
+    map name_at xs ≡ select typed_of (flat_map definition_sites ds)
+typed_sites ds xs e = ap (λ (z : List NameAt). map name_at z) e
+    ∙ gather typed_of definition_sites typed_in name_at typed_piece ds
+
+pub start_sites : (ds : List CodeDefinition) (xs : List Started) → xs ≡ flat_map starts_in ds →
+    map start_at xs ≡ select start_of (flat_map definition_sites ds)
+start_sites ds xs e = ap (λ (z : List Started). map start_at z) e
+    ∙ gather start_of definition_sites starts_in start_at start_piece ds
+
+pub listed_sites : (ds : List CodeDefinition) (xs : List Listed) →
+    map listed_entry xs ≡ flat_map entries_in ds →
+    map (λ (l : Listed). occurrence_at l.who) xs ≡ select listed_of (flat_map definition_sites ds)
+listed_sites ds xs e = seen xs ∙ ap (λ (z : List CodeEntry). map entry_at z) e
+    ∙ gather listed_of definition_sites entries_in entry_at listed_piece ds
+  where
+    seen : (xs : List Listed) →
+        map (λ (l : Listed). occurrence_at l.who) xs ≡ map entry_at (map listed_entry xs)
+    seen [] = refl
+    seen (x ∷ xs) = ap (λ z. occurrence_at x.who ∷ z) (seen xs)
+
+-- ---- rules
+
+abbrev OfRule : Site → Type 0
+OfRule s = is_of_rule s.role ≡ true
+
+-- what stands behind the left side of a rule
+abbrev tail_sites : List CodeBodyPart → Option Occurrence → List Site
+tail_sites bs p = flat_map body_part_sites bs ++ one (occurrence_site prec_name) p
+
+tail_no_left : (bs : List CodeBodyPart) (p : Option Occurrence) → select left_of (tail_sites bs p) ≡ []
+tail_no_left [] None = refl
+tail_no_left [] (Some m) = refl
+tail_no_left (items.Symbol m ∷ bs) p = tail_no_left bs p
+tail_no_left (items.Action b ∷ bs) p = tail_no_left bs p
+
+left_piece : (c : CodeRuleText) → map name_at (lefts_in c) ≡ select left_of (rule_text_sites c)
+left_piece c = go c.left
+  where
+    go : (o : Option NameAt) → map name_at (option_list o)
+        ≡ select left_of (one (name_site left_side) o ++ tail_sites c.body.items c.prec)
+    go None = sym (tail_no_left c.body.items c.prec)
+    go (Some n) = ap (λ z. name_at n ∷ z) (sym (tail_no_left c.body.items c.prec))
+
+left_no_use : (o : Option NameAt) → select use_of (one (name_site left_side) o) ≡ []
+left_no_use None = refl
+left_no_use (Some n) = refl
+
+tail_uses : (bs : List CodeBodyPart) (p : Option Occurrence) →
+    map occurrence_at (flat_map symbol_in bs ++ option_list p) ≡ select use_of (tail_sites bs p)
+tail_uses [] None = refl
+tail_uses [] (Some m) = refl
+tail_uses (items.Symbol m ∷ bs) p = ap (λ z. occurrence_at m ∷ z) (tail_uses bs p)
+tail_uses (items.Action b ∷ bs) p = tail_uses bs p
+
+use_piece : (c : CodeRuleText) → map occurrence_at (used_in c) ≡ select use_of (rule_text_sites c)
+use_piece c = tail_uses c.body.items c.prec
+    ∙ sym (behind_none use_of (one (name_site left_side) c.left) (tail_sites c.body.items c.prec)
+    (left_no_use c.left))
+
+left_no_prec : (o : Option NameAt) → select prec_of (one (name_site left_side) o) ≡ []
+left_no_prec None = refl
+left_no_prec (Some n) = refl
+
+tail_precs : (bs : List CodeBodyPart) (p : Option Occurrence) →
+    map occurrence_at (option_list p) ≡ select prec_of (tail_sites bs p)
+tail_precs [] None = refl
+tail_precs [] (Some m) = refl
+tail_precs (items.Symbol m ∷ bs) p = tail_precs bs p
+tail_precs (items.Action b ∷ bs) p = tail_precs bs p
+
+prec_piece : (c : CodeRuleText) → map occurrence_at (precs_in c) ≡ select prec_of (rule_text_sites c)
+prec_piece c = tail_precs c.body.items c.prec
+    ∙ sym (behind_none prec_of (one (name_site left_side) c.left) (tail_sites c.body.items c.prec)
+    (left_no_prec c.left))
+
+rule_piece : (c : CodeRuleText) → AllByRecursion OfRule (rule_text_sites c)
+rule_piece c = all_append OfRule (one (name_site left_side) c.left) (tail_sites c.body.items c.prec)
+    (left c.left) (tail c.body.items c.prec)
+  where
+    left : (o : Option NameAt) → AllByRecursion OfRule (one (name_site left_side) o)
+    left None = tt
+    left (Some n) = (refl, tt)
+
+    tail : (bs : List CodeBodyPart) (p : Option Occurrence) → AllByRecursion OfRule (tail_sites bs p)
+    tail [] None = tt
+    tail [] (Some m) = (refl, tt)
+    tail (items.Symbol m ∷ bs) p = (refl, tail bs p)
+    tail (items.Action b ∷ bs) p = tail bs p
+
+-- the sites of rules are those
+pub of_rules : (cs : List CodeRuleText) →
+    AllByRecursion (λ s. is_of_rule s.role ≡ true) (flat_map rule_text_sites cs)
+of_rules cs = all_pieces OfRule rule_text_sites rule_piece cs
+
+pub left_sites : (cs : List CodeRuleText) (xs : List NameAt) → xs ≡ flat_map lefts_in cs →
+    map name_at xs ≡ select left_of (flat_map rule_text_sites cs)
+left_sites cs xs e = ap (λ (z : List NameAt). map name_at z) e
+    ∙ gather left_of rule_text_sites lefts_in name_at left_piece cs
+
+pub use_sites : (cs : List CodeRuleText) (xs : List Occurrence) → xs ≡ flat_map used_in cs →
+    map occurrence_at xs ≡ select use_of (flat_map rule_text_sites cs)
+use_sites cs xs e = ap (λ (z : List Occurrence). map occurrence_at z) e
+    ∙ gather use_of rule_text_sites used_in occurrence_at use_piece cs
+
+pub prec_sites : (cs : List CodeRuleText) (xs : List Occurrence) → xs ≡ flat_map precs_in cs →
+    map occurrence_at xs ≡ select prec_of (flat_map rule_text_sites cs)
+prec_sites cs xs e = ap (λ (z : List Occurrence). map occurrence_at z) e
+    ∙ gather prec_of rule_text_sites precs_in occurrence_at prec_piece cs

@@ -1,0 +1,63 @@
+-- Where the mistakes of a file stand, by the sites of its tree.
+use Rattle.std.specs.Prelude.{ℕ, ◌≡◌, ◌⊎◌, Bool, true, false, not, List, [], ◌∷◌, map, Option, Some}
+use Rattle.std.specs.Prelude.{None}
+use Rattle.std.specs.List.{filter_map, last_or}
+use Rattle.youtline.specs.declared.mistake.Mistake.{Mistake}
+use Rattle.youtline.specs.declared.mistake.Mistake.TheVariants.{TokenLeft, Undefined}
+use Rattle.youtline.specs.declared.mistake.Mistake.TheVariants.{TwicePrecedence, BadNumber}
+use Rattle.youtline.specs.declared.mistake.Mistake.TheVariants.{BadStart, Unproductive}
+use Rattle.youtline.specs.declared.mistake.Mistake.TheVariants.{BadPrec}
+use Rattle.youtline.specs.declared.mistake.Mistake.TheVariants.{Limit}
+use Rattle.youtline.specs.Elaboration.{is_nonterminal, is_token, symbols}
+use Rattle.youtline.specs.Printed.{printed_name}
+use Rattle.ysymbols.specs.Names.{is_among}
+use Rattle.ysymbols.specs.Sources.{option_view}
+use Rattle.ysyntax.specs.Sites.{Role, Site, start_word, used, prec_name, typed, left_side}
+use Rattle.ysyntax.specs.Tree.{Tree}
+
+-- what the sites of some kind are, each with its place
+abbrev pub select : {A : Type 0} → (Role → Option A) → List Site → List (A × ℕ)
+select f ss = filter_map (λ s. option_view (λ x. (x, s.at)) (f s.role)) ss
+
+-- the first site of such a role stands at the place
+abbrev pub FirstAt : (Role → Type 0) → List Site → ℕ → Type 0
+FirstAt P [] at = ⊥
+FirstAt P (s ∷ ss) at = (P s.role × (at ≡ s.at)) ⊎ ((P s.role → ⊥) × FirstAt P ss at)
+
+-- a left side or a name behind `%type` that is a token
+abbrev pub is_token_left : Tree → Role → Bool
+is_token_left t (typed n) = is_token t n
+is_token_left t (left_side n) = is_token t n
+is_token_left t _ = false
+
+-- a name or literal in a body, behind `%prec` or behind `%type` that is no symbol
+abbrev pub is_undefined : Tree → Role → Bool
+is_undefined t (typed n) = not (is_among (symbols t) n)
+is_undefined t (used i) = not (is_among (symbols t) (printed_name i))
+is_undefined t (prec_name i) = not (is_among (symbols t) (printed_name i))
+is_undefined t _ = false
+
+-- a name behind `%prec` that is a nonterminal
+abbrev pub is_bad_prec : Tree → Role → Bool
+is_bad_prec t (prec_name i) = is_nonterminal t (printed_name i)
+is_bad_prec t _ = false
+
+abbrev pub start_of : Role → Option (Unit {0})
+start_of start_word = Some tt
+start_of _ = None
+
+-- the place of the last word `%start`
+abbrev pub last_start : List Site → Option ℕ
+last_start ss = last_or None (map (λ p. p.1) (select start_of ss))
+
+-- the place of a mistake
+abbrev pub StandsAt : Tree → List Site → Mistake → ℕ → Type 0
+StandsAt t ss TokenLeft at = FirstAt (λ r. is_token_left t r ≡ true) ss at
+StandsAt t ss Undefined at = FirstAt (λ r. is_undefined t r ≡ true) ss at
+StandsAt t ss TwicePrecedence at = Unit {0}
+StandsAt t ss BadNumber at = Unit {0}
+StandsAt t ss BadStart at = last_start ss ≡ Some at
+StandsAt t ss Unproductive at = Unit {0}
+StandsAt t ss BadPrec at = FirstAt (λ r. is_bad_prec t r ≡ true) ss at
+-- the beginning of the file
+StandsAt t ss Limit at = at ≡ 0
