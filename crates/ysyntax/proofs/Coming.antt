@@ -208,12 +208,31 @@ here before rest at e =
     let n : at ≡ length before = let w = length-append before rest in omega (arith, e, w) in
     ap (λ i. drop i (before ++ rest)) n ∙ drop-append_seam before rest
 
-there : (bytes rest : List ℕ) (ls : List Placed) (q : State) (at : ℕ) → Comes bytes ls rest q →
+back_there : (bytes rest : List ℕ) (at : ℕ) → (before : List ℕ) × (bytes ≡ before ++ rest) →
     at ≡ length bytes - length rest → drop at bytes ≡ rest
-there bytes rest ls q at c a =
-    let (before, w) = cut_before c.cut.parts bytes rest c.cut.cut in
+back_there bytes rest at (before, w) a =
     ap (λ (x : List ℕ). drop at x) w ∙ here before rest at
     (a ∙ ap (λ (x : List ℕ). length x - length rest) w)
+
+there : (bytes rest : List ℕ) (ls : List Placed) (q : State) (at : ℕ) → Comes bytes ls rest q →
+    at ≡ length bytes - length rest → drop at bytes ≡ rest
+there bytes rest ls q at c a = back_there bytes rest at (cut_before c.cut.parts bytes rest c.cut.cut) a
+
+-- what stands before what follows a lexeme that is read
+pub after_part : (bytes rest m : List ℕ) (ls : List Placed) (q : State) (l : Lexeme) →
+    Comes bytes ls rest q → PartAt rest (lexeme l) m → (before : List ℕ) × (bytes ≡ before ++ m)
+after_part bytes rest m ls q l c h =
+    let (before, w) = cut_before c.cut.parts bytes rest c.cut.cut in (
+      before ++ h.text,
+      w ∙ ap (λ (x : List ℕ). before ++ x) h.whole
+          ∙ sym (append_assoc before h.text m),
+    )
+
+-- what follows a lexeme that is read stands where it ends
+past : (bytes rest m : List ℕ) (ls : List Placed) (q : State) (l : Lexeme) (end : ℕ) →
+    Comes bytes ls rest q → PartAt rest (lexeme l) m → end ≡ length bytes - length m →
+    drop end bytes ≡ m
+past bytes rest m ls q l end c h z = back_there bytes m end (after_part bytes rest m ls q l c h) z
 
 what_marks : (ls : List Placed) → map (λ (m : Mark). m.what) (marks_in ls) ≡ views ls
 what_marks [] = refl
@@ -224,9 +243,12 @@ stand_more : (source : List ℕ) (before : List Lexeme) (ms : List Mark) (m : Ma
     StandFrom source before (ms ++ m ∷ [])
 stand_more source before [] m h s =
     (subst (λ (x : List Lexeme). StandsBehind source x m) (append-nil before) s, tt)
-stand_more source before (x ∷ ms) m h s = (h.0, stand_more source (before ++ x.what ∷ []) ms m h.1
-    (subst (λ (y : List Lexeme). StandsBehind source y m)
-    (sym (append_assoc before (x.what ∷ []) (map (λ (y : Mark). y.what) ms))) s))
+stand_more source before (x ∷ ms) m h s = (
+  h.0,
+  stand_more source (before ++ x.what ∷ []) ms m h.1
+      (subst (λ (y : List Lexeme). StandsBehind source y m)
+      (sym (append_assoc before (x.what ∷ []) (map (λ (y : Mark). y.what) ms))) s),
+)
 
 -- reading comes to the place of one more lexeme with those before it
 pub sites_more : (bytes rest m : List ℕ) (ls new : List Placed) (q : State) (p : Placed) →
@@ -245,11 +267,14 @@ sites_more bytes rest m ls new q p c h a f =
 
 pub placed_more : (bytes rest m : List ℕ) (ls new : List Placed) (q : State) (p : Placed) →
     Comes bytes ls rest q → PartAt rest (lexeme (lexeme_view p.lexeme)) m →
-    p.at ≡ length bytes - length rest → new ≡ ls ++ p ∷ [] → StandIn bytes new
-placed_more bytes rest m ls new q p c h a f =
+    p.at ≡ length bytes - length rest → p.end ≡ length bytes - length m → new ≡ ls ++ p ∷ []
+    → StandIn bytes new
+placed_more bytes rest m ls new q p c h a z f =
     let e : drop p.at bytes ≡ rest = there bytes rest ls q p.at c a in
+    let o : drop p.end bytes ≡ m = past bytes rest m ls q (lexeme_view p.lexeme) p.end c h z in
     let one : StandsIn bytes p =
-    (m, subst (λ (x : List ℕ). PartAt x (lexeme (lexeme_view p.lexeme)) m) (sym e) h) in
+    subst (λ (x : List ℕ). PartAt x (lexeme (lexeme_view p.lexeme)) (drop p.end bytes)) (sym e)
+    (subst (λ (x : List ℕ). PartAt rest (lexeme (lexeme_view p.lexeme)) x) (sym o) h) in
     subst (StandIn bytes) (sym f) (all ls one c.placed)
   where
     all : (ls : List Placed) → StandsIn bytes p → StandIn bytes ls →
@@ -259,10 +284,10 @@ placed_more bytes rest m ls new q p c h a f =
 
 pub goes_lexeme : (bytes rest m : List ℕ) (ls new : List Placed) (q r : State) (p : Placed) →
     Comes bytes ls rest q → PartAt rest (lexeme (lexeme_view p.lexeme)) m →
-    p.at ≡ length bytes - length rest
+    p.at ≡ length bytes - length rest → p.end ≡ length bytes - length m
     → next_state q (kind_of (lexeme_view p.lexeme)) ≡ Some r → is_end r ≡ false →
     new ≡ ls ++ p ∷ [] → Comes bytes new m r
-goes_lexeme bytes rest m ls new q r p c h a e n f =
+goes_lexeme bytes rest m ls new q r p c h a z e n f =
     let l = lexeme_view p.lexeme in
     let v : views new ≡ views ls ++ l ∷ [] = ap views f ∙ views_push ls p in
     let s : state_after (Some Declarations) (kinds (views new)) ≡ Some r =
@@ -279,7 +304,7 @@ goes_lexeme bytes rest m ls new q r p c h a e n f =
         unfinished = omega (arith, k, w);
       };
       state_is = s;
-      placed = placed_more bytes rest m ls new q p c h a f;
+      placed = placed_more bytes rest m ls new q p c h a z f;
       sites = sites_more bytes rest m ls new q p c h a f;
     }
 
@@ -292,6 +317,13 @@ begun bytes rest ls q c = viable (kinds (views ls)) q c.state_is
 pub place : (bytes rest : List ℕ) (ls : List Placed) (q : State) → Comes bytes ls rest q →
     (before : List ℕ) × (bytes ≡ before ++ rest)
 place bytes rest ls q c = cut_before c.cut.parts bytes rest c.cut.cut
+
+-- so no more bytes follow a lexeme than there are
+pub after_shorter : (bytes rest m : List ℕ) (ls : List Placed) (q : State) (l : Lexeme) →
+    Comes bytes ls rest q → PartAt rest (lexeme l) m → length m ≤ length bytes
+after_shorter bytes rest m ls q l c h = let (b, e) = after_part bytes rest m ls q l c h in
+    let w : length bytes ≡ length b + length m = ap length e ∙ length-append b m in
+    omega (arith, w)
 
 pub comes_shorter : (bytes rest : List ℕ) (ls : List Placed) (q : State) → Comes bytes ls rest q →
     length rest ≤ length bytes

@@ -59,10 +59,10 @@ abbrev pub Gives : List ℕ → Result (Vec Placed) PlacedFault → Type 0
 Gives bytes (Ok v) = Outcome bytes (Ok (views v.items))
 Gives bytes (Err e) = FailsAt bytes e.at e.fault
 
--- the part at the place of a lexeme is that lexeme
+-- the part at the place of a lexeme is that lexeme, and it ends where the lexeme does
 abbrev pub StandsIn : List ℕ → Placed → Type 0
-StandsIn source p = (rest : List ℕ)
-    × PartAt (drop p.at source) (lexeme (lexeme_view p.lexeme)) rest
+StandsIn source p =
+    PartAt (drop p.at source) (lexeme (lexeme_view p.lexeme)) (drop p.end source)
 
 -- each lexeme stands in the file
 abbrev pub StandIn : List ℕ → List Placed → Type 0

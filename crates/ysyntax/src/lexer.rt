@@ -18,13 +18,15 @@ use ylexemes::front::part_at;
 use ylexemes::part::{Lexeme, LexicalFault, Part};
 use ysymbols::limits::LONGEST_FILE;
 
-/// A lexeme, and how many bytes stand before it.
+/// A lexeme, and where it stands.
 #[derive(Clone, Copy)]
 pub struct Placed<'a> {
     /// The lexeme.
     pub lexeme: Lexeme<'a>,
     /// How many bytes of the file stand before it.
     pub at: usize,
+    /// How many bytes of the file stand before what follows it.
+    pub end: usize,
 }
 
 /// The line of the place where the rest of some bytes begins.
@@ -85,8 +87,11 @@ pub fn read_lexemes<'a>(alloc: Global, bytes: &'a [u8]) -> Result<Vec<Placed<'a>
                     None => return Err(stopped(None, bytes, rest)),
                     Some(next) => state = next,
                 }
-                let at = bytes.len() - rest.len();
-                lexemes.push(Placed { lexeme, at })?;
+                lexemes.push(Placed {
+                    lexeme,
+                    at: bytes.len() - rest.len(),
+                    end: bytes.len() - after.len(),
+                })?;
                 if state.is_end() {
                     return Ok(lexemes);
                 }

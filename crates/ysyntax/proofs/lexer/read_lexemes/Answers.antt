@@ -2,6 +2,7 @@ use Rattle.std.proofs.Common.{refl, sym, ap, ◌∙◌, ◌-◌, length}
 use Rattle.ylexemes.specs.Front.{blank, comment}
 use Rattle.ylexemes.specs.Views.{lexeme_view}
 use Rattle.ysyntax.specs.Recogniser.{next_state}
+use Rattle.ysyntax.proofs.Coming.{after_shorter}
 use Rattle.ysyntax.proofs.Coming.{comes_shorter, empty_is, goes_gap, goes_lexeme, place}
 use Rattle.ysyntax.proofs.Coming.{stops_early, stops_ended, placed_more, sites_more, stops_lexical}
 use Rattle.ysyntax.proofs.Coming.{stops_marked, stops_stray}
@@ -30,9 +31,15 @@ returns-in-None-clause-outcome c =
     (ap (next_state c.parts.state) (sym c.kind.ensures) ∙ sym c.in-None.ensures)
     (c.stopped-in-None.ensures.line, c.stopped-in-None.ensures.place)
 
-pub overflow_sub-at : goal.overflow_sub-at
-overflow_sub-at c = comes_shorter c.args.bytes.now c.parts.rest.now c.parts.lexemes.items
+pub overflow_sub-bytes : goal.overflow_sub-bytes
+overflow_sub-bytes c = comes_shorter c.args.bytes.now c.parts.rest.now c.parts.lexemes.items
     c.parts.state c.parts.invariant
+
+pub overflow_sub-bytes-in-Lexeme : goal.overflow_sub-bytes-in-Lexeme
+overflow_sub-bytes-in-Lexeme c =
+    let part = rw c.in-Lexeme.is at c.in-Ok.ensures in
+    after_shorter c.args.bytes.now c.parts.rest.now c.in-Ok.found.1.now c.parts.lexemes.items
+    c.parts.state (lexeme_view c.in-Lexeme.lexeme) c.parts.invariant part
 
 pub returns-then-is_end-clause-outcome : goal.returns-then-is_end-clause-outcome
 returns-then-is_end-clause-outcome c =
@@ -41,8 +48,8 @@ returns-then-is_end-clause-outcome c =
     c.push.new.self.items c.parts.state c.in-Some.next
     (record {
       lexeme = c.in-Lexeme.lexeme;
-      at = length c.args.bytes.now - length
-          c.parts.rest.now;
+      at = length c.args.bytes.now - length c.parts.rest.now;
+      end = length c.args.bytes.now - length c.in-Ok.found.1.now;
     }) c.parts.invariant part
     (ap (next_state c.parts.state) (sym c.kind.ensures) ∙ sym c.in-Some.ensures)
     (sym c.is_end.ensures ∙ c.if-is_end.true) c.in_ok-push-in-Lexeme.ensures.items
@@ -66,9 +73,9 @@ parts-preserved c =
     c.push.new.self.items c.parts.state c.in-Some.next
     (record {
       lexeme = c.in-Lexeme.lexeme;
-      at = length c.args.bytes.now - length
-          c.parts.rest.now;
-    }) c.parts.invariant part refl
+      at = length c.args.bytes.now - length c.parts.rest.now;
+      end = length c.args.bytes.now - length c.in-Ok.found.1.now;
+    }) c.parts.invariant part refl refl
     (ap (next_state c.parts.state) (sym c.kind.ensures) ∙ sym c.in-Some.ensures)
     (sym c.is_end.ensures ∙ c.if-is_end.false) c.in_ok-push-in-Lexeme.ensures.items
 
@@ -98,9 +105,9 @@ returns-then-is_end-clause-placed c =
     c.push.new.self.items c.parts.state
     (record {
       lexeme = c.in-Lexeme.lexeme;
-      at = length c.args.bytes.now - length
-          c.parts.rest.now;
-    }) c.parts.invariant part refl c.in_ok-push-in-Lexeme.ensures.items
+      at = length c.args.bytes.now - length c.parts.rest.now;
+      end = length c.args.bytes.now - length c.in-Ok.found.1.now;
+    }) c.parts.invariant part refl refl c.in_ok-push-in-Lexeme.ensures.items
 
 pub returns-then-is_end-clause-sites : goal.returns-then-is_end-clause-sites
 returns-then-is_end-clause-sites c =
@@ -109,6 +116,6 @@ returns-then-is_end-clause-sites c =
     c.push.new.self.items c.parts.state
     (record {
       lexeme = c.in-Lexeme.lexeme;
-      at = length c.args.bytes.now - length
-          c.parts.rest.now;
+      at = length c.args.bytes.now - length c.parts.rest.now;
+      end = length c.args.bytes.now - length c.in-Ok.found.1.now;
     }) c.parts.invariant part refl c.in_ok-push-in-Lexeme.ensures.items
