@@ -2,7 +2,7 @@
 
 ghost use Rattle.std.specs.Prelude.{◌≡◌, ◌+◌, ◌++◌, ◌∷◌, [], map, replicate, IfOk, OnOk};
 ghost use Rattle.std.specs.List.{flat_map};
-ghost use Rattle.ysymbols.specs.Sources.{option_view, text_view};
+ghost use Rattle.ysymbols.specs.Sources.{option_view};
 ghost use Rattle.ysyntax.specs.TreeViews.{body_part_view, braced_view, definition_view};
 ghost use Rattle.ysyntax.specs.TreeViews.{digits_view, entry_view, name_view, occurrence_view};
 ghost use Rattle.ysyntax.specs.TreeViews.{rule_text_view, tree_view, word_view};
@@ -28,8 +28,8 @@ fn listed(word: Word) -> Role
 }
 
 /// Adds the roles of a tag and of the signs around it.
-fn push_tag(found: &mut Vec<Role>, tag: Option<&[u8]>) -> Result<(), AllocError>
-    ensures { OnOk result (found.new.items ≡ found.old.items ++ tag_roles (text_view tag.entry)) }
+fn push_tag(found: &mut Vec<Role>, tag: Option<NameAt>) -> Result<(), AllocError>
+    ensures { OnOk result (found.new.items ≡ found.old.items ++ tag_roles (option_view name_view tag.entry)) }
 {
     if tag.is_some() {
         found.push(Role::Bracket)?;
@@ -75,7 +75,7 @@ fn push_entries(found: &mut Vec<Role>, word: Word, entries: &[Entry]) -> Result<
 /// Adds the roles of a line that lists tokens.
 fn push_listing(found: &mut Vec<Role>, line: &Listing) -> Result<(), AllocError>
     ensures { OnOk result (found.new.items ≡ found.old.items
-        ++ (role.Word ∷ (tag_roles (text_view line.now.tag)
+        ++ (role.Word ∷ (tag_roles (option_view name_view line.now.tag)
         ++ flat_map (entry_roles (word_view line.now.word)) (map entry_view line.now.entries.items)))) }
 {
     found.push(Role::Word)?;
