@@ -31,7 +31,7 @@ returns-in_err-refuse_prec c = λ t o n vs start.
     refuses (λ r. Decides t r) t 6 mistakes.BadPrec c.in_err-refuse_prec.field-0.0 _
     (λ y f. f) refl c.from_residual-in_err-refuse_prec.ensures.1
     (clear_6 t (clear_5 t _ n start) (all_productive t _ bare c.in_ok-refuse_unproductive.ensures))
-    (c.in_err-refuse_prec.ensures t o n.names n.tokens_first)
+    (c.in_err-refuse_prec.ensures.clears t o n.names n.tokens_first)
 
 pub returns : goal.returns
 returns c = λ t o n vs start.
@@ -40,5 +40,5 @@ returns c = λ t o n vs start.
     let all = all_productive t _ bare c.in_ok-refuse_unproductive.ensures in
     decides t c.refuse_limit.result (more t (take 6 order) mistakes.BadPrec
     (clear_6 t (clear_5 t _ n start) all)
-    (c.in_ok-refuse_prec.ensures t o n.names n.tokens_first)) all
-    (c.refuse_limit.ensures t n.names vs)
+    (c.in_ok-refuse_prec.ensures.clears t o n.names n.tokens_first)) all
+    (c.refuse_limit.ensures.clears t n.names vs)

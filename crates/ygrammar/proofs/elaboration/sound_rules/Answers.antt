@@ -17,7 +17,7 @@ numbered c = numbered_rules c.args.tree.now c.args.named.now c.args.outline.now
     c.deref.ensures.value c.deref-2.ensures.value c.in_ok-rules.ensures
 
 no_bad_start : (c : In_ok-rules) → Holds (tree_view c.args.tree.now) mistakes.BadStart → ⊥
-no_bad_start c = c.in_ok-refuse_start.ensures _ c.requires.outline c.requires.named.names
+no_bad_start c = c.in_ok-refuse_start.ensures.clears _ c.requires.outline c.requires.named.names
     c.requires.named.tokens_first
 
 pub refuse_rules-requires-clause-within : goal.refuse_rules-requires-clause-within
@@ -42,7 +42,7 @@ returns-in_err-refuse_start-clause-decides c =
     refuses (λ r. Decides t r) t 4 mistakes.BadStart c.in_err-refuse_start.field-0.0 _
     (λ y f. f) refl c.from_residual.ensures.1
     (n.no_token_left, (n.all_defined, (n.once, (n.own.sound, tt))))
-    (c.in_err-refuse_start.ensures t c.requires.outline n.names n.tokens_first)
+    (c.in_err-refuse_start.ensures.clears t c.requires.outline n.names n.tokens_first)
 
 pub returns-in_err-refuse_rules-clause-decides : goal.returns-in_err-refuse_rules-clause-decides
 returns-in_err-refuse_rules-clause-decides c =

@@ -11,7 +11,7 @@ returns-in_err-refuse_token_left-clause-refused c =
     let t = tree_view c.args.tree.now in
     refuses (λ r. IfErr r (IsFirstRefused t)) t 0 mistakes.TokenLeft
     c.in_err-refuse_token_left.field-0.0 _ (λ y f. f) refl c.from_residual.ensures.1 tt
-    (c.in_err-refuse_token_left.ensures t c.requires.outline c.requires.names)
+    (c.in_err-refuse_token_left.ensures.clears t c.requires.outline c.requires.names)
 
 pub returns-in_err-add_nonterminals-clause-refused :
     goal.returns-in_err-add_nonterminals-clause-refused
@@ -20,7 +20,7 @@ returns-in_err-add_nonterminals-clause-refused c =
     refuses (λ r. IfErr r (IsFirstRefused t)) t 1 mistakes.Undefined
     c.in_err-add_nonterminals.field-0.0 _ (λ y f. f) refl
     c.from_residual-in_err-add_nonterminals.ensures.1
-    (c.in_ok-refuse_token_left.ensures t c.requires.outline c.requires.names, tt)
+    (c.in_ok-refuse_token_left.ensures.clears t c.requires.outline c.requires.names, tt)
     c.in_err-add_nonterminals.ensures.defined
 
 pub returns-in_err-self-clause-refused :
@@ -30,7 +30,7 @@ returns-in_err-self-clause-refused c =
     let o = c.requires.outline in
     refuses (λ r. IfErr r (IsFirstRefused t)) t 2 mistakes.TwicePrecedence c.in_err-self.field-0.0 _
     (λ y f. f) refl c.from_residual-in_err-self.ensures.1 (
-      c.in_ok-refuse_token_left.ensures t o c.requires.names,
+      c.in_ok-refuse_token_left.ensures.clears t o c.requires.names,
       (c.in_ok-add_nonterminals.ensures.defined, tt),
     )
     (c.in_err-self.ensures t o c.requires.names)
@@ -42,7 +42,7 @@ returns-in_err-self-2-clause-refused c =
     let o = c.requires.outline in
     refuses (λ r. IfErr r (IsFirstRefused t)) t 3 mistakes.BadNumber c.in_err-self-2.field-0.0 _
     (λ y f. f) refl c.from_residual-in_err-self-2.ensures.1 (
-      c.in_ok-refuse_token_left.ensures t o c.requires.names,
+      c.in_ok-refuse_token_left.ensures.clears t o c.requires.names,
       (
         c.in_ok-add_nonterminals.ensures.defined,
         ((c.in_ok-self.ensures t o c.requires.names).sound, tt),
@@ -60,7 +60,7 @@ returns-clause-filled c =
       tokens_first = c.requires.tokens;
       given = given.table;
       own = c.in_ok-self-2.ensures t o c.requires.names;
-      no_token_left = c.in_ok-refuse_token_left.ensures t o c.requires.names;
+      no_token_left = c.in_ok-refuse_token_left.ensures.clears t o c.requires.names;
       all_defined = c.in_ok-add_nonterminals.ensures.defined;
       once = given.sound;
     }
