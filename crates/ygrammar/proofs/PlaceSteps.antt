@@ -1,7 +1,11 @@
 -- Where the mistakes of a tree stand.
 use Rattle.std.proofs.Common.{ℕ, ◌≡◌, Bool, true, false, not, List, [], ◌∷◌, ◌++◌, length, map}
 use Rattle.std.proofs.Common.{Option, Some, None, refl, sym, ap, subst, ◌∙◌, append-nil}
+use Rattle.std.proofs.Common.{Result, Ok, Err, IsErrAnd}
+use Rattle.std.specs.Prelude.{IfErr}
 use Rattle.std.specs.List.{find, last_or, AllByRecursion}
+use Rattle.ysymbols.specs.Grammar.{ContextFree}
+use Rattle.ygrammar.specs.Elaborated.{Fruitful}
 use Rattle.ysymbols.specs.Names.{Name, is_among, number_in}
 use Rattle.ysymbols.specs.Sources.{option_view}
 use Rattle.ysymbols.proofs.NameSteps.{false_true}
@@ -232,3 +236,25 @@ pub placed : (t : Tree) (ss : List Site) (m : Mistake) (e : Refused) → Refuses
 placed t ss m (refused.Mistake what at) r all =
     subst (λ x. StandsAt t ss x at) (sym r.0) (all at)
 placed t ss m refused.Memory r all = tt
+
+-- an answer that passes on a refusal has its place
+pub passes_place : {A : Type 0} (P : Refused → Type 0) (e : Refused) (r : Result A Refused) →
+    IsErrAnd r (λ y. y ≡ e) → P e → IfErr r P
+passes_place P e (Ok v) h p = absurd h
+passes_place P e (Err y) h p = subst P (sym h) p
+
+abbrev refuse_of : Refused → Result (Unit {0}) Refused
+refuse_of e = Err e
+
+-- a nonterminal that derives no list of tokens
+pub barren_placed : (t : Tree) (ss : List Site) (g : ContextFree) (e : Refused) →
+    Fruitful g (refuse_of e) → IsPlaced t ss e
+barren_placed t ss g (refused.Mistake what at) h =
+    subst (λ m. StandsAt t ss m at) (sym h.0) tt
+barren_placed t ss g refused.Memory h = tt
+
+-- where memory runs out nothing is said of a place
+pub memory_placed : {A : Type 0} (t : Tree) (ss : List Site) (r : Result A Refused) →
+    IfErr r (λ e. e ≡ refused.Memory) → IfErr r (IsPlaced t ss)
+memory_placed t ss (Ok v) h = tt
+memory_placed t ss (Err e) h = subst (IsPlaced t ss) (sym h) tt

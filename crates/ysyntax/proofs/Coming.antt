@@ -215,7 +215,7 @@ there bytes rest ls q at c a =
     ap (λ (x : List ℕ). drop at x) w ∙ here before rest at
     (a ∙ ap (λ (x : List ℕ). length x - length rest) w)
 
-what_marks : (ls : List Placed) → map (λ (m : Mark). m.what) (marks_in ls) ≡ views ls
+pub what_marks : (ls : List Placed) → map (λ (m : Mark). m.what) (marks_in ls) ≡ views ls
 what_marks [] = refl
 what_marks (p ∷ ls) = ap (λ z. lexeme_view p.lexeme ∷ z) (what_marks ls)
 

@@ -2,6 +2,9 @@ use Rattle.std.proofs.Common.{IfErr, refl}
 use Rattle.youtline.specs.declared.mistake.Mistake.TheVariants as mistakes
 use Rattle.ygrammar.specs.Elaborated.{IsFirstRefused}
 use Rattle.ysyntax.specs.TreeViews.{tree_view}
+use Rattle.std.proofs.Common.{◌++◌}
+use Rattle.youtline.specs.OutlineSites.{IsPlaced}
+use Rattle.ygrammar.proofs.PlaceSteps.{passes_place, placed}
 use Rattle.ygrammar.proofs.ElaborationSteps.{refuses}
 use Rattle.ygrammar.proofs.elaboration.Named.fill.Goals as goal
 
@@ -64,3 +67,31 @@ returns-clause-filled c =
       all_defined = c.in_ok-add_nonterminals.ensures.defined;
       once = given.sound;
     }
+
+pub returns-in_err-refuse_token_left-clause-place : goal.returns-in_err-refuse_token_left-clause-place
+returns-in_err-refuse_token_left-clause-place c = λ ds rs out.
+    passes_place (IsPlaced (tree_view c.args.tree.now) (ds ++ rs))
+    c.in_err-refuse_token_left.field-0.0 _ c.from_residual.ensures.1
+    (c.in_err-refuse_token_left.ensures.place (tree_view c.args.tree.now) ds rs out c.requires.names)
+
+pub returns-in_err-add_nonterminals-clause-place : goal.returns-in_err-add_nonterminals-clause-place
+returns-in_err-add_nonterminals-clause-place c = λ ds rs out.
+    passes_place (IsPlaced (tree_view c.args.tree.now) (ds ++ rs))
+    c.in_err-add_nonterminals.field-0.0 _ c.from_residual-in_err-add_nonterminals.ensures.1
+    (c.in_err-add_nonterminals.ensures.place ds rs out)
+
+pub returns-in_err-self-clause-place : goal.returns-in_err-self-clause-place
+returns-in_err-self-clause-place c = λ ds rs out.
+    let t = tree_view c.args.tree.now in
+    passes_place (IsPlaced t (ds ++ rs)) c.in_err-self.field-0.0 _
+    c.from_residual-in_err-self.ensures.1
+    (placed t (ds ++ rs) mistakes.TwicePrecedence c.in_err-self.field-0.0
+    (c.in_err-self.ensures t c.requires.outline c.requires.names) (λ at. tt))
+
+pub returns-in_err-self-2-clause-place : goal.returns-in_err-self-2-clause-place
+returns-in_err-self-2-clause-place c = λ ds rs out.
+    let t = tree_view c.args.tree.now in
+    passes_place (IsPlaced t (ds ++ rs)) c.in_err-self-2.field-0.0 _
+    c.from_residual-in_err-self-2.ensures.1
+    (placed t (ds ++ rs) mistakes.BadNumber c.in_err-self-2.field-0.0
+    (c.in_err-self-2.ensures t c.requires.outline c.requires.names) (λ at. tt))
