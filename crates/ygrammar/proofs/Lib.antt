@@ -3,6 +3,7 @@ pub mod RuleSteps
 pub mod NumberSteps
 pub mod OwnTables
 pub mod MistakeSteps
+pub mod PlaceSteps
 pub mod SymbolNames
 pub mod Wellness
 pub mod LastTokens

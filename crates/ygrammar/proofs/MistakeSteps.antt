@@ -231,7 +231,7 @@ between_is t n = go (is_among (tokens t) n) refl
     go false h = behind h (is_among (symbols t) n) refl ∙ sym
         (ap (λ b. cond b false (is_among (symbols t) n)) (sym (token_among t n) ∙ h))
 
-between_here : (t : Tree) (ns : List Name) (k : ℕ) (i : Identifier) → ns ≡ symbols t →
+pub between_here : (t : Tree) (ns : List Name) (k : ℕ) (i : Identifier) → ns ≡ symbols t →
     k ≡ length (tokens t) → is_between k (length ns) (number_in ns (printed_name i)) ≡
     is_nonterminal t
     (printed_name i)

@@ -1,5 +1,5 @@
 -- A file has one grammar or one fault.
-use Rattle.std.proofs.Common.{ℕ, ◌≡◌, ◌<◌, ◌≤◌, ◌⊎◌, inl, inr, List, Result, Ok, Err, refl, sym, ap}
+use Rattle.std.proofs.Common.{ℕ, ◌≡◌, ◌<◌, ◌≤◌, ◌⊎◌, inl, inr, List, [], Result, Ok, Err, refl, sym, ap}
 use Rattle.std.proofs.Common.{subst, arith, true, false, length, take, ◌++◌, ◌+◌, ◌∙◌}
 use Rattle.std.proofs.Common.{length-append}
 use Rattle.std.specs.Result.{IsErrOf}
@@ -35,6 +35,14 @@ use Rattle.ygrammar.specs.Meaning.{IsMeaning}
 use Rattle.youtline.specs.Mistakes.{IsFirst, order}
 use Rattle.ysyntax.specs.Tree.{IsTree, Tree, yield}
 use Rattle.ygrammar.proofs.OneMeaning.{none_first, one_first, one_meaning}
+use Rattle.youtline.specs.OutlineSites.{IsPlaced}
+use Rattle.youtline.specs.Places.{StandsAt}
+use Rattle.ysyntax.specs.declared.tree.Tree.{Tree as CodeTree}
+use Rattle.ysyntax.specs.Sites.{AreSites, Site, StandFrom}
+use Rattle.ysyntax.specs.SiteViews.{marks_in, named_in, site_marks, tree_sites}
+use Rattle.ysyntax.specs.TreeViews.{tree_view}
+use Rattle.ysyntax.proofs.Coming.{what_marks}
+use Rattle.ysyntax.proofs.SiteSteps.{roles_are}
 use Rattle.ysyntax.proofs.OneTree.{one_tree}
 use Rattle.ysymbols.proofs.NameSteps.{false_true}
 
@@ -105,22 +113,19 @@ mistaken source BadPrec line at p = p
 mistaken source Limit line at p = p
 
 -- a mistake with its place is a fault of the file
-pub mistake_of : (source : List ℕ) (t : Tree) (e : Refused) → HasTree source t →
-    IsFirstRefused t e → (m : Mistake) → (at : ℕ) → e ≡ refused.Mistake m at →
+mistake_of : (source : List ℕ) (t : Tree) (ss : List Site) (m : Mistake) (at : ℕ) →
+    HasTree source t → AreSites source t ss → IsFirst t order m → StandsAt t ss m at →
     IsMistakenAt source m at
-mistake_of source t (refused.Mistake what place) h first m at is =
-    let same : what ≡ m = cc in
-    (t, h, subst (λ x. IsFirst t order x) same first, tt)
-mistake_of source t refused.Memory h first m at is = cc
+mistake_of source t ss m at h are first s = (t, h, first, (ss, are, s))
 
 -- the mistake of the tree is the fault of the file, at its place
-pub fault_of : (source : List ℕ) (t : Tree) (e : Refused) (f : PlacedFault) → HasTree source t →
-    IsFirstRefused t e → IsRefusal source e f → IsFaultAt source f.at f.fault
-fault_of source t (refused.Mistake what at) f h first is =
+pub fault_of : (source : List ℕ) (t : Tree) (ss : List Site) (e : Refused) (f : PlacedFault) →
+    HasTree source t → AreSites source t ss → IsFirstRefused t e → IsPlaced t ss e →
+    IsRefusal source e f → IsFaultAt source f.at f.fault
+fault_of source t ss (refused.Mistake what at) f h are first p is =
     subst (λ (x : PlacedFault). IsFaultAt source x.at x.fault) (sym is)
-    (mistaken source what (line_of source at) at
-    (mistake_of source t (refused.Mistake what at) h first what at refl))
-fault_of source t refused.Memory f h first is =
+    (mistaken source what (line_of source at) at (mistake_of source t ss what at h are first p))
+fault_of source t ss refused.Memory f h are first p is =
     subst (λ (x : PlacedFault). IsFaultAt source x.at x.fault) (sym is) refl
 
 -- the line of a refusal is that of its place
@@ -245,17 +250,29 @@ answers_mistake source BadPrec at h = (at, h, refl)
 answers_mistake source Limit at h = (at, h, refl)
 
 -- the mistake that is answered is the file's first
-pub same_mistake : (source : List ℕ) (t u : Tree) (e : Refused) (f : PlacedFault) (m : Mistake) →
-    u ≡ t → HasTree source t → IsFirstRefused t e → IsRefusal source e f → IsFirst u order m →
+pub same_mistake : (source : List ℕ) (t u : Tree) (ss : List Site) (e : Refused)
+    (f : PlacedFault) (m : Mistake) → u ≡ t → HasTree source t → AreSites source t ss →
+    IsFirstRefused t e → IsPlaced t ss e → IsRefusal source e f → IsFirst u order m →
     AnswersMistake source (err_of f.fault) m
-same_mistake source t u (refused.Mistake what at) f m e h first is k =
+same_mistake source t u ss (refused.Mistake what at) f m e h are first p is k =
     let same : what ≡ m = one_first t order what m first (subst (λ x. IsFirst x order m) e k) in
     subst (λ (x : PlacedFault). AnswersMistake source (err_of x.fault) m) (sym is)
     (subst (λ x. AnswersMistake source (err_of (mistake_at what (line_of source at))) x) same
-    (answers_mistake source what at
-    (mistake_of source t (refused.Mistake what at) h first what at refl)))
-same_mistake source t u refused.Memory f m e h first is k =
+    (answers_mistake source what at (mistake_of source t ss what at h are first p)))
+same_mistake source t u ss refused.Memory f m e h are first p is k =
     subst (λ (x : PlacedFault). AnswersMistake source (err_of x.fault) m) (sym is) tt
+
+-- the sites of the tree of the lexemes that are read are those of the file
+pub sites_of : (source : List ℕ) (items now : List Placed) (t : CodeTree) → now ≡ items →
+    views now ≡ yield (tree_view t) → named_in now ≡ site_marks (tree_sites t) →
+    StandFrom source [] (marks_in items) → AreSites source (tree_view t) (tree_sites t)
+sites_of source items now t e w s stand = record {
+  marks = marks_in now;
+  stand = subst (λ (x : List Placed). StandFrom source [] (marks_in x)) (sym e) stand;
+  lexemes = what_marks now ∙ w;
+  named = s;
+  roles_are = roles_are t;
+}
 
 -- an answer is no error
 pub ok_err : {T E : Type 0} (x : T) (e : E) → IsErrOf (ok_of {E = E} x) e → ⊥

@@ -17,6 +17,9 @@ ghost use Rattle.ygrammar.specs.Numbered.{inner_after};
 ghost use Rattle.ysyntax.specs.TreeTexts.{RuleTextStands};
 ghost use Rattle.ysyntax.specs.Tree.{IsTree, Tree as TreeOf, yield};
 ghost use Rattle.youtline.specs.Outline.{Outlines, listed_view};
+ghost use Rattle.youtline.specs.OutlineSites.{IsPlaced, Places};
+ghost use Rattle.youtline.specs.declared.mistake.Refused.TheVariants.{Memory};
+ghost use Rattle.ysyntax.specs.SiteViews.{tree_sites};
 ghost use Rattle.youtline.specs.Owned.{Clears};
 ghost use Rattle.ysyntax.specs.TreeViews.{name_view, occurrence_view, tree_view};
 ghost use Rattle.ysymbols.specs.Sources.{option_view};
@@ -92,6 +95,7 @@ impl Named {
         requires tokens { self.old.tokens ≡ length (tokens_of_tree (tree_view tree.now)) }
         ensures filled { OnOk result (AreNamed (tree_view tree.now) self.new) }
         ensures refused { IfErr result (IsFirstRefused (tree_view tree.now)) }
+        ensures place { Places outline.now (tree_view tree.now) result }
     {
         refuse_token_left(outline, &self.names)?;
         // What is given is a mistake only where every name is defined.
@@ -116,6 +120,7 @@ fn add_nonterminals(
     requires tokens { texts names.old ≡ tokens_of_tree (tree_view tree.now) }
     ensures symbols { OnOk result (texts names.new ≡ symbols_of_tree (tree_view tree.now)) }
     ensures defined { Clears (tree_view tree.now) Undefined result }
+    ensures place { Places outline.now (tree_view tree.now) result }
 {
     intern_nonterminals(alloc, names, &tree.rule_texts)?;
     refuse_undefined(outline, names)
@@ -126,7 +131,8 @@ fn add_nonterminals(
 fn name_symbols(alloc: Global, tree: &Tree, outline: &Outline) -> Result<Named, Refused>
     requires outline { Outlines outline.now (tree_view tree.now) }
     requires counted { inner_after 1 (tree_view tree.now).rule_texts < 2 ^ 64 }
-    ensures { GivesNamed (tree_view tree.now) result }
+    ensures named { GivesNamed (tree_view tree.now) result }
+    ensures place { Places outline.now (tree_view tree.now) result }
 {
     let mut named = Named::of_tokens(alloc, outline)?;
     named.fill(alloc, tree, outline)?;
@@ -185,7 +191,9 @@ impl Named {
         texts: Texts,
     ) -> Result<Grammar, Refused>
         requires { (t : TreeOf) × IsReady t named rules.items texts.texts }
-        ensures { (t : TreeOf) → IsReady t named rules.items texts.texts → Elaborates t result }
+        ensures means { (t : TreeOf) → IsReady t named rules.items texts.texts →
+            Elaborates t result }
+        ensures memory { IfErr result (λ e. e ≡ Memory) }
     {
         let numbers = numbers(alloc, &named.own.numbers, &named.own.holders)?;
         let reachable = reachable(alloc, &rules, named.names.len())?;
@@ -208,8 +216,9 @@ fn refuse_rules(
 ) -> Result<(), Refused>
     requires within { named.now.tokens ≤ length (texts named.now.names) }
     requires in_range { AreIn (length (texts named.now.names)) rules.now }
-    ensures { (t : TreeOf) → Outlines outline.now t → AreNamed t named.now →
+    ensures decides { (t : TreeOf) → Outlines outline.now t → AreNamed t named.now →
         AreNumbered t rules.now → (Holds t BadStart → ⊥) → Decides t result }
+    ensures place { (t : TreeOf) → AreNamed t named.now → Places outline.now t result }
 {
     let symbols = named.names.len();
     refuse_unproductive(alloc, outline, &named.names, rules, named.tokens, symbols)?;
@@ -230,6 +239,7 @@ fn sound_rules(
     requires named { AreNamed (tree_view tree.now) named.now }
     ensures numbered { IfOk result (λ v. AreNumbered (tree_view tree.now) v.items) }
     ensures decides { Decides (tree_view tree.now) result }
+    ensures place { Places outline.now (tree_view tree.now) result }
 {
     refuse_start(outline, &named.names, named.tokens)?;
     let rules = number_rules(alloc, &named.names, &named.given, outline, &tree.rule_texts)?;
@@ -243,7 +253,8 @@ pub fn elaborate(alloc: Global, source: &[u8], tree: &Tree) -> Result<Grammar, R
     requires shaped { IsTree (tree_view tree.now) }
     requires stands { AllByRecursion (RuleTextStands source.now) tree.now.rule_texts.items }
     requires counted { inner_after 1 (tree_view tree.now).rule_texts < 2 ^ 64 }
-    ensures { Elaborates (tree_view tree.now) result }
+    ensures means { Elaborates (tree_view tree.now) result }
+    ensures place { IfErr result (IsPlaced (tree_view tree.now) (tree_sites tree.now)) }
 {
     let outline = Outline::new(alloc, tree)?;
     let named = name_symbols(alloc, tree, &outline)?;

@@ -1,12 +1,14 @@
 //! The mistakes of a file: each call answers one kind of mistake, or `Ok` where the file has none
 //! of it.
 
-ghost use Rattle.std.specs.Prelude.{◌≡◌, ◌∷◌, length, map};
+ghost use Rattle.std.specs.Prelude.{◌≡◌, ◌++◌, ◌∷◌, IfErr, List, length, map};
 ghost use Rattle.youtline.specs.Elaboration.{rules as rules_of_tree, symbols as symbols_of_tree};
 ghost use Rattle.youtline.specs.Elaboration.{token_precedences, tokens as tokens_of_tree};
 ghost use Rattle.ysymbols.specs.NameTexts.{texts};
 ghost use Rattle.ygrammar.specs.Numbered.{rule_numbers};
 ghost use Rattle.youtline.specs.Outline.{Outlines};
+ghost use Rattle.youtline.specs.OutlineSites.{IsPlaced, OutlineSites};
+ghost use Rattle.ysyntax.specs.Sites.{Site};
 ghost use Rattle.youtline.specs.Owned.{Clears};
 ghost use Rattle.ysyntax.specs.Tree.{Tree as TreeOf};
 ghost use Rattle.youtline.specs.declared.mistake.Mistake.TheVariants.{BadPrec, BadStart};
@@ -24,8 +26,10 @@ use ysymbols::names::SymbolTable;
 
 /// Refuses a token that is a left side, or is named by `%type`.
 pub fn refuse_token_left(outline: &Outline, tokens: &SymbolTable) -> Result<(), Refused>
-    ensures { (t : TreeOf) → Outlines outline.now t → texts tokens.now ≡ tokens_of_tree t →
+    ensures clears { (t : TreeOf) → Outlines outline.now t → texts tokens.now ≡ tokens_of_tree t →
         Clears t TokenLeft result }
+    ensures place { (t : TreeOf) (ds rs : List Site) → OutlineSites outline.now ds rs →
+        texts tokens.now ≡ tokens_of_tree t → IfErr result (IsPlaced t (ds ++ rs)) }
 {
     let what = Mistake::TokenLeft;
     if let Some(at) = first_token(&outline.typed, tokens) {
@@ -39,8 +43,10 @@ pub fn refuse_token_left(outline: &Outline, tokens: &SymbolTable) -> Result<(), 
 
 /// Refuses a name in a body, a `%prec` or a `%type` that is not a symbol.
 pub fn refuse_undefined(outline: &Outline, symbols: &SymbolTable) -> Result<(), Refused>
-    ensures { (t : TreeOf) → Outlines outline.now t → texts symbols.now ≡ symbols_of_tree t →
+    ensures clears { (t : TreeOf) → Outlines outline.now t → texts symbols.now ≡ symbols_of_tree t →
         Clears t Undefined result }
+    ensures place { (t : TreeOf) (ds rs : List Site) → OutlineSites outline.now ds rs →
+        texts symbols.now ≡ symbols_of_tree t → IfErr result (IsPlaced t (ds ++ rs)) }
 {
     let what = Mistake::Undefined;
     if let Some(at) = first_unknown(&outline.typed, symbols) {
@@ -54,8 +60,10 @@ pub fn refuse_undefined(outline: &Outline, symbols: &SymbolTable) -> Result<(), 
 
 /// Refuses a `%start` that stands twice or names no nonterminal.
 pub fn refuse_start(outline: &Outline, symbols: &SymbolTable, tokens: usize) -> Result<(), Refused>
-    ensures { (t : TreeOf) → Outlines outline.now t → texts symbols.now ≡ symbols_of_tree t →
+    ensures clears { (t : TreeOf) → Outlines outline.now t → texts symbols.now ≡ symbols_of_tree t →
         tokens ≡ length (tokens_of_tree t) → Clears t BadStart result }
+    ensures place { (t : TreeOf) (ds rs : List Site) → OutlineSites outline.now ds rs →
+        IfErr result (IsPlaced t (ds ++ rs)) }
 {
     match bad_start(&outline.starts, symbols, tokens) {
         Some(at) => Err(Refused::Mistake {
@@ -68,8 +76,11 @@ pub fn refuse_start(outline: &Outline, symbols: &SymbolTable, tokens: usize) -> 
 
 /// Refuses a `%prec` that names a nonterminal.
 pub fn refuse_prec(outline: &Outline, symbols: &SymbolTable, tokens: usize) -> Result<(), Refused>
-    ensures { (t : TreeOf) → Outlines outline.now t → texts symbols.now ≡ symbols_of_tree t →
+    ensures clears { (t : TreeOf) → Outlines outline.now t → texts symbols.now ≡ symbols_of_tree t →
         tokens ≡ length (tokens_of_tree t) → Clears t BadPrec result }
+    ensures place { (t : TreeOf) (ds rs : List Site) → OutlineSites outline.now ds rs →
+        texts symbols.now ≡ symbols_of_tree t → tokens ≡ length (tokens_of_tree t) →
+        IfErr result (IsPlaced t (ds ++ rs)) }
 {
     match first_nonterminal(&outline.precs, symbols, tokens) {
         Some(at) => Err(Refused::Mistake {
@@ -82,7 +93,8 @@ pub fn refuse_prec(outline: &Outline, symbols: &SymbolTable, tokens: usize) -> R
 
 /// Refuses more symbols, rules or symbols in a body than the limits.
 pub fn refuse_limit(symbols: &SymbolTable, rules: &[Rule]) -> Result<(), Refused>
-    ensures { (t : TreeOf) → texts symbols.now ≡ symbols_of_tree t →
+    ensures place { (t : TreeOf) (ss : List Site) → IfErr result (IsPlaced t ss) }
+    ensures clears { (t : TreeOf) → texts symbols.now ≡ symbols_of_tree t →
         rules.now
         ≡ map (rule_numbers (symbols_of_tree t) (token_precedences t)) (rules_of_tree t) →
         Clears t Limit result }

@@ -3,3 +3,4 @@ pub mod OwnSteps
 pub mod TokenSteps
 pub mod GivenTables
 pub mod SiteSteps
+pub mod PlaceSteps

@@ -1,10 +1,9 @@
 -- The lists of a file are those of its sites.
 use Rattle.std.proofs.Common.{ℕ, ◌≡◌, Bool, true, false, List, [], ◌∷◌, ◌++◌, map, Option, Some, None}
 use Rattle.std.proofs.Common.{refl, sym, ap, subst, ◌∙◌, append-nil}
-use Rattle.std.proofs.lemmas.List.Elements.{filter_map-append}
+use Rattle.std.proofs.lemmas.Grind.{flat_map-append}
 use Rattle.std.proofs.lemmas.List.{map-append}
 use Rattle.std.specs.List.{flat_map, AllByRecursion}
-use Rattle.ysymbols.specs.Sources.{option_view}
 use Rattle.youtline.specs.declared.outline.Listed.{Listed}
 use Rattle.youtline.specs.declared.outline.Started.{Started}
 use Rattle.ysyntax.specs.Tree.{Identifier}
@@ -22,16 +21,16 @@ use Rattle.ysyntax.specs.declared.tree.Entry.{Entry as CodeEntry}
 use Rattle.ysyntax.specs.declared.tree.NameAt.{NameAt}
 use Rattle.ysyntax.specs.declared.tree.Occurrence.{Occurrence}
 use Rattle.ysyntax.specs.declared.tree.RuleText.{RuleText as CodeRuleText}
-use Rattle.ysyntax.specs.Sites.{Role, Site, prec_name, tag, typed, left_side}
+use Rattle.ysyntax.specs.Sites.{each, Role, Site, prec_name, tag, typed, left_side}
 use Rattle.ysyntax.specs.SiteViews.{body_part_sites, definition_sites, digits_site, entry_sites}
 use Rattle.ysyntax.specs.SiteViews.{name_site, occurrence_site, one, rule_text_sites}
 
 -- ---- piece by piece
 
-select_append : {A : Type 0} (f : Role → Option A) (xs ys : List Site) →
+pub select_append : {A : Type 0} (f : Role → Option A) (xs ys : List Site) →
     select f (xs ++ ys) ≡ select f xs ++ select f ys
 select_append {A = A} f xs ys =
-    filter_map-append (λ (s : Site). option_view (λ (x : A). (x, s.at)) (f s.role)) xs ys
+    flat_map-append (λ (s : Site). each (λ (x : A). (x, s.at) ∷ []) (f s.role)) xs ys
 
 -- where each piece has what stands in it, all have
 gather : {X Y A : Type 0} (f : Role → Option A) (g : X → List Site) (h : X → List Y)

@@ -1,5 +1,6 @@
 -- The lists of a file, with the places of what stands in them.
 use Rattle.std.specs.Prelude.{ℕ, ◌≡◌, Bool, true, false, List, [], ◌∷◌, ◌++◌, map, Option, Some, None}
+use Rattle.std.specs.Prelude.{Result, IfErr}
 use Rattle.std.specs.List.{flat_map, AllByRecursion}
 use Rattle.youtline.specs.declared.mistake.Refused.{Refused}
 use Rattle.youtline.specs.declared.mistake.Refused.TheVariants as refused
@@ -113,3 +114,7 @@ pub record OutlineSites (o : Outline) (ds rs : List Site) : Type 0 where
 abbrev pub IsPlaced : Tree → List Site → Refused → Type 0
 IsPlaced t ss (refused.Mistake what at) = StandsAt t ss what at
 IsPlaced t ss refused.Memory = Unit {0}
+
+-- an answer's mistake stands at its place
+abbrev pub Places : {A : Type 0} → Outline → Tree → Result A Refused → Type 0
+Places o t r = (ds rs : List Site) → OutlineSites o ds rs → IfErr r (IsPlaced t (ds ++ rs))

@@ -1,7 +1,7 @@
 -- Where the mistakes of a file stand, by the sites of its tree.
 use Rattle.std.specs.Prelude.{ℕ, ◌≡◌, ◌⊎◌, Bool, true, false, not, List, [], ◌∷◌, map, Option, Some}
 use Rattle.std.specs.Prelude.{None}
-use Rattle.std.specs.List.{filter_map, last_or}
+use Rattle.std.specs.List.{flat_map, last_or}
 use Rattle.youtline.specs.declared.mistake.Mistake.{Mistake}
 use Rattle.youtline.specs.declared.mistake.Mistake.TheVariants.{TokenLeft, Undefined}
 use Rattle.youtline.specs.declared.mistake.Mistake.TheVariants.{TwicePrecedence, BadNumber}
@@ -11,13 +11,12 @@ use Rattle.youtline.specs.declared.mistake.Mistake.TheVariants.{Limit}
 use Rattle.youtline.specs.Elaboration.{is_nonterminal, is_token, symbols}
 use Rattle.youtline.specs.Printed.{printed_name}
 use Rattle.ysymbols.specs.Names.{is_among}
-use Rattle.ysymbols.specs.Sources.{option_view}
-use Rattle.ysyntax.specs.Sites.{Role, Site, start_word, used, prec_name, typed, left_side}
+use Rattle.ysyntax.specs.Sites.{each, Role, Site, start_word, used, prec_name, typed, left_side}
 use Rattle.ysyntax.specs.Tree.{Tree}
 
 -- what the sites of some kind are, each with its place
 abbrev pub select : {A : Type 0} → (Role → Option A) → List Site → List (A × ℕ)
-select f ss = filter_map (λ s. option_view (λ x. (x, s.at)) (f s.role)) ss
+select f ss = flat_map (λ s. each (λ x. (x, s.at) ∷ []) (f s.role)) ss
 
 -- the first site of such a role stands at the place
 abbrev pub FirstAt : (Role → Type 0) → List Site → ℕ → Type 0

@@ -234,7 +234,7 @@ past : (bytes rest m : List ℕ) (ls : List Placed) (q : State) (l : Lexeme) (en
     drop end bytes ≡ m
 past bytes rest m ls q l end c h z = back_there bytes m end (after_part bytes rest m ls q l c h) z
 
-what_marks : (ls : List Placed) → map (λ (m : Mark). m.what) (marks_in ls) ≡ views ls
+pub what_marks : (ls : List Placed) → map (λ (m : Mark). m.what) (marks_in ls) ≡ views ls
 what_marks [] = refl
 what_marks (p ∷ ls) = ap (λ z. lexeme_view p.lexeme ∷ z) (what_marks ls)
 

@@ -2,6 +2,9 @@ use Rattle.std.proofs.Common.{refl}
 use Rattle.ygrammar.specs.Elaborated.{IsReady}
 use Rattle.ysyntax.specs.Tree.{yield}
 use Rattle.ysyntax.specs.TreeViews.{tree_view}
+use Rattle.youtline.specs.OutlineSites.{IsPlaced}
+use Rattle.ysyntax.specs.SiteViews.{tree_sites}
+use Rattle.ygrammar.proofs.PlaceSteps.{memory_placed, passes_place}
 use Rattle.ygrammar.proofs.MeaningSteps.{are_in}
 use Rattle.ygrammar.proofs.SymbolNames.{spelled_names}
 use Rattle.ygrammar.proofs.Wellness.{well_formed_of}
@@ -12,7 +15,7 @@ ready : (c : In_ok-texts) → IsReady (tree_view c.args.tree.now) c.in_ok-named.
     c.in_ok-rules.rules.items c.in_ok-texts.texts.texts
 ready c =
     let t = tree_view c.args.tree.now in
-    let n = c.in_ok-named.ensures in
+    let n = c.in_ok-named.ensures.named in
     let vs = c.in_ok-rules.ensures.numbered in
     let sound = c.in_ok-rules.ensures.decides in
     record {
@@ -30,5 +33,21 @@ ready c =
 pub grammar_of-requires : goal.grammar_of-requires
 grammar_of-requires c = (_, ready (goal.at.grammar_of-requires c).In_ok-texts)
 
-pub returns : goal.returns
-returns c = c.grammar_of.ensures _ (ready (goal.at.returns c).In_ok-texts)
+pub returns-clause-means : goal.returns-clause-means
+returns-clause-means c = c.grammar_of.ensures.means _ (ready (goal.at.returns-clause-means c).In_ok-texts)
+
+pub returns-in_err-named-clause-place : goal.returns-in_err-named-clause-place
+returns-in_err-named-clause-place c =
+    passes_place (IsPlaced (tree_view c.args.tree.now) (tree_sites c.args.tree.now))
+    c.in_err-named.field-0.0 _ c.from_residual-in_err-named.ensures.1
+    (c.in_err-named.ensures.place _ _ c.in_ok-outline.ensures.sites)
+
+pub returns-in_err-rules-clause-place : goal.returns-in_err-rules-clause-place
+returns-in_err-rules-clause-place c =
+    passes_place (IsPlaced (tree_view c.args.tree.now) (tree_sites c.args.tree.now))
+    c.in_err-rules.field-0.0 _ c.from_residual-in_err-rules.ensures.1
+    (c.in_err-rules.ensures.place _ _ c.in_ok-outline.ensures.sites)
+
+pub returns-clause-place : goal.returns-clause-place
+returns-clause-place c = memory_placed (tree_view c.args.tree.now) (tree_sites c.args.tree.now)
+    c.grammar_of.result c.grammar_of.ensures.memory

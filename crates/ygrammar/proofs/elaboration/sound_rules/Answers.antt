@@ -5,6 +5,9 @@ use Rattle.youtline.specs.Elaboration.{tokens}
 use Rattle.youtline.specs.Mistakes.{Holds}
 use Rattle.ysymbols.specs.NameTexts.{texts}
 use Rattle.ysyntax.specs.TreeViews.{tree_view}
+use Rattle.std.proofs.Common.{◌++◌}
+use Rattle.youtline.specs.OutlineSites.{IsPlaced}
+use Rattle.ygrammar.proofs.PlaceSteps.{passes_place}
 use Rattle.ygrammar.proofs.ElaborationSteps.{passes, refuses}
 use Rattle.ygrammar.proofs.MeaningSteps.{are_in, numbered_rules}
 use Rattle.ygrammar.proofs.Wellness.{tokens_within}
@@ -17,7 +20,7 @@ numbered c = numbered_rules c.args.tree.now c.args.named.now c.args.outline.now
     c.deref.ensures.value c.deref-2.ensures.value c.in_ok-rules.ensures
 
 no_bad_start : (c : In_ok-rules) → Holds (tree_view c.args.tree.now) mistakes.BadStart → ⊥
-no_bad_start c = c.in_ok-refuse_start.ensures _ c.requires.outline c.requires.named.names
+no_bad_start c = c.in_ok-refuse_start.ensures.clears _ c.requires.outline c.requires.named.names
     c.requires.named.tokens_first
 
 pub refuse_rules-requires-clause-within : goal.refuse_rules-requires-clause-within
@@ -42,14 +45,14 @@ returns-in_err-refuse_start-clause-decides c =
     refuses (λ r. Decides t r) t 4 mistakes.BadStart c.in_err-refuse_start.field-0.0 _
     (λ y f. f) refl c.from_residual.ensures.1
     (n.no_token_left, (n.all_defined, (n.once, (n.own.sound, tt))))
-    (c.in_err-refuse_start.ensures t c.requires.outline n.names n.tokens_first)
+    (c.in_err-refuse_start.ensures.clears t c.requires.outline n.names n.tokens_first)
 
 pub returns-in_err-refuse_rules-clause-decides : goal.returns-in_err-refuse_rules-clause-decides
 returns-in_err-refuse_rules-clause-decides c =
     let t = tree_view c.args.tree.now in
     let here = (goal.at.returns-in_err-refuse_rules-clause-decides c).In_ok-rules in
     passes t c.in_err-refuse_rules.field-0.0 _ c.from_residual-in_err-refuse_rules.ensures.1
-    (c.in_err-refuse_rules.ensures t c.requires.outline c.requires.named
+    (c.in_err-refuse_rules.ensures.decides t c.requires.outline c.requires.named
     (c.deref-3.ensures.value ∙ numbered here) (no_bad_start here))
 
 pub returns-clause-numbered : goal.returns-clause-numbered
@@ -58,5 +61,17 @@ returns-clause-numbered c = numbered (goal.at.returns-clause-numbered c).In_ok-r
 pub returns-clause-decides : goal.returns-clause-decides
 returns-clause-decides c =
     let here = (goal.at.returns-clause-decides c).In_ok-rules in
-    c.in_ok-refuse_rules.ensures _ c.requires.outline c.requires.named
+    c.in_ok-refuse_rules.ensures.decides _ c.requires.outline c.requires.named
     (c.deref-3.ensures.value ∙ numbered here) (no_bad_start here)
+
+pub returns-in_err-refuse_start-clause-place : goal.returns-in_err-refuse_start-clause-place
+returns-in_err-refuse_start-clause-place c = λ ds rs out.
+    passes_place (IsPlaced (tree_view c.args.tree.now) (ds ++ rs)) c.in_err-refuse_start.field-0.0 _
+    c.from_residual.ensures.1
+    (c.in_err-refuse_start.ensures.place (tree_view c.args.tree.now) ds rs out)
+
+pub returns-in_err-refuse_rules-clause-place : goal.returns-in_err-refuse_rules-clause-place
+returns-in_err-refuse_rules-clause-place c = λ ds rs out.
+    passes_place (IsPlaced (tree_view c.args.tree.now) (ds ++ rs)) c.in_err-refuse_rules.field-0.0 _
+    c.from_residual-in_err-refuse_rules.ensures.1
+    (c.in_err-refuse_rules.ensures.place (tree_view c.args.tree.now) c.requires.named ds rs out)

@@ -14,7 +14,9 @@ use Rattle.ylexemes.specs.Views.{lexeme_view}
 use Rattle.ygrammar.proofs.InnerSteps.{few_inner}
 use Rattle.ygrammar.proofs.OneMeaning.{none_first}
 use Rattle.ygrammar.proofs.ReaderSteps.{fault_of, has_tree, no_grammar, ok_err, read_no_fault}
-use Rattle.ygrammar.proofs.ReaderSteps.{refusal_line, same_grammar, same_mistake, same_refusal, same_tree}
+use Rattle.ysyntax.specs.Sites.{AreSites}
+use Rattle.ysyntax.specs.SiteViews.{tree_sites}
+use Rattle.ygrammar.proofs.ReaderSteps.{refusal_line, sites_of, same_grammar, same_mistake, same_refusal, same_tree}
 use Rattle.ygrammar.proofs.reader.read_placed.Goals.{In_ok-tree}
 use Rattle.ygrammar.proofs.reader.read_placed.Goals as goal
 
@@ -24,6 +26,13 @@ has c = has_tree c.args.source.now c.in_ok-lexemes.lexemes.items c.deref.result.
     (tree_view c.in_ok-tree.tree) c.deref.ensures.value c.in_ok-tree.ensures.whole
     c.in_ok-tree.ensures.shaped (λ l. ok_err c.in_ok-lexemes.lexemes too_long
     (c.in_ok-lexemes.ensures.too_long.1 l)) c.in_ok-lexemes.ensures.found
+
+-- the sites of the file
+sites : (c : In_ok-tree) →
+    AreSites c.args.source.now (tree_view c.in_ok-tree.tree) (tree_sites c.in_ok-tree.tree)
+sites c = sites_of c.args.source.now c.in_ok-lexemes.lexemes.items c.deref.result.now
+    c.in_ok-tree.tree c.deref.ensures.value c.in_ok-tree.ensures.whole c.in_ok-tree.ensures.sites
+    c.in_ok-lexemes.ensures.sites
 
 pub elaborate-requires-clause-spelled : goal.elaborate-requires-clause-spelled
 elaborate-requires-clause-spelled c = (
@@ -59,7 +68,7 @@ pub returns-in-Ok-clause-found : goal.returns-in-Ok-clause-found
 returns-in-Ok-clause-found c = (
   tree_view c.in_ok-tree.tree,
   has (goal.at.returns-in-Ok-clause-found c).In_ok-tree,
-  c.in-Ok.ensures,
+  c.in-Ok.ensures.means,
 )
 
 pub returns-in-Ok-clause-only : goal.returns-in-Ok-clause-only
@@ -67,7 +76,7 @@ returns-in-Ok-clause-only c = λ g (u, h, m).
     same_grammar c.args.source.now (tree_view c.in_ok-tree.tree) u c.in-Ok.grammar g
     (same_tree c.args.source.now c.in_ok-lexemes.lexemes.items c.deref.result.now
     (tree_view c.in_ok-tree.tree) u c.deref.ensures.value c.in_ok-tree.ensures.whole
-    c.in_ok-tree.ensures.shaped c.in_ok-lexemes.ensures.only h) c.in-Ok.ensures m
+    c.in_ok-tree.ensures.shaped c.in_ok-lexemes.ensures.only h) c.in-Ok.ensures.means m
 
 pub returns-in-Ok-clause-refused : goal.returns-in-Ok-clause-refused
 returns-in-Ok-clause-refused c = λ r (short, out).
@@ -76,7 +85,7 @@ returns-in-Ok-clause-refused c = λ r (short, out).
 
 pub returns-in-Ok-clause-mistaken : goal.returns-in-Ok-clause-mistaken
 returns-in-Ok-clause-mistaken c = λ m (u, h, first).
-    none_first (tree_view c.in_ok-tree.tree) order m c.in-Ok.ensures.sound
+    none_first (tree_view c.in_ok-tree.tree) order m c.in-Ok.ensures.means.sound
     (subst (λ x. IsFirst x order m)
     (same_tree c.args.source.now c.in_ok-lexemes.lexemes.items c.deref.result.now
     (tree_view c.in_ok-tree.tree) u c.deref.ensures.value c.in_ok-tree.ensures.whole
@@ -88,7 +97,7 @@ returns-clause-only c = λ g (u, h, m).
     c.in_file.result g
     (same_tree c.args.source.now c.in_ok-lexemes.lexemes.items c.deref.result.now
     (tree_view c.in_ok-tree.tree) u c.deref.ensures.value c.in_ok-tree.ensures.whole
-    c.in_ok-tree.ensures.shaped c.in_ok-lexemes.ensures.only h) c.in-Err.ensures
+    c.in_ok-tree.ensures.shaped c.in_ok-lexemes.ensures.only h) c.in-Err.ensures.means
     c.in_file.ensures m
 
 pub returns-clause-refused : goal.returns-clause-refused
@@ -98,17 +107,22 @@ returns-clause-refused c = λ r (short, out).
 
 pub returns-clause-mistaken : goal.returns-clause-mistaken
 returns-clause-mistaken c = λ m (u, h, first).
-    same_mistake c.args.source.now (tree_view c.in_ok-tree.tree) u c.in-Err.refused
+    same_mistake c.args.source.now (tree_view c.in_ok-tree.tree) u (tree_sites c.in_ok-tree.tree)
+    c.in-Err.refused
     c.in_file.result m
     (same_tree c.args.source.now c.in_ok-lexemes.lexemes.items c.deref.result.now
     (tree_view c.in_ok-tree.tree) u c.deref.ensures.value c.in_ok-tree.ensures.whole
     c.in_ok-tree.ensures.shaped c.in_ok-lexemes.ensures.only h)
-    (has (goal.at.returns-clause-mistaken c).In_ok-tree) c.in-Err.ensures c.in_file.ensures first
+    (has (goal.at.returns-clause-mistaken c).In_ok-tree)
+    (sites (goal.at.returns-clause-mistaken c).In_ok-tree) c.in-Err.ensures.means
+    c.in-Err.ensures.place c.in_file.ensures first
 
 pub returns-clause-fault : goal.returns-clause-fault
 returns-clause-fault c =
-    fault_of c.args.source.now (tree_view c.in_ok-tree.tree) c.in-Err.refused c.in_file.result
-    (has (goal.at.returns-clause-fault c).In_ok-tree) c.in-Err.ensures c.in_file.ensures
+    fault_of c.args.source.now (tree_view c.in_ok-tree.tree) (tree_sites c.in_ok-tree.tree)
+    c.in-Err.refused c.in_file.result (has (goal.at.returns-clause-fault c).In_ok-tree)
+    (sites (goal.at.returns-clause-fault c).In_ok-tree) c.in-Err.ensures.means
+    c.in-Err.ensures.place c.in_file.ensures
 
 pub returns-clause-line : goal.returns-clause-line
 returns-clause-line c =

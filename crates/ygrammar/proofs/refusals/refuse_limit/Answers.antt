@@ -9,15 +9,15 @@ use Rattle.ygrammar.proofs.MistakeSteps.{long_found, no_limit}
 use Rattle.ysymbols.proofs.NameSteps.{length_texts}
 use Rattle.ygrammar.proofs.refusals.refuse_limit.Goals as goal
 
-pub returns-then-any_long : goal.returns-then-any_long
-returns-then-any_long c = λ t e f. (
+pub returns-then-any_long-clause-clears : goal.returns-then-any_long-clause-clears
+returns-then-any_long-clause-clears c = λ t e f. (
   refl,
   long_found t (texts c.args.symbols.now) c.args.rules.now f
       (sym c.any_long.ensures ∙ c.if-any_long.true),
 )
 
-pub returns : goal.returns
-returns c = λ t e f.
+pub returns-clause-clears : goal.returns-clause-clears
+returns-clause-clears c = λ t e f.
     let a : length c.args.symbols.now.keys ≡ length (symbols_of_tree t) =
     sym (length_texts c.args.symbols.now.keys) ∙ ap (λ (x : List (List ℕ)). length x) e in
     let b : length c.args.rules.now ≡ length (rules_of_tree t) =

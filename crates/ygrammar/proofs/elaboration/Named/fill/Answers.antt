@@ -2,6 +2,9 @@ use Rattle.std.proofs.Common.{IfErr, refl}
 use Rattle.youtline.specs.declared.mistake.Mistake.TheVariants as mistakes
 use Rattle.ygrammar.specs.Elaborated.{IsFirstRefused}
 use Rattle.ysyntax.specs.TreeViews.{tree_view}
+use Rattle.std.proofs.Common.{◌++◌}
+use Rattle.youtline.specs.OutlineSites.{IsPlaced}
+use Rattle.ygrammar.proofs.PlaceSteps.{passes_place, placed}
 use Rattle.ygrammar.proofs.ElaborationSteps.{refuses}
 use Rattle.ygrammar.proofs.elaboration.Named.fill.Goals as goal
 
@@ -11,7 +14,7 @@ returns-in_err-refuse_token_left-clause-refused c =
     let t = tree_view c.args.tree.now in
     refuses (λ r. IfErr r (IsFirstRefused t)) t 0 mistakes.TokenLeft
     c.in_err-refuse_token_left.field-0.0 _ (λ y f. f) refl c.from_residual.ensures.1 tt
-    (c.in_err-refuse_token_left.ensures t c.requires.outline c.requires.names)
+    (c.in_err-refuse_token_left.ensures.clears t c.requires.outline c.requires.names)
 
 pub returns-in_err-add_nonterminals-clause-refused :
     goal.returns-in_err-add_nonterminals-clause-refused
@@ -20,7 +23,7 @@ returns-in_err-add_nonterminals-clause-refused c =
     refuses (λ r. IfErr r (IsFirstRefused t)) t 1 mistakes.Undefined
     c.in_err-add_nonterminals.field-0.0 _ (λ y f. f) refl
     c.from_residual-in_err-add_nonterminals.ensures.1
-    (c.in_ok-refuse_token_left.ensures t c.requires.outline c.requires.names, tt)
+    (c.in_ok-refuse_token_left.ensures.clears t c.requires.outline c.requires.names, tt)
     c.in_err-add_nonterminals.ensures.defined
 
 pub returns-in_err-self-clause-refused :
@@ -30,7 +33,7 @@ returns-in_err-self-clause-refused c =
     let o = c.requires.outline in
     refuses (λ r. IfErr r (IsFirstRefused t)) t 2 mistakes.TwicePrecedence c.in_err-self.field-0.0 _
     (λ y f. f) refl c.from_residual-in_err-self.ensures.1 (
-      c.in_ok-refuse_token_left.ensures t o c.requires.names,
+      c.in_ok-refuse_token_left.ensures.clears t o c.requires.names,
       (c.in_ok-add_nonterminals.ensures.defined, tt),
     )
     (c.in_err-self.ensures t o c.requires.names)
@@ -42,7 +45,7 @@ returns-in_err-self-2-clause-refused c =
     let o = c.requires.outline in
     refuses (λ r. IfErr r (IsFirstRefused t)) t 3 mistakes.BadNumber c.in_err-self-2.field-0.0 _
     (λ y f. f) refl c.from_residual-in_err-self-2.ensures.1 (
-      c.in_ok-refuse_token_left.ensures t o c.requires.names,
+      c.in_ok-refuse_token_left.ensures.clears t o c.requires.names,
       (
         c.in_ok-add_nonterminals.ensures.defined,
         ((c.in_ok-self.ensures t o c.requires.names).sound, tt),
@@ -60,7 +63,35 @@ returns-clause-filled c =
       tokens_first = c.requires.tokens;
       given = given.table;
       own = c.in_ok-self-2.ensures t o c.requires.names;
-      no_token_left = c.in_ok-refuse_token_left.ensures t o c.requires.names;
+      no_token_left = c.in_ok-refuse_token_left.ensures.clears t o c.requires.names;
       all_defined = c.in_ok-add_nonterminals.ensures.defined;
       once = given.sound;
     }
+
+pub returns-in_err-refuse_token_left-clause-place : goal.returns-in_err-refuse_token_left-clause-place
+returns-in_err-refuse_token_left-clause-place c = λ ds rs out.
+    passes_place (IsPlaced (tree_view c.args.tree.now) (ds ++ rs))
+    c.in_err-refuse_token_left.field-0.0 _ c.from_residual.ensures.1
+    (c.in_err-refuse_token_left.ensures.place (tree_view c.args.tree.now) ds rs out c.requires.names)
+
+pub returns-in_err-add_nonterminals-clause-place : goal.returns-in_err-add_nonterminals-clause-place
+returns-in_err-add_nonterminals-clause-place c = λ ds rs out.
+    passes_place (IsPlaced (tree_view c.args.tree.now) (ds ++ rs))
+    c.in_err-add_nonterminals.field-0.0 _ c.from_residual-in_err-add_nonterminals.ensures.1
+    (c.in_err-add_nonterminals.ensures.place ds rs out)
+
+pub returns-in_err-self-clause-place : goal.returns-in_err-self-clause-place
+returns-in_err-self-clause-place c = λ ds rs out.
+    let t = tree_view c.args.tree.now in
+    passes_place (IsPlaced t (ds ++ rs)) c.in_err-self.field-0.0 _
+    c.from_residual-in_err-self.ensures.1
+    (placed t (ds ++ rs) mistakes.TwicePrecedence c.in_err-self.field-0.0
+    (c.in_err-self.ensures t c.requires.outline c.requires.names) (λ at. tt))
+
+pub returns-in_err-self-2-clause-place : goal.returns-in_err-self-2-clause-place
+returns-in_err-self-2-clause-place c = λ ds rs out.
+    let t = tree_view c.args.tree.now in
+    passes_place (IsPlaced t (ds ++ rs)) c.in_err-self-2.field-0.0 _
+    c.from_residual-in_err-self-2.ensures.1
+    (placed t (ds ++ rs) mistakes.BadNumber c.in_err-self-2.field-0.0
+    (c.in_err-self-2.ensures t c.requires.outline c.requires.names) (λ at. tt))

@@ -55,8 +55,8 @@ reachable-requires-clause-in_range c =
     subst (λ (vs : List RuleValue). AreIn c.len.result vs) (sym c.deref-3.ensures.value)
     (subst (λ k. AreIn k c.args.rules.items) (sym n) r.in_range)
 
-pub returns : goal.returns
-returns c = λ t r.
+pub returns-clause-means : goal.returns-clause-means
+returns-clause-means c = λ t r.
     let n : AreNumbers c.args.named.own.numbers.items c.in_ok-numbers.numbers.items =
     subst (λ (x : List (Option ℕ)). AreNumbers x c.in_ok-numbers.numbers.items)
     c.deref.ensures.value c.in_ok-numbers.ensures in

@@ -1,0 +1,260 @@
+-- Where the mistakes of a tree stand.
+use Rattle.std.proofs.Common.{ℕ, ◌≡◌, Bool, true, false, not, List, [], ◌∷◌, ◌++◌, length, map}
+use Rattle.std.proofs.Common.{Option, Some, None, refl, sym, ap, subst, ◌∙◌, append-nil}
+use Rattle.std.proofs.Common.{Result, Ok, Err, IsErrAnd}
+use Rattle.std.specs.Prelude.{IfErr}
+use Rattle.std.specs.List.{find, last_or, AllByRecursion}
+use Rattle.ysymbols.specs.Grammar.{ContextFree}
+use Rattle.ygrammar.specs.Elaborated.{Fruitful}
+use Rattle.ysymbols.specs.Names.{Name, is_among, number_in}
+use Rattle.ysymbols.specs.Sources.{option_view}
+use Rattle.ysymbols.proofs.NameSteps.{false_true}
+use Rattle.youtline.specs.declared.mistake.Mistake.{Mistake}
+use Rattle.youtline.specs.declared.mistake.Mistake.TheVariants as mistakes
+use Rattle.youtline.specs.declared.mistake.Refused.{Refused}
+use Rattle.youtline.specs.declared.mistake.Refused.TheVariants as refused
+use Rattle.youtline.specs.declared.outline.Outline.{Outline}
+use Rattle.youtline.specs.declared.outline.Started.{Started}
+use Rattle.youtline.specs.Elaboration.{is_nonterminal, is_token, symbols, tokens}
+use Rattle.youtline.specs.Outline.{start_view}
+use Rattle.youtline.specs.OutlineSites.{IsPlaced, OutlineSites, is_of_rule, left_of, name_at}
+use Rattle.youtline.specs.OutlineSites.{occurrence_at, prec_of, start_at, typed_of, use_of}
+use Rattle.youtline.specs.Owned.{Refuses}
+use Rattle.youtline.specs.Places.{FirstAt, StandsAt, is_bad_prec, is_token_left, is_undefined}
+use Rattle.youtline.specs.Places.{last_start, select, start_of}
+use Rattle.youtline.specs.Printed.{printed_name}
+use Rattle.youtline.proofs.PlaceSteps.{all_map, first_behind, first_front, found_in, last_seen}
+use Rattle.youtline.proofs.PlaceSteps.{none_found}
+use Rattle.youtline.proofs.SiteSteps.{select_append}
+use Rattle.youtline.proofs.TokenSteps.{token_among}
+use Rattle.ysyntax.specs.declared.tree.NameAt.{NameAt}
+use Rattle.ysyntax.specs.declared.tree.Occurrence.{Occurrence}
+use Rattle.ysyntax.specs.Sites.{Role, Site, start_word, used, prec_name, typed, left_side}
+use Rattle.ysyntax.specs.Tree.{Identifier, Tree}
+use Rattle.ysyntax.specs.TreeViews.{name_view, occurrence_view}
+use Rattle.ygrammar.specs.Numbered.{is_between}
+use Rattle.ygrammar.proofs.MistakeSteps.{between_here}
+
+abbrev InDeclaration : Site → Type 0
+InDeclaration s = is_of_rule s.role ≡ false
+
+abbrev InRule : Site → Type 0
+InRule s = is_of_rule s.role ≡ true
+
+clash : {A : Type 0} (b : Bool) → b ≡ true → b ≡ false → A
+clash b t f = absurd (false_true (sym f ∙ t))
+
+-- ---- tokens on the left
+
+module _ (t : Tree) (ns : List Name) (are : ns ≡ tokens t) where
+  token : (n : Name) → is_among ns n ≡ is_token t n
+  token n = ap (λ (x : List Name). is_among x n) are ∙ token_among t n
+
+  abbrev TokenLeft : Role → Type 0
+  TokenLeft r = is_token_left t r ≡ true
+
+  typed_yes : (r : Role) (n : Name) → typed_of r ≡ Some n → is_among ns n ≡ true → TokenLeft r
+  typed_yes (typed m) n e h =
+      let same : m ≡ n = cc in
+      ap (is_token t) same ∙ sym (token n) ∙ h
+  typed_yes _ n e h = cc
+
+  left_yes : (r : Role) (n : Name) → left_of r ≡ Some n → is_among ns n ≡ true → TokenLeft r
+  left_yes (left_side m) n e h =
+      let same : m ≡ n = cc in
+      ap (is_token t) same ∙ sym (token n) ∙ h
+  left_yes _ n e h = cc
+
+  typed_shows : (r : Role) → is_of_rule r ≡ false → TokenLeft r →
+      (n : Name) × (typed_of r ≡ Some n) × (is_among ns n ≡ true)
+  typed_shows (typed m) w h = (m, refl, token m ∙ h)
+  typed_shows (left_side m) w h = cc
+  typed_shows _ w h = cc
+
+  left_shows : (r : Role) → is_of_rule r ≡ true → TokenLeft r →
+      (n : Name) × (left_of r ≡ Some n) × (is_among ns n ≡ true)
+  left_shows (left_side m) w h = (m, refl, token m ∙ h)
+  left_shows (typed m) w h = cc
+  left_shows _ w h = cc
+
+  module _ (o : Outline) (ds rs : List Site) (out : OutlineSites o ds rs) (now : List NameAt)
+      (same : now ≡ o.typed.items) (a : Option ℕ)
+      (is : a ≡ option_view (λ n. n.at) (find (λ n. is_among ns (name_view n)) now)) where
+    shown : AllByRecursion (λ s. TokenLeft s.role → (n : Name) × (typed_of s.role ≡ Some n)
+        × (is_among ns n ≡ true)) ds
+    shown = all_map InDeclaration _ (λ s w. typed_shows s.role w) ds out.of_declarations
+
+    pub token_typed_at : (at : ℕ) → a ≡ Some at → FirstAt TokenLeft (ds ++ rs) at
+    token_typed_at at h = first_front TokenLeft ds rs at
+        (found_in typed_of (is_among ns) TokenLeft typed_yes name_view (λ n. n.at) o.typed.items
+        now a ds same out.typed is shown at h)
+
+    pub token_left_at : (later : List NameAt) → later ≡ o.lefts.items → (b : Option ℕ) →
+        b ≡ option_view (λ n. n.at) (find (λ n. is_among ns (name_view n)) later) → a ≡ None →
+        (at : ℕ) → b ≡ Some at → FirstAt TokenLeft (ds ++ rs) at
+    token_left_at later e b w n at h = first_behind TokenLeft ds rs at
+        (none_found typed_of (is_among ns) TokenLeft typed_yes name_view (λ n. n.at) o.typed.items
+        now a ds same out.typed is shown n)
+        (found_in left_of (is_among ns) TokenLeft left_yes name_view (λ n. n.at) o.lefts.items
+        later b rs e out.lefts w
+        (all_map InRule _ (λ s w. left_shows s.role w) rs out.of_rules) at h)
+
+-- ---- names that are no symbols
+
+module _ (t : Tree) (ns : List Name) (are : ns ≡ symbols t) where
+  unknown : (n : Name) → not (is_among ns n) ≡ not (is_among (symbols t) n)
+  unknown n = ap (λ (x : List Name). not (is_among x n)) are
+
+  abbrev Unknown : Role → Type 0
+  Unknown r = is_undefined t r ≡ true
+
+  abbrev no_symbol : Name → Bool
+  no_symbol n = not (is_among ns n)
+
+  abbrev no_use : Identifier → Bool
+  no_use i = not (is_among ns (printed_name i))
+
+  unknown_yes : (r : Role) (n : Name) → typed_of r ≡ Some n → no_symbol n ≡ true → Unknown r
+  unknown_yes (typed m) n e h =
+      let same : m ≡ n = cc in
+      ap (λ (x : Name). not (is_among (symbols t) x)) same ∙ sym (unknown n) ∙ h
+  unknown_yes _ n e h = cc
+
+  use_yes : (r : Role) (i : Identifier) → use_of r ≡ Some i → no_use i ≡ true → Unknown r
+  use_yes (used j) i e h =
+      let same : j ≡ i = cc in
+      ap (λ x. not (is_among (symbols t) (printed_name x))) same
+      ∙ sym (unknown (printed_name i)) ∙ h
+  use_yes (prec_name j) i e h =
+      let same : j ≡ i = cc in
+      ap (λ x. not (is_among (symbols t) (printed_name x))) same
+      ∙ sym (unknown (printed_name i)) ∙ h
+  use_yes _ i e h = cc
+
+  unknown_shows : (r : Role) → is_of_rule r ≡ false → Unknown r →
+      (n : Name) × (typed_of r ≡ Some n) × (no_symbol n ≡ true)
+  unknown_shows (typed m) w h = (m, refl, unknown m ∙ h)
+  unknown_shows (used i) w h = cc
+  unknown_shows (prec_name i) w h = cc
+  unknown_shows _ w h = cc
+
+  use_shows : (r : Role) → is_of_rule r ≡ true → Unknown r →
+      (i : Identifier) × (use_of r ≡ Some i) × (no_use i ≡ true)
+  use_shows (used i) w h = (i, refl, unknown (printed_name i) ∙ h)
+  use_shows (prec_name i) w h = (i, refl, unknown (printed_name i) ∙ h)
+  use_shows (typed m) w h = cc
+  use_shows _ w h = cc
+
+  module _ (o : Outline) (ds rs : List Site) (out : OutlineSites o ds rs) (now : List NameAt)
+      (same : now ≡ o.typed.items) (a : Option ℕ)
+      (is : a ≡ option_view (λ n. n.at) (find (λ n. not (is_among ns (name_view n))) now)) where
+    types_shown : AllByRecursion (λ s. Unknown s.role → (n : Name) × (typed_of s.role ≡ Some n)
+        × (no_symbol n ≡ true)) ds
+    types_shown = all_map InDeclaration _ (λ s w. unknown_shows s.role w) ds out.of_declarations
+
+    pub unknown_typed_at : (at : ℕ) → a ≡ Some at → FirstAt Unknown (ds ++ rs) at
+    unknown_typed_at at h = first_front Unknown ds rs at
+        (found_in typed_of no_symbol Unknown unknown_yes name_view (λ n. n.at) o.typed.items
+        now a ds same out.typed is types_shown at h)
+
+    pub unknown_used_at : (later : List Occurrence) → later ≡ o.used.items → (b : Option ℕ) →
+        b ≡ option_view (λ m. m.at)
+        (find (λ m. not (is_among ns (printed_name (occurrence_view m)))) later) → a ≡ None →
+        (at : ℕ) → b ≡ Some at → FirstAt Unknown (ds ++ rs) at
+    unknown_used_at later e b w n at h = first_behind Unknown ds rs at
+        (none_found typed_of no_symbol Unknown unknown_yes name_view (λ n. n.at) o.typed.items
+        now a ds same out.typed is types_shown n)
+        (found_in use_of no_use Unknown use_yes occurrence_view (λ m. m.at) o.used.items
+        later b rs e out.used w
+        (all_map InRule _ (λ s w. use_shows s.role w) rs out.of_rules) at h)
+
+-- ---- nonterminals behind `%prec`
+
+module _ (t : Tree) (ns : List Name) (k : ℕ) (are : ns ≡ symbols t)
+    (few : k ≡ length (tokens t)) where
+  abbrev BadPrec : Role → Type 0
+  BadPrec r = is_bad_prec t r ≡ true
+
+  abbrev above : Identifier → Bool
+  above i = is_between k (length ns) (number_in ns (printed_name i))
+
+  prec_yes : (r : Role) (i : Identifier) → prec_of r ≡ Some i → above i ≡ true → BadPrec r
+  prec_yes (prec_name j) i e h =
+      let same : j ≡ i = cc in
+      ap (λ x. is_nonterminal t (printed_name x)) same ∙ sym (between_here t ns k i are few) ∙ h
+  prec_yes _ i e h = cc
+
+  prec_shows : (r : Role) → BadPrec r → (i : Identifier) × (prec_of r ≡ Some i) × (above i ≡ true)
+  prec_shows (prec_name i) h = (i, refl, between_here t ns k i are few ∙ h)
+  prec_shows _ h = cc
+
+  no_prec_declared : (r : Role) → is_of_rule r ≡ false → BadPrec r → ⊥
+  no_prec_declared (prec_name i) w h = cc
+  no_prec_declared _ w h = cc
+
+  pub prec_at : (o : Outline) (ds rs : List Site) → OutlineSites o ds rs → (now : List Occurrence) →
+      now ≡ o.precs.items → (a : Option ℕ) → a ≡ option_view (λ m. m.at)
+      (find (λ m. is_between k (length ns) (number_in ns (printed_name (occurrence_view m)))) now) →
+      (at : ℕ) → a ≡ Some at → FirstAt BadPrec (ds ++ rs) at
+  prec_at o ds rs out now same a is at h = first_behind BadPrec ds rs at
+      (all_map InDeclaration _ (λ s w. no_prec_declared s.role w) ds out.of_declarations)
+      (found_in prec_of above BadPrec prec_yes occurrence_view (λ m. m.at) o.precs.items now a rs
+      same out.precs is (all_map InRule _ (λ s w. prec_shows s.role) rs out.of_rules) at h)
+
+-- ---- the last `%start`
+
+no_start_in_rules : (rs : List Site) → AllByRecursion InRule rs → select start_of rs ≡ []
+no_start_in_rules [] a = refl
+no_start_in_rules (s ∷ rs) a = go s.role s.at a.0 (no_start_in_rules rs a.1)
+  where
+    go : (r : Role) (at : ℕ) → is_of_rule r ≡ true → select start_of rs ≡ [] →
+        select start_of (record { role = r; at = at } ∷ rs) ≡ []
+    go start_word at w e = cc
+    go _ at w e = e
+
+map_map : (xs : List Started) → map (λ (p : Unit {0} × ℕ). p.1) (map start_at xs)
+    ≡ map (λ (s : Started). s.at) xs
+map_map [] = refl
+map_map (x ∷ xs) = ap (λ z. x.at ∷ z) (map_map xs)
+
+pub start_stands : (o : Outline) (ds rs : List Site) → OutlineSites o ds rs → (now : List Started) →
+    now ≡ o.starts.items → (at : ℕ) → option_view (λ s. s.at) (last_or None now) ≡ Some at →
+    last_start (ds ++ rs) ≡ Some at
+start_stands o ds rs out now same at h =
+    ap (λ (z : List (Unit {0} × ℕ)). last_or None (map (λ p. p.1) z))
+    (select_append start_of ds rs ∙ ap (λ z. select start_of ds ++ z)
+    (no_start_in_rules rs out.of_rules) ∙ append-nil (select start_of ds) ∙ sym out.starts)
+    ∙ ap (λ z. last_or None z) (map_map o.starts.items)
+    ∙ last_seen (λ (s : Started). s.at) None o.starts.items
+    ∙ ap (λ (z : List Started). option_view (λ s. s.at) (last_or None z)) (sym same) ∙ h
+
+-- ---- refusals
+
+-- a refusal of which the place is not told
+pub placed : (t : Tree) (ss : List Site) (m : Mistake) (e : Refused) → Refuses t m e →
+    ((at : ℕ) → StandsAt t ss m at) → IsPlaced t ss e
+placed t ss m (refused.Mistake what at) r all =
+    subst (λ x. StandsAt t ss x at) (sym r.0) (all at)
+placed t ss m refused.Memory r all = tt
+
+-- an answer that passes on a refusal has its place
+pub passes_place : {A : Type 0} (P : Refused → Type 0) (e : Refused) (r : Result A Refused) →
+    IsErrAnd r (λ y. y ≡ e) → P e → IfErr r P
+passes_place P e (Ok v) h p = absurd h
+passes_place P e (Err y) h p = subst P (sym h) p
+
+abbrev refuse_of : Refused → Result (Unit {0}) Refused
+refuse_of e = Err e
+
+-- a nonterminal that derives no list of tokens
+pub barren_placed : (t : Tree) (ss : List Site) (g : ContextFree) (e : Refused) →
+    Fruitful g (refuse_of e) → IsPlaced t ss e
+barren_placed t ss g (refused.Mistake what at) h =
+    subst (λ m. StandsAt t ss m at) (sym h.0) tt
+barren_placed t ss g refused.Memory h = tt
+
+-- where memory runs out nothing is said of a place
+pub memory_placed : {A : Type 0} (t : Tree) (ss : List Site) (r : Result A Refused) →
+    IfErr r (λ e. e ≡ refused.Memory) → IfErr r (IsPlaced t ss)
+memory_placed t ss (Ok v) h = tt
+memory_placed t ss (Err e) h = subst (IsPlaced t ss) (sym h) tt
