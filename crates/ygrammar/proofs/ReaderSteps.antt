@@ -27,7 +27,8 @@ use Rattle.ygrammar.specs.Elaborated.{IsFirstRefused}
 use Rattle.ygrammar.specs.Faults.{IsRefusal}
 use Rattle.ysymbols.specs.Grammar.{GrammarValue, longest_file}
 use Rattle.ygrammar.specs.GrammarOf.{AnswersGrammar, AnswersMistake, AnswersRefusal, HasTree}
-use Rattle.ygrammar.specs.GrammarOf.{HasLine, IsFaultAt, IsFaultOf, IsMistakenAt, IsMistakenOn}
+use Rattle.ygrammar.specs.GrammarOf.{HasLine, IsFaultAt, IsFaultOf, IsMistakeAt, IsMistakenAt, IsMistakenOn}
+use Rattle.ygrammar.specs.GrammarOf.{IsTextFault}
 use Rattle.ygrammar.specs.GrammarOf.{line_in, line_of}
 use Rattle.ygrammar.specs.GrammarOf.{mistake_at}
 use Rattle.ylexemes.specs.Lexemes.{Lexeme}
@@ -102,7 +103,7 @@ no_grammar source t u refused.Memory f h e first is m =
     subst (λ (x : PlacedFault). AnswersGrammar (err_of x.fault) h) (sym is) tt
 
 mistaken : (source : List ℕ) (m : Mistake) (line at : ℕ) → IsMistakenAt source m at →
-    IsFaultAt source at (mistake_at m line)
+    IsMistakeAt source at (mistake_at m line)
 mistaken source TokenLeft line at p = p
 mistaken source Undefined line at p = p
 mistaken source TwicePrecedence line at p = p
@@ -121,12 +122,12 @@ mistake_of source t ss m at h are first s = (t, h, first, (ss, are, s))
 -- the mistake of the tree is the fault of the file, at its place
 pub fault_of : (source : List ℕ) (t : Tree) (ss : List Site) (e : Refused) (f : PlacedFault) →
     HasTree source t → AreSites source t ss → IsFirstRefused t e → IsPlaced t ss e →
-    IsRefusal source e f → IsFaultAt source f.at f.fault
+    IsRefusal source e f → IsMistakeAt source f.at f.fault
 fault_of source t ss (refused.Mistake what at) f h are first p is =
-    subst (λ (x : PlacedFault). IsFaultAt source x.at x.fault) (sym is)
+    subst (λ (x : PlacedFault). IsMistakeAt source x.at x.fault) (sym is)
     (mistaken source what (line_of source at) at (mistake_of source t ss what at h are first p))
 fault_of source t ss refused.Memory f h are first p is =
-    subst (λ (x : PlacedFault). IsFaultAt source x.at x.fault) (sym is) refl
+    subst (λ (x : PlacedFault). IsMistakeAt source x.at x.fault) (sym is) refl
 
 -- the line of a refusal is that of its place
 pub refusal_line : (source : List ℕ) (e : Refused) (f : PlacedFault) → IsRefusal source e f →
@@ -177,15 +178,15 @@ stop_line source at r s =
 pub text_fault : (source : List ℕ) (e : PlacedFault) →
     (longest_file < length source → e ≡ too_long) →
     (length source ≤ longest_file → FailsAt source e.at e.fault) →
-    IsFaultAt source e.at e.fault × HasLine source e
+    IsTextFault source e.at e.fault × HasLine source e
 text_fault source e long short = elim (cases_lt longest_file (length source)) [
-      | inl h ↦ subst (λ (x : PlacedFault). IsFaultAt source x.at x.fault × HasLine source x)
-          (sym (long h)) (h, tt)
-      | inr h ↦ go h e.fault (short h)
-    ]
+  | inl h ↦ subst (λ (x : PlacedFault). IsTextFault source x.at x.fault × HasLine source x)
+      (sym (long h)) (h, tt)
+  | inr h ↦ go h e.fault (short h)
+]
   where
     go : length source ≤ longest_file → (f : GrammarFault) → FailsAt source e.at f →
-        IsFaultAt source e.at f × IfSome (line_in f) (λ line. line ≡ line_of source e.at)
+        IsTextFault source e.at f × IfSome (line_in f) (λ line. line ≡ line_of source e.at)
     go h (faults.Unfinished line) s = ((h, s), stop_line source e.at _ s)
     go h (faults.BadLiteral line) s = ((h, s), stop_line source e.at _ s)
     go h (faults.Foreign line) s = ((h, s), stop_line source e.at _ s)
@@ -218,6 +219,40 @@ fault_found source e h l = go e.fault h l
     go (faults.BadPrec line) h l = on_line source BadPrec e.at line h l
     go (faults.Limit line) h l = on_line source Limit e.at line h l
     go faults.Memory h l = tt
+
+-- where the lexemes of a file can be read, only memory can run out
+pub memory_alone : (f : GrammarFault) (ls : List Lexeme) → IsOutcome f (Ok ls) → f ≡ faults.Memory
+memory_alone (faults.Unfinished line) ls h = cc
+memory_alone (faults.BadLiteral line) ls h = cc
+memory_alone (faults.Foreign line) ls h = cc
+memory_alone (faults.Syntax line) ls h = cc
+memory_alone faults.Memory ls h = refl
+memory_alone _ ls h = absurd h
+
+-- a fault of the text is one of the file
+pub text_is_fault : (source : List ℕ) (at : ℕ) (f : GrammarFault) → IsTextFault source at f →
+    IsFaultAt source at f
+text_is_fault source at faults.TooLong h = h
+text_is_fault source at (faults.Unfinished line) h = h
+text_is_fault source at (faults.BadLiteral line) h = h
+text_is_fault source at (faults.Foreign line) h = h
+text_is_fault source at (faults.Syntax line) h = h
+text_is_fault source at faults.Memory h = h
+text_is_fault source at _ h = absurd h
+
+-- and so is a mistake
+pub mistake_is_fault : (source : List ℕ) (at : ℕ) (f : GrammarFault) → IsMistakeAt source at f →
+    IsFaultAt source at f
+mistake_is_fault source at (faults.TokenLeft line) h = h
+mistake_is_fault source at (faults.Undefined line) h = h
+mistake_is_fault source at (faults.TwicePrecedence line) h = h
+mistake_is_fault source at (faults.BadNumber line) h = h
+mistake_is_fault source at (faults.BadStart line) h = h
+mistake_is_fault source at (faults.Unproductive line) h = h
+mistake_is_fault source at (faults.BadPrec line) h = h
+mistake_is_fault source at (faults.Limit line) h = h
+mistake_is_fault source at faults.Memory h = h
+mistake_is_fault source at _ h = absurd h
 
 -- ---- the other direction
 

@@ -72,6 +72,30 @@ IsFaultOf source (faults.BadPrec line) = IsMistakenOn source BadPrec line
 IsFaultOf source (faults.Limit line) = IsMistakenOn source Limit line
 IsFaultOf source faults.Memory = Unit {0}
 
+-- the file is too long, or has no syntax for this reason and reading stops at this place, or memory
+-- ran out
+abbrev pub IsTextFault : List ℕ → ℕ → GrammarFault → Type 0
+IsTextFault source at faults.TooLong = longest_file < length source
+IsTextFault source at (faults.Unfinished line) = IsRefusedAt source (refusal unfinished line) at
+IsTextFault source at (faults.BadLiteral line) = IsRefusedAt source (refusal bad_literal line) at
+IsTextFault source at (faults.Foreign line) = IsRefusedAt source (refusal foreign line) at
+IsTextFault source at (faults.Syntax line) = IsRefusedAt source (refusal syntax line) at
+IsTextFault source at faults.Memory = at ≡ 0
+IsTextFault source at _ = ⊥
+
+-- the file has a syntax and this first mistake, which stands at this place, or memory ran out
+abbrev pub IsMistakeAt : List ℕ → ℕ → GrammarFault → Type 0
+IsMistakeAt source at (faults.TokenLeft line) = IsMistakenAt source TokenLeft at
+IsMistakeAt source at (faults.Undefined line) = IsMistakenAt source Undefined at
+IsMistakeAt source at (faults.TwicePrecedence line) = IsMistakenAt source TwicePrecedence at
+IsMistakeAt source at (faults.BadNumber line) = IsMistakenAt source BadNumber at
+IsMistakeAt source at (faults.BadStart line) = IsMistakenAt source BadStart at
+IsMistakeAt source at (faults.Unproductive line) = IsMistakenAt source Unproductive at
+IsMistakeAt source at (faults.BadPrec line) = IsMistakenAt source BadPrec at
+IsMistakeAt source at (faults.Limit line) = IsMistakenAt source Limit at
+IsMistakeAt source at faults.Memory = at ≡ 0
+IsMistakeAt source at _ = ⊥
+
 -- the fault is one that the file has at this place, or memory ran out
 abbrev pub IsFaultAt : List ℕ → ℕ → GrammarFault → Type 0
 IsFaultAt source at faults.TooLong = longest_file < length source
@@ -111,7 +135,7 @@ abbrev pub HasLine : List ℕ → PlacedFault → Type 0
 HasLine source e = IfSome (line_in e.fault) (λ line. line ≡ line_of source e.at)
 
 -- an answer without the place of its fault
-abbrev pub unplaced : Result GrammarValue PlacedFault → Result GrammarValue GrammarFault
+abbrev pub unplaced : {X : Type 0} → Result X PlacedFault → Result X GrammarFault
 unplaced (Ok g) = Ok g
 unplaced (Err e) = Err e.fault
 
@@ -152,7 +176,7 @@ refusal_at foreign line = faults.Foreign line
 refusal_at syntax line = faults.Syntax line
 
 -- the answer is this refusal with its line, or no memory
-abbrev pub AnswersRefusal : Result GrammarValue GrammarFault → Refusal → Type 0
+abbrev pub AnswersRefusal : {X : Type 0} → Result X GrammarFault → Refusal → Type 0
 AnswersRefusal (Ok g) r = ⊥
 AnswersRefusal (Err faults.Memory) r = Unit {0}
 AnswersRefusal (Err f) r = f ≡ refusal_at r.fault r.line

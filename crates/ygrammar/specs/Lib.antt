@@ -7,6 +7,7 @@ pub mod Faults
 pub mod Elaborated
 pub mod Texts
 pub mod GrammarOf
+pub mod Parsed
 pub use Rattle.ysymbols.specs.Derivation
 pub use Rattle.ysymbols.specs.Grammar
 pub use Rattle.ysymbols.specs.Forms

@@ -8,12 +8,14 @@ mod elaboration;
 mod holders;
 mod lines;
 mod numbers;
+mod parsed;
 mod reader;
 mod refusals;
 mod rules;
 mod tokens;
 
-pub use reader::{read_grammar, read_placed};
+pub use reader::{Mapped, read_grammar, read_mapped, read_placed};
+pub use ysourcemap::{Mark, Role};
 pub use ysymbols::limits::LONGEST_FILE;
 pub use ysymbols::{Associativity, Grammar, Precedence, Rule, Sym};
 pub use ysyntax::fault::{GrammarFault, PlacedFault};

@@ -6,16 +6,35 @@ ghost use Rattle.ysyntax.specs.Lexer.{Refusal};
 ghost use Rattle.ysyntax.specs.Placing.{too_long};
 ghost use Rattle.ygrammar.specs.GrammarOf.{AnswersGrammar, AnswersMistake, AnswersRefusal};
 ghost use Rattle.ygrammar.specs.GrammarOf.{GivesGrammar, HasLine, IsFaultAt, IsFaultOf, IsGrammarOf};
-ghost use Rattle.ygrammar.specs.GrammarOf.{IsMistaken, IsRefused, unplaced};
+ghost use Rattle.ygrammar.specs.GrammarOf.{IsMistakeAt, IsMistaken, IsRefused, IsTextFault};
+ghost use Rattle.ygrammar.specs.GrammarOf.{unplaced};
+ghost use Rattle.ygrammar.specs.Parsed.{IsMapped, IsParsed, unmapped};
 ghost use Rattle.youtline.specs.declared.mistake.Mistake.{Mistake};
 
 use crate::elaboration::elaborate;
 use crate::lines::in_file;
+use crate::parsed::{Parsed, read_parsed};
 use std::alloc::Global;
+use ysourcemap::{Mark, map_of};
 use ysymbols::Grammar;
 use ysyntax::fault::{GrammarFault, PlacedFault};
-use ysyntax::lexer::read_syntax;
-use ysyntax::tree_builder::build_tree;
+
+/// The grammar of a parsed file, or the first mistake in what it means.
+fn meaning(alloc: Global, source: &[u8], parsed: &Parsed) -> Result<Grammar, PlacedFault>
+    requires { IsParsed source.now parsed.now }
+    ensures found { IfOk result (λ g. IsGrammarOf source.now g) }
+    ensures only { (g : GrammarValue) → IsGrammarOf source.now g →
+        AnswersGrammar (unplaced result) g }
+    ensures mistaken { (m : Mistake) → IsMistaken source.now m →
+        AnswersMistake source.now (unplaced result) m }
+    ensures fault { IfErr result (λ e. IsMistakeAt source.now e.at e.fault) }
+    ensures line { IfErr result (λ e. HasLine source.now e) }
+{
+    match elaborate(alloc, source, &parsed.tree) {
+        Ok(grammar) => Ok(grammar),
+        Err(refused) => Err(in_file(refused, source)),
+    }
+}
 
 /// The grammar of a grammar file, or the file's first fault and its place: `read_grammar` says
 /// which fault that is.
@@ -30,7 +49,8 @@ pub fn read_placed(alloc: Global, source: &[u8]) -> Result<Grammar, PlacedFault>
     ensures only { (g : GrammarValue) → IsGrammarOf source.now g →
         AnswersGrammar (unplaced result) g }
     // Where a file has no syntax, the first reason is answered.
-    ensures refused { (r : Refusal) → IsRefused source.now r → AnswersRefusal (unplaced result) r }
+    ensures refused { (r : Refusal) → IsRefused source.now r →
+        AnswersRefusal (unplaced result) r }
     // Where it has a syntax and a mistake, the first mistake is answered.
     ensures mistaken { (m : Mistake) → IsMistaken source.now m →
         AnswersMistake source.now (unplaced result) m }
@@ -39,12 +59,58 @@ pub fn read_placed(alloc: Global, source: &[u8]) -> Result<Grammar, PlacedFault>
     // The line of a fault is that of its place.
     ensures line { IfErr result (λ e. HasLine source.now e) }
 {
-    let lexemes = read_syntax(alloc, source)?;
-    let tree = build_tree(alloc, &lexemes)?;
-    match elaborate(alloc, source, &tree) {
-        Ok(grammar) => Ok(grammar),
-        Err(refused) => Err(in_file(refused, source)),
+    let parsed = read_parsed(alloc, source)?;
+    meaning(alloc, source, &parsed)
+}
+
+/// A grammar file with a syntax, as it was read.
+pub struct Mapped<'a> {
+    /// The grammar of the file, or the first mistake in what it means.
+    pub grammar: Result<Grammar, PlacedFault>,
+    /// The source map: a mark for each lexeme, in their order.
+    pub marks: Vec<Mark<'a>>,
+}
+
+impl Drop for Mapped<'_> {
+    // A call in each owner, which keeps their proofs short.
+    fn drop(self) {
+        let Mapped {
+            grammar: _,
+            marks: _,
+        } = self;
     }
+}
+
+/// The grammar of a grammar file, or the file's first fault and its place, as `read_placed` answers
+/// it; and where the file has a syntax, its source map. Without a map there is no syntax, or memory
+/// ran out.
+pub fn read_mapped<'a>(alloc: Global, source: &'a [u8]) -> Result<Mapped<'a>, PlacedFault>
+    // This comes before every other answer, and for no other file.
+    ensures too_long { IsErrOf result too_long ↔ (longest_file < length source.now) }
+    // What is read is the grammar of the file.
+    ensures found { IfOk (unmapped result) (λ g. IsGrammarOf source.now g) }
+    // A file that means a grammar is read.
+    ensures only { (g : GrammarValue) → IsGrammarOf source.now g →
+        AnswersGrammar (unplaced (unmapped result)) g }
+    // Where a file has no syntax, the first reason is answered.
+    ensures refused { (r : Refusal) → IsRefused source.now r →
+        AnswersRefusal (unplaced (unmapped result)) r }
+    // Where it has a syntax and a mistake, the first mistake is answered.
+    ensures mistaken { (m : Mistake) → IsMistaken source.now m →
+        AnswersMistake source.now (unplaced (unmapped result)) m }
+    // A fault that is answered is one that the file has, at this place.
+    ensures fault { IfErr (unmapped result) (λ e. IsFaultAt source.now e.at e.fault) }
+    // The line of a fault is that of its place.
+    ensures line { IfErr (unmapped result) (λ e. HasLine source.now e) }
+    // The marks are the lexemes of the file, each at its place and with its role in the tree.
+    ensures map { IfOk result (λ m. IsMapped source.now m) }
+    // Without them the file has no syntax.
+    ensures text { IfErr result (λ e. IsTextFault source.now e.at e.fault) }
+{
+    let parsed = read_parsed(alloc, source)?;
+    let marks = map_of(alloc, &parsed.lexemes, &parsed.tree)?;
+    let grammar = meaning(alloc, source, &parsed);
+    Ok(Mapped { grammar, marks })
 }
 
 /// The grammar of a grammar file, or the file's first fault (POSIX yacc, "Input Files" and
