@@ -8,7 +8,6 @@ pub mod lines;
 mod question;
 pub mod reads;
 mod rivals;
-pub mod roles;
 pub mod supposed;
 pub mod text;
 pub mod why;

@@ -2,13 +2,11 @@
 //! which a symbol is named.
 
 use crate::reads::{body_of, left_of, name_of};
-use crate::roles::{How, Role, roles_of};
 use std::alloc::{AllocError, Global};
 use std::mem;
-use ylexemes::kind::Sign;
 use ylexemes::part::Lexeme;
+use ysourcemap::{Mark, Role};
 use ysymbols::{Grammar, Sym};
-use ysyntax::fault::GrammarFault;
 
 /// A symbol that a line names.
 #[derive(Clone, Copy, Drop, PartialEq, Eq)]
@@ -19,8 +17,8 @@ pub struct Mention {
     pub line: usize,
     /// How many bytes stand before the name.
     pub at: usize,
-    /// How the line names it.
-    pub how: How,
+    /// What the name is there for.
+    pub role: Role,
 }
 
 /// A rule of the file: its line, how many actions stand before it, and what its `%prec` names.
@@ -54,6 +52,29 @@ impl Drop for Lines {
     }
 }
 
+/// How many newlines there are.
+pub fn newlines(bytes: &[u8]) -> usize {
+    bytes.iter().filter(|b| **b == b'\n').count()
+}
+
+/// A walk over the lexemes of a file: up to which place newlines are counted, and the line there.
+#[derive(Clone, Copy)]
+struct Walk<'a> {
+    source: &'a [u8],
+    at: usize,
+    line: usize,
+}
+
+impl Walk<'_> {
+    /// Goes on to a place further on, and gives its line.
+    fn line_at(&mut self, at: usize) -> usize {
+        let between = self.source.get(self.at..at).unwrap_or(&[]);
+        self.line = self.line.saturating_add(newlines(between));
+        self.at = at;
+        self.line
+    }
+}
+
 /// What stands in a file, in its order.
 struct Places {
     starts: Vec<Start>,
@@ -70,6 +91,20 @@ impl Drop for Places {
             actions: _,
             mentions: _,
         } = self;
+    }
+}
+
+/// Whether lexemes of this role name symbols.
+pub fn names_symbol(role: Role) -> bool {
+    match role {
+        Role::Start
+        | Role::Declared
+        | Role::Levelled
+        | Role::Typed
+        | Role::Left(_)
+        | Role::Symbol(_)
+        | Role::PrecName(_) => true,
+        _ => false,
     }
 }
 
@@ -92,18 +127,11 @@ impl Places {
     }
 
     /// Notes that a symbol is named.
-    fn mention(&mut self, symbol: Sym, role: Role<'_>, how: How) -> Result<(), AllocError> {
-        if how == How::Prec {
-            if let Some(start) = self.starts.last_mut() {
-                start.prec = Some(symbol);
-            }
+    fn mention(&mut self, mention: Mention) -> Result<(), AllocError> {
+        if let (Role::PrecName(_), Some(start)) = (mention.role, self.starts.last_mut()) {
+            start.prec = Some(mention.symbol);
         }
-        self.mentions.push(Mention {
-            symbol,
-            line: role.line,
-            at: role.at,
-            how,
-        })?;
+        self.mentions.push(mention)?;
         Ok(())
     }
 
@@ -117,14 +145,21 @@ impl Places {
         Ok(())
     }
 
-    /// Takes a lexeme in.
-    fn take(&mut self, grammar: &Grammar, role: Role<'_>) -> Result<(), AllocError> {
-        if let (Some(symbol), Some(how)) = (symbol_of(grammar, role.lexeme), role.how) {
-            self.mention(symbol, role, how)?;
+    /// Takes a lexeme on a line in.
+    fn take(&mut self, grammar: &Grammar, mark: Mark<'_>, line: usize) -> Result<(), AllocError> {
+        let Mark { placed, role } = mark;
+        if let (true, Some(symbol)) = (names_symbol(role), symbol_of(grammar, placed.lexeme)) {
+            let at = placed.at;
+            self.mention(Mention {
+                symbol,
+                line,
+                at,
+                role,
+            })?;
         }
-        match role.lexeme {
-            Lexeme::CIdentifier(_) | Lexeme::Fixed(Sign::Bar) => self.begin(role.line)?,
-            Lexeme::Braced(_) => self.actions.push(role.line)?,
+        match role {
+            Role::Left(_) | Role::Bar(_) => self.begin(line)?,
+            Role::Action(_) => self.actions.push(line)?,
             _ => {}
         }
         Ok(())
@@ -183,29 +218,38 @@ fn last_token(grammar: &Grammar, body: &[Sym]) -> Option<Sym> {
 }
 
 /// What stands in a file.
-fn places_of(alloc: Global, grammar: &Grammar, roles: &[Role<'_>]) -> Result<Places, AllocError> {
+fn places_of(
+    alloc: Global,
+    source: &[u8],
+    marks: &[Mark<'_>],
+    grammar: &Grammar,
+) -> Result<Places, AllocError> {
     let mut places = Places::new(alloc);
-    for role in roles {
-        places.take(grammar, *role)?;
+    let mut walk = Walk {
+        source,
+        at: 0,
+        line: 1,
+    };
+    for mark in marks {
+        places.take(grammar, *mark, walk.line_at(mark.placed.at))?;
     }
     Ok(places)
 }
 
-/// Where rules and symbols stand, by the lexemes of their file.
-fn lines_of(alloc: Global, grammar: &Grammar, roles: &[Role<'_>]) -> Result<Lines, AllocError> {
-    let mut places = places_of(alloc, grammar, roles)?;
-    let mut rules = Vec::new(alloc);
-    places.push_rules(grammar, &mut rules)?;
-    let mentions = mem::replace(&mut places.mentions, Vec::new(alloc));
-    Ok(Lines { rules, mentions })
-}
-
 impl Lines {
-    /// Where the rules and symbols of a grammar stand in the file that it was read from. The fault
-    /// is that of the file, where the file isn't that of this grammar, or memory ran out.
-    pub fn new(alloc: Global, source: &[u8], grammar: &Grammar) -> Result<Lines, GrammarFault> {
-        let roles = roles_of(alloc, source)?;
-        Ok(lines_of(alloc, grammar, &roles)?)
+    /// Where the rules and symbols of a grammar stand in the file that it was read from, by its
+    /// source map. It fails only when memory runs out.
+    pub fn new(
+        alloc: Global,
+        source: &[u8],
+        marks: &[Mark<'_>],
+        grammar: &Grammar,
+    ) -> Result<Lines, AllocError> {
+        let mut places = places_of(alloc, source, marks, grammar)?;
+        let mut rules = Vec::new(alloc);
+        places.push_rules(grammar, &mut rules)?;
+        let mentions = mem::replace(&mut places.mentions, Vec::new(alloc));
+        Ok(Lines { rules, mentions })
     }
 
     /// The line on which a rule begins, counted from 1: that of its name or its bar, or of its

@@ -2,8 +2,7 @@
 
 use crate::names::{is_noted, note, number_of};
 use std::alloc::{AllocError, Global};
-use yexplain::roles::{How, Role};
-use ylexemes::kind::Kind;
+use ysourcemap::{Mark, Role};
 use ysymbols::names::SymbolTable;
 
 /// A rule: the number of its left side, and where the numbers of those in its body stand.
@@ -22,24 +21,24 @@ struct Rules {
 }
 
 /// The left sides of a file.
-fn lefts_of(alloc: Global, roles: &[Role<'_>]) -> Result<SymbolTable, AllocError> {
+fn lefts_of(alloc: Global, map: &[Mark<'_>]) -> Result<SymbolTable, AllocError> {
     let mut lefts = SymbolTable::new(alloc);
-    for role in roles {
-        if role.how == Some(How::Defined) {
-            note(alloc, &mut lefts, role.lexeme)?;
+    for mark in map {
+        if let Role::Left(_) = mark.role {
+            note(alloc, &mut lefts, mark.placed.lexeme)?;
         }
     }
     Ok(lefts)
 }
 
 impl Rules {
-    fn new(alloc: Global, lefts: &SymbolTable, roles: &[Role<'_>]) -> Result<Rules, AllocError> {
+    fn new(alloc: Global, lefts: &SymbolTable, map: &[Mark<'_>]) -> Result<Rules, AllocError> {
         let mut rules = Rules {
             rules: Vec::new(alloc),
             bodies: Vec::new(alloc),
         };
-        for role in roles {
-            rules.take(lefts, *role)?;
+        for mark in map {
+            rules.take(lefts, *mark)?;
         }
         Ok(rules)
     }
@@ -71,17 +70,13 @@ impl Rules {
     }
 
     /// Takes a lexeme in.
-    fn take(&mut self, lefts: &SymbolTable, role: Role<'_>) -> Result<(), AllocError> {
-        let kind = role.lexeme.kind();
-        if kind == Kind::CIdentifier {
-            self.begin(number_of(lefts, role.lexeme))
-        } else if kind == Kind::Bar {
-            let left = self.last_left();
-            self.begin(left)
-        } else if role.how == Some(How::Used) && is_noted(lefts, role.lexeme) {
-            self.add(number_of(lefts, role.lexeme))
-        } else {
-            Ok(())
+    fn take(&mut self, lefts: &SymbolTable, mark: Mark<'_>) -> Result<(), AllocError> {
+        let lexeme = mark.placed.lexeme;
+        match mark.role {
+            Role::Left(_) => self.begin(number_of(lefts, lexeme)),
+            Role::Bar(_) => self.begin(self.last_left()),
+            Role::Symbol(_) if is_noted(lefts, lexeme) => self.add(number_of(lefts, lexeme)),
+            _ => Ok(()),
         }
     }
 
@@ -131,21 +126,23 @@ fn set(marks: &mut Vec<bool>, at: usize) -> bool {
 fn barren_among<'a>(
     alloc: Global,
     lefts: &SymbolTable,
-    roles: &[Role<'a>],
-) -> Result<Vec<Role<'a>>, AllocError> {
-    let rules = Rules::new(alloc, lefts, roles)?;
+    map: &[Mark<'a>],
+) -> Result<Vec<Mark<'a>>, AllocError> {
+    let rules = Rules::new(alloc, lefts, map)?;
     let mut marks = rules.marks(alloc, lefts.len())?;
     let mut found = Vec::new(alloc);
-    for role in roles {
-        if role.how == Some(How::Defined) && set(&mut marks, number_of(lefts, role.lexeme)) {
-            found.push(*role)?;
+    for mark in map {
+        let Mark { placed, role } = *mark;
+        let is_left = matches!(role, Role::Left(_));
+        if is_left && set(&mut marks, number_of(lefts, placed.lexeme)) {
+            found.push(*mark)?;
         }
     }
     Ok(found)
 }
 
 /// The left sides of which no list of tokens can be made, each where it stands first.
-pub fn barren<'a>(alloc: Global, roles: &[Role<'a>]) -> Result<Vec<Role<'a>>, AllocError> {
-    let lefts = lefts_of(alloc, roles)?;
-    barren_among(alloc, &lefts, roles)
+pub fn barren<'a>(alloc: Global, map: &[Mark<'a>]) -> Result<Vec<Mark<'a>>, AllocError> {
+    let lefts = lefts_of(alloc, map)?;
+    barren_among(alloc, &lefts, map)
 }

@@ -1,7 +1,6 @@
 //! The rule of a file that has too many symbols.
 
-use yexplain::roles::{How, Role};
-use ylexemes::kind::Kind;
+use ysourcemap::{Mark, Role};
 use ysymbols::limits::LONGEST_BODY;
 
 /// A rule being counted: where it begins, how many symbols its body has, and whether the last part
@@ -15,19 +14,21 @@ struct Counted {
 
 impl Counted {
     /// Takes a lexeme in.
-    fn take(&mut self, role: Role<'_>) {
-        let kind = role.lexeme.kind();
-        if kind == Kind::CIdentifier || kind == Kind::Bar {
-            *self = Counted {
-                at: role.at,
-                symbols: 0,
-                acted: false,
-            };
-        } else if kind == Kind::Braced {
-            self.add(0);
-            self.acted = true;
-        } else if role.how == Some(How::Used) {
-            self.add(1);
+    fn take(&mut self, mark: Mark<'_>) {
+        match mark.role {
+            Role::Left(_) | Role::Bar(_) => {
+                *self = Counted {
+                    at: mark.placed.at,
+                    symbols: 0,
+                    acted: false,
+                };
+            }
+            Role::Action(_) => {
+                self.add(0);
+                self.acted = true;
+            }
+            Role::Symbol(_) => self.add(1),
+            _ => {}
         }
     }
 
@@ -40,14 +41,14 @@ impl Counted {
 }
 
 /// The first rule with a body above the limit.
-pub fn long_rule(roles: &[Role<'_>]) -> Option<usize> {
+pub fn long_rule(map: &[Mark<'_>]) -> Option<usize> {
     let mut counted = Counted {
         at: 0,
         symbols: 0,
         acted: false,
     };
-    for role in roles {
-        counted.take(*role);
+    for mark in map {
+        counted.take(*mark);
         if counted.symbols > LONGEST_BODY {
             return Some(counted.at);
         }

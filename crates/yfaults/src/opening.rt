@@ -3,14 +3,14 @@
 
 use crate::place::word_place;
 use crate::shown::{Place, put_whole};
-use crate::told::{nearest_token, put_grammar_fault, put_question};
+use crate::told::{Refusal, nearest_token, put_grammar_fault, put_question};
 use crate::words::{token_code, words_of};
 use std::alloc::{AllocError, Global};
 use std::io::{self, ErrorKind, Write};
 use std::rt::Files;
 use yexplain::lines::Lines;
 use yfiles::reading::first_bytes;
-use ygrammar::{Grammar, GrammarFault, LONGEST_FILE, PlacedFault};
+use ygrammar::{Grammar, GrammarFault, LONGEST_FILE, Mark, PlacedFault};
 use ylalr::BuildFault;
 use ytables::Tables;
 use ytokens::token_words::{Front, front_of};
@@ -30,18 +30,26 @@ pub struct Opened {
 
 /// Why a file isn't opened.
 #[derive(Drop)]
-pub enum Trouble {
+pub enum Trouble<'a> {
     /// It can't be read.
     Unread,
     /// Memory ran out.
     Memory,
-    /// It has a fault, at a place.
-    Grammar(PlacedFault),
+    /// It has a fault.
+    Grammar(Refusal<'a>),
     /// Its grammar has too many states.
     TooManySets,
 }
 
-impl Trouble {
+impl<'a> Trouble<'a> {
+    /// A fault of a file with this source map, or want of memory.
+    pub fn of_fault(placed: PlacedFault, marks: Vec<Mark<'a>>) -> Trouble<'a> {
+        match placed.fault {
+            GrammarFault::Memory => Trouble::Memory,
+            _ => Trouble::Grammar(Refusal { placed, marks }),
+        }
+    }
+
     /// The exit status of a run that ends with it: 1 for a fault of the file; 3 where memory runs
     /// out, a file can't be read, or there are too many states.
     pub fn status(&self) -> u8 {
@@ -52,17 +60,8 @@ impl Trouble {
     }
 }
 
-impl From<PlacedFault> for Trouble {
-    fn from(placed: PlacedFault) -> Trouble {
-        match placed.fault {
-            GrammarFault::Memory => Trouble::Memory,
-            _ => Trouble::Grammar(placed),
-        }
-    }
-}
-
-impl From<BuildFault> for Trouble {
-    fn from(fault: BuildFault) -> Trouble {
+impl<'a> From<BuildFault> for Trouble<'a> {
+    fn from(fault: BuildFault) -> Trouble<'a> {
         match fault {
             BuildFault::TooManySets => Trouble::TooManySets,
             BuildFault::Memory => Trouble::Memory,
@@ -90,12 +89,12 @@ pub fn put_trouble<W: Write>(
     alloc: Global,
     path: &str,
     source: &[u8],
-    trouble: &Trouble,
+    trouble: &Trouble<'_>,
 ) -> io::Result<()> {
     match trouble {
         Trouble::Unread => writeln!(out, "ydebug: cannot read {path}"),
         Trouble::Memory => writeln!(out, "ydebug: no memory"),
-        Trouble::Grammar(placed) => put_grammar_fault(out, alloc, path, source, *placed),
+        Trouble::Grammar(refusal) => put_grammar_fault(out, alloc, path, source, refusal),
         Trouble::TooManySets => match words_of("B1") {
             Some(words) => put_whole(out, path, words),
             None => Ok(()),

@@ -1,8 +1,5 @@
-//! What is read of a file for its faults, and the place of a word.
+//! What can come at a place of a file, and the place of a word.
 
-use std::alloc::{AllocError, Global};
-use yexplain::roles::{Role, roles_of};
-use ygrammar::GrammarFault;
 use ylexemes::bytes::is_blank;
 use ylexemes::front::part_at;
 use ylexemes::part::Part;
@@ -31,15 +28,6 @@ pub fn state_before(source: &[u8], at: usize) -> State {
         rest = after;
     }
     state
-}
-
-/// The lexemes of a file, each with what it is there for; none, where the file has no syntax.
-pub fn roles_in<'a>(alloc: Global, source: &'a [u8]) -> Result<Vec<Role<'a>>, AllocError> {
-    match roles_of(alloc, source) {
-        Ok(roles) => Ok(roles),
-        Err(GrammarFault::Memory) => Err(AllocError),
-        Err(_) => Ok(Vec::new(alloc)),
-    }
 }
 
 /// The place of a word of a tokens file, counted from 1.

@@ -4,7 +4,7 @@ use crate::words::Words;
 use std::io::{self, Write};
 use std::{fmt, str};
 use unicode_width::UnicodeWidthChar;
-use yexplain::roles::newlines;
+use yexplain::lines::newlines;
 
 /// The most bytes of a line that are shown before a place, and behind it.
 const MOST_BEFORE: usize = 100;

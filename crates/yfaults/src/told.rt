@@ -2,20 +2,20 @@
 
 use crate::barren::barren;
 use crate::coming::Coming;
-use crate::nearest::Search;
 use crate::long::long_rule;
-use crate::place::{roles_in, state_before};
+use crate::nearest::Search;
+use crate::place::state_before;
 use crate::shown::{Place, put_whole};
 use crate::words::{Words, grammar_code, words_at_end, words_of};
 use std::alloc::{AllocError, Global};
 use std::io::{self, Write};
 use yexplain::reads::name_of;
-use yexplain::roles::{How, Role};
 use yexplain::text::Bytes;
 use yforeign::directive::is_imported;
 use ygrammar::{Grammar, GrammarFault, PlacedFault};
 use ylalr::token_count;
 use ylexemes::part::Lexeme;
+use ysourcemap::{Mark, Role};
 
 /// The most names that are listed.
 const MOST_NAMED: usize = 20;
@@ -28,10 +28,10 @@ fn name_in(lexeme: Lexeme<'_>) -> Option<&[u8]> {
     }
 }
 
-/// Whether a name that is named like this is a symbol.
-fn makes_symbol(how: Option<How>) -> bool {
-    match how {
-        Some(How::Declared | How::Levelled | How::Defined) => true,
+/// Whether a name with this role is a symbol.
+fn makes_symbol(role: Role) -> bool {
+    match role {
+        Role::Declared | Role::Levelled | Role::Left(_) => true,
         _ => false,
     }
 }
@@ -39,13 +39,13 @@ fn makes_symbol(how: Option<How>) -> bool {
 /// The nearest to a name of those that are symbols of a file.
 fn nearest_symbol<'a>(
     alloc: Global,
-    roles: &[Role<'a>],
+    map: &[Mark<'a>],
     wanted: &'a [u8],
 ) -> Result<Option<&'a [u8]>, AllocError> {
     let mut search = Search::new(wanted);
     search.offer(alloc, b"error")?;
-    for role in roles {
-        if let (true, Some(name)) = (makes_symbol(role.how), name_in(role.lexeme)) {
+    for mark in map {
+        if let (true, Some(name)) = (makes_symbol(mark.role), name_in(mark.placed.lexeme)) {
             search.offer(alloc, name)?;
         }
     }
@@ -53,19 +53,18 @@ fn nearest_symbol<'a>(
 }
 
 /// The name that stands at a place.
-fn name_at<'a>(roles: &[Role<'a>], at: usize) -> Option<&'a [u8]> {
-    name_in(roles.iter().find(|role| role.at == at)?.lexeme)
+fn name_at<'a>(map: &[Mark<'a>], at: usize) -> Option<&'a [u8]> {
+    name_in(map.iter().find(|mark| mark.placed.at == at)?.placed.lexeme)
 }
 
 /// The symbol of a file that the name at a place could mean.
 fn meant_symbol<'a>(
     alloc: Global,
-    source: &'a [u8],
+    map: &[Mark<'a>],
     at: usize,
 ) -> Result<Option<&'a [u8]>, AllocError> {
-    let roles = roles_in(alloc, source)?;
-    match name_at(&roles, at) {
-        Some(wanted) => nearest_symbol(alloc, &roles, wanted),
+    match name_at(map, at) {
+        Some(wanted) => nearest_symbol(alloc, map, wanted),
         None => Ok(None),
     }
 }
@@ -89,20 +88,14 @@ pub fn put_question<W: Write>(out: &mut W, name: &[u8]) -> io::Result<()> {
     writeln!(out, "  Did you mean {name}?")
 }
 
-/// The left sides of a file of which no list of tokens can be made.
-fn barren_in<'a>(alloc: Global, source: &'a [u8]) -> Result<Vec<Role<'a>>, AllocError> {
-    let roles = roles_in(alloc, source)?;
-    barren(alloc, &roles)
-}
-
 /// Writes of which nonterminals but the first no list of tokens can be made.
-fn put_others<W: Write>(out: &mut W, lefts: &[Role<'_>]) -> io::Result<()> {
+fn put_others<W: Write>(out: &mut W, lefts: &[Mark<'_>]) -> io::Result<()> {
     if lefts.len() < 2 {
         return Ok(());
     }
     write!(out, "  The same holds of:")?;
     for left in lefts.iter().skip(1).take(MOST_NAMED) {
-        let name = Bytes(name_in(left.lexeme).unwrap_or(b""));
+        let name = Bytes(name_in(left.placed.lexeme).unwrap_or(b""));
         write!(out, " {name}")?;
     }
     let more = if lefts.len() > MOST_NAMED + 1 {
@@ -113,24 +106,34 @@ fn put_others<W: Write>(out: &mut W, lefts: &[Role<'_>]) -> io::Result<()> {
     writeln!(out, "{more}")
 }
 
-/// Writes what helps with a fault at a place beside the words of its code.
+/// A fault of a grammar file, with the file's source map; that has no marks where the file has no
+/// syntax.
+#[derive(Drop)]
+pub struct Refusal<'a> {
+    /// The fault and its place.
+    pub placed: PlacedFault,
+    /// The lexemes of the file, and what they are there for.
+    pub marks: Vec<Mark<'a>>,
+}
+
+/// Writes what helps with a fault beside the words of its code.
 fn put_help<W: Write>(
     out: &mut W,
     alloc: Global,
     source: &[u8],
-    fault: GrammarFault,
-    at: usize,
+    refusal: &Refusal<'_>,
 ) -> io::Result<()> {
+    let (PlacedFault { fault, at }, marks) = (refusal.placed, refusal.marks.as_slice());
     match fault {
         GrammarFault::Syntax { .. } => {
             let coming = Coming(state_before(source, at));
             writeln!(out, "  Here can come: {coming}")
         }
-        GrammarFault::Undefined { .. } => match meant_symbol(alloc, source, at)? {
+        GrammarFault::Undefined { .. } => match meant_symbol(alloc, marks, at)? {
             Some(name) => put_question(out, name),
             None => Ok(()),
         },
-        GrammarFault::Unproductive { .. } => put_others(out, &barren_in(alloc, source)?),
+        GrammarFault::Unproductive { .. } => put_others(out, &barren(alloc, marks)?),
         GrammarFault::Foreign { .. } if is_imported(source.get(at..).unwrap_or(&[])) => {
             writeln!(
                 out,
@@ -155,25 +158,25 @@ fn put_at<W: Write>(
     out: &mut W,
     alloc: Global,
     place: Place<'_>,
-    fault: GrammarFault,
+    refusal: &Refusal<'_>,
     words: Words,
 ) -> io::Result<()> {
     let Place { source, at, .. } = place;
-    let is_end = is_syntax(fault) && at >= source.len();
+    let is_end = is_syntax(refusal.placed.fault) && at >= source.len();
     let words = if is_end { words_at_end() } else { words };
     place.put(out, words, !is_end)?;
-    put_help(out, alloc, source, fault, at)
+    put_help(out, alloc, source, refusal)
 }
 
 /// Writes that a grammar is above a limit, at the rule that is too long, where one is.
 fn put_limit<W: Write>(
     out: &mut W,
-    alloc: Global,
     path: &str,
     source: &[u8],
+    marks: &[Mark<'_>],
     words: Words,
 ) -> io::Result<()> {
-    match long_rule(&roles_in(alloc, source)?) {
+    match long_rule(marks) {
         Some(at) => Place { path, source, at }.put(out, words, true),
         None => put_whole(out, path, words),
     }
@@ -182,20 +185,20 @@ fn put_limit<W: Write>(
 /// Writes a fault of a grammar file of these bytes: the line, what is wrong there, its text with a
 /// caret under its place, how to mend it, and what else helps. Where memory runs out while that is
 /// sought, the error says so.
-pub fn put_grammar_fault<'a, W: Write>(
+pub fn put_grammar_fault<W: Write>(
     out: &mut W,
     alloc: Global,
-    path: &'a str,
-    source: &'a [u8],
-    placed: PlacedFault,
+    path: &str,
+    source: &[u8],
+    refusal: &Refusal<'_>,
 ) -> io::Result<()> {
-    let PlacedFault { fault, at } = placed;
+    let PlacedFault { fault, at } = refusal.placed;
     let Some(words) = words_of(grammar_code(fault)) else {
         return Ok(());
     };
     match fault {
         GrammarFault::TooLong | GrammarFault::Memory => put_whole(out, path, words),
-        GrammarFault::Limit { .. } => put_limit(out, alloc, path, source, words),
-        _ => put_at(out, alloc, Place { path, source, at }, fault, words),
+        GrammarFault::Limit { .. } => put_limit(out, path, source, &refusal.marks, words),
+        _ => put_at(out, alloc, Place { path, source, at }, refusal, words),
     }
 }

@@ -1,6 +1,6 @@
 //! The text that tokens were read from.
 
-use yexplain::roles::newlines;
+use yexplain::lines::newlines;
 use yfaults::shown::Place;
 
 /// A text from which tokens were read.

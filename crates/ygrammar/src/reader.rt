@@ -64,21 +64,12 @@ pub fn read_placed(alloc: Global, source: &[u8]) -> Result<Grammar, PlacedFault>
 }
 
 /// A grammar file with a syntax, as it was read.
+#[derive(Drop)]
 pub struct Mapped<'a> {
     /// The grammar of the file, or the first mistake in what it means.
     pub grammar: Result<Grammar, PlacedFault>,
     /// The source map: a mark for each lexeme, in their order.
     pub marks: Vec<Mark<'a>>,
-}
-
-impl Drop for Mapped<'_> {
-    // A call in each owner, which keeps their proofs short.
-    fn drop(self) {
-        let Mapped {
-            grammar: _,
-            marks: _,
-        } = self;
-    }
 }
 
 /// The grammar of a grammar file, or the file's first fault and its place, as `read_placed` answers

@@ -4,25 +4,31 @@ use std::alloc::Global;
 use std::io::{self, Write};
 use yexplain::lines::Lines;
 use yfaults::opening::{Opened, Trouble, put_trouble};
-use ygrammar::{Grammar, read_placed};
-use ylalr::{Automaton, build};
+use ygrammar::{Grammar, Mapped, read_mapped};
+use ylalr::build;
 use ytables::resolve;
 
-/// The item sets of a grammar.
-fn automaton_of(alloc: Global, grammar: Grammar) -> Result<Automaton, Trouble> {
-    Ok(build(alloc, grammar)?)
+/// The tables of a grammar, and where things stand in its file.
+fn tables_over<'a>(alloc: Global, grammar: Grammar, lines: Lines) -> Result<Opened, Trouble<'a>> {
+    let automaton = build(alloc, grammar)?;
+    match resolve(alloc, automaton) {
+        Ok(tables) => Ok(Opened { tables, lines }),
+        Err(_) => Err(Trouble::Memory),
+    }
 }
 
 /// The tables of the grammar that the bytes mean, and where things stand in them.
-pub fn open_bytes(alloc: Global, source: &[u8]) -> Result<Opened, Trouble> {
-    let grammar = read_placed(alloc, source)?;
-    // The file has a syntax, so only memory can run out.
-    let Ok(lines) = Lines::new(alloc, source, &grammar) else {
-        return Err(Trouble::Memory);
+pub fn open_bytes(alloc: Global, source: &[u8]) -> Result<Opened, Trouble<'_>> {
+    let Mapped { grammar, marks } = match read_mapped(alloc, source) {
+        Ok(mapped) => mapped,
+        Err(placed) => return Err(Trouble::of_fault(placed, Vec::new(alloc))),
     };
-    let automaton = automaton_of(alloc, grammar)?;
-    match resolve(alloc, automaton) {
-        Ok(tables) => Ok(Opened { tables, lines }),
+    let grammar = match grammar {
+        Ok(grammar) => grammar,
+        Err(placed) => return Err(Trouble::of_fault(placed, marks)),
+    };
+    match Lines::new(alloc, source, &marks, &grammar) {
+        Ok(lines) => tables_over(alloc, grammar, lines),
         Err(_) => Err(Trouble::Memory),
     }
 }

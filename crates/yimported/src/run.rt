@@ -121,7 +121,7 @@ fn put_unopened<E: Write>(
     errors: &mut E,
     alloc: Global,
     asked: Looked<'_>,
-    trouble: &Trouble,
+    trouble: &Trouble<'_>,
 ) -> io::Result<u8> {
     let path = asked.source.path;
     if trouble.status() == 1 {
@@ -222,7 +222,7 @@ fn import_bytes<F: Files + AllocGlobal, W: Write, E: Write>(
 ) -> io::Result<u8> {
     let path = asked.file;
     if bytes.len() > LONGEST_FILE {
-        let trouble = Trouble::Grammar(TOO_LONG);
+        let trouble = Trouble::of_fault(TOO_LONG, Vec::new(rt.alloc()));
         put_trouble(errors, rt.alloc(), path, bytes, &trouble)?;
         return Ok(1);
     }
@@ -268,7 +268,7 @@ pub fn open_foreign<E: Write>(
     bytes: &[u8],
 ) -> io::Result<Result<Opened, u8>> {
     if bytes.len() > LONGEST_FILE {
-        let trouble = Trouble::Grammar(TOO_LONG);
+        let trouble = Trouble::of_fault(TOO_LONG, Vec::new(alloc));
         put_trouble(errors, alloc, path, bytes, &trouble)?;
         return Ok(Err(1));
     }

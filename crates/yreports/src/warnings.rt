@@ -5,10 +5,10 @@ use std::alloc::{AllocError, Global};
 use std::io::Write;
 use yexplain::lines::{Lines, Mention};
 use yexplain::reads::{grammar_of, is_reachable, left_of, level_of};
-use yexplain::roles::How;
 use yexplain::text::{Name, RuleText};
 use ylalr::ERROR;
 use yshow::page::Page;
+use ysourcemap::Role;
 use ysymbols::{Grammar, Sym};
 use ytables::Tables;
 
@@ -49,14 +49,14 @@ impl Named {
 
     fn take(&mut self, mention: Mention) {
         note_line(&mut self.first, mention);
-        if mention.how == How::Levelled {
-            note_line(&mut self.levelled, mention);
-        }
-        if mention.how == How::Used {
-            mark(&mut self.in_body, mention.symbol);
-        }
-        if mention.how == How::Used || mention.how == How::Prec {
-            mark(&mut self.used, mention.symbol);
+        match mention.role {
+            Role::Levelled => note_line(&mut self.levelled, mention),
+            Role::Symbol(_) => {
+                mark(&mut self.in_body, mention.symbol);
+                mark(&mut self.used, mention.symbol);
+            }
+            Role::PrecName(_) => mark(&mut self.used, mention.symbol),
+            _ => {}
         }
     }
 

@@ -6,8 +6,8 @@ use crate::reading::name_of;
 use std::io::Write;
 use yexplain::lines::Lines;
 use yexplain::reads::{begins_with, body_of, grammar_of, left_of, level_of, vanishes};
-use yexplain::roles::How;
 use ylalr::token_count;
+use ysourcemap::Role;
 use ysymbols::{Grammar, Sym};
 use ytables::Tables;
 
@@ -63,14 +63,14 @@ fn put_first<W: Write>(page: &mut Page<W>, tables: &Tables, symbol: Sym) {
 }
 
 /// How a symbol is named outside of the rules, or by `%prec`.
-fn how_words(how: How) -> Option<&'static str> {
-    match how {
-        How::Declared => Some("listed by %token"),
-        How::Levelled => Some("given a precedence"),
-        How::Typed => Some("named by %type"),
-        How::Start => Some("named by %start"),
-        How::Prec => Some("named by %prec"),
-        How::Defined | How::Used => None,
+fn how_words(role: Role) -> Option<&'static str> {
+    match role {
+        Role::Declared => Some("listed by %token"),
+        Role::Levelled => Some("given a precedence"),
+        Role::Typed => Some("named by %type"),
+        Role::Start => Some("named by %start"),
+        Role::PrecName(_) => Some("named by %prec"),
+        _ => None,
     }
 }
 
@@ -81,7 +81,7 @@ fn put_mentions<W: Write>(page: &mut Page<W>, lines: &Lines, symbol: Sym) {
         if left == 0 || mention.symbol != symbol {
             continue;
         }
-        if let Some(words) = how_words(mention.how) {
+        if let Some(words) = how_words(mention.role) {
             left -= 1;
             page.put(words);
             page.put(" on line ");
