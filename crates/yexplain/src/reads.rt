@@ -5,7 +5,7 @@ ghost use Rattle.std.specs.Iterator.{at_most};
 use ycells::{Candidate, candidate_at, next_rule, shift_at};
 use ylalr::{Automaton, Item};
 use ysymbols::{Grammar, Precedence, Rule, Sym};
-use ytables::{Action, Conflict, Tables};
+use ytables::{Action, Conflict, Tables, is_ready, next_symbol};
 
 /// The grammar that tables were made for.
 pub fn grammar_of(tables: &Tables) -> &Grammar {
@@ -75,12 +75,16 @@ pub fn has_item(automaton: &Automaton, state: usize, item: Item) -> bool {
 
 /// The symbol after the dot of an item, or `None` at the end of the body.
 pub fn next_of(grammar: &Grammar, item: Item) -> Option<Sym> {
-    body_of(grammar, item.rule).get(item.dot).copied()
+    if item.rule < grammar.rules() {
+        next_symbol(grammar, item)
+    } else {
+        None
+    }
 }
 
 /// Whether an item is complete, and of another rule than rule 0.
 pub fn is_complete(grammar: &Grammar, item: Item) -> bool {
-    item.rule != 0 && next_of(grammar, item).is_none()
+    item.rule < grammar.rules() && is_ready(grammar, item)
 }
 
 /// The state to which a symbol leads from a state, or `None` where it leads nowhere.

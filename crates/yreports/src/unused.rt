@@ -151,29 +151,40 @@ impl Done {
     fn try_each(&mut self, tables: &Tables, lines: &Lines, state: usize, token: Sym) {
         let grammar = grammar_of(tables);
         let shift = shift_of(tables, state, token);
-        let level = level_of(grammar, token);
         for place in 0..self.rivals.len() {
-            let rule = self.rivals[place].rule;
-            let is_marked = self.by_rule.get(rule).copied().unwrap_or(true);
-            let Some(hidden) = hidden_of(grammar, lines, rule) else {
+            let Some(other) = self.without_prec(grammar, lines, token, place) else {
                 continue;
             };
-            if is_marked {
-                continue;
-            }
             if self.steps < self.rivals.len() {
                 self.all_tried = false;
                 break;
             }
             self.steps = self.steps.saturating_sub(self.rivals.len());
-            let other = Rival {
-                rule,
-                standing: standing_between(level, Some(hidden)),
-            };
             if settles(shift, &mut self.rivals, place, other) {
-                mark(&mut self.by_rule, rule);
+                mark(&mut self.by_rule, other.rule);
             }
         }
+    }
+
+    /// The rule at a place of the cell as it would stand to the token without its `%prec`, where
+    /// that hides a precedence and isn't known to do something.
+    fn without_prec(
+        &self,
+        grammar: &Grammar,
+        lines: &Lines,
+        token: Sym,
+        place: usize,
+    ) -> Option<Rival> {
+        let rule = self.rivals.get(place)?.rule;
+        let is_marked = self.by_rule.get(rule).copied().unwrap_or(true);
+        if is_marked {
+            return None;
+        }
+        let hidden = hidden_of(grammar, lines, rule)?;
+        Some(Rival {
+            rule,
+            standing: standing_between(level_of(grammar, token), Some(hidden)),
+        })
     }
 
     /// Notes the tokens that gave a precedence to rules that settled a cell.
