@@ -110,15 +110,21 @@ impl<'a, F: Files + AllocGlobal, S: Opens> Desk<'a, F, S> {
     fn look<W: Write>(&mut self, page: &mut Page<W>, verb: Verb) -> Result<(), AllocError> {
         let parse = &self.parse;
         match verb {
+            Verb::Where => {
+                put_where(page, parse.session(), parse.tokens());
+                put_ahead(page, parse);
+            }
             Verb::Stack => put_stack(page, parse.session()),
             Verb::Upcoming => put_ahead_all(page, parse),
             Verb::Expected => return put_expected(self.rt.alloc(), page, parse.session()),
             Verb::Grammar => put_grammar(page, parse.tables(), parse.lines()),
             Verb::Conflicts => return put_conflicts(self.rt.alloc(), page, parse),
-            _ => {
-                put_where(page, parse.session(), parse.tokens());
-                put_ahead(page, parse);
-            }
+            // These are answered before. Each stands here, so that a new command has its answer
+            // or doesn't compile.
+            Verb::Step | Verb::Back | Verb::To | Verb::Run | Verb::Quit | Verb::Reload => {}
+            Verb::Insert | Verb::Drop | Verb::Save | Verb::SaveOver => {}
+            Verb::State | Verb::Why | Verb::Rule | Verb::Symbol => {}
+            Verb::Tree | Verb::Derivation | Verb::History | Verb::Help => {}
         }
         Ok(())
     }

@@ -2,23 +2,20 @@
 
 use std::alloc::{AllocError, Global};
 use std::io::Write;
-use yexplain::reads::{goto_of, grammar_of};
+use yexplain::reads::grammar_of;
 use yfollow::expected::{Wanted, expected};
 use yparse::Session;
 use yparse::machine::Mode;
 use yshow::page::Page;
-use yshow::reading::{name_of, stack_symbol};
+use yshow::reading::{name_of, stack_state};
 use ysymbols::{Grammar, Sym};
 
 /// The states of the stack from the bottom, the first state below it.
 fn states_of_stack(alloc: Global, session: &Session) -> Result<Vec<usize>, AllocError> {
-    let automaton = session.tables().automaton();
     let mut states = Vec::new(alloc);
-    let mut state = 0;
-    states.push(state)?;
+    states.push(0)?;
     for index in 0..session.view().stack_len() {
-        state = goto_of(automaton, state, stack_symbol(session, index)).unwrap_or(0);
-        states.push(state)?;
+        states.push(stack_state(session, index))?;
     }
     Ok(states)
 }

@@ -3,6 +3,7 @@
 use std::io::Write;
 use yexplain::reads::grammar_of;
 use yfollow::Parse;
+use yparse::Session;
 use yparse::machine::StepKind;
 use yshow::page::Page;
 use yshow::reading::{name_of, upcoming_token};
@@ -27,42 +28,41 @@ fn put_about<W: Write>(page: &mut Page<W>, grammar: &Grammar, kind: StepKind) {
     }
 }
 
-/// A step or an edit that stands.
-fn put_past<W: Write>(page: &mut Page<W>, grammar: &Grammar, position: usize, kind: StepKind) {
-    page.number_to(7, position);
+/// A step or an edit that stands, the first one at 0.
+fn put_past<W: Write>(page: &mut Page<W>, session: &Session, index: usize) {
+    let Some(kind) = session.kind_at(index) else {
+        return;
+    };
+    page.number_to(7, index.saturating_add(1));
     page.put("  ");
     page.put(kind_word(kind));
-    put_about(page, grammar, kind);
+    put_about(page, grammar_of(session.tables()), kind);
     put_rule_number(page, kind);
     page.end();
 }
 
 /// The last steps and edits, so many at most.
 pub fn put_history<W: Write>(page: &mut Page<W>, parse: &Parse, most: usize) {
-    let past = parse.past();
-    let from = past.len().saturating_sub(most);
-    if past.is_empty() {
+    let position = parse.session().position();
+    let from = position.saturating_sub(most);
+    if position == 0 {
         page.line("Nothing was done yet.");
         return;
     }
     if from > 0 {
         page.line("   ..");
     }
-    for (index, kind) in past.iter().enumerate().skip(from) {
-        put_past(
-            page,
-            grammar_of(parse.tables()),
-            index.saturating_add(1),
-            *kind,
-        );
+    for index in from..position {
+        put_past(page, parse.session(), index);
     }
 }
 
 /// The tokens that were read and shifted or discarded.
 fn put_read<W: Write>(page: &mut Page<W>, parse: &Parse) {
-    let grammar = grammar_of(parse.tables());
-    for kind in parse.past() {
-        if let StepKind::Shift(token) | StepKind::Discard(token) = *kind {
+    let session = parse.session();
+    let grammar = grammar_of(session.tables());
+    for index in 0..session.position() {
+        if let Some(StepKind::Shift(token) | StepKind::Discard(token)) = session.kind_at(index) {
             page.word(0, name_of(grammar, token));
         }
     }

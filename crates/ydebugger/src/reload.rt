@@ -35,8 +35,10 @@ fn redo_one(parse: &mut Parse, old: &Grammar, kind: StepKind) -> Result<(), Stop
 
 /// Makes the steps and edits of the old parse in the new one.
 fn redo(parse: &mut Parse, old: &Parse) -> Result<(), Stopped> {
-    for kind in old.past() {
-        redo_one(parse, grammar_of(old.tables()), *kind)?;
+    for index in 0..old.session().position() {
+        if let Some(kind) = old.session().kind_at(index) {
+            redo_one(parse, grammar_of(old.tables()), kind)?;
+        }
     }
     Ok(())
 }

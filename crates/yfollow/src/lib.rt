@@ -1,9 +1,9 @@
-//! A parse as a person follows it: a session with the kinds of its steps, where the rules stand in
-//! the grammar file, and the text that its tokens were read from; and verdicts on inputs.
+//! A parse as a person follows it: a session, where the rules stand in the grammar file, and the
+//! text that its tokens were read from; and verdicts on inputs.
 //!
-//! `source` has the text and what counts its lines, `parse` the session with its past, `start`
-//! makes one of its two files, and has the trait of what opens them. `expected` has the tokens
-//! that can come over a stack, and `check` the verdicts on tokens files.
+//! `source` has the text and what counts its lines, `parse` the session with both, `start` makes
+//! one of its two files, and has the trait of what opens them. `expected` has the tokens that can
+//! come over a stack, and `check` the verdicts on tokens files.
 #![tactic(auto)]
 
 pub mod check;

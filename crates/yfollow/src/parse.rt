@@ -1,18 +1,17 @@
-//! A session with the kinds of its steps and edits.
+//! A session with what a person is told of its files.
 
 use crate::source::Text;
-use std::alloc::Global;
 use yexplain::lines::Lines;
+use yfaults::opening::Opened;
 use yparse::Session;
 use yparse::machine::{AtStart, StepFault, StepKind};
 use ytables::Tables;
 
-/// A session, what was done in it, the lines of its grammar's file, how many tokens its own file
-/// has, and that file, where it is a text.
+/// A session, the lines of its grammar's file, how many tokens its own file has, and that file,
+/// where it is a text.
 pub struct Parse {
     session: Session,
     lines: Lines,
-    past: Vec<StepKind>,
     tokens: usize,
     text: Option<Text>,
 }
@@ -23,7 +22,6 @@ impl Drop for Parse {
         let Parse {
             session: _,
             lines: _,
-            past: _,
             tokens: _,
             text: _,
         } = self;
@@ -32,19 +30,26 @@ impl Drop for Parse {
 
 impl Parse {
     /// A session at its start, with the text that its tokens were read from, where it was one.
-    pub fn new(
-        alloc: Global,
-        session: Session,
-        lines: Lines,
-        tokens: usize,
-        text: Option<Text>,
-    ) -> Parse {
+    pub fn new(session: Session, lines: Lines, tokens: usize, text: Option<Text>) -> Parse {
         Parse {
             session,
             lines,
-            past: Vec::new(alloc),
             tokens,
             text,
+        }
+    }
+
+    /// The tables and the lines of the grammar file, once the parse is done with.
+    pub fn into_opened(self) -> Opened {
+        let Parse {
+            session,
+            lines,
+            tokens: _,
+            text: _,
+        } = self;
+        Opened {
+            tables: session.into_tables(),
+            lines,
         }
     }
 
@@ -68,11 +73,6 @@ impl Parse {
         &self.lines
     }
 
-    /// The kinds of the steps and edits that stand, the first one first.
-    pub fn past(&self) -> &[StepKind] {
-        &self.past
-    }
-
     /// How many tokens the file has.
     pub fn tokens(&self) -> usize {
         self.tokens
@@ -80,36 +80,25 @@ impl Parse {
 
     /// One step forward.
     pub fn step(&mut self) -> Result<StepKind, StepFault> {
-        self.past.reserve(1)?;
-        let kind = self.session.step()?;
-        let _ = self.past.push(kind);
-        Ok(kind)
+        self.session.step()
     }
 
     /// One step or edit back.
     pub fn back(&mut self) -> Result<StepKind, AtStart> {
-        let kind = self.session.back()?;
-        let _ = self.past.pop();
-        Ok(kind)
+        self.session.back()
     }
 
     /// The token that these bytes spell comes before the upcoming ones. `None` where they spell
     /// none.
     pub fn insert(&mut self, bytes: &[u8]) -> Result<Option<StepKind>, StepFault> {
-        self.past.reserve(1)?;
-        let Some(token) = self.session.token(bytes) else {
-            return Ok(None);
-        };
-        let kind = self.session.insert(token)?;
-        let _ = self.past.push(kind);
-        Ok(Some(kind))
+        match self.session.token(bytes) {
+            Some(token) => self.session.insert(token).map(Some),
+            None => Ok(None),
+        }
     }
 
     /// The first of the upcoming tokens is taken out.
     pub fn drop_next(&mut self) -> Result<StepKind, StepFault> {
-        self.past.reserve(1)?;
-        let kind = self.session.drop_next()?;
-        let _ = self.past.push(kind);
-        Ok(kind)
+        self.session.drop_next()
     }
 }

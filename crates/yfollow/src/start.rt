@@ -41,7 +41,7 @@ pub fn parse_over<E: Write>(
         Ok(tokens) => {
             let count = tokens.len();
             let session = Session::new(alloc, tables, tokens);
-            Ok(Ok(Parse::new(alloc, session, lines, count, None)))
+            Ok(Ok(Parse::new(session, lines, count, None)))
         }
         Err(fault) => refuse_tokens(alloc, errors, &tables, path, source, fault).map(Err),
     }
@@ -57,7 +57,4 @@ pub trait Opens {
     /// Whether a path means one of the files, which then isn't written over. A tokens file isn't
     /// guarded: tokens may be written over those that they come from.
     fn guards(&self, path: &str) -> bool;
-
-    /// The grammar file alone, opened once more.
-    fn open_grammar<E: Write>(&self, errors: &mut E) -> io::Result<Result<Opened, u8>>;
 }

@@ -3,8 +3,7 @@
 use crate::cells::{text_of, why_of};
 use serde::Serialize;
 use std::alloc::{AllocError, Global};
-use std::io::{self, Write};
-use std::rt::Files;
+use std::io;
 use yconflicts::groups::{Conflicts, Group, Kind};
 use yconflicts::search::Finder;
 use yexplain::lines::Lines;
@@ -13,7 +12,6 @@ use yfaults::opening::Opened;
 use yfindings::finding::{ALL_STEPS, Finding, List, Seeker};
 use yfindings::list_text::{ListText, put_unfound};
 use yfindings::trial::empty_session;
-use yfollow::Opens;
 use yparse::Session;
 use yshow::page::Page;
 use ysymbols::Sym;
@@ -206,29 +204,12 @@ fn cards_over(alloc: Global, session: &mut Session, lines: &Lines) -> io::Result
     cards_of(alloc, session, lines, &found)
 }
 
-/// The cards of a grammar that is open.
-fn cards_in(alloc: Global, opened: Opened) -> io::Result<Cards> {
+/// The cards of a grammar, and the grammar again. It fails only when memory runs out.
+pub fn cards_by(alloc: Global, opened: Opened) -> io::Result<(Opened, Cards)> {
     let Opened { tables, lines } = opened;
     let mut session = empty_session(alloc, tables);
     let cards = cards_over(alloc, &mut session, &lines);
-    drop(session);
-    drop(lines);
-    cards
-}
-
-/// The cards of a grammar file, which was opened before. Where it is refused now, that is written,
-/// and the exit status is the answer.
-pub fn open_cards<F: Files + AllocGlobal, S: Opens, E: Write>(
-    rt: &F,
-    source: &S,
-    errors: &mut E,
-) -> io::Result<Result<Cards, u8>> {
-    let mut told = Vec::new(rt.alloc());
-    match source.open_grammar(&mut told)? {
-        Ok(opened) => Ok(Ok(cards_in(rt.alloc(), opened)?)),
-        Err(status) => {
-            errors.write_all(&told)?;
-            Ok(Err(status))
-        }
-    }
+    let tables = session.into_tables();
+    let cards = cards?;
+    Ok((Opened { tables, lines }, cards))
 }

@@ -9,7 +9,7 @@ use indexmap::IndexSet;
 use serde::Serialize;
 use std::alloc::{AllocError, Global};
 use std::io::{self, ErrorKind};
-use yfollow::Parse;
+use yfaults::opening::Opened;
 use ysymbols::Sym;
 
 /// What the script is given.
@@ -18,7 +18,7 @@ struct Data<'a> {
     /// The paths of the grammar file and the tokens file.
     files: (&'a str, &'a str),
     table: Table<'a>,
-    input: Input,
+    input: &'a Input,
     record: &'a Record,
     cells: Vec<Cell>,
     /// The conflicts of the grammar, where they are wanted.
@@ -39,14 +39,16 @@ impl Drop for Data<'_> {
     }
 }
 
-/// What the page shows: the files, the parse at its last position, its steps, the cells that they
-/// asked, and the conflicts.
+/// What the page shows: the files, the grammar, the input, the steps, the cells that they asked,
+/// and the conflicts.
 #[derive(Clone, Copy)]
 pub struct Shown<'a> {
     /// The paths of the grammar file and the tokens file.
     pub files: (&'a str, &'a str),
-    /// The parse, at the last position of the page.
-    pub parse: &'a Parse,
+    /// The tables of the grammar, and where things stand in its file.
+    pub opened: &'a Opened,
+    /// The tokens around the steps of the page.
+    pub input: &'a Input,
     /// The steps of the page.
     pub record: &'a Record,
     /// The cells that the steps asked, each a state and a token.
@@ -98,7 +100,7 @@ impl<'a> Shown<'a> {
         states: &mut IndexSet<usize>,
     ) -> Result<Table<'a>, AllocError> {
         self.add_states(states)?;
-        let (tables, lines) = (self.parse.tables(), self.parse.lines());
+        let Opened { tables, lines } = self.opened;
         Table::new(alloc, tables, lines, states.as_slice())
     }
 
@@ -114,9 +116,9 @@ impl<'a> Shown<'a> {
         Ok(Data {
             files: self.files,
             table: self.table(alloc)?,
-            input: Input::new(alloc, self.parse, self.record)?,
+            input: self.input,
             record: self.record,
-            cells: cells_of(alloc, self.parse.tables(), self.parse.lines(), self.asked)?,
+            cells: cells_of(alloc, &self.opened.tables, &self.opened.lines, self.asked)?,
             conflicts: self.conflicts,
         })
     }

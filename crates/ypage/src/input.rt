@@ -4,6 +4,7 @@ use crate::record::Record;
 use serde::Serialize;
 use std::alloc::{AllocError, Global};
 use yfollow::Parse;
+use yparse::Session;
 use yparse::machine::StepKind;
 use yshow::reading::upcoming_token;
 use ysymbols::Sym;
@@ -35,17 +36,21 @@ fn taken_by(kind: StepKind) -> Option<Sym> {
     }
 }
 
-/// How many tokens some steps take.
-fn taken_in(kinds: &[StepKind]) -> usize {
-    kinds
-        .iter()
-        .filter(|kind| taken_by(**kind).is_some())
+/// The token that a step which stands takes, the first step at 0.
+fn taken_at(session: &Session, index: usize) -> Option<Sym> {
+    session.kind_at(index).and_then(taken_by)
+}
+
+/// How many tokens the steps up to a position take.
+fn taken_to(session: &Session, position: usize) -> usize {
+    (0..position)
+        .filter(|index| taken_at(session, *index).is_some())
         .count()
 }
 
-/// The tokens that some steps take, without so many of the first.
-fn push_taken(tokens: &mut Vec<Sym>, kinds: &[StepKind], skipped: usize) -> Result<(), AllocError> {
-    let taken = kinds.iter().filter_map(|kind| taken_by(*kind));
+/// The tokens that the steps take, without so many of the first.
+fn push_taken(tokens: &mut Vec<Sym>, session: &Session, skipped: usize) -> Result<(), AllocError> {
+    let taken = (0..session.position()).filter_map(|index| taken_at(session, index));
     for token in taken.skip(skipped) {
         tokens.push(token)?;
     }
@@ -74,13 +79,13 @@ fn places_of(
 impl Input {
     /// The tokens around the steps of a record, at the end of which the parse stands.
     pub fn new(alloc: Global, parse: &Parse, record: &Record) -> Result<Input, AllocError> {
-        let before = parse.past().get(..record.start.position);
-        let taken = taken_in(before.unwrap_or(&[]));
+        let session = parse.session();
+        let taken = taken_to(session, record.start.position);
         let skipped = taken.saturating_sub(BEFORE);
         let mut symbols = Vec::new(alloc);
-        push_taken(&mut symbols, parse.past(), skipped)?;
-        for index in 0..parse.session().view().rest_len().min(BEHIND) {
-            symbols.push(upcoming_token(parse.session(), index).0)?;
+        push_taken(&mut symbols, session, skipped)?;
+        for index in 0..session.view().rest_len().min(BEHIND) {
+            symbols.push(upcoming_token(session, index).0)?;
         }
         Ok(Input {
             count: parse.tokens(),

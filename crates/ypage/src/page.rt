@@ -1,14 +1,16 @@
 //! `ydebug page`: the page of a parse, written to a file or to standard output.
 
-use crate::cards::{Cards, open_cards};
+use crate::cards::{Cards, cards_by};
 use crate::data::Shown;
 use crate::frame::{BODY, END, FRONT};
+use crate::input::Input;
 use crate::script::SCRIPT;
 use crate::style::STYLE;
 use crate::walk::{MOST_STEPS, Part, Trail, Walked, walk_part};
 use std::alloc::{AllocError, Global};
 use std::io::{self, Write};
 use std::rt::Files;
+use yfaults::opening::Opened;
 use yfiles::same::refused_output;
 use yfiles::writing::put_file;
 use yfollow::{Opens, Parse};
@@ -100,17 +102,13 @@ fn refuse_short<E: Write>(errors: &mut E, from: usize, end: usize) -> io::Result
     Ok(1)
 }
 
-/// The cards of the grammar, where they are wanted; or the exit status where it can't be opened.
-fn cards_of<F: Files + AllocGlobal, S: Opens, E: Write>(
-    rt: &F,
-    source: &S,
-    asked: Asked<'_>,
-    errors: &mut E,
-) -> io::Result<Result<Option<Cards>, u8>> {
-    if asked.conflicts {
-        Ok(open_cards(rt, source, errors)?.map(Some))
+/// The cards of a grammar where they are wanted, and the grammar again.
+fn cards_of(alloc: Global, opened: Opened, wanted: bool) -> io::Result<(Opened, Option<Cards>)> {
+    if wanted {
+        let (opened, cards) = cards_by(alloc, opened)?;
+        Ok((opened, Some(cards)))
     } else {
-        Ok(Ok(None))
+        Ok((opened, None))
     }
 }
 
@@ -126,42 +124,39 @@ fn put_shown<F: Files + AllocGlobal, W: Write, E: Write>(
     write_page(rt, file, &page, out, errors)
 }
 
-/// Writes the page of these steps, and gives the exit status.
-fn put_steps<'a, F: Files + AllocGlobal, S: Opens, W: Write, E: Write>(
+/// Writes the page of the steps that a parse has made, and gives the exit status.
+fn put_steps<F: Files + AllocGlobal, W: Write, E: Write>(
     rt: &F,
-    source: &S,
-    asked: Asked<'a>,
-    parse: &'a Parse,
-    trail: &'a Trail,
+    asked: Asked<'_>,
+    parse: Parse,
+    trail: &Trail,
     out: &mut W,
     errors: &mut E,
 ) -> io::Result<u8> {
-    match cards_of(rt, source, asked, errors)? {
-        Ok(cards) => {
-            let shown = Shown {
-                files: (asked.grammar, asked.tokens),
-                parse,
-                record: &trail.record,
-                asked: trail.cells.as_slice(),
-                conflicts: cards.as_ref(),
-            };
-            put_shown(rt, asked.file, shown, out, errors)
-        }
-        Err(status) => Ok(status),
-    }
+    let input = Input::new(rt.alloc(), &parse, &trail.record)?;
+    let (opened, cards) = cards_of(rt.alloc(), parse.into_opened(), asked.conflicts)?;
+    let shown = Shown {
+        files: (asked.grammar, asked.tokens),
+        opened: &opened,
+        input: &input,
+        record: &trail.record,
+        asked: trail.cells.as_slice(),
+        conflicts: cards.as_ref(),
+    };
+    put_shown(rt, asked.file, shown, out, errors)
 }
 
 /// Writes the page of a parse at its start, and gives the exit status.
-fn put_parse<F: Files + AllocGlobal, S: Opens, W: Write, E: Write>(
+fn put_parse<F: Files + AllocGlobal, W: Write, E: Write>(
     rt: &F,
-    source: &S,
     asked: Asked<'_>,
-    parse: &mut Parse,
+    parse: Parse,
     out: &mut W,
     errors: &mut E,
 ) -> io::Result<u8> {
-    match walk_part(rt.alloc(), parse, asked.part)? {
-        Walked::Done(trail) => put_steps(rt, source, asked, parse, &trail, out, errors),
+    let mut parse = parse;
+    match walk_part(rt.alloc(), &mut parse, asked.part)? {
+        Walked::Done(trail) => put_steps(rt, asked, parse, &trail, out, errors),
         Walked::Long => refuse_long(errors, asked.part.from),
         Walked::Short(end) => refuse_short(errors, asked.part.from, end),
     }
@@ -176,11 +171,7 @@ fn open_parse<F: Files + AllocGlobal, S: Opens, W: Write, E: Write>(
     errors: &mut E,
 ) -> io::Result<u8> {
     match source.open(errors)? {
-        Ok(mut parse) => {
-            let status = put_parse(rt, source, asked, &mut parse, out, errors);
-            drop(parse);
-            status
-        }
+        Ok(parse) => put_parse(rt, asked, parse, out, errors),
         Err(status) => Ok(status),
     }
 }

@@ -2,10 +2,9 @@
 
 use serde::Serialize;
 use std::alloc::{AllocError, Global};
-use yexplain::reads::goto_of;
 use yparse::Session;
 use yparse::machine::{Mode, StepKind};
-use yshow::reading::stack_symbol;
+use yshow::reading::{stack_state, stack_symbol};
 use ysymbols::Sym;
 
 /// Where a parse stands at the first position of the page.
@@ -79,11 +78,8 @@ fn mode_word(mode: Mode) -> &'static str {
 /// The entries of a stack from the bottom: each symbol, and the state after it.
 fn stack_of(alloc: Global, session: &Session) -> Result<Vec<(Sym, usize)>, AllocError> {
     let mut stack = Vec::new(alloc);
-    let mut state = 0;
     for index in 0..session.view().stack_len() {
-        let symbol = stack_symbol(session, index);
-        state = goto_of(session.tables().automaton(), state, symbol).unwrap_or(0);
-        stack.push((symbol, state))?;
+        stack.push((stack_symbol(session, index), stack_state(session, index)))?;
     }
     Ok(stack)
 }

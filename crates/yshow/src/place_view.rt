@@ -1,10 +1,10 @@
 //! Where a parse stands: its mode, its stack, its upcoming tokens, and the items of its state.
 
 use crate::page::{Page, Paint};
-use crate::reading::{name_of, stack_symbol, token_ahead, upcoming_token};
+use crate::reading::{name_of, stack_state, stack_symbol, token_ahead, upcoming_token};
 use crate::state_view::put_kernel;
 use std::io::Write;
-use yexplain::reads::{goto_of, grammar_of};
+use yexplain::reads::grammar_of;
 use yparse::Session;
 use yparse::machine::Mode;
 
@@ -142,14 +142,14 @@ fn put_more<W: Write>(page: &mut Page<W>, count: usize, what: &str) {
 }
 
 /// An entry of the stack: its number from the bottom, its symbol, and the state after it.
-fn put_entry<W: Write>(page: &mut Page<W>, session: &Session, index: usize, state: usize) {
+fn put_entry<W: Write>(page: &mut Page<W>, session: &Session, index: usize) {
     let grammar = grammar_of(session.tables());
     page.number_to(7, index.saturating_add(1));
     page.put("  ");
     page.put(name_of(grammar, stack_symbol(session, index)));
     page.tab(40);
     page.put("state ");
-    page.number(state);
+    page.number(stack_state(session, index));
     page.end();
 }
 
@@ -162,13 +162,8 @@ pub fn put_stack<W: Write>(page: &mut Page<W>, session: &Session) {
         return;
     }
     put_more(page, from, " entries below");
-    let mut state = 0;
-    for index in 0..len {
-        let symbol = stack_symbol(session, index);
-        state = goto_of(session.tables().automaton(), state, symbol).unwrap_or(0);
-        if index >= from {
-            put_entry(page, session, index, state);
-        }
+    for index in from..len {
+        put_entry(page, session, index);
     }
 }
 

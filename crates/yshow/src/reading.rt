@@ -48,6 +48,15 @@ pub fn stack_symbol(session: &Session, index: usize) -> Sym {
     }
 }
 
+/// The state after the symbols of the stack up to an entry, counted from the bottom, and its own.
+pub fn stack_state(session: &Session, index: usize) -> usize {
+    if index < session.view().stack_len() {
+        session.state_at(index)
+    } else {
+        0
+    }
+}
+
 /// An upcoming token and its place; `$end` behind the last.
 pub fn upcoming_token(session: &Session, index: usize) -> (Sym, usize) {
     let view = session.view();

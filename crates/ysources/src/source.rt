@@ -57,7 +57,7 @@ fn parse_of(alloc: Global, opened: Opened, cut: Cut) -> Option<Parse> {
     };
     let count = tokens.len();
     match session_of(alloc, tables, tokens) {
-        Some(session) => Some(Parse::new(alloc, session, lines, count, Some(text))),
+        Some(session) => Some(Parse::new(session, lines, count, Some(text))),
         None => None,
     }
 }
@@ -152,9 +152,5 @@ impl<F: Files + AllocGlobal> Opens for Source<'_, F> {
             }
             None => is_same(self.grammar.path),
         }
-    }
-
-    fn open_grammar<E: Write>(&self, errors: &mut E) -> io::Result<Result<Opened, u8>> {
-        open_file(self.rt, self.grammar, errors)
     }
 }
