@@ -1,17 +1,18 @@
 -- Where the mistakes of a file stand, by the sites of its tree.
 use Rattle.std.specs.Prelude.{ℕ, ◌≡◌, ◌<◌, ◌⊎◌, Bool, true, false, not, List, [], ◌∷◌, ◌++◌, length}
 use Rattle.std.specs.Prelude.{map, Option, Some, None, IsSome}
-use Rattle.std.specs.List.{flat_map, last_or}
+use Rattle.std.specs.List.{flat_map, last_or, AllByRecursion}
 use Rattle.youtline.specs.declared.mistake.Mistake.{Mistake}
 use Rattle.youtline.specs.declared.mistake.Mistake.TheVariants.{TokenLeft, Undefined}
 use Rattle.youtline.specs.declared.mistake.Mistake.TheVariants.{TwicePrecedence, BadNumber}
 use Rattle.youtline.specs.declared.mistake.Mistake.TheVariants.{BadStart, Unproductive}
 use Rattle.youtline.specs.declared.mistake.Mistake.TheVariants.{BadPrec}
 use Rattle.youtline.specs.declared.mistake.Mistake.TheVariants.{Limit}
-use Rattle.youtline.specs.Elaboration.{Listing, gives_of, is_nonterminal, is_token, listed_name}
+use Rattle.youtline.specs.Elaboration.{bare_of, Listing, gives_of, is_nonterminal, is_token, listed_name}
 use Rattle.youtline.specs.Elaboration.{listings, said_of, symbols}
 use Rattle.youtline.specs.Printed.{printed_name}
-use Rattle.ysymbols.specs.Names.{is_among}
+use Rattle.ysymbols.specs.Forms.{Productive}
+use Rattle.ysymbols.specs.Names.{is_among, number_in}
 use Rattle.ysyntax.specs.Sites.{each, Role, Site, listed, start_word, used, prec_name, typed, left_side}
 use Rattle.ysyntax.specs.Tree.{Identifier, Tree}
 
@@ -66,6 +67,12 @@ SecondAt before (l ∷ ls) (p ∷ ps) at = (GivesSecond before l × (at ≡ p))
     ⊎ ((GivesSecond before l → ⊥) × SecondAt (before ++ l ∷ []) ls ps at)
 SecondAt before _ _ at = ⊥
 
+-- a left side that is a symbol from which no list of tokens is derived
+abbrev pub IsBarren : Tree → Role → Type 0
+IsBarren t (left_side n) = (number_in (symbols t) n < length (symbols t))
+    × (Productive (bare_of t) (number_in (symbols t) n) → ⊥)
+IsBarren t _ = ⊥
+
 -- the place of a mistake
 abbrev pub StandsAt : Tree → List Site → Mistake → ℕ → Type 0
 StandsAt t ss TokenLeft at = FirstAt (λ r. is_token_left t r ≡ true) ss at
@@ -74,7 +81,9 @@ StandsAt t ss TwicePrecedence at =
     SecondAt [] (listings t) (map (λ p. p.1) (select listed_of ss)) at
 StandsAt t ss BadNumber at = Unit {0}
 StandsAt t ss BadStart at = last_start ss ≡ Some at
-StandsAt t ss Unproductive at = Unit {0}
+-- the beginning of the file, if ever no left side is at fault
+StandsAt t ss Unproductive at = FirstAt (λ r. IsBarren t r) ss at
+    ⊎ (AllByRecursion (λ s. IsBarren t s.role → ⊥) ss × (at ≡ 0))
 StandsAt t ss BadPrec at = FirstAt (λ r. is_bad_prec t r ≡ true) ss at
 -- the beginning of the file
 StandsAt t ss Limit at = at ≡ 0
