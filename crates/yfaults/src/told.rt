@@ -2,8 +2,8 @@
 
 use crate::barren::barren;
 use crate::coming::Coming;
-use crate::nearest::Search;
 use crate::long::long_rule;
+use crate::nearest::Search;
 use crate::place::{roles_in, state_before};
 use crate::shown::{Place, put_whole};
 use crate::words::{Words, grammar_code, words_at_end, words_of};

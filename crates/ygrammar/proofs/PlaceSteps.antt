@@ -350,6 +350,9 @@ module _ (t : Tree) (ns : List Name) (are : ns ≡ symbols t) (marks : List Bool
           (first_behind Barren ds rs place front
           (found_in left_of unmarked Barren barren_yes name_view (λ n. n.at) o.lefts.items now
           (Some place) rs e out.lefts found shown place refl)))
-      go None found h = inr (all_both (λ s. Barren s.role → ⊥) ds rs front
-          (none_found left_of unmarked Barren barren_yes name_view (λ n. n.at) o.lefts.items now
-          None rs e out.lefts found shown refl), h)
+      go None found h = inr (
+        all_both (λ s. Barren s.role → ⊥) ds rs front
+            (none_found left_of unmarked Barren barren_yes name_view (λ n. n.at) o.lefts.items now
+            None rs e out.lefts found shown refl),
+        h,
+      )

@@ -179,10 +179,10 @@ pub text_fault : (source : List ℕ) (e : PlacedFault) →
     (length source ≤ longest_file → FailsAt source e.at e.fault) →
     IsFaultAt source e.at e.fault × HasLine source e
 text_fault source e long short = elim (cases_lt longest_file (length source)) [
-      | inl h ↦ subst (λ (x : PlacedFault). IsFaultAt source x.at x.fault × HasLine source x)
-          (sym (long h)) (h, tt)
-      | inr h ↦ go h e.fault (short h)
-    ]
+  | inl h ↦ subst (λ (x : PlacedFault). IsFaultAt source x.at x.fault × HasLine source x)
+      (sym (long h)) (h, tt)
+  | inr h ↦ go h e.fault (short h)
+]
   where
     go : length source ≤ longest_file → (f : GrammarFault) → FailsAt source e.at f →
         IsFaultAt source e.at f × IfSome (line_in f) (λ line. line ≡ line_of source e.at)

@@ -52,10 +52,13 @@ here xs i d at h s = subst (λ (ys : List Listed). SecondAt (map listed_view (ta
 -- where the listing there gives none, the first stands behind it
 pub goes_on : (xs : List Listed) (i : ℕ) (d : Listed) (at : ℕ) → i < length xs →
     (SecondThere xs i d → ⊥) → Later xs (i + 1) at → Later xs i at
-goes_on xs i d at h n s = here xs i d at h (inr (n, subst (λ (ys : List Listing).
-    SecondAt ys (map listed_view (drop (i + 1) xs)) (map place_of (drop (i + 1) xs)) at)
-    (ap (λ (ys : List Listed). map listed_view ys) (take_more xs i d h)
-    ∙ map-append listed_view (take i xs) (get_or xs i d ∷ [])) s))
+goes_on xs i d at h n s = here xs i d at h (inr (
+  n,
+  subst (λ (ys : List Listing).
+      SecondAt ys (map listed_view (drop (i + 1) xs)) (map place_of (drop (i + 1) xs)) at)
+      (ap (λ (ys : List Listed). map listed_view ys) (take_more xs i d h)
+      ∙ map-append listed_view (take i xs) (get_or xs i d ∷ [])) s,
+))
 
 pub hits : (xs : List Listed) (i : ℕ) (d : Listed) → i < length xs → SecondThere xs i d →
     Later xs i (place_of (get_or xs i d))

@@ -224,9 +224,12 @@ stand_more : (source : List ℕ) (before : List Lexeme) (ms : List Mark) (m : Ma
     StandFrom source before (ms ++ m ∷ [])
 stand_more source before [] m h s =
     (subst (λ (x : List Lexeme). StandsBehind source x m) (append-nil before) s, tt)
-stand_more source before (x ∷ ms) m h s = (h.0, stand_more source (before ++ x.what ∷ []) ms m h.1
-    (subst (λ (y : List Lexeme). StandsBehind source y m)
-    (sym (append_assoc before (x.what ∷ []) (map (λ (y : Mark). y.what) ms))) s))
+stand_more source before (x ∷ ms) m h s = (
+  h.0,
+  stand_more source (before ++ x.what ∷ []) ms m h.1
+      (subst (λ (y : List Lexeme). StandsBehind source y m)
+      (sym (append_assoc before (x.what ∷ []) (map (λ (y : Mark). y.what) ms))) s),
+)
 
 -- reading comes to the place of one more lexeme with those before it
 pub sites_more : (bytes rest m : List ℕ) (ls new : List Placed) (q : State) (p : Placed) →
