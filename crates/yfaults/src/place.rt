@@ -16,7 +16,7 @@ pub fn state_before(source: &[u8], at: usize) -> State {
     let mut state = State::Declarations;
     let mut rest = source;
     for _ in 0..at {
-        if bytes_before(source, rest) >= at {
+        if rest.is_empty() || bytes_before(source, rest) >= at {
             break;
         }
         let Ok((part, after)) = part_at(rest) else {

@@ -1,11 +1,12 @@
 -- Where the mistakes of a tree stand.
-use Rattle.std.proofs.Common.{ℕ, ◌≡◌, Bool, true, false, not, List, [], ◌∷◌, ◌++◌, length, map}
+use Rattle.std.proofs.Common.{ℕ, zero, suc, ◌≡◌, ◌<◌, ◌↔◌, inl, inr, arith, Bool, true, false, not, List, [], ◌∷◌, ◌++◌, length, map}
 use Rattle.std.proofs.Common.{Option, Some, None, refl, sym, ap, subst, ◌∙◌, append-nil}
 use Rattle.std.proofs.Common.{Result, Ok, Err, IsErrAnd}
-use Rattle.std.specs.Prelude.{IfErr}
+use Rattle.std.specs.Prelude.{IfErr, slice_index_or, unwrap_or}
 use Rattle.std.specs.List.{find, last_or, AllByRecursion}
 use Rattle.ysymbols.specs.Grammar.{ContextFree}
-use Rattle.ygrammar.specs.Elaborated.{Fruitful}
+use Rattle.ysymbols.specs.Forms.{Productive}
+use Rattle.ysymbols.specs.Marking.{IsMarked}
 use Rattle.ysymbols.specs.Names.{Name, is_among, number_in}
 use Rattle.ysymbols.specs.Sources.{option_view}
 use Rattle.ysymbols.proofs.NameSteps.{false_true}
@@ -15,12 +16,12 @@ use Rattle.youtline.specs.declared.mistake.Refused.{Refused}
 use Rattle.youtline.specs.declared.mistake.Refused.TheVariants as refused
 use Rattle.youtline.specs.declared.outline.Outline.{Outline}
 use Rattle.youtline.specs.declared.outline.Started.{Started}
-use Rattle.youtline.specs.Elaboration.{is_nonterminal, is_token, symbols, tokens}
+use Rattle.youtline.specs.Elaboration.{bare_of, is_nonterminal, is_token, symbols, tokens}
 use Rattle.youtline.specs.Outline.{start_view}
 use Rattle.youtline.specs.OutlineSites.{IsPlaced, OutlineSites, is_of_rule, left_of, name_at}
 use Rattle.youtline.specs.OutlineSites.{occurrence_at, prec_of, start_at, typed_of, use_of}
 use Rattle.youtline.specs.Owned.{Refuses}
-use Rattle.youtline.specs.Places.{FirstAt, StandsAt, is_bad_prec, is_token_left, is_undefined}
+use Rattle.youtline.specs.Places.{FirstAt, IsBarren, StandsAt, is_bad_prec, is_token_left, is_undefined}
 use Rattle.youtline.specs.Places.{last_start, select, start_of}
 use Rattle.youtline.specs.Printed.{printed_name}
 use Rattle.youtline.proofs.PlaceSteps.{all_map, first_behind, first_front, found_in, last_seen}
@@ -243,18 +244,115 @@ pub passes_place : {A : Type 0} (P : Refused → Type 0) (e : Refused) (r : Resu
 passes_place P e (Ok v) h p = absurd h
 passes_place P e (Err y) h p = subst P (sym h) p
 
-abbrev refuse_of : Refused → Result (Unit {0}) Refused
-refuse_of e = Err e
-
--- a nonterminal that derives no list of tokens
-pub barren_placed : (t : Tree) (ss : List Site) (g : ContextFree) (e : Refused) →
-    Fruitful g (refuse_of e) → IsPlaced t ss e
-barren_placed t ss g (refused.Mistake what at) h =
-    subst (λ m. StandsAt t ss m at) (sym h.0) tt
-barren_placed t ss g refused.Memory h = tt
-
 -- where memory runs out nothing is said of a place
 pub memory_placed : {A : Type 0} (t : Tree) (ss : List Site) (r : Result A Refused) →
     IfErr r (λ e. e ≡ refused.Memory) → IfErr r (IsPlaced t ss)
 memory_placed t ss (Ok v) h = tt
 memory_placed t ss (Err e) h = subst (IsPlaced t ss) (sym h) tt
+
+-- ---- left sides that derive no list of tokens
+
+read_within : (xs : List Bool) (k : ℕ) (a b : Bool) → k < length xs →
+    slice_index_or xs k a ≡ slice_index_or xs k b
+read_within [] k a b h = absurd (omega (arith, h))
+read_within (x ∷ xs) zero a b h = refl
+read_within (x ∷ xs) (suc k) a b h = read_within xs k a b (omega (arith, h))
+
+read_false : (xs : List Bool) (k : ℕ) → slice_index_or xs k true ≡ false → k < length xs
+read_false [] k h = absurd (false_true (sym h))
+read_false (x ∷ xs) zero h = omega arith
+read_false (x ∷ xs) (suc k) h = let l = read_false xs k h in omega (arith, l)
+
+all_both : (P : Site → Type 0) (xs ys : List Site) → AllByRecursion P xs → AllByRecursion P ys →
+    AllByRecursion P (xs ++ ys)
+all_both P [] ys a b = b
+all_both P (x ∷ xs) ys a b = (a.0, all_both P xs ys a.1 b)
+
+not_true : (b : Bool) → not b ≡ true → b ≡ false
+not_true true h = absurd (false_true h)
+not_true false h = refl
+
+module _ (t : Tree) (ns : List Name) (are : ns ≡ symbols t) (marks : List Bool)
+    (g : ContextFree) (same : g ≡ bare_of t) (sized : length marks ≡ g.symbols)
+    (exact : (s : ℕ) → s < g.symbols → (IsMarked marks s ↔ Productive g s)) where
+  abbrev Barren : Role → Type 0
+  Barren r = IsBarren t r
+
+  abbrev unmarked : Name → Bool
+  unmarked n = not (slice_index_or marks (number_in ns n) true)
+
+  number : (n : Name) → number_in ns n ≡ number_in (symbols t) n
+  number n = ap (λ (x : List Name). number_in x n) are
+
+  count : length marks ≡ length (symbols t)
+  count = sized ∙ ap (λ (x : ContextFree). x.symbols) same
+
+  within : (n : Name) → number_in ns n < length marks → number_in ns n < g.symbols
+  within n h = subst (λ k. number_in ns n < k) sized h
+
+  barren_yes : (r : Role) (n : Name) → left_of r ≡ Some n → unmarked n ≡ true → Barren r
+  barren_yes (left_side m) n e h =
+      let one : m ≡ n = cc in
+      subst (λ (x : Name). Barren (left_side x)) (sym one) (go (not_true _ h))
+    where
+      go : slice_index_or marks (number_in ns n) true ≡ false → Barren (left_side n)
+      go f =
+          let l = read_false marks (number_in ns n) f in (
+            subst (λ k. k < length (symbols t)) (number n)
+                (subst (λ k. number_in ns n < k) count l),
+            λ p. clash (slice_index_or marks (number_in ns n) true)
+                (read_within marks (number_in ns n) true false l
+                ∙ (exact (number_in ns n) (within n l)).1
+                (subst (λ k. Productive g k) (sym (number n))
+                (subst (λ x. Productive x (number_in (symbols t) n)) (sym same) p))) f,
+          )
+  barren_yes _ n e h = cc
+
+  barren_shows : (r : Role) → Barren r →
+      (n : Name) × (left_of r ≡ Some n) × (unmarked n ≡ true)
+  barren_shows (left_side n) (l, never) =
+      (n, refl, go (slice_index_or marks (number_in ns n) true) refl)
+    where
+      inside : number_in ns n < length marks
+      inside = subst (λ k. number_in ns n < k) (sym count)
+          (subst (λ k. k < length (symbols t)) (sym (number n)) l)
+
+      go : (b : Bool) → slice_index_or marks (number_in ns n) true ≡ b → not b ≡ true
+      go false e = refl
+      go true e = absurd (never (subst (λ k. Productive (bare_of t) k) (number n)
+          (subst (λ x. Productive x (number_in ns n)) same
+          ((exact (number_in ns n) (within n inside)).0
+          (read_within marks (number_in ns n) false true inside ∙ e)))))
+  barren_shows _ h = absurd h
+
+  none_declared : (r : Role) → is_of_rule r ≡ false → Barren r → ⊥
+  none_declared (left_side n) w h = cc
+  none_declared _ w h = h
+
+  pub barren_at : (o : Outline) (ds rs : List Site) → OutlineSites o ds rs → (now : List NameAt) →
+      now ≡ o.lefts.items → (at : ℕ) → at ≡ unwrap_or (option_view (λ l. l.at)
+      (find (λ l. not (slice_index_or marks (number_in ns (name_view l)) true)) now)) 0 →
+      StandsAt t (ds ++ rs) mistakes.Unproductive at
+  barren_at o ds rs out now e at is = go (option_view (λ l. l.at)
+      (find (λ l. not (slice_index_or marks (number_in ns (name_view l)) true)) now)) refl is
+    where
+      front : AllByRecursion (λ s. Barren s.role → ⊥) ds
+      front = all_map InDeclaration _ (λ s w. none_declared s.role w) ds out.of_declarations
+
+      shown : AllByRecursion (λ s. Barren s.role → (n : Name) × (left_of s.role ≡ Some n)
+          × (unmarked n ≡ true)) rs
+      shown = all_map InRule _ (λ s w. barren_shows s.role) rs out.of_rules
+
+      go : (a : Option ℕ) → a ≡ option_view (λ l. l.at)
+          (find (λ l. not (slice_index_or marks (number_in ns (name_view l)) true)) now) →
+          at ≡ unwrap_or a 0 → StandsAt t (ds ++ rs) mistakes.Unproductive at
+      go (Some place) found h = inl (subst (λ x. FirstAt Barren (ds ++ rs) x) (sym h)
+          (first_behind Barren ds rs place front
+          (found_in left_of unmarked Barren barren_yes name_view (λ n. n.at) o.lefts.items now
+          (Some place) rs e out.lefts found shown place refl)))
+      go None found h = inr (
+        all_both (λ s. Barren s.role → ⊥) ds rs front
+            (none_found left_of unmarked Barren barren_yes name_view (λ n. n.at) o.lefts.items now
+            None rs e out.lefts found shown refl),
+        h,
+      )

@@ -9,7 +9,7 @@ ghost use Rattle.ygrammar.specs.Elaborated.{GivesNamed, IsFirstRefused, IsReady}
 ghost use Rattle.youtline.specs.declared.mistake.Mistake.TheVariants.{BadStart, Undefined};
 ghost use Rattle.youtline.specs.Mistakes.{Holds};
 ghost use Rattle.youtline.specs.Elaboration.{symbols as symbols_of_tree, tokens as tokens_of_tree};
-ghost use Rattle.youtline.specs.Elaboration.{tokens_of};
+ghost use Rattle.youtline.specs.Elaboration.{bare_of, tokens_of};
 ghost use Rattle.ysymbols.specs.Marking.{AreIn, numbered_grammar};
 ghost use Rattle.ysymbols.specs.NameTexts.{texts};
 ghost use Rattle.ysymbols.specs.Names.{number_in};
@@ -167,7 +167,9 @@ fn refuse_unproductive(
 ) -> Result<(), Refused>
     requires within { tokens ≤ symbols }
     requires in_range { AreIn symbols rules.now }
-    ensures { Fruitful (numbered_grammar tokens symbols rules.now) result }
+    ensures fruitful { Fruitful (numbered_grammar tokens symbols rules.now) result }
+    ensures place { (t : TreeOf) → texts names.now ≡ symbols_of_tree t →
+        numbered_grammar tokens symbols rules.now ≡ bare_of t → Places outline.now t result }
 {
     let marks = productive(alloc, rules, tokens, symbols)?;
     for s in tokens..symbols {
@@ -218,7 +220,8 @@ fn refuse_rules(
     requires in_range { AreIn (length (texts named.now.names)) rules.now }
     ensures decides { (t : TreeOf) → Outlines outline.now t → AreNamed t named.now →
         AreNumbered t rules.now → (Holds t BadStart → ⊥) → Decides t result }
-    ensures place { (t : TreeOf) → AreNamed t named.now → Places outline.now t result }
+    ensures place { (t : TreeOf) → AreNamed t named.now → AreNumbered t rules.now →
+        Places outline.now t result }
 {
     let symbols = named.names.len();
     refuse_unproductive(alloc, outline, &named.names, rules, named.tokens, symbols)?;

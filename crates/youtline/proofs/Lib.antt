@@ -4,3 +4,4 @@ pub mod TokenSteps
 pub mod GivenTables
 pub mod SiteSteps
 pub mod PlaceSteps
+pub mod SecondSteps

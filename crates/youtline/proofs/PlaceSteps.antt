@@ -68,8 +68,11 @@ module _ {A : Type 0} (f : Role → Option A) (p : A → Bool) (P : Role → Typ
       go : (o : Option A) → f s.role ≡ o →
           first_of (each (λ x. (x, s.at) ∷ []) o ++ select f ss) ≡ Some at →
           (first_of (select f ss) ≡ Some at → FirstAt P ss at) → FirstAt P (s ∷ ss) at
-      go None e h again = inr (λ q. let (y, g, u) = a.0 q in
-          let w : None ≡ Some y = sym e ∙ g in cc, again h)
+      go None e h again = inr (
+        λ q. let (y, g, u) = a.0 q in
+            let w : None ≡ Some y = sym e ∙ g in cc,
+        again h,
+      )
       go (Some x) e h again = pick x e (p x) refl h again
 
   none_in : (ss : List Site) → AllByRecursion Shows ss → first_of (select f ss) ≡ None →
@@ -90,8 +93,11 @@ module _ {A : Type 0} (f : Role → Option A) (p : A → Bool) (P : Role → Typ
           first_of (each (λ x. (x, s.at) ∷ []) o ++ select f ss) ≡ None →
           (first_of (select f ss) ≡ None → AllByRecursion (λ s. P s.role → ⊥) ss) →
           AllByRecursion (λ s. P s.role → ⊥) (s ∷ ss)
-      go None e h again = (λ q. let (y, g, u) = a.0 q in
-          let w : None ≡ Some y = sym e ∙ g in cc, again h)
+      go None e h again = (
+        λ q. let (y, g, u) = a.0 q in
+            let w : None ≡ Some y = sym e ∙ g in cc,
+        again h,
+      )
       go (Some x) e h again = pick x e (p x) refl h again
 
   module _ {X : Type 0} (v : X → A) (place : X → ℕ) (xs now : List X) (o : Option ℕ)

@@ -9,9 +9,9 @@ use Rattle.youtline.specs.declared.outline.Started.{Started}
 use Rattle.ysyntax.specs.Tree.{Identifier}
 use Rattle.youtline.specs.Elaboration.{option_list}
 use Rattle.youtline.specs.OutlineSites.{entries_in, is_of_rule, left_of, lefts_in, listed_entry}
-use Rattle.youtline.specs.OutlineSites.{listed_of, name_at, occurrence_at, prec_of, precs_in, start_at}
+use Rattle.youtline.specs.OutlineSites.{name_at, occurrence_at, prec_of, precs_in, start_at}
 use Rattle.youtline.specs.OutlineSites.{starts_in, symbol_in, typed_in, typed_of, use_of, used_in}
-use Rattle.youtline.specs.Places.{select, start_of}
+use Rattle.youtline.specs.Places.{listed_of, select, start_of}
 use Rattle.ysyntax.specs.declared.tree.BodyPart.{BodyPart as CodeBodyPart}
 use Rattle.ysyntax.specs.declared.tree.BodyPart.TheVariants as items
 use Rattle.ysyntax.specs.declared.tree.Definition.{Definition as CodeDefinition}

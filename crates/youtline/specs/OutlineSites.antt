@@ -8,7 +8,7 @@ use Rattle.youtline.specs.declared.outline.Listed.{Listed}
 use Rattle.youtline.specs.declared.outline.Outline.{Outline}
 use Rattle.youtline.specs.declared.outline.Started.{Started}
 use Rattle.youtline.specs.Elaboration.{option_list}
-use Rattle.youtline.specs.Places.{StandsAt, select, start_of}
+use Rattle.youtline.specs.Places.{StandsAt, listed_of, select, start_of}
 use Rattle.ysyntax.specs.declared.tree.BodyPart.{BodyPart as CodeBodyPart}
 use Rattle.ysyntax.specs.declared.tree.BodyPart.TheVariants as items
 use Rattle.ysyntax.specs.declared.tree.Definition.{Definition as CodeDefinition}
@@ -17,7 +17,7 @@ use Rattle.ysyntax.specs.declared.tree.Entry.{Entry as CodeEntry}
 use Rattle.ysyntax.specs.declared.tree.NameAt.{NameAt}
 use Rattle.ysyntax.specs.declared.tree.Occurrence.{Occurrence}
 use Rattle.ysyntax.specs.declared.tree.RuleText.{RuleText as CodeRuleText}
-use Rattle.ysyntax.specs.Sites.{Role, Site, listed, used, prec_name, typed, left_side}
+use Rattle.ysyntax.specs.Sites.{Role, Site, used, prec_name, typed, left_side}
 use Rattle.ysyntax.specs.Tree.{Identifier, Tree}
 use Rattle.ysyntax.specs.TreeViews.{name_view, occurrence_view}
 
@@ -87,10 +87,6 @@ use_of _ = None
 abbrev pub prec_of : Role → Option Identifier
 prec_of (prec_name i) = Some i
 prec_of _ = None
-
-abbrev pub listed_of : Role → Option Identifier
-listed_of (listed i) = Some i
-listed_of _ = None
 
 -- the role is one of a rule
 abbrev pub is_of_rule : Role → Bool

@@ -1,18 +1,20 @@
 -- Where the mistakes of a file stand, by the sites of its tree.
-use Rattle.std.specs.Prelude.{ℕ, ◌≡◌, ◌⊎◌, Bool, true, false, not, List, [], ◌∷◌, map, Option, Some}
-use Rattle.std.specs.Prelude.{None}
-use Rattle.std.specs.List.{flat_map, last_or}
+use Rattle.std.specs.Prelude.{ℕ, ◌≡◌, ◌<◌, ◌⊎◌, Bool, true, false, not, List, [], ◌∷◌, ◌++◌, length}
+use Rattle.std.specs.Prelude.{map, Option, Some, None, IsSome}
+use Rattle.std.specs.List.{flat_map, last_or, AllByRecursion}
 use Rattle.youtline.specs.declared.mistake.Mistake.{Mistake}
 use Rattle.youtline.specs.declared.mistake.Mistake.TheVariants.{TokenLeft, Undefined}
 use Rattle.youtline.specs.declared.mistake.Mistake.TheVariants.{TwicePrecedence, BadNumber}
 use Rattle.youtline.specs.declared.mistake.Mistake.TheVariants.{BadStart, Unproductive}
 use Rattle.youtline.specs.declared.mistake.Mistake.TheVariants.{BadPrec}
 use Rattle.youtline.specs.declared.mistake.Mistake.TheVariants.{Limit}
-use Rattle.youtline.specs.Elaboration.{is_nonterminal, is_token, symbols}
+use Rattle.youtline.specs.Elaboration.{bare_of, Listing, gives_of, is_nonterminal, is_token, listed_name}
+use Rattle.youtline.specs.Elaboration.{listings, said_of, symbols}
 use Rattle.youtline.specs.Printed.{printed_name}
-use Rattle.ysymbols.specs.Names.{is_among}
-use Rattle.ysyntax.specs.Sites.{each, Role, Site, start_word, used, prec_name, typed, left_side}
-use Rattle.ysyntax.specs.Tree.{Tree}
+use Rattle.ysymbols.specs.Forms.{Productive}
+use Rattle.ysymbols.specs.Names.{is_among, number_in}
+use Rattle.ysyntax.specs.Sites.{each, Role, Site, listed, start_word, used, prec_name, typed, left_side}
+use Rattle.ysyntax.specs.Tree.{Identifier, Tree}
 
 -- what the sites of some kind are, each with its place
 abbrev pub select : {A : Type 0} → (Role → Option A) → List Site → List (A × ℕ)
@@ -49,14 +51,39 @@ start_of _ = None
 abbrev pub last_start : List Site → Option ℕ
 last_start ss = last_or None (map (λ p. p.1) (select start_of ss))
 
+abbrev pub listed_of : Role → Option Identifier
+listed_of (listed i) = Some i
+listed_of _ = None
+
+-- the listing gives a precedence to a token to which one of those before it gives one
+abbrev pub GivesSecond : List Listing → Listing → Type 0
+GivesSecond before l =
+    IsSome l.gives × (0 < length (said_of gives_of before (listed_name l)))
+
+-- of listings, others before them and each with its place, the first that gives a second precedence
+-- stands at the place
+abbrev pub SecondAt : List Listing → List Listing → List ℕ → ℕ → Type 0
+SecondAt before (l ∷ ls) (p ∷ ps) at = (GivesSecond before l × (at ≡ p))
+    ⊎ ((GivesSecond before l → ⊥) × SecondAt (before ++ l ∷ []) ls ps at)
+SecondAt before _ _ at = ⊥
+
+-- a left side that is a symbol from which no list of tokens is derived
+abbrev pub IsBarren : Tree → Role → Type 0
+IsBarren t (left_side n) = (number_in (symbols t) n < length (symbols t))
+    × (Productive (bare_of t) (number_in (symbols t) n) → ⊥)
+IsBarren t _ = ⊥
+
 -- the place of a mistake
 abbrev pub StandsAt : Tree → List Site → Mistake → ℕ → Type 0
 StandsAt t ss TokenLeft at = FirstAt (λ r. is_token_left t r ≡ true) ss at
 StandsAt t ss Undefined at = FirstAt (λ r. is_undefined t r ≡ true) ss at
-StandsAt t ss TwicePrecedence at = Unit {0}
+StandsAt t ss TwicePrecedence at =
+    SecondAt [] (listings t) (map (λ p. p.1) (select listed_of ss)) at
 StandsAt t ss BadNumber at = Unit {0}
 StandsAt t ss BadStart at = last_start ss ≡ Some at
-StandsAt t ss Unproductive at = Unit {0}
+-- the beginning of the file, if ever no left side is at fault
+StandsAt t ss Unproductive at = FirstAt (λ r. IsBarren t r) ss at
+    ⊎ (AllByRecursion (λ s. IsBarren t s.role → ⊥) ss × (at ≡ 0))
 StandsAt t ss BadPrec at = FirstAt (λ r. is_bad_prec t r ≡ true) ss at
 -- the beginning of the file
 StandsAt t ss Limit at = at ≡ 0

@@ -1,5 +1,5 @@
 -- Tables of what the listings say of the tokens, by number.
-use Rattle.std.specs.Prelude.{◌≡◌, ◌<◌, ◌≤◌, List, [], ◌++◌, length, Option, None, Result, Ok, Err}
+use Rattle.std.specs.Prelude.{ℕ, ◌≡◌, ◌<◌, ◌≤◌, true, List, [], ◌++◌, length, map, Option, None, Result, Ok, Err}
 use Rattle.std.specs.Prelude.{slice_index_or}
 use Rattle.std.specs.Global.{Vec}
 use Rattle.youtline.specs.declared.mistake.Mistake.{Mistake}
@@ -7,8 +7,9 @@ use Rattle.youtline.specs.declared.mistake.Mistake.TheVariants as mistakes
 use Rattle.youtline.specs.declared.mistake.Refused.{Refused}
 use Rattle.youtline.specs.declared.mistake.Refused.TheVariants as refused
 use Rattle.ysymbols.specs.declared.precedence.Precedence.{Precedence}
-use Rattle.youtline.specs.Elaboration.{Listing, option_list, said_of, gives_of}
-use Rattle.ysymbols.specs.Names.{Name, number_in}
+use Rattle.youtline.specs.Elaboration.{Listing, listed_name, option_list, said_of, gives_of}
+use Rattle.youtline.specs.Places.{SecondAt}
+use Rattle.ysymbols.specs.Names.{Name, is_among, number_in}
 
 -- What the table says and the rest of the listings is what all of them say.
 pub record SoFar {A : Type 0} (f : Listing → Option A) (ns : List Name) (table : List (Option A))
@@ -30,6 +31,15 @@ SaidTwice f ls = (n : Name) × (2 ≤ length (said_of f ls n))
 abbrev pub IsTwicePrecedence : Mistake → List Listing → Type 0
 IsTwicePrecedence mistakes.TwicePrecedence ls = SaidTwice gives_of ls
 IsTwicePrecedence _ ls = ⊥
+
+-- each listed token is one of these names
+abbrev pub AreAmong : List Name → List Listing → Type 0
+AreAmong ns ls = (n : Name) → is_among (map listed_name ls) n ≡ true → number_in ns n < length ns
+
+-- a mistake is at the place of the first listing that gives a second precedence
+abbrev pub IsSecond : List Listing → List ℕ → Refused → Type 0
+IsSecond ls ps (refused.Mistake what at) = SecondAt [] ls ps at
+IsSecond ls ps refused.Memory = Unit {0}
 
 -- the precedences of the tokens, or a second one for a token
 abbrev pub TellsPrecedences : List Name → List Listing → Result (Vec (Option Precedence)) Refused →

@@ -1,7 +1,7 @@
 //! What the listings give to the tokens: precedences and numbers, by the number of the token.
 
 ghost use Rattle.std.specs.Prelude.{◌≡◌, ◌<◌, ◌≤◌, ◌++◌, ◌∷◌, ℕ, List, Option, None, map};
-ghost use Rattle.std.specs.Prelude.{[], ◌&&◌, ◌||◌, IfOk, IfSome, MatchOption, Some, is_some, not};
+ghost use Rattle.std.specs.Prelude.{[], ◌&&◌, ◌||◌, IfErr, IfOk, IfSome, MatchOption, Some, is_some, not};
 ghost use Rattle.std.specs.Prelude.{if◌then◌else◌, slice_index_or, unwrap_or};
 ghost use Rattle.std.specs.Char.{digit_value};
 ghost use Rattle.std.specs.Str.Parse.{digits_value};
@@ -14,7 +14,9 @@ ghost use Rattle.ysyntax.specs.Tree.{Identifier as IdentifierOf, Tree as TreeOf}
 ghost use Rattle.ysyntax.specs.TreeViews.{identifier_view, occurrence_view};
 ghost use Rattle.ysymbols.specs.NameTexts.{texts};
 ghost use Rattle.youtline.specs.Outline.{Outlines, listed_view};
-ghost use Rattle.youtline.specs.Told.{TellsPrecedences};
+ghost use Rattle.youtline.specs.OutlineSites.{IsPlaced, OutlineSites};
+ghost use Rattle.youtline.specs.Told.{AreAmong, IsSecond, TellsPrecedences};
+ghost use Rattle.ysyntax.specs.Sites.{Site};
 
 use crate::identifiers::number_of;
 use crate::mistake::{Mistake, Refused};
@@ -31,7 +33,9 @@ fn told_precedences(
     tokens: &SymbolTable,
     listed: &[Listed],
 ) -> Result<Vec<Option<Precedence>>, Refused>
-    ensures { TellsPrecedences (texts tokens.now) (map listed_view listed.now) result }
+    ensures told { TellsPrecedences (texts tokens.now) (map listed_view listed.now) result }
+    ensures place { AreAmong (texts tokens.now) (map listed_view listed.now) →
+        IfErr result (IsSecond (map listed_view listed.now) (map (λ l. l.who.at) listed.now)) }
 {
     let mut given = vec![in alloc; None; tokens.len()]?;
     for one in listed {
@@ -195,8 +199,11 @@ pub fn precedences(
     tokens: &SymbolTable,
     outline: &Outline,
 ) -> Result<Vec<Option<Precedence>>, Refused>
-    ensures { (t : TreeOf) → Outlines outline.now t → texts tokens.now ≡ tokens_of_tree t →
+    ensures told { (t : TreeOf) → Outlines outline.now t → texts tokens.now ≡ tokens_of_tree t →
         Precedes t result }
+    ensures place { (t : TreeOf) (ds rs : List Site) → Outlines outline.now t →
+        OutlineSites outline.now ds rs → texts tokens.now ≡ tokens_of_tree t →
+        IfErr result (IsPlaced t (ds ++ rs)) }
 {
     told_precedences(alloc, tokens, &outline.listed)
 }

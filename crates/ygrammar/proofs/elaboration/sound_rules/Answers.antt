@@ -72,6 +72,8 @@ returns-in_err-refuse_start-clause-place c = λ ds rs out.
 
 pub returns-in_err-refuse_rules-clause-place : goal.returns-in_err-refuse_rules-clause-place
 returns-in_err-refuse_rules-clause-place c = λ ds rs out.
+    let here = (goal.at.returns-in_err-refuse_rules-clause-place c).In_ok-rules in
     passes_place (IsPlaced (tree_view c.args.tree.now) (ds ++ rs)) c.in_err-refuse_rules.field-0.0 _
     c.from_residual-in_err-refuse_rules.ensures.1
-    (c.in_err-refuse_rules.ensures.place (tree_view c.args.tree.now) c.requires.named ds rs out)
+    (c.in_err-refuse_rules.ensures.place (tree_view c.args.tree.now) c.requires.named
+    (c.deref-3.ensures.value ∙ numbered here) ds rs out)

@@ -8,8 +8,8 @@ use Rattle.youtline.proofs.outline.all_lefts.Given as goal
 abbrev pub invariant-loop-rule_text : goal.invariant-loop-rule_text
 invariant-loop-rule_text l = record {
   names : map name_view l.found.items ++ flat_map left_of_rule
-    (map rule_text_view (drop l.rule_text-index l.rule_texts)) ≡ flat_map left_of_rule
-    (map rule_text_view l.rule_texts);
+      (map rule_text_view (drop l.rule_text-index l.rule_texts)) ≡ flat_map left_of_rule
+      (map rule_text_view l.rule_texts);
   all : l.found.items ++ flat_map lefts_in (drop l.rule_text-index l.rule_texts)
       ≡ flat_map lefts_in l.rule_texts;
 }

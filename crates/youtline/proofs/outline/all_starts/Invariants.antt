@@ -9,8 +9,8 @@ use Rattle.youtline.proofs.outline.all_starts.Given as goal
 abbrev pub invariant-loop-definition : goal.invariant-loop-definition
 invariant-loop-definition l = record {
   names : map start_view l.found.items ++ flat_map starts_of
-    (map definition_view (drop l.definition-index l.definitions)) ≡ flat_map starts_of
-    (map definition_view l.definitions);
+      (map definition_view (drop l.definition-index l.definitions)) ≡ flat_map starts_of
+      (map definition_view l.definitions);
   all : l.found.items ++ flat_map starts_in (drop l.definition-index l.definitions)
       ≡ flat_map starts_in l.definitions;
 }

@@ -8,8 +8,8 @@ use Rattle.youtline.proofs.outline.all_typed.Given as goal
 abbrev pub invariant-loop-definition : goal.invariant-loop-definition
 invariant-loop-definition l = record {
   names : map name_view l.found.items ++ flat_map type_names
-    (map definition_view (drop l.definition-index l.definitions)) ≡ flat_map type_names
-    (map definition_view l.definitions);
+      (map definition_view (drop l.definition-index l.definitions)) ≡ flat_map type_names
+      (map definition_view l.definitions);
   all : l.found.items ++ flat_map typed_in (drop l.definition-index l.definitions)
       ≡ flat_map typed_in l.definitions;
 }

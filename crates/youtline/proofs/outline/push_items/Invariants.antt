@@ -8,9 +8,9 @@ use Rattle.youtline.proofs.outline.push_items.Given as goal
 abbrev pub invariant-loop-item : goal.invariant-loop-item
 invariant-loop-item l = record {
   names : map occurrence_view l.found.items ++ flat_map body_part_identifier
-    (map body_part_view (drop l.item-index l.items)) ≡ map occurrence_view l.fn.found.items ++
-    flat_map
-    body_part_identifier (map body_part_view l.items);
+      (map body_part_view (drop l.item-index l.items)) ≡ map occurrence_view l.fn.found.items ++
+      flat_map
+      body_part_identifier (map body_part_view l.items);
   all : l.found.items ++ flat_map symbol_in (drop l.item-index l.items)
       ≡ l.fn.found.items ++ flat_map symbol_in l.items;
 }

@@ -36,7 +36,7 @@ returns-in_err-self-clause-refused c =
       c.in_ok-refuse_token_left.ensures.clears t o c.requires.names,
       (c.in_ok-add_nonterminals.ensures.defined, tt),
     )
-    (c.in_err-self.ensures t o c.requires.names)
+    (c.in_err-self.ensures.told t o c.requires.names)
 
 pub returns-in_err-self-2-clause-refused :
     goal.returns-in_err-self-2-clause-refused
@@ -48,7 +48,7 @@ returns-in_err-self-2-clause-refused c =
       c.in_ok-refuse_token_left.ensures.clears t o c.requires.names,
       (
         c.in_ok-add_nonterminals.ensures.defined,
-        ((c.in_ok-self.ensures t o c.requires.names).sound, tt),
+        ((c.in_ok-self.ensures.told t o c.requires.names).sound, tt),
       ),
     )
     (c.in_err-self-2.ensures t o c.requires.names)
@@ -57,7 +57,7 @@ pub returns-clause-filled : goal.returns-clause-filled
 returns-clause-filled c =
     let t = tree_view c.args.tree.now in
     let o = c.requires.outline in
-    let given = c.in_ok-self.ensures t o c.requires.names in
+    let given = c.in_ok-self.ensures.told t o c.requires.names in
     record {
       names = c.in_ok-add_nonterminals.ensures.symbols;
       tokens_first = c.requires.tokens;
@@ -85,8 +85,7 @@ returns-in_err-self-clause-place c = λ ds rs out.
     let t = tree_view c.args.tree.now in
     passes_place (IsPlaced t (ds ++ rs)) c.in_err-self.field-0.0 _
     c.from_residual-in_err-self.ensures.1
-    (placed t (ds ++ rs) mistakes.TwicePrecedence c.in_err-self.field-0.0
-    (c.in_err-self.ensures t c.requires.outline c.requires.names) (λ at. tt))
+    (c.in_err-self.ensures.place t ds rs c.requires.outline out c.requires.names)
 
 pub returns-in_err-self-2-clause-place : goal.returns-in_err-self-2-clause-place
 returns-in_err-self-2-clause-place c = λ ds rs out.
