@@ -15,6 +15,8 @@ pub use Rattle.ysymbols.specs.WellFormed
 pub use Rattle.ysymbols.specs.Names
 pub use Rattle.ysyntax.specs.Lexer
 pub use Rattle.ysyntax.specs.Tree
+pub use Rattle.ysyntax.specs.Sites
 pub use Rattle.youtline.specs.Printed
 pub use Rattle.youtline.specs.Elaboration
 pub use Rattle.youtline.specs.Mistakes
+pub use Rattle.youtline.specs.Places as MistakePlaces
