@@ -4,7 +4,6 @@ use crate::barren::barren;
 use crate::coming::Coming;
 use crate::long::long_rule;
 use crate::nearest::Search;
-use crate::place::state_before;
 use crate::shown::{Place, put_whole};
 use crate::words::{Words, grammar_code, words_at_end, words_of};
 use std::alloc::{AllocError, Global};
@@ -123,12 +122,12 @@ fn put_help<W: Write>(
     source: &[u8],
     refusal: &Refusal<'_>,
 ) -> io::Result<()> {
-    let (PlacedFault { fault, at }, marks) = (refusal.placed, refusal.marks.as_slice());
+    let (PlacedFault { fault, at, state }, marks) = (refusal.placed, refusal.marks.as_slice());
     match fault {
-        GrammarFault::Syntax { .. } => {
-            let coming = Coming(state_before(source, at));
-            writeln!(out, "  Here can come: {coming}")
-        }
+        GrammarFault::Syntax { .. } => match state {
+            Some(state) => writeln!(out, "  Here can come: {}", Coming(state)),
+            None => Ok(()),
+        },
         GrammarFault::Undefined { .. } => match meant_symbol(alloc, marks, at)? {
             Some(name) => put_question(out, name),
             None => Ok(()),
@@ -192,7 +191,11 @@ pub fn put_grammar_fault<W: Write>(
     source: &[u8],
     refusal: &Refusal<'_>,
 ) -> io::Result<()> {
-    let PlacedFault { fault, at } = refusal.placed;
+    let PlacedFault {
+        fault,
+        at,
+        state: _,
+    } = refusal.placed;
     let Some(words) = words_of(grammar_code(fault)) else {
         return Ok(());
     };

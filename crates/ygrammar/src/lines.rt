@@ -31,10 +31,12 @@ pub fn in_file(refused: Refused, source: &[u8]) -> PlacedFault
         Refused::Mistake { what, at } => PlacedFault {
             fault: at_line(what, line_at(source, at)),
             at,
+            state: None,
         },
         Refused::Memory => PlacedFault {
             fault: GrammarFault::Memory,
             at: 0,
+            state: None,
         },
     }
 }

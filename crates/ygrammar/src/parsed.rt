@@ -2,6 +2,7 @@
 
 ghost use Rattle.std.specs.Prelude.{◌≡◌, ◌<◌, ◌↔◌, IfErr, IfOk, IsErrOf, length};
 ghost use Rattle.ysymbols.specs.Grammar.{longest_file};
+ghost use Rattle.ysyntax.specs.Answers.{StopsIn};
 ghost use Rattle.ysyntax.specs.Lexer.{Refusal};
 ghost use Rattle.ysyntax.specs.Placing.{too_long};
 ghost use Rattle.ysyntax.specs.Tree.{Tree as TreeOf};
@@ -44,6 +45,7 @@ pub fn read_parsed<'a>(alloc: Global, source: &'a [u8]) -> Result<Parsed<'a>, Pl
     ensures refused { (r : Refusal) → IsRefused source.now r → AnswersRefusal (unplaced result) r }
     ensures fault { IfErr result (λ e. IsTextFault source.now e.at e.fault) }
     ensures line { IfErr result (λ e. HasLine source.now e) }
+    ensures state { IfErr result (λ e. StopsIn source.now e.at e.fault e.state) }
 {
     let lexemes = read_syntax(alloc, source)?;
     let tree = build_tree(alloc, &lexemes)?;

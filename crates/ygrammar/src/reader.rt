@@ -2,6 +2,7 @@
 
 ghost use Rattle.std.specs.Prelude.{◌<◌, ◌↔◌, IfErr, IfOk, IsErrOf, length};
 ghost use Rattle.ysymbols.specs.Grammar.{GrammarValue, longest_file};
+ghost use Rattle.ysyntax.specs.Answers.{StopsIn};
 ghost use Rattle.ysyntax.specs.Lexer.{Refusal};
 ghost use Rattle.ysyntax.specs.Placing.{too_long};
 ghost use Rattle.ygrammar.specs.GrammarOf.{AnswersGrammar, AnswersMistake, AnswersRefusal};
@@ -95,8 +96,9 @@ pub fn read_mapped<'a>(alloc: Global, source: &'a [u8]) -> Result<Mapped<'a>, Pl
     ensures line { IfErr (unmapped result) (λ e. HasLine source.now e) }
     // The marks are the lexemes of the file, each at its place and with its role in the tree.
     ensures map { IfOk result (λ m. IsMapped source.now m) }
-    // Without them the file has no syntax.
+    // Without them the file has no syntax, and the answer says how far it was read.
     ensures text { IfErr result (λ e. IsTextFault source.now e.at e.fault) }
+    ensures state { IfErr result (λ e. StopsIn source.now e.at e.fault e.state) }
 {
     let parsed = read_parsed(alloc, source)?;
     let marks = map_of(alloc, &parsed.lexemes, &parsed.tree)?;

@@ -23,6 +23,7 @@ use ysymbols::Grammar;
 const TOO_LONG: PlacedFault = PlacedFault {
     fault: GrammarFault::TooLong,
     at: 0,
+    state: None,
 };
 
 /// What is asked for: the import of a file, to a file of this path or to standard output.

@@ -38,7 +38,9 @@ use Rattle.ysyntax.specs.Lexer.{refusal, IsLine, ended, marked, lexical, stray}
 use Rattle.ylexemes.specs.Front.{syntax, FaultAt}
 use Rattle.ysyntax.specs.Lexer.{early, Outcome, Refusal, Stops, StopsAt}
 use Rattle.ylexemes.specs.Views.{lexeme_view, fault_view}
-use Rattle.ysyntax.specs.Answers.{views, fault_at, FailsAt, Comes, StandIn, StandsIn}
+use Rattle.ysyntax.specs.Answers.{views, fault_at, FailsAt, Comes, ComesIn, StandIn}
+use Rattle.ysyntax.specs.Answers.{StandsIn, StopsIn}
+use Rattle.ysyntax.specs.declared.fault.GrammarFault.{GrammarFault}
 use Rattle.ysyntax.specs.declared.fault.PlacedFault.{PlacedFault}
 use Rattle.ysyntax.proofs.Accepted.{state_after_append, recognised}
 use Rattle.ysyntax.proofs.Shapes.{derived}
@@ -360,6 +362,26 @@ stops_at bytes rest ls q line at r c l s p =
 abbrev pub IsStop : List ℕ → List ℕ → Option LexicalFault → PlacedFault → Type 0
 IsStop bytes rest f e = ((line : ℕ) × IsLine bytes rest line × (e.fault ≡ fault_at f line))
     × (e.at + length rest ≡ length bytes)
+
+-- the state in which reading stops
+pub stops_in : (bytes rest : List ℕ) (ls : List Placed) (q : State) (f : Option LexicalFault)
+    (e : PlacedFault) → Comes bytes ls rest q → IsStop bytes rest f e → e.state ≡ Some q
+    → StopsIn bytes e.at e.fault e.state
+stops_in bytes rest ls q f e c ((line, l, w), p) s =
+    subst (λ (x : GrammarFault). StopsIn bytes e.at x e.state) (sym w)
+    (subst (λ (o : Option State). StopsIn bytes e.at (fault_at f line) o) (sym s) (go f))
+  where
+    come : ComesIn bytes e.at q
+    come =
+        let n : e.at ≡ length bytes - length rest = omega (arith, p) in
+        let back : drop e.at bytes ≡ rest = there bytes rest ls q e.at c n in
+        (views ls, subst (ComesTo bytes (views ls)) (sym back) c.cut, c.state_is)
+
+    go : (f : Option LexicalFault) → StopsIn bytes e.at (fault_at f line) (Some q)
+    go (Some code_faults.Unfinished) = come
+    go (Some code_faults.BadLiteral) = come
+    go (Some code_faults.Foreign) = come
+    go None = come
 
 fails : (bytes : List ℕ) (f : Option LexicalFault) (line : ℕ) (e : PlacedFault) →
     e.fault ≡ fault_at f line → FailsAt bytes e.at (fault_at f line) → FailsAt bytes e.at e.fault

@@ -54,6 +54,18 @@ FailsAt bytes at (faults.Syntax line) = StopsAt bytes at (Err (refusal syntax li
 FailsAt bytes at faults.Memory = at ≡ 0
 FailsAt bytes at _ = ⊥
 
+-- reading has come to this place, in this state of the syntax
+abbrev pub ComesIn : List ℕ → ℕ → State → Type 0
+ComesIn bytes at q = (ls : List Lexeme) × ComesTo bytes ls (drop at bytes)
+    × (state_after (Some Declarations) (kinds ls) ≡ Some q)
+
+-- the state of the syntax in which reading stops with the fault, where a text is at fault
+abbrev pub StopsIn : List ℕ → ℕ → GrammarFault → Option State → Type 0
+StopsIn bytes at faults.TooLong state = state ≡ None
+StopsIn bytes at faults.Memory state = state ≡ None
+StopsIn bytes at fault None = ⊥
+StopsIn bytes at fault (Some q) = ComesIn bytes at q
+
 -- the outcome of the file, or no memory
 abbrev pub Gives : List ℕ → Result (Vec Placed) PlacedFault → Type 0
 Gives bytes (Ok v) = Outcome bytes (Ok (views v.items))

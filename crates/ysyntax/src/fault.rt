@@ -4,6 +4,7 @@ ghost use Rattle.std.specs.Prelude.{◌≡◌};
 ghost use Rattle.ysyntax.specs.declared.fault.GrammarFault.TheVariants.{Memory};
 ghost use Rattle.ysyntax.specs.Placing.{no_memory};
 
+use crate::recogniser::State;
 use std::alloc::{AllocError, AllocFailed};
 use thiserror::Error;
 
@@ -63,6 +64,8 @@ pub struct PlacedFault {
     pub fault: GrammarFault,
     /// How many bytes of the file stand before the place at fault; 0 where the fault has no line.
     pub at: usize,
+    /// Where the file has no syntax: how far its syntax was read before that place.
+    pub state: Option<State>,
 }
 
 impl<T: Drop> From<AllocFailed<T>> for GrammarFault {
@@ -88,6 +91,7 @@ impl<T: Drop> From<AllocFailed<T>> for PlacedFault {
         PlacedFault {
             fault: GrammarFault::Memory,
             at: 0,
+            state: None,
         }
     }
 }
@@ -99,6 +103,7 @@ impl From<AllocError> for PlacedFault {
         PlacedFault {
             fault: GrammarFault::Memory,
             at: 0,
+            state: None,
         }
     }
 }

@@ -1,8 +1,8 @@
 //! A grammar file cut into lexemes, up to its first fault.
 
 ghost use Rattle.std.specs.Prelude.{◌≡◌, ◌+◌, ◌++◌, ◌<◌, ◌≤◌, ◌↔◌, ℕ, List, [], length, Ok, Err, IfOk};
-ghost use Rattle.std.specs.Prelude.{IsErrOf};
-ghost use Rattle.ysyntax.specs.Answers.{Gives, Answers, StandIn, fault_at, views};
+ghost use Rattle.std.specs.Prelude.{IfErr, IsErrOf};
+ghost use Rattle.ysyntax.specs.Answers.{Gives, Answers, StandIn, StopsIn, fault_at, views};
 ghost use Rattle.ysyntax.specs.Placing.{too_long};
 ghost use Rattle.ysyntax.specs.Lexer.{IsLine, SpellsSyntax, Outcome, Refusal};
 ghost use Rattle.ysymbols.specs.Grammar.{longest_file};
@@ -52,15 +52,17 @@ fn at_line(fault: Option<LexicalFault>, line: usize) -> GrammarFault
 
 /// The fault of a file where no part begins, or of one without syntax, at the place where the rest
 /// of its bytes begins.
-fn stopped(fault: Option<LexicalFault>, bytes: &[u8], rest: &[u8]) -> PlacedFault
+fn stopped(fault: Option<LexicalFault>, bytes: &[u8], rest: &[u8], state: State) -> PlacedFault
     requires { (before : List ℕ) × (bytes.now ≡ before ++ rest.now) }
     ensures line { (line : ℕ) × IsLine bytes.now rest.now line
         × (result.fault ≡ fault_at fault line) }
     ensures place { result.at + length rest.now ≡ length bytes.now }
+    ensures state { result.state ≡ Some state }
 {
     PlacedFault {
         fault: at_line(fault, line_of(bytes, rest)),
         at: bytes.len() - rest.len(),
+        state: Some(state),
     }
 }
 
@@ -70,6 +72,7 @@ pub fn read_lexemes<'a>(alloc: Global, bytes: &'a [u8]) -> Result<Vec<Placed<'a>
     ensures outcome { Gives bytes.now result }
     ensures placed { IfOk result (λ v. StandIn bytes.now v.items) }
     ensures sites { IfOk result (λ v. StandFrom bytes.now [] (marks_in v.items)) }
+    ensures state { IfErr result (λ e. StopsIn bytes.now e.at e.fault e.state) }
 {
     let mut lexemes = Vec::new(alloc);
     let mut state = State::Declarations;
@@ -77,14 +80,14 @@ pub fn read_lexemes<'a>(alloc: Global, bytes: &'a [u8]) -> Result<Vec<Placed<'a>
     'parts: while !rest.is_empty() {
         let (part, after) = match part_at(rest) {
             Ok(found) => found,
-            Err(fault) => return Err(stopped(Some(fault), bytes, rest)),
+            Err(fault) => return Err(stopped(Some(fault), bytes, rest, state)),
         };
         match part {
             Part::Blank => {}
             Part::Comment => {}
             Part::Lexeme(lexeme) => {
                 match state.next(lexeme.kind()) {
-                    None => return Err(stopped(None, bytes, rest)),
+                    None => return Err(stopped(None, bytes, rest, state)),
                     Some(next) => state = next,
                 }
                 lexemes.push(Placed {
@@ -102,7 +105,7 @@ pub fn read_lexemes<'a>(alloc: Global, bytes: &'a [u8]) -> Result<Vec<Placed<'a>
     if state.is_final() {
         Ok(lexemes)
     } else {
-        Err(stopped(None, bytes, rest))
+        Err(stopped(None, bytes, rest, state))
     }
 }
 
@@ -128,11 +131,14 @@ pub fn read_syntax<'a>(alloc: Global, bytes: &'a [u8]) -> Result<Vec<Placed<'a>>
     ensures placed { IfOk result (λ v. StandIn bytes.now v.items) }
     // Reading comes to the place of each with those before it.
     ensures sites { IfOk result (λ v. StandFrom bytes.now [] (marks_in v.items)) }
+    // With a fault of the text stands how far the syntax was read.
+    ensures state { IfErr result (λ e. StopsIn bytes.now e.at e.fault e.state) }
 {
     if bytes.len() > LONGEST_FILE {
         return Err(PlacedFault {
             fault: GrammarFault::TooLong,
             at: 0,
+            state: None,
         });
     }
     read_lexemes(alloc, bytes)

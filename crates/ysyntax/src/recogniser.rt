@@ -10,7 +10,7 @@ ghost use Rattle.ysyntax.specs.Recogniser.{after_body, after_prec, next_state, i
 use ylexemes::kind::Kind;
 
 /// How far a grammar file's syntax has been read: behind which lexeme.
-#[derive(Clone, Copy, PartialEq, Eq)]
+#[derive(Clone, Copy, Debug, Drop, PartialEq, Eq)]
 pub enum State {
     /// Between two declarations.
     Declarations,

@@ -1,3 +1,4 @@
+use Rattle.std.specs.Prelude.{IfErr}
 use Rattle.std.proofs.Common.{◌≡◌, ◌∙◌, List, Result, length, Err, ap, subst, sym, arith}
 use Rattle.std.proofs.lemmas.List.{length-map}
 use Rattle.std.proofs.lemmas.Result.{err_from_is_err_and}
@@ -6,14 +7,14 @@ use Rattle.ysyntax.specs.declared.fault.PlacedFault.{PlacedFault}
 use Rattle.ysyntax.specs.Placing.{too_long}
 use Rattle.ysyntax.specs.Answers.{StandIn, views}
 use Rattle.ygrammar.specs.declared.parsed.Parsed.{Parsed}
-use Rattle.ygrammar.specs.GrammarOf.{AnswersRefusal, unplaced}
+use Rattle.ygrammar.specs.GrammarOf.{AnswersRefusal, HasLine, unplaced}
 use Rattle.ylexemes.specs.Lexemes.{Lexeme}
 use Rattle.ylexemes.specs.Views.{lexeme_view}
 use Rattle.ysyntax.specs.Tree.{yield}
 use Rattle.ysyntax.specs.TreeViews.{tree_view}
 use Rattle.ygrammar.proofs.InnerSteps.{few_inner}
 use Rattle.ygrammar.proofs.ReaderSteps.{has_tree, memory_alone, ok_err, read_no_fault, same_refusal}
-use Rattle.ygrammar.proofs.ReaderSteps.{same_tree, sites_of}
+use Rattle.ygrammar.proofs.ReaderSteps.{same_tree, sites_of, text_fault}
 use Rattle.ygrammar.proofs.parsed.read_parsed.Goals as goal
 
 pub returns-in_err-lexemes-clause-refused : goal.returns-in_err-lexemes-clause-refused
@@ -22,6 +23,16 @@ returns-in_err-lexemes-clause-refused c = λ r (short, out).
     subst (λ (x : Result Parsed PlacedFault). AnswersRefusal (unplaced x) r) (sym is.1)
     (subst (λ (f : PlacedFault). AnswersRefusal {X = Parsed} (unplaced (Err f)) r) (sym is.2)
     (same_refusal c.in_err-lexemes.field-0.0.fault r (c.in_err-lexemes.ensures.fault r short out)))
+
+pub returns-in_err-lexemes-clause-line : goal.returns-in_err-lexemes-clause-line
+returns-in_err-lexemes-clause-line c =
+    let source = c.args.source.now in
+    let e : PlacedFault = c.in_err-lexemes.field-0.0 in
+    let is = err_from_is_err_and c.from_residual.result c.from_residual.ensures.1 in
+    subst (λ (x : Result Parsed PlacedFault). IfErr x (λ f. HasLine source f)) (sym is.1)
+    (subst (λ (f : PlacedFault). HasLine source f) (sym is.2)
+    (text_fault source e (λ l. let same : Err e ≡ Err too_long = c.in_err-lexemes.ensures.too_long.1 l in cc)
+    c.in_err-lexemes.ensures.exact).1)
 
 pub returns-clause-refused : goal.returns-clause-refused
 returns-clause-refused c = λ r (short, out).

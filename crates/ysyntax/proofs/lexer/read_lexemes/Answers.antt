@@ -2,7 +2,8 @@ use Rattle.std.proofs.Common.{refl, sym, ap, ◌∙◌, ◌-◌, length}
 use Rattle.ylexemes.specs.Front.{blank, comment}
 use Rattle.ylexemes.specs.Views.{lexeme_view}
 use Rattle.ysyntax.specs.Recogniser.{next_state}
-use Rattle.ysyntax.proofs.Coming.{after_shorter}
+use Rattle.std.proofs.Common.{Some, None}
+use Rattle.ysyntax.proofs.Coming.{after_shorter, stops_in}
 use Rattle.ysyntax.proofs.Coming.{comes_shorter, empty_is, goes_gap, goes_lexeme, place}
 use Rattle.ysyntax.proofs.Coming.{stops_early, stops_ended, placed_more, sites_more, stops_lexical}
 use Rattle.ysyntax.proofs.Coming.{stops_marked, stops_stray}
@@ -119,3 +120,18 @@ returns-then-is_end-clause-sites c =
       at = length c.args.bytes.now - length c.parts.rest.now;
       end = length c.args.bytes.now - length c.in-Ok.found.1.now;
     }) c.parts.invariant part refl c.in_ok-push-in-Lexeme.ensures.items
+
+pub returns-in-Err-clause-state : goal.returns-in-Err-clause-state
+returns-in-Err-clause-state c =
+    stops_in c.args.bytes.now c.parts.rest.now c.parts.lexemes.items c.parts.state (Some c.in-Err.fault)
+    c.stopped.result c.parts.invariant (c.stopped.ensures.line, c.stopped.ensures.place) c.stopped.ensures.state
+
+pub returns-in-None-clause-state : goal.returns-in-None-clause-state
+returns-in-None-clause-state c =
+    stops_in c.args.bytes.now c.parts.rest.now c.parts.lexemes.items c.parts.state None
+    c.stopped-in-None.result c.parts.invariant (c.stopped-in-None.ensures.line, c.stopped-in-None.ensures.place) c.stopped-in-None.ensures.state
+
+pub returns-clause-state : goal.returns-clause-state
+returns-clause-state c =
+    stops_in c.args.bytes.now c.parts.rest.now c.parts.lexemes.items c.parts.state None
+    c.stopped-else-is_final.result c.parts.invariant (c.stopped-else-is_final.ensures.line, c.stopped-else-is_final.ensures.place) c.stopped-else-is_final.ensures.state
