@@ -1,7 +1,9 @@
 pub mod NotingSteps
 pub mod RuleSteps
 pub mod NumberSteps
+pub mod NumberPlaces
 pub mod OwnTables
+pub mod BadPlaces
 pub mod MistakeSteps
 pub mod PlaceSteps
 pub mod SymbolNames

@@ -10,7 +10,6 @@ use Rattle.ysymbols.specs.Marking.{IsMarked}
 use Rattle.ysymbols.specs.Names.{Name, is_among, number_in}
 use Rattle.ysymbols.specs.Sources.{option_view}
 use Rattle.ysymbols.proofs.NameSteps.{false_true}
-use Rattle.youtline.specs.declared.mistake.Mistake.{Mistake}
 use Rattle.youtline.specs.declared.mistake.Mistake.TheVariants as mistakes
 use Rattle.youtline.specs.declared.mistake.Refused.{Refused}
 use Rattle.youtline.specs.declared.mistake.Refused.TheVariants as refused
@@ -20,7 +19,6 @@ use Rattle.youtline.specs.Elaboration.{bare_of, is_nonterminal, is_token, symbol
 use Rattle.youtline.specs.Outline.{start_view}
 use Rattle.youtline.specs.OutlineSites.{IsPlaced, OutlineSites, is_of_rule, left_of, name_at}
 use Rattle.youtline.specs.OutlineSites.{occurrence_at, prec_of, start_at, typed_of, use_of}
-use Rattle.youtline.specs.Owned.{Refuses}
 use Rattle.youtline.specs.Places.{FirstAt, IsBarren, StandsAt, is_bad_prec, is_token_left, is_undefined}
 use Rattle.youtline.specs.Places.{last_start, select, start_of}
 use Rattle.youtline.specs.Printed.{printed_name}
@@ -230,13 +228,6 @@ start_stands o ds rs out now same at h =
     ∙ ap (λ (z : List Started). option_view (λ s. s.at) (last_or None z)) (sym same) ∙ h
 
 -- ---- refusals
-
--- a refusal of which the place is not told
-pub placed : (t : Tree) (ss : List Site) (m : Mistake) (e : Refused) → Refuses t m e →
-    ((at : ℕ) → StandsAt t ss m at) → IsPlaced t ss e
-placed t ss m (refused.Mistake what at) r all =
-    subst (λ x. StandsAt t ss x at) (sym r.0) (all at)
-placed t ss m refused.Memory r all = tt
 
 -- an answer that passes on a refusal has its place
 pub passes_place : {A : Type 0} (P : Refused → Type 0) (e : Refused) (r : Result A Refused) →

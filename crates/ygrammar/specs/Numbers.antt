@@ -1,6 +1,13 @@
 -- Numbers for those tokens that have none of their own: in order, the least unused from 257 on.
-use Rattle.std.specs.Prelude.{ℕ, ◌≡◌, ◌≢◌, ◌<◌, ◌≤◌, ◌⊎◌, Bool, true, false, List, length, Option}
-use Rattle.std.specs.Prelude.{Some, None, slice_get, slice_index_or, if◌then◌else◌, ◌==◌}
+use Rattle.std.specs.Prelude.{ℕ, ◌≡◌, ◌≢◌, ◌<◌, ◌≤◌, ◌⊎◌, Bool, true, false, List, length, map}
+use Rattle.std.specs.Prelude.{Option, Some, None, slice_get, slice_index_or, if◌then◌else◌, ◌==◌}
+use Rattle.std.specs.Prelude.{unwrap_or}
+use Rattle.youtline.specs.declared.outline.Listed.{Listed}
+use Rattle.youtline.specs.Elaboration.{Listing, digits_number, listed_name}
+use Rattle.youtline.specs.Outline.{listed_view}
+use Rattle.youtline.specs.Owned.{IsFit}
+use Rattle.ysymbols.specs.Names.{Name, number_in}
+use Rattle.ysyntax.specs.declared.tree.Digits.{Digits}
 use Rattle.ygrammar.specs.declared.holders.Holders.{Holders}
 use Rattle.ygrammar.specs.declared.holders.Holders.TheVariants.{Nobody, One, Several}
 
@@ -46,3 +53,36 @@ pub record AreHolders (count : ℕ) (own : List (Option ℕ)) (table : List Hold
   pub each : length table ≡ count
   pub exact : (m : ℕ) →
       IsHolders (slice_index_or table m Nobody) (λ k. slice_get own k ≡ Some (Some m))
+
+-- one of so many listings gives the number, one in range, to the token k
+abbrev pub IsGiven : List Name → List Listing → ℕ → ℕ → ℕ → Type 0
+IsGiven ns ls upto m k = (j : ℕ) × (l : Listing) × (j < upto) × (slice_get ls j ≡ Some l)
+    × (k ≡ number_in ns (listed_name l)) × (digits_number l ≡ Some m) × IsFit m
+
+-- the token k has the number by itself, or one of so many listings gives it
+abbrev pub HasNumber : List Name → List (Option ℕ) → List Listing → ℕ → ℕ → ℕ → Type 0
+HasNumber ns own ls upto m k = (slice_get own k ≡ Some (Some m)) ⊎ IsGiven ns ls upto m k
+
+-- the listing behind i others gives a number that is out of range, or not before the listing at
+-- fault, or that several tokens hold
+abbrev pub IsFaulty : List Listed → Option ℕ → List Holders → ℕ → Type 0
+IsFaulty ls fault holders i = (l : Listing) × (m : ℕ) × (slice_get (map listed_view ls) i ≡ Some l)
+    × (digits_number l ≡ Some m) × ((IsFit m → ⊥) ⊎ ((unwrap_or fault (length ls) ≤ i)
+    ⊎ (slice_index_or holders m Nobody ≡ Several)))
+
+-- The first faulty number is that of the listing behind i others, and stands at the place.
+pub record IsFirstFaulty (ls : List Listed) (fault : Option ℕ) (holders : List Holders) (at : ℕ)
+    : Type 0 where
+  pub i : ℕ
+  pub bad : IsFaulty ls fault holders i
+  pub first : (j : ℕ) → j < i → IsFaulty ls fault holders j → ⊥
+  pub listed : Listed
+  pub digits : Digits
+  pub there : slice_get ls i ≡ Some listed
+  pub numbered : listed.digits ≡ Some digits
+  pub place : at ≡ digits.at
+
+-- the place of the first faulty number, or 0
+abbrev pub FaultyAt : List Listed → Option ℕ → List Holders → ℕ → Type 0
+FaultyAt ls fault holders at = IsFirstFaulty ls fault holders at
+    ⊎ (((i : ℕ) → IsFaulty ls fault holders i → ⊥) × (at ≡ 0))

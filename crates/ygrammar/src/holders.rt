@@ -1,12 +1,15 @@
 //! Which tokens hold each number, and the first number of the file that is at fault.
 
 ghost use Rattle.std.specs.Prelude.{◌≡◌, ◌<◌, ◌≤◌, ℕ, IfOk, MatchBool, length, slice_index_or};
-ghost use Rattle.std.specs.Prelude.{[], slice_set};
+ghost use Rattle.std.specs.Prelude.{[], slice_set, ◌++◌, IfErr, List, Option, map};
 ghost use Rattle.youtline.specs.Elaboration.{tokens as tokens_of_tree};
 ghost use Rattle.ysymbols.specs.Grammar.{number_bound};
 ghost use Rattle.ysymbols.specs.NameTexts.{texts};
-ghost use Rattle.ygrammar.specs.Numbers.{AreHolders, IsOwn, is_held, with_holder};
-ghost use Rattle.youtline.specs.Outline.{Outlines};
+ghost use Rattle.ygrammar.specs.Numbers.{AreHolders, FaultyAt, HasNumber, IsHolders, IsOwn};
+ghost use Rattle.ygrammar.specs.Numbers.{is_held, with_holder};
+ghost use Rattle.youtline.specs.Outline.{Outlines, listed_view};
+ghost use Rattle.youtline.specs.OutlineSites.{IsPlaced, OutlineSites};
+ghost use Rattle.ysyntax.specs.Sites.{Site};
 ghost use Rattle.ygrammar.specs.OwnTable.{Owns};
 ghost use Rattle.youtline.specs.Owned.{AllSmall};
 ghost use Rattle.ysyntax.specs.Tree.{Tree as TreeOf};
@@ -120,7 +123,10 @@ fn has_shared(holders: &[Holders]) -> bool
 /// Adds the numbers that are given; a token that is given two holds both.
 fn hold_given(holders: &mut Vec<Holders>, tokens: &SymbolTable, listed: &[Listed])
     requires { length holders.old.items ≡ number_bound }
-    ensures { length holders.new.items ≡ number_bound }
+    ensures each { length holders.new.items ≡ number_bound }
+    ensures given { (own : List (Option ℕ)) → AreHolders number_bound own holders.old.items →
+        (m : ℕ) → IsHolders (slice_index_or holders.new.items m Nobody)
+        (HasNumber (texts tokens.now) own (map listed_view listed.now) (length listed.now) m) }
 {
     for one in listed {
         if let Some(digits) = one.digits {
@@ -135,6 +141,7 @@ fn hold_given(holders: &mut Vec<Holders>, tokens: &SymbolTable, listed: &[Listed
 /// others, or one before it that several tokens hold; 0 where no number is at fault.
 fn first_at_fault(listed: &[Listed], fault: Option<usize>, holders: &[Holders]) -> usize
     requires { length holders.now ≡ number_bound }
+    ensures { FaultyAt listed.now fault holders.now result }
 {
     let end = fault.unwrap_or(listed.len());
     for i in 0..listed.len() {
@@ -189,8 +196,11 @@ pub fn own_table(
     tokens: &SymbolTable,
     outline: &Outline,
 ) -> Result<OwnTable, Refused>
-    ensures { (t : TreeOf) → Outlines outline.now t → texts tokens.now ≡ tokens_of_tree t →
+    ensures told { (t : TreeOf) → Outlines outline.now t → texts tokens.now ≡ tokens_of_tree t →
         Owns t result }
+    ensures place { (t : TreeOf) (ds rs : List Site) → Outlines outline.now t →
+        OutlineSites outline.now ds rs → texts tokens.now ≡ tokens_of_tree t →
+        IfErr result (IsPlaced t (ds ++ rs)) }
 {
     let given = given_numbers(alloc, tokens, &outline.listed)?;
     let fault = given.fault;

@@ -5,3 +5,4 @@ pub mod GivenTables
 pub mod SiteSteps
 pub mod PlaceSteps
 pub mod SecondSteps
+pub mod WrongSteps

@@ -152,7 +152,7 @@ adds ns table l rest whole i k (Some v) None new hk gives e s = go (get_or table
         s.0))
 
 -- the number of a listing's digits
-digits_are : (x : Listed) (d : Digits) (v : ℕ) → x.digits ≡ Some d →
+pub digits_are : (x : Listed) (d : Digits) (v : ℕ) → x.digits ≡ Some d →
     v ≡ digits_value 10 d.digits.now → digits_number (listed_view x) ≡ Some v
 digits_are x d v e f = ap (λ (o : Option Digits).
     digits_number (record {

@@ -1,5 +1,5 @@
 -- The first listing that gives a second precedence.
-use Rattle.std.proofs.Common.{ℕ, zero, suc, ◌≡◌, ◌+◌, ◌<◌, ◌≤◌, ◌⊎◌, inl, inr, Bool, true, false}
+use Rattle.std.proofs.Common.{ℕ, zero, suc, ◌≡◌, ◌+◌, ◌<◌, ◌≤◌, inl, inr, Bool, true, false}
 use Rattle.std.proofs.Common.{List, [], ◌∷◌, ◌++◌, length, map, take, drop, get_or, is_some}
 use Rattle.std.proofs.Common.{Option, Some, None, IsSome, refl, sym, ap, subst, ◌∙◌, arith, ◌||◌}
 use Rattle.std.proofs.Common.{length-append, append-nil, Result, Ok, Err, Vec}
@@ -20,7 +20,6 @@ use Rattle.youtline.specs.Outline.{Outlines, listed_view}
 use Rattle.youtline.specs.OutlineSites.{IsPlaced, OutlineSites, is_of_rule, occurrence_at}
 use Rattle.youtline.specs.Owned.{Precedes, Refuses}
 use Rattle.youtline.specs.Places.{GivesSecond, SecondAt, StandsAt, listed_of, select}
-use Rattle.youtline.specs.Printed.{printed_name}
 use Rattle.youtline.specs.Told.{AreAmong, IsSecond, SoFar}
 use Rattle.ysymbols.specs.declared.precedence.Precedence.{Precedence}
 use Rattle.ysymbols.specs.Names.{Name, is_among, number_in}
@@ -133,7 +132,7 @@ has_one ns table xs i d v k x b e hk hl r q t s =
         ∙ ap (λ (o : Option Precedence). length (option_list o)) a in
         (subst (λ (o : Option Precedence). IsSome o) (sym e) refl, omega (arith, c, w))
 
-named_there : (xs : List Listed) (i : ℕ) (d : Listed) → i < length xs →
+pub named_there : (xs : List Listed) (i : ℕ) (d : Listed) → i < length xs →
     is_among (map listed_name (map listed_view xs)) (listed_name (listed_view (get_or xs i d)))
     ≡ true
 named_there [] i d h = absurd (omega arith)

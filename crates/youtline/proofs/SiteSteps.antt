@@ -1,6 +1,6 @@
 -- The lists of a file are those of its sites.
-use Rattle.std.proofs.Common.{ℕ, ◌≡◌, Bool, true, false, List, [], ◌∷◌, ◌++◌, map, Option, Some, None}
-use Rattle.std.proofs.Common.{refl, sym, ap, subst, ◌∙◌, append-nil}
+use Rattle.std.proofs.Common.{ℕ, ◌≡◌, true, false, List, [], ◌∷◌, ◌++◌, map, Option, Some, None}
+use Rattle.std.proofs.Common.{refl, sym, ap, ◌∙◌}
 use Rattle.std.proofs.lemmas.Grind.{flat_map-append}
 use Rattle.std.proofs.lemmas.List.{map-append}
 use Rattle.std.specs.List.{flat_map, AllByRecursion}
@@ -8,10 +8,11 @@ use Rattle.youtline.specs.declared.outline.Listed.{Listed}
 use Rattle.youtline.specs.declared.outline.Started.{Started}
 use Rattle.ysyntax.specs.Tree.{Identifier}
 use Rattle.youtline.specs.Elaboration.{option_list}
-use Rattle.youtline.specs.OutlineSites.{entries_in, is_of_rule, left_of, lefts_in, listed_entry}
+use Rattle.youtline.specs.OutlineSites.{digits_at, entries_in, is_of_rule, left_of, lefts_in}
+use Rattle.youtline.specs.OutlineSites.{listed_entry, numbers_at}
 use Rattle.youtline.specs.OutlineSites.{name_at, occurrence_at, prec_of, precs_in, start_at}
 use Rattle.youtline.specs.OutlineSites.{starts_in, symbol_in, typed_in, typed_of, use_of, used_in}
-use Rattle.youtline.specs.Places.{listed_of, select, start_of}
+use Rattle.youtline.specs.Places.{digits_of, listed_of, select, start_of}
 use Rattle.ysyntax.specs.declared.tree.BodyPart.{BodyPart as CodeBodyPart}
 use Rattle.ysyntax.specs.declared.tree.BodyPart.TheVariants as items
 use Rattle.ysyntax.specs.declared.tree.Definition.{Definition as CodeDefinition}
@@ -150,6 +151,47 @@ listed_piece (definitions.Listing l) = entries_listed l.entries.items
     ∙ sym (behind_none listed_of (one (name_site tag) l.tag) (flat_map entry_sites l.entries.items)
     (tag_no_token l.tag))
 
+tag_no_number : (o : Option NameAt) → select digits_of (one (name_site tag) o) ≡ []
+tag_no_number None = refl
+tag_no_number (Some n) = refl
+
+names_no_number : (ns : List NameAt) → select digits_of (map (name_site typed) ns) ≡ []
+names_no_number [] = refl
+names_no_number (n ∷ ns) = names_no_number ns
+
+abbrev entry_numbers : CodeEntry → List (List ℕ × ℕ)
+entry_numbers e = map digits_at (option_list e.digits)
+
+digits_number_sites : (o : Option Digits) →
+    map digits_at (option_list o) ≡ select digits_of (one digits_site o)
+digits_number_sites None = refl
+digits_number_sites (Some d) = refl
+
+entries_numbered : (es : List CodeEntry) →
+    flat_map entry_numbers es ≡ select digits_of (flat_map entry_sites es)
+entries_numbered [] = refl
+entries_numbered (e ∷ es) = ap (λ z. z ++ flat_map entry_numbers es) (digits_number_sites e.digits)
+    ∙ ap (λ z. select digits_of (one digits_site e.digits) ++ z) (entries_numbered es)
+    ∙ sym (select_append digits_of (one digits_site e.digits) (flat_map entry_sites es))
+
+numbers_piece : (d : CodeDefinition) →
+    flat_map entry_numbers (entries_in d) ≡ select digits_of (definition_sites d)
+numbers_piece (definitions.Types t) = sym (names_no_number t.names.items)
+numbers_piece (definitions.Start m at) = refl
+numbers_piece (definitions.Union t) = refl
+numbers_piece definitions.Block = refl
+numbers_piece (definitions.Listing l) = entries_numbered l.entries.items
+    ∙ sym (behind_none digits_of (one (name_site tag) l.tag) (flat_map entry_sites l.entries.items)
+    (tag_no_number l.tag))
+
+gather_numbers : (ds : List CodeDefinition) →
+    flat_map entry_numbers (flat_map entries_in ds) ≡ select digits_of (flat_map definition_sites ds)
+gather_numbers [] = refl
+gather_numbers (d ∷ ds) = flat_map-append entry_numbers (entries_in d) (flat_map entries_in ds)
+    ∙ ap (λ z. z ++ flat_map entry_numbers (flat_map entries_in ds)) (numbers_piece d)
+    ∙ ap (λ z. select digits_of (definition_sites d) ++ z) (gather_numbers ds)
+    ∙ sym (select_append digits_of (definition_sites d) (flat_map definition_sites ds))
+
 declaration_piece : (d : CodeDefinition) → AllByRecursion OfDeclaration (definition_sites d)
 declaration_piece (definitions.Types t) = (refl, go t.names.items)
   where
@@ -186,6 +228,16 @@ pub start_sites : (ds : List CodeDefinition) (xs : List Started) → xs ≡ flat
     map start_at xs ≡ select start_of (flat_map definition_sites ds)
 start_sites ds xs e = ap (λ (z : List Started). map start_at z) e
     ∙ gather start_of definition_sites starts_in start_at start_piece ds
+
+pub number_sites : (ds : List CodeDefinition) (xs : List Listed) →
+    map listed_entry xs ≡ flat_map entries_in ds →
+    flat_map numbers_at xs ≡ select digits_of (flat_map definition_sites ds)
+number_sites ds xs e = seen xs ∙ ap (λ (z : List CodeEntry). flat_map entry_numbers z) e
+    ∙ gather_numbers ds
+  where
+    seen : (ys : List Listed) → flat_map numbers_at ys ≡ flat_map entry_numbers (map listed_entry ys)
+    seen [] = refl
+    seen (y ∷ ys) = ap (λ z. map digits_at (option_list y.digits) ++ z) (seen ys)
 
 pub listed_sites : (ds : List CodeDefinition) (xs : List Listed) →
     map listed_entry xs ≡ flat_map entries_in ds →

@@ -8,18 +8,19 @@ use Rattle.youtline.specs.declared.outline.Listed.{Listed}
 use Rattle.youtline.specs.declared.outline.Outline.{Outline}
 use Rattle.youtline.specs.declared.outline.Started.{Started}
 use Rattle.youtline.specs.Elaboration.{option_list}
-use Rattle.youtline.specs.Places.{StandsAt, listed_of, select, start_of}
+use Rattle.youtline.specs.Places.{StandsAt, digits_of, listed_of, select, start_of}
 use Rattle.ysyntax.specs.declared.tree.BodyPart.{BodyPart as CodeBodyPart}
 use Rattle.ysyntax.specs.declared.tree.BodyPart.TheVariants as items
 use Rattle.ysyntax.specs.declared.tree.Definition.{Definition as CodeDefinition}
 use Rattle.ysyntax.specs.declared.tree.Definition.TheVariants as definitions
+use Rattle.ysyntax.specs.declared.tree.Digits.{Digits}
 use Rattle.ysyntax.specs.declared.tree.Entry.{Entry as CodeEntry}
 use Rattle.ysyntax.specs.declared.tree.NameAt.{NameAt}
 use Rattle.ysyntax.specs.declared.tree.Occurrence.{Occurrence}
 use Rattle.ysyntax.specs.declared.tree.RuleText.{RuleText as CodeRuleText}
 use Rattle.ysyntax.specs.Sites.{Role, Site, used, prec_name, typed, left_side}
 use Rattle.ysyntax.specs.Tree.{Identifier, Tree}
-use Rattle.ysyntax.specs.TreeViews.{name_view, occurrence_view}
+use Rattle.ysyntax.specs.TreeViews.{digits_view, name_view, occurrence_view}
 
 -- ---- what stands in the code's pieces
 
@@ -71,6 +72,12 @@ occurrence_at m = (occurrence_view m, m.at)
 abbrev pub start_at : Started → Unit {0} × ℕ
 start_at s = (tt, s.at)
 
+abbrev pub digits_at : Digits → List ℕ × ℕ
+digits_at d = (digits_view d, d.at)
+
+abbrev pub numbers_at : Listed → List (List ℕ × ℕ)
+numbers_at l = map digits_at (option_list l.digits)
+
 abbrev pub typed_of : Role → Option (List ℕ)
 typed_of (typed n) = Some n
 typed_of _ = None
@@ -102,6 +109,7 @@ pub record OutlineSites (o : Outline) (ds rs : List Site) : Type 0 where
   pub typed : map name_at o.typed.items ≡ select typed_of ds
   pub starts : map start_at o.starts.items ≡ select start_of ds
   pub listed : map (λ l. occurrence_at l.who) o.listed.items ≡ select listed_of ds
+  pub numbers : flat_map numbers_at o.listed.items ≡ select digits_of ds
   pub lefts : map name_at o.lefts.items ≡ select left_of rs
   pub used : map occurrence_at o.used.items ≡ select use_of rs
   pub precs : map occurrence_at o.precs.items ≡ select prec_of rs

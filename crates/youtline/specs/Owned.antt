@@ -1,18 +1,19 @@
 -- Tables of the numbers that tokens have by themselves.
-use Rattle.std.specs.Prelude.{ℕ, ◌≡◌, ◌<◌, ◌≤◌, ◌⊎◌, ◌&&◌, not, nat_lt, is_some, cond, List}
-use Rattle.std.specs.Prelude.{length, Contains, Option, Some, None, Result, Ok, Err}
-use Rattle.std.specs.Prelude.{slice_index_or, slice_set}
+use Rattle.std.specs.Prelude.{ℕ, ◌≡◌, ◌<◌, ◌≤◌, ◌⊎◌, ◌&&◌, not, nat_le, nat_lt, is_some, cond, List}
+use Rattle.std.specs.Prelude.{length, Contains, Option, Some, None, Result, Ok, Err, option_map}
+use Rattle.std.specs.Prelude.{slice_get, slice_index_or, slice_set, take, if◌then◌else◌}
 use Rattle.std.specs.Global.{Vec}
 use Rattle.youtline.specs.declared.mistake.Mistake.{Mistake}
 use Rattle.youtline.specs.declared.mistake.Mistake.TheVariants as mistakes
 use Rattle.youtline.specs.declared.mistake.Refused.{Refused}
 use Rattle.youtline.specs.declared.mistake.Refused.TheVariants as refused
 use Rattle.ysymbols.specs.declared.precedence.Precedence.{Precedence}
-use Rattle.youtline.specs.Elaboration.{Listing, said_of, digits_number, token_precedences}
+use Rattle.youtline.specs.Elaboration.{Listing, first_or, said_of, digits_number, token_precedences}
 use Rattle.youtline.specs.Mistakes.{Holds}
 use Rattle.ysyntax.specs.Tree.{Tree}
 use Rattle.ysymbols.specs.Grammar.{greatest_number, number_bound}
 use Rattle.ysymbols.specs.Names.{Name, number_in}
+use Rattle.youtline.specs.Places.{IsWrong}
 use Rattle.youtline.specs.Told.{SaidTwice, SoFar}
 
 -- numbers that may be given
@@ -51,6 +52,30 @@ abbrev pub with_number : List (Option ℕ) → ℕ → ℕ → List (Option ℕ)
 with_number table k v =
     cond (nat_lt k (length table) && not (is_some (slice_index_or table k None)))
     (slice_set table k (Some v)) table
+
+-- a number in range, or else 0
+abbrev pub fit_or_0 : ℕ → ℕ
+fit_or_0 m = if nat_le m greatest_number then m else 0
+
+-- the number that a listing gives, or 0 where it is out of range
+abbrev pub small_number : Listing → Option ℕ
+small_number l = option_map fit_or_0 (digits_number l)
+
+-- The table has the first number that listings give to each token, 0 for one out of range.
+pub record HasFirst (ns : List Name) (table : List (Option ℕ)) (ls : List Listing) : Type 0 where
+  pub each : length table ≡ length ns
+  pub said : (n : Name) → number_in ns n < length ns →
+      slice_index_or table (number_in ns n) None ≡ first_or (said_of small_number ls n) None
+
+-- the listing behind i others gives a number that is wrong
+abbrev pub GivesWrong : List Listing → ℕ → Type 0
+GivesWrong ls i = (l : Listing) × (m : ℕ) × (slice_get ls i ≡ Some l) × (digits_number l ≡ Some m)
+    × IsWrong (take i ls) l m
+
+-- of so many listings, the first that gives a wrong number is the one behind so many others
+abbrev pub IsFirstWrong : List Listing → ℕ → Option ℕ → Type 0
+IsFirstWrong ls upto None = (j : ℕ) → j < upto → GivesWrong ls j → ⊥
+IsFirstWrong ls upto (Some i) = GivesWrong ls i × ((j : ℕ) → j < i → GivesWrong ls j → ⊥)
 
 -- the mistake is this one, and it holds; or memory ran out
 abbrev pub Refuses : Tree → Mistake → Refused → Type 0

@@ -1,6 +1,6 @@
 -- Where the mistakes of a file stand, by the sites of its tree.
-use Rattle.std.specs.Prelude.{ℕ, ◌≡◌, ◌<◌, ◌⊎◌, Bool, true, false, not, List, [], ◌∷◌, ◌++◌, length}
-use Rattle.std.specs.Prelude.{map, Option, Some, None, IsSome}
+use Rattle.std.specs.Prelude.{ℕ, ◌≡◌, ◌≢◌, ◌<◌, ◌⊎◌, Bool, true, false, not, List, [], ◌∷◌, ◌++◌}
+use Rattle.std.specs.Prelude.{length, map, Option, Some, None, IsSome, slice_get, take}
 use Rattle.std.specs.List.{flat_map, last_or, AllByRecursion}
 use Rattle.youtline.specs.declared.mistake.Mistake.{Mistake}
 use Rattle.youtline.specs.declared.mistake.Mistake.TheVariants.{TokenLeft, Undefined}
@@ -8,12 +8,15 @@ use Rattle.youtline.specs.declared.mistake.Mistake.TheVariants.{TwicePrecedence,
 use Rattle.youtline.specs.declared.mistake.Mistake.TheVariants.{BadStart, Unproductive}
 use Rattle.youtline.specs.declared.mistake.Mistake.TheVariants.{BadPrec}
 use Rattle.youtline.specs.declared.mistake.Mistake.TheVariants.{Limit}
-use Rattle.youtline.specs.Elaboration.{bare_of, Listing, gives_of, is_nonterminal, is_token, listed_name}
-use Rattle.youtline.specs.Elaboration.{listings, said_of, symbols}
+use Rattle.youtline.specs.Elaboration.{bare_of, digits_number, Listing, gives_of, is_nonterminal}
+use Rattle.youtline.specs.Elaboration.{is_token, listed_name, listings, option_list, own_number}
+use Rattle.youtline.specs.Elaboration.{said_of, symbols}
 use Rattle.youtline.specs.Printed.{printed_name}
 use Rattle.ysymbols.specs.Forms.{Productive}
-use Rattle.ysymbols.specs.Names.{is_among, number_in}
-use Rattle.ysyntax.specs.Sites.{each, Role, Site, listed, start_word, used, prec_name, typed, left_side}
+use Rattle.ysymbols.specs.Grammar.{greatest_number}
+use Rattle.ysymbols.specs.Names.{Name, is_among, number_in}
+use Rattle.ysyntax.specs.Sites.{digits, each, Role, Site, listed, start_word, used, prec_name}
+use Rattle.ysyntax.specs.Sites.{typed, left_side}
 use Rattle.ysyntax.specs.Tree.{Identifier, Tree}
 
 -- what the sites of some kind are, each with its place
@@ -67,6 +70,39 @@ SecondAt before (l ∷ ls) (p ∷ ps) at = (GivesSecond before l × (at ≡ p))
     ⊎ ((GivesSecond before l → ⊥) × SecondAt (before ++ l ∷ []) ls ps at)
 SecondAt before _ _ at = ⊥
 
+-- the numbers that listings give, in their order
+abbrev pub given_in : List Listing → List ℕ
+given_in ls = flat_map (λ l. option_list (digits_number l)) ls
+
+abbrev pub digits_of : Role → Option (List ℕ)
+digits_of (digits ds) = Some ds
+digits_of _ = None
+
+-- out of range, or a second number for the token of the listing: these are before it
+abbrev pub IsWrong : List Listing → Listing → ℕ → Type 0
+IsWrong before l m = ((m ≡ 0) ⊎ (greatest_number < m))
+    ⊎ (0 < length (said_of digits_number before (listed_name l)))
+
+-- a listing gives the number to the token, or the token has it by itself
+abbrev pub HoldsNumber : Tree → Name → ℕ → Type 0
+HoldsNumber t n m = ((j : ℕ) × (l : Listing) × (slice_get (listings t) j ≡ Some l)
+    × (listed_name l ≡ n) × (digits_number l ≡ Some m))
+    ⊎ ((is_token t n ≡ true) × (own_number t n ≡ Some m))
+
+-- the listing behind i others gives a number that is wrong, or that another token holds too
+abbrev pub GivesBad : Tree → ℕ → Type 0
+GivesBad t i = (l : Listing) × (m : ℕ) × (slice_get (listings t) i ≡ Some l)
+    × (digits_number l ≡ Some m) × (IsWrong (take i (listings t)) l m
+    ⊎ ((n : Name) × (n ≢ listed_name l) × HoldsNumber t n m))
+
+-- The first bad number is that of the listing behind i others, and it stands at the place, where
+-- the numbers stand at these places.
+pub record IsFirstBad (t : Tree) (ps : List ℕ) (at : ℕ) : Type 0 where
+  pub i : ℕ
+  pub bad : GivesBad t i
+  pub first : (j : ℕ) → j < i → GivesBad t j → ⊥
+  pub place : slice_get ps (length (given_in (take i (listings t)))) ≡ Some at
+
 -- a left side that is a symbol from which no list of tokens is derived
 abbrev pub IsBarren : Tree → Role → Type 0
 IsBarren t (left_side n) = (number_in (symbols t) n < length (symbols t))
@@ -79,7 +115,9 @@ StandsAt t ss TokenLeft at = FirstAt (λ r. is_token_left t r ≡ true) ss at
 StandsAt t ss Undefined at = FirstAt (λ r. is_undefined t r ≡ true) ss at
 StandsAt t ss TwicePrecedence at =
     SecondAt [] (listings t) (map (λ p. p.1) (select listed_of ss)) at
-StandsAt t ss BadNumber at = Unit {0}
+-- the beginning of the file, if ever no number is at fault
+StandsAt t ss BadNumber at = IsFirstBad t (map (λ p. p.1) (select digits_of ss)) at
+    ⊎ (((i : ℕ) → GivesBad t i → ⊥) × (at ≡ 0))
 StandsAt t ss BadStart at = last_start ss ≡ Some at
 -- the beginning of the file, if ever no left side is at fault
 StandsAt t ss Unproductive at = FirstAt (λ r. IsBarren t r) ss at

@@ -2,14 +2,14 @@
 
 ghost use Rattle.std.specs.Prelude.{◌≡◌, ◌<◌, ◌≤◌, ◌++◌, ◌∷◌, ℕ, List, Option, None, map};
 ghost use Rattle.std.specs.Prelude.{[], ◌&&◌, ◌||◌, IfErr, IfOk, IfSome, MatchOption, Some, is_some, not};
-ghost use Rattle.std.specs.Prelude.{if◌then◌else◌, slice_index_or, unwrap_or};
+ghost use Rattle.std.specs.Prelude.{if◌then◌else◌, length, slice_index_or, unwrap_or};
 ghost use Rattle.std.specs.Char.{digit_value};
 ghost use Rattle.std.specs.Str.Parse.{digits_value};
 ghost use Rattle.youtline.specs.Elaboration.{literal_value, tokens as tokens_of_tree, usual_of};
 ghost use Rattle.ysymbols.specs.Grammar.{number_bound};
 ghost use Rattle.ysymbols.specs.Names.{Name};
-ghost use Rattle.youtline.specs.Owned.{AllSmall, IsFit, OwnSoFar, Precedes, TellsNumbers};
-ghost use Rattle.youtline.specs.Owned.{with_number};
+ghost use Rattle.youtline.specs.Owned.{AllSmall, HasFirst, IsFirstWrong, IsFit, OwnSoFar};
+ghost use Rattle.youtline.specs.Owned.{Precedes, TellsNumbers, with_number};
 ghost use Rattle.ysyntax.specs.Tree.{Identifier as IdentifierOf, Tree as TreeOf};
 ghost use Rattle.ysyntax.specs.TreeViews.{identifier_view, occurrence_view};
 ghost use Rattle.ysymbols.specs.NameTexts.{texts};
@@ -131,6 +131,10 @@ pub fn given_numbers(
     ensures small { IfOk result (λ g. AllSmall g.first.items) }
     ensures told { IfOk result (λ g. TellsNumbers (texts tokens.now) []
         (map listed_view listed.now) g.first.items g.fault) }
+    ensures first { IfOk result (λ g. HasFirst (texts tokens.now) g.first.items
+        (map listed_view listed.now)) }
+    ensures fault { AreAmong (texts tokens.now) (map listed_view listed.now) →
+        IfOk result (λ g. IsFirstWrong (map listed_view listed.now) (length listed.now) g.fault) }
 {
     let mut given = GivenNumbers {
         first: vec![in alloc; None; tokens.len()]?,

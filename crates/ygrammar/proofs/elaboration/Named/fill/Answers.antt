@@ -4,7 +4,7 @@ use Rattle.ygrammar.specs.Elaborated.{IsFirstRefused}
 use Rattle.ysyntax.specs.TreeViews.{tree_view}
 use Rattle.std.proofs.Common.{◌++◌}
 use Rattle.youtline.specs.OutlineSites.{IsPlaced}
-use Rattle.ygrammar.proofs.PlaceSteps.{passes_place, placed}
+use Rattle.ygrammar.proofs.PlaceSteps.{passes_place}
 use Rattle.ygrammar.proofs.ElaborationSteps.{refuses}
 use Rattle.ygrammar.proofs.elaboration.Named.fill.Goals as goal
 
@@ -51,7 +51,7 @@ returns-in_err-self-2-clause-refused c =
         ((c.in_ok-self.ensures.told t o c.requires.names).sound, tt),
       ),
     )
-    (c.in_err-self-2.ensures t o c.requires.names)
+    (c.in_err-self-2.ensures.told t o c.requires.names)
 
 pub returns-clause-filled : goal.returns-clause-filled
 returns-clause-filled c =
@@ -62,7 +62,7 @@ returns-clause-filled c =
       names = c.in_ok-add_nonterminals.ensures.symbols;
       tokens_first = c.requires.tokens;
       given = given.table;
-      own = c.in_ok-self-2.ensures t o c.requires.names;
+      own = c.in_ok-self-2.ensures.told t o c.requires.names;
       no_token_left = c.in_ok-refuse_token_left.ensures.clears t o c.requires.names;
       all_defined = c.in_ok-add_nonterminals.ensures.defined;
       once = given.sound;
@@ -92,5 +92,4 @@ returns-in_err-self-2-clause-place c = λ ds rs out.
     let t = tree_view c.args.tree.now in
     passes_place (IsPlaced t (ds ++ rs)) c.in_err-self-2.field-0.0 _
     c.from_residual-in_err-self-2.ensures.1
-    (placed t (ds ++ rs) mistakes.BadNumber c.in_err-self-2.field-0.0
-    (c.in_err-self-2.ensures t c.requires.outline c.requires.names) (λ at. tt))
+    (c.in_err-self-2.ensures.place t ds rs c.requires.outline out c.requires.names)

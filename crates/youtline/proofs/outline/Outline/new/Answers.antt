@@ -3,7 +3,7 @@ use Rattle.std.specs.List.{flat_map}
 use Rattle.ysyntax.specs.declared.tree.Definition.{Definition}
 use Rattle.ysyntax.specs.declared.tree.RuleText.{RuleText}
 use Rattle.youtline.specs.OutlineSites.{entries_in, lefts_in, precs_in, starts_in, typed_in, used_in}
-use Rattle.youtline.proofs.SiteSteps.{left_sites, listed_sites, of_declarations, of_rules}
+use Rattle.youtline.proofs.SiteSteps.{left_sites, listed_sites, number_sites, of_declarations, of_rules}
 use Rattle.youtline.proofs.SiteSteps.{prec_sites, start_sites, typed_sites, use_sites}
 use Rattle.youtline.proofs.outline.Outline.new.Goals as goal
 
@@ -19,6 +19,8 @@ returns-clause-sites c =
       starts = start_sites ds _ (c.in_ok-all_starts.ensures.all
           ∙ ap (λ (z : List Definition). flat_map starts_in z) c.deref-2.ensures.value);
       listed = listed_sites ds _ (c.in_ok-all_listed.ensures.all
+          ∙ ap (λ (z : List Definition). flat_map entries_in z) c.deref.ensures.value);
+      numbers = number_sites ds _ (c.in_ok-all_listed.ensures.all
           ∙ ap (λ (z : List Definition). flat_map entries_in z) c.deref.ensures.value);
       lefts = left_sites cs _ (c.in_ok-all_lefts.ensures.all
           ∙ ap (λ (z : List RuleText). flat_map lefts_in z) c.deref-5.ensures.value);
