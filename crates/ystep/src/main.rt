@@ -4,8 +4,8 @@
 use std::env;
 use std::io::{self, ErrorKind, Write};
 use std::process::ExitCode;
-use ystepper::programs::ystep_run;
 use ylink::Buffered;
+use ystepper::programs::ystep_run;
 use ytables::Link;
 
 /// Passes on the words and the standard streams, and gives the exit status.
