@@ -1,0 +1,141 @@
+-- The arrays of a parser, of what they were made.
+use Rattle.std.proofs.Common.{ℕ, ◌≡◌, ◌+◌, ◌*◌, ◌<◌, ◌≤◌, ◌⊎◌, inl, inr, List, length, ap, ◌∙◌}
+use Rattle.std.proofs.Common.{arith, slice_index}
+use Rattle.std.proofs.lemmas.List.{get_or_past}
+use Rattle.std.proofs.lemmas.List.Elements.{All-get_or}
+use Rattle.ysymbols.specs.Grammar.{left_of, body_of}
+use Rattle.ysymbols.specs.WellFormed.{WellFormed}
+use Rattle.ytables.specs.Tables.{TablesValue}
+use Rattle.ycode.specs.declared.code.Code.{Code}
+use Rattle.ycode.specs.declared.comb.Comb.{Comb}
+use Rattle.ycode.specs.declared.entry.Entry.{Entry}
+use Rattle.ycode.specs.declared.sizes.Sizes.{Sizes}
+use Rattle.ycode.specs.Bits.{bit_of, SetsValue, IsSets}
+use Rattle.ycode.specs.Cells.{states_of, tokens_of, symbols_of, rules_of, AreSizes, AreCells, AreSets}
+use Rattle.ycode.specs.Combs.{held, HasRows, AreAtMost}
+use Rattle.ycode.specs.Reading.{done_by, is_explicit}
+use Rattle.ycode.specs.Reads.{Reads, IsInside, AreSmall}
+use Rattle.ycode.specs.Targets.{AreTargets}
+use Rattle.ycode.specs.Translation.{TranslatesTo, translated}
+use Rattle.ycode.proofs.ReadSteps.{places_small, action_is, refusal_is, default_is, action_inside}
+use Rattle.ycode.proofs.ReadSteps.{bits_inside, usual_most, sets_most, goto_is, goto_inside}
+
+module _ (v : TablesValue) (z : Sizes) (a : AreSizes v z) (usual sets : List ℕ) (s : SetsValue)
+    (rows : List (List Entry)) (c1 : Comb) (cells : AreCells v (states_of v) usual sets s rows)
+    (b : AreSets v (states_of v) s) (i : IsSets s) (h1 : HasRows rows (tokens_of v) c1)
+    (tu : List ℕ) (trows : List (List Entry)) (c2 : Comb)
+    (t : AreTargets v (states_of v) tu trows) (h2 : HasRows trows (length tu) c2)
+    (lengths lefts numbers : List ℕ) (n r k : ℕ) (en : n ≡ states_of v) (er : r ≡ rules_of v)
+    (ek : k ≡ tokens_of v) where
+  abbrev the_code : Code
+  the_code = record {
+    states = n;
+    rules = r;
+    tokens = k;
+    actions = c1;
+    usual = usual;
+    sets = sets;
+    span = s.span;
+    bits = s.bytes;
+    gotos = c2;
+    targets = tu;
+    lengths = lengths;
+    lefts = lefts;
+    numbers = numbers;
+  }
+
+  module _ (le : (x : ℕ) → x < rules_of v → slice_index lengths x ≡
+      length (body_of v.built.grammar.bare x))
+      (fe : (x : ℕ) → x < rules_of v → tokens_of v + slice_index lefts x ≡
+      left_of v.built.grammar.bare x)
+      (tr : TranslatesTo (tokens_of v) v.built.grammar.numbers (tokens_of v) numbers) where
+    pub reads : Reads v the_code
+    reads = record {
+      states = en;
+      rules = er;
+      tokens = ek;
+      action = λ q x l m.
+          ap (λ y. done_by y r (slice_index usual q)
+          (bit_of s.bytes (slice_index sets q * s.span) x) (held c1 q x)) en
+          ∙ (ap (λ y. done_by (states_of v) y (slice_index usual q)
+          (bit_of s.bytes (slice_index sets q * s.span) x) (held c1 q x)) er
+          ∙ action_is v z a usual sets s rows c1 cells h1 q x l m);
+      default = default_is v z a usual sets s rows c1 cells h1;
+      refusal = λ q x l m. ap (λ y. is_explicit (y + r) (held c1 q x)) en
+          ∙ (ap (λ y. is_explicit (states_of v + y) (held c1 q x)) er
+          ∙ refusal_is v z a usual sets s rows c1 cells h1 q x l m);
+      goto = goto_is v z a tu trows c2 t h2;
+      body = le;
+      left = fe;
+      token = λ x m l e. ap (λ y. translated y numbers m) ek ∙ tr.token x m l e;
+      other = λ m f. ap (λ y. translated y numbers m) ek ∙ tr.other m f;
+    }
+
+  pub inside : (length lengths ≡ rules_of v) → (length lefts ≡ rules_of v) → IsInside v the_code
+  inside ll fl = record {
+    states = (
+      h1.count ∙ cells.counts.2,
+      h2.count ∙ t.states,
+      cells.counts.0,
+      cells.counts.1,
+    );
+    rules = (ll, fl);
+    targets = t.count;
+    cells = (h1.beside, h2.beside);
+    action = action_inside v z a usual sets s rows c1 cells h1;
+    goto = goto_inside v z a tu trows c2 t h2;
+    bits = bits_inside v z a usual sets s rows c1 cells h1 b i;
+  }
+
+  byte : (x : ℕ) → slice_index s.bytes x ≤ 255
+  byte x = go (less x)
+    where
+      less : (x : ℕ) → (x < length s.bytes) ⊎ (length s.bytes ≤ x)
+      less x = grind arith
+
+      go : (x < length s.bytes) ⊎ (length s.bytes ≤ x) → slice_index s.bytes x ≤ 255
+      go (inl l) = let e = All-get_or (λ b. b < 256) s.bytes x 0 l i.small in omega (arith, e)
+      go (inr l) = let e = get_or_past s.bytes x 0 l in omega (arith, e)
+
+  -- each number of a list is small where those of rules are
+  by_rule : (xs : List ℕ) (m : ℕ) → length xs ≡ rules_of v →
+      ((x : ℕ) → x < rules_of v → slice_index xs x ≤ m) → AreAtMost m xs
+  by_rule xs m e f x = go (less x)
+    where
+      less : (x : ℕ) → (x < length xs) ⊎ (length xs ≤ x)
+      less x = grind arith
+
+      go : (x < length xs) ⊎ (length xs ≤ x) → slice_index xs x ≤ m
+      go (inl l) = f x (omega (arith, e, l))
+      go (inr l) = let d = get_or_past xs x 0 l in omega (arith, d)
+
+  pub small : WellFormed v.built.grammar.bare → (length lengths ≡ rules_of v) →
+      (length lefts ≡ rules_of v) → ((x : ℕ) → x < rules_of v → slice_index lengths x ≡
+      length (body_of v.built.grammar.bare x)) → ((x : ℕ) → x < rules_of v →
+      tokens_of v + slice_index lefts x ≡ left_of v.built.grammar.bare x) →
+      AreAtMost (states_of v + rules_of v) c1.values → AreAtMost (states_of v) c2.values →
+      AreAtMost (tokens_of v) numbers → AreSmall v the_code
+  small w ll fl le fe v1 v2 ns = record {
+    rows = (
+      places_small v z a (tokens_of v) rows c1 cells.counts.2
+          (let e = a.tokens in let f = a.few_symbols in let g = a.some_nonterminals in
+          omega (arith, e, f, g)) (let e = a.tokens in let f = a.some_tokens in omega (arith, e, f))
+          h1,
+      places_small v z a (length tu) trows c2 t.states
+          (let e = t.count in let f = a.few_symbols in let g = a.symbols in omega (arith, e, f, g))
+          (let e = t.count in let f = a.some_nonterminals in let g = a.symbols in
+          let k = a.tokens in omega (arith, e, f, g, k)) h2,
+    );
+    checks = (h1.checks, h2.checks);
+    values = (v1, v2);
+    usual = usual_most v z a usual sets s rows c1 cells h1;
+    sets = sets_most v z a usual sets s rows c1 cells h1 b;
+    bits = byte;
+    targets = t.below;
+    rules = (
+      by_rule lengths 255 ll (λ x l. (let e = le x l in let f = w.short x l in omega (arith, e, f))),
+      by_rule lefts (symbols_of v) fl (λ x l. (let e = fe x l in let f = w.left x l in
+          omega (arith, e, f))),
+    );
+    numbers = ns;
+  }

@@ -1,0 +1,7 @@
+pub mod EntrySteps
+pub mod PackingSteps
+pub mod BitSteps
+pub mod CellSteps
+pub mod CellLoops
+pub mod ReadSteps
+pub mod CodeSteps

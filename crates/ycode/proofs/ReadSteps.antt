@@ -1,0 +1,168 @@
+-- What is read of the arrays.
+use Rattle.std.proofs.Common.{ℕ, ◌≡◌, ◌+◌, ◌*◌, ◌/◌, ◌<◌, ◌≤◌, ◌^◌, ◌⊎◌, inl, inr}
+use Rattle.std.proofs.Common.{nat_eq, List, [], length, get_or, sym, ap, ◌∙◌, subst, arith}
+use Rattle.std.proofs.Common.{Some, None, is_some, slice_index, if◌then◌else◌, unwrap_or}
+use Rattle.std.proofs.Math.Nat.{mul-le-mul}
+use Rattle.std.proofs.lemmas.List.{get_or_past}
+use Rattle.ysymbols.specs.Grammar.{most_symbols}
+use Rattle.yrows.specs.Limits.{most_states}
+use Rattle.ylalr.specs.Collection.{goto_in}
+use Rattle.ytables.specs.Tables.{TablesValue, action_at, default_at}
+use Rattle.ycells.specs.Candidates.{shift_in}
+use Rattle.ycode.specs.declared.comb.Comb.{Comb}
+use Rattle.ycode.specs.declared.entry.Entry.{Entry}
+use Rattle.ycode.specs.declared.sizes.Sizes.{Sizes}
+use Rattle.ycode.specs.Bits.{bit_of, SetsValue, IsSets}
+use Rattle.ycode.specs.Cells.{states_of, tokens_of, symbols_of, rules_of, wanted_at, is_refused}
+use Rattle.ycode.specs.Cells.{AreSizes, AreCells, AreSets, Fits, IsUsual}
+use Rattle.ycode.specs.Combs.{held, place_of, HasRows, AreAtMost}
+use Rattle.ycode.specs.Entries.{NumbersAtMost, EntriesAtMost}
+use Rattle.ycode.specs.Reading.{done_by, is_explicit}
+use Rattle.ycode.specs.Targets.{AreTargets}
+use Rattle.ycode.proofs.BitSteps.{byte_within}
+use Rattle.ycode.proofs.CellSteps.{done_right, refusal_right, default_right, goto_right, consistent}
+
+module _ (v : TablesValue) (z : Sizes) (a : AreSizes v z) where
+  -- a comb's places are small numbers
+  pub places_small : (w : ℕ) (rows : List (List Entry)) (c : Comb) → length rows ≡ states_of v →
+      w ≤ most_symbols → 0 < w → HasRows rows w c → AreAtMost (2 ^ 28) c.rows
+  places_small w rows c len few some h q = go (less q)
+    where
+      less : (q : ℕ) → (q < length c.rows) ⊎ (length c.rows ≤ q)
+      less q = grind arith
+
+      many : length rows * w ≤ most_states * most_symbols
+      many = mul-le-mul {n₁ = length rows} {m₁ = w} {n₂ = most_states} {m₂ = most_symbols}
+          (let s = a.few_states in let e = a.states in omega (arith, s, e, len)) few
+
+      go : (q < length c.rows) ⊎ (length c.rows ≤ q) → slice_index c.rows q ≤ 2 ^ 28
+      go (inl l) =
+          let i = h.inside q 0 (let e = h.count in omega (arith, e, l)) some in
+          let s = h.short in
+          let m = many in omega (arith, i, s, m)
+      go (inr l) = let e = get_or_past c.rows q 0 l in omega (arith, e)
+
+  module _ (usual sets : List ℕ) (s : SetsValue) (rows : List (List Entry)) (c : Comb)
+      (cells : AreCells v (states_of v) usual sets s rows) (h : HasRows rows (tokens_of v) c) where
+    -- the number of a cell
+    held_is : (q t : ℕ) → q < states_of v → t < tokens_of v →
+        held c q t ≡ wanted_at v (slice_index usual q) q t
+    held_is q t l m = h.cells q t (let e = cells.counts.2 in omega (arith, e, l)) m ∙
+        cells.entries q t l m
+
+    some : 0 < rules_of v
+    some = let e = a.rules in let p = a.some_rules in omega (arith, e, p)
+
+    pub action_is : (q t : ℕ) → q < states_of v → t < tokens_of v →
+        done_by (states_of v) (rules_of v) (slice_index usual q)
+        (bit_of s.bytes (slice_index sets q * s.span) t) (held c q t) ≡ action_at v q t
+    action_is q t l m =
+        ap (done_by (states_of v) (rules_of v) (slice_index usual q)
+        (bit_of s.bytes (slice_index sets q * s.span) t)) (held_is q t l m)
+        ∙ done_right (states_of v) (rules_of v) (slice_index usual q) (is_refused v q t)
+        (bit_of s.bytes (slice_index sets q * s.span) t) (action_at v q t) some (a.actions q t l m)
+        ((cells.members q l).members t m)
+
+    pub refusal_is : (q t : ℕ) → q < states_of v → t < tokens_of v →
+        is_explicit (states_of v + rules_of v) (held c q t) ≡ is_refused v q t
+    refusal_is q t l m =
+        ap (is_explicit (states_of v + rules_of v)) (held_is q t l m)
+        ∙ refusal_right (states_of v) (rules_of v) (slice_index usual q)
+        (is_some (shift_in v.built q t)) (action_at v q t) some (a.actions q t l m)
+
+    pub default_is : (q : ℕ) → q < states_of v →
+        (if nat_eq (slice_index sets q) 0 then Some (slice_index usual q) else None) ≡
+        default_at v q
+    default_is q l = default_right (default_at v q) (slice_index sets q) (slice_index usual q)
+        (cells.members q l).zero (cells.rules q l).default
+
+    pub action_inside : (q t : ℕ) → q < states_of v → t < tokens_of v →
+        place_of c q t < length c.checks
+    action_inside q t l m = h.inside q t (let e = cells.counts.2 in omega (arith, e, l)) m
+
+    pub bits_inside : AreSets v (states_of v) s → IsSets s → (q t : ℕ) → q < states_of v →
+        t < tokens_of v → slice_index sets q * s.span + t / 8 < length s.bytes
+    bits_inside b i q t l m =
+        let e = i.sized in
+        let w = byte_within (slice_index sets q) s.count s.span t (cells.members q l).number
+        (let x = b.span in omega (arith, x, m)) in
+        omega (arith, e, w)
+
+    -- past the end of a list is 0
+    inside_or_zero : (xs : List ℕ) (n q : ℕ) → (q < length xs → slice_index xs q ≤ n) →
+        slice_index xs q ≤ n
+    inside_or_zero xs n q f = go (less q)
+      where
+        less : (q : ℕ) → (q < length xs) ⊎ (length xs ≤ q)
+        less q = grind arith
+
+        go : (q < length xs) ⊎ (length xs ≤ q) → slice_index xs q ≤ n
+        go (inl l) = f l
+        go (inr l) = let e = get_or_past xs q 0 l in omega (arith, e)
+
+    pub usual_most : AreAtMost (rules_of v) usual
+    usual_most q = inside_or_zero usual (rules_of v) q (λ l.
+        (let r = (cells.rules q (let e = cells.counts.0 in omega (arith, e, l))).rule in
+        omega (arith, r)))
+
+    pub sets_most : AreSets v (states_of v) s → AreAtMost (states_of v) sets
+    sets_most b q = inside_or_zero sets (states_of v) q (λ l.
+        (let r = (cells.members q (let e = cells.counts.1 in omega (arith, e, l))).number in
+        let f = b.few in omega (arith, r, f)))
+
+    pub values_most : NumbersAtMost (states_of v + rules_of v) rows
+    values_most q = go (less q)
+      where
+        less : (q : ℕ) → (q < states_of v) ⊎ (states_of v ≤ q)
+        less q = grind arith
+
+        go : (q < states_of v) ⊎ (states_of v ≤ q) →
+            EntriesAtMost (states_of v + rules_of v) (get_or rows q [])
+        go (inl l) = cells.most q l
+        go (inr l) = subst (EntriesAtMost (states_of v + rules_of v))
+            (sym (get_or_past rows q [] (let e = cells.counts.2 in omega (arith, e, l))))
+            (λ t k e. (let f : None ≡ Some k = e in absurd (cc)))
+
+  module _ (usual : List ℕ) (rows : List (List Entry)) (c : Comb)
+      (t : AreTargets v (states_of v) usual rows) (h : HasRows rows (length usual) c) where
+    pub goto_is : (q x n : ℕ) → q < states_of v → tokens_of v + x < symbols_of v →
+        goto_in v.built q (tokens_of v + x) ≡ Some n →
+        unwrap_or (held c q x) (slice_index usual x) ≡ n
+    goto_is q x n l m e =
+        let low : x < length usual = (let k = t.count in omega (arith, k, m)) in
+        ap (λ o. unwrap_or o (slice_index usual x)) (h.cells q x
+        (let k = t.states in omega (arith, k, l)) low ∙ t.entries q x l low)
+        ∙ goto_right (slice_index usual x) n (goto_in v.built q (tokens_of v + x)) e
+
+    pub goto_inside : (q x : ℕ) → q < states_of v → tokens_of v + x < symbols_of v →
+        place_of c q x < length c.checks
+    goto_inside q x l m = h.inside q x (let k = t.states in omega (arith, k, l))
+        (let k = t.count in omega (arith, k, m))
+
+    pub targets_most : NumbersAtMost (states_of v) rows
+    targets_most q = go (less q)
+      where
+        less : (q : ℕ) → (q < states_of v) ⊎ (states_of v ≤ q)
+        less q = grind arith
+
+        go : (q < states_of v) ⊎ (states_of v ≤ q) →
+            EntriesAtMost (states_of v) (get_or rows q [])
+        go (inl l) = t.most q l
+        go (inr l) = subst (EntriesAtMost (states_of v))
+            (sym (get_or_past rows q [] (let e = t.states in omega (arith, e, l))))
+            (λ i k e. (let f : None ≡ Some k = e in absurd (cc)))
+
+-- the usual rule of a consistent state, and of another
+module _ (v : TablesValue) (z : Sizes) (a : AreSizes v z) (q r : ℕ) where
+  pub usual_default : q < states_of v → default_at v q ≡ Some r → IsUsual v q r
+  usual_default l e = record {
+    rule = (subst (Fits (states_of v) (rules_of v)) (consistent v q 0 r e) (a.actions q 0 l
+        (let p = a.some_tokens in let t = a.tokens in omega (arith, p, t)))).1;
+    default = λ s f. (let g : Some r ≡ Some s = sym e ∙ f in cc);
+  }
+
+  pub usual_other : r < rules_of v → default_at v q ≡ None → IsUsual v q r
+  usual_other l e = record {
+    rule = l;
+    default = λ s f. (let g : None ≡ Some s = sym e ∙ f in cc);
+  }
