@@ -223,7 +223,7 @@ fn import_bytes<F: Files + AllocGlobal, W: Write, E: Write>(
 ) -> io::Result<u8> {
     let path = asked.file;
     if bytes.len() > LONGEST_FILE {
-        let trouble = Trouble::of_fault(TOO_LONG, Vec::new(rt.alloc()));
+        let trouble = Trouble::of_text(rt.alloc(), TOO_LONG);
         put_trouble(errors, rt.alloc(), path, bytes, &trouble)?;
         return Ok(1);
     }
@@ -269,7 +269,7 @@ pub fn open_foreign<E: Write>(
     bytes: &[u8],
 ) -> io::Result<Result<Opened, u8>> {
     if bytes.len() > LONGEST_FILE {
-        let trouble = Trouble::of_fault(TOO_LONG, Vec::new(alloc));
+        let trouble = Trouble::of_text(alloc, TOO_LONG);
         put_trouble(errors, alloc, path, bytes, &trouble)?;
         return Ok(Err(1));
     }
