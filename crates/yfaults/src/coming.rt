@@ -34,12 +34,14 @@ pub struct Coming(pub State);
 
 impl fmt::Display for Coming {
     fn fmt<W: fmt::Write>(&self, f: &mut fmt::Formatter<W>) -> fmt::Result {
-        let mut between = "";
+        let mut is_first = true;
         for (kind, words) in &KINDS {
             if self.0.next(*kind).is_some() {
-                f.write_str(between)?;
+                if !is_first {
+                    f.write_str(", ")?;
+                }
                 f.write_str(words)?;
-                between = ", ";
+                is_first = false;
             }
         }
         Ok(())
