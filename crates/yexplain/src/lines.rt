@@ -57,17 +57,26 @@ pub fn newlines(bytes: &[u8]) -> usize {
     bytes.iter().filter(|b| **b == b'\n').count()
 }
 
-/// A walk over the lexemes of a file: up to which place newlines are counted, and the line there.
+/// A walk over the places of a file: up to which place newlines are counted, and the line there.
 #[derive(Clone, Copy)]
-struct Walk<'a> {
+pub struct Walk<'a> {
     source: &'a [u8],
     at: usize,
     line: usize,
 }
 
-impl Walk<'_> {
-    /// Goes on to a place further on, and gives its line.
-    fn line_at(&mut self, at: usize) -> usize {
+impl<'a> Walk<'a> {
+    /// A walk that begins on the first line of these bytes.
+    pub fn new(source: &'a [u8]) -> Walk<'a> {
+        Walk {
+            source,
+            at: 0,
+            line: 1,
+        }
+    }
+
+    /// Goes on to a place further on, and gives its line, counted from 1.
+    pub fn line_at(&mut self, at: usize) -> usize {
         let between = self.source.get(self.at..at).unwrap_or(&[]);
         self.line = self.line.saturating_add(newlines(between));
         self.at = at;
@@ -225,11 +234,7 @@ fn places_of(
     grammar: &Grammar,
 ) -> Result<Places, AllocError> {
     let mut places = Places::new(alloc);
-    let mut walk = Walk {
-        source,
-        at: 0,
-        line: 1,
-    };
+    let mut walk = Walk::new(source);
     for mark in marks {
         places.take(grammar, *mark, walk.line_at(mark.placed.at))?;
     }
