@@ -6,11 +6,14 @@
 Over the grammar and tokens of every scenario and example, and over N grammars drawn at random (40),
 each parser is compiled by the compiler (CC, or cc) with its sanitizers, as C90 without a warning,
 and makes the steps of `ystep`, line for line. Texts of actions, code and `%union` are left out,
-since those of scenarios are no C.
+since those of scenarios are no C. The calculator of examples/calculator-c is built as C90, C99, C17
+and C++17 by each compiler that is there, without a warning, with a trace and without, and answers
+as it should; a copy of it with another prefix is linked beside it.
 """
 import argparse
 import os
 import random
+import shutil
 import subprocess
 import sys
 import tempfile
@@ -67,6 +70,17 @@ int main (void)
   return ended == 0 || ended == 1 ? 0 : 5;
 }
 """ % MOST
+
+
+CALCULATOR = TOP / "examples/calculator-c"
+# Compilers, and what each is asked to take the calculator for.
+LANGUAGES = {
+    "gcc": ["-std=c90", "-std=c99", "-std=c17"],
+    "clang": ["-std=c90", "-std=c99", "-std=c17"],
+    "g++": ["-std=c++17"],
+    "clang++": ["-std=c++17"],
+}
+STRICT = ["-Wall", "-Wextra", "-pedantic", "-Werror"]
 
 
 class Differs(Exception):
@@ -149,14 +163,13 @@ def steps_of(program, table, names):
 
 
 def compare(grammar, cases, ycc):
-    """The parser of a grammar on each of its lists of tokens; the folder stays where it differs."""
+    """The parser of a grammar on each of its lists of tokens."""
     with tempfile.TemporaryDirectory() as folder:
         program = built(folder, grammar, ycc)
         for table, names, steps in cases:
             made = steps_of(program, table, names)
             if made != steps:
                 raise Differs(f"{grammar.decode()}\n{names}\nystep:\n{steps}\nthe parser:\n{made}")
-    return len(cases), sum(steps.count("\n") for _, _, steps in cases)
 
 
 def by_grammar(pairs, programs):
@@ -167,6 +180,71 @@ def by_grammar(pairs, programs):
         if cases:
             found.setdefault(pair[0], []).extend(cases)
     return found
+
+
+def compilers():
+    """Each compiler that is there, with each language."""
+    for compiler, languages in LANGUAGES.items():
+        if shutil.which(compiler):
+            yield from ((compiler, language) for language in languages)
+
+
+def sums_of(program):
+    """What the calculator answers to the sums of the example."""
+    return ran([program], "the calculator", (CALCULATOR / "sums").read_bytes())
+
+
+def calculator(folder, ycc, options, compiler, language):
+    """The calculator, built in one way."""
+    kind = "cc" if "++" in language else "c"
+    parser, program = f"{folder}/calc.{kind}", f"{folder}/calc"
+    ran([ycc, *options, "-o", parser, str(CALCULATOR / "calc.y")], "ycc")
+    ran([compiler, language, *STRICT, "-O1", "-o", program, parser], f"{compiler} {language}")
+    return program
+
+
+def compare_calculator(ycc, options, compiler, language):
+    """The calculator, built in one way, on sums whose answers are known."""
+    with tempfile.TemporaryDirectory() as folder:
+        answers = sums_of(calculator(folder, ycc, options, compiler, language))
+    if answers != (CALCULATOR / "answers").read_bytes():
+        raise Differs(f"{compiler} {language} {options}: {answers.decode(errors='replace')}")
+
+
+def link_both(ycc):
+    """Two parsers in one program, which have no name in common but `main`."""
+    with tempfile.TemporaryDirectory() as folder:
+        objects = []
+        for prefix in ("yy", "other"):
+            parser = f"{folder}/{prefix}.c"
+            ran([ycc, "-p", prefix, "-o", parser, str(CALCULATOR / "calc.y")], "ycc")
+            objects.append(f"{folder}/{prefix}.o")
+            words = [f"-Dmain={prefix}_main", "-c", "-o", objects[-1], parser]
+            ran([os.environ.get("CC", "cc"), *words], "the compiler")
+        main = f"{folder}/main.c"
+        Path(main).write_text("int yy_main (void);\nint main (void) { return yy_main (); }\n")
+        program = f"{folder}/both"
+        ran([os.environ.get("CC", "cc"), "-o", program, main, *objects], "the compiler")
+        if sums_of(program) != (CALCULATOR / "answers").read_bytes():
+            raise Differs("two parsers in one program: other answers")
+
+
+def examples(ycc):
+    """What is tried with the example."""
+    for compiler, language in compilers():
+        for options in ([], ["-t"], ["-l"]):
+            yield compare_calculator, (ycc, options, compiler, language)
+    yield link_both, (ycc,)
+
+
+def fails(check, given):
+    """Whether a check fails, and says so."""
+    try:
+        check(*given)
+    except Differs as differs:
+        print(f"parsers.py: {differs}")
+        return True
+    return False
 
 
 def asked():
@@ -185,19 +263,14 @@ def main():
     pairs = list(dict.fromkeys(pairs_of_scenarios()))
     pairs += [pair_at_random(rng) for _ in range(given.drawn)]
     found = by_grammar(pairs, programs)
+    jobs = [(compare, (grammar, cases, programs["ycc"])) for grammar, cases in found.items()]
+    jobs += examples(programs["ycc"])
     with ThreadPoolExecutor(os.cpu_count()) as pool:
-        jobs = [pool.submit(compare, grammar, cases, programs["ycc"]) for grammar, cases in found.items()]
-        failed, cases, steps = 0, 0, 0
-        for job in jobs:
-            try:
-                passed, made = job.result()
-                cases, steps = cases + passed, steps + made
-            except Differs as differs:
-                print(f"parsers.py: {differs}")
-                failed += 1
-    print(f"{len(found)} grammars, {cases} lists of tokens, {steps} steps")
-    print(f"{cases} passed, {failed} failed")
-    return 1 if failed or not cases else 0
+        failed = sum(pool.map(lambda job: fails(*job), jobs))
+    lists = sum(map(len, found.values()))
+    print(f"{len(found)} grammars, {lists} lists of tokens, {len(jobs) - len(found)} builds")
+    print(f"{len(jobs) - failed} passed, {failed} failed")
+    return 1 if failed or not lists else 0
 
 
 if __name__ == "__main__":

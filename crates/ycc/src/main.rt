@@ -13,6 +13,7 @@ use clap::error::ErrorKind;
 use clap::{ArgMatches, Command};
 use std::alloc::{AllocError, Global};
 use std::env;
+use std::fmt::Display;
 use std::io::{self, Write};
 use std::process::ExitCode;
 use ycode::code_of;
@@ -124,25 +125,21 @@ fn put_conflicts(rt: &HostRuntime, counts: Counts) -> io::Result<()> {
     writeln!(rt.stderr(), "conflicts: {first} shift/reduce, {second} reduce/reduce")
 }
 
-/// Writes the name of a value as an action has it.
-fn put_whose<W: Write>(out: &mut W, whose: Whose) -> io::Result<()> {
-    match whose {
-        Whose::Left => out.write_all(b"$$"),
-        Whose::Symbol(number) => write!(out, "${number}"),
-    }
-}
-
-/// Writes what is wrong with a value.
+/// Writes what is wrong with a value, and how to mend it.
 fn put_misuse<W: Write>(out: &mut W, misuse: Misuse) -> io::Result<()> {
     match misuse {
         Misuse::OutOfRange(number, seen) => {
             writeln!(out, "${number} is out of range: {seen} symbols stand before this action")
         }
-        Misuse::Untyped(whose) => {
-            put_whose(out, whose)?;
-            out.write_all(b" has no type: other symbols have tags, and this one has none\n")
-        }
+        Misuse::Untyped(Whose::Left) => put_untyped(out, "$"),
+        Misuse::Untyped(Whose::Symbol(number)) => put_untyped(out, number),
     }
+}
+
+/// Writes that a value has no tag, and how to give it one.
+fn put_untyped<W: Write, N: Display>(out: &mut W, name: N) -> io::Result<()> {
+    write!(out, "${name} has no tag, and other symbols have: ")?;
+    writeln!(out, "give it one by %token or %type, or here as $<tag>{name}")
 }
 
 /// Says what is wrong with a value that an action names, and at which place.
