@@ -2,12 +2,14 @@
 
 use std::io::{self, Write};
 use std::mem;
+use std::rt::Files;
 use ycommands::refusal::{Refusal, fault_words, put_refusal};
 use yexplain::reads::grammar_of;
-use yfollow::{Opens, Parse};
+use yfollow::Parse;
 use yparse::machine::{StepFault, StepKind};
 use yshow::page::Page;
 use yshow::reading::name_of;
+use ysources::source::Source;
 use ysymbols::Grammar;
 
 /// Why the past isn't made again.
@@ -102,10 +104,10 @@ fn replace<W: Write>(page: &mut Page<W>, parse: &mut Parse, fresh: Parse) {
 }
 
 /// Reads both files again. Where one is refused, that is said, and the old parse stays.
-pub fn reload<S: Opens, W: Write>(
+pub fn reload<F: Files + AllocGlobal, W: Write>(
     page: &mut Page<W>,
     parse: &mut Parse,
-    source: &S,
+    source: &Source<'_, F>,
 ) -> io::Result<()> {
     match source.open(page)? {
         Ok(fresh) => replace(page, parse, fresh),

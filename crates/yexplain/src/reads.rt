@@ -7,6 +7,13 @@ use ylalr::{Automaton, Item};
 use ysymbols::{Grammar, Precedence, Rule, Sym};
 use ytables::{Action, Conflict, Tables, is_ready, next_symbol};
 
+/// Sets an entry, where there is one.
+pub fn set<T: Copy>(entries: &mut [T], place: usize, value: T) {
+    if let Some(entry) = entries.get_mut(place) {
+        *entry = value;
+    }
+}
+
 /// The grammar that tables were made for.
 pub fn grammar_of(tables: &Tables) -> &Grammar {
     tables.automaton().grammar()

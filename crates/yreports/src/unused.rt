@@ -6,7 +6,7 @@ use ycells::{Rival, settle};
 use yexplain::lines::Lines;
 use yexplain::reads::{
     action_of, body_of, candidate_of, default_of, grammar_of, is_complete, items_of, level_of,
-    next_of, rule_of, shift_of,
+    next_of, rule_of, set, shift_of,
 };
 use ylalr::{Automaton, token_count};
 use ysymbols::{Grammar, Precedence, Sym};
@@ -37,13 +37,6 @@ pub struct Done {
     ready: Vec<usize>,
 }
 
-/// Sets a mark, where it is one.
-pub fn mark(marks: &mut [bool], place: usize) {
-    if let Some(mark) = marks.get_mut(place) {
-        *mark = true;
-    }
-}
-
 impl Done {
     /// What is done in the cells of tables.
     pub fn new(alloc: Global, tables: &Tables, lines: &Lines) -> Result<Done, AllocError> {
@@ -72,7 +65,7 @@ impl Done {
     /// Notes what is done in the cells of a state.
     fn look_at(&mut self, tables: &Tables, lines: &Lines, state: usize) -> Result<(), AllocError> {
         if let Some(rule) = default_of(tables, state) {
-            mark(&mut self.reduced, rule);
+            set(&mut self.reduced, rule, true);
             return Ok(());
         }
         self.fill(tables.automaton(), state)?;
@@ -98,7 +91,7 @@ impl Done {
     fn look_at_cells(&mut self, tables: &Tables, state: usize) {
         for token in 0..token_count(grammar_of(tables)) {
             if let Action::Reduce(rule) = action_of(tables, state, token) {
-                mark(&mut self.reduced, rule);
+                set(&mut self.reduced, rule, true);
             }
         }
     }
@@ -141,8 +134,8 @@ impl Done {
     fn compare(&mut self, token: Sym) {
         for rival in &self.rivals {
             if rival.standing.class() != Class::Rest {
-                mark(&mut self.by_token, token);
-                mark(&mut self.by_rule, rival.rule);
+                set(&mut self.by_token, token, true);
+                set(&mut self.by_rule, rival.rule, true);
             }
         }
     }
@@ -161,7 +154,7 @@ impl Done {
             }
             self.steps = self.steps.saturating_sub(self.rivals.len());
             if settles(shift, &mut self.rivals, place, other) {
-                mark(&mut self.by_rule, other.rule);
+                set(&mut self.by_rule, other.rule, true);
             }
         }
     }
@@ -192,7 +185,7 @@ impl Done {
         for rule in 0..grammar.rules() {
             if self.by_rule.get(rule).copied().unwrap_or(false) {
                 if let Some(token) = giver_of(grammar, lines, rule) {
-                    mark(&mut self.by_token, token);
+                    set(&mut self.by_token, token, true);
                 }
             }
         }

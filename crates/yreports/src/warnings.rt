@@ -1,10 +1,10 @@
 //! What deserves a warning in a grammar without a fault.
 
-use crate::unused::{Done, mark};
+use crate::unused::Done;
 use std::alloc::{AllocError, Global};
 use std::io::Write;
 use yexplain::lines::{Lines, Mention};
-use yexplain::reads::{grammar_of, is_reachable, left_of, level_of};
+use yexplain::reads::{grammar_of, is_reachable, left_of, level_of, set};
 use yexplain::text::{Name, RuleText};
 use ylalr::ERROR;
 use yshow::page::Page;
@@ -52,10 +52,10 @@ impl Named {
         match mention.role {
             Role::Levelled => note_line(&mut self.levelled, mention),
             Role::Symbol(_) => {
-                mark(&mut self.in_body, mention.symbol);
-                mark(&mut self.used, mention.symbol);
+                set(&mut self.in_body, mention.symbol, true);
+                set(&mut self.used, mention.symbol, true);
             }
-            Role::PrecName(_) => mark(&mut self.used, mention.symbol),
+            Role::PrecName(_) => set(&mut self.used, mention.symbol, true),
             _ => {}
         }
     }
