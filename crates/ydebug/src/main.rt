@@ -348,10 +348,7 @@ fn obey_given(rt: &HostRuntime, words: &[&str]) -> Result<u8, Refused> {
 /// Reads the words and does what they ask for.
 fn run(rt: &HostRuntime) -> Result<u8, Refused> {
     let given: Vec<String> = env::args(rt)?.collect(rt.alloc())?;
-    let mut words = Vec::with_capacity(rt.alloc(), given.len())?;
-    for word in &given {
-        words.push(word.as_str()).map_err(AllocError::from)?;
-    }
+    let words: Vec<&str> = given.iter().map(String::as_str).collect(rt.alloc())?;
     obey_given(rt, &words)
 }
 

@@ -2,6 +2,7 @@
 
 ghost use Rattle.std.specs.Iterator.{at_most};
 
+use std::alloc::{AllocError, Global};
 use ycells::{Candidate, candidate_at, next_rule, shift_at};
 use ylalr::{Automaton, Item};
 use ysymbols::{Grammar, Precedence, Rule, Sym};
@@ -92,6 +93,19 @@ pub fn next_of(grammar: &Grammar, item: Item) -> Option<Sym> {
 /// Whether an item is complete, and of another rule than rule 0.
 pub fn is_complete(grammar: &Grammar, item: Item) -> bool {
     item.rule < grammar.rules() && is_ready(grammar, item)
+}
+
+/// Where the complete items of a state stand among its items.
+pub fn ready_of(
+    alloc: Global,
+    automaton: &Automaton,
+    state: usize,
+) -> Result<Vec<usize>, AllocError> {
+    let items = items_of(automaton, state).iter().enumerate();
+    items
+        .filter(|(_, item)| is_complete(automaton.grammar(), **item))
+        .map(|(index, _)| index)
+        .collect(alloc)
 }
 
 /// The state to which a symbol leads from a state, or `None` where it leads nowhere.

@@ -189,15 +189,26 @@ pub fn wanted_after(alloc: Global, tables: &Tables, before: &[Sym]) -> Result<Wa
 }
 
 /// Writes that an input is accepted.
-pub fn put_accepted<W: Write>(out: &mut W, path: &str, steps: usize) -> io::Result<Said> {
+fn put_accepted<W: Write>(out: &mut W, path: &str, steps: usize) -> io::Result<Said> {
     let mut digits = itoa::Buffer::new();
     let texts = [path, ": good: accepted in ", digits.format(steps), " steps"];
     say(out, &texts, Said::Good)
 }
 
-/// Writes that a parse takes too many steps.
-pub fn put_limit<W: Write>(out: &mut W, path: &str) -> io::Result<Said> {
-    say(out, &[path, ": deep: more than 1,000,000 steps"], Said::Bad)
+/// Writes the verdict on an input; where a token can't come, its place is the answer, counted
+/// from 1.
+pub fn put_verdict<W: Write>(
+    out: &mut W,
+    path: &str,
+    verdict: Result<Verdict, JudgeFault>,
+) -> io::Result<Result<Said, usize>> {
+    let said = match verdict {
+        Ok(Verdict::Rejected(place)) => return Ok(Err(place)),
+        Ok(Verdict::Accepted(steps)) => put_accepted(out, path, steps),
+        Ok(Verdict::Limit) => say(out, &[path, ": deep: more than 1,000,000 steps"], Said::Bad),
+        Err(_) => put_memory(out, path),
+    };
+    said.map(Ok)
 }
 
 /// Writes that memory ran out for a tokens file, where that is the error.
@@ -256,7 +267,12 @@ impl Judge<'_> {
         match read_tokens(self.alloc, self.tables, source) {
             Ok(tokens) => {
                 let verdict = judge(self.alloc, self.tables, &tokens);
-                self.put_verdict(out, path, &tokens.symbols, verdict)
+                match put_verdict(out, path, verdict)? {
+                    Ok(said) => Ok(said),
+                    Err(place) => {
+                        self.put_rejected(out, Mistake::at(path, &tokens.symbols, place))
+                    }
+                }
             }
             Err(TokenFault::Memory) => put_memory(out, path),
             Err(fault) => self.put_refused(out, path, source, fault),
@@ -275,25 +291,6 @@ impl Judge<'_> {
         match put_near_token(out, self.alloc, grammar_of(self.tables), source, fault) {
             Ok(()) => Ok(Said::Bad),
             Err(error) => put_lost(out, path, error),
-        }
-    }
-
-    /// Writes the verdict on these tokens.
-    fn put_verdict<W: Write>(
-        self,
-        out: &mut W,
-        path: &str,
-        tokens: &[Sym],
-        verdict: Result<Verdict, JudgeFault>,
-    ) -> io::Result<Said> {
-        match verdict {
-            Ok(Verdict::Accepted(steps)) => put_accepted(out, path, steps),
-            Ok(Verdict::Rejected(place)) => self.put_rejected(
-                out,
-                Mistake::at(path, tokens, place),
-            ),
-            Ok(Verdict::Limit) => put_limit(out, path),
-            Err(_) => put_memory(out, path),
         }
     }
 

@@ -65,7 +65,8 @@ impl<W: Write, F: Files + AllocGlobal + Clone + Drop> Report<'_, W, F> {
 
     /// Writes a kind of conflict and why it is settled so.
     fn put_group(&mut self, tables: &Tables, number: usize, kind: &Kind, group: Group) {
-        let _ = write!(self.page, "\nconflict {number}: ");
+        self.page.end();
+        let _ = write!(self.page, "conflict {number}: ");
         let _ = explain(self.page, kind.cell(group, tables, self.lines));
         put_states(self.page, group);
     }

@@ -5,10 +5,10 @@ use std::mem;
 use ycells::{Rival, settle};
 use yexplain::lines::Lines;
 use yexplain::reads::{
-    action_of, body_of, candidate_of, default_of, grammar_of, is_complete, items_of, level_of,
-    next_of, rule_of, set, shift_of,
+    action_of, body_of, candidate_of, default_of, grammar_of, items_of, level_of, next_of,
+    ready_of, rule_of, set, shift_of,
 };
-use ylalr::{Automaton, token_count};
+use ylalr::token_count;
 use ysymbols::{Grammar, Precedence, Sym};
 use ytables::{Action, Class, Tables, standing_between};
 
@@ -21,6 +21,7 @@ const MOST_STEPS: usize = 2_000_000;
 /// `%prec` can do something there: it can hide the precedence that its rule would have without it.
 #[derive(Drop)]
 pub struct Done {
+    alloc: Global,
     /// For each rule, whether it is reduced anywhere.
     pub reduced: Vec<bool>,
     /// For each token, whether its precedence settled a cell.
@@ -42,6 +43,7 @@ impl Done {
     pub fn new(alloc: Global, tables: &Tables, lines: &Lines) -> Result<Done, AllocError> {
         let grammar = grammar_of(tables);
         let mut done = Done {
+            alloc,
             reduced: vec![in alloc; false; grammar.rules()]?,
             by_token: vec![in alloc; false; grammar.symbols()]?,
             by_rule: vec![in alloc; false; grammar.rules()]?,
@@ -68,21 +70,10 @@ impl Done {
             set(&mut self.reduced, rule, true);
             return Ok(());
         }
-        self.fill(tables.automaton(), state)?;
+        self.ready = ready_of(self.alloc, tables.automaton(), state)?;
         if !self.ready.is_empty() {
             self.look_at_cells(tables, state);
             self.look_at_shifts(tables, lines, state)?;
-        }
-        Ok(())
-    }
-
-    /// Takes in where the complete items of a state stand.
-    fn fill(&mut self, automaton: &Automaton, state: usize) -> Result<(), AllocError> {
-        self.ready.clear();
-        for (index, item) in items_of(automaton, state).iter().enumerate() {
-            if is_complete(automaton.grammar(), *item) {
-                self.ready.push(index)?;
-            }
         }
         Ok(())
     }

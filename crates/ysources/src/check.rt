@@ -12,14 +12,14 @@ use yfaults::opening::Opened;
 use yfaults::shown::Place;
 use yfiles::reading::Limited;
 use yfollow::check::{
-    Check, Said, bytes_of, put_accepted, put_choice, put_limit, put_long, put_memory, put_unread,
-    put_wanted, run_check, wanted_after,
+    Check, Said, bytes_of, put_choice, put_long, put_memory, put_unread, put_verdict, put_wanted,
+    run_check, wanted_after,
 };
 use yfollow::expected::Wanted;
 use ylalr::END;
 use ylex::fault::TextFault;
 use ylex::lexer::{Lexed, Lexer};
-use yparse::{Verdict, judge};
+use yparse::judge;
 use ysymbols::{Grammar, Sym};
 use ytables::Tables;
 
@@ -109,13 +109,10 @@ impl Text<'_> {
         if !self.lexed.tokens.fits(tables) {
             return Err(io::Error::from(ErrorKind::Other));
         }
-        match judge(alloc, tables, &self.lexed.tokens) {
-            Ok(Verdict::Accepted(steps)) => put_accepted(out, self.path, steps),
-            Ok(Verdict::Rejected(place)) => {
-                self.put_rejected(out, alloc, tables, place.saturating_sub(1))
-            }
-            Ok(Verdict::Limit) => put_limit(out, self.path),
-            Err(_) => put_memory(out, self.path),
+        let verdict = judge(alloc, tables, &self.lexed.tokens);
+        match put_verdict(out, self.path, verdict)? {
+            Ok(said) => Ok(said),
+            Err(place) => self.put_rejected(out, alloc, tables, place.saturating_sub(1)),
         }
     }
 }
