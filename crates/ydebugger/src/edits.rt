@@ -75,8 +75,7 @@ pub fn save<F: Files + AllocGlobal, W: Write>(
     over: bool,
 ) {
     if source.guards(path) {
-        page.put(path);
-        page.line(" is an input, and isn't written over.");
+        let _ = writeln!(page, "{path} is an input, and isn't written over.");
         return;
     }
     let words = match save_tokens(source.rt, parse, path, over) {
@@ -87,6 +86,5 @@ pub fn save<F: Files + AllocGlobal, W: Write>(
             _ => " can't be written.",
         },
     };
-    page.put(path);
-    page.line(words);
+    let _ = writeln!(page, "{path}{words}");
 }

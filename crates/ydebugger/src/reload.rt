@@ -47,9 +47,7 @@ fn redo(parse: &mut Parse, old: &Parse) -> Result<(), Stopped> {
 
 /// Where the old parse was, and why the new one isn't.
 fn put_stopped<W: Write>(page: &mut Page<W>, parse: &Parse, wanted: usize, stopped: Stopped) {
-    page.put(" and not ");
-    page.number(wanted);
-    page.line(".");
+    let _ = writeln!(page, " and not {wanted}.");
     page.line(match stopped {
         Stopped::Fault(fault) => fault_words(fault, parse.session().view().mode()),
         Stopped::NoToken => "The grammar has no longer the token that was inserted.",
@@ -63,8 +61,11 @@ fn put_reached<W: Write>(
     wanted: usize,
     reached: Result<(), Stopped>,
 ) {
-    page.put("Both files are read again; the position is ");
-    page.number(parse.session().position());
+    let position = parse.session().position();
+    let _ = write!(
+        page,
+        "Both files are read again; the position is {position}"
+    );
     match reached {
         Ok(()) => page.line(", as before."),
         Err(stopped) => put_stopped(page, parse, wanted, stopped),
