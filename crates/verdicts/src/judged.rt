@@ -2,12 +2,13 @@
 
 use std::alloc::{AllocError, Global};
 use std::fs;
-use std::io::{self, ErrorKind, Read, Write};
+use std::io::{self, ErrorKind, Write};
 use thiserror::Error;
-use ygrammar::{Grammar, GrammarFault, LONGEST_FILE, read_grammar};
-use ylalr::{Automaton, BuildFault, build};
+use yfiles::reading::first_bytes;
+use ygenerate::source::{SourceFault, tables_over};
+use ygrammar::LONGEST_FILE;
 use yparse::{JudgeFault, TokenFault, Verdict, judge, read_tokens};
-use ytables::{TableFault, Tables, resolve};
+use ytables::Tables;
 
 /// Why there is no verdict.
 #[derive(Debug, Drop, Error)]
@@ -17,9 +18,7 @@ enum Trouble {
     #[error("no memory")]
     Memory,
     #[error("{0}")]
-    Grammar(#[from] GrammarFault),
-    #[error("{0}")]
-    Build(#[from] BuildFault),
+    Source(#[from] SourceFault),
     #[error("{0}")]
     Tokens(#[from] TokenFault),
 }
@@ -33,42 +32,16 @@ impl From<io::Error> for Trouble {
     }
 }
 
-impl From<TableFault> for Trouble {
-    fn from(_refused: TableFault) -> Trouble {
-        Trouble::Memory
-    }
-}
-
 impl From<JudgeFault> for Trouble {
     fn from(_refused: JudgeFault) -> Trouble {
         Trouble::Memory
     }
 }
 
-/// So many bytes of a grammar file show that it is too long, even where it never ends.
-const GRAMMAR_BYTES: u64 = LONGEST_FILE as u64 + 1;
-
-/// At most so many bytes of a file.
-fn first_bytes(rt: &HostRuntime, path: &str, most: u64) -> io::Result<Vec<u8>> {
-    let mut bytes = Vec::new(rt.alloc());
-    fs::open(rt, path)?.take(most).read_to_end(&mut bytes)?;
-    Ok(bytes)
-}
-
-/// The grammar that the bytes mean.
-fn grammar_over(alloc: Global, source: &[u8]) -> Result<Grammar, Trouble> {
-    Ok(read_grammar(alloc, source)?)
-}
-
-/// The item sets of the grammar that the bytes mean.
-fn automaton_over(alloc: Global, source: &[u8]) -> Result<Automaton, Trouble> {
-    Ok(build(alloc, grammar_over(alloc, source)?)?)
-}
-
-/// The tables of a grammar file.
+/// The tables of a grammar file; one more byte is read of it than it may have.
 fn tables_of(rt: &HostRuntime, path: &str) -> Result<Tables, Trouble> {
-    let source = first_bytes(rt, path, GRAMMAR_BYTES)?;
-    Ok(resolve(rt.alloc(), automaton_over(rt.alloc(), &source)?)?)
+    let source = first_bytes(rt, path, LONGEST_FILE as u64 + 1)?;
+    Ok(tables_over(rt.alloc(), &source)?)
 }
 
 /// The verdict on the tokens that the bytes mean.

@@ -17,7 +17,7 @@ use std::fmt::Display;
 use std::io::{self, Write};
 use std::process::ExitCode;
 use ycode::code_of;
-use yexplain::lines::Walk;
+use yexplain::lines::Spots;
 use yfaults::opening::{Trouble as Unopened, grammar_bytes, put_trouble};
 use yfaults::shown::Place;
 use yfiles::writing::write_over;
@@ -150,7 +150,7 @@ fn put_misused(
     at: usize,
 ) -> io::Result<()> {
     let Source { path, bytes, .. } = *source;
-    let line = Walk::new(bytes).line_at(at);
+    let line = Spots::new(bytes).reach(at).0;
     let mut out = rt.stderr();
     write!(out, "{path}:{line}: ")?;
     put_misuse(&mut out, misuse)?;

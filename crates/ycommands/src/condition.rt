@@ -256,9 +256,7 @@ impl Condition {
 
 /// Which state and which token ahead have a conflict.
 pub fn put_cell<W: Write>(page: &mut Page<W>, session: &Session) {
-    page.put("state ");
-    page.number(session.state());
-    page.put(" on ");
-    page.put(name_of(grammar_of(session.tables()), token_ahead(session)));
-    page.put(" has a conflict");
+    let (state, token) = (session.state(), token_ahead(session));
+    let name = name_of(grammar_of(session.tables()), token);
+    let _ = write!(page, "state {state} on {name} has a conflict");
 }

@@ -44,9 +44,7 @@ pub fn put_unknown<W: Write>(
     page.put(" is no command; ");
     match near {
         Some(best) => {
-            page.put("did you mean ");
-            page.put(best);
-            page.line("?");
+            let _ = writeln!(page, "did you mean {best}?");
         }
         None => page.line("help lists them."),
     }

@@ -3,7 +3,7 @@
 use crate::lists::Lists;
 use crate::queue::Queue;
 use std::alloc::{AllocError, Global};
-use yexplain::reads::{body_of, left_of};
+use yexplain::reads::{body_of, left_of, set};
 use ylalr::{ERROR, Item};
 use ysymbols::{Grammar, Sym};
 
@@ -63,21 +63,17 @@ impl Digest {
 
 /// Where each symbol stands in bodies: the items with their dot before it.
 pub fn occurrences(alloc: Global, grammar: &Grammar) -> Result<Lists<Item>, AllocError> {
-    let mut pairs = Vec::new(alloc);
+    let mut places = Lists::new(alloc, grammar.symbols())?;
     for rule in 0..grammar.rules() {
-        push_places(&mut pairs, rule, body_of(grammar, rule))?;
+        push_places(&mut places, rule, body_of(grammar, rule))?;
     }
-    Lists::new(alloc, grammar.symbols(), &pairs)
+    Ok(places)
 }
 
 /// Adds the items of a rule that have their dot before a symbol.
-fn push_places(
-    pairs: &mut Vec<(usize, Item)>,
-    rule: usize,
-    body: &[Sym],
-) -> Result<(), AllocError> {
+fn push_places(places: &mut Lists<Item>, rule: usize, body: &[Sym]) -> Result<(), AllocError> {
     for (dot, symbol) in body.iter().enumerate() {
-        pairs.push((*symbol, Item { rule, dot }))?;
+        places.push(*symbol, Item { rule, dot })?;
     }
     Ok(())
 }
@@ -122,13 +118,6 @@ impl Making {
             set(&mut self.found.rules, symbol, rule);
         }
         is_new
-    }
-}
-
-/// Sets an entry, where there is one.
-fn set<T: Copy>(entries: &mut [T], place: usize, value: T) {
-    if let Some(entry) = entries.get_mut(place) {
-        *entry = value;
     }
 }
 
@@ -185,11 +174,10 @@ impl Shortest {
 
     /// The digest of the shortest sentence of some symbols.
     fn digest_of(&self, form: &[Sym]) -> Digest {
-        let mut digest = Digest::empty();
-        for symbol in form {
-            digest = digest.before(self.digest(*symbol));
-        }
-        digest
+        form.iter().fold(
+            Digest::empty(),
+            |digest, symbol| digest.before(self.digest(*symbol)),
+        )
     }
 
     /// The shortest sentence of some symbols, or none where it is too long to be written out.

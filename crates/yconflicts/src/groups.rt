@@ -2,7 +2,9 @@
 
 use indexmap::IndexMap;
 use std::alloc::{AllocError, Global};
+use yexplain::lines::Lines;
 use yexplain::reads::{candidates_of, conflicts_of, items_of, next_of, rivals_in, shift_of};
+use yexplain::why::Question;
 use ylalr::Automaton;
 use ysymbols::Sym;
 use ytables::{Class, Conflict, Tables};
@@ -53,6 +55,16 @@ pub struct Conflicts {
 }
 
 impl Kind {
+    /// The first cell of the kind.
+    pub fn cell<'a>(&self, group: Group, tables: &'a Tables, lines: &'a Lines) -> Question<'a> {
+        Question {
+            tables,
+            lines,
+            state: group.state,
+            token: self.token,
+        }
+    }
+
     /// The rules that are shown: the one that is taken, if it is a rule, and then the others.
     pub fn rules(&self) -> &[usize] {
         let all = if self.shift {

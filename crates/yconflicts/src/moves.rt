@@ -4,8 +4,7 @@ use crate::costs::Shortest;
 use crate::lists::Lists;
 use crate::queue::Queue;
 use std::alloc::{AllocError, Global};
-use std::mem;
-use yexplain::reads::{goto_of, items_of, next_of};
+use yexplain::reads::{goto_of, items_of, next_of, set};
 use ylalr::Automaton;
 use ysymbols::Sym;
 
@@ -30,7 +29,9 @@ struct Gathering {
     symbols: Vec<Sym>,
     /// The state for which a symbol was seen last, plus one.
     seen: Vec<usize>,
-    ways: Vec<(usize, u32)>,
+    /// The states from which a way leads to a state, and those to which one leads from it.
+    before: Lists<u32>,
+    after: Lists<u32>,
 }
 
 /// A state in few bytes; there are at most 16,384.
@@ -38,26 +39,14 @@ fn short(state: usize) -> u32 {
     u32::try_from(state).unwrap_or(u32::MAX)
 }
 
-/// The ways by the states to which they lead.
-fn turned(alloc: Global, ways: &[(usize, u32)]) -> Result<Vec<(usize, u32)>, AllocError> {
-    let mut found = Vec::with_capacity(alloc, ways.len())?;
-    for way in ways {
-        found.push((way.1 as usize, short(way.0)))?;
-    }
-    Ok(found)
-}
-
 impl Gathering {
     /// Notes the way from a state over a symbol, where it isn't noted.
     fn note(&mut self, automaton: &Automaton, state: usize, symbol: Sym) -> Result<(), AllocError> {
         let stamp = state.saturating_add(1);
-        let is_seen = self.seen.get(symbol).map_or(true, |seen| *seen == stamp);
-        if is_seen {
+        if self.seen.get(symbol).map_or(true, |seen| *seen == stamp) {
             return Ok(());
         }
-        if let Some(seen) = self.seen.get_mut(symbol) {
-            *seen = stamp;
-        }
+        set(&mut self.seen, symbol, stamp);
         match goto_of(automaton, state, symbol) {
             Some(to) => self.add(state, symbol, to),
             None => Ok(()),
@@ -65,11 +54,9 @@ impl Gathering {
     }
 
     fn add(&mut self, state: usize, symbol: Sym, to: usize) -> Result<(), AllocError> {
-        if let Some(entry) = self.symbols.get_mut(to) {
-            *entry = symbol;
-        }
-        self.ways.push((state, short(to)))?;
-        Ok(())
+        set(&mut self.symbols, to, symbol);
+        self.before.push(to, short(state))?;
+        self.after.push(state, short(to))
     }
 
     /// Notes the ways from a state.
@@ -89,7 +76,8 @@ fn gather(alloc: Global, automaton: &Automaton) -> Result<Gathering, AllocError>
     let mut gathering = Gathering {
         symbols: vec![in alloc; 0usize; states]?,
         seen: vec![in alloc; 0usize; automaton.grammar().symbols()]?,
-        ways: Vec::new(alloc),
+        before: Lists::new(alloc, states)?,
+        after: Lists::new(alloc, states)?,
     };
     for state in 0..states {
         gathering.note_all(automaton, state)?;
@@ -105,15 +93,19 @@ impl Moves {
         shortest: &Shortest,
     ) -> Result<Moves, AllocError> {
         let states = automaton.states();
-        let mut gathering = gather(alloc, automaton)?;
-        let before = Lists::new(alloc, states, &turned(alloc, &gathering.ways)?)?;
+        let Gathering {
+            symbols,
+            before,
+            after,
+            ..
+        } = gather(alloc, automaton)?;
         let mut moves = Moves {
-            symbols: mem::replace(&mut gathering.symbols, Vec::new(alloc)),
+            symbols,
             before,
             lengths: vec![in alloc; FAR; states]?,
             from: vec![in alloc; 0usize; states]?,
         };
-        moves.measure(alloc, shortest, &gathering.ways)?;
+        moves.measure(alloc, shortest, &after)?;
         Ok(moves)
     }
 
@@ -122,12 +114,12 @@ impl Moves {
         &mut self,
         alloc: Global,
         shortest: &Shortest,
-        ways: &[(usize, u32)],
+        after: &Lists<u32>,
     ) -> Result<(), AllocError> {
-        let after = Lists::new(alloc, self.lengths.len(), ways)?;
         let mut queue = Queue::new(alloc);
         self.shorten(&mut queue, 0, 0, 0)?;
-        for _ in 0..ways.len().saturating_add(1) {
+        // ends: each way makes a state wait once at most
+        for _ in 0..usize::MAX {
             let Some((length, state)) = queue.take() else {
                 break;
             };
@@ -166,12 +158,8 @@ impl Moves {
         if length >= self.length(state) {
             return Ok(());
         }
-        if let Some(entry) = self.lengths.get_mut(state) {
-            *entry = length;
-        }
-        if let Some(entry) = self.from.get_mut(state) {
-            *entry = from;
-        }
+        set(&mut self.lengths, state, length);
+        set(&mut self.from, state, from);
         queue.put(length, state)
     }
 

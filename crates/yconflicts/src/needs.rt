@@ -3,7 +3,7 @@
 
 use crate::lists::Lists;
 use std::alloc::{AllocError, Global};
-use yexplain::reads::{begins_with, body_of, has_item, left_of, looks_at, vanishes};
+use yexplain::reads::{begins_with, body_of, has_item, left_of, looks_at, set, vanishes};
 use ylalr::{Automaton, Item};
 use ysymbols::Sym;
 
@@ -110,9 +110,7 @@ impl Needs {
             .get(left)
             .map_or(false, |round| *round != self.round)
         {
-            if let Some(round) = self.met.get_mut(left) {
-                *round = self.round;
-            }
+            set(&mut self.met, left, self.round);
             self.lefts.push(left)?;
         }
         Ok(())

@@ -139,13 +139,13 @@ fn complete(grammar: &Grammar, rule: Option<usize>) -> Need {
 
 /// The rules of each left side.
 fn rules_by_left(alloc: Global, grammar: &Grammar) -> Result<Lists<usize>, AllocError> {
-    let mut pairs = Vec::new(alloc);
+    let mut rules = Lists::new(alloc, grammar.symbols())?;
     for rule in 0..grammar.rules() {
         if let Some(left) = left_of(grammar, rule) {
-            pairs.push((left, rule))?;
+            rules.push(left, rule)?;
         }
     }
-    Lists::new(alloc, grammar.symbols(), &pairs)
+    Ok(rules)
 }
 
 impl Search {
@@ -260,11 +260,9 @@ impl Finder {
 
     /// The length of the shortest sentence of a form.
     pub fn length(&self, form: &[Sym]) -> u64 {
-        let mut length: u64 = 0;
-        for symbol in form {
-            length = length.saturating_add(self.shortest.length(*symbol).unwrap_or(0));
-        }
-        length
+        form.iter().fold(0, |length: u64, symbol| {
+            length.saturating_add(self.shortest.length(*symbol).unwrap_or(0))
+        })
     }
 
     /// The shortest sentence of a way, or none where it is too long to be written out.

@@ -5,7 +5,7 @@ use crate::edits::{drop_next, insert, save};
 use crate::expected::put_expected;
 use crate::moves::make_move;
 use crate::reload::reload;
-use crate::text::{put_ahead, put_ahead_all};
+use crate::text::{put_ahead, put_upcoming};
 use crate::views::{
     refuse_name, show_derivation, show_history, show_rule, show_state, show_symbol, show_tree,
     show_why,
@@ -21,11 +21,12 @@ use ycommands::travel::{Move, move_of, name_at_fault};
 use ycommands::verb::Verb;
 use ycommands::words::{Found, first_word};
 use yexplain::reads::grammar_of;
-use yfollow::{Opens, Parse};
+use yfollow::Parse;
 use yshow::grammar_view::put_grammar;
 use yshow::place_view::{put_stack, put_where};
 use yshow::reading::{last_rule, states_of};
 use yshow::{Page, Paint};
+use ysources::source::Source;
 
 /// Where a session takes place: whether a person sits at a terminal.
 #[derive(Clone, Copy)]
@@ -45,20 +46,23 @@ enum Flow {
 
 /// A session with a person.
 #[derive(Drop)]
-struct Desk<'a, F, S> {
-    rt: &'a F,
-    source: &'a S,
+struct Desk<'a, F> {
+    source: &'a Source<'a, F>,
     setting: Setting,
     parse: Parse,
     last: Option<Move>,
 }
 
-impl<'a, F: Files + AllocGlobal, S: Opens> Desk<'a, F, S> {
+impl<F: Files + AllocGlobal> Desk<'_, F> {
+    fn alloc(&self) -> Global {
+        self.source.rt.alloc()
+    }
+
     /// Makes a move, which an empty line then repeats.
     fn go<W: Write>(&mut self, page: &mut Page<W>, wanted: Move) -> Result<(), AllocError> {
         self.last = Some(wanted);
         make_move(
-            self.rt.alloc(),
+            self.alloc(),
             &mut self.parse,
             page,
             wanted,
@@ -81,7 +85,7 @@ impl<'a, F: Files + AllocGlobal, S: Opens> Desk<'a, F, S> {
             }
             Err(refusal) => {
                 let name = name_at_fault(text, refusal);
-                refuse_name(self.rt.alloc(), self.parse.session(), page, name, refusal)
+                refuse_name(self.alloc(), self.parse.session(), page, name, refusal)
             }
         }
     }
@@ -96,11 +100,11 @@ impl<'a, F: Files + AllocGlobal, S: Opens> Desk<'a, F, S> {
         let wants_word = verb != Verb::Drop;
         match verb {
             _ if wants_word == text.is_empty() => put_refusal(page, misused(verb)),
-            Verb::Insert => return insert(self.rt.alloc(), &mut self.parse, page, text),
+            Verb::Insert => return insert(self.alloc(), &mut self.parse, page, text),
             Verb::Drop => drop_next(&mut self.parse, page),
             verb => {
                 let over = verb == Verb::SaveOver;
-                save(self.rt, self.source, &self.parse, page, text, over);
+                save(self.source, &self.parse, page, text, over);
             }
         }
         Ok(())
@@ -115,10 +119,10 @@ impl<'a, F: Files + AllocGlobal, S: Opens> Desk<'a, F, S> {
                 put_ahead(page, parse);
             }
             Verb::Stack => put_stack(page, parse.session()),
-            Verb::Upcoming => put_ahead_all(page, parse),
-            Verb::Expected => return put_expected(self.rt.alloc(), page, parse.session()),
+            Verb::Upcoming => put_upcoming(page, parse),
+            Verb::Expected => return put_expected(self.alloc(), page, parse.session()),
             Verb::Grammar => put_grammar(page, parse.tables(), parse.lines()),
-            Verb::Conflicts => return put_conflicts(self.rt.alloc(), page, parse),
+            Verb::Conflicts => return put_conflicts(self.alloc(), page, parse),
             // These are answered before. Each stands here, so that a new command has its answer
             // or doesn't compile.
             Verb::Step | Verb::Back | Verb::To | Verb::Run | Verb::Quit | Verb::Reload => {}
@@ -136,7 +140,7 @@ impl<'a, F: Files + AllocGlobal, S: Opens> Desk<'a, F, S> {
         verb: Verb,
         text: &str,
     ) -> Result<(), AllocError> {
-        let alloc = self.rt.alloc();
+        let alloc = self.alloc();
         let parse = &self.parse;
         match verb {
             Verb::State => show_state(parse, page, text),
@@ -192,7 +196,7 @@ impl<'a, F: Files + AllocGlobal, S: Opens> Desk<'a, F, S> {
             _ if word.is_empty() => self.repeat(page)?,
             Found::One(verb) => return self.obey(page, verb, text),
             Found::Many => put_candidates(page, word),
-            Found::Nothing => put_unknown(self.rt.alloc(), page, word)?,
+            Found::Nothing => put_unknown(self.alloc(), page, word)?,
         }
         Ok(Flow::GoesOn)
     }
@@ -267,8 +271,8 @@ impl<'a, F: Files + AllocGlobal, S: Opens> Desk<'a, F, S> {
 }
 
 /// Greets, and answers lines up to `quit` or the end of the input.
-fn turns<F: Files + AllocGlobal, S: Opens, R: Read, W: Write>(
-    desk: &mut Desk<'_, F, S>,
+fn turns<F: Files + AllocGlobal, R: Read, W: Write>(
+    desk: &mut Desk<'_, F>,
     page: &mut Page<W>,
     reader: &mut BufReader<R>,
     line: &mut Vec<u8>,
@@ -283,12 +287,12 @@ fn turns<F: Files + AllocGlobal, S: Opens, R: Read, W: Write>(
 }
 
 /// Makes room for lines, and answers them.
-fn serve_all<F: Files + AllocGlobal, S: Opens, R: Read + Drop, W: Write>(
-    desk: &mut Desk<'_, F, S>,
+fn serve_all<F: Files + AllocGlobal, R: Read + Drop, W: Write>(
+    desk: &mut Desk<'_, F>,
     page: &mut Page<W>,
     reader: R,
 ) -> io::Result<()> {
-    let alloc: Global = desk.rt.alloc();
+    let alloc = desk.alloc();
     let mut line = Vec::with_capacity(alloc, LONGEST)?;
     let mut reader = BufReader::new(alloc, reader)?;
     turns(desk, page, &mut reader, &mut line)
@@ -298,9 +302,8 @@ fn serve_all<F: Files + AllocGlobal, S: Opens, R: Read + Drop, W: Write>(
 /// `quit` or the end of the input.
 ///
 /// An error is that of the reader or of the writer, or memory ran out before the first line.
-pub fn debug<F: Files + AllocGlobal, S: Opens, R: Read + Drop, W: Write + Drop>(
-    rt: &F,
-    source: &S,
+pub fn debug<F: Files + AllocGlobal, R: Read + Drop, W: Write + Drop>(
+    source: &Source<'_, F>,
     setting: Setting,
     parse: Parse,
     reader: R,
@@ -308,7 +311,6 @@ pub fn debug<F: Files + AllocGlobal, S: Opens, R: Read + Drop, W: Write + Drop>(
 ) -> io::Result<()> {
     let mut page = Page::new(writer, setting.colour);
     let mut desk = Desk {
-        rt,
         source,
         setting,
         parse,

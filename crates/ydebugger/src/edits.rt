@@ -7,10 +7,11 @@ use std::io::{self, ErrorKind, Write};
 use std::rt::Files;
 use ycommands::refusal::{Refusal, edit_words};
 use yfiles::writing::{write_new, write_over};
-use yfollow::{Opens, Parse};
+use yfollow::Parse;
 use yparse::machine::{StepFault, StepKind};
 use yshow::page::Page;
 use yshow::step_line::{StepLine, put_made};
+use ysources::source::Source;
 
 /// Writes an edit, or why it wasn't made.
 fn put_edit<W: Write>(page: &mut Page<W>, parse: &Parse, made: Result<StepKind, StepFault>) {
@@ -66,20 +67,18 @@ fn save_tokens<F: Files + AllocGlobal>(
 }
 
 /// Writes the whole input with its edits to a file that isn't guarded, and says so, or why not.
-pub fn save<F: Files + AllocGlobal, S: Opens, W: Write>(
-    rt: &F,
-    source: &S,
+pub fn save<F: Files + AllocGlobal, W: Write>(
+    source: &Source<'_, F>,
     parse: &Parse,
     page: &mut Page<W>,
     path: &str,
     over: bool,
 ) {
     if source.guards(path) {
-        page.put(path);
-        page.line(" is an input, and isn't written over.");
+        let _ = writeln!(page, "{path} is an input, and isn't written over.");
         return;
     }
-    let words = match save_tokens(rt, parse, path, over) {
+    let words = match save_tokens(source.rt, parse, path, over) {
         Ok(()) => " has the tokens, edits included.",
         Err(error) => match error.kind() {
             ErrorKind::AlreadyExists => " is there already; save! writes over it.",
@@ -87,6 +86,5 @@ pub fn save<F: Files + AllocGlobal, S: Opens, W: Write>(
             _ => " can't be written.",
         },
     };
-    page.put(path);
-    page.line(words);
+    let _ = writeln!(page, "{path}{words}");
 }

@@ -2,12 +2,14 @@
 
 use std::io::{self, Write};
 use std::mem;
+use std::rt::Files;
 use ycommands::refusal::{Refusal, fault_words, put_refusal};
 use yexplain::reads::grammar_of;
-use yfollow::{Opens, Parse};
+use yfollow::Parse;
 use yparse::machine::{StepFault, StepKind};
 use yshow::page::Page;
 use yshow::reading::name_of;
+use ysources::source::Source;
 use ysymbols::Grammar;
 
 /// Why the past isn't made again.
@@ -45,9 +47,7 @@ fn redo(parse: &mut Parse, old: &Parse) -> Result<(), Stopped> {
 
 /// Where the old parse was, and why the new one isn't.
 fn put_stopped<W: Write>(page: &mut Page<W>, parse: &Parse, wanted: usize, stopped: Stopped) {
-    page.put(" and not ");
-    page.number(wanted);
-    page.line(".");
+    let _ = writeln!(page, " and not {wanted}.");
     page.line(match stopped {
         Stopped::Fault(fault) => fault_words(fault, parse.session().view().mode()),
         Stopped::NoToken => "The grammar has no longer the token that was inserted.",
@@ -61,8 +61,11 @@ fn put_reached<W: Write>(
     wanted: usize,
     reached: Result<(), Stopped>,
 ) {
-    page.put("Both files are read again; the position is ");
-    page.number(parse.session().position());
+    let position = parse.session().position();
+    let _ = write!(
+        page,
+        "Both files are read again; the position is {position}"
+    );
     match reached {
         Ok(()) => page.line(", as before."),
         Err(stopped) => put_stopped(page, parse, wanted, stopped),
@@ -102,10 +105,10 @@ fn replace<W: Write>(page: &mut Page<W>, parse: &mut Parse, fresh: Parse) {
 }
 
 /// Reads both files again. Where one is refused, that is said, and the old parse stays.
-pub fn reload<S: Opens, W: Write>(
+pub fn reload<F: Files + AllocGlobal, W: Write>(
     page: &mut Page<W>,
     parse: &mut Parse,
-    source: &S,
+    source: &Source<'_, F>,
 ) -> io::Result<()> {
     match source.open(page)? {
         Ok(fresh) => replace(page, parse, fresh),

@@ -51,12 +51,6 @@ fn put_mode<W: Write>(page: &mut Page<W>, mode: Mode) {
     }
 }
 
-/// Why a cell says what it says.
-fn put_why<W: Write>(page: &mut Page<W>, asked: Question<'_>) {
-    // The page remembers a fault.
-    let _ = explain(page, asked);
-}
-
 /// Why the cell of the state and the token ahead says what it says, or that of another token.
 pub fn show_why<W: Write>(
     alloc: Global,
@@ -71,15 +65,16 @@ pub fn show_why<W: Write>(
         state: session.state(),
         token: token_ahead(session),
     };
+    // The page remembers a fault.
     if text.is_empty() {
-        put_why(page, asked);
+        let _ = explain(page, asked);
         put_mode(page, session.view().mode());
         return Ok(());
     }
-    match token_named(session, text) {
-        Some(token) => put_why(page, Question { token, ..asked }),
-        None => return refuse_name(alloc, session, page, text, Refusal::NoToken),
-    }
+    let Some(token) = token_named(session, text) else {
+        return refuse_name(alloc, session, page, text, Refusal::NoToken);
+    };
+    let _ = explain(page, Question { token, ..asked });
     Ok(())
 }
 
@@ -120,9 +115,7 @@ pub fn refuse_name<W: Write>(
     let near = nearest(alloc, session, name, refusal)?;
     put_refusal(page, refusal);
     if let Some(best) = near {
-        page.put("Did you mean ");
-        page.put(best);
-        page.line("?");
+        let _ = writeln!(page, "Did you mean {best}?");
     }
     Ok(())
 }
@@ -201,9 +194,10 @@ fn show_forms<W: Write>(
     if size <= LARGE {
         return put_derivation(alloc, page, parse.session(), usize::MAX);
     }
-    page.put("That would be ");
-    page.show(size);
-    page.line(" bytes; derivation all! writes them.");
+    let _ = writeln!(
+        page,
+        "That would be {size} bytes; derivation all! writes them."
+    );
     Ok(())
 }
 

@@ -3,7 +3,6 @@
 
 use crate::reads::{body_of, left_of, name_of};
 use std::alloc::{AllocError, Global};
-use std::mem;
 use ylexemes::part::Lexeme;
 use ysourcemap::{Mark, Role};
 use ysymbols::{Grammar, Sym};
@@ -15,30 +14,28 @@ pub struct Mention {
     pub symbol: Sym,
     /// The line, counted from 1.
     pub line: usize,
-    /// How many bytes stand before the name.
-    pub at: usize,
     /// What the name is there for.
     pub role: Role,
 }
 
-/// A rule of the file: its line, how many actions stand before it, and what its `%prec` names.
+/// A rule: the line on which it begins, and what its `%prec` names.
 #[derive(Clone, Copy, Drop)]
-struct Start {
+struct Begun {
     line: usize,
-    actions: usize,
     prec: Option<Sym>,
 }
 
-/// A rule of the grammar: the line on which it begins, and what its `%prec` names.
+/// An action: the rule of the file that it stands in, and its line.
 #[derive(Clone, Copy, Drop)]
-struct Begun {
-    line: Option<usize>,
-    prec: Option<Sym>,
+struct Acted {
+    rule: usize,
+    line: usize,
 }
 
 /// Where the rules and symbols of a grammar stand in its file.
 pub struct Lines {
-    rules: Vec<Begun>,
+    /// By number; none for rule 0.
+    rules: Vec<Option<Begun>>,
     mentions: Vec<Mention>,
 }
 
@@ -57,68 +54,63 @@ pub fn newlines(bytes: &[u8]) -> usize {
     bytes.iter().filter(|b| **b == b'\n').count()
 }
 
-/// A walk over the places of a file: up to which place newlines are counted, and the line there.
+/// What counts lines and columns, for one place of a text after the other.
 #[derive(Clone, Copy)]
-pub struct Walk<'a> {
-    source: &'a [u8],
+pub struct Spots<'a> {
+    bytes: &'a [u8],
     at: usize,
     line: usize,
+    start: usize,
 }
 
-impl<'a> Walk<'a> {
-    /// A walk that begins on the first line of these bytes.
-    pub fn new(source: &'a [u8]) -> Walk<'a> {
-        Walk {
-            source,
+impl<'a> Spots<'a> {
+    /// The start of these bytes.
+    pub fn new(bytes: &'a [u8]) -> Spots<'a> {
+        Spots {
+            bytes,
             at: 0,
             line: 1,
+            start: 0,
         }
     }
 
-    /// Goes on to a place further on, and gives its line, counted from 1.
-    pub fn line_at(&mut self, at: usize) -> usize {
-        let between = self.source.get(self.at..at).unwrap_or(&[]);
-        self.line = self.line.saturating_add(newlines(between));
+    /// The line and the column of a place, both counted from 1. It stands after the place that was
+    /// asked for before.
+    pub fn reach(&mut self, at: usize) -> (usize, usize) {
+        let passed = self.bytes.get(self.at..at).unwrap_or(&[]);
+        self.line = self.line.saturating_add(newlines(passed));
+        if let Some(last) = passed.iter().rposition(|b| *b == b'\n') {
+            self.start = self.at.saturating_add(last).saturating_add(1);
+        }
         self.at = at;
-        self.line
+        (self.line, at.saturating_sub(self.start).saturating_add(1))
     }
 }
 
 /// What stands in a file, in its order.
+#[derive(Drop)]
 struct Places {
-    starts: Vec<Start>,
-    /// The lines of the texts in braces.
-    actions: Vec<usize>,
+    rules: Vec<Begun>,
+    actions: Vec<Acted>,
     mentions: Vec<Mention>,
 }
 
-impl Drop for Places {
-    // A call in each owner, which keeps their proofs short.
-    fn drop(self) {
-        let Places {
-            starts: _,
-            actions: _,
-            mentions: _,
-        } = self;
-    }
-}
-
 /// Whether lexemes of this role name symbols.
-pub fn names_symbol(role: Role) -> bool {
-    match role {
+fn names_symbol(role: Role) -> bool {
+    matches!(
+        role,
         Role::Start
-        | Role::Declared
-        | Role::Levelled
-        | Role::Typed
-        | Role::Left(_)
-        | Role::Symbol(_)
-        | Role::PrecName(_) => true,
-        _ => false,
-    }
+            | Role::Declared
+            | Role::Levelled
+            | Role::Typed
+            | Role::Left(_)
+            | Role::Symbol(_)
+            | Role::PrecName(_)
+    )
 }
 
 /// The symbol that a lexeme names.
-fn symbol_of(grammar: &Grammar, lexeme: Lexeme<'_>) -> Option<Sym> {
+pub fn symbol_of(grammar: &Grammar, lexeme: Lexeme<'_>) -> Option<Sym> {
     match lexeme {
         Lexeme::Name(name) | Lexeme::CIdentifier(name) => grammar.find(name),
         Lexeme::Literal(value) => grammar.find_literal(value),
@@ -129,28 +121,18 @@ fn symbol_of(grammar: &Grammar, lexeme: Lexeme<'_>) -> Option<Sym> {
 impl Places {
     fn new(alloc: Global) -> Places {
         Places {
-            starts: Vec::new(alloc),
+            rules: Vec::new(alloc),
             actions: Vec::new(alloc),
             mentions: Vec::new(alloc),
         }
     }
 
     /// Notes that a symbol is named.
-    fn mention(&mut self, mention: Mention) -> Result<(), AllocError> {
-        if let (Role::PrecName(_), Some(start)) = (mention.role, self.starts.last_mut()) {
-            start.prec = Some(mention.symbol);
+    fn mention(&mut self, symbol: Sym, line: usize, role: Role) -> Result<(), AllocError> {
+        if let (Role::PrecName(_), Some(rule)) = (role, self.rules.last_mut()) {
+            rule.prec = Some(symbol);
         }
-        self.mentions.push(mention)?;
-        Ok(())
-    }
-
-    /// Notes that a rule begins.
-    fn begin(&mut self, line: usize) -> Result<(), AllocError> {
-        self.starts.push(Start {
-            line,
-            actions: self.actions.len(),
-            prec: None,
-        })?;
+        self.mentions.push(Mention { symbol, line, role })?;
         Ok(())
     }
 
@@ -158,58 +140,39 @@ impl Places {
     fn take(&mut self, grammar: &Grammar, mark: Mark<'_>, line: usize) -> Result<(), AllocError> {
         let Mark { placed, role } = mark;
         if let (true, Some(symbol)) = (names_symbol(role), symbol_of(grammar, placed.lexeme)) {
-            let at = placed.at;
-            self.mention(Mention {
-                symbol,
-                line,
-                at,
-                role,
-            })?;
+            self.mention(symbol, line, role)?;
         }
         match role {
-            Role::Left(_) | Role::Bar(_) => self.begin(line)?,
-            Role::Action(_) => self.actions.push(line)?,
+            Role::Left(_) | Role::Bar(_) => self.rules.push(Begun { line, prec: None })?,
+            Role::Action(rule) => self.actions.push(Acted { rule, line })?,
             _ => {}
         }
         Ok(())
     }
 
-    /// The rule of the action of this number in a rule of the file.
-    fn inner(&self, start: Option<&Start>, number: usize) -> Begun {
-        let before = start.map_or(0, |start| start.actions);
-        let place = before.saturating_add(number);
-        Begun {
-            line: self.actions.get(place).copied(),
-            prec: None,
-        }
-    }
-
     /// The rules of the grammar by number. The rules of inner actions stand before the rule that
     /// they stand in, in the order of its actions.
-    fn push_rules(&self, grammar: &Grammar, rules: &mut Vec<Begun>) -> Result<(), AllocError> {
-        rules.push(rule_begun(None))?;
-        let mut starts = self.starts.iter();
-        let mut start = starts.next();
-        let mut inner: usize = 0;
+    fn by_number(
+        &self,
+        alloc: Global,
+        grammar: &Grammar,
+    ) -> Result<Vec<Option<Begun>>, AllocError> {
+        let mut found = Vec::with_capacity(alloc, grammar.rules())?;
+        let mut actions = self.actions.iter();
+        let mut rule: usize = 0;
+        found.push(None)?;
         for number in 1..grammar.rules() {
             if is_inner(grammar, number) {
-                rules.push(self.inner(start, inner))?;
-                inner = inner.saturating_add(1);
+                let line = actions
+                    .find(|action| action.rule == rule)
+                    .map(|action| action.line);
+                found.push(line.map(|line| Begun { line, prec: None }))?;
             } else {
-                rules.push(rule_begun(start))?;
-                start = starts.next();
-                inner = 0;
+                found.push(self.rules.get(rule).copied())?;
+                rule = rule.saturating_add(1);
             }
         }
-        Ok(())
-    }
-}
-
-/// The rule of the grammar for a rule of the file.
-fn rule_begun(start: Option<&Start>) -> Begun {
-    Begun {
-        line: start.map(|start| start.line),
-        prec: start.and_then(|start| start.prec),
+        Ok(found)
     }
 }
 
@@ -234,9 +197,9 @@ fn places_of(
     grammar: &Grammar,
 ) -> Result<Places, AllocError> {
     let mut places = Places::new(alloc);
-    let mut walk = Walk::new(source);
+    let mut spots = Spots::new(source);
     for mark in marks {
-        places.take(grammar, *mark, walk.line_at(mark.placed.at))?;
+        places.take(grammar, *mark, spots.reach(mark.placed.at).0)?;
     }
     Ok(places)
 }
@@ -250,31 +213,32 @@ impl Lines {
         marks: &[Mark<'_>],
         grammar: &Grammar,
     ) -> Result<Lines, AllocError> {
-        let mut places = places_of(alloc, source, marks, grammar)?;
-        let mut rules = Vec::new(alloc);
-        places.push_rules(grammar, &mut rules)?;
-        let mentions = mem::replace(&mut places.mentions, Vec::new(alloc));
+        let places = places_of(alloc, source, marks, grammar)?;
+        let rules = places.by_number(alloc, grammar)?;
+        let Places { mentions, .. } = places;
         Ok(Lines { rules, mentions })
     }
 
     /// The line on which a rule begins, counted from 1: that of its name or its bar, or of its
     /// action where it is the rule of an inner one. `None` for rule 0 and for a number of no rule.
     pub fn rule(&self, number: usize) -> Option<usize> {
-        self.rules.get(number).and_then(|rule| rule.line)
+        self.rules
+            .get(number)
+            .copied()
+            .flatten()
+            .map(|rule| rule.line)
     }
 
     /// The symbol that the `%prec` of a rule names, where it has one.
     pub fn prec(&self, number: usize) -> Option<Sym> {
-        self.rules.get(number).and_then(|rule| rule.prec)
+        self.rules.get(number).copied().flatten()?.prec
     }
 
     /// The token that gives a rule its precedence, or would: what its `%prec` names, or the last
     /// token of its body.
     pub fn giver(&self, grammar: &Grammar, number: usize) -> Option<Sym> {
-        match self.prec(number) {
-            Some(token) => Some(token),
-            None => last_token(grammar, body_of(grammar, number)),
-        }
+        self.prec(number)
+            .or(last_token(grammar, body_of(grammar, number)))
     }
 
     /// All places at which the file names a symbol, in its order.

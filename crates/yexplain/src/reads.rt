@@ -2,10 +2,18 @@
 
 ghost use Rattle.std.specs.Iterator.{at_most};
 
+use std::alloc::{AllocError, Global};
 use ycells::{Candidate, candidate_at, next_rule, shift_at};
 use ylalr::{Automaton, Item};
 use ysymbols::{Grammar, Precedence, Rule, Sym};
 use ytables::{Action, Conflict, Tables, is_ready, next_symbol};
+
+/// Sets an entry, where there is one.
+pub fn set<T: Copy>(entries: &mut [T], place: usize, value: T) {
+    if let Some(entry) = entries.get_mut(place) {
+        *entry = value;
+    }
+}
 
 /// The grammar that tables were made for.
 pub fn grammar_of(tables: &Tables) -> &Grammar {
@@ -85,6 +93,19 @@ pub fn next_of(grammar: &Grammar, item: Item) -> Option<Sym> {
 /// Whether an item is complete, and of another rule than rule 0.
 pub fn is_complete(grammar: &Grammar, item: Item) -> bool {
     item.rule < grammar.rules() && is_ready(grammar, item)
+}
+
+/// Where the complete items of a state stand among its items.
+pub fn ready_of(
+    alloc: Global,
+    automaton: &Automaton,
+    state: usize,
+) -> Result<Vec<usize>, AllocError> {
+    let items = items_of(automaton, state).iter().enumerate();
+    items
+        .filter(|(_, item)| is_complete(automaton.grammar(), **item))
+        .map(|(index, _)| index)
+        .collect(alloc)
 }
 
 /// The state to which a symbol leads from a state, or `None` where it leads nowhere.

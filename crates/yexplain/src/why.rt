@@ -37,14 +37,10 @@ pub fn explain<W: Write>(out: &mut W, asked: Question<'_>) -> io::Result<()> {
     asked.put_reason(out)
 }
 
-/// Writes the candidates of a cell, what settled it, and how to choose otherwise.
-pub fn explain_rivals<W: Write>(out: &mut W, asked: Question<'_>) -> io::Result<()> {
-    asked.put_reason(out)
-}
-
 impl<'a> Question<'a> {
-    /// Writes what settled the cell, with its candidates where there are several.
-    fn put_reason<W: Write>(self, out: &mut W) -> io::Result<()> {
+    /// Writes what settled the cell, with its candidates and how to choose otherwise where there
+    /// are several.
+    pub fn put_reason<W: Write>(self, out: &mut W) -> io::Result<()> {
         let name = self.name();
         match case_of(self.tables, self.state, self.token) {
             Case::Empty => self.put_empty(out),
@@ -206,13 +202,9 @@ impl<'a> Question<'a> {
 
     /// The last rule that beats the shift.
     fn last_winner(self) -> Option<Candidate> {
-        let mut winner = None;
-        for candidate in self.candidates() {
-            if candidate.standing.class() == Class::Beat {
-                winner = Some(candidate);
-            }
-        }
-        winner
+        self.candidates()
+            .filter(|candidate| candidate.standing.class() == Class::Beat)
+            .last()
     }
 
     fn put_kept<W: Write>(self, out: &mut W) -> io::Result<()> {
@@ -234,10 +226,8 @@ impl<'a> Question<'a> {
             out,
             "  So yacc {deed}: a conflict, counted once for each such rule."
         )?;
-        let mut kept = self
-            .candidates()
-            .filter(|candidate| candidate.standing.class() != Class::Lose);
-        match kept.next() {
+        let kept = |candidate: &Candidate| candidate.standing.class() != Class::Lose;
+        match self.candidates().find(kept) {
             Some(candidate) => Rivals::new(self).put_advice(out, candidate),
             None => Ok(()),
         }

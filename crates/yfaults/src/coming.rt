@@ -4,112 +4,42 @@ use std::fmt;
 use ylexemes::kind::Kind;
 use ysyntax::recogniser::State;
 
-/// A kind of lexeme, as it is told.
-#[derive(Clone, Copy)]
-struct Told {
-    kind: Kind,
-    words: &'static str,
-}
-
-/// What the syntax knows, in the order in which it is listed.
-static KINDS: [Told; 19] = [
-    Told {
-        kind: Kind::Mark,
-        words: "%%",
-    },
-    Told {
-        kind: Kind::CIdentifier,
-        words: "a name with a colon",
-    },
-    Told {
-        kind: Kind::Name,
-        words: "a name",
-    },
-    Told {
-        kind: Kind::Literal,
-        words: "a literal",
-    },
-    Told {
-        kind: Kind::Number,
-        words: "a number",
-    },
-    Told {
-        kind: Kind::Braced,
-        words: "a text in braces",
-    },
-    Told {
-        kind: Kind::Prec,
-        words: "%prec",
-    },
-    Told {
-        kind: Kind::Bar,
-        words: "|",
-    },
-    Told {
-        kind: Kind::Semicolon,
-        words: ";",
-    },
-    Told {
-        kind: Kind::Less,
-        words: "<",
-    },
-    Told {
-        kind: Kind::Greater,
-        words: ">",
-    },
-    Told {
-        kind: Kind::Token,
-        words: "%token",
-    },
-    Told {
-        kind: Kind::Left,
-        words: "%left",
-    },
-    Told {
-        kind: Kind::Right,
-        words: "%right",
-    },
-    Told {
-        kind: Kind::Nonassoc,
-        words: "%nonassoc",
-    },
-    Told {
-        kind: Kind::Types,
-        words: "%type",
-    },
-    Told {
-        kind: Kind::Start,
-        words: "%start",
-    },
-    Told {
-        kind: Kind::Union,
-        words: "%union",
-    },
-    Told {
-        kind: Kind::Code,
-        words: "%{",
-    },
+/// The kinds of lexemes that the syntax knows, as they are told, in the order in which they are
+/// listed.
+static KINDS: [(Kind, &str); 19] = [
+    (Kind::Mark, "%%"),
+    (Kind::CIdentifier, "a name with a colon"),
+    (Kind::Name, "a name"),
+    (Kind::Literal, "a literal"),
+    (Kind::Number, "a number"),
+    (Kind::Braced, "a text in braces"),
+    (Kind::Prec, "%prec"),
+    (Kind::Bar, "|"),
+    (Kind::Semicolon, ";"),
+    (Kind::Less, "<"),
+    (Kind::Greater, ">"),
+    (Kind::Token, "%token"),
+    (Kind::Left, "%left"),
+    (Kind::Right, "%right"),
+    (Kind::Nonassoc, "%nonassoc"),
+    (Kind::Types, "%type"),
+    (Kind::Start, "%start"),
+    (Kind::Union, "%union"),
+    (Kind::Code, "%{"),
 ];
 
 /// What can come in a state of the syntax, with commas between.
 #[derive(Clone, Copy)]
 pub struct Coming(pub State);
 
-/// Writes words, behind a comma where others stand before them.
-fn put_words<W: fmt::Write>(f: &mut fmt::Formatter<W>, words: &str, is_first: bool) -> fmt::Result {
-    if !is_first {
-        f.write_str(", ")?;
-    }
-    f.write_str(words)
-}
-
 impl fmt::Display for Coming {
     fn fmt<W: fmt::Write>(&self, f: &mut fmt::Formatter<W>) -> fmt::Result {
-        let mut is_first = true;
-        for told in &KINDS {
-            if self.0.next(told.kind).is_some() {
-                put_words(f, told.words, is_first)?;
-                is_first = false;
+        let mut between = "";
+        for (kind, words) in &KINDS {
+            if self.0.next(*kind).is_some() {
+                f.write_str(between)?;
+                f.write_str(words)?;
+                between = ", ";
             }
         }
         Ok(())

@@ -29,13 +29,10 @@ fn edits_between(alloc: Global, wanted: &[u8], name: &[u8]) -> Result<usize, All
     if unquoted(wanted).eq_ignore_ascii_case(unquoted(name)) {
         return Ok(0);
     }
-    let Ok(wanted) = str::from_utf8(wanted) else {
-        return Ok(LONGEST);
-    };
-    let Ok(name) = str::from_utf8(name) else {
-        return Ok(LONGEST);
-    };
-    osa_distance(alloc, wanted, name)
+    match (str::from_utf8(wanted), str::from_utf8(name)) {
+        (Ok(wanted), Ok(name)) => osa_distance(alloc, wanted, name),
+        _ => Ok(LONGEST),
+    }
 }
 
 impl<'a> Search<'a> {

@@ -4,7 +4,7 @@ use crate::words::Words;
 use std::io::{self, Write};
 use std::{fmt, str};
 use unicode_width::UnicodeWidthChar;
-use yexplain::lines::newlines;
+use yexplain::lines::Spots;
 
 /// The most bytes of a line that are shown before a place, and behind it.
 const MOST_BEFORE: usize = 100;
@@ -97,9 +97,9 @@ impl<'a> Place<'a> {
         (before, behind)
     }
 
-    /// The line of the place.
-    pub fn line(self) -> usize {
-        newlines(self.halves().0).saturating_add(1)
+    /// The line and the column of the place, both counted from 1; columns are bytes.
+    pub fn spot(self) -> (usize, usize) {
+        Spots::new(self.source).reach(self.at.min(self.source.len()))
     }
 
     /// The parts of its line before and behind the place.
@@ -122,14 +122,9 @@ impl<'a> Place<'a> {
     /// Writes the file, the line and what is wrong there.
     fn put_head<W: Write>(self, out: &mut W, words: Words) -> io::Result<()> {
         let path = self.path;
-        let line = self.line();
+        let line = self.spot().0;
         let Words { code, what, .. } = words;
         writeln!(out, "{path}:{line}: {code}: {what}")
-    }
-
-    /// The column of the place: the bytes of its line up to it, counted from 1.
-    pub fn column(self) -> usize {
-        self.parts().0.len().saturating_add(1)
     }
 
     /// Writes the text of the line, and a caret under the place.

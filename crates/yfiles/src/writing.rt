@@ -118,7 +118,7 @@ pub fn write_new<F: Files + AllocGlobal>(rt: &F, path: &str, text: &[u8]) -> io:
 
 /// Writes a text to the file of a path, and says so where that can't be done. The exit status is
 /// the answer; only no memory stays an error.
-pub fn put_file<F: Files + AllocGlobal, E: Write>(
+fn put_file<F: Files + AllocGlobal, E: Write>(
     rt: &F,
     errors: &mut E,
     path: &str,
@@ -131,5 +131,20 @@ pub fn put_file<F: Files + AllocGlobal, E: Write>(
             writeln!(errors, "ydebug: cannot write {path}")?;
             Ok(3)
         }
+    }
+}
+
+/// Writes a text to the file of a path, or to `out` where no path is given. The exit status is the
+/// answer.
+pub fn put_output<F: Files + AllocGlobal, W: Write, E: Write>(
+    rt: &F,
+    path: Option<&str>,
+    text: &[u8],
+    out: &mut W,
+    errors: &mut E,
+) -> io::Result<u8> {
+    match path {
+        Some(path) => put_file(rt, errors, path, text),
+        None => out.write_all(text).map(|()| 0),
     }
 }

@@ -27,7 +27,7 @@ const LEAST_STEPS: usize = 5_000;
 
 /// How many steps all first lists of a run may take together, and all further ones, beside those
 /// that each may take in any case.
-pub const ALL_STEPS: usize = 2_000_000;
+const ALL_STEPS: usize = 2_000_000;
 
 /// The most tokens of a list that is shown.
 const MOST_TOKENS: usize = 1_000;
@@ -111,16 +111,15 @@ impl Finding {
 /// What lists are sought with.
 #[derive(Drop)]
 pub struct Seeker<'a> {
-    /// The allocator.
-    pub alloc: Global,
+    alloc: Global,
     /// What searches for lists.
-    pub finder: &'a mut Finder,
+    pub finder: Finder,
     /// The session in which lists are tried.
     pub session: &'a mut Session,
     /// How many steps first lists may still take.
-    pub steps: usize,
+    steps: usize,
     /// How many steps further lists may still take.
-    pub steps_for_others: usize,
+    steps_for_others: usize,
 }
 
 /// How many steps a trial may take: a part of those that may still be made.
@@ -136,7 +135,18 @@ struct Goal {
     allows: Allows,
 }
 
-impl Seeker<'_> {
+impl<'a> Seeker<'a> {
+    /// What lists for the conflicts of a session without tokens are sought with.
+    pub fn new(alloc: Global, session: &'a mut Session) -> Result<Seeker<'a>, AllocError> {
+        Ok(Seeker {
+            alloc,
+            finder: Finder::new(alloc, session.tables().automaton())?,
+            session,
+            steps: ALL_STEPS,
+            steps_for_others: ALL_STEPS,
+        })
+    }
+
     /// The lists for the cells of a kind: for what is taken and each other rule that is shown.
     pub fn find(&mut self, kind: &Kind, group: Group) -> io::Result<Finding> {
         let mut finding = Finding {
@@ -224,7 +234,7 @@ impl Seeker<'_> {
     /// Adds the list of a way.
     fn add(&mut self, goal: Goal, way: &[Sym], finding: &mut Finding) -> io::Result<()> {
         let automaton = self.session.tables().automaton();
-        let Some(tokens) = shown_tokens(self.finder, automaton, way)? else {
+        let Some(tokens) = shown_tokens(&self.finder, automaton, way)? else {
             finding.long = true;
             return Ok(());
         };
@@ -277,7 +287,8 @@ impl Seeker<'_> {
     /// Tries the next lists until the parse gets there.
     fn try_others(&mut self, goal: Goal, list: &mut List) -> io::Result<()> {
         let automaton = self.session.tables().automaton();
-        let mut others = Others::new(self.alloc, self.finder, automaton, goal.target, MOST_FORMS)?;
+        let finder = &mut self.finder;
+        let mut others = Others::new(self.alloc, finder, automaton, goal.target, MOST_FORMS)?;
         self.try_each(goal, &mut others, list)
     }
 
@@ -286,7 +297,7 @@ impl Seeker<'_> {
         let mut left = allowance(self.steps_for_others, MOST_FOR_OTHERS);
         for _ in 0..MOST_LISTS {
             let automaton = self.session.tables().automaton();
-            let Some(tokens) = others.next(self.finder, automaton)? else {
+            let Some(tokens) = others.next(&mut self.finder, automaton)? else {
                 break;
             };
             left = left.saturating_sub(self.try_new(goal, tokens, left, list)?);
@@ -297,7 +308,8 @@ impl Seeker<'_> {
         Ok(())
     }
 
-    /// Tries another list, where it isn't the first one, and gives the steps that it took.
+    /// Tries another list, where it isn't the first one, keeps it where the parse gets there, and
+    /// gives the steps that it took.
     fn try_new(
         &mut self,
         goal: Goal,
@@ -308,17 +320,6 @@ impl Seeker<'_> {
         if tokens.as_slice() == list.tokens.as_slice() {
             return Ok(0);
         }
-        self.try_other(goal, tokens, most, list)
-    }
-
-    /// Tries another list, keeps it where the parse gets there, and gives the steps that it took.
-    fn try_other(
-        &mut self,
-        goal: Goal,
-        tokens: Vec<Sym>,
-        most: usize,
-        list: &mut List,
-    ) -> io::Result<usize> {
         list.tried = list.tried.saturating_add(1);
         let (trial, steps) = self.trial(goal, &tokens, most)?;
         self.steps_for_others = self.steps_for_others.saturating_sub(steps);

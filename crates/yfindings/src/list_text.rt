@@ -62,10 +62,11 @@ impl<'a> ListText<'a> {
                  part of the conflict.",
             );
         } else if self.group.states > 1 {
-            page.put("  No list of tokens allows both in state ");
-            page.number(self.group.state);
-            page.line(
-                ": states were merged, and canonical LR(1) would not have this conflict there.",
+            let state = self.group.state;
+            let _ = writeln!(
+                page,
+                "  No list of tokens allows both in state {state}: states were merged, and \
+                 canonical LR(1) would not have this conflict there."
             );
         } else {
             page.line(
@@ -100,20 +101,14 @@ impl<'a> ListText<'a> {
 
     /// Writes the tokens of a list, a period, and the token behind them.
     fn put_tokens<W: Write>(self, page: &mut Page<W>, tokens: &[Sym]) {
-        page.put("  tokens ");
-        page.show(Names(grammar_of(self.tables), tokens));
-        page.put(" . ");
-        page.show(self.name());
-        page.end();
+        let (names, name) = (Names(grammar_of(self.tables), tokens), self.name());
+        let _ = writeln!(page, "  tokens {names} . {name}");
     }
 
     /// Writes that a parse does something in the state of the conflict, with its token ahead.
     fn put_parse<W: Write>(self, page: &mut Page<W>, does: &str) {
-        page.put("  A parse ");
-        page.put(does);
-        page.put(" the state with ");
-        page.show(self.name());
-        page.put(" ahead");
+        let name = self.name();
+        let _ = write!(page, "  A parse {does} the state with {name} ahead");
     }
 
     /// Writes what a parse over a list comes to.

@@ -79,33 +79,17 @@ pub fn put_long<F: Files, W: Write>(rt: &F, out: &mut W, file: Limited<'_>) -> i
     Ok(Said::Bad)
 }
 
-/// Writes a line of these texts.
-fn put_line<W: Write>(out: &mut W, texts: &[&str]) -> io::Result<()> {
-    let mut page = Page::new(out, false);
-    for text in texts {
-        page.put(text);
-    }
-    page.end();
-    page.checked()
-}
-
-/// Writes a line of these texts, and gives what it says.
-fn say<W: Write>(out: &mut W, texts: &[&str], said: Said) -> io::Result<Said> {
-    put_line(out, texts)?;
-    Ok(said)
-}
-
 /// Writes that a tokens file can't be read, or that there is no memory.
 pub fn put_unread<W: Write>(out: &mut W, path: &str, error: &io::Error) -> io::Result<Said> {
     match error.kind() {
         ErrorKind::OutOfMemory => put_memory(out, path),
-        _ => say(out, &[path, ": cannot read it"], Said::Outside),
+        _ => writeln!(out, "{path}: cannot read it").map(|()| Said::Outside),
     }
 }
 
 /// Writes that there is no memory for a tokens file.
 pub fn put_memory<W: Write>(out: &mut W, path: &str) -> io::Result<Said> {
-    say(out, &[path, ": no memory"], Said::Outside)
+    writeln!(out, "{path}: no memory").map(|()| Said::Outside)
 }
 
 /// Writes the first of some tokens with this between them, and dots where there are more.
@@ -188,16 +172,26 @@ pub fn wanted_after(alloc: Global, tables: &Tables, before: &[Sym]) -> Result<Wa
     expected(alloc, tables, &states)
 }
 
-/// Writes that an input is accepted.
-pub fn put_accepted<W: Write>(out: &mut W, path: &str, steps: usize) -> io::Result<Said> {
-    let mut digits = itoa::Buffer::new();
-    let texts = [path, ": good: accepted in ", digits.format(steps), " steps"];
-    say(out, &texts, Said::Good)
-}
-
-/// Writes that a parse takes too many steps.
-pub fn put_limit<W: Write>(out: &mut W, path: &str) -> io::Result<Said> {
-    say(out, &[path, ": deep: more than 1,000,000 steps"], Said::Bad)
+/// Writes the verdict on an input; where a token can't come, its place is the answer, counted
+/// from 1.
+pub fn put_verdict<W: Write>(
+    out: &mut W,
+    path: &str,
+    verdict: Result<Verdict, JudgeFault>,
+) -> io::Result<Result<Said, usize>> {
+    let said = match verdict {
+        Ok(Verdict::Rejected(place)) => return Ok(Err(place)),
+        Ok(Verdict::Accepted(steps)) => {
+            writeln!(out, "{path}: good: accepted in {steps} steps")?;
+            Said::Good
+        }
+        Ok(Verdict::Limit) => {
+            writeln!(out, "{path}: deep: more than 1,000,000 steps")?;
+            Said::Bad
+        }
+        Err(_) => put_memory(out, path)?,
+    };
+    Ok(Ok(said))
 }
 
 /// Writes that memory ran out for a tokens file, where that is the error.
@@ -231,12 +225,8 @@ impl<'a> Mistake<'a> {
 
     /// Writes that the token can't come.
     fn put_token<W: Write>(self, page: &mut Page<W>, grammar: &Grammar) {
-        page.put(self.path);
-        page.put(": bad: ");
-        page.number(self.place);
-        page.put(": ");
-        page.put(name_of(grammar, self.token));
-        page.put(" can't come here");
+        let (path, place, name) = (self.path, self.place, name_of(grammar, self.token));
+        let _ = write!(page, "{path}: bad: {place}: {name} can't come here");
     }
 
     /// Writes that the token can't come, which tokens can, and those before it.
@@ -256,7 +246,12 @@ impl Judge<'_> {
         match read_tokens(self.alloc, self.tables, source) {
             Ok(tokens) => {
                 let verdict = judge(self.alloc, self.tables, &tokens);
-                self.put_verdict(out, path, &tokens.symbols, verdict)
+                match put_verdict(out, path, verdict)? {
+                    Ok(said) => Ok(said),
+                    Err(place) => {
+                        self.put_rejected(out, Mistake::at(path, &tokens.symbols, place))
+                    }
+                }
             }
             Err(TokenFault::Memory) => put_memory(out, path),
             Err(fault) => self.put_refused(out, path, source, fault),
@@ -278,25 +273,6 @@ impl Judge<'_> {
         }
     }
 
-    /// Writes the verdict on these tokens.
-    fn put_verdict<W: Write>(
-        self,
-        out: &mut W,
-        path: &str,
-        tokens: &[Sym],
-        verdict: Result<Verdict, JudgeFault>,
-    ) -> io::Result<Said> {
-        match verdict {
-            Ok(Verdict::Accepted(steps)) => put_accepted(out, path, steps),
-            Ok(Verdict::Rejected(place)) => self.put_rejected(
-                out,
-                Mistake::at(path, tokens, place),
-            ),
-            Ok(Verdict::Limit) => put_limit(out, path),
-            Err(_) => put_memory(out, path),
-        }
-    }
-
     /// Writes that a token can't come, and which can.
     fn put_rejected<W: Write>(self, out: &mut W, mistake: Mistake<'_>) -> io::Result<Said> {
         match wanted_after(self.alloc, self.tables, mistake.before) {
@@ -313,7 +289,7 @@ pub fn put_choice<W: Write>(out: &mut W, tables: &Tables, path: &str) -> io::Res
     } else {
         ": cells have choices, so a list that is bad here may be in the grammar's language"
     };
-    put_line(out, &[path, words])
+    writeln!(out, "{path}{words}")
 }
 
 /// Writes the verdict on a tokens file, or that it can't be read.

@@ -133,6 +133,20 @@ impl<'a> Trial<'a> {
         }
         Ok(Answer::Unknown)
     }
+
+    /// Goes on until a token is shifted, and says whether it is.
+    fn shift(&mut self, token: Sym) -> Result<bool, AllocError> {
+        for _ in 0..MOST_STEPS {
+            if let Action::Shift(state) = action_of(self.tables, self.top(), token) {
+                self.above.push(state)?;
+                return Ok(true);
+            }
+            if self.ask(token)?.is_some() {
+                break;
+            }
+        }
+        Ok(false)
+    }
 }
 
 /// The tokens that can come over these states, the first state of all at the bottom; `error` is
@@ -155,38 +169,13 @@ pub fn states_after(
     tables: &Tables,
     tokens: &[Sym],
 ) -> Result<Vec<usize>, AllocError> {
-    let mut states = Vec::new(alloc);
-    states.push(0)?;
+    let mut trial = Trial::new(alloc, tables, usize::MAX);
+    trial.above.push(0)?;
     for token in tokens {
-        if !shift(tables, &mut states, *token)? {
+        if !trial.shift(*token)? {
             break;
         }
     }
-    Ok(states)
-}
-
-/// Goes on until a token is shifted, and says whether it is.
-fn shift(tables: &Tables, states: &mut Vec<usize>, token: Sym) -> Result<bool, AllocError> {
-    for _ in 0..MOST_STEPS {
-        match action_of(tables, states.last().copied().unwrap_or(0), token) {
-            Action::Shift(state) => {
-                states.push(state)?;
-                return Ok(true);
-            }
-            Action::Reduce(rule) => reduce(tables, states, rule)?,
-            Action::Accept | Action::Error => return Ok(false),
-        }
-    }
-    Ok(false)
-}
-
-/// Replaces the body of a rule by its left side.
-fn reduce(tables: &Tables, states: &mut Vec<usize>, rule: usize) -> Result<(), AllocError> {
-    let grammar = grammar_of(tables);
-    let body = body_of(grammar, rule).len();
-    states.truncate(states.len().saturating_sub(body));
-    let below = states.last().copied().unwrap_or(0);
-    let left = left_of(grammar, rule).unwrap_or(END);
-    states.push(goto_of(tables.automaton(), below, left).unwrap_or(0))?;
-    Ok(())
+    let Trial { above, .. } = trial;
+    Ok(above)
 }

@@ -1,6 +1,5 @@
 //! The text that tokens were read from.
 
-use yexplain::lines::newlines;
 use yfaults::shown::Place;
 
 /// A text from which tokens were read.
@@ -27,15 +26,6 @@ impl Drop for Text {
     }
 }
 
-/// What counts lines and columns, for one place behind the other.
-#[derive(Clone, Copy)]
-pub struct Spots<'a> {
-    bytes: &'a [u8],
-    at: usize,
-    line: usize,
-    start: usize,
-}
-
 impl Text {
     /// How many bytes stand before a token, counted from 1; before the end for any other number.
     pub fn at(&self, number: usize) -> usize {
@@ -50,29 +40,5 @@ impl Text {
             source: &self.bytes,
             at: self.at(number),
         }
-    }
-
-    /// What counts its lines.
-    pub fn spots(&self) -> Spots<'_> {
-        Spots {
-            bytes: &self.bytes,
-            at: 0,
-            line: 1,
-            start: 0,
-        }
-    }
-}
-
-impl Spots<'_> {
-    /// The line and the column of a place, both counted from 1. It stands behind the place that was
-    /// asked for before.
-    pub fn reach(&mut self, at: usize) -> (usize, usize) {
-        let passed = self.bytes.get(self.at..at).unwrap_or(&[]);
-        self.line = self.line.saturating_add(newlines(passed));
-        if let Some(last) = passed.iter().rposition(|b| *b == b'\n') {
-            self.start = self.at.saturating_add(last).saturating_add(1);
-        }
-        self.at = at;
-        (self.line, at.saturating_sub(self.start).saturating_add(1))
     }
 }

@@ -1,4 +1,4 @@
-//! A parse from its two files, and what opens them.
+//! A parse from its two files.
 
 use crate::parse::Parse;
 use std::alloc::Global;
@@ -45,16 +45,4 @@ pub fn parse_over<E: Write>(
         }
         Err(fault) => refuse_tokens(alloc, errors, &tables, path, source, fault).map(Err),
     }
-}
-
-/// What opens the files of a parse, as often as they are read.
-pub trait Opens {
-    /// A parse at its start. Where a file is refused, that is written, and the exit status is the
-    /// answer: 1 for a fault of a file, 3 where memory runs out, for too many states, and for a
-    /// file that can't be read.
-    fn open<E: Write>(&self, errors: &mut E) -> io::Result<Result<Parse, u8>>;
-
-    /// Whether a path means one of the files, which then isn't written over. A tokens file isn't
-    /// guarded: tokens may be written over those that they come from.
-    fn guards(&self, path: &str) -> bool;
 }

@@ -65,8 +65,8 @@ pub enum Shape {
     BracesAndSymbols,
 }
 
-/// The directives that are not only taken out, each by its word, with dashes.
-const WORDS: [(&str, Directive); 30] = [
+/// The directives, each by its word, with dashes.
+const WORDS: [(&str, Directive); 49] = [
     ("token", Directive::Token),
     ("term", Directive::Term),
     ("left", Directive::Left),
@@ -97,33 +97,25 @@ const WORDS: [(&str, Directive); 30] = [
     ("dprec", Directive::OtherParser),
     ("merge", Directive::OtherParser),
     ("semantic-parser", Directive::OtherParser),
-];
-
-/// Those that are taken out with the strings behind them.
-const WITH_TEXT: [&str; 8] = [
-    "require",
-    "name-prefix",
-    "file-prefix",
-    "output",
-    "language",
-    "defines",
-    "header",
-    "ident",
-];
-
-/// Those that are taken out alone.
-const ALONE: [&str; 11] = [
-    "pure-parser",
-    "locations",
-    "error-verbose",
-    "verbose",
-    "debug",
-    "token-table",
-    "no-lines",
-    "yacc",
-    "fixed-output-files",
-    "default-prec",
-    "raw",
+    ("require", Directive::Aside(Shape::Text)),
+    ("name-prefix", Directive::Aside(Shape::Text)),
+    ("file-prefix", Directive::Aside(Shape::Text)),
+    ("output", Directive::Aside(Shape::Text)),
+    ("language", Directive::Aside(Shape::Text)),
+    ("defines", Directive::Aside(Shape::Text)),
+    ("header", Directive::Aside(Shape::Text)),
+    ("ident", Directive::Aside(Shape::Text)),
+    ("pure-parser", Directive::Aside(Shape::Alone)),
+    ("locations", Directive::Aside(Shape::Alone)),
+    ("error-verbose", Directive::Aside(Shape::Alone)),
+    ("verbose", Directive::Aside(Shape::Alone)),
+    ("debug", Directive::Aside(Shape::Alone)),
+    ("token-table", Directive::Aside(Shape::Alone)),
+    ("no-lines", Directive::Aside(Shape::Alone)),
+    ("yacc", Directive::Aside(Shape::Alone)),
+    ("fixed-output-files", Directive::Aside(Shape::Alone)),
+    ("default-prec", Directive::Aside(Shape::Alone)),
+    ("raw", Directive::Aside(Shape::Alone)),
 ];
 
 /// Whether a byte of a word stands for this one: capitals count as small letters, as they do to
@@ -142,24 +134,13 @@ fn is_word(word: &[u8], name: &str) -> bool {
             .all(|(b, wanted)| stands_for(*b, *wanted))
 }
 
-/// The directive of a word that is taken out with no text in braces, or none.
-fn aside_of(word: &[u8]) -> Directive {
-    if WITH_TEXT.iter().any(|name| is_word(word, name)) {
-        Directive::Aside(Shape::Text)
-    } else if ALONE.iter().any(|name| is_word(word, name)) {
-        Directive::Aside(Shape::Alone)
-    } else {
-        Directive::Unknown
-    }
-}
-
 /// The directive of a word with its percent sign.
 pub fn directive_of(text: &[u8]) -> Directive {
     let word = text.get(1..).unwrap_or(&[]);
     WORDS
         .iter()
         .find(|(name, _)| is_word(word, name))
-        .map_or(aside_of(word), |(_, directive)| *directive)
+        .map_or(Directive::Unknown, |(_, directive)| *directive)
 }
 
 /// Whether a directive or a string that an import takes stands at the front.
@@ -187,24 +168,22 @@ impl Directive {
 
     /// Whether it gives tokens a precedence.
     pub fn is_level(self) -> bool {
-        match self {
+        matches!(
+            self,
             Directive::Left
-            | Directive::Right
-            | Directive::Nonassoc
-            | Directive::Binary
-            | Directive::Precedence => true,
-            _ => false,
-        }
+                | Directive::Right
+                | Directive::Nonassoc
+                | Directive::Binary
+                | Directive::Precedence
+        )
     }
 
     /// Whether it can stand in a body.
     pub fn is_in_body(self) -> bool {
-        match self {
-            Directive::Prec | Directive::Empty | Directive::Expect | Directive::ExpectReduce => {
-                true
-            }
-            _ => false,
-        }
+        matches!(
+            self,
+            Directive::Prec | Directive::Empty | Directive::Expect | Directive::ExpectReduce
+        )
     }
 
     /// Whether a lexeme of this kind may stand behind it, where it is taken out.
@@ -240,8 +219,8 @@ fn is_symbol_or_tag(kind: Kind) -> bool {
 
 /// Whether a lexeme of this kind is a symbol where one can stand.
 pub fn is_symbol(kind: Kind) -> bool {
-    match kind {
-        Kind::Name | Kind::Literal | Kind::ByteLiteral | Kind::Text | Kind::Translated => true,
-        _ => false,
-    }
+    matches!(
+        kind,
+        Kind::Name | Kind::Literal | Kind::ByteLiteral | Kind::Text | Kind::Translated
+    )
 }

@@ -47,17 +47,24 @@ pub enum Kind {
     Equals,
 }
 
-/// A lexeme: its first byte, the byte behind it, and its line.
+/// A part of a file.
+#[derive(Clone, Copy, Drop)]
+pub struct Span {
+    /// Its line, counted from 1.
+    pub line: usize,
+    /// How many bytes stand before it.
+    pub from: usize,
+    /// How many bytes stand before what follows it.
+    pub to: usize,
+}
+
+/// A lexeme.
 #[derive(Clone, Copy)]
 pub struct Lexeme {
     /// What it is.
     pub kind: Kind,
-    /// How many bytes stand before it.
-    pub from: usize,
-    /// How many bytes stand before the byte behind it.
-    pub to: usize,
-    /// Its line, counted from 1.
-    pub line: usize,
+    /// Where it stands.
+    pub span: Span,
 }
 
 /// Why no lexeme stands at a place.
@@ -99,6 +106,6 @@ impl From<AllocError> for Uncut {
 impl Lexeme {
     /// The bytes of the lexeme.
     pub fn text<'a>(&self, source: &'a [u8]) -> &'a [u8] {
-        source.get(self.from..self.to).unwrap_or(&[])
+        source.get(self.span.from..self.span.to).unwrap_or(&[])
     }
 }

@@ -1,27 +1,16 @@
 //! A file cut into lexemes.
 
-use crate::lexeme::{Kind, Lexeme, Uncut};
+use crate::lexeme::{Kind, Lexeme, Span, Uncut};
 use crate::runs::newlines;
 use crate::signs::{Piece, piece_at};
 use std::alloc::Global;
-
-/// A comment from two slashes to the end of its line: where it stands, and its line.
-#[derive(Clone, Copy)]
-pub struct Remark {
-    /// How many bytes stand before it.
-    pub from: usize,
-    /// How many bytes stand before the end of its line.
-    pub to: usize,
-    /// Its line, counted from 1.
-    pub line: usize,
-}
 
 /// The lexemes of a file up to its second mark, and its comments that begin with two slashes.
 pub struct Lexemes {
     /// The lexemes, in the order of the file.
     pub all: Vec<Lexeme>,
-    /// The comments from two slashes, in the order of the file.
-    pub remarks: Vec<Remark>,
+    /// The comments from two slashes to the ends of their lines, in the order of the file.
+    pub remarks: Vec<Span>,
 }
 
 impl Drop for Lexemes {
@@ -43,20 +32,16 @@ struct Walk {
 impl Walk {
     /// Takes in what stands at the place.
     fn take(&mut self, piece: Piece, to: usize) -> Result<(), Uncut> {
-        let (from, line) = (self.at, self.line);
+        let (line, from) = (self.line, self.at);
+        let span = Span { line, from, to };
         match piece {
             Piece::Blank | Piece::Comment => {}
-            Piece::Remark => self.found.remarks.push(Remark { from, to, line })?,
+            Piece::Remark => self.found.remarks.push(span)?,
             Piece::Lexeme(kind) => {
                 if kind == Kind::Mark {
                     self.marks = self.marks.saturating_add(1);
                 }
-                self.found.all.push(Lexeme {
-                    kind,
-                    from,
-                    to,
-                    line,
-                })?;
+                self.found.all.push(Lexeme { kind, span })?;
             }
         }
         Ok(())

@@ -90,9 +90,7 @@ impl Work<'_> {
     fn note_end(&mut self, lexeme: &Lexeme) {
         let ended = Ended {
             body: self.bodies,
-            line: lexeme.line,
-            from: lexeme.from,
-            to: lexeme.to,
+            span: lexeme.span,
         };
         self.edits.trouble.push(&mut self.ended, ended);
     }
@@ -134,7 +132,7 @@ impl Work<'_> {
         place.moves = has_to_move(behind);
         if place.moves {
             self.edits.remove(lexeme);
-            self.edits.note(lexeme, How::ToEnd, Reason::PrecInside);
+            self.edits.note(lexeme.span, How::ToEnd, Reason::PrecInside);
         } else {
             self.keep_word(lexeme, Directive::Prec);
         }
@@ -215,7 +213,7 @@ impl Work<'_> {
             self.import_part(&mut place, around);
             before = Some(lexeme.kind);
             if lexeme.kind != Kind::Semicolon {
-                place.end = lexeme.to;
+                place.end = lexeme.span.to;
             }
         }
         self.put_prec(&place);
@@ -242,7 +240,7 @@ impl Work<'_> {
 /// Whether two lexemes stand at one place.
 fn is_same(first: Option<Lexeme>, second: &Lexeme) -> bool {
     match first {
-        Some(first) => first.from == second.from,
+        Some(first) => first.span.from == second.span.from,
         None => false,
     }
 }

@@ -12,7 +12,7 @@ impl Work<'_> {
     fn expected(&mut self, word: &Lexeme, rest: &[Lexeme]) -> Option<Expected> {
         match rest {
             [number, ..] if number.kind == Kind::Number => Some(Expected {
-                line: word.line,
+                line: word.span.line,
                 number: number_of(number.text(self.source)),
             }),
             _ => {
@@ -119,7 +119,7 @@ impl Work<'_> {
         let before = self.edits.moved.len();
         self.import_here(directive, word, rest);
         if self.edits.moved.len() > before {
-            self.edits.note(word, How::ToMark, Reason::Between);
+            self.edits.note(word.span, How::ToMark, Reason::Between);
         }
         self.edits.moving = false;
     }

@@ -4,8 +4,7 @@ use crate::note::{How, Note, Reason};
 use crate::refusal::{Refusal, Refused, Trouble};
 use crate::trouble::FirstTrouble;
 use std::alloc::Global;
-use yforeign::lexeme::Lexeme;
-use yforeign::lexer::Remark;
+use yforeign::lexeme::{Lexeme, Span};
 
 /// A part of a file that is replaced by one of the texts written.
 #[derive(Clone, Copy, Drop)]
@@ -59,13 +58,9 @@ impl<'a> Edits<'a> {
 
     /// Refuses the file for a lexeme.
     pub fn refuse(&mut self, refusal: Refusal, lexeme: &Lexeme) {
-        let Lexeme { line, from, to, .. } = *lexeme;
-        self.trouble.remember(Trouble::Refused(Refused {
-            refusal,
-            line,
-            from,
-            to,
-        }));
+        let span = lexeme.span;
+        self.trouble
+            .remember(Trouble::Refused(Refused { refusal, span }));
     }
 
     /// Writes a text among the others.
@@ -79,28 +74,22 @@ impl<'a> Edits<'a> {
         self.trouble.push(&mut self.edits, Edit { from, to, text });
     }
 
-    /// Notes how a lexeme is changed.
-    pub fn note(&mut self, lexeme: &Lexeme, how: How, reason: Reason) {
-        let note = Note {
-            line: lexeme.line,
-            from: lexeme.from,
-            to: lexeme.to,
-            how,
-            reason,
-        };
-        self.trouble.push(&mut self.notes, note);
+    /// Notes how a part of the file is changed.
+    pub fn note(&mut self, span: Span, how: How, reason: Reason) {
+        self.trouble
+            .push(&mut self.notes, Note { span, how, reason });
     }
 
     /// Takes a lexeme out, without a word.
     pub fn remove(&mut self, lexeme: &Lexeme) {
         let nothing = self.texts.len();
-        self.edit(lexeme.from, lexeme.to, nothing);
+        self.edit(lexeme.span.from, lexeme.span.to, nothing);
     }
 
     /// Takes a lexeme out.
     pub fn take_out(&mut self, lexeme: &Lexeme, reason: Reason) {
         self.remove(lexeme);
-        self.note(lexeme, How::Out, reason);
+        self.note(lexeme.span, How::Out, reason);
     }
 
     /// Keeps a lexeme.
@@ -116,9 +105,9 @@ impl<'a> Edits<'a> {
     /// Puts the texts written from a place on where a lexeme stands.
     pub fn replace(&mut self, lexeme: &Lexeme, start: usize, reason: Reason) {
         let end = self.texts.len();
-        self.note(lexeme, How::Becomes(start, end), reason);
+        self.note(lexeme.span, How::Becomes(start, end), reason);
         if !self.moving {
-            return self.edit(lexeme.from, lexeme.to, start);
+            return self.edit(lexeme.span.from, lexeme.span.to, start);
         }
         let text = self.texts.get(start..).unwrap_or(&[]);
         self.trouble.append(&mut self.moved, text);
@@ -149,8 +138,8 @@ impl<'a> Edits<'a> {
     }
 
     /// Makes a comment that begins with two slashes one of `yacc`.
-    pub fn close_remark(&mut self, remark: &Remark) {
-        let Remark { from, to, line } = *remark;
+    pub fn close_remark(&mut self, remark: Span) {
+        let Span { from, to, .. } = remark;
         let text = self.source.get(from.saturating_add(2)..to).unwrap_or(&[]);
         let start = self.texts.len();
         self.write(b"/*");
@@ -158,14 +147,7 @@ impl<'a> Edits<'a> {
         self.write(b" */");
         self.edit(from, to, start);
         let how = How::Becomes(start, self.texts.len());
-        let note = Note {
-            line,
-            from,
-            to,
-            how,
-            reason: Reason::Remark,
-        };
-        self.trouble.push(&mut self.notes, note);
+        self.note(remark, how, Reason::Remark);
     }
 
     /// Writes the text of a comment, with a blank where it would end.

@@ -7,7 +7,8 @@ use crate::symbols::{Ended, Expected, Work};
 use std::alloc::Global;
 use std::mem;
 use yforeign::groups::{Group, Head, groups_of};
-use yforeign::lexer::{Remark, lexemes_of};
+use yforeign::lexeme::Span;
+use yforeign::lexer::lexemes_of;
 
 /// A file that `yacc` reads, and what was changed for it.
 pub struct Imported {
@@ -54,7 +55,7 @@ impl Work<'_> {
             }
             Head::Code if group.in_rules => self.edits.refuse(Refusal::CodeBetween, first),
             Head::Mark if !group.in_rules => {
-                self.edits.mark = Some(first.from);
+                self.edits.mark = Some(first.span.from);
                 self.import_loose(rest);
             }
             Head::Code | Head::Mark => self.import_loose(rest),
@@ -65,12 +66,12 @@ impl Work<'_> {
     }
 
     /// Takes in all groups of a file, and its comments.
-    fn import_all(&mut self, remarks: &[Remark], groups: &[Group<'_>]) {
+    fn import_all(&mut self, remarks: &[Span], groups: &[Group<'_>]) {
         if self.survey.fill(self.alloc, self.source, groups).is_err() {
             return self.edits.trouble.remember(Trouble::Memory);
         }
         for remark in remarks {
-            self.edits.close_remark(remark);
+            self.edits.close_remark(*remark);
         }
         self.import_groups(groups);
         self.edits.insert_moved();
@@ -87,7 +88,7 @@ impl Work<'_> {
     fn make_changes(&mut self) -> Result<(), Trouble> {
         self.edits.trouble.checked()?;
         self.text = applied(self.alloc, &mut self.edits)?;
-        self.edits.notes.sort_by_key(|note| note.line)?;
+        self.edits.notes.sort_by_key(|note| note.span.line)?;
         Ok(())
     }
 

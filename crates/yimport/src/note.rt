@@ -1,5 +1,7 @@
 //! What is changed, and why.
 
+use yforeign::lexeme::Span;
+
 /// Whether a change can change what the file says.
 #[derive(Clone, Copy, Drop)]
 pub enum Effect {
@@ -108,15 +110,11 @@ pub enum How {
     ToEnd,
 }
 
-/// A change: its line, where what is changed stands in the file, how, and why.
+/// A change: what is changed, how, and why.
 #[derive(Clone, Copy, Drop)]
 pub struct Note {
-    /// Its line, counted from 1.
-    pub line: usize,
-    /// How many bytes stand before what is changed.
-    pub from: usize,
-    /// How many bytes stand before what follows that.
-    pub to: usize,
+    /// Where what is changed stands in the file.
+    pub span: Span,
     /// How it is changed.
     pub how: How,
     /// Why it is changed.

@@ -1,7 +1,7 @@
 //! Why a file isn't imported.
 
 use std::alloc::AllocError;
-use yforeign::lexeme::{Flaw, Uncut};
+use yforeign::lexeme::{Flaw, Span, Uncut};
 
 /// What a file has that can't be imported.
 #[derive(Clone, Copy, Drop)]
@@ -34,17 +34,13 @@ pub enum Refusal {
     NameTaken,
 }
 
-/// What is refused, its line, and where it stands; at no place, where it is no lexeme.
+/// What is refused, and where it stands: a line alone, where it is no lexeme.
 #[derive(Clone, Copy, Drop)]
 pub struct Refused {
     /// What is refused.
     pub refusal: Refusal,
-    /// Its line, counted from 1.
-    pub line: usize,
-    /// How many bytes stand before it.
-    pub from: usize,
-    /// How many bytes stand before what follows it.
-    pub to: usize,
+    /// Where it stands.
+    pub span: Span,
 }
 
 /// Why there is no import.
@@ -105,9 +101,11 @@ impl From<Uncut> for Trouble {
             Uncut::Memory => Trouble::Memory,
             Uncut::Flaw(flaw, line) => Trouble::Refused(Refused {
                 refusal: Refusal::Flaw(flaw),
-                line,
-                from: 0,
-                to: 0,
+                span: Span {
+                    line,
+                    from: 0,
+                    to: 0,
+                },
             }),
         }
     }

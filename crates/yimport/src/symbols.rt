@@ -5,7 +5,7 @@ use crate::note::Reason;
 use crate::refusal::{Refusal, Trouble};
 use indexmap::IndexMap;
 use std::alloc::Global;
-use yforeign::lexeme::{Kind, Lexeme};
+use yforeign::lexeme::{Kind, Lexeme, Span};
 use yforeign::survey::{Survey, inside, is_text};
 use ysymbols::names::{Printed, is_among};
 
@@ -23,12 +23,8 @@ pub struct Expected {
 pub struct Ended {
     /// The body, by its number in the file, counted from 1.
     pub body: usize,
-    /// The line of the end, counted from 1.
-    pub line: usize,
-    /// How many bytes stand before it.
-    pub from: usize,
-    /// How many bytes stand before what follows it.
-    pub to: usize,
+    /// Where the end stands.
+    pub span: Span,
 }
 
 /// A file while it is imported.

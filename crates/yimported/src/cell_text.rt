@@ -2,7 +2,7 @@
 
 use crate::compared::{Compared, Other};
 use crate::peer::Peer;
-use crate::told::{Source, put_place, shown};
+use crate::told::{Source, put_place, put_span};
 use std::io::{self, Write};
 use yexplain::lines::Lines;
 use yexplain::text::{Name, Numbered, RuleText};
@@ -50,10 +50,7 @@ impl<'a> CellText<'a> {
     /// Writes the file, and the end that was taken out of a rule.
     fn put_end<W: Write>(self, out: &mut W, rule: usize) -> io::Result<()> {
         match self.peer.end_of(rule).and_then(|end| self.ends.get(end)) {
-            Some(end) => {
-                let place = shown(self.source.bytes, end.from, end.to);
-                put_place(out, self.source.path, end.line, place)
-            }
+            Some(end) => put_span(out, self.source, end.span),
             None => self.put_line(out, rule),
         }
     }

@@ -2,7 +2,7 @@
 
 use crate::peer::{Left, Peer};
 use std::alloc::{AllocError, Global};
-use yexplain::reads::{action_of, conflict_of, conflicts_of, goto_of};
+use yexplain::reads::{action_of, conflict_of, conflicts_of, goto_of, ready_of};
 use ylalr::token_count;
 use ysymbols::Sym;
 use ytables::Action;
@@ -120,7 +120,7 @@ impl Walk<'_> {
 
     /// Looks at the cells of a state.
     fn look_at(&mut self, alloc: Global, state: usize) -> Result<(), AllocError> {
-        let ready = self.peer.ready_items(alloc, state)?;
+        let ready = ready_of(alloc, self.peer.tables.automaton(), state)?;
         for token in 0..token_count(self.peer.grammar()) {
             let left = self.peer.left_in(state, token, &ready);
             if left.is_filled() {

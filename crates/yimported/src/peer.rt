@@ -1,9 +1,8 @@
 //! What bison does in a cell (bison 3.8, conflicts.c): it compares the rules with the shift one
 //! after the other, as long as the shift is there.
 
-use std::alloc::{AllocError, Global};
 use ycells::Candidate;
-use yexplain::reads::{candidate_of, is_complete, items_of, rule_of, shift_of};
+use yexplain::reads::{candidate_of, rule_of, shift_of};
 use ylalr::END;
 use ysymbols::{Grammar, Sym};
 use ytables::{Class, Tables};
@@ -168,16 +167,5 @@ impl<'a> Peer<'a> {
             }
         }
         left
-    }
-
-    /// Where the items of a state stand that can be reduced.
-    pub fn ready_items(&self, alloc: Global, state: usize) -> Result<Vec<usize>, AllocError> {
-        let mut ready = Vec::new(alloc);
-        for (index, item) in items_of(self.tables.automaton(), state).iter().enumerate() {
-            if is_complete(self.grammar(), *item) {
-                ready.push(index)?;
-            }
-        }
-        Ok(ready)
     }
 }

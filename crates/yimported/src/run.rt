@@ -12,7 +12,7 @@ use yexplain::lines::is_inner;
 use yexplain::reads::grammar_of;
 use yfaults::opening::{Opened, Trouble, grammar_bytes, put_trouble, put_unread};
 use yfiles::same::refused_output;
-use yfiles::writing::put_file;
+use yfiles::writing::put_output;
 use ygrammar::{GrammarFault, LONGEST_FILE, PlacedFault};
 use yimport::import::{Imported, import};
 use yimport::refusal;
@@ -154,44 +154,9 @@ fn open_imported<E: Write>(
     errors: &mut E,
     asked: Looked<'_>,
 ) -> io::Result<Result<Opened, u8>> {
-    let trouble = match open_bytes(alloc, &asked.imported.text) {
-        Ok(opened) => return stands(alloc, errors, asked, opened),
-        Err(trouble) => trouble,
-    };
-    put_unopened(errors, alloc, asked, &trouble).map(Err)
-}
-
-/// Reads what a file becomes as `yacc` does, and gives the exit status: 0 where it stands.
-fn try_out<E: Write>(alloc: Global, errors: &mut E, asked: Looked<'_>) -> io::Result<u8> {
     match open_bytes(alloc, &asked.imported.text) {
-        Ok(opened) => {
-            let status = look_at(alloc, errors, asked, &opened);
-            drop(opened);
-            status
-        }
-        Err(trouble) => put_unopened(errors, alloc, asked, &trouble),
-    }
-}
-
-/// Writes an import, with what is said of it, and gives the exit status.
-fn put_import<F: Files + AllocGlobal, W: Write, E: Write>(
-    rt: &F,
-    looked: Looked<'_>,
-    output: Option<&str>,
-    out: &mut W,
-    errors: &mut E,
-) -> io::Result<u8> {
-    let status = try_out(rt.alloc(), errors, looked)?;
-    if status != 0 {
-        return Ok(status);
-    }
-    let text = &looked.imported.text;
-    match output {
-        Some(path) => put_file(rt, errors, path, text),
-        None => {
-            out.write_all(text)?;
-            Ok(0)
-        }
+        Ok(opened) => stands(alloc, errors, asked, opened),
+        Err(trouble) => put_unopened(errors, alloc, asked, &trouble).map(Err),
     }
 }
 
@@ -213,7 +178,25 @@ fn put_unmade<E: Write>(
     }
 }
 
-/// Imports bytes, and gives the exit status.
+/// What a file becomes; else says why it isn't imported, and gives the exit status.
+fn imported_from<E: Write>(
+    alloc: Global,
+    errors: &mut E,
+    source: Source<'_>,
+) -> io::Result<Result<Imported, u8>> {
+    let Source { path, bytes } = source;
+    if bytes.len() > LONGEST_FILE {
+        let trouble = Trouble::of_fault(TOO_LONG, Vec::new(alloc));
+        put_trouble(errors, alloc, path, bytes, &trouble)?;
+        return Ok(Err(1));
+    }
+    match import(alloc, bytes) {
+        Ok(imported) => Ok(Ok(imported)),
+        Err(trouble) => put_unmade(errors, source, trouble).map(Err),
+    }
+}
+
+/// Imports bytes, writes what they become, and gives the exit status.
 fn import_bytes<F: Files + AllocGlobal, W: Write, E: Write>(
     rt: &F,
     asked: Asked<'_>,
@@ -222,22 +205,19 @@ fn import_bytes<F: Files + AllocGlobal, W: Write, E: Write>(
     bytes: &[u8],
 ) -> io::Result<u8> {
     let path = asked.file;
-    if bytes.len() > LONGEST_FILE {
-        let trouble = Trouble::of_fault(TOO_LONG, Vec::new(rt.alloc()));
-        put_trouble(errors, rt.alloc(), path, bytes, &trouble)?;
-        return Ok(1);
-    }
     let source = Source { path, bytes };
-    match import(rt.alloc(), bytes) {
-        Ok(imported) => {
-            let looked = Looked {
-                source,
-                imported: &imported,
-                telling: Telling::All,
-            };
-            put_import(rt, looked, asked.output, out, errors)
-        }
-        Err(trouble) => put_unmade(errors, source, trouble),
+    let imported = match imported_from(rt.alloc(), errors, source)? {
+        Ok(imported) => imported,
+        Err(status) => return Ok(status),
+    };
+    let looked = Looked {
+        source,
+        imported: &imported,
+        telling: Telling::All,
+    };
+    match open_imported(rt.alloc(), errors, looked)? {
+        Ok(_) => put_output(rt, asked.output, &imported.text, out, errors),
+        Err(status) => Ok(status),
     }
 }
 
@@ -268,21 +248,15 @@ pub fn open_foreign<E: Write>(
     path: &str,
     bytes: &[u8],
 ) -> io::Result<Result<Opened, u8>> {
-    if bytes.len() > LONGEST_FILE {
-        let trouble = Trouble::of_fault(TOO_LONG, Vec::new(alloc));
-        put_trouble(errors, alloc, path, bytes, &trouble)?;
-        return Ok(Err(1));
-    }
     let source = Source { path, bytes };
-    match import(alloc, bytes) {
-        Ok(imported) => {
-            let looked = Looked {
-                source,
-                imported: &imported,
-                telling: Telling::Weighty,
-            };
-            open_imported(alloc, errors, looked)
-        }
-        Err(trouble) => put_unmade(errors, source, trouble).map(Err),
-    }
+    let imported = match imported_from(alloc, errors, source)? {
+        Ok(imported) => imported,
+        Err(status) => return Ok(Err(status)),
+    };
+    let looked = Looked {
+        source,
+        imported: &imported,
+        telling: Telling::Weighty,
+    };
+    open_imported(alloc, errors, looked)
 }

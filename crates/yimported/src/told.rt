@@ -3,6 +3,7 @@
 use crate::compared::Counts;
 use std::io::{self, Write};
 use yexplain::text::Bytes;
+use yforeign::lexeme::Span;
 use yimport::import::Imported;
 use yimport::note::{Effect, How, Note};
 use yimport::refusal::Refused;
@@ -21,7 +22,7 @@ pub struct Source<'a> {
 }
 
 /// The bytes of a place as they are shown: those of its first line, and dots for more.
-pub fn shown(source: &[u8], from: usize, to: usize) -> (&[u8], &'static str) {
+fn shown(source: &[u8], from: usize, to: usize) -> (&[u8], &'static str) {
     let text = source.get(from..to).unwrap_or(&[]);
     let line = text
         .iter()
@@ -45,6 +46,12 @@ pub fn put_place<W: Write>(
         write!(out, "{dots}: ")?;
     }
     Ok(())
+}
+
+/// Writes the file, the line of a part of it, and what stands there.
+pub fn put_span<W: Write>(out: &mut W, source: Source<'_>, span: Span) -> io::Result<()> {
+    let text = shown(source.bytes, span.from, span.to);
+    put_place(out, source.path, span.line, text)
 }
 
 /// Writes how something is changed.
@@ -87,8 +94,7 @@ fn put_note<W: Write>(
     note: &Note,
     conflicts_stay: bool,
 ) -> io::Result<()> {
-    let place = shown(source.bytes, note.from, note.to);
-    put_place(out, source.path, note.line, place)?;
+    put_span(out, source, note.span)?;
     put_how(out, texts, note.how)?;
     let why = note.reason.text();
     let effect = note.reason.effect().text(conflicts_stay);
@@ -113,8 +119,7 @@ pub fn put_notes<W: Write>(
 
 /// Writes why a file is refused.
 pub fn put_refused<W: Write>(out: &mut W, source: Source<'_>, refused: Refused) -> io::Result<()> {
-    let text = shown(source.bytes, refused.from, refused.to);
-    put_place(out, source.path, refused.line, text)?;
+    put_span(out, source, refused.span)?;
     let why = refused.refusal.text();
     writeln!(out, "refused: {why}")
 }

@@ -1,7 +1,6 @@
 //! What is wrong with a SPEC or a text.
 
 use std::alloc::AllocError;
-use ysymbols::Sym;
 
 /// What is wrong with a SPEC.
 #[derive(Clone, Copy, Drop, PartialEq, Eq)]
@@ -20,8 +19,6 @@ pub enum Wrong {
     Expression(&'static str),
     /// The expression matches the empty text.
     Empty,
-    /// Nothing gives this token of the grammar.
-    Ungiven(Sym),
 }
 
 /// Why a SPEC isn't used: what is wrong at a place of it, or that there is no memory.
@@ -67,7 +64,6 @@ impl Wrong {
             Wrong::NoInput => "an input has tokens alone, and neither error nor $end",
             Wrong::Expression(reason) => reason,
             Wrong::Empty => "the expression matches the empty text",
-            Wrong::Ungiven(_) => "no line of the SPEC gives this token",
         }
     }
 }

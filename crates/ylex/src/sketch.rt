@@ -2,7 +2,8 @@
 
 use crate::spec::needs_line;
 use std::io::{self, Write};
-use std::str;
+use yexplain::reads::name_of;
+use yexplain::text::Name;
 use ysymbols::{Grammar, Sym};
 
 /// How many keywords stand in a line.
@@ -34,19 +35,12 @@ const GUESSES: [(&str, &str); 22] = [
     ("ARROW", "->"),
 ];
 
-/// The expression beside a word, in capitals or small letters.
-fn beside<'a>(pairs: &[(&str, &'a str)], name: &[u8]) -> Option<&'a str> {
-    for (word, expression) in pairs {
-        if word.as_bytes().eq_ignore_ascii_case(name) {
-            return Some(*expression);
-        }
-    }
-    None
-}
-
-/// The expression that is guessed for a token.
+/// The expression that is guessed for a token, whose name may be in capitals or small letters.
 fn guess(name: &[u8]) -> Option<&'static str> {
-    beside(&GUESSES, name)
+    GUESSES
+        .iter()
+        .find(|(word, _)| word.as_bytes().eq_ignore_ascii_case(name))
+        .map(|(_, expression)| *expression)
 }
 
 /// Whether a name is one in capitals, as those of keywords are.
@@ -76,21 +70,7 @@ fn kind_of(name: &[u8]) -> Kind {
 fn is_of(grammar: &Grammar, used: &[bool], token: Sym, kind: Kind) -> bool {
     used.get(token) == Some(&true)
         && needs_line(grammar, token)
-        && kind_of(grammar_name(grammar, token)) == kind
-}
-
-/// The printed name of a symbol.
-fn grammar_name(grammar: &Grammar, symbol: Sym) -> &[u8] {
-    if symbol < grammar.symbols() {
-        grammar.name(symbol)
-    } else {
-        b""
-    }
-}
-
-/// The name of a symbol as text.
-fn shown(grammar: &Grammar, symbol: Sym) -> &str {
-    str::from_utf8(grammar_name(grammar, symbol)).unwrap_or("?")
+        && kind_of(name_of(grammar, token)) == kind
 }
 
 /// Writes the keywords.
@@ -98,7 +78,7 @@ fn put_keywords<W: Write>(out: &mut W, grammar: &Grammar, used: &[bool]) -> io::
     let mut count: usize = 0;
     for token in 0..grammar.symbols() {
         if is_of(grammar, used, token, Kind::Keyword) {
-            let name = shown(grammar, token);
+            let name = Name(grammar, token);
             let front = match (count, count % SOME_WORDS) {
                 (0, _) => "%keywords -i",
                 (_, 0) => "\n%keywords -i",
@@ -115,8 +95,8 @@ fn put_keywords<W: Write>(out: &mut W, grammar: &Grammar, used: &[bool]) -> io::
 fn put_guessed<W: Write>(out: &mut W, grammar: &Grammar, used: &[bool]) -> io::Result<()> {
     for token in 0..grammar.symbols() {
         if is_of(grammar, used, token, Kind::Guessed) {
-            let name = shown(grammar, token);
-            let expression = guess(grammar_name(grammar, token)).unwrap_or("");
+            let name = Name(grammar, token);
+            let expression = guess(name_of(grammar, token)).unwrap_or("");
             writeln!(out, "{name}  {expression}")?;
         }
     }
@@ -127,7 +107,7 @@ fn put_guessed<W: Write>(out: &mut W, grammar: &Grammar, used: &[bool]) -> io::R
 fn put_open<W: Write>(out: &mut W, grammar: &Grammar, used: &[bool]) -> io::Result<()> {
     for token in 0..grammar.symbols() {
         if is_of(grammar, used, token, Kind::Open) {
-            let name = shown(grammar, token);
+            let name = Name(grammar, token);
             writeln!(out, "# fill in: {name}  EXPRESSION")?;
         }
     }
@@ -139,7 +119,7 @@ fn put_literals<W: Write>(out: &mut W, grammar: &Grammar) -> io::Result<()> {
     let mut some = false;
     for value in 0..=255u8 {
         if let Some(token) = grammar.find_literal(value) {
-            let name = shown(grammar, token);
+            let name = Name(grammar, token);
             let front = if some {
                 ""
             } else {

@@ -3,6 +3,7 @@
 use crate::fault::{SpecFault, Wrong};
 use std::alloc::{AllocError, Global};
 use std::str;
+use yexplain::reads::{name_of, set};
 use ylexemes::bytes::is_blank;
 use ysymbols::{Grammar, Sym};
 use ytokens::token_words::{Front, front_of};
@@ -133,14 +134,7 @@ fn token_of(grammar: &Grammar, piece: Piece<'_>) -> Result<Sym, SpecFault> {
 
 /// Whether a symbol is a literal.
 fn is_literal(grammar: &Grammar, symbol: Sym) -> bool {
-    symbol < grammar.symbols() && grammar.name(symbol).first() == Some(&b'\'')
-}
-
-/// Marks a symbol.
-fn mark(marks: &mut [bool], symbol: Sym) {
-    if let Some(mark) = marks.get_mut(symbol) {
-        *mark = true;
-    }
+    name_of(grammar, symbol).first() == Some(&b'\'')
 }
 
 impl<'a> Spec<'a> {
@@ -169,9 +163,9 @@ impl<'a> Spec<'a> {
         listed: Listed,
     ) -> Result<(), SpecFault> {
         let token = token_of(grammar, piece)?;
-        mark(&mut self.named, token);
+        set(&mut self.named, token, true);
         if listed == Listed::Absent {
-            mark(&mut self.absent, token);
+            set(&mut self.absent, token, true);
         }
         if listed == Listed::Absent || is_literal(grammar, token) {
             return Ok(());
@@ -228,7 +222,7 @@ impl<'a> Spec<'a> {
             Some(b'%') => self.add_directive(grammar, line),
             Some(_) => {
                 let token = token_of(grammar, line)?;
-                mark(&mut self.named, token);
+                set(&mut self.named, token, true);
                 self.add_rule(Some(token), line.behind(line.word()))
             }
         }

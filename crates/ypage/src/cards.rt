@@ -5,11 +5,9 @@ use serde::Serialize;
 use std::alloc::{AllocError, Global};
 use std::io;
 use yconflicts::groups::{Conflicts, Group, Kind};
-use yconflicts::search::Finder;
 use yexplain::lines::Lines;
-use yexplain::why::Question;
 use yfaults::opening::Opened;
-use yfindings::finding::{ALL_STEPS, Finding, List, Seeker};
+use yfindings::finding::{Finding, List, Seeker};
 use yfindings::list_text::{ListText, put_unfound};
 use yfindings::trial::empty_session;
 use yparse::Session;
@@ -119,12 +117,7 @@ impl Maker<'_> {
             .kind
             .rivals
             .saturating_add(if self.kind.shift { 0 } else { 1 });
-        let cell = Question {
-            tables: self.tables,
-            lines: self.lines,
-            state: self.group.state,
-            token: self.kind.token,
-        };
+        let cell = self.kind.cell(self.group, self.tables, self.lines);
         Ok(Card {
             state: cell.state,
             token: cell.token,
@@ -180,14 +173,7 @@ fn cards_of(
     lines: &Lines,
     found: &Conflicts,
 ) -> io::Result<Cards> {
-    let mut finder = Finder::new(alloc, session.tables().automaton())?;
-    let mut seeker = Seeker {
-        alloc,
-        finder: &mut finder,
-        session,
-        steps: ALL_STEPS,
-        steps_for_others: ALL_STEPS,
-    };
+    let mut seeker = Seeker::new(alloc, session)?;
     let mut cards = Cards {
         kinds: Vec::new(alloc),
         more: found.groups.len().saturating_sub(MOST_CARDS),

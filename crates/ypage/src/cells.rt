@@ -5,7 +5,7 @@ use std::alloc::{AllocError, Global};
 use std::{io, str};
 use yexplain::lines::Lines;
 use yexplain::reads::{conflict_of, rivals_in};
-use yexplain::why::{Question, explain_rivals};
+use yexplain::why::Question;
 use ysymbols::Sym;
 use ytables::Tables;
 
@@ -26,7 +26,7 @@ pub fn text_of(alloc: Global, bytes: &[u8]) -> Result<String, AllocError> {
 /// Why the cell of a state and a token says what it says.
 pub fn why_of(alloc: Global, asked: Question<'_>) -> io::Result<String> {
     let mut why = Vec::new(alloc);
-    explain_rivals(&mut why, asked)?;
+    asked.put_reason(&mut why)?;
     Ok(text_of(alloc, &why)?)
 }
 

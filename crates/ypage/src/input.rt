@@ -3,6 +3,7 @@
 use crate::record::Record;
 use serde::Serialize;
 use std::alloc::{AllocError, Global};
+use yexplain::lines::Spots;
 use yfollow::Parse;
 use yparse::Session;
 use yparse::machine::StepKind;
@@ -68,7 +69,7 @@ fn places_of(
     let Some(text) = parse.text() else {
         return Ok(places);
     };
-    let mut spots = text.spots();
+    let mut spots = Spots::new(&text.bytes);
     for index in 0..=count {
         let number = skipped.saturating_add(index).saturating_add(1);
         places.push(spots.reach(text.at(number)))?;

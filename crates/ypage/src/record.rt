@@ -77,11 +77,9 @@ fn mode_word(mode: Mode) -> &'static str {
 
 /// The entries of a stack from the bottom: each symbol, and the state after it.
 fn stack_of(alloc: Global, session: &Session) -> Result<Vec<(Sym, usize)>, AllocError> {
-    let mut stack = Vec::new(alloc);
-    for index in 0..session.view().stack_len() {
-        stack.push((stack_symbol(session, index), stack_state(session, index)))?;
-    }
-    Ok(stack)
+    (0..session.view().stack_len())
+        .map(|index| (stack_symbol(session, index), stack_state(session, index)))
+        .collect(alloc)
 }
 
 impl Start {

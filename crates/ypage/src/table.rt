@@ -6,7 +6,7 @@ use yexplain::lines::Lines;
 use yexplain::reads::{body_of, grammar_of, items_of, left_of};
 use ylalr::{Automaton, END, token_count};
 use yshow::reading::name_of;
-use ysymbols::{Grammar, Sym};
+use ysymbols::Sym;
 use ytables::Tables;
 
 /// A state: its number, and the rule and the dot of each item that has begun. The page adds the
@@ -40,48 +40,17 @@ impl Drop for Table<'_> {
     }
 }
 
-fn names_of(alloc: Global, grammar: &Grammar) -> Result<Vec<&str>, AllocError> {
-    let mut names = Vec::new(alloc);
-    for symbol in 0..grammar.symbols() {
-        names.push(name_of(grammar, symbol))?;
-    }
-    Ok(names)
-}
-
-fn rules_of(alloc: Global, grammar: &Grammar) -> Result<Vec<(Sym, &[Sym])>, AllocError> {
-    let mut rules = Vec::new(alloc);
-    for rule in 0..grammar.rules() {
-        let left = left_of(grammar, rule).unwrap_or(END);
-        rules.push((left, body_of(grammar, rule)))?;
-    }
-    Ok(rules)
-}
-
-fn lines_of(
-    alloc: Global,
-    grammar: &Grammar,
-    lines: &Lines,
-) -> Result<Vec<Option<usize>>, AllocError> {
-    let mut numbers = Vec::new(alloc);
-    for rule in 0..grammar.rules() {
-        numbers.push(lines.rule(rule))?;
-    }
-    Ok(numbers)
-}
-
 /// The items of a state that have begun, and those of rule 0.
 fn kernel_of(
     alloc: Global,
     automaton: &Automaton,
     state: usize,
 ) -> Result<Vec<(usize, usize)>, AllocError> {
-    let mut kernel = Vec::new(alloc);
-    for item in items_of(automaton, state) {
-        if item.dot > 0 || item.rule == 0 {
-            kernel.push((item.rule, item.dot))?;
-        }
-    }
-    Ok(kernel)
+    items_of(automaton, state)
+        .iter()
+        .filter(|item| item.dot > 0 || item.rule == 0)
+        .map(|item| (item.rule, item.dot))
+        .collect(alloc)
 }
 
 fn states_of(
@@ -106,10 +75,19 @@ impl<'a> Table<'a> {
     ) -> Result<Table<'a>, AllocError> {
         let grammar = grammar_of(tables);
         Ok(Table {
-            names: names_of(alloc, grammar)?,
+            names: (0..grammar.symbols())
+                .map(|symbol| name_of(grammar, symbol))
+                .collect(alloc)?,
             tokens: token_count(grammar),
-            rules: rules_of(alloc, grammar)?,
-            lines: lines_of(alloc, grammar, lines)?,
+            rules: (0..grammar.rules())
+                .map(|rule| (
+                    left_of(grammar, rule).unwrap_or(END),
+                    body_of(grammar, rule),
+                ))
+                .collect(alloc)?,
+            lines: (0..grammar.rules())
+                .map(|rule| lines.rule(rule))
+                .collect(alloc)?,
             states: states_of(alloc, tables.automaton(), states)?,
         })
     }

@@ -1,7 +1,6 @@
 //! The report on the conflicts of a grammar, with what else deserves a warning.
 #![tactic(auto)]
 
-mod kinds;
 pub mod report;
 mod saving;
 mod unused;

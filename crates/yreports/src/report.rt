@@ -1,19 +1,18 @@
 //! `ydebug conflicts`: each kind of conflict with its rivals, what settled it, and lists of tokens
 //! that get there; then the warnings.
 
-use crate::kinds::{put_counts, put_named, put_states};
 use crate::saving::Folder;
 use crate::warnings::put_warnings;
 use std::alloc::Global;
 use std::io::{self, Write};
 use std::rt::Files;
 use yconflicts::groups::{Conflicts, Group, Kind};
-use yconflicts::search::Finder;
 use yexplain::lines::Lines;
 use yexplain::reads::grammar_of;
-use yexplain::why::{Question, explain};
+use yexplain::why::explain;
 use yfaults::opening::Opened;
-use yfindings::finding::{ALL_STEPS, Finding, Seeker, file_tokens};
+use yfindings::finding::{Finding, Seeker, file_tokens};
+use yfindings::kinds::{put_counts, put_named, put_states};
 use yfindings::list_text::{ListText, put_unfound};
 use yfindings::trial::empty_session;
 use yparse::Session;
@@ -22,6 +21,9 @@ use ytables::Tables;
 
 /// The most kinds for which lists are made.
 const MOST_GROUPS: usize = 200;
+
+/// The most kinds that are named after those.
+const MOST_NAMED: usize = 1_000;
 
 /// What is asked for: the conflicts of a grammar file, where to keep the lists, and whether a
 /// conflict or a warning makes the status 1.
@@ -47,55 +49,25 @@ struct Report<'a, W, F> {
 impl<W: Write, F: Files + AllocGlobal + Clone + Drop> Report<'_, W, F> {
     /// Writes the conflicts of the first kinds, with their lists, as long as there are steps to
     /// seek them, and says how many kinds these are.
-    fn put_groups(
-        &mut self,
-        finder: &mut Finder,
-        session: &mut Session,
-        found: &Conflicts,
-    ) -> io::Result<usize> {
+    fn put_groups(&mut self, session: &mut Session, found: &Conflicts) -> io::Result<usize> {
         let mut number: usize = 0;
-        let mut seeker = Seeker {
-            alloc: self.alloc,
-            finder,
-            session,
-            steps: ALL_STEPS,
-            steps_for_others: ALL_STEPS,
-        };
+        let mut seeker = Seeker::new(self.alloc, session)?;
         for (kind, group) in found.groups.iter().take(MOST_GROUPS) {
             if !seeker.finder.has_steps() {
                 break;
             }
             number = number.saturating_add(1);
-            self.put_kind(&mut seeker, number, kind, *group)?;
+            let finding = seeker.find(kind, *group)?;
+            self.put_finding(seeker.session.tables(), number, kind, *group, &finding)?;
         }
         Ok(number)
-    }
-
-    /// Writes a kind of conflict, with the lists that are found for it.
-    fn put_kind(
-        &mut self,
-        seeker: &mut Seeker<'_>,
-        number: usize,
-        kind: &Kind,
-        group: Group,
-    ) -> io::Result<()> {
-        let finding = seeker.find(kind, group)?;
-        self.put_finding(seeker.session.tables(), number, kind, group, &finding)
     }
 
     /// Writes a kind of conflict and why it is settled so.
     fn put_group(&mut self, tables: &Tables, number: usize, kind: &Kind, group: Group) {
         self.page.end();
-        self.page.put("conflict ");
-        self.page.number(number);
-        self.page.put(": ");
-        let cell = Question {
-            tables,
-            lines: self.lines,
-            state: group.state,
-            token: kind.token,
-        };
-        let _ = explain(self.page, cell);
+        let _ = write!(self.page, "conflict {number}: ");
+        let _ = explain(self.page, kind.cell(group, tables, self.lines));
         put_states(self.page, group);
     }
 
@@ -140,20 +112,10 @@ impl<W: Write, F: Files + AllocGlobal + Clone + Drop> Report<'_, W, F> {
             } else {
                 " more, without lists of tokens:"
             });
-            put_named(self.page, tables, self.lines, found, first);
+            let named = (first, first.saturating_add(MOST_NAMED));
+            put_named(self.page, tables, self.lines, found, named);
         }
     }
-}
-
-/// Writes the conflicts of the first kinds, with lists of tokens, and says how many kinds these
-/// are.
-fn put_first<W: Write, F: Files + AllocGlobal + Clone + Drop>(
-    report: &mut Report<'_, W, F>,
-    session: &mut Session,
-    found: &Conflicts,
-) -> io::Result<usize> {
-    let mut finder = Finder::new(report.alloc, session.tables().automaton())?;
-    report.put_groups(&mut finder, session, found)
 }
 
 /// Writes the conflicts, with lists of tokens.
@@ -168,7 +130,7 @@ fn put_found<W: Write, F: Files + AllocGlobal + Clone + Drop>(
         return Ok(());
     }
     report.folder.make()?;
-    let first = put_first(report, session, found)?;
+    let first = report.put_groups(session, found)?;
     report.put_rest(session.tables(), found, first);
     Ok(())
 }
@@ -205,7 +167,13 @@ fn put_lists<'a, W: Write, F: Files + AllocGlobal + Clone + Drop>(
             failed: None,
         },
     };
-    put_counts(report.page, asked.grammar, session.tables(), found);
+    report.page.put(asked.grammar);
+    if found.cells == 0 {
+        report.page.line(": no conflicts");
+    } else {
+        report.page.put(": ");
+        put_counts(report.page, session.tables(), found);
+    }
     put_found(&mut report, session, found)?;
     let Report { folder, .. } = report;
     let Folder { failed, .. } = folder;
@@ -230,19 +198,6 @@ fn put_both<W: Write, E: Write, F: Files + AllocGlobal + Clone + Drop>(
     put_failed(errors, failed.as_ref(), status)
 }
 
-/// Writes the conflicts and the warnings of a session's grammar, and gives the exit status.
-fn put_all<W: Write, E: Write, F: Files + AllocGlobal + Clone + Drop>(
-    rt: &F,
-    page: &mut Page<W>,
-    errors: &mut E,
-    asked: Asked<'_>,
-    session: &mut Session,
-    lines: &Lines,
-) -> io::Result<u8> {
-    let found = Conflicts::new(rt.alloc(), session.tables())?;
-    put_both(rt, asked, &found, page, errors, session, lines)
-}
-
 /// Writes the conflicts and the warnings of a grammar that is open, and gives the exit status: 0;
 /// 1 where there is one of these and that is to count; 3 where a list can't be written, which is
 /// said on `errors`.
@@ -256,5 +211,6 @@ pub fn put_conflicts<W: Write, E: Write, F: Files + AllocGlobal + Clone + Drop>(
     let Opened { tables, lines } = opened;
     let mut session = empty_session(rt.alloc(), tables);
     let mut page = Page::new(out, false);
-    put_all(rt, &mut page, errors, asked, &mut session, &lines)
+    let found = Conflicts::new(rt.alloc(), session.tables())?;
+    put_both(rt, asked, &found, &mut page, errors, &mut session, &lines)
 }

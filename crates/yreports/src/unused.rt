@@ -5,10 +5,10 @@ use std::mem;
 use ycells::{Rival, settle};
 use yexplain::lines::Lines;
 use yexplain::reads::{
-    action_of, body_of, candidate_of, default_of, grammar_of, is_complete, items_of, level_of,
-    next_of, rule_of, shift_of,
+    action_of, body_of, candidate_of, default_of, grammar_of, items_of, level_of, next_of,
+    ready_of, rule_of, set, shift_of,
 };
-use ylalr::{Automaton, token_count};
+use ylalr::token_count;
 use ysymbols::{Grammar, Precedence, Sym};
 use ytables::{Action, Class, Tables, standing_between};
 
@@ -21,6 +21,7 @@ const MOST_STEPS: usize = 2_000_000;
 /// `%prec` can do something there: it can hide the precedence that its rule would have without it.
 #[derive(Drop)]
 pub struct Done {
+    alloc: Global,
     /// For each rule, whether it is reduced anywhere.
     pub reduced: Vec<bool>,
     /// For each token, whether its precedence settled a cell.
@@ -37,18 +38,12 @@ pub struct Done {
     ready: Vec<usize>,
 }
 
-/// Sets a mark, where it is one.
-pub fn mark(marks: &mut [bool], place: usize) {
-    if let Some(mark) = marks.get_mut(place) {
-        *mark = true;
-    }
-}
-
 impl Done {
     /// What is done in the cells of tables.
     pub fn new(alloc: Global, tables: &Tables, lines: &Lines) -> Result<Done, AllocError> {
         let grammar = grammar_of(tables);
         let mut done = Done {
+            alloc,
             reduced: vec![in alloc; false; grammar.rules()]?,
             by_token: vec![in alloc; false; grammar.symbols()]?,
             by_rule: vec![in alloc; false; grammar.rules()]?,
@@ -72,24 +67,13 @@ impl Done {
     /// Notes what is done in the cells of a state.
     fn look_at(&mut self, tables: &Tables, lines: &Lines, state: usize) -> Result<(), AllocError> {
         if let Some(rule) = default_of(tables, state) {
-            mark(&mut self.reduced, rule);
+            set(&mut self.reduced, rule, true);
             return Ok(());
         }
-        self.fill(tables.automaton(), state)?;
+        self.ready = ready_of(self.alloc, tables.automaton(), state)?;
         if !self.ready.is_empty() {
             self.look_at_cells(tables, state);
             self.look_at_shifts(tables, lines, state)?;
-        }
-        Ok(())
-    }
-
-    /// Takes in where the complete items of a state stand.
-    fn fill(&mut self, automaton: &Automaton, state: usize) -> Result<(), AllocError> {
-        self.ready.clear();
-        for (index, item) in items_of(automaton, state).iter().enumerate() {
-            if is_complete(automaton.grammar(), *item) {
-                self.ready.push(index)?;
-            }
         }
         Ok(())
     }
@@ -98,7 +82,7 @@ impl Done {
     fn look_at_cells(&mut self, tables: &Tables, state: usize) {
         for token in 0..token_count(grammar_of(tables)) {
             if let Action::Reduce(rule) = action_of(tables, state, token) {
-                mark(&mut self.reduced, rule);
+                set(&mut self.reduced, rule, true);
             }
         }
     }
@@ -141,8 +125,8 @@ impl Done {
     fn compare(&mut self, token: Sym) {
         for rival in &self.rivals {
             if rival.standing.class() != Class::Rest {
-                mark(&mut self.by_token, token);
-                mark(&mut self.by_rule, rival.rule);
+                set(&mut self.by_token, token, true);
+                set(&mut self.by_rule, rival.rule, true);
             }
         }
     }
@@ -161,7 +145,7 @@ impl Done {
             }
             self.steps = self.steps.saturating_sub(self.rivals.len());
             if settles(shift, &mut self.rivals, place, other) {
-                mark(&mut self.by_rule, other.rule);
+                set(&mut self.by_rule, other.rule, true);
             }
         }
     }
@@ -192,7 +176,7 @@ impl Done {
         for rule in 0..grammar.rules() {
             if self.by_rule.get(rule).copied().unwrap_or(false) {
                 if let Some(token) = giver_of(grammar, lines, rule) {
-                    mark(&mut self.by_token, token);
+                    set(&mut self.by_token, token, true);
                 }
             }
         }

@@ -1,10 +1,10 @@
 //! What deserves a warning in a grammar without a fault.
 
-use crate::unused::{Done, mark};
+use crate::unused::Done;
 use std::alloc::{AllocError, Global};
 use std::io::Write;
 use yexplain::lines::{Lines, Mention};
-use yexplain::reads::{grammar_of, is_reachable, left_of, level_of};
+use yexplain::reads::{grammar_of, is_reachable, left_of, level_of, set};
 use yexplain::text::{Name, RuleText};
 use ylalr::ERROR;
 use yshow::page::Page;
@@ -52,10 +52,10 @@ impl Named {
         match mention.role {
             Role::Levelled => note_line(&mut self.levelled, mention),
             Role::Symbol(_) => {
-                mark(&mut self.in_body, mention.symbol);
-                mark(&mut self.used, mention.symbol);
+                set(&mut self.in_body, mention.symbol, true);
+                set(&mut self.used, mention.symbol, true);
             }
-            Role::PrecName(_) => mark(&mut self.used, mention.symbol),
+            Role::PrecName(_) => set(&mut self.used, mention.symbol, true),
             _ => {}
         }
     }
@@ -97,18 +97,15 @@ impl<W: Write> Warner<'_, W> {
         self.count = self.count.saturating_add(1);
         self.page.put("warning: ");
         if let Some(line) = line {
-            self.page.put("line ");
-            self.page.number(line);
-            self.page.put(": ");
+            let _ = write!(self.page, "line {line}: ");
         }
     }
 
     /// Writes a warning about a symbol between two texts.
     fn warn(&mut self, line: Option<usize>, before: &str, symbol: Sym, behind: &str) {
         self.begin(line);
-        self.page.put(before);
-        self.page.show(Name(self.grammar, symbol));
-        self.page.line(behind);
+        let name = Name(self.grammar, symbol);
+        let _ = writeln!(self.page, "{before}{name}{behind}");
     }
 
     /// Rules of symbols that can be reached, which are never reduced.
@@ -117,12 +114,11 @@ impl<W: Write> Warner<'_, W> {
             let is_done = done.reduced.get(rule).copied().unwrap_or(true);
             if !is_done && self.is_live(rule) {
                 self.begin(self.lines.rule(rule));
-                self.page.put("rule ");
-                self.page.number(rule);
-                self.page
-                    .put(" is never reduced, since it lost every cell:  ");
-                self.page.show(RuleText(self.grammar, rule));
-                self.page.end();
+                let text = RuleText(self.grammar, rule);
+                let _ = writeln!(
+                    self.page,
+                    "rule {rule} is never reduced, since it lost every cell:  {text}"
+                );
             }
         }
     }
@@ -150,13 +146,12 @@ impl<W: Write> Warner<'_, W> {
             let settles = done.by_rule.get(rule).copied().unwrap_or(true);
             if !settles && self.lines.prec(rule).is_some() && self.is_live(rule) {
                 self.begin(self.lines.rule(rule));
-                self.page.put("the %prec of rule ");
-                self.page.number(rule);
-                self.page.line(if done.all_tried {
-                    " settles nothing"
+                let settles = if done.all_tried {
+                    "settles"
                 } else {
-                    " may settle nothing"
-                });
+                    "may settle"
+                };
+                let _ = writeln!(self.page, "the %prec of rule {rule} {settles} nothing");
             }
         }
     }

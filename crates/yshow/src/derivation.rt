@@ -44,32 +44,18 @@ fn symbol_of(grammar: &Grammar, node: TreeNode) -> Sym {
     }
 }
 
-/// The trees of the stack.
-fn trees_of<'a>(alloc: Global, session: &'a Session) -> Result<Vec<TreeView<'a>>, AllocError> {
-    let mut trees = Vec::new(alloc);
-    for index in 0..session.view().stack_len() {
-        if let Some(tree) = tree_at(session, index) {
-            trees.push(tree)?;
-        }
-    }
-    Ok(trees)
-}
-
-/// The upcoming tokens, the last one first.
-fn rest_of(alloc: Global, session: &Session) -> Result<Vec<Sym>, AllocError> {
-    let mut tokens = Vec::new(alloc);
-    for index in (0..session.view().rest_len()).rev() {
-        tokens.push(upcoming_token(session, index).0)?;
-    }
-    Ok(tokens)
-}
-
 impl<'a> Form<'a> {
     /// The form of the configuration now.
     fn now(alloc: Global, session: &'a Session) -> Result<Form<'a>, AllocError> {
+        let view = session.view();
         Ok(Form {
-            trees: trees_of(alloc, session)?,
-            tokens: rest_of(alloc, session)?,
+            trees: (0..view.stack_len())
+                .filter_map(|index| tree_at(session, index))
+                .collect(alloc)?,
+            tokens: (0..view.rest_len())
+                .rev()
+                .map(|index| upcoming_token(session, index).0)
+                .collect(alloc)?,
         })
     }
 

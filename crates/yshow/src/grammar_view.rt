@@ -20,14 +20,12 @@ pub fn associativity_word(kind: Associativity) -> &'static str {
 
 /// A precedence, where there is one.
 pub fn put_precedence<W: Write>(page: &mut Page<W>, precedence: Option<Precedence>) {
-    let Some(precedence) = precedence else {
+    let Some(Precedence { level, kind }) = precedence else {
         page.put(", no precedence");
         return;
     };
-    page.put(", precedence ");
-    page.number(precedence.level);
-    page.put(" by ");
-    page.put(associativity_word(precedence.kind));
+    let word = associativity_word(kind);
+    let _ = write!(page, ", precedence {level} by {word}");
 }
 
 /// The rules of a grammar, with their lines in its file.
@@ -47,8 +45,7 @@ impl Rules<'_> {
         page.show(RuleText(self.grammar, rule));
         if let Some(line) = self.lines.rule(rule) {
             page.tab(58);
-            page.put("line ");
-            page.number(line);
+            let _ = write!(page, "line {line}");
         }
         page.end();
     }

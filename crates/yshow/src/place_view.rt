@@ -11,7 +11,7 @@ use yparse::machine::Mode;
 /// How many symbols of the stack and of the upcoming tokens one line shows.
 const SOME: usize = 14;
 /// How many lines or tokens are shown at most.
-const MANY: usize = 1_000;
+pub const MANY: usize = 1_000;
 
 /// The word of a mode.
 fn mode_word(mode: Mode) -> &'static str {
@@ -63,10 +63,7 @@ fn put_ahead<W: Write>(page: &mut Page<W>, session: &Session, tokens: usize) {
     } else if place == 0 {
         page.put(", an inserted token ahead");
     } else {
-        page.put(", token ");
-        page.number(place);
-        page.put(" of ");
-        page.number(tokens);
+        let _ = write!(page, ", token {place} of {tokens}");
     }
 }
 
@@ -119,9 +116,7 @@ pub fn put_where<W: Write>(page: &mut Page<W>, session: &Session, tokens: usize)
     put_head(page, session, tokens);
     put_top(page, session);
     put_next(page, session);
-    page.put("state ");
-    page.number(session.state());
-    page.end();
+    let _ = writeln!(page, "state {}", session.state());
     put_kernel(
         page,
         session.tables(),
@@ -130,15 +125,11 @@ pub fn put_where<W: Write>(page: &mut Page<W>, session: &Session, tokens: usize)
     );
 }
 
-/// Writes how many of what was asked for are left out.
-fn put_more<W: Write>(page: &mut Page<W>, count: usize, what: &str) {
-    if count == 0 {
-        return;
+/// Writes how many of what was asked for are left out, where some are.
+pub fn put_more<W: Write>(page: &mut Page<W>, count: usize, what: &str) {
+    if count > 0 {
+        let _ = writeln!(page, "  .. {count}{what}");
     }
-    page.put("  .. ");
-    page.number(count);
-    page.put(what);
-    page.end();
 }
 
 /// An entry of the stack: its number from the bottom, its symbol, and the state after it.
@@ -148,9 +139,7 @@ fn put_entry<W: Write>(page: &mut Page<W>, session: &Session, index: usize) {
     page.put("  ");
     page.put(name_of(grammar, stack_symbol(session, index)));
     page.tab(40);
-    page.put("state ");
-    page.number(stack_state(session, index));
-    page.end();
+    let _ = writeln!(page, "state {}", stack_state(session, index));
 }
 
 /// The stack, a line for each entry, the top last: the last 1,000 of them.
@@ -165,30 +154,4 @@ pub fn put_stack<W: Write>(page: &mut Page<W>, session: &Session) {
     for index in from..len {
         put_entry(page, session, index);
     }
-}
-
-/// An upcoming token: its place, and its name.
-fn put_token<W: Write>(page: &mut Page<W>, session: &Session, index: usize) {
-    let (token, place) = upcoming_token(session, index);
-    if place == 0 {
-        page.put("      +");
-    } else {
-        page.number_to(7, place);
-    }
-    page.put("  ");
-    page.put(name_of(grammar_of(session.tables()), token));
-    page.end();
-}
-
-/// The upcoming tokens, a line for each: the first 1,000 of them.
-pub fn put_upcoming<W: Write>(page: &mut Page<W>, session: &Session) {
-    let len = session.view().rest_len();
-    if len == 0 {
-        page.line("There is no upcoming token.");
-        return;
-    }
-    for index in 0..len.min(MANY) {
-        put_token(page, session, index);
-    }
-    put_more(page, len.saturating_sub(MANY), " tokens behind");
 }

@@ -50,18 +50,12 @@ fn rank_of(grammar: &Grammar, item: Item, ahead: Sym) -> Rank {
 
 /// What is done at a token.
 pub fn put_action<W: Write>(page: &mut Page<W>, action: Action) {
-    match action {
-        Action::Shift(next) => {
-            page.put("shift, to state ");
-            page.number(next);
-        }
-        Action::Reduce(rule) => {
-            page.put("reduce by rule ");
-            page.number(rule);
-        }
-        Action::Accept => page.put("accept"),
-        Action::Error => page.put("error"),
-    }
+    let _ = match action {
+        Action::Shift(next) => write!(page, "shift, to state {next}"),
+        Action::Reduce(rule) => write!(page, "reduce by rule {rule}"),
+        Action::Accept => write!(page, "accept"),
+        Action::Error => write!(page, "error"),
+    };
 }
 
 /// How many items of one rank are wanted, and how wide they are at most.
@@ -235,9 +229,7 @@ impl<'a> Shown<'a> {
                 page.put("   ");
                 page.put(name_of(grammar, symbol));
                 page.tab(20);
-                page.put("to state ");
-                page.number(next);
-                page.end();
+                let _ = writeln!(page, "to state {next}");
             }
         }
     }
@@ -262,17 +254,13 @@ pub fn put_kernel<W: Write>(page: &mut Page<W>, tables: &Tables, state: usize, a
     let count = shown.put_rank(page, ahead, second);
     let more = begun.saturating_add(count).saturating_sub(FEW);
     if more > 0 {
-        page.put("   .. ");
-        page.number(more);
-        page.line(" more; state shows them");
+        let _ = writeln!(page, "   .. {more} more; state shows them");
     }
 }
 
 /// A state: its items, its actions, its gotos. A number that is no state has none.
 pub fn put_state<W: Write>(page: &mut Page<W>, tables: &Tables, state: usize) {
-    page.put("state ");
-    page.number(state);
-    page.end();
+    let _ = writeln!(page, "state {state}");
     let shown = Shown { tables, state };
     let width = shown.widest(|_| true);
     for item in shown.items() {

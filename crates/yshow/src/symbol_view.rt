@@ -83,10 +83,7 @@ fn put_mentions<W: Write>(page: &mut Page<W>, lines: &Lines, symbol: Sym) {
         }
         if let Some(words) = how_words(mention.role) {
             left -= 1;
-            page.put(words);
-            page.put(" on line ");
-            page.number(mention.line);
-            page.end();
+            let _ = writeln!(page, "{words} on line {}", mention.line);
         }
     }
 }
@@ -96,8 +93,7 @@ fn put_token<W: Write>(page: &mut Page<W>, grammar: &Grammar, token: Sym) {
     page.put(": a token");
     if token < grammar.symbols() {
         if let Some(number) = grammar.number(token) {
-            page.put(", number ");
-            page.number(number as usize);
+            let _ = write!(page, ", number {number}");
         }
     }
     put_precedence(page, level_of(grammar, token));

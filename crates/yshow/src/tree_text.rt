@@ -91,9 +91,7 @@ fn put_open<'a, W: Write>(
             break;
         };
         if count >= most {
-            page.put("  .. after ");
-            page.number(most);
-            page.line(" lines; tree all writes the rest");
+            let _ = writeln!(page, "  .. after {most} lines; tree all writes the rest");
             break;
         }
         put_line(page, grammar, open, next)?;
@@ -133,9 +131,8 @@ pub fn put_tree<W: Write>(
         None => None,
     };
     let Some(tree) = tree else {
-        page.put("There is no such entry: the stack has ");
-        page.number(session.view().stack_len());
-        page.line(".");
+        let entries = session.view().stack_len();
+        let _ = writeln!(page, "There is no such entry: the stack has {entries}.");
         return Ok(());
     };
     let mut open = Vec::new(alloc);

@@ -1,6 +1,7 @@
 //! Arrays of numbers in C, each of the smallest type that holds its numbers.
 
 use std::io::{self, Write};
+use ycode::Numbers;
 
 /// How many numbers a line has.
 const IN_A_LINE: usize = 16;
@@ -26,11 +27,10 @@ fn put_numbers<W: Write>(out: &mut W, numbers: &[usize]) -> io::Result<()> {
 }
 
 /// Writes an array of this name. An empty one has a 0, since C has no empty arrays.
-pub fn put_array<W: Write>(out: &mut W, name: &str, numbers: &[usize]) -> io::Result<()> {
-    let greatest = numbers.iter().copied().max().unwrap_or(0);
-    let numbers = if numbers.is_empty() { &[0] } else { numbers };
-    let kind = type_of(greatest);
+pub fn put_array<W: Write>(out: &mut W, name: &str, numbers: &Numbers) -> io::Result<()> {
+    let kind = type_of(numbers.greatest());
+    let numbers = numbers.as_slice();
     write!(out, "static const {kind} {name}[] = {{")?;
-    put_numbers(out, numbers)?;
+    put_numbers(out, if numbers.is_empty() { &[0] } else { numbers })?;
     out.write_all(b"\n};\n")
 }

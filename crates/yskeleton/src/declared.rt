@@ -3,7 +3,7 @@
 use crate::text::Text;
 use std::io::{self, Write};
 use yexplain::reads::name_of;
-use ylalr::token_count;
+use ylalr::{ERROR, token_count};
 use ysymbols::{Grammar, Sym};
 
 /// What stands around the type of a `%union`.
@@ -30,7 +30,7 @@ fn is_c_name(name: &[u8]) -> bool {
 }
 
 /// The number of a token.
-pub fn number_of(grammar: &Grammar, token: Sym) -> Option<u32> {
+fn number_of(grammar: &Grammar, token: Sym) -> Option<u32> {
     if token < grammar.symbols() {
         grammar.number(token)
     } else {
@@ -80,7 +80,8 @@ pub fn put_tokens<W: Write>(out: &mut W, grammar: &Grammar) -> io::Result<()> {
         out.write_all(b"\n};\n#endif\n")?;
         put_defines(out, grammar)?;
     }
-    out.write_all(b"#define YYERRCODE 256\n")
+    let error = number_of(grammar, ERROR).unwrap_or(256);
+    writeln!(out, "#define YYERRCODE {error}")
 }
 
 /// Writes the type of values that the text of a `%union` gives, which begins on this line.

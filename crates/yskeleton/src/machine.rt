@@ -143,9 +143,11 @@ YYPARSE_DECL()
   *yyssp = 0;
 
 yyloop:
-  yyn = yydefred[yystate];
-  if (yyn != 0)
-    goto yyreduce;
+  if (yyset[yystate] == 0)
+    {
+      yyn = yyusual[yystate];
+      goto yyreduce;
+    }
   if (yychar == YYEMPTY)
     {
       yychar = YYLEX;
@@ -156,27 +158,24 @@ yyloop:
     }
   yytoken = YYTRANSLATE (yychar);
   if (yytoken == YYNTOKENS)
+    goto yyerrlab;
+  if (yytoken == YYERRTOKEN)
     {
-      if (yychar != YYERRCODE)
-        goto yyerrlab;
       /* the lexer has told of the error itself */
       yychar = YYUNDEF;
       goto yyrecover;
     }
   YYCELL (yyn, yystate, yytoken);
-  if (YYCELL_REDUCES (yyn))
+  if (yyn >= YYNSTATES)
     {
-      yyn = YYCELL_RULE (yyn);
-      if (yyn == 0)
-        {
-          YYSTEP ('a', 0);
-          YYACCEPT;
-        }
-      goto yyreduce;
+      yyn -= YYNSTATES;
+      if (yyn == YYNRULES)
+        goto yyerrlab;
+      if (yyn != 0)
+        goto yyreduce;
+      YYSTEP ('a', 0);
+      YYACCEPT;
     }
-  yyn = YYCELL_STATE (yyn);
-  if (yyn == 0)
-    goto yyerrlab;
   YYTRACE ((stderr, "%sdebug: state %d, shifting to state %d\n", YYPREFIX, yystate, yyn));
   YYSTEP ('s', yychar);
   if (yyerrflag > 0)
@@ -284,7 +283,7 @@ yyrecover:
   for (;;)
     {
       YYCELL (yyn, yystate, YYERRTOKEN);
-      if (!YYCELL_REDUCES (yyn) && YYCELL_STATE (yyn) != 0)
+      if (yyn < YYNSTATES)
         break;
       if (yyssp == yyss)
         {
@@ -297,7 +296,6 @@ yyrecover:
       --yyvsp;
       yystate = *yyssp;
     }
-  yyn = YYCELL_STATE (yyn);
   YYTRACE ((stderr, "%sdebug: state %d, error recovery shifting to state %d\n", YYPREFIX, yystate,
             yyn));
   YYSTEP ('x', yyn);

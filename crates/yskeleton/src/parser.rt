@@ -9,7 +9,7 @@ use crate::text::Text;
 use std::alloc::Global;
 use std::io::{self, Write};
 use ycode::Code;
-use yexplain::lines::Walk;
+use yexplain::lines::Spots;
 use ylexemes::part::Lexeme;
 use ysourcemap::{Mark, Role};
 use ysymbols::Grammar;
@@ -95,12 +95,12 @@ impl<'a> Source<'a> {
 
     /// Writes the code blocks and the `%union`, in their order.
     fn put_first(&self, out: &mut Text<'_>) -> io::Result<()> {
-        let mut walk = Walk::new(self.bytes);
+        let mut spots = Spots::new(self.bytes);
         for mark in self.marks {
             match (mark.role, mark.placed.lexeme) {
-                (Role::Block, _) => self.put_block(out, *mark, walk.line_at(mark.placed.at))?,
+                (Role::Block, _) => self.put_block(out, *mark, spots.reach(mark.placed.at).0)?,
                 (Role::Union, Lexeme::Braced(text)) => {
-                    put_union(out, text, (walk.line_at(mark.placed.at), self.path))?;
+                    put_union(out, text, (spots.reach(mark.placed.at).0, self.path))?;
                 }
                 _ => {}
             }
@@ -117,7 +117,7 @@ impl<'a> Source<'a> {
         if text.trim_ascii().is_empty() {
             return Ok(());
         }
-        out.from(Walk::new(self.bytes).line_at(from), self.path)?;
+        out.from(Spots::new(self.bytes).reach(from).0, self.path)?;
         out.add(text)?;
         out.back()
     }
@@ -151,12 +151,12 @@ impl Source<'_> {
 
     /// Writes the actions. They stand in the file in the order of their rules.
     fn put_actions(&self, out: &mut Text<'_>, tags: &Tags<'_>) -> Result<(), Trouble> {
-        let mut walk = Walk::new(self.bytes);
+        let mut spots = Spots::new(self.bytes);
         let mut actions = self.marks.iter().filter_map(action_of);
         for rule in 1..self.grammar.rules() {
             if self.grammar.action_text(rule).is_some() {
                 if let Some(kept) = actions.next() {
-                    let line = walk.line_at(kept.at);
+                    let line = spots.reach(kept.at).0;
                     self.put_case(out, tags, rule, (kept, line))?;
                 }
             }
@@ -192,7 +192,7 @@ impl Source<'_> {
     ) -> Result<Text<'w>, Trouble> {
         let mut out = Text::new(alloc, wishes.parser, wishes.lines);
         self.put_front(&mut out, tags, wishes)?;
-        put_tables(&mut out, alloc, self.grammar, code)?;
+        put_tables(&mut out, self.grammar, code)?;
         out.add(WORDS.as_bytes())?;
         self.put_tail(&mut out)?;
         out.add(READING.as_bytes())?;
@@ -222,10 +222,10 @@ impl Source<'_> {
 
     /// Writes the type that a `%union` gives.
     fn put_union(&self, out: &mut Text<'_>) -> io::Result<()> {
-        let mut walk = Walk::new(self.bytes);
+        let mut spots = Spots::new(self.bytes);
         for mark in self.marks {
             if let (Role::Union, Lexeme::Braced(text)) = (mark.role, mark.placed.lexeme) {
-                put_union(out, text, (walk.line_at(mark.placed.at), self.path))?;
+                put_union(out, text, (spots.reach(mark.placed.at).0, self.path))?;
             }
         }
         Ok(())

@@ -1,6 +1,7 @@
 //! The tags of symbols, which name members of the value.
 
 use std::alloc::{AllocError, Global};
+use yexplain::lines::symbol_of;
 use ylexemes::part::Lexeme;
 use ysourcemap::{Mark, Role};
 use ysymbols::{Grammar, Sym};
@@ -24,14 +25,6 @@ fn name_in(lexeme: Lexeme<'_>) -> Option<&[u8]> {
     match lexeme {
         Lexeme::Name(name) | Lexeme::CIdentifier(name) => Some(name),
         _ => None,
-    }
-}
-
-/// The symbol that a lexeme names.
-fn symbol_of(grammar: &Grammar, lexeme: Lexeme<'_>) -> Option<Sym> {
-    match lexeme {
-        Lexeme::Literal(value) => grammar.find_literal(value),
-        _ => grammar.find(name_in(lexeme)?),
     }
 }
 

@@ -1,6 +1,6 @@
 //! `ydebug check` over tokens files, and over texts with a SPEC.
 
-use crate::grammars::{GrammarFile, SpecFile, UsesGrammar, with_grammar};
+use crate::grammars::{GrammarFile, SpecFile, open_file};
 use crate::reading::{Uses, with_lexer};
 use crate::told::put_text_fault;
 use std::alloc::Global;
@@ -12,14 +12,14 @@ use yfaults::opening::Opened;
 use yfaults::shown::Place;
 use yfiles::reading::Limited;
 use yfollow::check::{
-    Check, Said, bytes_of, put_accepted, put_choice, put_limit, put_long, put_memory, put_unread,
-    put_wanted, run_check, wanted_after,
+    Check, Said, bytes_of, put_choice, put_long, put_memory, put_unread, put_verdict, put_wanted,
+    run_check, wanted_after,
 };
 use yfollow::expected::Wanted;
 use ylalr::END;
 use ylex::fault::TextFault;
 use ylex::lexer::{Lexed, Lexer};
-use yparse::{Verdict, judge};
+use yparse::judge;
 use ysymbols::{Grammar, Sym};
 use ytables::Tables;
 
@@ -67,7 +67,7 @@ fn put_mistake<W: Write>(
     wanted: &Wanted,
 ) -> io::Result<Said> {
     let name = Name(grammar, token);
-    let (path, line, column) = (place.path, place.line(), place.column());
+    let (path, (line, column)) = (place.path, place.spot());
     write!(out, "{path}:{line}:{column}: {name} can't come here")?;
     put_wanted(out, grammar, wanted, ",")?;
     place.put_text(out, true)?;
@@ -109,13 +109,10 @@ impl Text<'_> {
         if !self.lexed.tokens.fits(tables) {
             return Err(io::Error::from(ErrorKind::Other));
         }
-        match judge(alloc, tables, &self.lexed.tokens) {
-            Ok(Verdict::Accepted(steps)) => put_accepted(out, self.path, steps),
-            Ok(Verdict::Rejected(place)) => {
-                self.put_rejected(out, alloc, tables, place.saturating_sub(1))
-            }
-            Ok(Verdict::Limit) => put_limit(out, self.path),
-            Err(_) => put_memory(out, self.path),
+        let verdict = judge(alloc, tables, &self.lexed.tokens);
+        match put_verdict(out, self.path, verdict)? {
+            Ok(said) => Ok(said),
+            Err(place) => self.put_rejected(out, alloc, tables, place.saturating_sub(1)),
         }
     }
 }
@@ -207,36 +204,17 @@ fn check_opened<F: Files + AllocGlobal, R: Read, W: Write, E: Write>(
     }
 }
 
-/// Inputs that are judged by a grammar.
-#[derive(Drop)]
-struct Checking<'a, F, R, W> {
-    rt: &'a F,
-    asked: Asked<'a>,
-    input: &'a mut R,
-    out: &'a mut W,
-}
-
-impl<F: Files + AllocGlobal, R: Read, W: Write> UsesGrammar for Checking<'_, F, R, W> {
-    fn use_grammar<E: Write>(&mut self, opened: &Opened, errors: &mut E) -> io::Result<u8> {
-        let streams = (&mut *self.input, &mut *self.out);
-        check_opened(self.rt, self.asked, opened, streams, errors)
-    }
-}
-
 /// Writes what is asked for, and gives the exit status: 0 where all inputs are accepted, 1 where
 /// the grammar, the SPEC or an input is refused or one isn't accepted, 3 where one can't be read,
 /// or memory runs out. Faults of the grammar and of the SPEC go to `errors`.
-pub fn check_inputs<'a, F: Files + AllocGlobal, R: Read, W: Write, E: Write>(
-    rt: &'a F,
-    asked: Asked<'a>,
-    (input, out): (&'a mut R, &'a mut W),
+pub fn check_inputs<F: Files + AllocGlobal, R: Read, W: Write, E: Write>(
+    rt: &F,
+    asked: Asked<'_>,
+    streams: (&mut R, &mut W),
     errors: &mut E,
 ) -> io::Result<u8> {
-    let mut checking = Checking {
-        rt,
-        asked,
-        input,
-        out,
-    };
-    with_grammar(rt, asked.grammar, &mut checking, errors)
+    match open_file(rt, asked.grammar, errors)? {
+        Ok(opened) => check_opened(rt, asked, &opened, streams, errors),
+        Err(status) => Ok(status),
+    }
 }

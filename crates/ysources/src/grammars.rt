@@ -3,7 +3,7 @@
 use std::alloc::{AllocError, Global};
 use std::io::{self, Write};
 use std::rt::Files;
-use yexplain::reads::body_of;
+use yexplain::reads::{body_of, set};
 use yfaults::opening::{Opened, grammar_bytes, put_unread};
 use yimported::opening::open_text;
 use yimported::run::open_foreign;
@@ -41,38 +41,12 @@ pub fn open_file<F: Files + AllocGlobal, E: Write>(
     }
 }
 
-/// What is done with a grammar file that is open.
-pub trait UsesGrammar {
-    /// Does it, and gives the exit status.
-    fn use_grammar<E: Write>(&mut self, opened: &Opened, errors: &mut E) -> io::Result<u8>;
-}
-
-/// Opens a grammar file, and uses its tables; or says why it is refused. The exit status is the
-/// answer.
-pub fn with_grammar<F: Files + AllocGlobal, U: UsesGrammar, E: Write>(
-    rt: &F,
-    file: GrammarFile<'_>,
-    user: &mut U,
-    errors: &mut E,
-) -> io::Result<u8> {
-    match open_file(rt, file, errors)? {
-        Ok(opened) => {
-            let status = user.use_grammar(&opened, errors);
-            drop(opened);
-            status
-        }
-        Err(status) => Ok(status),
-    }
-}
-
 /// Which symbols stand in the body of a rule.
 pub fn used_in(alloc: Global, grammar: &Grammar) -> Result<Vec<bool>, AllocError> {
     let mut used = vec![in alloc; false; grammar.symbols()]?;
     for rule in 0..grammar.rules() {
         for symbol in body_of(grammar, rule) {
-            if let Some(mark) = used.get_mut(*symbol) {
-                *mark = true;
-            }
+            set(&mut used, *symbol, true);
         }
     }
     Ok(used)

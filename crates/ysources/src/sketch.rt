@@ -1,6 +1,6 @@
 //! `ydebug lex-spec`: a SPEC for a grammar.
 
-use crate::grammars::{GrammarFile, UsesGrammar, used_in, with_grammar};
+use crate::grammars::{GrammarFile, open_file, used_in};
 use std::alloc::Global;
 use std::io::{self, Write};
 use std::rt::Files;
@@ -19,20 +19,6 @@ fn put_spec<W: Write>(alloc: Global, out: &mut W, path: &str, opened: &Opened) -
     put_sketch(out, grammar, &used)
 }
 
-/// A SPEC that is written for a grammar file.
-#[derive(Drop)]
-struct Sketch<'a, W> {
-    alloc: Global,
-    path: &'a str,
-    out: &'a mut W,
-}
-
-impl<W: Write> UsesGrammar for Sketch<'_, W> {
-    fn use_grammar<E: Write>(&mut self, opened: &Opened, _errors: &mut E) -> io::Result<u8> {
-        put_spec(self.alloc, self.out, self.path, opened).map(|()| 0)
-    }
-}
-
 /// Writes a SPEC for a grammar file, and gives the exit status.
 pub fn run_sketch<F: Files + AllocGlobal, W: Write, E: Write>(
     rt: &F,
@@ -40,7 +26,8 @@ pub fn run_sketch<F: Files + AllocGlobal, W: Write, E: Write>(
     out: &mut W,
     errors: &mut E,
 ) -> io::Result<u8> {
-    let (alloc, path) = (rt.alloc(), file.path);
-    let mut sketch = Sketch { alloc, path, out };
-    with_grammar(rt, file, &mut sketch, errors)
+    match open_file(rt, file, errors)? {
+        Ok(opened) => put_spec(rt.alloc(), out, file.path, &opened).map(|()| 0),
+        Err(status) => Ok(status),
+    }
 }

@@ -10,7 +10,7 @@ use yfiles::reading::Limited;
 use yfiles::same::is_same_file;
 use yfollow::Parse;
 use yfollow::source::Text;
-use yfollow::start::{Opens, parse_over};
+use yfollow::start::parse_over;
 use ylex::lexer::Lexed;
 use yparse::{Session, Tokens};
 use ytables::Tables;
@@ -39,9 +39,8 @@ fn session_of(alloc: Global, tables: Tables, tokens: Tokens) -> Option<Session> 
     }
 }
 
-/// A parse of the tokens of a text, which it keeps; `None` where one of them is no token of the
-/// tables.
-fn parse_of(alloc: Global, opened: Opened, cut: Cut) -> Option<Parse> {
+/// A parse of the tokens of a text, which it keeps.
+fn parse_of(alloc: Global, opened: Opened, cut: Cut) -> io::Result<Parse> {
     let Opened { tables, lines } = opened;
     let Cut { path, bytes, lexed } = cut;
     let Lexed {
@@ -57,15 +56,7 @@ fn parse_of(alloc: Global, opened: Opened, cut: Cut) -> Option<Parse> {
     };
     let count = tokens.len();
     match session_of(alloc, tables, tokens) {
-        Some(session) => Some(Parse::new(session, lines, count, Some(text))),
-        None => None,
-    }
-}
-
-/// A parse, where there is one.
-fn made(parse: Option<Parse>) -> io::Result<Result<Parse, u8>> {
-    match parse {
-        Some(parse) => Ok(Ok(parse)),
+        Some(session) => Ok(Parse::new(session, lines, count, Some(text))),
         None => Err(io::Error::from(ErrorKind::Other)),
     }
 }
@@ -96,7 +87,7 @@ impl<F: Files + AllocGlobal> Source<'_, F> {
     ) -> io::Result<Result<Parse, u8>> {
         let mut cut = Cut::new(self.rt.alloc());
         match self.cut(&opened, spec, &mut cut, errors) {
-            Ok(0) => made(parse_of(self.rt.alloc(), opened, cut)),
+            Ok(0) => parse_of(self.rt.alloc(), opened, cut).map(Ok),
             status => {
                 drop(opened);
                 drop(cut);
@@ -134,17 +125,20 @@ impl<F: Files + AllocGlobal> Source<'_, F> {
             None => self.open_tokens(opened, errors),
         }
     }
-}
 
-impl<F: Files + AllocGlobal> Opens for Source<'_, F> {
-    fn open<E: Write>(&self, errors: &mut E) -> io::Result<Result<Parse, u8>> {
+    /// A parse at its start. Where a file is refused, that is written, and the exit status is the
+    /// answer: 1 for a fault of a file, 3 where memory runs out, for too many states, and for a
+    /// file that can't be read.
+    pub fn open<E: Write>(&self, errors: &mut E) -> io::Result<Result<Parse, u8>> {
         match open_file(self.rt, self.grammar, errors)? {
             Ok(opened) => self.open_input(opened, errors),
             Err(status) => Ok(Err(status)),
         }
     }
 
-    fn guards(&self, path: &str) -> bool {
+    /// Whether a path means one of the files, which then isn't written over. A tokens file isn't
+    /// guarded: tokens may be written over those that they come from.
+    pub fn guards(&self, path: &str) -> bool {
         let is_same = |other: &str| is_same_file(self.rt, path, other);
         match self.spec {
             Some(spec) => {

@@ -1,7 +1,7 @@
 //! `ydebug tokens`: the tokens of a text as a tokens file.
 
 use crate::cut::{Cut, cut_file};
-use crate::grammars::{GrammarFile, SpecFile, UsesGrammar, with_grammar};
+use crate::grammars::{GrammarFile, SpecFile, open_file};
 use std::io::{self, Write};
 use std::rt::Files;
 use yexplain::reads::grammar_of;
@@ -55,39 +55,21 @@ fn put_file<F: Files + AllocGlobal, W: Write, E: Write>(
     Ok(status)
 }
 
-/// A text whose tokens are written.
-#[derive(Drop)]
-struct Cutting<'a, F, W> {
-    rt: &'a F,
-    out: &'a mut W,
-    spec: SpecFile<'a>,
-    input: Limited<'a>,
-}
-
-impl<F: Files + AllocGlobal, W: Write> UsesGrammar for Cutting<'_, F, W> {
-    fn use_grammar<E: Write>(&mut self, opened: &Opened, errors: &mut E) -> io::Result<u8> {
-        put_file(self.rt, self.out, errors, opened, self.spec, self.input)
-    }
-}
-
 /// Writes a tokens file of a text that a SPEC cuts, and gives the exit status: 1 where the grammar,
 /// the SPEC or the text is refused, 3 where one can't be read or memory runs out.
-pub fn run_tokens<'a, F: Files + AllocGlobal, W: Write, E: Write>(
-    rt: &'a F,
-    file: GrammarFile<'a>,
-    (spec, input): (&'a str, Limited<'a>),
-    out: &'a mut W,
+pub fn run_tokens<F: Files + AllocGlobal, W: Write, E: Write>(
+    rt: &F,
+    file: GrammarFile<'_>,
+    (spec, input): (&str, Limited<'_>),
+    out: &mut W,
     errors: &mut E,
 ) -> io::Result<u8> {
     let spec = SpecFile {
         path: spec,
         grammar: file.path,
     };
-    let mut cutting = Cutting {
-        rt,
-        out,
-        spec,
-        input,
-    };
-    with_grammar(rt, file, &mut cutting, errors)
+    match open_file(rt, file, errors)? {
+        Ok(opened) => put_file(rt, out, errors, &opened, spec, input),
+        Err(status) => Ok(status),
+    }
 }

@@ -50,7 +50,7 @@ pub fn put_spec_fault<W: Write>(
         return Err(no_memory());
     };
     let place = Place { path, source, at };
-    let (line, column, what) = (place.line(), place.column(), wrong.text());
+    let ((line, column), what) = (place.spot(), wrong.text());
     let front = match wrong {
         Wrong::Expression(_) => "the expression doesn't compile: ",
         _ => "",
@@ -90,7 +90,7 @@ pub fn put_text_fault<W: Write>(
         TextFault::TooMany(at) => (at, "more than 1,000,000 tokens; this is one more: "),
     };
     let place = Place { path, source, at };
-    let (line, column) = (place.line(), place.column());
+    let (line, column) = place.spot();
     write!(out, "{path}:{line}:{column}: {what}")?;
     put_bytes(out, shown_at(source, at))?;
     place.put_text(out, true)?;

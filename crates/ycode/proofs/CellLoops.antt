@@ -1,0 +1,156 @@
+-- The cells of one more state.
+use Rattle.std.proofs.Common.{ℕ, ◌≡◌, ◌≢◌, ◌+◌, ◌*◌, ◌/◌, ◌<◌, ◌≤◌, ◌⊎◌, inl, inr, Bool, true, false}
+use Rattle.std.proofs.Common.{nat_eq, List, [], ◌∷◌, ◌++◌, length, get_or, refl, sym, ap, ◌∙◌, subst}
+use Rattle.std.proofs.Common.{arith, Option, Some, None, is_some, slice_index, length-append, replicate}
+use Rattle.std.proofs.Math.Seq.{get_or-append_seam}
+use Rattle.std.proofs.lemmas.List.{get_or_append_left, get_or-replicate, length-replicate}
+use Rattle.ylalr.specs.Collection.{goto_in}
+use Rattle.ytables.specs.Cell.{is_reduce}
+use Rattle.ytables.specs.Tables.{TablesValue, action_at, default_at}
+use Rattle.ycode.specs.declared.entry.Entry.{Entry}
+use Rattle.ycode.specs.Bits.{bit_of, SetsValue, HasSet, KeepsSets}
+use Rattle.ycode.specs.Cells.{states_of, tokens_of, rules_of, wanted_at, IsUsual, IsSetOf, AreCells}
+use Rattle.ycode.specs.Cells.{AreSets}
+use Rattle.ycode.specs.Combs.{AreAtMost}
+use Rattle.ycode.specs.Entries.{entry_at, EntriesAtMost}
+use Rattle.ycode.specs.Targets.{AreTargets, beside}
+use Rattle.ycode.proofs.EntrySteps.{same_yes, same_no}
+use Rattle.ycode.proofs.BitSteps.{kept_set}
+use Rattle.ycode.proofs.CellSteps.{consistent}
+
+-- each number below n + 1 is below n, or n
+pub below_or_last : (q n : ℕ) → q < n + 1 → (q < n) ⊎ (q ≡ n)
+below_or_last q n l = grind arith
+
+-- one more element: those before, and the last
+pub before : {X : Type 0} (xs : List X) (x d : X) (n i : ℕ) → length xs ≡ n → i < n →
+    get_or (xs ++ x ∷ []) i d ≡ get_or xs i d
+before xs x d n i e l = get_or_append_left xs (x ∷ []) d i (omega (arith, e, l))
+
+pub last : {X : Type 0} (xs : List X) (x d : X) (n i : ℕ) → length xs ≡ n → i ≡ n →
+    get_or (xs ++ x ∷ []) i d ≡ x
+last xs x d n i e h = ap (λ k. get_or (xs ++ x ∷ []) k d) (h ∙ sym e) ∙ get_or-append_seam xs x [] d
+
+pub longer : {X : Type 0} (xs : List X) (x : X) (n : ℕ) → length xs ≡ n →
+    length (xs ++ x ∷ []) ≡ n + 1
+longer xs x n e = length-append xs (x ∷ []) ∙ ap (λ k. k + 1) e
+
+-- the set of a consistent state
+pub set_zero : (v : TablesValue) (q r s : ℕ) (sets : SetsValue) → AreSets v q sets → IsUsual v q r →
+    default_at v q ≡ Some s → IsSetOf v q r sets 0
+set_zero v q r s sets a u e = record {
+  number = a.all.number;
+  members = λ t l. (let z : t < length (replicate (tokens_of v) true) =
+      (let n = length-replicate (tokens_of v) true in omega (arith, n, l)) in
+      a.all.bits t z ∙ (get_or-replicate (tokens_of v) t true false l ∙ sym (ap (is_reduce r)
+      (consistent v q t s e) ∙ same_yes r s (u.default s e))));
+  zero = sym (ap is_some e);
+}
+
+-- the set of another
+pub set_other : (v : TablesValue) (q r n : ℕ) (sets : SetsValue) (members : List Bool) →
+    default_at v q ≡ None → 0 < n → HasSet sets n members → length members ≡ tokens_of v →
+    ((t : ℕ) → t < tokens_of v → get_or members t false ≡ is_reduce r (action_at v q t)) →
+    IsSetOf v q r sets n
+set_other v q r n sets members e p h len same = record {
+  number = h.number;
+  members = λ t l. h.bits t (omega (arith, len, l)) ∙ same t l;
+  zero = same_no n 0 (λ z. omega (arith, z, p)) ∙ sym (ap is_some e);
+}
+
+-- the sets with one more
+pub sets_more : (v : TablesValue) (q : ℕ) (s t : SetsValue) → AreSets v q s → KeepsSets s t →
+    AreSets v (q + 1) t
+sets_more v q s t a k = record {
+  span = k.span ∙ a.span;
+  all = kept_set s t 0 (replicate (tokens_of v) true) k a.all;
+  few = let x = a.few in let y = k.longer in omega (arith, x, y);
+}
+
+kept_set_of : (v : TablesValue) (q n r m : ℕ) (s t : SetsValue) → AreSets v n s → KeepsSets s t →
+    IsSetOf v q r s m → IsSetOf v q r t m
+kept_set_of v q n r m s t a k h = record {
+  number = let x = h.number in let y = k.count in omega (arith, x, y);
+  members = λ i l. (let z : i < 8 * s.span = (let e = a.span in omega (arith, e, l)) in
+      k.bits m i h.number z ∙ h.members i l);
+  zero = h.zero;
+}
+
+-- the cells with those of one more state
+pub cells_more : (v : TablesValue) (n : ℕ) (usual sets : List ℕ) (s t : SetsValue)
+    (rows : List (List Entry)) (r m : ℕ) (es : List Entry) → AreCells v n usual sets s rows →
+    AreSets v n s → KeepsSets s t → IsUsual v n r → IsSetOf v n r t m →
+    ((i : ℕ) → i < tokens_of v → entry_at es i ≡ wanted_at v r n i) →
+    EntriesAtMost (states_of v + rules_of v) es →
+    AreCells v (n + 1) (usual ++ r ∷ []) (sets ++ m ∷ []) t (rows ++ es ∷ [])
+cells_more v n usual sets s t rows r m es c a k u so en mo = record {
+  counts = (longer usual r n c.counts.0, longer sets m n c.counts.1, longer rows es n c.counts.2);
+  rules = λ q l. rules q (below_or_last q n l);
+  members = λ q l. members q (below_or_last q n l);
+  entries = λ q i l h. entries q i h (below_or_last q n l);
+  most = λ q l. most q (below_or_last q n l);
+}
+  where
+    rules : (q : ℕ) → (q < n) ⊎ (q ≡ n) → IsUsual v q (slice_index (usual ++ r ∷ []) q)
+    rules q (inl l) = subst (IsUsual v q) (sym (before usual r 0 n q c.counts.0 l)) (c.rules q l)
+    rules q (inr e) = subst (IsUsual v q) (sym (last usual r 0 n q c.counts.0 e))
+        (subst (λ x. IsUsual v x r) (sym e) u)
+
+    members : (q : ℕ) → (q < n) ⊎ (q ≡ n) → IsSetOf v q (slice_index (usual ++ r ∷ []) q) t
+        (slice_index (sets ++ m ∷ []) q)
+    members q (inl l) =
+        subst (λ x. IsSetOf v q x t (slice_index (sets ++ m ∷ []) q))
+        (sym (before usual r 0 n q c.counts.0 l))
+        (subst (IsSetOf v q (slice_index usual q) t) (sym (before sets m 0 n q c.counts.1 l))
+        (kept_set_of v q n (slice_index usual q) (slice_index sets q) s t a k (c.members q l)))
+    members q (inr e) =
+        subst (λ x. IsSetOf v q x t (slice_index (sets ++ m ∷ []) q))
+        (sym (last usual r 0 n q c.counts.0 e))
+        (subst (IsSetOf v q r t) (sym (last sets m 0 n q c.counts.1 e))
+        (subst (λ x. IsSetOf v x r t m) (sym e) so))
+
+    entries : (q i : ℕ) → i < tokens_of v → (q < n) ⊎ (q ≡ n) →
+        entry_at (get_or (rows ++ es ∷ []) q []) i ≡
+        wanted_at v (slice_index (usual ++ r ∷ []) q) q i
+    entries q i h (inl l) =
+        ap (λ x. entry_at x i) (before rows es [] n q c.counts.2 l) ∙ (c.entries q i l h ∙
+        ap (λ x. wanted_at v x q i) (sym (before usual r 0 n q c.counts.0 l)))
+    entries q i h (inr e) =
+        ap (λ x. entry_at x i) (last rows es [] n q c.counts.2 e) ∙ (en i h ∙
+        (ap (λ x. wanted_at v r x i) (sym e) ∙
+        ap (λ x. wanted_at v x q i) (sym (last usual r 0 n q c.counts.0 e))))
+
+    most : (q : ℕ) → (q < n) ⊎ (q ≡ n) →
+        EntriesAtMost (states_of v + rules_of v) (get_or (rows ++ es ∷ []) q [])
+    most q (inl l) = subst (EntriesAtMost (states_of v + rules_of v))
+        (sym (before rows es [] n q c.counts.2 l)) (c.most q l)
+    most q (inr e) = subst (EntriesAtMost (states_of v + rules_of v))
+        (sym (last rows es [] n q c.counts.2 e)) mo
+
+-- the gotos with those of one more state
+pub targets_more : (v : TablesValue) (n : ℕ) (usual : List ℕ) (rows : List (List Entry))
+    (es : List Entry) → AreTargets v n usual rows →
+    ((x : ℕ) → x < length usual →
+    entry_at es x ≡ beside (slice_index usual x) (goto_in v.built n (tokens_of v + x))) →
+    EntriesAtMost (states_of v) es → AreTargets v (n + 1) usual (rows ++ es ∷ [])
+targets_more v n usual rows es c en mo = record {
+  count = c.count;
+  rows = longer rows es n c.rows;
+  below = c.below;
+  entries = λ q x l h. entries q x h (below_or_last q n l);
+  most = λ q l. most q (below_or_last q n l);
+}
+  where
+    entries : (q x : ℕ) → x < length usual → (q < n) ⊎ (q ≡ n) →
+        entry_at (get_or (rows ++ es ∷ []) q []) x ≡
+        beside (slice_index usual x) (goto_in v.built q (tokens_of v + x))
+    entries q x h (inl l) = ap (λ y. entry_at y x) (before rows es [] n q c.rows l) ∙
+        c.entries q x l h
+    entries q x h (inr e) = ap (λ y. entry_at y x) (last rows es [] n q c.rows e) ∙ (en x h ∙
+        ap (λ y. beside (slice_index usual x) (goto_in v.built y (tokens_of v + x))) (sym e))
+
+    most : (q : ℕ) → (q < n) ⊎ (q ≡ n) → EntriesAtMost (states_of v)
+        (get_or (rows ++ es ∷ []) q [])
+    most q (inl l) = subst (EntriesAtMost (states_of v)) (sym (before rows es [] n q c.rows l))
+        (c.most q l)
+    most q (inr e) = subst (EntriesAtMost (states_of v)) (sym (last rows es [] n q c.rows e)) mo

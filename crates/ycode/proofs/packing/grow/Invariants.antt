@@ -1,0 +1,13 @@
+use Rattle.std.proofs.Common.{◌≤◌, ◌-◌, max, vec_len}
+use Rattle.ycode.specs.Packing.{IsGrown}
+use Rattle.ycode.proofs.packing.grow.Given as goal
+
+abbrev pub invariant-loop-values : goal.invariant-loop-values
+invariant-loop-values l = record {
+  grown : IsGrown l.width l.initial.checks.items l.checks.items l.initial.values.items
+      l.values.items l.initial.begun.items l.begun.items;
+  most : vec_len l.checks ≤ max (vec_len l.initial.checks) l.end;
+}
+
+abbrev pub decreases-loop-values : goal.decreases-loop-values
+decreases-loop-values l = l.end - vec_len l.checks

@@ -1,0 +1,101 @@
+-- What the arrays have of the cells of actions.
+use Rattle.std.specs.Prelude.{ℕ, ◌≡◌, ◌+◌, ◌*◌, ◌/◌, ◌<◌, ◌≤◌, Bool, true, false, ◌&&◌, List, []}
+use Rattle.std.specs.Prelude.{length, Option, Some, None, is_some, if◌then◌else◌, nat_eq, replicate}
+use Rattle.std.specs.Prelude.{slice_index, slice_index_or}
+use Rattle.ytables.specs.declared.cell.Action.{Action}
+use Rattle.ytables.specs.declared.cell.Action.TheVariants.{Shift, Reduce, Accept, Error}
+use Rattle.ytables.specs.Cell.{is_reduce}
+use Rattle.ytables.specs.Tables.{TablesValue, action_at, default_at}
+use Rattle.ycells.specs.Candidates.{shift_in}
+use Rattle.ysymbols.specs.Grammar.{most_symbols, most_rules}
+use Rattle.yrows.specs.Limits.{most_states}
+use Rattle.ycode.specs.declared.entry.Entry.{Entry}
+use Rattle.ycode.specs.declared.sizes.Sizes.{Sizes}
+use Rattle.ycode.specs.Bits.{SetsValue, HasSet, bit_of}
+use Rattle.ycode.specs.Entries.{entry_at, EntriesAtMost}
+
+-- the number of states of tables, of tokens, and of rules
+abbrev pub states_of : TablesValue → ℕ
+states_of v = length v.built.states
+
+abbrev pub tokens_of : TablesValue → ℕ
+tokens_of v = v.built.grammar.bare.tokens
+
+abbrev pub rules_of : TablesValue → ℕ
+rules_of v = length v.built.grammar.bare.rules
+
+abbrev pub symbols_of : TablesValue → ℕ
+symbols_of v = v.built.grammar.bare.symbols
+
+-- the sizes are those of the tables, and are within their limits
+pub record AreSizes (v : TablesValue) (s : Sizes) : Type 0 where
+  pub states : s.states ≡ states_of v
+  pub tokens : s.tokens ≡ tokens_of v
+  pub symbols : s.symbols ≡ symbols_of v
+  pub rules : s.rules ≡ rules_of v
+  pub few_states : s.states ≤ most_states
+  pub few_symbols : s.symbols ≤ most_symbols
+  pub few_rules : s.rules ≤ most_rules
+  pub some_tokens : 0 < s.tokens
+  pub some_nonterminals : s.tokens < s.symbols
+  pub some_rules : 0 < s.rules
+
+-- a shift is to one of so many states, a reduction by one of so many rules other than rule 0
+abbrev pub Fits : ℕ → ℕ → Action → Type 0
+Fits states rules (Shift n) = n < states
+Fits states rules (Reduce r) = (0 < r) × (r < rules)
+Fits states rules Accept = Unit {0}
+Fits states rules Error = Unit {0}
+
+-- the number of an action: a shift has its state, then comes the acceptance, then reductions by
+-- their rules, and then an error that is told apart; the usual reduction and others have none
+abbrev pub number_for : ℕ → ℕ → ℕ → Bool → Action → Option ℕ
+number_for states rules usual refused (Shift n) = Some n
+number_for states rules usual refused (Reduce r) =
+    if nat_eq usual r then None else Some (states + r)
+number_for states rules usual refused Accept = Some states
+number_for states rules usual refused Error = if refused then Some (states + rules) else None
+
+-- the action is an error
+abbrev pub is_error : Action → Bool
+is_error (Shift n) = false
+is_error (Reduce r) = false
+is_error Accept = false
+is_error Error = true
+
+-- the cell is an error although its token could be shifted: one that comes of `%nonassoc`
+abbrev pub is_refused : TablesValue → ℕ → ℕ → Bool
+is_refused v q t = is_error (action_at v q t) && is_some (shift_in v.built q t)
+
+-- the number that the cell of state q at the token t has beside this usual reduction
+abbrev pub wanted_at : TablesValue → ℕ → ℕ → ℕ → Option ℕ
+wanted_at v usual q t = number_for (states_of v) (rules_of v) usual (is_refused v q t)
+    (action_at v q t)
+
+-- rule r can be the usual one of state q: its default rule, where it has one
+pub record IsUsual (v : TablesValue) (q r : ℕ) : Type 0 where
+  pub rule : r < rules_of v
+  pub default : (s : ℕ) → default_at v q ≡ Some s → r ≡ s
+
+-- set n has the tokens at which state q reduces by rule r, and is set 0 where it is consistent
+pub record IsSetOf (v : TablesValue) (q r : ℕ) (s : SetsValue) (n : ℕ) : Type 0 where
+  pub number : n < s.count
+  pub members : (t : ℕ) → t < tokens_of v →
+      bit_of s.bytes (n * s.span) t ≡ is_reduce r (action_at v q t)
+  pub zero : nat_eq n 0 ≡ is_some (default_at v q)
+
+-- the lists have the cells of the states below n
+pub record AreCells (v : TablesValue) (n : ℕ) (usual sets : List ℕ) (s : SetsValue)
+    (rows : List (List Entry)) : Type 0 where
+  pub counts : (length usual ≡ n) × (length sets ≡ n) × (length rows ≡ n)
+  pub rules : (q : ℕ) → q < n → IsUsual v q (slice_index usual q)
+  pub members : (q : ℕ) → q < n → IsSetOf v q (slice_index usual q) s (slice_index sets q)
+  pub entries : (q t : ℕ) → q < n → t < tokens_of v →
+      entry_at (slice_index_or rows q []) t ≡ wanted_at v (slice_index usual q) q t
+  pub most : (q : ℕ) → q < n → EntriesAtMost (states_of v + rules_of v) (slice_index_or rows q [])
+
+-- sets of these tables: set 0 has all tokens, and there are no more than one more than so many
+pub record AreSets (v : TablesValue) (n : ℕ) (s : SetsValue) : Type 0 where
+  pub span : s.span ≡ (tokens_of v + 7) / 8
+  pub all : HasSet s 0 (replicate (tokens_of v) true)
+  pub few : s.count ≤ n + 1

@@ -1,0 +1,83 @@
+//! The arrays of a C parser.
+
+ghost use Rattle.std.specs.Prelude.{IfOk};
+ghost use Rattle.ycode.specs.Reads.{Reads, IsInside, AreSmall};
+
+use crate::cells::{Cells, all_cells};
+use crate::comb::{Comb, comb_of};
+use crate::numbers::Numbers;
+use crate::rules::{lefts_of, lengths_of};
+use crate::sizes::sizes_of;
+use crate::targets::all_targets;
+use crate::translate::translation_of;
+use std::alloc::{AllocError, Global};
+use ytables::Tables;
+
+/// The arrays of a C parser, and the numbers by which they are read.
+#[derive(Drop)]
+pub struct Code {
+    /// How many states there are. In a cell of an action the numbers below are shifts to these
+    /// states, this number is the acceptance.
+    pub states: usize,
+    /// How many rules there are. In a cell `states + r` is the reduction by rule `r`, and
+    /// `states + rules` an error that comes of `%nonassoc`.
+    pub rules: usize,
+    /// How many tokens there are: also the number of what is no token.
+    pub tokens: usize,
+    /// The cells of actions, at the columns of tokens.
+    pub actions: Comb,
+    /// The rule of each state's usual reduction, which is made where a cell has no number and the
+    /// token is in a set.
+    pub usual: Numbers,
+    /// The number of this set for each state. Set 0 has all tokens: the state is consistent, and
+    /// reduces before a token is read.
+    pub sets: Numbers,
+    /// How many bytes a set has.
+    pub span: usize,
+    /// The sets: bit `t % 8` of byte `set * span + t / 8` says whether the token `t` is in a set.
+    pub bits: Numbers,
+    /// The gotos of states, at the columns of nonterminals; the first nonterminal has column 0.
+    pub gotos: Comb,
+    /// The goto over each nonterminal where a state has none of its own.
+    pub targets: Numbers,
+    /// How many symbols the body of each rule has.
+    pub lengths: Numbers,
+    /// The left side of each rule; the first nonterminal has the number 0.
+    pub lefts: Numbers,
+    /// The token of each number that the lexer may return, up to the greatest.
+    pub numbers: Numbers,
+}
+
+/// The arrays of the parser by these tables: the numbers in them say what the tables say, each
+/// index that is formed lies in its array, and each number is small. It fails only when memory runs
+/// out.
+pub fn code_of(alloc: Global, tables: &Tables) -> Result<Code, AllocError>
+    ensures reads { IfOk result (Reads tables.now) }
+    ensures inside { IfOk result (IsInside tables.now) }
+    ensures small { IfOk result (AreSmall tables.now) }
+{
+    let sizes = sizes_of(tables);
+    let grammar = tables.automaton().grammar();
+    let Cells {
+        usual,
+        sets,
+        known,
+        rows,
+    } = all_cells(alloc, tables, &sizes)?;
+    let targets = all_targets(alloc, tables, &sizes)?;
+    Ok(Code {
+        states: sizes.states,
+        rules: sizes.rules,
+        tokens: sizes.tokens,
+        actions: comb_of(alloc, &rows, sizes.tokens)?,
+        usual: Numbers::of(usual),
+        sets: Numbers::of(sets),
+        span: known.span(),
+        bits: Numbers::of(known.into_bytes()),
+        gotos: comb_of(alloc, &targets.rows, sizes.symbols - sizes.tokens)?,
+        targets: Numbers::of(targets.usual),
+        lengths: lengths_of(alloc, grammar)?,
+        lefts: lefts_of(alloc, grammar, sizes.tokens)?,
+        numbers: translation_of(alloc, grammar, sizes.tokens)?,
+    })
+}
