@@ -137,7 +137,7 @@ fn put_misuse<W: Write>(out: &mut W, misuse: Misuse) -> io::Result<()> {
 }
 
 /// Writes that a value has no tag, and how to give it one.
-fn put_untyped<W: Write, N: Display>(out: &mut W, name: N) -> io::Result<()> {
+fn put_untyped<W: Write, N: Copy + Display>(out: &mut W, name: N) -> io::Result<()> {
     write!(out, "${name} has no tag, and other symbols have: ")?;
     writeln!(out, "give it one by %token or %type, or here as $<tag>{name}")
 }

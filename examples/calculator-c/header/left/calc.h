@@ -6,11 +6,13 @@
 #define YYTOKENTYPE
 enum yytokentype {
   NUMBER = 257,
-  VARIABLE = 258
+  VARIABLE = 258,
+  SIGN = 259
 };
 #endif
 #define NUMBER 257
 #define VARIABLE 258
+#define SIGN 259
 #define YYERRCODE 256
 
 #if ! defined YYSTYPE && ! defined YYSTYPE_IS_DECLARED
@@ -19,7 +21,7 @@ union YYSTYPE {
   double number;
   int variable;
 };
-#line 23 "calc.h"
+#line 25 "calc.h"
 typedef union YYSTYPE YYSTYPE;
 # define YYSTYPE_IS_TRIVIAL 1
 # define YYSTYPE_IS_DECLARED 1
