@@ -4,6 +4,7 @@ use crate::cut::{Cut, cut_file};
 use crate::grammars::{GrammarFile, SpecFile, open_file};
 use std::io::{self, Write};
 use std::rt::Files;
+use yexplain::lines::newlines;
 use yexplain::reads::grammar_of;
 use yexplain::text::Name;
 use yfaults::opening::Opened;
@@ -12,7 +13,7 @@ use ysymbols::Grammar;
 
 /// Writes as many newlines as stand between two tokens, or a space where none does.
 fn put_between<W: Write>(out: &mut W, between: &[u8]) -> io::Result<()> {
-    let lines = between.iter().filter(|b| **b == b'\n').count();
+    let lines = newlines(between);
     if lines == 0 {
         return out.write_all(b" ");
     }
