@@ -70,8 +70,8 @@ impl<'a> Text<'a> {
 
     /// The line that comes next, counted from 1.
     fn next_line(&mut self) -> usize {
-        let added = self.bytes.get(self.counted..).unwrap_or(&[]);
-        self.lines = self.lines.saturating_add(newlines(added));
+        let more = newlines(self.bytes.get(self.counted..).unwrap_or(&[]));
+        self.lines = self.lines.saturating_add(more);
         self.counted = self.bytes.len();
         self.lines.saturating_add(1)
     }

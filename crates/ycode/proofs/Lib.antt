@@ -1,5 +1,0 @@
-pub mod EntrySteps
-pub mod PackingSteps
-pub mod BitSteps
-pub mod CellSteps
-pub mod CellLoops

@@ -1,9 +1,0 @@
-use Rattle.std.proofs.Common.{ℕ, ◌≡◌, ◌<◌, ◌+◌, ◌^◌, nat_eq, false, slice_index_or}
-use Rattle.std.specs.Int.{bit_at}
-use Rattle.ycode.proofs.sets.byte_of.Given as goal
-
-abbrev pub invariant-loop-k : goal.invariant-loop-k
-invariant-loop-k l = record {
-  bits : (i : ℕ) → i < l.k → nat_eq (bit_at l.byte i) 1 ≡ slice_index_or l.members (l.at + i) false;
-  small : l.byte < 2 ^ l.k;
-}

@@ -1,9 +1,0 @@
-pub mod Bits
-pub mod Cells
-pub mod Combs
-pub mod Entries
-pub mod Packing
-pub mod Reading
-pub mod Reads
-pub mod Targets
-pub mod Translation
