@@ -110,7 +110,7 @@ fn names_symbol(role: Role) -> bool {
 }
 
 /// The symbol that a lexeme names.
-fn symbol_of(grammar: &Grammar, lexeme: Lexeme<'_>) -> Option<Sym> {
+pub fn symbol_of(grammar: &Grammar, lexeme: Lexeme<'_>) -> Option<Sym> {
     match lexeme {
         Lexeme::Name(name) | Lexeme::CIdentifier(name) => grammar.find(name),
         Lexeme::Literal(value) => grammar.find_literal(value),
