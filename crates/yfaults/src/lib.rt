@@ -1,10 +1,8 @@
 //! Faults that help: what each code says, how to mend it, and the place that it is about.
 #![tactic(auto)]
 
-mod barren;
 mod coming;
 mod long;
-mod names;
 mod nearest;
 pub mod opening;
 mod place;

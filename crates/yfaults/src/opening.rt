@@ -42,12 +42,22 @@ pub enum Trouble<'a> {
 }
 
 impl<'a> Trouble<'a> {
-    /// A fault of a file with this source map, or want of memory.
-    pub fn of_fault(placed: PlacedFault, marks: Vec<Mark<'a>>) -> Trouble<'a> {
+    /// A fault of a file with this source map and these left sides of which no list of tokens can
+    /// be made, or want of memory.
+    pub fn of_fault(placed: PlacedFault, marks: Vec<Mark<'a>>, barren: Vec<usize>) -> Trouble<'a> {
         match placed.fault {
             GrammarFault::Memory => Trouble::Memory,
-            _ => Trouble::Grammar(Refusal { placed, marks }),
+            _ => Trouble::Grammar(Refusal {
+                placed,
+                marks,
+                barren,
+            }),
         }
+    }
+
+    /// A fault of a file without syntax, or want of memory.
+    pub fn of_text(alloc: Global, placed: PlacedFault) -> Trouble<'a> {
+        Trouble::of_fault(placed, Vec::new(alloc), Vec::new(alloc))
     }
 
     /// The exit status of a run that ends with it: 1 for a fault of the file; 3 where memory runs

@@ -1,6 +1,5 @@
 //! What is said of the faults of grammar files, with what helps beside the words of their codes.
 
-use crate::barren::barren;
 use crate::coming::Coming;
 use crate::long::long_rule;
 use crate::nearest::Search;
@@ -15,6 +14,7 @@ use ygrammar::{Grammar, GrammarFault, PlacedFault};
 use ylalr::token_count;
 use ylexemes::part::Lexeme;
 use ysourcemap::{Mark, Role};
+use ysymbols::names::{SymbolTable, intern};
 
 /// The most names that are listed.
 const MOST_NAMED: usize = 20;
@@ -88,16 +88,16 @@ pub fn put_question<W: Write>(out: &mut W, name: &[u8]) -> io::Result<()> {
 }
 
 /// Writes of which nonterminals but the first no list of tokens can be made.
-fn put_others<W: Write>(out: &mut W, lefts: &[Mark<'_>]) -> io::Result<()> {
-    if lefts.len() < 2 {
+fn put_others<W: Write>(out: &mut W, names: &SymbolTable) -> io::Result<()> {
+    if names.len() < 2 {
         return Ok(());
     }
     write!(out, "  The same holds of:")?;
-    for left in lefts.iter().skip(1).take(MOST_NAMED) {
-        let name = Bytes(name_in(left.placed.lexeme).unwrap_or(b""));
+    for name in names.iter().skip(1).take(MOST_NAMED) {
+        let name = Bytes(name);
         write!(out, " {name}")?;
     }
-    let more = if lefts.len() > MOST_NAMED + 1 {
+    let more = if names.len() > MOST_NAMED + 1 {
         " .."
     } else {
         ""
@@ -113,6 +113,26 @@ pub struct Refusal<'a> {
     pub placed: PlacedFault,
     /// The lexemes of the file, and what they are there for.
     pub marks: Vec<Mark<'a>>,
+    /// Where those left sides stand of which no list of tokens can be made, in their order, where
+    /// that is the fault.
+    pub barren: Vec<usize>,
+}
+
+impl Refusal<'_> {
+    /// The nonterminals of which no list of tokens can be made.
+    fn barren_names(&self, alloc: Global) -> Result<SymbolTable, AllocError> {
+        let mut names = SymbolTable::new(alloc);
+        for mark in &self.marks {
+            if self.barren.binary_search(&mark.placed.at).is_ok() {
+                intern(
+                    alloc,
+                    &mut names,
+                    name_in(mark.placed.lexeme).unwrap_or(b""),
+                )?;
+            }
+        }
+        Ok(names)
+    }
 }
 
 /// Writes what helps with a fault beside the words of its code.
@@ -132,7 +152,7 @@ fn put_help<W: Write>(
             Some(name) => put_question(out, name),
             None => Ok(()),
         },
-        GrammarFault::Unproductive { .. } => put_others(out, &barren(alloc, marks)?),
+        GrammarFault::Unproductive { .. } => put_others(out, &refusal.barren_names(alloc)?),
         GrammarFault::Foreign { .. } if is_imported(source.get(at..).unwrap_or(&[])) => {
             writeln!(
                 out,

@@ -3,6 +3,7 @@ use Rattle.std.specs.Prelude.{ℕ, ◌++◌, ◌==◌, ◌&&◌, [], List, decim
 use Rattle.std.specs.Prelude.{if◌then◌else◌}
 use Rattle.ysyntax.specs.declared.fault.GrammarFault.{GrammarFault}
 use Rattle.ysyntax.specs.declared.fault.GrammarFault.TheVariants as grammars
+use Rattle.ygrammar.specs.GrammarOf.{line_in}
 use Rattle.ytables.specs.declared.tables.Counts.{Counts}
 use Rattle.ygenerate.specs.declared.message.Program.{Program}
 use Rattle.ygenerate.specs.declared.message.Program.TheVariants.{Yacc, Ystep}
@@ -37,23 +38,6 @@ grammar_code (grammars.BadPrec line) = codes "G12"
 grammar_code (grammars.Limit line) = codes "G13"
 grammar_code grammars.Memory = codes "no memory"
 
--- the line of a fault of a grammar file, where it has one
-abbrev pub grammar_line : GrammarFault → Option ℕ
-grammar_line grammars.TooLong = None
-grammar_line (grammars.Unfinished line) = Some line
-grammar_line (grammars.BadLiteral line) = Some line
-grammar_line (grammars.Foreign line) = Some line
-grammar_line (grammars.Syntax line) = Some line
-grammar_line (grammars.TokenLeft line) = Some line
-grammar_line (grammars.Undefined line) = Some line
-grammar_line (grammars.TwicePrecedence line) = Some line
-grammar_line (grammars.BadNumber line) = Some line
-grammar_line (grammars.BadStart line) = Some line
-grammar_line (grammars.Unproductive line) = Some line
-grammar_line (grammars.BadPrec line) = Some line
-grammar_line (grammars.Limit line) = Some line
-grammar_line grammars.Memory = None
-
 -- the program, what it says, and where
 abbrev pub message_line : Program → List ℕ → List ℕ → Option ℕ → List ℕ
 message_line p what where_ None = name_of p ++ (codes ": " ++ (what ++ codes "\n"))
@@ -64,7 +48,7 @@ message_line p what where_ (Some n) =
 abbrev pub message : Program → Trouble → List ℕ
 message p Usage = usage_of p
 message p (Grammar fault) = message_line p (grammar_code fault) (codes " at line ")
-    (grammar_line fault)
+    (line_in fault)
 message p TooManySets = message_line p (codes "B1") [] None
 message p NoMemory = message_line p (codes "no memory") [] None
 message p (CannotRead path) = name_of p ++ (codes ": cannot read " ++ (path.now ++ codes "\n"))

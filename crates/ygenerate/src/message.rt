@@ -3,7 +3,8 @@
 ghost use Rattle.std.specs.Prelude.{◌≡◌, ◌++◌, ◌==◌, ◌&&◌, is_some, codes};
 ghost use Rattle.ylink.specs.Link.{device_of};
 ghost use Rattle.ylink.specs.Sends.{Sends};
-ghost use Rattle.ygenerate.specs.Messages.{conflicts_line, grammar_code, grammar_line, message};
+ghost use Rattle.ygrammar.specs.GrammarOf.{line_in};
+ghost use Rattle.ygenerate.specs.Messages.{conflicts_line, grammar_code, message};
 ghost use Rattle.ygenerate.specs.Messages.{message_line, name_of, usage_of};
 ghost use Rattle.ygenerate.specs.Generating.{IsGenerating};
 ghost use Rattle.ygenerate.specs.Programs.{SaysSome, of_source, status};
@@ -234,7 +235,7 @@ fn grammar_code(fault: GrammarFault) -> &'static [u8]
 
 /// The line of a fault of a grammar file, where it has one.
 fn grammar_line(fault: GrammarFault) -> Option<usize>
-    ensures { result ≡ grammar_line fault }
+    ensures { result ≡ line_in fault }
 {
     match fault {
         GrammarFault::TooLong | GrammarFault::Memory => None,

@@ -5,9 +5,11 @@ pub mod NumberPlaces
 pub mod OwnTables
 pub mod BadPlaces
 pub mod MistakeSteps
+pub mod AllPlaces
 pub mod PlaceSteps
 pub mod SymbolNames
 pub mod Wellness
+pub mod SomeBarren
 pub mod LastTokens
 pub mod OneMeaning
 pub mod ElaborationSteps

@@ -10,7 +10,7 @@ use Rattle.ysyntax.specs.declared.tree.RuleText.{RuleText as CodeRuleText}
 use Rattle.ysyntax.specs.declared.tree.Tree.{Tree as CodeTree}
 use Rattle.youtline.specs.Outline.{Outlines, start_view}
 use Rattle.ysyntax.specs.TreeViews.{rule_text_view, name_view, tree_view}
-use Rattle.ysymbols.proofs.NameSteps.{length_texts}
+use Rattle.ysymbols.proofs.NameSteps.{false_true, length_texts}
 use Rattle.youtline.specs.declared.mistake.Mistake.TheVariants.{BadStart, Undefined}
 use Rattle.youtline.specs.declared.mistake.Mistake.TheVariants.{Unproductive}
 use Rattle.youtline.specs.declared.mistake.Refused.{Refused}
@@ -24,7 +24,7 @@ use Rattle.youtline.specs.Elaboration.{rules_from, starts, symbols, token_preced
 use Rattle.ysymbols.specs.Forms.{IsReachable, Productive}
 use Rattle.ysymbols.specs.Grammar.{ContextFree, Production, RuleValue, blank, precedence_of}
 use Rattle.ysymbols.specs.Grammar.{most_symbols, production_of}
-use Rattle.ysymbols.specs.Marking.{AreIn, RuleIn, numbered_grammar, rule_at}
+use Rattle.ysymbols.specs.Marking.{AreIn, IsMarked, RuleIn, numbered_grammar, rule_at}
 use Rattle.ygrammar.specs.Meaning.{IsMeaning}
 use Rattle.youtline.specs.Mistakes.{HasNone, Holds, order}
 use Rattle.ysymbols.specs.Names.{Name}
@@ -54,24 +54,27 @@ rules_chosen ns given (r ∷ rs) = ap (λ (ps : List (Option Precedence)). rule_
 bare_from : ℕ → ℕ → List Production → ContextFree
 bare_from k n ps = record { tokens = k; symbols = n; rules = ps }
 
--- the bare grammar of the numbered rules is that of the tree
-pub bare_same : (t : Tree) (k n : ℕ) (vs : List RuleValue) → k ≡ length (tokens t) →
-    n ≡ length (symbols t) → vs ≡ map (rule_numbers (symbols t) (token_precedences t)) (rules t) →
-    numbered_grammar k n vs ≡ bare_of t
+-- the bare grammar of the numbered rules is that of the tree, whatever precedences are given
+pub bare_given : (t : Tree) (given : List (Option Precedence)) (k n : ℕ) (vs : List RuleValue) →
+    k ≡ length (tokens t) → n ≡ length (symbols t) →
+    vs ≡ map (rule_numbers (symbols t) given) (rules t) → numbered_grammar k n vs ≡ bare_of t
 unfolding bare_from
-bare_same t k n vs e f g =
+bare_given t given k n vs e f g =
     ap (λ j. bare_from j n (map production_of vs)) e
     ∙ ap (λ j. bare_from (length (tokens t)) j (map production_of vs)) f
     ∙ ap (λ (ps : List Production). bare_from (length (tokens t)) (length (symbols t)) ps)
-    (ap (λ (xs : List RuleValue). map production_of xs) g ∙ rules_bare (symbols t)
-    (token_precedences t) (rules t))
+    (ap (λ (xs : List RuleValue). map production_of xs) g ∙ rules_bare (symbols t) given (rules t))
+
+pub bare_same : (t : Tree) (k n : ℕ) (vs : List RuleValue) → k ≡ length (tokens t) →
+    n ≡ length (symbols t) → vs ≡ map (rule_numbers (symbols t) (token_precedences t)) (rules t) →
+    numbered_grammar k n vs ≡ bare_of t
+bare_same t = bare_given t (token_precedences t)
 
 -- the symbols of every rule are in range
-pub are_in : (t : Tree) (k n : ℕ) (vs : List RuleValue) → IsTree t → (Holds t Undefined → ⊥) →
-    (Holds t BadStart → ⊥) → k ≡ length (tokens t) → n ≡ length (symbols t) →
-    vs ≡ map (rule_numbers (symbols t) (token_precedences t)) (rules t) → AreIn n vs
-are_in t k n vs s u b e f g r h =
-    let q : numbered_grammar k n vs ≡ bare_of t = bare_same t k n vs e f g in
+pub in_bare : (t : Tree) (k n : ℕ) (vs : List RuleValue) → IsTree t → (Holds t Undefined → ⊥) →
+    (Holds t BadStart → ⊥) → n ≡ length (symbols t) → numbered_grammar k n vs ≡ bare_of t →
+    AreIn n vs
+in_bare t k n vs s u b f q r h =
     let l : r < length (bare_of t).rules = subst (λ (x : ContextFree). r < length x.rules) q
     (subst (λ j. r < j) (sym (length-map vs production_of)) h) in
     let i = in_range t s u b r l in
@@ -84,6 +87,11 @@ are_in t k n vs s u b e f g r h =
     subst (λ j. RuleIn j (rule_at vs r)) (sym f)
     (subst (λ (x : ContextFree). RuleIn (length (symbols t)) (get_or x.rules r blank))
     (sym q) w)
+
+pub are_in : (t : Tree) (k n : ℕ) (vs : List RuleValue) → IsTree t → (Holds t Undefined → ⊥) →
+    (Holds t BadStart → ⊥) → k ≡ length (tokens t) → n ≡ length (symbols t) →
+    vs ≡ map (rule_numbers (symbols t) (token_precedences t)) (rules t) → AreIn n vs
+are_in t k n vs s u b e f g = in_bare t k n vs s u b f (bare_same t k n vs e f g)
 
 -- what is found of a bare grammar is found of the tree
 pub unproductive : (t : Tree) (e : Refused) (g : ContextFree) → g ≡ bare_of t →
@@ -99,29 +107,38 @@ unproductive t (refused.Mistake what at) g q (w, (s, a, b, c)) = (
 )
 unproductive t refused.Memory g q p = tt
 
+-- a symbol behind the tokens that isn't marked
+pub barren_holds : (t : Tree) (g : ContextFree) (marks : List Bool) (s : ℕ) → g ≡ bare_of t →
+    ((k : ℕ) → k < g.symbols → (IsMarked marks k ↔ Productive g k)) → g.tokens ≤ s →
+    s < g.symbols → get_or marks s false ≡ false → Holds t Unproductive
+barren_holds t g marks s q exact low high off = (
+  s,
+  subst (λ (x : ContextFree). x.tokens ≤ s) q low,
+  subst (λ (x : ContextFree). s < x.symbols) q high,
+  λ p. false_true (sym off ∙ (exact s high).1
+      (subst (λ (x : ContextFree). Productive x s) (sym q) p)),
+)
+
 pub all_productive : (t : Tree) (g : ContextFree) → g ≡ bare_of t →
     ((s : ℕ) → g.tokens ≤ s → s < g.symbols → Productive g s) → (s : ℕ) → length (tokens t) ≤ s →
     s < length (symbols t) → Productive (bare_of t) s
 all_productive t g q h = subst (λ (x : ContextFree). (s : ℕ) → x.tokens ≤ s → s < x.symbols →
     Productive x s) q h
 
--- the rules by number are those of the tree
-rules_are : (t : Tree) (ns : List Name) (given : List (Option Precedence))
+-- the rules by number are those of the tree, whatever precedences are given
+rules_given : (t : Tree) (ns : List Name) (given : List (Option Precedence))
     (is : List Identifier) (ls : List Name) (cs : List RuleText) (vs : List RuleValue) →
-    ns ≡ symbols t → given ≡ token_precedences t → is ≡ starts t → ls ≡ lefts t → cs ≡ t.rule_texts
-    →
+    ns ≡ symbols t → is ≡ starts t → ls ≡ lefts t → cs ≡ t.rule_texts →
     vs ≡ map (rule_numbers ns given) (first_rule is ls ∷ rules_from [] 1 cs) →
-    vs ≡ map (rule_numbers (symbols t) (token_precedences t)) (rules t)
-rules_are t ns given is ls cs vs a b c d e h =
+    vs ≡ map (rule_numbers (symbols t) given) (rules t)
+rules_given t ns given is ls cs vs a c d e h =
     h
     ∙ ap (λ (x : List Name). map (rule_numbers x given) (first_rule is ls ∷ rules_from [] 1 cs)) a
-    ∙ ap (λ (x : List (Option Precedence)). map (rule_numbers (symbols t) x)
-    (first_rule is ls ∷ rules_from [] 1 cs)) b
-    ∙ ap (λ (x : List Identifier). map (rule_numbers (symbols t) (token_precedences t))
+    ∙ ap (λ (x : List Identifier). map (rule_numbers (symbols t) given)
     (first_rule x ls ∷ rules_from [] 1 cs)) c
-    ∙ ap (λ (x : List Name). map (rule_numbers (symbols t) (token_precedences t))
+    ∙ ap (λ (x : List Name). map (rule_numbers (symbols t) given)
     (first_rule (starts t) x ∷ rules_from [] 1 cs)) d
-    ∙ ap (λ (x : List RuleText). map (rule_numbers (symbols t) (token_precedences t))
+    ∙ ap (λ (x : List RuleText). map (rule_numbers (symbols t) given)
     (first_rule (starts t) (lefts t) ∷ rules_from [] 1 x)) e
 
 -- the rules that are numbered are those of the tree
@@ -132,9 +149,24 @@ pub numbered_rules : (tree : CodeTree) (n : Named) (o : Outline)
     (first_rule (map start_view o.starts.items) (map name_view o.lefts.items) ∷ rules_from [] 1
     (map rule_text_view cs)) → vs ≡ map (rule_numbers (symbols (tree_view tree))
     (token_precedences (tree_view tree))) (rules (tree_view tree))
-numbered_rules tree n o given cs vs a b g e h = rules_are (tree_view tree) (texts n.names) given
+numbered_rules tree n o given cs vs a b g e h = rules_given (tree_view tree) (texts n.names) given
     (map start_view o.starts.items) (map name_view o.lefts.items) (map rule_text_view cs) vs a.names
-    (g ∙ a.given) b.starts b.lefts (ap (λ (xs : List CodeRuleText). map rule_text_view xs) e) h
+    b.starts b.lefts (ap (λ (xs : List CodeRuleText). map rule_text_view xs) e) h
+    ∙ ap (λ (x : List (Option Precedence)). map (rule_numbers (symbols (tree_view tree)) x)
+    (rules (tree_view tree))) (g ∙ a.given)
+
+-- and so is their bare grammar, whatever precedences are given
+pub numbered_bare : (tree : CodeTree) (ns : List Name) (k n : ℕ) (o : Outline)
+    (given : List (Option Precedence)) (cs : List CodeRuleText) (vs ws : List RuleValue) →
+    ns ≡ symbols (tree_view tree) → k ≡ length (tokens (tree_view tree)) →
+    n ≡ length (symbols (tree_view tree)) → Outlines o (tree_view tree) →
+    cs ≡ tree.rule_texts.items → vs ≡ map (rule_numbers ns given)
+    (first_rule (map start_view o.starts.items) (map name_view o.lefts.items) ∷ rules_from [] 1
+    (map rule_text_view cs)) → ws ≡ vs → numbered_grammar k n ws ≡ bare_of (tree_view tree)
+numbered_bare tree ns k n o given cs vs ws a b d e f h w =
+    bare_given (tree_view tree) given k n ws b d (w ∙ rules_given (tree_view tree) ns given
+    (map start_view o.starts.items) (map name_view o.lefts.items) (map rule_text_view cs) vs a
+    e.starts e.lefts (ap (λ (xs : List CodeRuleText). map rule_text_view xs) f) h)
 
 -- as many names as symbols
 pub symbols_counted : (t : Tree) (n : Named) (count : ℕ) → AreNamed t n →

@@ -1,5 +1,5 @@
 -- Where the mistakes of a tree stand.
-use Rattle.std.proofs.Common.{ℕ, zero, suc, ◌≡◌, ◌<◌, ◌↔◌, inl, inr, arith, Bool, true, false, not, List, [], ◌∷◌, ◌++◌, length, map}
+use Rattle.std.proofs.Common.{ℕ, zero, suc, ◌≡◌, ◌<◌, ◌↔◌, arith, Bool, true, false, filter, not, List, [], ◌∷◌, ◌++◌, length, map}
 use Rattle.std.proofs.Common.{Option, Some, None, refl, sym, ap, subst, ◌∙◌, append-nil}
 use Rattle.std.proofs.Common.{Result, Ok, Err, IsErrAnd}
 use Rattle.std.specs.Prelude.{IfErr, slice_index_or, unwrap_or}
@@ -10,16 +10,14 @@ use Rattle.ysymbols.specs.Marking.{IsMarked}
 use Rattle.ysymbols.specs.Names.{Name, is_among, number_in}
 use Rattle.ysymbols.specs.Sources.{option_view}
 use Rattle.ysymbols.proofs.NameSteps.{false_true}
-use Rattle.youtline.specs.declared.mistake.Mistake.TheVariants as mistakes
 use Rattle.youtline.specs.declared.mistake.Refused.{Refused}
 use Rattle.youtline.specs.declared.mistake.Refused.TheVariants as refused
 use Rattle.youtline.specs.declared.outline.Outline.{Outline}
 use Rattle.youtline.specs.declared.outline.Started.{Started}
-use Rattle.youtline.specs.Elaboration.{bare_of, is_nonterminal, is_token, symbols, tokens}
-use Rattle.youtline.specs.Outline.{start_view}
+use Rattle.youtline.specs.Elaboration.{bare_of, is_nonterminal, is_token, lefts, symbols, tokens}
 use Rattle.youtline.specs.OutlineSites.{IsPlaced, OutlineSites, is_of_rule, left_of, name_at}
-use Rattle.youtline.specs.OutlineSites.{occurrence_at, prec_of, start_at, typed_of, use_of}
-use Rattle.youtline.specs.Places.{FirstAt, IsBarren, StandsAt, is_bad_prec, is_token_left, is_undefined}
+use Rattle.youtline.specs.OutlineSites.{prec_of, start_at, typed_of, use_of}
+use Rattle.youtline.specs.Places.{AllAt, FirstAt, IsBarren, is_bad_prec, is_token_left, is_undefined}
 use Rattle.youtline.specs.Places.{last_start, select, start_of}
 use Rattle.youtline.specs.Printed.{printed_name}
 use Rattle.youtline.proofs.PlaceSteps.{all_map, first_behind, first_front, found_in, last_seen}
@@ -32,7 +30,9 @@ use Rattle.ysyntax.specs.Sites.{Role, Site, start_word, used, prec_name, typed, 
 use Rattle.ysyntax.specs.Tree.{Identifier, Tree}
 use Rattle.ysyntax.specs.TreeViews.{name_view, occurrence_view}
 use Rattle.ygrammar.specs.Numbered.{is_between}
+use Rattle.ygrammar.proofs.AllPlaces.{all_behind, all_found}
 use Rattle.ygrammar.proofs.MistakeSteps.{between_here}
+use Rattle.ygrammar.proofs.SymbolNames.{each_to_map}
 
 abbrev InDeclaration : Site → Type 0
 InDeclaration s = is_of_rule s.role ≡ false
@@ -254,14 +254,26 @@ read_false [] k h = absurd (false_true (sym h))
 read_false (x ∷ xs) zero h = omega arith
 read_false (x ∷ xs) (suc k) h = let l = read_false xs k h in omega (arith, l)
 
-all_both : (P : Site → Type 0) (xs ys : List Site) → AllByRecursion P xs → AllByRecursion P ys →
-    AllByRecursion P (xs ++ ys)
-all_both P [] ys a b = b
-all_both P (x ∷ xs) ys a b = (a.0, all_both P xs ys a.1 b)
+map_name : (xs : List NameAt) → map (λ (p : Name × ℕ). p.0) (map name_at xs) ≡ map name_view xs
+map_name [] = refl
+map_name (x ∷ xs) = ap (λ z. name_view x ∷ z) (map_name xs)
 
 not_true : (b : Bool) → not b ≡ true → b ≡ false
 not_true true h = absurd (false_true h)
 not_true false h = refl
+
+-- what holds of no site holds of no left side among them
+selected : (P : Role → Type 0) (ss : List Site) → AllByRecursion (λ s. P s.role → ⊥) ss →
+    AllByRecursion (λ (y : Name × ℕ). P (left_side y.0) → ⊥) (select left_of ss)
+selected P [] a = tt
+selected P (s ∷ ss) a = go s.role s.at a.0 (selected P ss a.1)
+  where
+    go : (r : Role) (at : ℕ) → (P r → ⊥) →
+        AllByRecursion (λ (y : Name × ℕ). P (left_side y.0) → ⊥) (select left_of ss) →
+        AllByRecursion (λ (y : Name × ℕ). P (left_side y.0) → ⊥)
+        (select left_of (record { role = r; at = at } ∷ ss))
+    go (left_side n) at h again = (h, again)
+    go _ at h again = again
 
 module _ (t : Tree) (ns : List Name) (are : ns ≡ symbols t) (marks : List Bool)
     (g : ContextFree) (same : g ≡ bare_of t) (sized : length marks ≡ g.symbols)
@@ -320,30 +332,42 @@ module _ (t : Tree) (ns : List Name) (are : ns ≡ symbols t) (marks : List Bool
   none_declared (left_side n) w h = cc
   none_declared _ w h = h
 
-  pub barren_at : (o : Outline) (ds rs : List Site) → OutlineSites o ds rs → (now : List NameAt) →
-      now ≡ o.lefts.items → (at : ℕ) → at ≡ unwrap_or (option_view (λ l. l.at)
-      (find (λ l. not (slice_index_or marks (number_in ns (name_view l)) true)) now)) 0 →
-      StandsAt t (ds ++ rs) mistakes.Unproductive at
-  barren_at o ds rs out now e at is = go (option_view (λ l. l.at)
-      (find (λ l. not (slice_index_or marks (number_in ns (name_view l)) true)) now)) refl is
-    where
-      front : AllByRecursion (λ s. Barren s.role → ⊥) ds
-      front = all_map InDeclaration _ (λ s w. none_declared s.role w) ds out.of_declarations
+  module _ (o : Outline) (ds rs : List Site) (out : OutlineSites o ds rs) (now : List NameAt)
+      (e : now ≡ o.lefts.items) where
+    front : AllByRecursion (λ s. Barren s.role → ⊥) ds
+    front = all_map InDeclaration _ (λ s w. none_declared s.role w) ds out.of_declarations
 
-      shown : AllByRecursion (λ s. Barren s.role → (n : Name) × (left_of s.role ≡ Some n)
-          × (unmarked n ≡ true)) rs
-      shown = all_map InRule _ (λ s w. barren_shows s.role) rs out.of_rules
+    lefts_shown : AllByRecursion (λ s. Barren s.role → (n : Name) × (left_of s.role ≡ Some n)
+        × (unmarked n ≡ true)) rs
+    lefts_shown = all_map InRule _ (λ s w. barren_shows s.role) rs out.of_rules
 
-      go : (a : Option ℕ) → a ≡ option_view (λ l. l.at)
-          (find (λ l. not (slice_index_or marks (number_in ns (name_view l)) true)) now) →
-          at ≡ unwrap_or a 0 → StandsAt t (ds ++ rs) mistakes.Unproductive at
-      go (Some place) found h = inl (subst (λ x. FirstAt Barren (ds ++ rs) x) (sym h)
-          (first_behind Barren ds rs place front
-          (found_in left_of unmarked Barren barren_yes name_view (λ n. n.at) o.lefts.items now
-          (Some place) rs e out.lefts found shown place refl)))
-      go None found h = inr (
-        all_both (λ s. Barren s.role → ⊥) ds rs front
-            (none_found left_of unmarked Barren barren_yes name_view (λ n. n.at) o.lefts.items now
-            None rs e out.lefts found shown refl),
-        h,
-      )
+    -- where a left side of the file is one, the first that isn't marked stands at the place
+    pub barren_at : map name_view o.lefts.items ≡ lefts t →
+        (AllByRecursion (λ n. Barren (left_side n) → ⊥) (lefts t) → ⊥) →
+        (at : ℕ) → at ≡ unwrap_or (option_view (λ l. l.at)
+        (find (λ l. not (slice_index_or marks (number_in ns (name_view l)) true)) now)) 0 →
+        FirstAt Barren (ds ++ rs) at
+    barren_at seen some at is = go (option_view (λ l. l.at)
+        (find (λ l. not (slice_index_or marks (number_in ns (name_view l)) true)) now)) refl is
+      where
+        go : (a : Option ℕ) → a ≡ option_view (λ l. l.at)
+            (find (λ l. not (slice_index_or marks (number_in ns (name_view l)) true)) now) →
+            at ≡ unwrap_or a 0 → FirstAt Barren (ds ++ rs) at
+        go (Some place) found h = subst (λ x. FirstAt Barren (ds ++ rs) x) (sym h)
+            (first_behind Barren ds rs place front
+            (found_in left_of unmarked Barren barren_yes name_view (λ n. n.at) o.lefts.items now
+            (Some place) rs e out.lefts found lefts_shown place refl))
+        go None found h = absurd (some (subst (λ (x : List Name).
+            AllByRecursion (λ n. Barren (left_side n) → ⊥) x) (map_name o.lefts.items ∙ seen)
+            (each_to_map (λ n. Barren (left_side n) → ⊥) (λ (y : Name × ℕ). y.0)
+            (map name_at o.lefts.items) (subst (AllByRecursion (λ (y : Name × ℕ). Barren (left_side y.0) → ⊥))
+            (sym out.lefts) (selected Barren rs (none_found left_of unmarked Barren barren_yes name_view
+            (λ n. n.at) o.lefts.items now None rs e out.lefts found lefts_shown refl))))))
+
+    -- the places of those that aren't marked
+    pub all_barren : (ps : List ℕ) → ps ≡ map (λ (l : NameAt). l.at)
+        (filter (λ l. not (slice_index_or marks (number_in ns (name_view l)) true)) now) →
+        AllAt Barren (ds ++ rs) ps
+    all_barren ps is = all_behind Barren ds rs ps front
+        (all_found left_of unmarked Barren barren_yes name_view (λ n. n.at) o.lefts.items now ps rs
+        e out.lefts is lefts_shown)

@@ -24,7 +24,7 @@ use Rattle.std.specs.Prelude.{IfSome}
 use Rattle.std.proofs.lemmas.Bool.{cases_lt}
 use Rattle.std.proofs.Math.Seq.{take-append_seam}
 use Rattle.ygrammar.specs.Elaborated.{IsFirstRefused}
-use Rattle.ygrammar.specs.Faults.{IsRefusal}
+use Rattle.ygrammar.specs.Faults.{IsFaultIn, IsRefusal}
 use Rattle.ysymbols.specs.Grammar.{GrammarValue, longest_file}
 use Rattle.ygrammar.specs.GrammarOf.{AnswersGrammar, AnswersMistake, AnswersRefusal, HasTree}
 use Rattle.ygrammar.specs.GrammarOf.{HasLine, IsFaultAt, IsFaultOf, IsMistakeAt, IsMistakenAt, IsMistakenOn}
@@ -37,7 +37,7 @@ use Rattle.youtline.specs.Mistakes.{IsFirst, order}
 use Rattle.ysyntax.specs.Tree.{IsTree, Tree, yield}
 use Rattle.ygrammar.proofs.OneMeaning.{none_first, one_first, one_meaning}
 use Rattle.youtline.specs.OutlineSites.{IsPlaced}
-use Rattle.youtline.specs.Places.{StandsAt}
+use Rattle.youtline.specs.Places.{FirstAt, IsBarren, StandsAt}
 use Rattle.ysyntax.specs.declared.tree.Tree.{Tree as CodeTree}
 use Rattle.ysyntax.specs.Sites.{AreSites, Site, StandFrom}
 use Rattle.ysyntax.specs.SiteViews.{marks_in, named_in, site_marks, tree_sites}
@@ -201,24 +201,33 @@ on_line source m at line (t, h, first, p) l = (t, h, first, (at, p, l))
 -- a fault at its place is one of the file
 pub fault_found : (source : List ℕ) (e : PlacedFault) → IsFaultAt source e.at e.fault →
     HasLine source e → IsFaultOf source e.fault
-fault_found source e h l = go e.fault h l
+fault_found source e h l = go h
   where
-    go : (f : GrammarFault) → IsFaultAt source e.at f →
+    text : (f : GrammarFault) → IsTextFault source e.at f → IsFaultOf source f
+    text faults.TooLong h = h
+    text (faults.Unfinished line) h = (h.0, h.1.outcome)
+    text (faults.BadLiteral line) h = (h.0, h.1.outcome)
+    text (faults.Foreign line) h = (h.0, h.1.outcome)
+    text (faults.Syntax line) h = (h.0, h.1.outcome)
+    text faults.Memory h = tt
+    text _ h = absurd h
+
+    mistake : (f : GrammarFault) → IsMistakeAt source e.at f →
         IfSome (line_in f) (λ line. line ≡ line_of source e.at) → IsFaultOf source f
-    go faults.TooLong h l = h
-    go (faults.Unfinished line) h l = (h.0, h.1.outcome)
-    go (faults.BadLiteral line) h l = (h.0, h.1.outcome)
-    go (faults.Foreign line) h l = (h.0, h.1.outcome)
-    go (faults.Syntax line) h l = (h.0, h.1.outcome)
-    go (faults.TokenLeft line) h l = on_line source TokenLeft e.at line h l
-    go (faults.Undefined line) h l = on_line source Undefined e.at line h l
-    go (faults.TwicePrecedence line) h l = on_line source TwicePrecedence e.at line h l
-    go (faults.BadNumber line) h l = on_line source BadNumber e.at line h l
-    go (faults.BadStart line) h l = on_line source BadStart e.at line h l
-    go (faults.Unproductive line) h l = on_line source Unproductive e.at line h l
-    go (faults.BadPrec line) h l = on_line source BadPrec e.at line h l
-    go (faults.Limit line) h l = on_line source Limit e.at line h l
-    go faults.Memory h l = tt
+    mistake (faults.TokenLeft line) h l = on_line source TokenLeft e.at line h l
+    mistake (faults.Undefined line) h l = on_line source Undefined e.at line h l
+    mistake (faults.TwicePrecedence line) h l = on_line source TwicePrecedence e.at line h l
+    mistake (faults.BadNumber line) h l = on_line source BadNumber e.at line h l
+    mistake (faults.BadStart line) h l = on_line source BadStart e.at line h l
+    mistake (faults.Unproductive line) h l = on_line source Unproductive e.at line h l
+    mistake (faults.BadPrec line) h l = on_line source BadPrec e.at line h l
+    mistake (faults.Limit line) h l = on_line source Limit e.at line h l
+    mistake faults.Memory h l = tt
+    mistake _ h l = absurd h
+
+    go : IsFaultAt source e.at e.fault → IsFaultOf source e.fault
+    go (inl h) = text e.fault h
+    go (inr h) = mistake e.fault h l
 
 -- where the lexemes of a file can be read, only memory can run out
 pub memory_alone : (f : GrammarFault) (ls : List Lexeme) → IsOutcome f (Ok ls) → f ≡ faults.Memory
@@ -229,30 +238,30 @@ memory_alone (faults.Syntax line) ls h = cc
 memory_alone faults.Memory ls h = refl
 memory_alone _ ls h = absurd h
 
--- a fault of the text is one of the file
-pub text_is_fault : (source : List ℕ) (at : ℕ) (f : GrammarFault) → IsTextFault source at f →
-    IsFaultAt source at f
-text_is_fault source at faults.TooLong h = h
-text_is_fault source at (faults.Unfinished line) h = h
-text_is_fault source at (faults.BadLiteral line) h = h
-text_is_fault source at (faults.Foreign line) h = h
-text_is_fault source at (faults.Syntax line) h = h
-text_is_fault source at faults.Memory h = h
-text_is_fault source at _ h = absurd h
+-- ---- left sides that derive no list of tokens
 
--- and so is a mistake
-pub mistake_is_fault : (source : List ℕ) (at : ℕ) (f : GrammarFault) → IsMistakeAt source at f →
-    IsFaultAt source at f
-mistake_is_fault source at (faults.TokenLeft line) h = h
-mistake_is_fault source at (faults.Undefined line) h = h
-mistake_is_fault source at (faults.TwicePrecedence line) h = h
-mistake_is_fault source at (faults.BadNumber line) h = h
-mistake_is_fault source at (faults.BadStart line) h = h
-mistake_is_fault source at (faults.Unproductive line) h = h
-mistake_is_fault source at (faults.BadPrec line) h = h
-mistake_is_fault source at (faults.Limit line) h = h
-mistake_is_fault source at faults.Memory h = h
-mistake_is_fault source at _ h = absurd h
+-- where that is the fault, it stands at the first such left side
+pub barren_told : (source : List ℕ) (t : Tree) (ss : List Site) (f : PlacedFault) (line : ℕ) →
+    IsFaultIn source t ss f → f.fault ≡ faults.Unproductive line →
+    FirstAt (λ r. IsBarren t r) ss f.at
+barren_told source t ss f line (refused.Mistake what at, first, p, is) e =
+    go what p (ap (λ (x : PlacedFault). x.fault) (sym is) ∙ e)
+  where
+    go : (m : Mistake) → StandsAt t ss m at →
+        mistake_at m (line_of source at) ≡ faults.Unproductive line →
+        FirstAt (λ r. IsBarren t r) ss f.at
+    go Unproductive p e =
+        subst (FirstAt (λ r. IsBarren t r) ss) (sym (ap (λ (x : PlacedFault). x.at) is)) p
+    go TokenLeft p e = cc
+    go Undefined p e = cc
+    go TwicePrecedence p e = cc
+    go BadNumber p e = cc
+    go BadStart p e = cc
+    go BadPrec p e = cc
+    go Limit p e = cc
+barren_told source t ss f line (refused.Memory, first, p, is) e =
+    let w : faults.Memory ≡ faults.Unproductive line =
+    ap (λ (x : PlacedFault). x.fault) (sym is) ∙ e in cc
 
 -- ---- the other direction
 

@@ -92,12 +92,12 @@ end_first x y =
     ap (λ (ns : List Name). number_in ns (codes "$end"))
     (b.1 ∙ ap (λ (ns : List Name). ns ++ b.0) a.1)
 
-two_tokens : (x : List Name) → 1 < length (with_names (codes "$end" ∷ codes "error" ∷ []) x)
+pub two_tokens : (x : List Name) → 1 < length (with_names (codes "$end" ∷ codes "error" ∷ []) x)
 two_tokens x = let a = noted_length (codes "$end" ∷ codes "error" ∷ []) x in
     let two : 2 ≤ length (with_names (codes "$end" ∷ codes "error" ∷ []) x) = a in omega arith
 
 -- the names and literals that are tokens, as they appear
-abbrev appeared : Tree → List Name
+abbrev pub appeared : Tree → List Name
 appeared t = filter (is_among (token_names_of (listings t) (appearances t)))
     (map printed_name (appearances t))
 
@@ -107,7 +107,7 @@ end_number t = end_first (appeared t) (map rule_left (rules t))
 -- ---- left sides
 
 -- the first left side passes
-abbrev FirstLeft : (Name → Type 0) → Name → List RuleText → Type 0
+abbrev pub FirstLeft : (Name → Type 0) → Name → List RuleText → Type 0
 FirstLeft P n [] = Unit {0}
 FirstLeft P n (c ∷ cs) = P (or_else c.left n)
 
@@ -117,7 +117,7 @@ module _ (P : Name → Type 0) where
   or_passes None n h q = q
   or_passes (Some m) n h q = h.0
 
-  next_passes : (n : Name) (cs : List RuleText) → P n → AllByRecursion P (flat_map left_of_rule cs)
+  pub next_passes : (n : Name) (cs : List RuleText) → P n → AllByRecursion P (flat_map left_of_rule cs)
       →
       FirstLeft P n cs
   next_passes n [] q h = tt
@@ -129,7 +129,7 @@ module _ (P : Name → Type 0) where
   some_passes None n s h = absurd (false_true s)
   some_passes (Some m) n s h = h.0
 
-  top_passes : (cs : List RuleText) → BeginsWithName cs → AllByRecursion P (flat_map left_of_rule
+  pub top_passes : (cs : List RuleText) → BeginsWithName cs → AllByRecursion P (flat_map left_of_rule
       cs) →
       FirstLeft P [] cs
   top_passes [] s h = absurd s
@@ -227,13 +227,13 @@ module _ (P : Name → Type 0) where
 
 -- ---- symbols
 
-start_passes : (P : Name → Type 0) (is : List Identifier) (ls : List Name) → AllByRecursion
+pub start_passes : (P : Name → Type 0) (is : List Identifier) (ls : List Name) → AllByRecursion
     (λ i. P (printed_name i)) is → AllByRecursion P ls → 0 < length ls → P (start_symbol is ls)
 start_passes P (i ∷ is) ls a b h = a.0
 start_passes P [] (n ∷ ls) a b h = b.0
 start_passes P [] [] a b h = absurd (omega arith)
 
-some_lefts : (cs : List RuleText) → BeginsWithName cs → 0 < length (flat_map left_of_rule cs)
+pub some_lefts : (cs : List RuleText) → BeginsWithName cs → 0 < length (flat_map left_of_rule cs)
 some_lefts [] s = absurd s
 some_lefts (c ∷ cs) s = one c.left s
   where
@@ -241,7 +241,7 @@ some_lefts (c ∷ cs) s = one c.left s
     one None q = absurd (false_true q)
     one (Some n) q = omega arith
 
-nonterminal_parts : (a b : Bool) → cond a false b ≡ true → (a ≡ false) × (b ≡ true)
+pub nonterminal_parts : (a b : Bool) → cond a false b ≡ true → (a ≡ false) × (b ≡ true)
 nonterminal_parts true b h = absurd (false_true h)
 nonterminal_parts false b h = (refl, h)
 
@@ -266,7 +266,7 @@ uses_among t h = each_from_map (Among t) printed_name (uses t)
     (λ n c. bool_true (is_among (symbols t) n) (λ e. h (n, e, inl c))) (map printed_name (uses t))
     (itself (map printed_name (uses t))))
 
-starts_nonterminal : (t : Tree) → (Holds t BadStart → ⊥) → AllByRecursion
+pub starts_nonterminal : (t : Tree) → (Holds t BadStart → ⊥) → AllByRecursion
     (λ i. is_nonterminal t (printed_name i) ≡ true) (starts t)
 starts_nonterminal t h = each_weaker (Contains (starts t))
     (λ i. is_nonterminal t (printed_name i) ≡ true) (λ i c. bool_true (is_nonterminal t
@@ -323,7 +323,7 @@ pub record InRange (symbols : ℕ) (p : Production) : Type 0 where
   pub left : p.left < symbols
   pub body : All (λ s. s < symbols) p.body
 
-each_both : {A : Type 0} (P Q R : A → Type 0) → ((x : A) → P x → Q x → R x) → (xs : List A) →
+pub each_both : {A : Type 0} (P Q R : A → Type 0) → ((x : A) → P x → Q x → R x) → (xs : List A) →
     AllByRecursion P xs → AllByRecursion Q xs → AllByRecursion R xs
 each_both P Q R f [] a b = tt
 each_both P Q R f (x ∷ xs) a b = (f x a.0 b.0, each_both P Q R f xs a.1 b.1)
@@ -350,9 +350,9 @@ in_range t s u b r h = rule_each (symbols t) (rules t) (InRange (length (symbols
 -- ---- the whole
 
 -- a name that is neither that of the first left side nor that of the end
-record Ordinary (n : Name) : Type 0 where
-  accept : n ≡ codes "$accept" → ⊥
-  end : n ≡ codes "$end" → ⊥
+pub record Ordinary (n : Name) : Type 0 where
+  pub accept : n ≡ codes "$accept" → ⊥
+  pub end : n ≡ codes "$end" → ⊥
 
 plain_ordinary : (n : Name) → IsName n → Ordinary n
 plain_ordinary n h = record {
@@ -423,13 +423,17 @@ started_declared P block h = tt
 started_declared P (listing w tag es) h = tt
 started_declared P (types tag ns) h = tt
 
+-- what `%start` names is neither
+pub starts_ordinary : (t : Tree) → IsNamed t → AllByRecursion (λ i. Ordinary (printed_name i))
+    (starts t)
+starts_ordinary t n = each_piece (λ i. Ordinary (printed_name i)) (λ i. Ordinary (printed_name i))
+    identifiers_of starts_of (started_declared (λ i. Ordinary (printed_name i))) t.definitions
+    (each_left (λ i. Ordinary (printed_name i)) (flat_map identifiers_of t.definitions) (uses t)
+    (appear_ordinary t n))
+
 start_ordinary : (t : Tree) → IsTree t → IsNamed t → Ordinary (start_symbol (starts t) (lefts t))
 start_ordinary t s n = start_passes Ordinary (starts t) (lefts t)
-    (each_piece (λ i. Ordinary (printed_name i)) (λ i. Ordinary (printed_name i)) identifiers_of
-    starts_of
-    (started_declared (λ i. Ordinary (printed_name i))) t.definitions
-    (each_left (λ i. Ordinary (printed_name i)) (flat_map identifiers_of t.definitions) (uses t)
-    (appear_ordinary t n)))
+    (starts_ordinary t n)
     (each_weaker IsName Ordinary plain_ordinary (lefts t) n.lefts)
     (some_lefts t.rule_texts s.first)
 

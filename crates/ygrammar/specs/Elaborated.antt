@@ -1,12 +1,13 @@
 -- What elaboration gives: the grammar that a tree means, or its first mistake.
 use Rattle.std.specs.Prelude.{ℕ, ◌≡◌, ◌<◌, ◌≤◌, List, length, map, Option, Result, Ok, Err}
+use Rattle.std.specs.List.{AllByRecursion}
 use Rattle.ygrammar.specs.declared.elaboration.Named.{Named}
 use Rattle.youtline.specs.declared.mistake.Mistake.TheVariants.{TokenLeft, Undefined}
 use Rattle.youtline.specs.declared.mistake.Mistake.TheVariants.{TwicePrecedence}
 use Rattle.youtline.specs.declared.mistake.Mistake.TheVariants.{Unproductive}
 use Rattle.youtline.specs.declared.mistake.Refused.{Refused}
 use Rattle.youtline.specs.declared.mistake.Refused.TheVariants as refused
-use Rattle.youtline.specs.Elaboration.{bare_of, rules, symbols, token_precedences, tokens}
+use Rattle.youtline.specs.Elaboration.{bare_of, lefts, rules, symbols, token_precedences, tokens}
 use Rattle.ysymbols.specs.Forms.{Productive}
 use Rattle.ysymbols.specs.Grammar.{ContextFree, GrammarValue, RuleValue}
 use Rattle.ysymbols.specs.Marking.{AreIn}
@@ -16,6 +17,8 @@ use Rattle.ysymbols.specs.NameTexts.{texts}
 use Rattle.ygrammar.specs.Numbered.{rule_numbers}
 use Rattle.ygrammar.specs.OwnTable.{IsOwnTable}
 use Rattle.ygrammar.specs.Texts.{kept_text}
+use Rattle.youtline.specs.Places.{IsBarren}
+use Rattle.ysyntax.specs.Sites.{left_side}
 use Rattle.ysyntax.specs.Tree.{Tree}
 use Rattle.ysymbols.specs.WellFormed.{WellFormed}
 
@@ -49,6 +52,11 @@ Fruitful g (Ok v) = (s : ℕ) → g.tokens ≤ s → s < g.symbols → Productiv
 Fruitful g (Err (refused.Mistake what at)) = (what ≡ Unproductive)
     × ((s : ℕ) × (g.tokens ≤ s) × (s < g.symbols) × (Productive g s → ⊥))
 Fruitful g (Err refused.Memory) = Unit {0}
+
+-- where a nonterminal derives no list of tokens, so does a left side of the file
+abbrev pub ShowsBarren : Tree → Type 0
+ShowsBarren t = Holds t Unproductive →
+    AllByRecursion (λ n. IsBarren t (left_side n) → ⊥) (lefts t) → ⊥
 
 -- the rules of the tree by number
 abbrev pub AreNumbered : Tree → List RuleValue → Type 0

@@ -1,5 +1,5 @@
 -- The grammar of a file, or its fault (POSIX yacc, "Input Files" and "Extended Description").
-use Rattle.std.specs.Prelude.{ℕ, ◌≡◌, ◌+◌, ◌<◌, ◌≤◌, List, length, take, Option, Some, None}
+use Rattle.std.specs.Prelude.{ℕ, ◌≡◌, ◌+◌, ◌<◌, ◌≤◌, ◌⊎◌, List, length, take, Option, Some, None}
 use Rattle.std.specs.Prelude.{Result, Ok, Err, IfSome}
 use Rattle.ysyntax.specs.declared.fault.GrammarFault.{GrammarFault}
 use Rattle.ysyntax.specs.declared.fault.GrammarFault.TheVariants as faults
@@ -98,20 +98,7 @@ IsMistakeAt source at _ = ⊥
 
 -- the fault is one that the file has at this place, or memory ran out
 abbrev pub IsFaultAt : List ℕ → ℕ → GrammarFault → Type 0
-IsFaultAt source at faults.TooLong = longest_file < length source
-IsFaultAt source at (faults.Unfinished line) = IsRefusedAt source (refusal unfinished line) at
-IsFaultAt source at (faults.BadLiteral line) = IsRefusedAt source (refusal bad_literal line) at
-IsFaultAt source at (faults.Foreign line) = IsRefusedAt source (refusal foreign line) at
-IsFaultAt source at (faults.Syntax line) = IsRefusedAt source (refusal syntax line) at
-IsFaultAt source at (faults.TokenLeft line) = IsMistakenAt source TokenLeft at
-IsFaultAt source at (faults.Undefined line) = IsMistakenAt source Undefined at
-IsFaultAt source at (faults.TwicePrecedence line) = IsMistakenAt source TwicePrecedence at
-IsFaultAt source at (faults.BadNumber line) = IsMistakenAt source BadNumber at
-IsFaultAt source at (faults.BadStart line) = IsMistakenAt source BadStart at
-IsFaultAt source at (faults.Unproductive line) = IsMistakenAt source Unproductive at
-IsFaultAt source at (faults.BadPrec line) = IsMistakenAt source BadPrec at
-IsFaultAt source at (faults.Limit line) = IsMistakenAt source Limit at
-IsFaultAt source at faults.Memory = at ≡ 0
+IsFaultAt source at f = IsTextFault source at f ⊎ IsMistakeAt source at f
 
 -- the line that a fault names, where it names one
 abbrev pub line_in : GrammarFault → Option ℕ

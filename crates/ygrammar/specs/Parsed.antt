@@ -1,15 +1,18 @@
 -- A grammar file with a syntax as it is read: its lexemes, its tree, and the map of both.
-use Rattle.std.specs.Prelude.{ℕ, ◌≡◌, ◌<◌, ◌^◌, List, [], Result, Ok, Err}
+use Rattle.std.specs.Prelude.{ℕ, ◌≡◌, ◌<◌, ◌^◌, List, [], Result, Ok, Err, Some, slice_get}
 use Rattle.std.specs.List.{AllByRecursion}
 use Rattle.ysymbols.specs.Grammar.{GrammarValue}
+use Rattle.ysyntax.specs.declared.fault.GrammarFault.{GrammarFault}
+use Rattle.ysyntax.specs.declared.fault.GrammarFault.TheVariants as faults
 use Rattle.ysyntax.specs.declared.fault.PlacedFault.{PlacedFault}
 use Rattle.ysyntax.specs.Answers.{StandIn, views}
-use Rattle.ysyntax.specs.Sites.{AreSites, StandFrom}
+use Rattle.ysyntax.specs.Sites.{AreSites, Site, StandFrom}
 use Rattle.ysyntax.specs.SiteViews.{marks_in, tree_sites}
 use Rattle.ysyntax.specs.Tree.{Tree, yield}
 use Rattle.ysyntax.specs.TreeTexts.{RuleTextStands}
 use Rattle.ysyntax.specs.TreeViews.{tree_view}
 use Rattle.ysourcemap.specs.Map.{AreMarksOf}
+use Rattle.youtline.specs.Places.{AllAt, IsBarren}
 use Rattle.ygrammar.specs.declared.parsed.Parsed.{Parsed}
 use Rattle.ygrammar.specs.declared.reader.Mapped.{Mapped}
 use Rattle.ygrammar.specs.GrammarOf.{HasTree}
@@ -34,3 +37,20 @@ IsMapped source m = (t : Tree) × HasTree source t × AreMarksOf source t m.mark
 abbrev pub unmapped : Result Mapped PlacedFault → Result GrammarValue PlacedFault
 unmapped (Ok m) = m.grammar
 unmapped (Err e) = Err e
+
+-- where the fault is that a left side derives no list of tokens, the places of all such left sides
+-- in their order, and the fault stands at the first; else none
+abbrev pub AreBarren : Tree → List Site → GrammarFault → ℕ → List ℕ → Type 0
+AreBarren t ss (faults.Unproductive line) at ps =
+    AllAt (λ r. IsBarren t r) ss ps × (slice_get ps 0 ≡ Some at)
+AreBarren t ss _ at ps = ps ≡ []
+
+-- these places for an answer, none for a grammar
+abbrev pub AreBarrenOf : Tree → List Site → Result GrammarValue PlacedFault → List ℕ → Type 0
+AreBarrenOf t ss (Ok g) ps = ps ≡ []
+AreBarrenOf t ss (Err e) ps = AreBarren t ss e.fault e.at ps
+
+-- the places that are lent are these of the file by its tree
+abbrev pub LendsBarren : List ℕ → Mapped → Type 0
+LendsBarren source m = (t : Tree) × HasTree source t × ((ss : List Site) × AreSites source t ss
+    × AreBarrenOf t ss m.grammar m.barren.items)

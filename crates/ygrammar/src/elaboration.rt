@@ -1,28 +1,28 @@
 //! What a syntax tree means: the grammar, or the first mistake.
 
-ghost use Rattle.std.specs.Prelude.{◌≡◌, ◌<◌, ◌≤◌, ◌^◌, ◌++◌, ℕ, true, List, length, map, not};
-ghost use Rattle.std.specs.Prelude.{IfErr, IfOk, OnOk, slice_index_or, unwrap_or};
-ghost use Rattle.std.specs.List.{find, AllByRecursion};
+ghost use Rattle.std.specs.Prelude.{◌≡◌, ◌<◌, ◌≤◌, ◌^◌, ◌++◌, ℕ, List, length, map};
+ghost use Rattle.std.specs.Prelude.{IfErr, IfOk, OnOk};
+ghost use Rattle.std.specs.List.{AllByRecursion};
 ghost use Rattle.ysyntax.specs.Lexer.{SpellsSyntax};
 ghost use Rattle.ygrammar.specs.Elaborated.{AreNamed, AreNumbered, Decides, Elaborates, Fruitful};
-ghost use Rattle.ygrammar.specs.Elaborated.{GivesNamed, IsFirstRefused, IsReady};
+ghost use Rattle.ygrammar.specs.Elaborated.{GivesNamed, IsFirstRefused, IsReady, ShowsBarren};
 ghost use Rattle.youtline.specs.declared.mistake.Mistake.TheVariants.{BadStart, Undefined};
 ghost use Rattle.youtline.specs.Mistakes.{Holds};
 ghost use Rattle.youtline.specs.Elaboration.{symbols as symbols_of_tree, tokens as tokens_of_tree};
 ghost use Rattle.youtline.specs.Elaboration.{bare_of, tokens_of};
 ghost use Rattle.ysymbols.specs.Marking.{AreIn, numbered_grammar};
 ghost use Rattle.ysymbols.specs.NameTexts.{texts};
-ghost use Rattle.ysymbols.specs.Names.{number_in};
 ghost use Rattle.ygrammar.specs.Numbered.{inner_after};
 ghost use Rattle.ysyntax.specs.TreeTexts.{RuleTextStands};
 ghost use Rattle.ysyntax.specs.Tree.{IsTree, Tree as TreeOf, yield};
 ghost use Rattle.youtline.specs.Outline.{Outlines, listed_view};
-ghost use Rattle.youtline.specs.OutlineSites.{IsPlaced, Places};
+ghost use Rattle.youtline.specs.OutlineSites.{IsPlaced, OutlineSites, Places};
+ghost use Rattle.youtline.specs.Places.{AllAt, IsBarren};
 ghost use Rattle.youtline.specs.declared.mistake.Refused.TheVariants.{Memory};
+ghost use Rattle.ysyntax.specs.Sites.{Site};
 ghost use Rattle.ysyntax.specs.SiteViews.{tree_sites};
 ghost use Rattle.youtline.specs.Owned.{Clears};
-ghost use Rattle.ysyntax.specs.TreeViews.{name_view, occurrence_view, tree_view};
-ghost use Rattle.ysymbols.specs.Sources.{option_view};
+ghost use Rattle.ysyntax.specs.TreeViews.{occurrence_view, tree_view};
 
 use crate::holders::{OwnTable, own_table};
 use crate::numbers::numbers;
@@ -31,16 +31,17 @@ use crate::refusals::{
 };
 use crate::rules::{intern_nonterminals, kept_texts, number_rules};
 use crate::tokens::tokens;
+use crate::unmarked::{unmarked_left, unmarked_lefts};
 use std::alloc::{AllocError, Global};
 use youtline::given::precedences;
 use youtline::mistake::{Mistake, Refused};
 use youtline::outline::Outline;
-use ysymbols::names::{SymbolTable, number_in};
+use ysymbols::names::SymbolTable;
 use ysymbols::productive::productive;
 use ysymbols::reachable::reachable;
 use ysymbols::texts::Texts;
 use ysymbols::{Grammar, Precedence, Rule};
-use ysyntax::tree::{NameAt, Tree};
+use ysyntax::tree::Tree;
 
 /// The symbols by number, the tokens first, and what is given to the tokens.
 pub struct Named {
@@ -139,23 +140,6 @@ fn name_symbols(alloc: Global, tree: &Tree, outline: &Outline) -> Result<Named, 
     Ok(named)
 }
 
-/// The place of the first left side that isn't marked: how many bytes stand before it, 0 where all
-/// are marked.
-fn unmarked_left(lefts: &[NameAt], names: &SymbolTable, marks: &[bool]) -> usize
-    ensures { result
-        ≡ unwrap_or (option_view (λ l. l.at)
-        (find (λ l. not (slice_index_or marks.now (number_in (texts names.now) (name_view l))
-        true)) lefts.now)) 0 }
-{
-    for left in lefts {
-        let s = number_in(names, left.name);
-        if s < marks.len() && !marks[s] {
-            return left.at;
-        }
-    }
-    0
-}
-
 /// Refuses a nonterminal that derives no list of tokens; the first `tokens` symbols are tokens.
 fn refuse_unproductive(
     alloc: Global,
@@ -168,8 +152,9 @@ fn refuse_unproductive(
     requires within { tokens ≤ symbols }
     requires in_range { AreIn symbols rules.now }
     ensures fruitful { Fruitful (numbered_grammar tokens symbols rules.now) result }
-    ensures place { (t : TreeOf) → texts names.now ≡ symbols_of_tree t →
-        numbered_grammar tokens symbols rules.now ≡ bare_of t → Places outline.now t result }
+    ensures place { (t : TreeOf) → Outlines outline.now t → texts names.now ≡ symbols_of_tree t →
+        numbered_grammar tokens symbols rules.now ≡ bare_of t → ShowsBarren t →
+        Places outline.now t result }
 {
     let marks = productive(alloc, rules, tokens, symbols)?;
     for s in tokens..symbols {
@@ -220,8 +205,8 @@ fn refuse_rules(
     requires in_range { AreIn (length (texts named.now.names)) rules.now }
     ensures decides { (t : TreeOf) → Outlines outline.now t → AreNamed t named.now →
         AreNumbered t rules.now → (Holds t BadStart → ⊥) → Decides t result }
-    ensures place { (t : TreeOf) → AreNamed t named.now → AreNumbered t rules.now →
-        Places outline.now t result }
+    ensures place { (t : TreeOf) → Outlines outline.now t → AreNamed t named.now →
+        AreNumbered t rules.now → ShowsBarren t → Places outline.now t result }
 {
     let symbols = named.names.len();
     refuse_unproductive(alloc, outline, &named.names, rules, named.tokens, symbols)?;
@@ -236,6 +221,7 @@ fn sound_rules(
     outline: &Outline,
     named: &Named,
 ) -> Result<Vec<Rule>, Refused>
+    requires spelled { (bytes : List ℕ) × SpellsSyntax bytes (yield (tree_view tree.now)) }
     requires shaped { IsTree (tree_view tree.now) }
     requires counted { inner_after 1 (tree_view tree.now).rule_texts < 2 ^ 64 }
     requires outline { Outlines outline.now (tree_view tree.now) }
@@ -264,4 +250,42 @@ pub fn elaborate(alloc: Global, source: &[u8], tree: &Tree) -> Result<Grammar, R
     let rules = sound_rules(alloc, tree, &outline, &named)?;
     let texts = kept_texts(alloc, source, tree)?;
     Named::grammar_of(alloc, named, rules, texts)
+}
+
+/// The places of the left sides that derive no list of tokens, by the symbols of their tree.
+fn barren_among(
+    alloc: Global,
+    tree: &Tree,
+    outline: &Outline,
+    named: &Named,
+) -> Result<Vec<usize>, AllocError>
+    requires shaped { IsTree (tree_view tree.now) }
+    requires counted { inner_after 1 (tree_view tree.now).rule_texts < 2 ^ 64 }
+    requires defined { Holds (tree_view tree.now) Undefined → ⊥ }
+    requires started { Holds (tree_view tree.now) BadStart → ⊥ }
+    requires outline { Outlines outline.now (tree_view tree.now) }
+    requires names { texts named.now.names ≡ symbols_of_tree (tree_view tree.now) }
+    requires tokens { named.now.tokens ≡ length (tokens_of_tree (tree_view tree.now)) }
+    ensures { (ds rs : List Site) → OutlineSites outline.now ds rs →
+        IfOk result (λ v. AllAt (λ r. IsBarren (tree_view tree.now) r) (ds ++ rs) v.items) }
+{
+    let rules = number_rules(alloc, &named.names, &named.given, outline, &tree.rule_texts)?;
+    let marks = productive(alloc, &rules, named.tokens, named.names.len())?;
+    unmarked_lefts(alloc, &outline.lefts, &named.names, &marks)
+}
+
+/// The places of all left sides of a tree that derive no list of tokens, in their order, in near
+/// linear time. It fails only when memory runs out.
+pub fn barren_lefts(alloc: Global, tree: &Tree) -> Result<Vec<usize>, AllocError>
+    requires shaped { IsTree (tree_view tree.now) }
+    requires counted { inner_after 1 (tree_view tree.now).rule_texts < 2 ^ 64 }
+    requires defined { Holds (tree_view tree.now) Undefined → ⊥ }
+    requires started { Holds (tree_view tree.now) BadStart → ⊥ }
+    ensures { IfOk result (λ v. AllAt (λ r. IsBarren (tree_view tree.now) r) (tree_sites tree.now)
+        v.items) }
+{
+    let outline = Outline::new(alloc, tree)?;
+    let mut named = Named::of_tokens(alloc, &outline)?;
+    intern_nonterminals(alloc, &mut named.names, &tree.rule_texts)?;
+    barren_among(alloc, tree, &outline, &named)
 }

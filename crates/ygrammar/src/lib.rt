@@ -13,6 +13,7 @@ mod reader;
 mod refusals;
 mod rules;
 mod tokens;
+mod unmarked;
 
 pub use reader::{Mapped, read_grammar, read_mapped, read_placed};
 pub use ysourcemap::{Mark, Role};

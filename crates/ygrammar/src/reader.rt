@@ -1,21 +1,24 @@
 //! The reader of grammar files.
 
-ghost use Rattle.std.specs.Prelude.{◌<◌, ◌↔◌, IfErr, IfOk, IsErrOf, length};
+ghost use Rattle.std.specs.Prelude.{◌<◌, ◌↔◌, ℕ, List, IfErr, IfOk, IsErrOf, length};
 ghost use Rattle.ysymbols.specs.Grammar.{GrammarValue, longest_file};
 ghost use Rattle.ysyntax.specs.Answers.{StopsIn};
 ghost use Rattle.ysyntax.specs.Lexer.{Refusal};
 ghost use Rattle.ysyntax.specs.Placing.{too_long};
+ghost use Rattle.ysyntax.specs.SiteViews.{tree_sites};
+ghost use Rattle.ysyntax.specs.TreeViews.{tree_view};
+ghost use Rattle.ygrammar.specs.Faults.{IsFaultIn};
 ghost use Rattle.ygrammar.specs.GrammarOf.{AnswersGrammar, AnswersMistake, AnswersRefusal};
 ghost use Rattle.ygrammar.specs.GrammarOf.{GivesGrammar, HasLine, IsFaultAt, IsFaultOf, IsGrammarOf};
 ghost use Rattle.ygrammar.specs.GrammarOf.{IsMistakeAt, IsMistaken, IsRefused, IsTextFault};
 ghost use Rattle.ygrammar.specs.GrammarOf.{unplaced};
-ghost use Rattle.ygrammar.specs.Parsed.{IsMapped, IsParsed, unmapped};
+ghost use Rattle.ygrammar.specs.Parsed.{AreBarrenOf, IsMapped, IsParsed, LendsBarren, unmapped};
 ghost use Rattle.youtline.specs.declared.mistake.Mistake.{Mistake};
 
-use crate::elaboration::elaborate;
+use crate::elaboration::{barren_lefts, elaborate};
 use crate::lines::in_file;
 use crate::parsed::{Parsed, read_parsed};
-use std::alloc::Global;
+use std::alloc::{AllocError, Global};
 use ysourcemap::{Mark, map_of};
 use ysymbols::Grammar;
 use ysyntax::fault::{GrammarFault, PlacedFault};
@@ -30,6 +33,8 @@ fn meaning(alloc: Global, source: &[u8], parsed: &Parsed) -> Result<Grammar, Pla
         AnswersMistake source.now (unplaced result) m }
     ensures fault { IfErr result (λ e. IsMistakeAt source.now e.at e.fault) }
     ensures line { IfErr result (λ e. HasLine source.now e) }
+    ensures here { IfErr result (λ e. IsFaultIn source.now (tree_view parsed.now.tree)
+        (tree_sites parsed.now.tree) e) }
 {
     match elaborate(alloc, source, &parsed.tree) {
         Ok(grammar) => Ok(grammar),
@@ -71,11 +76,34 @@ pub struct Mapped<'a> {
     pub grammar: Result<Grammar, PlacedFault>,
     /// The source map: a mark for each lexeme, in their order.
     pub marks: Vec<Mark<'a>>,
+    /// Where the grammar is refused for `Unproductive`: how many bytes stand before each left side
+    /// that derives no list of tokens, in their order. Else nothing.
+    pub barren: Vec<usize>,
+}
+
+/// The places of all left sides that derive no list of tokens, where that is the fault.
+fn barren_of(
+    alloc: Global,
+    parsed: &Parsed,
+    grammar: &Result<Grammar, PlacedFault>,
+) -> Result<Vec<usize>, AllocError>
+    requires { (source : List ℕ) × IsParsed source parsed.now × IfErr grammar.now
+        (λ e. IsFaultIn source (tree_view parsed.now.tree) (tree_sites parsed.now.tree) e) }
+    ensures { IfOk result (λ v. AreBarrenOf (tree_view parsed.now.tree)
+        (tree_sites parsed.now.tree) grammar.now v.items) }
+{
+    let Err(placed) = grammar else {
+        return Ok(Vec::new(alloc));
+    };
+    match placed.fault {
+        GrammarFault::Unproductive { .. } => barren_lefts(alloc, &parsed.tree),
+        _ => Ok(Vec::new(alloc)),
+    }
 }
 
 /// The grammar of a grammar file, or the file's first fault and its place, as `read_placed` answers
-/// it; and where the file has a syntax, its source map. Without a map there is no syntax, or memory
-/// ran out.
+/// it; and where the file has a syntax, its source map, and all left sides at fault where those are
+/// that derive no list of tokens. Without a map there is no syntax, or memory ran out.
 pub fn read_mapped<'a>(alloc: Global, source: &'a [u8]) -> Result<Mapped<'a>, PlacedFault>
     // This comes before every other answer, and for no other file.
     ensures too_long { IsErrOf result too_long ↔ (longest_file < length source.now) }
@@ -96,6 +124,9 @@ pub fn read_mapped<'a>(alloc: Global, source: &'a [u8]) -> Result<Mapped<'a>, Pl
     ensures line { IfErr (unmapped result) (λ e. HasLine source.now e) }
     // The marks are the lexemes of the file, each at its place and with its role in the tree.
     ensures map { IfOk result (λ m. IsMapped source.now m) }
+    // Where left sides derive no list of tokens and that is the fault, it is that of the first of
+    // them, and the places are those of all.
+    ensures barren { IfOk result (λ m. LendsBarren source.now m) }
     // Without them the file has no syntax, and the answer says how far it was read.
     ensures text { IfErr result (λ e. IsTextFault source.now e.at e.fault) }
     ensures state { IfErr result (λ e. StopsIn source.now e.at e.fault e.state) }
@@ -103,7 +134,12 @@ pub fn read_mapped<'a>(alloc: Global, source: &'a [u8]) -> Result<Mapped<'a>, Pl
     let parsed = read_parsed(alloc, source)?;
     let marks = map_of(alloc, &parsed.lexemes, &parsed.tree)?;
     let grammar = meaning(alloc, source, &parsed);
-    Ok(Mapped { grammar, marks })
+    let barren = barren_of(alloc, &parsed, &grammar)?;
+    Ok(Mapped {
+        grammar,
+        marks,
+        barren,
+    })
 }
 
 /// The grammar of a grammar file, or the file's first fault (POSIX yacc, "Input Files" and

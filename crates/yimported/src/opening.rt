@@ -19,13 +19,17 @@ fn tables_over<'a>(alloc: Global, grammar: Grammar, lines: Lines) -> Result<Open
 
 /// The tables of the grammar that the bytes mean, and where things stand in them.
 pub fn open_bytes(alloc: Global, source: &[u8]) -> Result<Opened, Trouble<'_>> {
-    let Mapped { grammar, marks } = match read_mapped(alloc, source) {
+    let Mapped {
+        grammar,
+        marks,
+        barren,
+    } = match read_mapped(alloc, source) {
         Ok(mapped) => mapped,
-        Err(placed) => return Err(Trouble::of_fault(placed, Vec::new(alloc))),
+        Err(placed) => return Err(Trouble::of_text(alloc, placed)),
     };
     let grammar = match grammar {
         Ok(grammar) => grammar,
-        Err(placed) => return Err(Trouble::of_fault(placed, marks)),
+        Err(placed) => return Err(Trouble::of_fault(placed, marks, barren)),
     };
     match Lines::new(alloc, source, &marks, &grammar) {
         Ok(lines) => tables_over(alloc, grammar, lines),

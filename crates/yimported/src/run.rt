@@ -186,7 +186,7 @@ fn imported_from<E: Write>(
 ) -> io::Result<Result<Imported, u8>> {
     let Source { path, bytes } = source;
     if bytes.len() > LONGEST_FILE {
-        let trouble = Trouble::of_fault(TOO_LONG, Vec::new(alloc));
+        let trouble = Trouble::of_text(alloc, TOO_LONG);
         put_trouble(errors, alloc, path, bytes, &trouble)?;
         return Ok(Err(1));
     }

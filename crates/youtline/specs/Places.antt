@@ -1,7 +1,7 @@
 -- Where the mistakes of a file stand, by the sites of its tree.
 use Rattle.std.specs.Prelude.{ℕ, ◌≡◌, ◌≢◌, ◌<◌, ◌⊎◌, Bool, true, false, not, List, [], ◌∷◌, ◌++◌}
 use Rattle.std.specs.Prelude.{length, map, Option, Some, None, IsSome, slice_get, take}
-use Rattle.std.specs.List.{flat_map, last_or, AllByRecursion}
+use Rattle.std.specs.List.{flat_map, last_or}
 use Rattle.youtline.specs.declared.mistake.Mistake.{Mistake}
 use Rattle.youtline.specs.declared.mistake.Mistake.TheVariants.{TokenLeft, Undefined}
 use Rattle.youtline.specs.declared.mistake.Mistake.TheVariants.{TwicePrecedence, BadNumber}
@@ -27,6 +27,12 @@ select f ss = flat_map (λ s. each (λ x. (x, s.at) ∷ []) (f s.role)) ss
 abbrev pub FirstAt : (Role → Type 0) → List Site → ℕ → Type 0
 FirstAt P [] at = ⊥
 FirstAt P (s ∷ ss) at = (P s.role × (at ≡ s.at)) ⊎ ((P s.role → ⊥) × FirstAt P ss at)
+
+-- the places are those of all sites of such a role, in their order
+abbrev pub AllAt : (Role → Type 0) → List Site → List ℕ → Type 0
+AllAt P [] ps = ps ≡ []
+AllAt P (s ∷ ss) ps = (P s.role × ((rest : List ℕ) × (ps ≡ s.at ∷ rest) × AllAt P ss rest))
+    ⊎ ((P s.role → ⊥) × AllAt P ss ps)
 
 -- a left side or a name behind `%type` that is a token
 abbrev pub is_token_left : Tree → Role → Bool
@@ -119,9 +125,7 @@ StandsAt t ss TwicePrecedence at =
 StandsAt t ss BadNumber at = IsFirstBad t (map (λ p. p.1) (select digits_of ss)) at
     ⊎ (((i : ℕ) → GivesBad t i → ⊥) × (at ≡ 0))
 StandsAt t ss BadStart at = last_start ss ≡ Some at
--- the beginning of the file, if ever no left side is at fault
 StandsAt t ss Unproductive at = FirstAt (λ r. IsBarren t r) ss at
-    ⊎ (AllByRecursion (λ s. IsBarren t s.role → ⊥) ss × (at ≡ 0))
 StandsAt t ss BadPrec at = FirstAt (λ r. is_bad_prec t r ≡ true) ss at
 -- the beginning of the file
 StandsAt t ss Limit at = at ≡ 0

@@ -48,17 +48,17 @@ returns-clause-decides c = λ t o n vs start.
 
 pub returns-in_err-refuse_unproductive-clause-place :
     goal.returns-in_err-refuse_unproductive-clause-place
-returns-in_err-refuse_unproductive-clause-place c = λ t n vs ds rs out.
+returns-in_err-refuse_unproductive-clause-place c = λ t o n vs shows ds rs out.
     passes_place (IsPlaced t (ds ++ rs)) c.in_err-refuse_unproductive.field-0.0 _
-    c.from_residual.ensures.1 (c.in_err-refuse_unproductive.ensures.place t n.names
+    c.from_residual.ensures.1 (c.in_err-refuse_unproductive.ensures.place t o n.names
     (bare_same t _ _ _ n.tokens_first (symbols_counted t _ _ n c.len-symbols.ensures.len) vs)
-    ds rs out)
+    shows ds rs out)
 
 pub returns-in_err-refuse_prec-clause-place : goal.returns-in_err-refuse_prec-clause-place
-returns-in_err-refuse_prec-clause-place c = λ t n vs ds rs out.
+returns-in_err-refuse_prec-clause-place c = λ t o n vs shows ds rs out.
     passes_place (IsPlaced t (ds ++ rs)) c.in_err-refuse_prec.field-0.0 _
     c.from_residual-in_err-refuse_prec.ensures.1
     (c.in_err-refuse_prec.ensures.place t ds rs out n.names n.tokens_first)
 
 pub returns-clause-place : goal.returns-clause-place
-returns-clause-place c = λ t n vs ds rs out. c.refuse_limit.ensures.place t (ds ++ rs)
+returns-clause-place c = λ t o n vs shows ds rs out. c.refuse_limit.ensures.place t (ds ++ rs)

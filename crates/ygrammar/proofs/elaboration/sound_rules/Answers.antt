@@ -10,6 +10,8 @@ use Rattle.youtline.specs.OutlineSites.{IsPlaced}
 use Rattle.ygrammar.proofs.PlaceSteps.{passes_place}
 use Rattle.ygrammar.proofs.ElaborationSteps.{passes, refuses}
 use Rattle.ygrammar.proofs.MeaningSteps.{are_in, numbered_rules}
+use Rattle.ygrammar.proofs.SomeBarren.{some_barren}
+use Rattle.ygrammar.proofs.SymbolNames.{spelled_names}
 use Rattle.ygrammar.proofs.Wellness.{tokens_within}
 use Rattle.ygrammar.proofs.elaboration.sound_rules.Goals.{In_ok-rules}
 use Rattle.ygrammar.proofs.elaboration.sound_rules.Goals as goal
@@ -75,5 +77,7 @@ returns-in_err-refuse_rules-clause-place c = λ ds rs out.
     let here = (goal.at.returns-in_err-refuse_rules-clause-place c).In_ok-rules in
     passes_place (IsPlaced (tree_view c.args.tree.now) (ds ++ rs)) c.in_err-refuse_rules.field-0.0 _
     c.from_residual-in_err-refuse_rules.ensures.1
-    (c.in_err-refuse_rules.ensures.place (tree_view c.args.tree.now) c.requires.named
-    (c.deref-3.ensures.value ∙ numbered here) ds rs out)
+    (c.in_err-refuse_rules.ensures.place (tree_view c.args.tree.now) c.requires.outline
+    c.requires.named (c.deref-3.ensures.value ∙ numbered here) (some_barren _ c.requires.shaped
+    (spelled_names c.requires.spelled.0 _ _ c.requires.spelled.1 refl) (no_bad_start here))
+    ds rs out)

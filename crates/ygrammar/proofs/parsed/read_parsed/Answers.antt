@@ -13,7 +13,7 @@ use Rattle.ylexemes.specs.Views.{lexeme_view}
 use Rattle.ysyntax.specs.Tree.{yield}
 use Rattle.ysyntax.specs.TreeViews.{tree_view}
 use Rattle.ygrammar.proofs.InnerSteps.{few_inner}
-use Rattle.ygrammar.proofs.ReaderSteps.{has_tree, memory_alone, ok_err, read_no_fault, same_refusal}
+use Rattle.ygrammar.proofs.ReaderSteps.{has_tree, ok_err, read_no_fault, same_refusal}
 use Rattle.ygrammar.proofs.ReaderSteps.{same_tree, sites_of, text_fault}
 use Rattle.ygrammar.proofs.parsed.read_parsed.Goals as goal
 

@@ -1,4 +1,4 @@
-use Rattle.std.proofs.Common.{sym, subst}
+use Rattle.std.proofs.Common.{subst}
 use Rattle.youtline.specs.Mistakes.{IsFirst, order}
 use Rattle.ysyntax.specs.SiteViews.{tree_sites}
 use Rattle.ysyntax.specs.TreeViews.{tree_view}

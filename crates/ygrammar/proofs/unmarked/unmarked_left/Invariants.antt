@@ -3,7 +3,7 @@ use Rattle.std.specs.List.{find}
 use Rattle.ysymbols.specs.NameTexts.{texts}
 use Rattle.ysymbols.specs.Names.{number_in}
 use Rattle.ysyntax.specs.TreeViews.{name_view}
-use Rattle.ygrammar.proofs.elaboration.unmarked_left.Given as goal
+use Rattle.ygrammar.proofs.unmarked.unmarked_left.Given as goal
 
 abbrev pub invariant-loop-left : goal.invariant-loop-left
 invariant-loop-left l = find

@@ -1,0 +1,7 @@
+%token A
+%%
+s : A ;
+t : t A ;
+u : A t ;
+t : u A ;
+u : u ;
