@@ -83,17 +83,21 @@ fn read<'a>(
     given: Given<'_>,
     source: &'a [u8],
 ) -> Result<(Grammar, Vec<Mark<'a>>), Ending> {
-    let Mapped { grammar, marks } = match read_mapped(rt.alloc(), source) {
+    let Mapped {
+        grammar,
+        marks,
+        barren,
+    } = match read_mapped(rt.alloc(), source) {
         Ok(mapped) => mapped,
         Err(placed) => {
-            let trouble = Unopened::of_fault(placed, Vec::new(rt.alloc()));
+            let trouble = Unopened::of_text(rt.alloc(), placed);
             return Err(refused(rt, given, source, &trouble));
         }
     };
     match grammar {
         Ok(grammar) => Ok((grammar, marks)),
         Err(placed) => {
-            let trouble = Unopened::of_fault(placed, marks);
+            let trouble = Unopened::of_fault(placed, marks, barren);
             Err(refused(rt, given, source, &trouble))
         }
     }
