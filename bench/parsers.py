@@ -1,14 +1,16 @@
 #!/usr/bin/env python3
 """Times parsers that `ycc`, byacc and bison make of the same grammars, over the same tokens.
 
-    parsers.py YCC [FILE..]
+    parsers.py YACC YCC [FILE..]
 
 For a calculator, the grammar of C of `c.y`, queries 275 of `grammar.py`, and each FILE: nanoseconds a
 token of each parser, by -O2, without a lexer and without actions, the least of many runs in turn;
-and the bytes of its tables. The tokens are sentences drawn at random, some 30,000 tokens each. Files
-have no kept texts but empty ones. Needs bison, byacc, a C compiler (CC, or cc) and nm.
+and the bytes of its tables. The 30,000 tokens are drawn at random among those that can come, mostly
+so that the stack stays low; so they begin a sentence, and all parsers find an error after the last.
+Files have no kept texts but empty ones. Needs bison, byacc, a C compiler (CC, or cc) and nm.
 """
 import os
+import random
 import re
 import subprocess
 import sys
@@ -17,6 +19,9 @@ from pathlib import Path
 
 HERE = Path(__file__).resolve().parent
 TOKENS, TURNS, LOOPS = 30_000, 25, 9
+NONE = None, None
+# A stack of more states grows no further than it must.
+DEEP = 60
 
 CALCULATOR = """%token NUM
 %left '+' '-'
@@ -52,7 +57,8 @@ yylex (void)
 static void
 yyerror (const char *what)
 {
-  puts (what);
+  if (what[0] == 'm' || next != input + sizeof input / sizeof *input)
+    exit (1);
 }
 
 int
@@ -67,8 +73,7 @@ main (void)
       double took;
       next = input;
       clock_gettime (CLOCK_MONOTONIC, &from);
-      if (yyparse ())
-        return 1;
+      yyparse ();
       clock_gettime (CLOCK_MONOTONIC, &to);
       took = 1e9 * (double) (to.tv_sec - from.tv_sec) + (double) (to.tv_nsec - from.tv_nsec);
       if (took < least)
@@ -95,10 +100,66 @@ def bare(text):
     return declarations, re.sub(r"(?<!')\{\s*\}(?!')", "", rules)
 
 
-def sentence(file, seed):
-    """The tokens of a sentence, as C has them."""
-    words = run(sys.executable, str(HERE / "tokens.py"), file, str(TOKENS), str(seed)).split()
-    return "".join(f"{word},\n" for word in words)
+class Machine:
+    """A table, and the states of a stack."""
+
+    def __init__(self, table):
+        words = [line.split(" ", 4) for line in table.read_text().split("\n")]
+        symbols = [it for it in words if len(it) > 3 and it[1] in ("t", "n")]
+        self.names = [it[3] for it in symbols if it[1] == "t"]
+        first = next(at for at, it in enumerate(words) if it[0] == "rules") + 1
+        rules = words[first : first + int(words[first - 1][1])]
+        self.rules = [(int(left), int(length)) for _, left, length in rules]
+        self.defaults, self.actions, self.gotos = {}, {}, {}
+        for it in words[first + len(rules) :]:
+            if it[0] == "d":
+                self.defaults[int(it[1])] = int(it[2])
+            elif it[0] == "a" and it[3] != "acc":
+                self.actions[int(it[1]), int(it[2])] = it[3], int(it[4])
+            elif it[0] == "g":
+                self.gotos[int(it[1]), int(it[2])] = int(it[3])
+        self.stack = [0]
+
+    def after(self, token):
+        """How many states stay below, and which stand on them, where the token is shifted."""
+        kept, above = len(self.stack), []
+        for _ in range(1_000):
+            state = above[-1] if above else self.stack[kept - 1]
+            rule = self.defaults.get(state)
+            kind, number = ("r", rule) if rule is not None else self.actions.get((state, token), NONE)
+            if kind == "s":
+                return kept, [*above, number]
+            if kind != "r":
+                return None
+            left, length = self.rules[number]
+            gone = min(length, len(above))
+            above = above[: len(above) - gone]
+            kept -= length - gone
+            below = above[-1] if above else self.stack[kept - 1]
+            above.append(self.gotos[below, left])
+        return None
+
+    def draw(self, rng):
+        """A token that can come: of three, one, or mostly the one that leaves the lowest stack."""
+        order, found = rng.sample(range(2, len(self.names)), len(self.names) - 2), []
+        for token in order:
+            after = self.after(token)
+            if after:
+                found.append((after[0] + len(after[1]), token, after))
+            if len(found) == 3:
+                break
+        is_deep = len(self.stack) > DEEP or rng.random() < 0.6
+        _, token, (kept, above) = min(found) if is_deep else rng.choice(found)
+        self.stack[kept:] = above
+        return self.names[token]
+
+
+def tokens_of(yacc, folder, text):
+    """The tokens, as C has them."""
+    Path(f"{folder}/plain.y").write_text("%%".join(bare(text)))
+    run(yacc, "-b", "plain", "plain.y", cwd=folder)
+    machine, rng = Machine(Path(f"{folder}/plain.tab")), random.Random(1)
+    return "".join(f"{machine.draw(rng)},\n" for _ in range(TOKENS))
 
 
 def bytes_of(folder, name):
@@ -120,22 +181,10 @@ def build(folder, ycc, text, tokens):
         run(os.environ.get("CC", "cc"), "-O2", "-w", f"{name}.c", "-o", name, cwd=folder)
 
 
-def built(folder, ycc, text):
-    """Parsers of a grammar over tokens that all of them take."""
-    plain = f"{folder}/plain.y"
-    Path(plain).write_text("%%".join(bare(text)))
-    for seed in range(1, 40):
-        build(folder, ycc, text, sentence(plain, seed))
-        ended = [subprocess.run([f"{folder}/{it}"], stdout=subprocess.DEVNULL) for it in generators(ycc)]
-        if not any(it.returncode for it in ended):
-            return
-    sys.exit("parsers.py: no sentence that the parsers take was drawn")
-
-
-def measured(ycc, text):
+def measured(yacc, ycc, text):
     """The least time a token of each parser, and the bytes of its tables."""
     with tempfile.TemporaryDirectory() as folder:
-        built(folder, ycc, text)
+        build(folder, ycc, text, tokens_of(yacc, folder, text))
         least = dict.fromkeys(generators(ycc), float("inf"))
         for _ in range(TURNS):
             for name in least:
@@ -143,15 +192,15 @@ def measured(ycc, text):
         return {name: (time, bytes_of(folder, name)) for name, time in least.items()}
 
 
-def main(ycc, *files):
-    ycc = str(Path(ycc).resolve())
+def main(yacc, ycc, *files):
+    yacc, ycc = (str(Path(it).resolve()) for it in (yacc, ycc))
     queries = run(sys.executable, str(HERE / "grammar.py"), "queries", "275")
     grammars = {"calculator": CALCULATOR, "C": (HERE / "c.y").read_text(), "queries 275": queries}
     grammars |= {Path(file).stem: Path(file).read_text() for file in files}
     print("| grammar | ycc | byacc | bison | of the faster | bytes: ycc | byacc | bison | of bison's |")
     print("|---|---|---|---|---|---|---|---|---|")
     for name, text in grammars.items():
-        made = measured(ycc, text)
+        made = measured(yacc, ycc, text)
         (ours, size), (byacc, b), (bison, c) = (made[it] for it in ("ycc", "byacc", "bison"))
         ratio, share = ours / min(byacc, bison), size / c
         print(
