@@ -49,7 +49,7 @@ extern int YYPARSE_DECL();
 /// the stack, and the variables.
 pub const WORDS: &str = r##"
 #define YYUNDEF 2147483647
-#define YYTRANSLATE(c) ((c) >= 0 && (c) <= YYMAXTOKEN ? (int) yytranslate[c] : YYNTOKENS)
+#define YYTRANSLATE(c) ((unsigned) (c) <= YYMAXTOKEN ? (int) yytranslate[c] : YYNTOKENS)
 
 #define yyerrok (yyerrflag = 0)
 #define yyclearin (yychar = YYEMPTY)
@@ -118,6 +118,7 @@ YYPARSE_DECL()
   YYSTYPE yyvsa[YYINITDEPTH];
   yystate_number *yyss = yyssa;
   yystate_number *yyssp = yyssa;
+  yystate_number *yysslast = yyssa + YYINITDEPTH - 1;
   YYSTYPE *yyvs = yyvsa;
   YYSTYPE *yyvsp = yyvsa;
   size_t yydepth = YYINITDEPTH;
@@ -157,15 +158,23 @@ yyloop:
                 yyname[YYTRANSLATE (yychar)]));
     }
   yytoken = YYTRANSLATE (yychar);
-  if (yytoken == YYNTOKENS)
-    goto yyerrlab;
-  if (yytoken == YYERRTOKEN)
+  if ((unsigned) yytoken - 2u >= YYNTOKENS - 2u && yytoken != 0)
     {
+      if (yytoken != YYERRTOKEN)
+        goto yyerrlab;
       /* the lexer has told of the error itself */
       yychar = YYUNDEF;
       goto yyrecover;
     }
-  YYCELL (yyn, yystate, yytoken);
+  yyn = yyrow[yystate] + yytoken;
+  if (yycheck[yyn] != yytoken)
+    {
+      if (!YYMEMBER (yystate, yytoken))
+        goto yyerrlab;
+      yyn = yyusual[yystate];
+      goto yyreduce;
+    }
+  yyn = yyvalue[yyn];
   if (yyn >= YYNSTATES)
     {
       yyn -= YYNSTATES;
@@ -186,7 +195,7 @@ yyloop:
 
 yypush:
   *++yyssp = (yystate_number) yystate;
-  if (yyssp == yyss + yydepth - 1)
+  if (yyssp == yysslast)
     goto yygrow;
   goto yyloop;
 
@@ -243,6 +252,7 @@ yygrow:
     yyss = yynewss;
     yyvs = yynewvs;
     yyssp = yyss + yyused - 1;
+    yysslast = yyss + yydepth - 1;
     yyvsp = yyvs + yyused - 1;
   }
   goto yyloop;
@@ -282,8 +292,8 @@ yyrecover:
   yyerrflag = 3;
   for (;;)
     {
-      YYCELL (yyn, yystate, YYERRTOKEN);
-      if (yyn < YYNSTATES)
+      yyn = yyrow[yystate] + YYERRTOKEN;
+      if (yycheck[yyn] == YYERRTOKEN && (yyn = yyvalue[yyn]) < YYNSTATES)
         break;
       if (yyssp == yyss)
         {

@@ -7,16 +7,12 @@ use yexplain::reads::{body_of, left_of, name_of};
 use ylalr::{ERROR, token_count};
 use ysymbols::Grammar;
 
-/// How the arrays are read, as the definitions of `ycode` have it: what is done in a state at a
-/// token, and the state after a reduction.
+/// How the arrays are read beside the numbers of cells, as the definitions of `ycode` have it:
+/// whether a state makes its usual reduction at a token, and the state after a reduction.
 pub const READING: &str = r##"
-/* What is done in a state at a token. A number below YYNSTATES is the state that the token is
-   shifted to; above that is a rule, rule 0 for the acceptance and rule YYNRULES for an error. */
-#define YYCELL(n, state, token) \
-  ((n) = yyrow[state] + (token), \
-   (n) = yycheck[n] == (token) ? yyvalue[n] \
-   : (yybits[yyset[state] * YYSETSIZE + ((token) >> 3)] >> ((token) & 7)) & 1 \
-   ? YYNSTATES + yyusual[state] : YYNSTATES + YYNRULES)
+/* Whether a state that has no number of its own for a token makes its usual reduction. */
+#define YYMEMBER(state, token) \
+  ((yybits[yyset[state] * YYSETSIZE + ((token) >> 3)] >> ((token) & 7)) & 1)
 /* The state that comes after a state and a nonterminal. */
 #define YYGOTO(n, state, left) \
   ((n) = yygrow[state] + (left), \
