@@ -74,7 +74,8 @@ bits_pushed bytes b k f len old new t l = go (less_or_not t (8 * k))
         (get_or_append_left bytes (b ∷ []) 0 (0 + t / 8) (omega (arith, parts, len, h))) ∙ old t h
     go (inr h) =
         let at : 0 + t / 8 ≡ length bytes = omega (arith, parts, low, len, h, l) in
-        let seam : slice_index (bytes ++ b ∷ []) (0 + t / 8) ≡ b = ap (slice_index (bytes ++ b ∷ []))
+        let seam : slice_index (bytes ++ b ∷ []) (0 + t / 8) ≡ b =
+        ap (slice_index (bytes ++ b ∷ []))
         at ∙ get_or-append_seam bytes b [] 0 in
         let place : 8 * k + t % 8 ≡ t = omega (arith, parts, at, len) in
         ap (λ w. nat_eq (bit_at w (t % 8)) 1) seam ∙ new (t % 8) low ∙ ap f place
@@ -83,7 +84,8 @@ bits_pushed bytes b k f len old new t l = go (less_or_not t (8 * k))
 pub bits_behind : (bytes set : List ℕ) (at t : ℕ) → length bytes ≡ at →
     bit_of (bytes ++ set) at t ≡ bit_of set 0 t
 bits_behind bytes set at t e = ap (λ w. nat_eq (bit_at w (t % 8)) 1)
-    (ap (λ i. slice_index (bytes ++ set) (i + t / 8)) (sym e) ∙ get_or-append-add bytes set (t / 8) 0
+    (ap (λ i. slice_index (bytes ++ set) (i + t / 8)) (sym e)
+    ∙ get_or-append-add bytes set (t / 8) 0
     ∙ ap (slice_index set) zero)
   where
     zero : t / 8 ≡ 0 + t / 8

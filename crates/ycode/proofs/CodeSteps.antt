@@ -1,5 +1,6 @@
 -- The arrays of a parser, of what they were made.
-use Rattle.std.proofs.Common.{ℕ, ◌≡◌, ◌+◌, ◌*◌, ◌<◌, ◌≤◌, ◌⊎◌, inl, inr, List, length, ap, ◌∙◌, Bool, true}
+use Rattle.std.proofs.Common.{ℕ, ◌≡◌, ◌+◌, ◌*◌, ◌<◌, ◌≤◌, ◌⊎◌, inl, inr, List, length, ap, ◌∙◌}
+use Rattle.std.proofs.Common.{Bool, true}
 use Rattle.std.proofs.Common.{false, sym, subst, nat_lt, if◌then◌else◌}
 use Rattle.std.proofs.Common.{arith, slice_index}
 use Rattle.std.proofs.lemmas.List.{get_or_past}
@@ -14,7 +15,8 @@ use Rattle.ycode.specs.declared.comb.Comb.{Comb}
 use Rattle.ycode.specs.declared.entry.Entry.{Entry}
 use Rattle.ycode.specs.declared.sizes.Sizes.{Sizes}
 use Rattle.ycode.specs.Bits.{bit_of, SetsValue, IsSets}
-use Rattle.ycode.specs.Cells.{states_of, tokens_of, symbols_of, rules_of, AreSizes, AreCells, AreSets}
+use Rattle.ycode.specs.Cells.{states_of, tokens_of, symbols_of, rules_of, AreSizes, AreCells}
+use Rattle.ycode.specs.Cells.{AreSets}
 use Rattle.ycode.specs.Cells.{Fits}
 use Rattle.ycode.specs.Combs.{held, HasRows, AreAtMost}
 use Rattle.ycode.specs.Reading.{done_by, is_explicit, read_action}
@@ -23,7 +25,8 @@ use Rattle.ycode.specs.Symbols.{StandsBefore}
 use Rattle.ycode.specs.Targets.{AreTargets}
 use Rattle.ycode.specs.Translation.{TranslatesTo, translated}
 use Rattle.ycode.proofs.ReadSteps.{places_small, action_is, refusal_is, default_is, action_inside}
-use Rattle.ycode.proofs.ReadSteps.{bits_inside, usual_most, sets_most, goto_is, goto_inside, none_is, goto_in_range}
+use Rattle.ycode.proofs.ReadSteps.{bits_inside, usual_most, sets_most, goto_is, goto_inside}
+use Rattle.ycode.proofs.ReadSteps.{none_is, goto_in_range}
 use Rattle.ycode.proofs.CellSteps.{goto_below}
 use Rattle.ycode.proofs.PackingSteps.{less_or_not}
 use Rattle.ycode.proofs.SymbolSteps.{symbol_is, symbol_small}
@@ -35,7 +38,8 @@ module _ (v : TablesValue) (z : Sizes) (a : AreSizes v z) (usual sets : List ℕ
     (t : AreTargets v (states_of v) tu trows) (h2 : HasRows trows (length tu) c2)
     (symbols lengths lefts numbers : List ℕ) (hs : HasStates v.built)
     (sl : length symbols ≡ states_of v) (se : (q : ℕ) → q < states_of v →
-    StandsBefore v.built.grammar.bare (state_of v.built q) (slice_index symbols q)) (n r k : ℕ) (en : n ≡ states_of v) (er : r ≡ rules_of v)
+    StandsBefore v.built.grammar.bare (state_of v.built q) (slice_index symbols q)) (n r k : ℕ)
+    (en : n ≡ states_of v) (er : r ≡ rules_of v)
     (ek : k ≡ tokens_of v) where
   abbrev the_code : Code
   the_code = record {
@@ -171,7 +175,8 @@ module _ (v : TablesValue) (z : Sizes) (a : AreSizes v z) (usual sets : List ℕ
     targets = t.below;
     symbols = λ x. go x (less_or_not x (length symbols));
     rules = (
-      by_rule lengths 255 ll (λ x l. (let e = le x l in let f = w.short x l in omega (arith, e, f))),
+      by_rule lengths 255 ll (λ x l. (let e = le x l in let f = w.short x l in
+          omega (arith, e, f))),
       by_rule lefts (symbols_of v) fl (λ x l. (let e = fe x l in let f = w.left x l in
           omega (arith, e, f))),
     );

@@ -44,7 +44,8 @@ module _ (v : TablesValue) (z : Sizes) (a : AreSizes v z) where
       go (inr l) = let e = get_or_past c.rows q 0 l in omega (arith, e)
 
   module _ (usual sets : List ℕ) (s : SetsValue) (rows : List (List Entry)) (c : Comb)
-      (cells : AreCells v (states_of v) usual sets s rows) (h : HasRows rows (tokens_of v + 1) c) where
+      (cells : AreCells v (states_of v) usual sets s rows)
+      (h : HasRows rows (tokens_of v + 1) c) where
     -- the number of a cell
     held_is : (q t : ℕ) → q < states_of v → t < tokens_of v →
         held c q t ≡ wanted_at v (slice_index usual q) q t
@@ -54,7 +55,8 @@ module _ (v : TablesValue) (z : Sizes) (a : AreSizes v z) where
     -- what is no token
     pub none_is : (q : ℕ) → q < states_of v → default_at v q ≡ None →
         done_by (states_of v) (rules_of v) (slice_index usual q)
-        (bit_of s.bytes (slice_index sets q * s.span) (tokens_of v)) (held c q (tokens_of v)) ≡ Error
+        (bit_of s.bytes (slice_index sets q * s.span) (tokens_of v)) (held c q (tokens_of v)) ≡
+        Error
     none_is q l d =
         ap (done_by (states_of v) (rules_of v) (slice_index usual q)
         (bit_of s.bytes (slice_index sets q * s.span) (tokens_of v)))

@@ -1,6 +1,7 @@
 -- One symbol stands before all dots of a state.
 use Rattle.std.proofs.Common.{ℕ, suc, ◌≡◌, ◌+◌, ◌-◌, ◌<◌, ◌≤◌, ◌⊎◌, inl, inr, List, [], ◌∷◌, ◌++◌}
-use Rattle.std.proofs.Common.{length, drop, get_or, slice_index, refl, sym, ap, ◌∙◌, subst, arith, Some}
+use Rattle.std.proofs.Common.{length, drop, get_or, slice_index, refl, sym, ap, ◌∙◌, subst, arith}
+use Rattle.std.proofs.Common.{Some}
 use Rattle.std.specs.List.{All, Contains}
 use Rattle.std.proofs.Math.Seq.{drop-cons}
 use Rattle.std.proofs.lemmas.List.Elements.{All-head, All-drop, Contains-get_or}
@@ -8,7 +9,7 @@ use Rattle.ysymbols.specs.Grammar.{ContextFree, body_of}
 use Rattle.ysymbols.specs.WellFormed.{WellFormed}
 use Rattle.ylalr.specs.declared.items.Item.{Item}
 use Rattle.ylalr.specs.Collection.{Collection, HasStates, IsGoto, bare_of, state_of, goto_in}
-use Rattle.ylalr.specs.Items.{Valid, start, closure, move, InCore}
+use Rattle.ylalr.specs.Items.{Valid, start, closure, move, IsCore}
 use Rattle.ycode.specs.Symbols.{StandsBefore}
 use Rattle.ycode.proofs.EntrySteps.{below_or_last}
 use Rattle.ycode.proofs.CellLoops.{before, last}
@@ -46,7 +47,8 @@ symbol_is m q x n s h l b e w =
     pre : List ℕ
     pre = (h.core q l).0
 
-    go : (n < length m.states) × ((i : Item) → (Contains (state_of m n) i → InCore (bare_of m) (x ∷ pre) i) × (InCore (bare_of m) (x ∷ pre) i → Contains (state_of m n) i)) → StandsBefore (bare_of m) (state_of m n) s → s ≡ x
+    go : (n < length m.states) × IsCore (bare_of m) (x ∷ pre) (state_of m n) →
+        StandsBefore (bare_of m) (state_of m n) s → s ≡ x
     go to (inl (i, c, (d, dot, (y, rest)))) =
         let valid = (to.1 i).0 c in
         let over = moved_over (bare_of m) x pre d valid.1 refl dot in
@@ -66,7 +68,8 @@ symbol_is m q x n s h l b e w =
 pub symbol_small : (g : ContextFree) (k : List Item) (s : ℕ) → WellFormed g →
     ((i : Item) → Contains k i → i.rule < length g.rules) → StandsBefore g k s → s ≤ g.symbols
 symbol_small g k s w range (inl (i, c, (d, dot, (y, rest)))) =
-    let all = All-drop (λ (x : ℕ). x < g.symbols) d (body_of g i.rule) (w.body i.rule (range i c)) in
+    let all = All-drop (λ (x : ℕ). x < g.symbols) d (body_of g i.rule)
+    (w.body i.rule (range i c)) in
     let first : s < g.symbols = All-head (λ (x : ℕ). x < g.symbols) s y
     (subst (All (λ (x : ℕ). x < g.symbols)) rest all) in
     omega (arith, first)

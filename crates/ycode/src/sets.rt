@@ -1,6 +1,7 @@
 //! Sets of tokens as bits, each set once.
 
-ghost use Rattle.std.specs.Prelude.{ℕ, ◌≡◌, ◌+◌, ◌*◌, ◌/◌, ◌<◌, ◌≤◌, ◌^◌, ◌++◌, [], true, false, length};
+ghost use Rattle.std.specs.Prelude.{ℕ, ◌≡◌, ◌+◌, ◌*◌, ◌/◌, ◌<◌, ◌≤◌, ◌^◌, ◌++◌, [], true, false};
+ghost use Rattle.std.specs.Prelude.{length};
 ghost use Rattle.std.specs.Prelude.{All, IfOk, OnOk, IfSome, replicate, nat_eq, slice_index_or};
 ghost use Rattle.std.specs.Int.{bit_at};
 ghost use Rattle.ysymbols.specs.Grammar.{most_symbols};

@@ -1,4 +1,5 @@
-use Rattle.std.proofs.Common.{ℕ, ◌≡◌, ◌+◌, ◌-◌, ◌<◌, ◌∙◌, List, length, sym, ap, subst, arith, slice_index}
+use Rattle.std.proofs.Common.{ℕ, ◌≡◌, ◌+◌, ◌-◌, ◌<◌, ◌∙◌, List, length, sym, ap, subst, arith}
+use Rattle.std.proofs.Common.{slice_index}
 use Rattle.ysymbols.specs.Grammar.{GrammarValue, body_of, left_of}
 use Rattle.ysymbols.specs.WellFormed.{WellFormed}
 use Rattle.ylalr.specs.Collection.{Collection, HasStates}
@@ -83,14 +84,17 @@ returns c =
     ) record {
       reads = reads v z a cells.usual.items cells.sets.items cells.known cells.rows.items c1 ce be i
           h1 tg.usual.items tg.rows.items c2 t h2 symbols lengths lefts numbers hs
-          c.in_ok-symbols_of.ensures.len c.in_ok-symbols_of.ensures.symbols z.states z.rules z.tokens
+          c.in_ok-symbols_of.ensures.len c.in_ok-symbols_of.ensures.symbols z.states z.rules
+          z.tokens
           a.states a.rules a.tokens le fe tr;
       inside = inside v z a cells.usual.items cells.sets.items cells.known cells.rows.items c1 ce be
           i h1 tg.usual.items tg.rows.items c2 t h2 symbols lengths lefts numbers hs
-          c.in_ok-symbols_of.ensures.len c.in_ok-symbols_of.ensures.symbols z.states z.rules z.tokens
+          c.in_ok-symbols_of.ensures.len c.in_ok-symbols_of.ensures.symbols z.states z.rules
+          z.tokens
           a.states a.rules a.tokens w ll fl fe ns;
       small = small v z a cells.usual.items cells.sets.items cells.known cells.rows.items c1 ce be
           i h1 tg.usual.items tg.rows.items c2 t h2 symbols lengths lefts numbers hs
-          c.in_ok-symbols_of.ensures.len c.in_ok-symbols_of.ensures.symbols z.states z.rules z.tokens
+          c.in_ok-symbols_of.ensures.len c.in_ok-symbols_of.ensures.symbols z.states z.rules
+          z.tokens
           a.states a.rules a.tokens w ll fl le fe v1 v2 ns;
     }
