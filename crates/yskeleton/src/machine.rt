@@ -158,10 +158,8 @@ yyloop:
                 yyname[YYTRANSLATE (yychar)]));
     }
   yytoken = YYTRANSLATE (yychar);
-  if ((unsigned) yytoken - 2u >= YYNTOKENS - 2u && yytoken != 0)
+  if (yytoken == YYERRTOKEN)
     {
-      if (yytoken != YYERRTOKEN)
-        goto yyerrlab;
       /* the lexer has told of the error itself */
       yychar = YYUNDEF;
       goto yyrecover;

@@ -70,7 +70,7 @@ impl<'a> Text<'a> {
 
     /// The line that comes next, counted from 1.
     fn next_line(&mut self) -> usize {
-        let more = newlines(self.bytes.get(self.counted..).unwrap_or(&[]));
+        let more = self.bytes.get(self.counted..).map_or(0, |added| newlines(added));
         self.lines = self.lines.saturating_add(more);
         self.counted = self.bytes.len();
         self.lines.saturating_add(1)
