@@ -165,9 +165,12 @@ impl Kept<'_> {
         scene: Scene<'_>,
     ) -> Result<(), Trouble> {
         let mut at = 0;
-        while at < self.text.len() {
-            let taken = self.put_piece(out, tags, scene, at)?;
-            at = at.saturating_add(taken.max(1));
+        // each piece has a byte at least
+        for _ in self.text {
+            if at >= self.text.len() {
+                break;
+            }
+            at = at.saturating_add(self.put_piece(out, tags, scene, at)?);
         }
         Ok(())
     }

@@ -21,6 +21,11 @@ impl Path<'_> {
     }
 }
 
+/// How many newlines come after a place.
+fn newlines_from(bytes: &[u8], from: usize) -> usize {
+    bytes.get(from..).map_or(0, |rest| newlines(rest))
+}
+
 /// A text, its own path, and whether it says where its parts are from.
 pub struct Text<'a> {
     bytes: Vec<u8>,
@@ -70,7 +75,7 @@ impl<'a> Text<'a> {
 
     /// The line that comes next, counted from 1.
     fn next_line(&mut self) -> usize {
-        let more = self.bytes.get(self.counted..).map_or(0, |added| newlines(added));
+        let more = newlines_from(&self.bytes, self.counted);
         self.lines = self.lines.saturating_add(more);
         self.counted = self.bytes.len();
         self.lines.saturating_add(1)
