@@ -15,7 +15,7 @@ use Rattle.ycode.specs.declared.sizes.Sizes.{Sizes}
 use Rattle.ycode.specs.Bits.{SetsValue, HasSet, bit_of}
 use Rattle.ycode.specs.Entries.{entry_at, EntriesAtMost}
 
--- the number of states of tables, of tokens, and of rules
+-- how many states, tokens, rules and symbols tables have
 abbrev pub states_of : TablesValue → ℕ
 states_of v = length v.built.states
 
