@@ -8,21 +8,23 @@
 # make debug      refuses the allocations of twelve sessions and eight commands of ydebug in turn, gives it 100,000 random command lines over random grammars, and shows its screens at a terminal, which needs tmux
 # make page-test  steps through the pages of every example in a browser without a window, which apt-get installs where it is missing, and compares them with ystep; keeps pictures in screenshots/
 # make compare    compares the programs that make build left with plain machines in Python, on grammars drawn at random, for a minute, verdicts with sessions over every scenario, texts with a lexer in Python, and what hints and warnings on conflicts say with changed grammars, for a minute each; FILES="a.y b.y" adds these, cut off and spoiled, with a second reader
+# make parsers    compares the steps of parsers that ycc makes with those of ystep, over scenarios and 2,000 grammars at random, and builds the calculator of examples/calculator-c in every way; some minutes
 # make drivers    builds the drivers in C and Python, and compares their steps with those of ystep, over scenarios, at random and by tables that are wrong
-# make install    copies programs, manual pages, drivers and books below PREFIX (/usr/local), and with DESTDIR below that; make build comes first
+# make install    copies programs, manual pages, drivers and books below PREFIX (/usr/local), and with DESTDIR below that; make build comes first. YACC_LINK=1 makes bin/yacc a link to ycc, for builds that call it so; YACC_TABLES=1 installs the program of this name that writes tables and no C
 # make uninstall  takes the same files away
 # make dist       packs what git has of this state into bin/; VERSION=1.0 names it
 # make imports    imports grammars drawn at random, for a minute, and those of some source packages of Debian, by the programs that make build left, and compares their tables with bison's; FILES="a.y b.y" or PACKAGES="bash" names others. It takes bison and a network
 # make hostile    runs both programs, proved, between devices that fail and on files and streams that are no one's friends, and ydebug on full disks and pipes that nobody reads
 # make edits      tries every wrong body that the prover must refuse, also those that the gate leaves out; some 40 minutes
 # make test       the gate: every proof from nothing, the wrong bodies in must-fail, the tests, the stored runs, the scenarios, make hostile, make refuse over three examples, the allocations of every session
-.PHONY: demo examples scenarios accept build bench refuse debug page-test compare drivers install uninstall dist imports hostile edits test
+.PHONY: demo examples scenarios accept build bench refuse debug page-test compare parsers drivers install uninstall dist imports hostile edits test
 
 programs := $(foreach file,$(wildcard crates/*/src/main.rt),$(notdir $(file:/src/main.rt=)))
 run := python3 scenarios/run.py $(foreach name,$(programs),$(name)=crates/$(name)/out/$(name))
 both := --at scenarios --at examples --at docs/TUTORIAL.md --at docs/FAULTS.md
 hostile := python3 scripts/hostile.py $(foreach name,yacc ystep ydebug,$(name)=crates/$(name)/out/$(name))
 refuse := python3 scripts/refuse.py $(foreach name,$(programs),$(name)=crates/$(name)/out/$(name))
+parsers := python3 scripts/parsers.py $(foreach name,yacc ystep ycc,$(name)=crates/$(name)/out/$(name))
 allocations := python3 scripts/allocations.py ystep=crates/ystep/out/ystep
 
 PREFIX ?= /usr/local
@@ -66,6 +68,9 @@ compare:
 	@python3 compare/hints.py bin/ydebug
 	@$(if $(FILES),python3 compare/faults.py bin/ystep $(FILES),true)
 
+parsers: build
+	@python3 scripts/parsers.py --drawn 2000 yacc=bin/yacc ystep=bin/ystep ycc=bin/ycc
+
 bin/libydriver.a: drivers/c/ydriver.c drivers/c/ydriver.h
 	@mkdir -p bin
 	@$(CC) -std=c99 -O2 -Wall -Wextra -c -o bin/ydriver.o $<
@@ -81,10 +86,10 @@ bin/ydriver.pc: drivers/c/ydriver.pc.in Makefile
 
 # What is copied: a mode, a file, and where it goes.
 define copies
-755 bin/yacc bin/yacc
+755 bin/ycc bin/ycc
 755 bin/ystep bin/ystep
 755 bin/ydebug bin/ydebug
-644 man/yacc.1 share/man/man1/yacc.1
+644 man/ycc.1 share/man/man1/ycc.1
 644 man/ystep.1 share/man/man1/ystep.1
 644 man/ydebug.1 share/man/man1/ydebug.1
 644 drivers/c/ydriver.h include/ydriver.h
@@ -101,13 +106,22 @@ define copies
 endef
 export copies
 
+# The program that writes tables and no C is installed by its name, `yacc`, where that is asked for.
+define tables
+755 bin/yacc bin/yacc
+644 man/yacc.1 share/man/man1/yacc.1
+endef
+export tables
+
 install: bin/libydriver.a bin/ydriver.pc
-	@for name in yacc ystep ydebug; do test -x bin/$$name || { echo "no bin/$$name: make build"; exit 1; }; done
-	@echo "$$copies" | while read -r mode from to; do \
+	@test -z "$(YACC_TABLES)" || test -z "$(YACC_LINK)" || { echo "YACC_TABLES and YACC_LINK both want bin/yacc"; exit 1; }
+	@for name in ycc yacc ystep ydebug; do test -x bin/$$name || { echo "no bin/$$name: make build"; exit 1; }; done
+	@{ echo "$$copies"; test -z "$(YACC_TABLES)" || echo "$$tables"; } | while read -r mode from to; do \
 	  mkdir -p "$(there)/$${to%/*}" && install -m "$$mode" "$$from" "$(there)/$$to" || exit 1; done
+	@test -z "$(YACC_LINK)" || ln -sf ycc "$(there)/bin/yacc"
 
 uninstall:
-	@echo "$$copies" | while read -r mode from to; do rm -f "$(there)/$$to" || exit 1; done
+	@{ echo "$$copies"; echo "$$tables"; } | while read -r mode from to; do rm -f "$(there)/$$to" || exit 1; done
 	@for folder in $(shared) $(books); do rmdir "$(there)/$$folder" 2> /dev/null || true; done
 
 dist:
@@ -124,7 +138,7 @@ edits:
 	@python3 scripts/edits.py
 
 test:
-	@python3 scripts/gate.py scripts/rings.py scripts/faults.py scenarios/kinds.py examples/trace.py -- $(run) $(both) -- $(hostile) -- $(refuse) --few -- $(allocations)
+	@python3 scripts/gate.py scripts/rings.py scripts/faults.py scenarios/kinds.py examples/trace.py -- $(run) $(both) -- $(hostile) -- $(refuse) --few -- $(allocations) -- $(parsers)
 
 # The names of scenarios stand behind `accept` as goals of their own.
 ifeq (accept,$(firstword $(MAKECMDGOALS)))

@@ -3,7 +3,7 @@
 set -eu
 top=$(cd "$(dirname "$0")/.." && pwd)
 mkdir -p "$top/bin"
-for name in yacc ystep ydebug verdicts; do
+for name in yacc ycc ystep ydebug verdicts; do
   cd "$top/crates/$name"
   case $name in
     verdicts) set -- data/one.y data/one.tokens ;;

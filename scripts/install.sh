@@ -10,12 +10,17 @@ trap 'rm -rf "$room"' EXIT
 there=$room/root/opt/y
 fail() { echo "install.sh: $1"; exit 1; }
 
-make -s -C "$top" install DESTDIR="$room/root" PREFIX=/opt/y
+make -s -C "$top" install DESTDIR="$room/root" PREFIX=/opt/y YACC_LINK=1
 cd "$room"
+
+test "$(readlink "$there/bin/yacc")" = ycc || fail "no link"
+cp "$top/examples/calculator-c/"* .  2> /dev/null || true
+make -s YACC="$there/bin/yacc" check || fail "other sums by ycc"
+make -s -C "$top" install DESTDIR="$room/root" PREFIX=/opt/y YACC_TABLES=1
 
 "$there/bin/yacc" "$top/examples/one-rule/grammar.y"
 cmp y.tab "$top/examples/one-rule/tables/left/y.tab" || fail "another table"
-for page in yacc ystep ydebug; do
+for page in yacc ycc ystep ydebug; do
   "$there/bin/$page" --help > /dev/null || fail "no help of $page"
   test -s "$there/share/man/man1/$page.1" || fail "no page of $page"
 done

@@ -74,7 +74,8 @@ bits_pushed bytes b k f len old new t l = go (less_or_not t (8 * k))
         (get_or_append_left bytes (b ∷ []) 0 (0 + t / 8) (omega (arith, parts, len, h))) ∙ old t h
     go (inr h) =
         let at : 0 + t / 8 ≡ length bytes = omega (arith, parts, low, len, h, l) in
-        let seam : slice_index (bytes ++ b ∷ []) (0 + t / 8) ≡ b = ap (slice_index (bytes ++ b ∷ []))
+        let seam : slice_index (bytes ++ b ∷ []) (0 + t / 8) ≡ b =
+        ap (slice_index (bytes ++ b ∷ []))
         at ∙ get_or-append_seam bytes b [] 0 in
         let place : 8 * k + t % 8 ≡ t = omega (arith, parts, at, len) in
         ap (λ w. nat_eq (bit_at w (t % 8)) 1) seam ∙ new (t % 8) low ∙ ap f place
@@ -83,7 +84,8 @@ bits_pushed bytes b k f len old new t l = go (less_or_not t (8 * k))
 pub bits_behind : (bytes set : List ℕ) (at t : ℕ) → length bytes ≡ at →
     bit_of (bytes ++ set) at t ≡ bit_of set 0 t
 bits_behind bytes set at t e = ap (λ w. nat_eq (bit_at w (t % 8)) 1)
-    (ap (λ i. slice_index (bytes ++ set) (i + t / 8)) (sym e) ∙ get_or-append-add bytes set (t / 8) 0
+    (ap (λ i. slice_index (bytes ++ set) (i + t / 8)) (sym e)
+    ∙ get_or-append-add bytes set (t / 8) 0
     ∙ ap (slice_index set) zero)
   where
     zero : t / 8 ≡ 0 + t / 8
@@ -119,13 +121,13 @@ appended_keeps old new set s e b c = record {
 -- and is there
 pub appended_set : (old new : SetsValue) (set : List ℕ) (members : List Bool) → IsSets old →
     new.span ≡ old.span → new.bytes ≡ old.bytes ++ set → new.count ≡ old.count + 1 →
-    length members ≤ 8 * old.span → AreBits set 0 members → HasSet new old.count members
-appended_set old new set members s e b c w a = record {
+    AreBits set 0 old.span members → HasSet new old.count members
+appended_set old new set members s e b c a = record {
   number = omega (arith, c);
-  wide = subst (λ x. length members ≤ 8 * x) (sym e) w;
   bits = λ t l. ap (λ x. bit_of new.bytes (old.count * x) t) e
       ∙ (ap (λ bytes. bit_of bytes (old.count * old.span) t) b
-      ∙ (bits_behind old.bytes set (old.count * old.span) t s.sized ∙ a t l));
+      ∙ (bits_behind old.bytes set (old.count * old.span) t s.sized
+      ∙ a t (subst (λ x. t < 8 * x) e l)));
 }
 
 -- a set stays
@@ -133,9 +135,8 @@ pub kept_set : (old new : SetsValue) (n : ℕ) (members : List Bool) → KeepsSe
     HasSet old n members → HasSet new n members
 kept_set old new n members k h = record {
   number = let a = h.number in let c = k.count in omega (arith, a, c);
-  wide = subst (λ w. length members ≤ 8 * w) (sym k.span) h.wide;
-  bits = λ t l. (let z : t < 8 * old.span = (let w = h.wide in omega (arith, w, l)) in
-      k.bits n t h.number z ∙ h.bits t l);
+  bits = λ t l. (let z : t < 8 * old.span = subst (λ x. t < 8 * x) k.span l in
+      k.bits n t h.number z ∙ h.bits t z);
 }
 
 pub keeps_sets : (s : SetsValue) → KeepsSets s s

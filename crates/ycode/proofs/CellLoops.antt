@@ -3,7 +3,7 @@ use Rattle.std.proofs.Common.{ℕ, ◌≡◌, ◌+◌, ◌*◌, ◌<◌, ◌⊎�
 use Rattle.std.proofs.Common.{List, [], ◌∷◌, ◌++◌, length, get_or, sym, ap, ◌∙◌, subst}
 use Rattle.std.proofs.Common.{arith, Some, None, is_some, slice_index, length-append, replicate}
 use Rattle.std.proofs.Math.Seq.{get_or-append_seam}
-use Rattle.std.proofs.lemmas.List.{get_or_append_left, get_or-replicate, length-replicate}
+use Rattle.std.proofs.lemmas.List.{get_or_append_left, get_or-replicate, get_or_past}
 use Rattle.ylalr.specs.Collection.{goto_in}
 use Rattle.ytables.specs.Cell.{is_reduce}
 use Rattle.ytables.specs.Tables.{TablesValue, action_at, default_at}
@@ -35,30 +35,36 @@ pub set_zero : (v : TablesValue) (q r s : ℕ) (sets : SetsValue) → AreSets v 
     default_at v q ≡ Some s → IsSetOf v q r sets 0
 set_zero v q r s sets a u e = record {
   number = a.all.number;
-  members = λ t l. (let z : t < length (replicate (tokens_of v) true) =
-      (let n = length-replicate (tokens_of v) true in omega (arith, n, l)) in
-      a.all.bits t z ∙ (get_or-replicate (tokens_of v) t true false l ∙ sym (ap (is_reduce r)
-      (consistent v q t s e) ∙ same_yes r s (u.default s e))));
+  members = λ t l. (let z : t < 8 * sets.span = (let w = a.span in omega (arith, w, l)) in
+      a.all.bits t z ∙ (get_or-replicate (tokens_of v + 1) t true false (omega (arith, l)) ∙ sym
+      (ap (is_reduce r) (consistent v q t s e) ∙ same_yes r s (u.default s e))));
   zero = sym (ap is_some e);
+  none = λ h. (let f : None ≡ Some s = sym h ∙ e in cc);
 }
 
 -- the set of another
-pub set_other : (v : TablesValue) (q r n : ℕ) (sets : SetsValue) (members : List Bool) →
-    default_at v q ≡ None → 0 < n → HasSet sets n members → length members ≡ tokens_of v →
+pub set_other : (v : TablesValue) (q r n : ℕ) (old sets : SetsValue) (members : List Bool) →
+    AreSets v q old → KeepsSets old sets → default_at v q ≡ None → 0 < n →
+    HasSet sets n members → length members ≡ tokens_of v →
     ((t : ℕ) → t < tokens_of v → get_or members t false ≡ is_reduce r (action_at v q t)) →
     IsSetOf v q r sets n
-set_other v q r n sets members e p h len same = record {
+set_other v q r n old sets members a k e p h len same = record {
   number = h.number;
-  members = λ t l. h.bits t (omega (arith, len, l)) ∙ same t l;
+  members = λ t l. h.bits t (low t (omega (arith, l))) ∙ same t l;
   zero = same_no n 0 (λ z. omega (arith, z, p)) ∙ sym (ap is_some e);
+  none = λ d. h.bits (tokens_of v) (low (tokens_of v) (omega arith)) ∙
+      get_or_past members (tokens_of v) false (omega (arith, len));
 }
+  where
+    low : (t : ℕ) → t < tokens_of v + 1 → t < 8 * sets.span
+    low t l = let w = a.span in let x = k.span in omega (arith, w, x, l)
 
 -- the sets with one more
 pub sets_more : (v : TablesValue) (q : ℕ) (s t : SetsValue) → AreSets v q s → KeepsSets s t →
     AreSets v (q + 1) t
 sets_more v q s t a k = record {
   span = k.span ∙ a.span;
-  all = kept_set s t 0 (replicate (tokens_of v) true) k a.all;
+  all = kept_set s t 0 (replicate (tokens_of v + 1) true) k a.all;
   few = let x = a.few in let y = k.longer in omega (arith, x, y);
 }
 
@@ -69,6 +75,8 @@ kept_set_of v q n r m s t a k h = record {
   members = λ i l. (let z : i < 8 * s.span = (let e = a.span in omega (arith, e, l)) in
       k.bits m i h.number z ∙ h.members i l);
   zero = h.zero;
+  none = λ d. (let z : tokens_of v < 8 * s.span = (let e = a.span in omega (arith, e)) in
+      k.bits m (tokens_of v) h.number z ∙ h.none d);
 }
 
 -- the cells with those of one more state
@@ -76,16 +84,23 @@ pub cells_more : (v : TablesValue) (n : ℕ) (usual sets : List ℕ) (s t : Sets
     (rows : List (List Entry)) (r m : ℕ) (es : List Entry) → AreCells v n usual sets s rows →
     AreSets v n s → KeepsSets s t → IsUsual v n r → IsSetOf v n r t m →
     ((i : ℕ) → i < tokens_of v → entry_at es i ≡ wanted_at v r n i) →
-    EntriesAtMost (states_of v + rules_of v) es →
+    entry_at es (tokens_of v) ≡ None → EntriesAtMost (states_of v + rules_of v) es →
     AreCells v (n + 1) (usual ++ r ∷ []) (sets ++ m ∷ []) t (rows ++ es ∷ [])
-cells_more v n usual sets s t rows r m es c a k u so en mo = record {
+cells_more v n usual sets s t rows r m es c a k u so en nothing mo = record {
   counts = (longer usual r n c.counts.0, longer sets m n c.counts.1, longer rows es n c.counts.2);
   rules = λ q l. rules q (below_or_last q n l);
   members = λ q l. members q (below_or_last q n l);
   entries = λ q i l h. entries q i h (below_or_last q n l);
+  none = λ q l. none q (below_or_last q n l);
   most = λ q l. most q (below_or_last q n l);
 }
   where
+    none : (q : ℕ) → (q < n) ⊎ (q ≡ n) → entry_at (get_or (rows ++ es ∷ []) q []) (tokens_of v) ≡
+        None
+    none q (inl l) = ap (λ x. entry_at x (tokens_of v)) (before rows es [] n q c.counts.2 l) ∙
+        c.none q l
+    none q (inr e) = ap (λ x. entry_at x (tokens_of v)) (last rows es [] n q c.counts.2 e) ∙ nothing
+
     rules : (q : ℕ) → (q < n) ⊎ (q ≡ n) → IsUsual v q (slice_index (usual ++ r ∷ []) q)
     rules q (inl l) = subst (IsUsual v q) (sym (before usual r 0 n q c.counts.0 l)) (c.rules q l)
     rules q (inr e) = subst (IsUsual v q) (sym (last usual r 0 n q c.counts.0 e))

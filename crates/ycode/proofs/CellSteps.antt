@@ -1,5 +1,6 @@
 -- Actions as numbers, and back.
-use Rattle.std.proofs.Common.{ℕ, suc, ◌≡◌, ◌≢◌, ◌+◌, ◌-◌, ◌<◌, ◌≤◌, ◌⊎◌, inl, inr, Bool, true, false, not}
+use Rattle.std.proofs.Common.{ℕ, suc, ◌≡◌, ◌≢◌, ◌+◌, ◌-◌, ◌<◌, ◌≤◌, ◌⊎◌, inl, inr, Bool, true}
+use Rattle.std.proofs.Common.{false, not}
 use Rattle.std.proofs.Common.{◌&&◌, nat_eq, nat_lt, List, [], ◌∷◌, length, refl, sym, ap}
 use Rattle.std.proofs.Common.{◌∙◌, subst, arith, Option, Some, None, is_some, if◌then◌else◌}
 use Rattle.std.proofs.Common.{unwrap_or}
@@ -103,10 +104,12 @@ action_fits v tables allow s w u g q t h l = go (action_at v q t) refl
     go : (a : Action) → action_at v q t ≡ a → Fits (states_of v) (rules_of v) a
     go (Shift n) e =
         let same = (tables u g).rows.action q t h l in
-        let cell = by_cell (default_in v.built u q) (cell_in v.built u q t).action n (sym same ∙ e) in
+        let cell = by_cell (default_in v.built u q) (cell_in v.built u q t).action n
+        (sym same ∙ e) in
         let from = shift_from (class_in v.built.grammar t) (shift_by v.built.grammar.bare
         (goto_in v.built q) (state_of v.built q) t)
-        (rules_by (λ i. u.looks q i t) (ready_in v.built.grammar.bare (state_of v.built q))) n cell in
+        (rules_by (λ i. u.looks q i t) (ready_in v.built.grammar.bare (state_of v.built q))) n
+        cell in
         let to = goto_from v.built.grammar.bare (goto_in v.built q) (state_of v.built q) t n from in
         goto_below v.built q t n s h (let z = w.within in omega (arith, z, l)) to
     go (Reduce r) e =

@@ -1,31 +1,45 @@
 -- The arrays of a parser, of what they were made.
 use Rattle.std.proofs.Common.{ℕ, ◌≡◌, ◌+◌, ◌*◌, ◌<◌, ◌≤◌, ◌⊎◌, inl, inr, List, length, ap, ◌∙◌}
+use Rattle.std.proofs.Common.{Bool, true}
+use Rattle.std.proofs.Common.{false, sym, subst, nat_lt, if◌then◌else◌}
 use Rattle.std.proofs.Common.{arith, slice_index}
 use Rattle.std.proofs.lemmas.List.{get_or_past}
 use Rattle.std.proofs.lemmas.List.Elements.{All-get_or}
 use Rattle.ysymbols.specs.Grammar.{left_of, body_of}
 use Rattle.ysymbols.specs.WellFormed.{WellFormed}
-use Rattle.ytables.specs.Tables.{TablesValue}
+use Rattle.ylalr.specs.declared.items.Item.{Item}
+use Rattle.ylalr.specs.Collection.{HasStates, state_of}
+use Rattle.ytables.specs.Tables.{TablesValue, action_at}
 use Rattle.ycode.specs.declared.code.Code.{Code}
 use Rattle.ycode.specs.declared.comb.Comb.{Comb}
 use Rattle.ycode.specs.declared.entry.Entry.{Entry}
 use Rattle.ycode.specs.declared.sizes.Sizes.{Sizes}
 use Rattle.ycode.specs.Bits.{bit_of, SetsValue, IsSets}
-use Rattle.ycode.specs.Cells.{states_of, tokens_of, symbols_of, rules_of, AreSizes, AreCells, AreSets}
+use Rattle.ycode.specs.Cells.{states_of, tokens_of, symbols_of, rules_of, AreSizes, AreCells}
+use Rattle.ycode.specs.Cells.{AreSets}
+use Rattle.ycode.specs.Cells.{Fits}
 use Rattle.ycode.specs.Combs.{held, HasRows, AreAtMost}
-use Rattle.ycode.specs.Reading.{done_by, is_explicit}
+use Rattle.ycode.specs.Reading.{done_by, is_explicit, read_action}
 use Rattle.ycode.specs.Reads.{Reads, IsInside, AreSmall}
+use Rattle.ycode.specs.Symbols.{StandsBefore}
 use Rattle.ycode.specs.Targets.{AreTargets}
 use Rattle.ycode.specs.Translation.{TranslatesTo, translated}
 use Rattle.ycode.proofs.ReadSteps.{places_small, action_is, refusal_is, default_is, action_inside}
 use Rattle.ycode.proofs.ReadSteps.{bits_inside, usual_most, sets_most, goto_is, goto_inside}
+use Rattle.ycode.proofs.ReadSteps.{none_is, goto_in_range}
+use Rattle.ycode.proofs.CellSteps.{goto_below}
+use Rattle.ycode.proofs.PackingSteps.{less_or_not}
+use Rattle.ycode.proofs.SymbolSteps.{symbol_is, symbol_small}
 
 module _ (v : TablesValue) (z : Sizes) (a : AreSizes v z) (usual sets : List ℕ) (s : SetsValue)
     (rows : List (List Entry)) (c1 : Comb) (cells : AreCells v (states_of v) usual sets s rows)
-    (b : AreSets v (states_of v) s) (i : IsSets s) (h1 : HasRows rows (tokens_of v) c1)
+    (b : AreSets v (states_of v) s) (i : IsSets s) (h1 : HasRows rows (tokens_of v + 1) c1)
     (tu : List ℕ) (trows : List (List Entry)) (c2 : Comb)
     (t : AreTargets v (states_of v) tu trows) (h2 : HasRows trows (length tu) c2)
-    (lengths lefts numbers : List ℕ) (n r k : ℕ) (en : n ≡ states_of v) (er : r ≡ rules_of v)
+    (symbols lengths lefts numbers : List ℕ) (hs : HasStates v.built)
+    (sl : length symbols ≡ states_of v) (se : (q : ℕ) → q < states_of v →
+    StandsBefore v.built.grammar.bare (state_of v.built q) (slice_index symbols q)) (n r k : ℕ)
+    (en : n ≡ states_of v) (er : r ≡ rules_of v)
     (ek : k ≡ tokens_of v) where
   abbrev the_code : Code
   the_code = record {
@@ -39,10 +53,20 @@ module _ (v : TablesValue) (z : Sizes) (a : AreSizes v z) (usual sets : List ℕ
     bits = s.bytes;
     gotos = c2;
     targets = tu;
+    symbols = symbols;
     lengths = lengths;
     lefts = lefts;
     numbers = numbers;
   }
+
+  action_read : (q x : ℕ) → q < states_of v → x < tokens_of v →
+      read_action the_code q x ≡ action_at v q x
+  action_read q x l m =
+      ap (λ y. done_by y r (slice_index usual q)
+      (bit_of s.bytes (slice_index sets q * s.span) x) (held c1 q x)) en
+      ∙ (ap (λ y. done_by (states_of v) y (slice_index usual q)
+      (bit_of s.bytes (slice_index sets q * s.span) x) (held c1 q x)) er
+      ∙ action_is v z a usual sets s rows c1 cells h1 q x l m)
 
   module _ (le : (x : ℕ) → x < rules_of v → slice_index lengths x ≡
       length (body_of v.built.grammar.bare x))
@@ -54,38 +78,55 @@ module _ (v : TablesValue) (z : Sizes) (a : AreSizes v z) (usual sets : List ℕ
       states = en;
       rules = er;
       tokens = ek;
-      action = λ q x l m.
+      action = action_read;
+      none = λ q l d.
           ap (λ y. done_by y r (slice_index usual q)
-          (bit_of s.bytes (slice_index sets q * s.span) x) (held c1 q x)) en
+          (bit_of s.bytes (slice_index sets q * s.span) (tokens_of v)) (held c1 q (tokens_of v))) en
           ∙ (ap (λ y. done_by (states_of v) y (slice_index usual q)
-          (bit_of s.bytes (slice_index sets q * s.span) x) (held c1 q x)) er
-          ∙ action_is v z a usual sets s rows c1 cells h1 q x l m);
+          (bit_of s.bytes (slice_index sets q * s.span) (tokens_of v)) (held c1 q (tokens_of v))) er
+          ∙ none_is v z a usual sets s rows c1 cells h1 q l d);
       default = default_is v z a usual sets s rows c1 cells h1;
       refusal = λ q x l m. ap (λ y. is_explicit (y + r) (held c1 q x)) en
           ∙ (ap (λ y. is_explicit (states_of v + y) (held c1 q x)) er
           ∙ refusal_is v z a usual sets s rows c1 cells h1 q x l m);
       goto = goto_is v z a tu trows c2 t h2;
+      symbol = λ q x m l b e. symbol_is v.built q x m (slice_index symbols m) hs l b e
+          (se m (goto_below v.built q x m hs l b e));
       body = le;
       left = fe;
       token = λ x m l e. ap (λ y. translated y numbers m) ek ∙ tr.token x m l e;
       other = λ m f. ap (λ y. translated y numbers m) ek ∙ tr.other m f;
     }
 
-  pub inside : (length lengths ≡ rules_of v) → (length lefts ≡ rules_of v) → IsInside v the_code
-  inside ll fl = record {
+  pub inside : WellFormed v.built.grammar.bare → (length lengths ≡ rules_of v) →
+      (length lefts ≡ rules_of v) → ((x : ℕ) → x < rules_of v →
+      tokens_of v + slice_index lefts x ≡ left_of v.built.grammar.bare x) →
+      AreAtMost (tokens_of v) numbers → IsInside v the_code
+  inside w ll fl fe ns = record {
     states = (
       h1.count ∙ cells.counts.2,
       h2.count ∙ t.states,
       cells.counts.0,
       cells.counts.1,
     );
+    symbols = sl;
     rules = (ll, fl);
     targets = t.count;
     cells = (h1.beside, h2.beside);
     action = action_inside v z a usual sets s rows c1 cells h1;
-    goto = goto_inside v z a tu trows c2 t h2;
     bits = bits_inside v z a usual sets s rows c1 cells h1 b i;
+    goto = goto_inside v z a tu trows c2 t h2;
+    next = λ q x l m. subst (Fits (states_of v) (rules_of v)) (sym (action_read q x l m))
+        (a.actions q x l m);
+    to = goto_in_range v z a tu trows c2 t h2;
+    usual = λ q l. (cells.rules q l).rule;
+    left = λ x l. (let e = fe x l in let f = w.left x l in omega (arith, e, f));
+    token = λ m. token m (nat_lt m (length numbers));
   }
+    where
+      token : (m : ℕ) (y : Bool) → (if y then slice_index numbers m else k) ≤ tokens_of v
+      token m true = ns m
+      token m false = omega (arith, ek)
 
   byte : (x : ℕ) → slice_index s.bytes x ≤ 255
   byte x = go (less x)
@@ -117,9 +158,9 @@ module _ (v : TablesValue) (z : Sizes) (a : AreSizes v z) (usual sets : List ℕ
       AreAtMost (tokens_of v) numbers → AreSmall v the_code
   small w ll fl le fe v1 v2 ns = record {
     rows = (
-      places_small v z a (tokens_of v) rows c1 cells.counts.2
+      places_small v z a (tokens_of v + 1) rows c1 cells.counts.2
           (let e = a.tokens in let f = a.few_symbols in let g = a.some_nonterminals in
-          omega (arith, e, f, g)) (let e = a.tokens in let f = a.some_tokens in omega (arith, e, f))
+          omega (arith, e, f, g)) (omega arith)
           h1,
       places_small v z a (length tu) trows c2 t.states
           (let e = t.count in let f = a.few_symbols in let g = a.symbols in omega (arith, e, f, g))
@@ -132,10 +173,21 @@ module _ (v : TablesValue) (z : Sizes) (a : AreSizes v z) (usual sets : List ℕ
     sets = sets_most v z a usual sets s rows c1 cells h1 b;
     bits = byte;
     targets = t.below;
+    symbols = λ x. go x (less_or_not x (length symbols));
     rules = (
-      by_rule lengths 255 ll (λ x l. (let e = le x l in let f = w.short x l in omega (arith, e, f))),
+      by_rule lengths 255 ll (λ x l. (let e = le x l in let f = w.short x l in
+          omega (arith, e, f))),
       by_rule lefts (symbols_of v) fl (λ x l. (let e = fe x l in let f = w.left x l in
           omega (arith, e, f))),
     );
     numbers = ns;
   }
+    where
+      go : (x : ℕ) → (x < length symbols) ⊎ (length symbols ≤ x) →
+          slice_index symbols x ≤ symbols_of v
+      go x (inl l) =
+          let q : x < states_of v = omega (arith, l, sl) in
+          symbol_small v.built.grammar.bare (state_of v.built x) (slice_index symbols x) w
+          (λ i c. subst (λ (j : Item). j.rule < length v.built.grammar.bare.rules) c.2
+          (hs.range x q c.0 i c.1).0) (se x q)
+      go x (inr l) = let d = get_or_past symbols x 0 l in omega (arith, d)

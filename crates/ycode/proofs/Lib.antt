@@ -4,4 +4,5 @@ pub mod BitSteps
 pub mod CellSteps
 pub mod CellLoops
 pub mod ReadSteps
+pub mod SymbolSteps
 pub mod CodeSteps

@@ -1,6 +1,8 @@
 -- A row that is put among others: it is there, and they stay.
-use Rattle.std.proofs.Common.{ℕ, ◌≡◌, ◌≢◌, ◌+◌, ◌-◌, ◌*◌, ◌<◌, ◌≤◌, ◌⊎◌, inl, inr, Bool, true, false}
-use Rattle.std.proofs.Common.{nat_eq, List, [], ◌∷◌, ◌++◌, length, get_or, set, refl, sym, ap, ◌∙◌, subst, arith}
+use Rattle.std.proofs.Common.{ℕ, ◌≡◌, ◌≢◌, ◌+◌, ◌-◌, ◌*◌, ◌<◌, ◌≤◌, ◌⊎◌, inl, inr, Bool, true}
+use Rattle.std.proofs.Common.{false}
+use Rattle.std.proofs.Common.{nat_eq, List, [], ◌∷◌, ◌++◌, length, get_or, set, refl, sym, ap, ◌∙◌}
+use Rattle.std.proofs.Common.{subst, arith}
 use Rattle.std.proofs.Common.{Option, Some, None, slice_index, if◌then◌else◌}
 use Rattle.std.proofs.lemmas.Bool.{cases_eq}
 use Rattle.std.proofs.lemmas.List.{get_or-set_same, get_or-set_other, get_or_past}
@@ -53,7 +55,8 @@ grown_packing w c c' v v' b b' p g = record {
   some = p.some;
   beside = g.beside;
   marked = g.marked;
-  room = λ d h. (let r = p.room d (sym (g.begins d) ∙ h) in let l = g.longer in omega (arith, r, l));
+  room = λ d h. (let r = p.room d (sym (g.begins d) ∙ h) in let l = g.longer in
+      omega (arith, r, l));
   owned = λ d t l h e. owned d t l h e (less_or_not (d + t) (length c));
   small = λ i. small i (less_or_not i (length c)) (less_or_not i (length c'));
 }

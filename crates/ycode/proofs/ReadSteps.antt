@@ -7,6 +7,7 @@ use Rattle.std.proofs.lemmas.List.{get_or_past}
 use Rattle.ysymbols.specs.Grammar.{most_symbols}
 use Rattle.yrows.specs.Limits.{most_states}
 use Rattle.ylalr.specs.Collection.{goto_in}
+use Rattle.ytables.specs.declared.cell.Action.TheVariants.{Reduce, Error}
 use Rattle.ytables.specs.Tables.{TablesValue, action_at, default_at}
 use Rattle.ycells.specs.Candidates.{shift_in}
 use Rattle.ycode.specs.declared.comb.Comb.{Comb}
@@ -43,12 +44,25 @@ module _ (v : TablesValue) (z : Sizes) (a : AreSizes v z) where
       go (inr l) = let e = get_or_past c.rows q 0 l in omega (arith, e)
 
   module _ (usual sets : List ℕ) (s : SetsValue) (rows : List (List Entry)) (c : Comb)
-      (cells : AreCells v (states_of v) usual sets s rows) (h : HasRows rows (tokens_of v) c) where
+      (cells : AreCells v (states_of v) usual sets s rows)
+      (h : HasRows rows (tokens_of v + 1) c) where
     -- the number of a cell
     held_is : (q t : ℕ) → q < states_of v → t < tokens_of v →
         held c q t ≡ wanted_at v (slice_index usual q) q t
-    held_is q t l m = h.cells q t (let e = cells.counts.2 in omega (arith, e, l)) m ∙
-        cells.entries q t l m
+    held_is q t l m = h.cells q t (let e = cells.counts.2 in omega (arith, e, l))
+        (omega (arith, m)) ∙ cells.entries q t l m
+
+    -- what is no token
+    pub none_is : (q : ℕ) → q < states_of v → default_at v q ≡ None →
+        done_by (states_of v) (rules_of v) (slice_index usual q)
+        (bit_of s.bytes (slice_index sets q * s.span) (tokens_of v)) (held c q (tokens_of v)) ≡
+        Error
+    none_is q l d =
+        ap (done_by (states_of v) (rules_of v) (slice_index usual q)
+        (bit_of s.bytes (slice_index sets q * s.span) (tokens_of v)))
+        (h.cells q (tokens_of v) (let e = cells.counts.2 in omega (arith, e, l)) (omega arith)
+        ∙ cells.none q l)
+        ∙ ap (λ b. if b then Reduce (slice_index usual q) else Error) ((cells.members q l).none d)
 
     some : 0 < rules_of v
     some = let e = a.rules in let p = a.some_rules in omega (arith, e, p)
@@ -76,12 +90,13 @@ module _ (v : TablesValue) (z : Sizes) (a : AreSizes v z) where
     default_is q l = default_right (default_at v q) (slice_index sets q) (slice_index usual q)
         (cells.members q l).zero (cells.rules q l).default
 
-    pub action_inside : (q t : ℕ) → q < states_of v → t < tokens_of v →
+    pub action_inside : (q t : ℕ) → q < states_of v → t ≤ tokens_of v →
         place_of c q t < length c.checks
-    action_inside q t l m = h.inside q t (let e = cells.counts.2 in omega (arith, e, l)) m
+    action_inside q t l m = h.inside q t (let e = cells.counts.2 in omega (arith, e, l))
+        (omega (arith, m))
 
     pub bits_inside : AreSets v (states_of v) s → IsSets s → (q t : ℕ) → q < states_of v →
-        t < tokens_of v → slice_index sets q * s.span + t / 8 < length s.bytes
+        t ≤ tokens_of v → slice_index sets q * s.span + t / 8 < length s.bytes
     bits_inside b i q t l m =
         let e = i.sized in
         let w = byte_within (slice_index sets q) s.count s.span t (cells.members q l).number
@@ -133,6 +148,12 @@ module _ (v : TablesValue) (z : Sizes) (a : AreSizes v z) where
         ap (λ o. unwrap_or o (slice_index usual x)) (h.cells q x
         (let k = t.states in omega (arith, k, l)) low ∙ t.entries q x l low)
         ∙ goto_right (slice_index usual x) n (goto_in v.built q (tokens_of v + x)) e
+
+    pub goto_in_range : (q x n : ℕ) → q < states_of v → tokens_of v + x < symbols_of v →
+        goto_in v.built q (tokens_of v + x) ≡ Some n →
+        unwrap_or (held c q x) (slice_index usual x) < states_of v
+    goto_in_range q x n l m e = let i = goto_is q x n l m e in
+        let f = a.gotos q (tokens_of v + x) n l m e in omega (arith, i, f)
 
     pub goto_inside : (q x : ℕ) → q < states_of v → tokens_of v + x < symbols_of v →
         place_of c q x < length c.checks

@@ -14,16 +14,15 @@ pub record SetsValue : Type 0 where
   pub count : ℕ
   pub bytes : List ℕ
 
--- the bytes from a place on say which members are in the set
-abbrev pub AreBits : List ℕ → ℕ → List Bool → Type 0
-AreBits bytes at members = (t : ℕ) → t < length members →
+-- so many bytes from a place on say which members are in the set; there are no others
+abbrev pub AreBits : List ℕ → ℕ → ℕ → List Bool → Type 0
+AreBits bytes at span members = (t : ℕ) → t < 8 * span →
     bit_of bytes at t ≡ slice_index_or members t false
 
 -- set n has these members
 pub record HasSet (s : SetsValue) (n : ℕ) (members : List Bool) : Type 0 where
   pub number : n < s.count
-  pub wide : length members ≤ 8 * s.span
-  pub bits : AreBits s.bytes (n * s.span) members
+  pub bits : AreBits s.bytes (n * s.span) s.span members
 
 -- what holds of sets: there is one at least
 pub record IsSets (s : SetsValue) : Type 0 where

@@ -15,7 +15,7 @@ use Rattle.ycode.specs.declared.sizes.Sizes.{Sizes}
 use Rattle.ycode.specs.Bits.{SetsValue, HasSet, bit_of}
 use Rattle.ycode.specs.Entries.{entry_at, EntriesAtMost}
 
--- the number of states of tables, of tokens, and of rules
+-- how many states, tokens, rules and symbols tables have
 abbrev pub states_of : TablesValue → ℕ
 states_of v = length v.built.states
 
@@ -88,6 +88,8 @@ pub record IsSetOf (v : TablesValue) (q r : ℕ) (s : SetsValue) (n : ℕ) : Typ
   pub members : (t : ℕ) → t < tokens_of v →
       bit_of s.bytes (n * s.span) t ≡ is_reduce r (action_at v q t)
   pub zero : nat_eq n 0 ≡ is_some (default_at v q)
+  -- what is no token is not in it
+  pub none : default_at v q ≡ None → bit_of s.bytes (n * s.span) (tokens_of v) ≡ false
 
 -- the lists have the cells of the states below n
 pub record AreCells (v : TablesValue) (n : ℕ) (usual sets : List ℕ) (s : SetsValue)
@@ -97,10 +99,12 @@ pub record AreCells (v : TablesValue) (n : ℕ) (usual sets : List ℕ) (s : Set
   pub members : (q : ℕ) → q < n → IsSetOf v q (slice_index usual q) s (slice_index sets q)
   pub entries : (q t : ℕ) → q < n → t < tokens_of v →
       entry_at (slice_index_or rows q []) t ≡ wanted_at v (slice_index usual q) q t
+  pub none : (q : ℕ) → q < n → entry_at (slice_index_or rows q []) (tokens_of v) ≡ None
   pub most : (q : ℕ) → q < n → EntriesAtMost (states_of v + rules_of v) (slice_index_or rows q [])
 
--- sets of these tables: set 0 has all tokens, and there are no more than one more than so many
+-- Sets of these tables: set 0 has all tokens, and what is no token too. There are no more than one
+-- more than so many.
 pub record AreSets (v : TablesValue) (n : ℕ) (s : SetsValue) : Type 0 where
-  pub span : s.span ≡ (tokens_of v + 7) / 8
-  pub all : HasSet s 0 (replicate (tokens_of v) true)
+  pub span : s.span ≡ (tokens_of v + 1 + 7) / 8
+  pub all : HasSet s 0 (replicate (tokens_of v + 1) true)
   pub few : s.count ≤ n + 1

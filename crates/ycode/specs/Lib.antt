@@ -5,5 +5,6 @@ pub mod Entries
 pub mod Packing
 pub mod Reading
 pub mod Reads
+pub mod Symbols
 pub mod Targets
 pub mod Translation

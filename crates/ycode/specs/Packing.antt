@@ -99,7 +99,8 @@ pub record IsEntered (old new : PackingValue) (entries : List Entry) (d : ℕ) :
       AreAtMost n new.values
 
 -- the rows of these entries begin at these places
-pub record HaveEntries (p : PackingValue) (places : List ℕ) (rows : List (List Entry)) : Type 0 where
-  pub count : length places ≡ length rows
-  pub each : (q : ℕ) → q < length rows →
-      HasEntries p (slice_index places q) (slice_index_or rows q [])
+pub record HaveEntries (p : PackingValue) (places : List ℕ) (rows : List (List Entry)) : Type 0
+  where
+    pub count : length places ≡ length rows
+    pub each : (q : ℕ) → q < length rows →
+        HasEntries p (slice_index places q) (slice_index_or rows q [])

@@ -1,11 +1,12 @@
 -- What the arrays of a C parser say, and that nothing is read outside of them.
-use Rattle.std.specs.Prelude.{ℕ, ◌≡◌, ◌≢◌, ◌+◌, ◌*◌, ◌/◌, ◌<◌, ◌≤◌, ◌^◌, Some, length, slice_get}
-use Rattle.std.specs.Prelude.{slice_index}
+use Rattle.std.specs.Prelude.{ℕ, ◌≡◌, ◌≢◌, ◌+◌, ◌*◌, ◌/◌, ◌<◌, ◌≤◌, ◌^◌, Some, None, length}
+use Rattle.std.specs.Prelude.{slice_get, slice_index}
 use Rattle.ysymbols.specs.Grammar.{left_of, body_of}
 use Rattle.ylalr.specs.Collection.{goto_in}
+use Rattle.ytables.specs.declared.cell.Action.TheVariants.{Error}
 use Rattle.ytables.specs.Tables.{TablesValue, action_at, default_at}
 use Rattle.ycode.specs.declared.code.Code.{Code}
-use Rattle.ycode.specs.Cells.{states_of, tokens_of, symbols_of, rules_of, is_refused}
+use Rattle.ycode.specs.Cells.{states_of, tokens_of, symbols_of, rules_of, is_refused, Fits}
 use Rattle.ycode.specs.Combs.{place_of, AreAtMost}
 use Rattle.ycode.specs.Reading.{read_action, read_default, read_refusal, read_goto, read_token}
 
@@ -16,11 +17,16 @@ pub record Reads (v : TablesValue) (c : Code) : Type 0 where
   pub tokens : c.tokens ≡ tokens_of v
   pub action : (q t : ℕ) → q < states_of v → t < tokens_of v →
       read_action c q t ≡ action_at v q t
+  -- what is no token has the number of tokens, and is an error where a token is read
+  pub none : (q : ℕ) → q < states_of v → default_at v q ≡ None →
+      read_action c q (tokens_of v) ≡ Error
   pub default : (q : ℕ) → q < states_of v → read_default c q ≡ default_at v q
   pub refusal : (q t : ℕ) → q < states_of v → t < tokens_of v →
       read_refusal c q t ≡ is_refused v q t
   pub goto : (q x n : ℕ) → q < states_of v → tokens_of v + x < symbols_of v →
       goto_in v.built q (tokens_of v + x) ≡ Some n → read_goto c q x ≡ n
+  pub symbol : (q x n : ℕ) → q < states_of v → x < symbols_of v → goto_in v.built q x ≡ Some n →
+      slice_index c.symbols n ≡ x
   pub body : (r : ℕ) → r < rules_of v → slice_index c.lengths r ≡
       length (body_of v.built.grammar.bare r)
   pub left : (r : ℕ) → r < rules_of v → tokens_of v + slice_index c.lefts r ≡
@@ -35,21 +41,31 @@ pub record Reads (v : TablesValue) (c : Code) : Type 0 where
 pub record IsInside (v : TablesValue) (c : Code) : Type 0 where
   pub states : (length c.actions.rows ≡ states_of v) × (length c.gotos.rows ≡ states_of v) ×
       (length c.usual ≡ states_of v) × (length c.sets ≡ states_of v)
+  pub symbols : length c.symbols ≡ states_of v
   pub rules : (length c.lengths ≡ rules_of v) × (length c.lefts ≡ rules_of v)
   pub targets : tokens_of v + length c.targets ≡ symbols_of v
   pub cells : (length c.actions.checks ≤ length c.actions.values) ×
       (length c.gotos.checks ≤ length c.gotos.values)
-  pub action : (q t : ℕ) → q < states_of v → t < tokens_of v →
+  -- for each token, and for what is none
+  pub action : (q t : ℕ) → q < states_of v → t ≤ tokens_of v →
       place_of c.actions q t < length c.actions.checks
+  pub bits : (q t : ℕ) → q < states_of v → t ≤ tokens_of v →
+      slice_index c.sets q * c.span + t / 8 < length c.bits
   pub goto : (q x : ℕ) → q < states_of v → tokens_of v + x < symbols_of v →
       place_of c.gotos q x < length c.gotos.checks
-  pub bits : (q t : ℕ) → q < states_of v → t < tokens_of v →
-      slice_index c.sets q * c.span + t / 8 < length c.bits
+  -- what is read is a state, a rule, a nonterminal or a token
+  pub next : (q t : ℕ) → q < states_of v → t < tokens_of v →
+      Fits (states_of v) (rules_of v) (read_action c q t)
+  pub to : (q x n : ℕ) → q < states_of v → tokens_of v + x < symbols_of v →
+      goto_in v.built q (tokens_of v + x) ≡ Some n → read_goto c q x < states_of v
+  pub usual : (q : ℕ) → q < states_of v → slice_index c.usual q < rules_of v
+  pub left : (r : ℕ) → r < rules_of v → tokens_of v + slice_index c.lefts r < symbols_of v
+  pub token : (n : ℕ) → read_token c n ≤ tokens_of v
 
 -- All numbers are small: those of 32 bits with a sign hold each.
 pub record AreSmall (v : TablesValue) (c : Code) : Type 0 where
   pub rows : AreAtMost (2 ^ 28) c.actions.rows × AreAtMost (2 ^ 28) c.gotos.rows
-  pub checks : AreAtMost (tokens_of v) c.actions.checks ×
+  pub checks : AreAtMost (tokens_of v + 1) c.actions.checks ×
       AreAtMost (length c.targets) c.gotos.checks
   pub values : AreAtMost (states_of v + rules_of v) c.actions.values ×
       AreAtMost (states_of v) c.gotos.values
@@ -57,6 +73,7 @@ pub record AreSmall (v : TablesValue) (c : Code) : Type 0 where
   pub sets : AreAtMost (states_of v) c.sets
   pub bits : AreAtMost 255 c.bits
   pub targets : AreAtMost (states_of v) c.targets
+  pub symbols : AreAtMost (symbols_of v) c.symbols
   pub rules : AreAtMost 255 c.lengths × AreAtMost (symbols_of v) c.lefts
   pub numbers : AreAtMost (tokens_of v) c.numbers
 

@@ -2,7 +2,7 @@
 //! the explicit entries of all others.
 
 ghost use Rattle.std.specs.Prelude.{ℕ, ◌≡◌, ◌<◌, ◌≤◌, ◌+◌, ◌^◌, length, IfOk, OnOk, IfSome};
-ghost use Rattle.std.specs.Prelude.{slice_index_or, false};
+ghost use Rattle.std.specs.Prelude.{None, slice_index_or, false};
 ghost use Rattle.ytables.specs.Cell.{is_reduce};
 ghost use Rattle.ytables.specs.Tables.{action_at};
 ghost use Rattle.ycode.specs.Bits.{KeepsSets};
@@ -109,6 +109,7 @@ fn entries_of(
     requires state { q < states_of tables.now }
     ensures entries { IfOk result (λ es. (t : ℕ) → t < tokens_of tables.now
         → entry_at es t ≡ wanted_at tables.now usual q t) }
+    ensures none { IfOk result (λ es. entry_at es (tokens_of tables.now) ≡ None) }
     ensures most { IfOk result (EntriesAtMost (states_of tables.now + rules_of tables.now)) }
 {
     let mut entries = Sequence::new(alloc);
@@ -174,6 +175,7 @@ fn members_of(
 
 /// The number of the set of tokens at which state `q` makes its usual reduction: set 0 where the
 /// state is consistent.
+#[tactic(auto, using(crate::proofs::CellLoops::set_zero, crate::proofs::CellLoops::set_other))]
 fn set_of(
     alloc: Global,
     tables: &Tables,
@@ -203,7 +205,7 @@ pub fn all_cells(alloc: Global, tables: &Tables, sizes: &Sizes) -> Result<Cells,
         c.sets.items c.known c.rows.items) }
     ensures sets { IfOk result (λ c. AreSets tables.now (states_of tables.now) c.known) }
 {
-    let mut known = Sets::new(alloc, sizes.tokens)?;
+    let mut known = Sets::new(alloc, sizes.tokens + 1)?;
     let mut usual = Vec::with_capacity(alloc, sizes.states)?;
     let mut sets = Vec::with_capacity(alloc, sizes.states)?;
     let mut rows = Vec::with_capacity(alloc, sizes.states)?;

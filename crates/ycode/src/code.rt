@@ -8,6 +8,7 @@ use crate::comb::{Comb, comb_of};
 use crate::numbers::Numbers;
 use crate::rules::{lefts_of, lengths_of};
 use crate::sizes::sizes_of;
+use crate::symbols::symbols_of;
 use crate::targets::all_targets;
 use crate::translate::translation_of;
 use std::alloc::{AllocError, Global};
@@ -24,7 +25,7 @@ pub struct Code {
     pub rules: usize,
     /// How many tokens there are: also the number of what is no token.
     pub tokens: usize,
-    /// The cells of actions, at the columns of tokens.
+    /// The cells of actions, at the columns of tokens, and of one more for what is no token.
     pub actions: Comb,
     /// The rule of each state's usual reduction, which is made where a cell has no number and the
     /// token is in a set.
@@ -40,6 +41,8 @@ pub struct Code {
     pub gotos: Comb,
     /// The goto over each nonterminal where a state has none of its own.
     pub targets: Numbers,
+    /// The symbol over which all gotos and shifts to a state lead.
+    pub symbols: Numbers,
     /// How many symbols the body of each rule has.
     pub lengths: Numbers,
     /// The left side of each rule; the first nonterminal has the number 0.
@@ -55,7 +58,9 @@ pub fn code_of(alloc: Global, tables: &Tables) -> Result<Code, AllocError>
     ensures { IfOk result (IsCode tables.now) }
 {
     let sizes = sizes_of(tables);
-    let grammar = tables.automaton().grammar();
+    let automaton = tables.automaton();
+    let _guide = automaton.states();
+    let grammar = automaton.grammar();
     let _well_formed = grammar.symbols();
     let cells = all_cells(alloc, tables, &sizes)?;
     let targets = all_targets(alloc, tables, &sizes)?;
@@ -63,13 +68,14 @@ pub fn code_of(alloc: Global, tables: &Tables) -> Result<Code, AllocError>
         states: sizes.states,
         rules: sizes.rules,
         tokens: sizes.tokens,
-        actions: comb_of(alloc, &cells.rows, sizes.tokens)?,
+        actions: comb_of(alloc, &cells.rows, sizes.tokens + 1)?,
         usual: Numbers::of(cells.usual),
         sets: Numbers::of(cells.sets),
         span: cells.known.span(),
         bits: Numbers::of(cells.known.into_bytes()),
         gotos: comb_of(alloc, &targets.rows, sizes.symbols - sizes.tokens)?,
         targets: Numbers::of(targets.usual),
+        symbols: symbols_of(alloc, tables, &sizes)?,
         lengths: lengths_of(alloc, grammar)?,
         lefts: lefts_of(alloc, grammar, sizes.tokens)?,
         numbers: translation_of(alloc, grammar, sizes.tokens)?,

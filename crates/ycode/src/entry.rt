@@ -34,7 +34,8 @@ pub fn push_number(
 fn put_entry(row: &mut [Option<usize>], entry: Entry)
     ensures len { length row.new ≡ length row.old }
     ensures entry { (t : ℕ) → t < length row.old
-        → slice_index_or row.new t None ≡ or_else (number_at entry t) (slice_index_or row.old t None) }
+        → slice_index_or row.new t None
+        ≡ or_else (number_at entry t) (slice_index_or row.old t None) }
 {
     if entry.column < row.len() {
         row[entry.column] = Some(entry.number);

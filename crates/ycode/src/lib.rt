@@ -14,6 +14,7 @@ mod packing;
 mod rules;
 mod sets;
 mod sizes;
+mod symbols;
 mod targets;
 mod translate;
 

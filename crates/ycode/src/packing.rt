@@ -1,6 +1,7 @@
 //! Rows that are put into one list of cells.
 
-ghost use Rattle.std.specs.Prelude.{ℕ, ◌≡◌, ◌+◌, ◌<◌, ◌≤◌, ◌^◌, ◌≢◌, [], true, false, length, max, All};
+ghost use Rattle.std.specs.Prelude.{ℕ, ◌≡◌, ◌+◌, ◌<◌, ◌≤◌, ◌^◌, ◌≢◌, [], true, false, length, max};
+ghost use Rattle.std.specs.Prelude.{All};
 ghost use Rattle.std.specs.Prelude.{None, IfOk, OnOk, IfSome, vec_len, slice_index, slice_index_or};
 ghost use Rattle.ycode.specs.Combs.{held_at, AreAtMost};
 ghost use Rattle.ycode.specs.Packing.{HasRow, IsPut, FitsAt, IsGrown, IsWritten};

@@ -1,6 +1,7 @@
 //! Sets of tokens as bits, each set once.
 
-ghost use Rattle.std.specs.Prelude.{ℕ, ◌≡◌, ◌+◌, ◌*◌, ◌/◌, ◌<◌, ◌≤◌, ◌^◌, ◌++◌, [], true, false, length};
+ghost use Rattle.std.specs.Prelude.{ℕ, ◌≡◌, ◌+◌, ◌*◌, ◌/◌, ◌<◌, ◌≤◌, ◌^◌, ◌++◌, [], true, false};
+ghost use Rattle.std.specs.Prelude.{length};
 ghost use Rattle.std.specs.Prelude.{All, IfOk, OnOk, IfSome, replicate, nat_eq, slice_index_or};
 ghost use Rattle.std.specs.Int.{bit_at};
 ghost use Rattle.ysymbols.specs.Grammar.{most_symbols};
@@ -83,10 +84,9 @@ fn byte_of(members: &[bool], at: usize) -> usize
 
 /// The bytes of a set.
 fn bytes_of(alloc: Global, members: &[bool], span: usize) -> Result<Vec<usize>, AllocError>
-    requires narrow { span < 2 ^ 32 }
-    requires wide { length members.now ≤ 8 * span }
+    requires { span < 2 ^ 32 }
     ensures len { IfOk result (λ v. length v.items ≡ span) }
-    ensures bits { IfOk result (λ v. AreBits v.items 0 members.now) }
+    ensures bits { IfOk result (λ v. AreBits v.items 0 span members.now) }
     ensures small { IfOk result (λ v. All (λ b. b < 256) v.items) }
 {
     let mut bytes = Vec::with_capacity(alloc, span)?;
@@ -107,11 +107,11 @@ fn has_bit(bytes: &[usize], at: usize, t: usize) -> bool
 /// Whether the bytes from `at` on are those of this set.
 fn is_set(bytes: &[usize], at: usize, span: usize, members: &[bool]) -> bool
     requires room { at + span ≤ length bytes.now }
-    requires wide { length members.now ≤ 8 * span }
-    ensures { result ≡ true → AreBits bytes.now at members.now }
+    requires narrow { span < 2 ^ 32 }
+    ensures { result ≡ true → AreBits bytes.now at span members.now }
 {
-    for t in 0..members.len() {
-        if has_bit(bytes, at, t) != members[t] {
+    for t in 0..BITS * span {
+        if has_bit(bytes, at, t) != is_member(members, t) {
             return false;
         }
     }
@@ -140,7 +140,6 @@ impl Sets {
 
     /// The number of this set, if the last one with its hash is the same.
     fn find(&self, members: &[bool]) -> Option<usize>
-        requires { length members.now ≤ 8 * self.now.span }
         ensures set { IfSome result (λ n. HasSet self.now n members.now) }
         ensures other { IfSome result (λ n. 0 < n) }
     {
@@ -154,7 +153,6 @@ impl Sets {
 
     /// Adds a set behind the others. It fails only when memory runs out, and then changes nothing.
     fn add(&mut self, alloc: Global, members: &[bool]) -> Result<usize, AllocError>
-        requires { length members.now ≤ 8 * self.old.span }
         ensures set { IfOk result (λ n. HasSet self.new n members.now) }
         ensures other { IfOk result (λ n. 0 < n) }
         ensures keeps { OnOk result (KeepsSets self.old self.new) }
@@ -169,7 +167,6 @@ impl Sets {
     /// The number of this set, now that it is among the sets: another than 0. It fails only when
     /// memory runs out; what the sets are then is not said.
     pub fn put(&mut self, alloc: Global, members: &[bool]) -> Result<usize, AllocError>
-        requires { length members.now ≤ 8 * self.old.span }
         ensures set { IfOk result (λ n. HasSet self.new n members.now) }
         ensures other { IfOk result (λ n. 0 < n) }
         ensures keeps { OnOk result (KeepsSets self.old self.new) }

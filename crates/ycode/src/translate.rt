@@ -1,6 +1,7 @@
 //! Which token a number of the lexer is.
 
-ghost use Rattle.std.specs.Prelude.{ℕ, ◌≡◌, ◌≢◌, ◌<◌, ◌≤◌, ◌+◌, Some, length, IfOk, slice_get, slice_index};
+ghost use Rattle.std.specs.Prelude.{ℕ, ◌≡◌, ◌≢◌, ◌<◌, ◌≤◌, ◌+◌, Some, length, IfOk, slice_get};
+ghost use Rattle.std.specs.Prelude.{slice_index};
 ghost use Rattle.ycode.specs.Combs.{AreAtMost};
 ghost use Rattle.ycode.specs.Translation.{TranslatesTo};
 

@@ -20,7 +20,7 @@ loop-q-preserved c =
     let all = cells_more v q c.loop-q.usual.items c.loop-q.sets.items old new c.loop-q.rows.items
     c.in_ok-rule.rule c.in_ok-set.set c.in_ok-entries.entries inv.cells inv.sets
     c.in_ok-set.ensures.keeps c.in_ok-rule.ensures c.in_ok-set.ensures.set
-    c.in_ok-entries.ensures.entries c.in_ok-entries.ensures.most in
+    c.in_ok-entries.ensures.entries c.in_ok-entries.ensures.none c.in_ok-entries.ensures.most in
     record {
       cells = subst (λ x. AreCells v (q + 1) x c.push-in-loop-q.new.self.items new
           c.push-in-loop-q-2.new.self.items) (sym e1)

@@ -1,7 +1,8 @@
-use Rattle.std.proofs.Common.{ℕ, ◌≡◌, ◌+◌, ◌-◌, ◌<◌, ◌∙◌, List, length, sym, ap, subst, arith, slice_index}
+use Rattle.std.proofs.Common.{ℕ, ◌≡◌, ◌+◌, ◌-◌, ◌<◌, ◌∙◌, List, length, sym, ap, subst, arith}
+use Rattle.std.proofs.Common.{slice_index}
 use Rattle.ysymbols.specs.Grammar.{GrammarValue, body_of, left_of}
 use Rattle.ysymbols.specs.WellFormed.{WellFormed}
-use Rattle.ylalr.specs.Collection.{Collection}
+use Rattle.ylalr.specs.Collection.{Collection, HasStates}
 use Rattle.ycode.specs.declared.entry.Entry.{Entry}
 use Rattle.ycode.specs.Cells.{states_of, tokens_of, rules_of}
 use Rattle.ycode.specs.Combs.{HasRows, AreAtMost}
@@ -23,13 +24,14 @@ returns c =
     let be = c.in_ok-cells.ensures.sets in
     let c1 = c.in_ok-comb_of.field-0 in
     let c2 = c.in_ok-comb_of-2.field-0 in
+    let symbols = c.in_ok-symbols_of.field-0 in
     let lengths = c.in_ok-lengths_of.field-0 in
     let lefts = c.in_ok-lefts_of.field-0 in
     let numbers = c.in_ok-translation_of.field-0 in
     let i = c.span.ensures.valid in
-    let h1 : HasRows cells.rows.items (tokens_of v) c1 =
-    subst (λ (w : ℕ). HasRows cells.rows.items w c1) a.tokens
-    (subst (λ (rows : List (List Entry)). HasRows rows z.tokens c1) c.deref.ensures.value
+    let h1 : HasRows cells.rows.items (tokens_of v + 1) c1 =
+    subst (λ (w : ℕ). HasRows cells.rows.items (w + 1) c1) a.tokens
+    (subst (λ (rows : List (List Entry)). HasRows rows (z.tokens + 1) c1) c.deref.ensures.value
     c.in_ok-comb_of.ensures.rows) in
     let wide : z.symbols - z.tokens ≡ length tg.usual.items = (let e = t.count in
     let f = a.tokens in let g = a.symbols in omega (arith, e, f, g)) in
@@ -47,8 +49,10 @@ returns c =
     (subst (λ (rows : List (List Entry)). NumbersAtMost (states_of v) rows)
     (sym c.deref-2.ensures.value)
     (targets_most v z a tg.usual.items tg.rows.items c2 t h2)) in
+    let same = c.automaton-automaton.ensures.value in
+    let hs : HasStates v.built = subst HasStates same c.states-guide.ensures.states in
     let g : c.grammar-grammar.result.now ≡ v.built.grammar = c.grammar-grammar.ensures ∙
-    ap (λ (m : Collection). m.grammar) c.automaton.ensures.value in
+    ap (λ (m : Collection). m.grammar) same in
     let w : WellFormed v.built.grammar.bare = subst (λ (x : GrammarValue). WellFormed x.bare) g
     c.symbols-well_formed.ensures.well_formed in
     let ll : length lengths ≡ rules_of v = c.in_ok-lengths_of.ensures.len ∙
@@ -79,12 +83,18 @@ returns c =
       c.of-4.ensures,
     ) record {
       reads = reads v z a cells.usual.items cells.sets.items cells.known cells.rows.items c1 ce be i
-          h1 tg.usual.items tg.rows.items c2 t h2 lengths lefts numbers z.states z.rules z.tokens
+          h1 tg.usual.items tg.rows.items c2 t h2 symbols lengths lefts numbers hs
+          c.in_ok-symbols_of.ensures.len c.in_ok-symbols_of.ensures.symbols z.states z.rules
+          z.tokens
           a.states a.rules a.tokens le fe tr;
       inside = inside v z a cells.usual.items cells.sets.items cells.known cells.rows.items c1 ce be
-          i h1 tg.usual.items tg.rows.items c2 t h2 lengths lefts numbers z.states z.rules z.tokens
-          a.states a.rules a.tokens ll fl;
+          i h1 tg.usual.items tg.rows.items c2 t h2 symbols lengths lefts numbers hs
+          c.in_ok-symbols_of.ensures.len c.in_ok-symbols_of.ensures.symbols z.states z.rules
+          z.tokens
+          a.states a.rules a.tokens w ll fl fe ns;
       small = small v z a cells.usual.items cells.sets.items cells.known cells.rows.items c1 ce be
-          i h1 tg.usual.items tg.rows.items c2 t h2 lengths lefts numbers z.states z.rules z.tokens
+          i h1 tg.usual.items tg.rows.items c2 t h2 symbols lengths lefts numbers hs
+          c.in_ok-symbols_of.ensures.len c.in_ok-symbols_of.ensures.symbols z.states z.rules
+          z.tokens
           a.states a.rules a.tokens w ll fl le fe v1 v2 ns;
     }

@@ -13,8 +13,10 @@ loop-k-preserved c =
       | then-is_member w ↦
           (let h = sym c.is_member.ensures ∙ w.if-is_member.true in
           record {
-            bits = bits_set byte c.if-is_member.byte k f inv.small (omega arith) inv.bits w.byte-is h;
-            small = small_set byte c.if-is_member.byte k f inv.small (omega arith) inv.bits w.byte-is;
+            bits = bits_set byte c.if-is_member.byte k f inv.small (omega arith) inv.bits w.byte-is
+                h;
+            small = small_set byte c.if-is_member.byte k f inv.small (omega arith) inv.bits
+                w.byte-is;
           })
       | else-is_member w ↦
           (let h = sym c.is_member.ensures ∙ w.if-is_member.false in

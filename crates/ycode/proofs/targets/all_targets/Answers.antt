@@ -1,4 +1,5 @@
-use Rattle.std.proofs.Common.{ℕ, ◌≡◌, ◌+◌, ◌<◌, List, [], ◌∷◌, ◌++◌, length, subst, sym, slice_index}
+use Rattle.std.proofs.Common.{ℕ, ◌≡◌, ◌+◌, ◌<◌, List, [], ◌∷◌, ◌++◌, length, subst, sym}
+use Rattle.std.proofs.Common.{slice_index}
 use Rattle.ylalr.specs.Collection.{goto_in}
 use Rattle.ycode.specs.declared.entry.Entry.{Entry}
 use Rattle.ycode.specs.Cells.{tokens_of}
@@ -13,7 +14,8 @@ loop-q-preserved c =
     let q = c.loop-q.q in
     let usual = c.in_ok-usual.usual.items in
     let es = c.in_ok-entries.entries in
-    let items : c.push.new.self.items ≡ c.loop-q.rows.items ++ es ∷ [] = c.in_ok-push.ensures.items in
+    let items : c.push.new.self.items ≡ c.loop-q.rows.items ++ es ∷ [] =
+    c.in_ok-push.ensures.items in
     let each : (x : ℕ) → x < length usual → entry_at es x ≡
     beside (slice_index usual x) (goto_in v.built q (tokens_of v + x)) =
     subst (λ (u : List ℕ). (x : ℕ) → x < length u → entry_at es x ≡

@@ -42,7 +42,8 @@ invariant_of-self-2 c =
     let k = C.ok.0 in omega (arith, e, k, wide)) in
     let b2 : List Bool = set B.items d true in
     let p : IsPacking I.width c2 v2 b2 = written_packing I.width I.checks.items C.items c2
-    I.values.items V.items v2 I.begun.items B.items b2 d row c.self.invariant g room wide fit fresh w3
+    I.values.items V.items v2 I.begun.items B.items b2 d row c.self.invariant g room wide fit fresh
+    w3
     lc lv refl in
     rw (checks_are, values_are) p
 
@@ -98,7 +99,8 @@ returns c =
       begun = b2;
     } in
     let put : IsPut first (at c2 v2) row d = written I.width I.checks.items C.items c2
-    I.values.items V.items v2 I.begun.items B.items b2 d row c.self.invariant g room wide fit fresh w3
+    I.values.items V.items v2 I.begun.items B.items b2 d row c.self.invariant g room wide fit fresh
+    w3
     lc lv refl more in
     subst (λ (p : PackingValue). IsPut p (at (with_items C c2).items (with_items V v2).items) row d)
     c.self.view_is

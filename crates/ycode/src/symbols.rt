@@ -1,0 +1,45 @@
+//! The symbol over which gotos lead to each state.
+
+ghost use Rattle.std.specs.Prelude.{ℕ, ◌≡◌, ◌<◌, ◌≤◌, length, IfOk, slice_index};
+ghost use Rattle.ylalr.specs.Collection.{state_of};
+ghost use Rattle.ylalr.specs.Sets.{InRange};
+ghost use Rattle.ycode.specs.Cells.{AreSizes, states_of};
+ghost use Rattle.ycode.specs.Symbols.{StandsBefore};
+
+use crate::numbers::Numbers;
+use crate::sizes::Sizes;
+use std::alloc::{AllocError, Global};
+use ylalr::Item;
+use ysymbols::{Grammar, Sym};
+use ytables::Tables;
+
+/// The symbol before the dot of one of these items, or 0 where each dot is at the front.
+fn symbol_before(grammar: &Grammar, items: &[Item]) -> Sym
+    requires { InRange grammar.now.bare items.now }
+    ensures { StandsBefore grammar.now.bare items.now result }
+{
+    for item in items {
+        if item.dot != 0 {
+            return grammar.rule(item.rule).body()[item.dot - 1];
+        }
+    }
+    0
+}
+
+/// For each state a symbol that stands before a dot in it, or 0 where there is none.
+pub fn symbols_of(alloc: Global, tables: &Tables, sizes: &Sizes) -> Result<Numbers, AllocError>
+    requires { AreSizes tables.now sizes.now }
+    ensures len { IfOk result (λ v. length v ≡ states_of tables.now) }
+    ensures symbols { IfOk result (λ v. (q : ℕ) → q < states_of tables.now
+        → StandsBefore tables.now.built.grammar.bare (state_of tables.now.built q)
+        (slice_index v q)) }
+{
+    let automaton = tables.automaton();
+    let _guide = automaton.states();
+    let grammar = automaton.grammar();
+    let mut symbols = Vec::with_capacity(alloc, sizes.states)?;
+    for q in 0..sizes.states {
+        symbols.push(symbol_before(grammar, automaton.items(q)))?;
+    }
+    Ok(Numbers::of(symbols))
+}

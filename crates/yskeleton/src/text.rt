@@ -1,0 +1,120 @@
+//! A text in the making, which knows its lines.
+
+use std::alloc::Global;
+use std::io::{self, Write};
+use yexplain::lines::newlines;
+
+/// The path of a file as it stands in a string of C.
+#[derive(Clone, Copy)]
+pub struct Path<'a>(pub &'a str);
+
+impl Path<'_> {
+    /// Writes it.
+    fn put<W: Write>(self, out: &mut W) -> io::Result<()> {
+        for byte in self.0.as_bytes() {
+            if *byte == b'\\' || *byte == b'"' {
+                out.write_all(b"\\")?;
+            }
+            out.write_all(&[*byte])?;
+        }
+        Ok(())
+    }
+}
+
+/// How many newlines come after a place.
+fn newlines_from(bytes: &[u8], from: usize) -> usize {
+    bytes.get(from..).map_or(0, |rest| newlines(rest))
+}
+
+/// A text, its own path, and whether it says where its parts are from.
+pub struct Text<'a> {
+    bytes: Vec<u8>,
+    /// Up to here newlines are counted.
+    counted: usize,
+    /// How many there are up to there.
+    lines: usize,
+    path: Path<'a>,
+    told: bool,
+}
+
+impl Drop for Text<'_> {
+    // A call in each owner, which keeps their proofs short.
+    fn drop(self) {
+        let Text {
+            bytes: _,
+            counted: _,
+            lines: _,
+            path: _,
+            told: _,
+        } = self;
+    }
+}
+
+impl<'a> Text<'a> {
+    /// An empty text for the file of this path; with `told` each part of another file has a
+    /// `#line` before and after it.
+    pub fn new(alloc: Global, path: &'a str, told: bool) -> Text<'a> {
+        Text {
+            bytes: Vec::new(alloc),
+            counted: 0,
+            lines: 0,
+            path: Path(path),
+            told,
+        }
+    }
+
+    /// Its bytes.
+    pub fn bytes(&self) -> &[u8] {
+        self.bytes.as_slice()
+    }
+
+    /// Adds a text.
+    pub fn add(&mut self, text: &[u8]) -> io::Result<()> {
+        self.bytes.write_all(text)
+    }
+
+    /// The line that comes next, counted from 1.
+    fn next_line(&mut self) -> usize {
+        let more = newlines_from(&self.bytes, self.counted);
+        self.lines = self.lines.saturating_add(more);
+        self.counted = self.bytes.len();
+        self.lines.saturating_add(1)
+    }
+
+    /// Says that the next line is this one of a file.
+    fn add_line(&mut self, line: usize, path: Path<'_>) -> io::Result<()> {
+        write!(self.bytes, "#line {line} \"")?;
+        path.put(&mut self.bytes)?;
+        self.add(b"\"\n")
+    }
+
+    /// Says that what follows begins on this line of another file.
+    pub fn from(&mut self, line: usize, path: &str) -> io::Result<()> {
+        if self.told {
+            self.add_line(line, Path(path))?;
+        }
+        Ok(())
+    }
+
+    /// Ends what is from another file; its last line may lack its newline.
+    pub fn back(&mut self) -> io::Result<()> {
+        if self.bytes.last() != Some(&b'\n') {
+            self.add(b"\n")?;
+        }
+        if self.told {
+            let line = self.next_line().saturating_add(1);
+            self.add_line(line, self.path)?;
+        }
+        Ok(())
+    }
+}
+
+impl Write for Text<'_> {
+    fn write(&mut self, bytes: &[u8]) -> io::Result<usize> {
+        self.bytes.write(bytes)
+    }
+
+    fn flush(&mut self) -> io::Result<()> {
+        Ok(())
+    }
+}

@@ -1,0 +1,4 @@
+%union { int n; }
+%token <n> A
+%%
+s : { $$ = 1; } A { } ;
