@@ -56,7 +56,6 @@ impl From<io::Error> for Ending {
     }
 }
 
-
 /// Says that a file can't be opened, read or written, or that memory ran out.
 fn outside(rt: &HostRuntime, what: &str, path: &str, error: &io::Error) -> Ending {
     if error.kind() == io::ErrorKind::OutOfMemory {
@@ -126,14 +125,20 @@ fn put_conflicts(rt: &HostRuntime, counts: Counts) -> io::Result<()> {
         return Ok(());
     }
     let (first, second) = (shift_reduce, reduce_reduce);
-    writeln!(rt.stderr(), "conflicts: {first} shift/reduce, {second} reduce/reduce")
+    writeln!(
+        rt.stderr(),
+        "conflicts: {first} shift/reduce, {second} reduce/reduce"
+    )
 }
 
 /// Writes what is wrong with a value, and how to mend it.
 fn put_misuse<W: Write>(out: &mut W, misuse: Misuse) -> io::Result<()> {
     match misuse {
         Misuse::OutOfRange(number, seen) => {
-            writeln!(out, "${number} is out of range: {seen} symbols stand before this action")
+            writeln!(
+                out,
+                "${number} is out of range: {seen} symbols stand before this action"
+            )
         }
         Misuse::Untyped(Whose::Left) => put_untyped(out, "$"),
         Misuse::Untyped(Whose::Symbol(number)) => put_untyped(out, number),
@@ -143,16 +148,14 @@ fn put_misuse<W: Write>(out: &mut W, misuse: Misuse) -> io::Result<()> {
 /// Writes that a value has no tag, and how to give it one.
 fn put_untyped<W: Write, N: Copy + Display>(out: &mut W, name: N) -> io::Result<()> {
     write!(out, "${name} has no tag, and other symbols have: ")?;
-    writeln!(out, "give it one by %token or %type, or here as $<tag>{name}")
+    writeln!(
+        out,
+        "give it one by %token or %type, or here as $<tag>{name}"
+    )
 }
 
 /// Says what is wrong with a value that an action names, and at which place.
-fn put_misused(
-    rt: &HostRuntime,
-    source: &Source<'_>,
-    misuse: Misuse,
-    at: usize,
-) -> io::Result<()> {
+fn put_misused(rt: &HostRuntime, source: &Source<'_>, misuse: Misuse, at: usize) -> io::Result<()> {
     let Source { path, bytes, .. } = *source;
     let line = Spots::new(bytes).reach(at).0;
     let mut out = rt.stderr();
@@ -163,11 +166,7 @@ fn put_misused(
 }
 
 /// A text that was made; where an action stands in its way, that is said.
-fn made<T>(
-    rt: &HostRuntime,
-    source: &Source<'_>,
-    text: Result<T, Trouble>,
-) -> Result<T, Ending> {
+fn made<T>(rt: &HostRuntime, source: &Source<'_>, text: Result<T, Trouble>) -> Result<T, Ending> {
     match text {
         Ok(text) => Ok(text),
         Err(Trouble::Unwritten(error)) => Err(Ending::from(error)),
@@ -213,7 +212,11 @@ fn write_files(
     };
     let code = code_of(alloc, tables)?;
     let (parser, header) = made(rt, source, source.texts(alloc, &code, wishes))?;
-    let report = if given.verbose { Some(report_of(alloc, tables)?) } else { None };
+    let report = if given.verbose {
+        Some(report_of(alloc, tables)?)
+    } else {
+        None
+    };
     write(rt, &names.parser, parser.bytes())?;
     if given.define {
         write(rt, &names.header, header.bytes())?;

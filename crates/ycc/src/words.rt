@@ -4,7 +4,8 @@ use clap::{Arg, ArgAction, ArgMatches, Command};
 use std::alloc::{AllocError, Global};
 
 /// What is written to standard error where the words are refused.
-pub const USAGE: &[u8] = b"usage: ycc [-dltv] [-b prefix] [-o file] [-p prefix] [-H file] grammar\n";
+pub const USAGE: &[u8] =
+    b"usage: ycc [-dltv] [-b prefix] [-o file] [-p prefix] [-H file] grammar\n";
 
 /// What words ask for.
 #[derive(Clone, Copy)]
@@ -71,7 +72,12 @@ pub fn command<'a>(alloc: Global) -> Result<Command<'a>, AllocError> {
             ("name-prefix", "PREFIX"),
             "What names in C begin with, yy unless given",
         ))?
-        .arg(option(alloc, 'H', ("header", "FILE"), "Writes the header to this file"))?
+        .arg(option(
+            alloc,
+            'H',
+            ("header", "FILE"),
+            "Writes the header to this file",
+        ))?
         .arg(grammar)
 }
 

@@ -165,12 +165,7 @@ impl Source<'_> {
     }
 
     /// Writes all that stands before the tables.
-    fn put_front(
-        &self,
-        out: &mut Text<'_>,
-        tags: &Tags<'_>,
-        wishes: Wishes<'_>,
-    ) -> io::Result<()> {
+    fn put_front(&self, out: &mut Text<'_>, tags: &Tags<'_>, wishes: Wishes<'_>) -> io::Result<()> {
         let debug = u8::from(wishes.debug);
         out.add(b"/* A parser that ycc made. */\n")?;
         out.add(FRONT.as_bytes())?;
@@ -212,7 +207,10 @@ impl Source<'_> {
         let mut out = Text::new(alloc, wishes.header, wishes.lines);
         let prefix = wishes.prefix;
         out.add(b"/* What a parser that ycc made declares. */\n")?;
-        writeln!(out, "#ifndef YY_{prefix}_DEFINES_H\n#define YY_{prefix}_DEFINES_H")?;
+        writeln!(
+            out,
+            "#ifndef YY_{prefix}_DEFINES_H\n#define YY_{prefix}_DEFINES_H"
+        )?;
         put_tokens(&mut out, self.grammar)?;
         self.put_union(&mut out)?;
         self.put_value_type(&mut out, tags)?;

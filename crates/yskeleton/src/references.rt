@@ -51,7 +51,9 @@ fn line_len(bytes: &[u8]) -> usize {
 
 /// How many bytes stand before the rest of some.
 fn len_before(bytes: &[u8], rest: Option<&[u8]>) -> usize {
-    bytes.len().saturating_sub(rest.map_or(0, |rest| rest.len()))
+    bytes
+        .len()
+        .saturating_sub(rest.map_or(0, |rest| rest.len()))
 }
 
 /// How many bytes the string, the character constant, the comment or the byte at the front has.
@@ -99,7 +101,11 @@ fn number_at(bytes: &[u8]) -> Option<(i64, &[u8])> {
     }
     let (digits, after) = digit_run(rest);
     let value = value_of(digits);
-    let value = if is_negative { value.saturating_neg() } else { value };
+    let value = if is_negative {
+        value.saturating_neg()
+    } else {
+        value
+    };
     Some((value, after))
 }
 

@@ -32,7 +32,10 @@ fn put_quoted<W: Write>(out: &mut W, name: &[u8]) -> io::Result<()> {
 
 /// Writes a rule within a string of C.
 fn put_rule<W: Write>(out: &mut W, grammar: &Grammar, rule: usize) -> io::Result<()> {
-    put_quoted(out, left_of(grammar, rule).map_or(b"", |left| name_of(grammar, left)))?;
+    put_quoted(
+        out,
+        left_of(grammar, rule).map_or(b"", |left| name_of(grammar, left)),
+    )?;
     out.write_all(b" :")?;
     for symbol in body_of(grammar, rule) {
         out.write_all(b" ")?;
@@ -70,8 +73,14 @@ fn put_counts<W: Write>(out: &mut W, code: &Code) -> io::Result<()> {
     } = code;
     let greatest = code.numbers.as_slice().len().saturating_sub(1);
     let kind = type_of(*states);
-    writeln!(out, "\n#define YYNSTATES {states}\n#define YYNRULES {rules}")?;
-    writeln!(out, "#define YYNTOKENS {tokens}\n#define YYMAXTOKEN {greatest}")?;
+    writeln!(
+        out,
+        "\n#define YYNSTATES {states}\n#define YYNRULES {rules}"
+    )?;
+    writeln!(
+        out,
+        "#define YYNTOKENS {tokens}\n#define YYMAXTOKEN {greatest}"
+    )?;
     writeln!(out, "#define YYERRTOKEN {ERROR}\n#define YYSETSIZE {span}")?;
     writeln!(out, "typedef {kind} yystate_number;\n")
 }
