@@ -6,7 +6,7 @@
 Over the grammar and tokens of every scenario and example, and over N grammars drawn at random (40),
 each parser is compiled by the compiler (CC, or cc) with its sanitizers, as C90 without a warning,
 and makes the steps of `ystep`, line for line. Texts of actions, code and `%union` are left out,
-since those of scenarios are no C. The calculator of examples/calculator-c is built as C90, C99, C17
+since those of scenarios are no C; values are numbers. The calculator of examples/calculator-c is built as C90, C99, C17
 and C++17 by each compiler that is there, without a warning, with a trace and without, and answers
 as it should; a copy of it with another prefix is linked beside it.
 """
@@ -39,6 +39,7 @@ static void said (int kind, int number);
 static int yylex (void);
 static void yyerror (const char *what);
 #define YYSTEP(kind, number) said (kind, number)
+#define YYSTYPE int
 #define YYMAXDEPTH 1000000
 %}
 """
@@ -72,6 +73,7 @@ int main (void)
 """ % MOST
 
 
+LONGEST = 1_000_000
 CALCULATOR = TOP / "examples/calculator-c"
 # Compilers, and what each is asked to take the calculator for.
 LANGUAGES = {
@@ -260,7 +262,8 @@ def main():
     programs = dict(it.split("=", 1) for it in given.programs)
     programs = {name: str(Path(path).absolute()) for name, path in programs.items()}
     rng = random.Random(given.seed)
-    pairs = list(dict.fromkeys(pairs_of_scenarios()))
+    # A file at the limit has no room for what reads its tokens.
+    pairs = [it for it in dict.fromkeys(pairs_of_scenarios()) if len(it[0]) < LONGEST]
     pairs += [pair_at_random(rng) for _ in range(given.drawn)]
     found = by_grammar(pairs, programs)
     jobs = [(compare, (grammar, cases, programs["ycc"])) for grammar, cases in found.items()]

@@ -97,9 +97,51 @@ fn matches_by<'a>(
     }
 }
 
+/// The value of an argument that is required.
+fn value_of<'a>(matches: &ArgMatches<'a>, name: &str) -> Result<&'a str, Refused> {
+    matches.get_str(name).ok_or(Refused::Words)
+}
+
+/// Whether a flag is given.
+fn is_given(matches: &ArgMatches<'_>, name: &str) -> bool {
+    matches.get_str(name) == Some("true")
+}
+
+/// The grammar file, and whether it is one of bison.
+fn grammar_in<'a>(matches: &ArgMatches<'a>) -> Result<GrammarFile<'a>, Refused> {
+    let path = value_of(matches, "grammar")?;
+    match matches.get_str("from") {
+        None => Ok(GrammarFile { path, bison: false }),
+        Some("bison") => Ok(GrammarFile { path, bison: true }),
+        Some(_) => Err(Refused::Words),
+    }
+}
+
 /// The number that a word is.
 fn number_in(word: &str) -> Result<usize, Refused> {
     word.parse::<usize>().map_err(|_| Refused::Words)
+}
+
+/// The number that an option gives, where it is given.
+fn number_of(matches: &ArgMatches<'_>, name: &str) -> Result<Option<usize>, Refused> {
+    match matches.get_str(name) {
+        Some(word) => number_in(word).map(Some),
+        None => Ok(None),
+    }
+}
+
+/// An input, and how long it may be.
+fn input_of<'a>(matches: &ArgMatches<'a>, path: &'a str) -> Result<Limited<'a>, Refused> {
+    let most = most_of(matches)?;
+    Ok(Limited { path, most })
+}
+
+/// How many bytes an input may have.
+fn most_of(matches: &ArgMatches<'_>) -> Result<u64, Refused> {
+    match number_of(matches, "limit")? {
+        Some(most) => Ok(most as u64),
+        None => Ok(LONGEST_INPUT),
+    }
 }
 
 /// What stands behind each `--from` of a page: `bison`, and a first position, each once at most.
@@ -111,6 +153,100 @@ fn page_from(words: &[&str]) -> Result<(bool, usize), Refused> {
         [word, number] | [number, word] if *word == "bison" => Ok((true, number_in(number)?)),
         _ => Err(Refused::Words),
     }
+}
+
+/// A report on conflicts.
+fn report<W: Write>(
+    rt: &HostRuntime,
+    matches: &ArgMatches<'_>,
+    out: &mut W,
+) -> Result<u8, Refused> {
+    let file = grammar_in(matches)?;
+    let asked = Asked {
+        grammar: file.path,
+        save: matches.get_str("save"),
+        strict: is_given(matches, "strict"),
+    };
+    if asked.save == Some("") {
+        rt.stderr()
+            .write_all(b"ydebug: --save wants the name of a folder\n")?;
+        return Ok(2);
+    }
+    match open_file(rt, file, &mut rt.stderr())? {
+        Ok(opened) => Ok(put_conflicts(rt, out, &mut rt.stderr(), asked, opened)?),
+        Err(status) => Ok(status),
+    }
+}
+
+/// Verdicts on inputs.
+fn check_files<W: Write>(
+    rt: &HostRuntime,
+    matches: &ArgMatches<'_>,
+    out: &mut W,
+) -> Result<u8, Refused> {
+    let asked = check::Asked {
+        grammar: grammar_in(matches)?,
+        inputs: matches.get_strs("tokens").unwrap_or(&[]),
+        spec: matches.get_str("lex"),
+        choice: is_given(matches, "choice"),
+        most: most_of(matches)?,
+    };
+    let streams = (&mut rt.stdin(), out);
+    Ok(check_inputs(rt, asked, streams, &mut rt.stderr())?)
+}
+
+/// A page of a parse.
+fn page<W: Write>(rt: &HostRuntime, matches: &ArgMatches<'_>, out: &mut W) -> Result<u8, Refused> {
+    let (bison, from) = page_from(matches.get_strs("from").unwrap_or(&[]))?;
+    let path = value_of(matches, "grammar")?;
+    let source = Source {
+        rt,
+        grammar: GrammarFile { path, bison },
+        input: input_of(matches, value_of(matches, "tokens")?)?,
+        spec: matches.get_str("lex"),
+    };
+    let to = number_of(matches, "to")?;
+    let asked = page::Asked {
+        file: matches.get_str("file"),
+        part: Part { from, to },
+        conflicts: is_given(matches, "conflicts"),
+    };
+    Ok(run_page(&source, asked, out, &mut rt.stderr())?)
+}
+
+/// An import.
+fn import<W: Write>(
+    rt: &HostRuntime,
+    matches: &ArgMatches<'_>,
+    out: &mut W,
+) -> Result<u8, Refused> {
+    let asked = Import {
+        file: value_of(matches, "file")?,
+        output: matches.get_str("output"),
+    };
+    Ok(run_import(rt, asked, out, &mut rt.stderr())?)
+}
+
+/// The tokens of a text.
+fn cut_file<W: Write>(
+    rt: &HostRuntime,
+    matches: &ArgMatches<'_>,
+    out: &mut W,
+) -> Result<u8, Refused> {
+    let file = grammar_in(matches)?;
+    let input = input_of(matches, value_of(matches, "tokens")?)?;
+    let files = (value_of(matches, "lex")?, input);
+    Ok(run_tokens(rt, file, files, out, &mut rt.stderr())?)
+}
+
+/// A sketch of how tokens look.
+fn sketch_file<W: Write>(
+    rt: &HostRuntime,
+    matches: &ArgMatches<'_>,
+    out: &mut W,
+) -> Result<u8, Refused> {
+    let file = grammar_in(matches)?;
+    Ok(run_sketch(rt, file, out, &mut rt.stderr())?)
 }
 
 /// Whether an environment variable is set to something that counts.
@@ -138,180 +274,57 @@ fn setting_of(rt: &HostRuntime) -> Setting {
     }
 }
 
-/// A form that is obeyed: what stands after its word, and where its answer goes.
-#[derive(Drop)]
-struct Call<'c, 'a, W> {
-    rt: &'c HostRuntime,
-    matches: &'c ArgMatches<'a>,
-    out: &'c mut W,
-}
-
-impl<'a, W: Write> Call<'_, 'a, W> {
-    /// The value of an argument that is required.
-    fn value(&self, name: &str) -> Result<&'a str, Refused> {
-        self.matches.get_str(name).ok_or(Refused::Words)
-    }
-
-    /// Whether a flag is given.
-    fn is_given(&self, name: &str) -> bool {
-        self.matches.get_str(name) == Some("true")
-    }
-
-    /// The number that an option gives, where it is given.
-    fn number(&self, name: &str) -> Result<Option<usize>, Refused> {
-        match self.matches.get_str(name) {
-            Some(word) => number_in(word).map(Some),
-            None => Ok(None),
+/// A session with the standard streams.
+fn debug_files<W: Write>(
+    rt: &HostRuntime,
+    matches: &ArgMatches<'_>,
+    out: &mut W,
+) -> Result<u8, Refused> {
+    let source = Source {
+        rt,
+        grammar: grammar_in(matches)?,
+        input: input_of(matches, value_of(matches, "tokens")?)?,
+        spec: matches.get_str("lex"),
+    };
+    match source.open(&mut rt.stderr())? {
+        Ok(parse) => {
+            let ended = debug(&source, setting_of(rt), parse, rt.stdin(), out);
+            ended.map(|()| 0).map_err(Refused::from)
         }
-    }
-
-    /// How many bytes an input may have.
-    fn most(&self) -> Result<u64, Refused> {
-        let most = self.number("limit")?;
-        Ok(most.map_or(LONGEST_INPUT, |most| most as u64))
-    }
-
-    /// The grammar file, and whether it is one of bison.
-    fn grammar(&self) -> Result<GrammarFile<'a>, Refused> {
-        let path = self.value("grammar")?;
-        match self.matches.get_str("from") {
-            None => Ok(GrammarFile { path, bison: false }),
-            Some("bison") => Ok(GrammarFile { path, bison: true }),
-            Some(_) => Err(Refused::Words),
-        }
-    }
-
-    /// The input, and how long it may be.
-    fn input(&self) -> Result<Limited<'a>, Refused> {
-        Ok(Limited {
-            path: self.value("tokens")?,
-            most: self.most()?,
-        })
-    }
-
-    /// A report on conflicts.
-    fn report(self) -> Result<u8, Refused> {
-        let (rt, file) = (self.rt, self.grammar()?);
-        let asked = Asked {
-            grammar: file.path,
-            save: self.matches.get_str("save"),
-            strict: self.is_given("strict"),
-        };
-        if asked.save == Some("") {
-            rt.stderr()
-                .write_all(b"ydebug: --save wants the name of a folder\n")?;
-            return Ok(2);
-        }
-        match open_file(rt, file, &mut rt.stderr())? {
-            Ok(opened) => Ok(put_conflicts(rt, self.out, &mut rt.stderr(), asked, opened)?),
-            Err(status) => Ok(status),
-        }
-    }
-
-    /// Verdicts on inputs.
-    fn check(self) -> Result<u8, Refused> {
-        let rt = self.rt;
-        let asked = check::Asked {
-            grammar: self.grammar()?,
-            inputs: self.matches.get_strs("tokens").unwrap_or(&[]),
-            spec: self.matches.get_str("lex"),
-            choice: self.is_given("choice"),
-            most: self.most()?,
-        };
-        let streams = (&mut rt.stdin(), self.out);
-        Ok(check_inputs(rt, asked, streams, &mut rt.stderr())?)
-    }
-
-    /// A page of a parse.
-    fn page(self) -> Result<u8, Refused> {
-        let (bison, from) = page_from(self.matches.get_strs("from").unwrap_or(&[]))?;
-        let path = self.value("grammar")?;
-        let source = Source {
-            rt: self.rt,
-            grammar: GrammarFile { path, bison },
-            input: self.input()?,
-            spec: self.matches.get_str("lex"),
-        };
-        let to = self.number("to")?;
-        let asked = page::Asked {
-            file: self.matches.get_str("file"),
-            part: Part { from, to },
-            conflicts: self.is_given("conflicts"),
-        };
-        Ok(run_page(&source, asked, self.out, &mut self.rt.stderr())?)
-    }
-
-    /// An import.
-    fn import(self) -> Result<u8, Refused> {
-        let asked = Import {
-            file: self.value("file")?,
-            output: self.matches.get_str("output"),
-        };
-        Ok(run_import(self.rt, asked, self.out, &mut self.rt.stderr())?)
-    }
-
-    /// The tokens of a text.
-    fn cut(self) -> Result<u8, Refused> {
-        let file = self.grammar()?;
-        let files = (self.value("lex")?, self.input()?);
-        Ok(run_tokens(self.rt, file, files, self.out, &mut self.rt.stderr())?)
-    }
-
-    /// A sketch of how tokens look.
-    fn sketch(self) -> Result<u8, Refused> {
-        let file = self.grammar()?;
-        Ok(run_sketch(self.rt, file, self.out, &mut self.rt.stderr())?)
-    }
-
-    /// A session with the standard streams.
-    fn debug(self) -> Result<u8, Refused> {
-        let rt = self.rt;
-        let source = Source {
-            rt,
-            grammar: self.grammar()?,
-            input: self.input()?,
-            spec: self.matches.get_str("lex"),
-        };
-        match source.open(&mut rt.stderr())? {
-            Ok(parse) => {
-                let ended = debug(&source, setting_of(rt), parse, rt.stdin(), self.out);
-                ended.map(|()| 0).map_err(Refused::from)
-            }
-            Err(status) => {
-                // Why there is no session is said; memory may have run out, and a hint is no more.
-                let _ = put_near_form(rt, &mut rt.stderr(), source.grammar.path);
-                Ok(status)
-            }
-        }
-    }
-
-    /// Does what a form and what stands after it ask for, and gives the exit status.
-    fn obey(self, form: Form) -> Result<u8, Refused> {
-        match form {
-            Form::Debug => self.debug(),
-            Form::Conflicts => self.report(),
-            Form::Check => self.check(),
-            Form::Page => self.page(),
-            Form::Import => self.import(),
-            Form::Tokens => self.cut(),
-            Form::Sketch => self.sketch(),
+        Err(status) => {
+            // Why there is no session is said; memory may have run out, and a hint is no more.
+            let _ = put_near_form(rt, &mut rt.stderr(), source.grammar.path);
+            Ok(status)
         }
     }
 }
 
-/// Does what a form asks for, and writes all that is left in the buffer.
+/// Does what a form and what stands behind it ask for, and gives the exit status.
+fn obey<W: Write>(
+    rt: &HostRuntime,
+    form: Form,
+    matches: &ArgMatches<'_>,
+    out: &mut W,
+) -> Result<u8, Refused> {
+    match form {
+        Form::Debug => debug_files(rt, matches, out),
+        Form::Conflicts => report(rt, matches, out),
+        Form::Check => check_files(rt, matches, out),
+        Form::Page => page(rt, matches, out),
+        Form::Import => import(rt, matches, out),
+        Form::Tokens => cut_file(rt, matches, out),
+        Form::Sketch => sketch_file(rt, matches, out),
+    }
+}
+
+/// Does so, and writes all that is left in the buffer.
 fn obey_all<W: Write>(
     rt: &HostRuntime,
     form: Form,
     matches: &ArgMatches<'_>,
     out: &mut W,
 ) -> Result<u8, Refused> {
-    let call = Call {
-        rt,
-        matches,
-        out: &mut *out,
-    };
-    let status = call.obey(form)?;
+    let status = obey(rt, form, matches, out)?;
     out.flush()?;
     Ok(status)
 }
@@ -348,7 +361,10 @@ fn obey_given(rt: &HostRuntime, words: &[&str]) -> Result<u8, Refused> {
 /// Reads the words and does what they ask for.
 fn run(rt: &HostRuntime) -> Result<u8, Refused> {
     let given: Vec<String> = env::args(rt)?.collect(rt.alloc())?;
-    let words: Vec<&str> = given.iter().map(String::as_str).collect(rt.alloc())?;
+    let mut words = Vec::with_capacity(rt.alloc(), given.len())?;
+    for word in &given {
+        words.push(word.as_str()).map_err(AllocError::from)?;
+    }
     obey_given(rt, &words)
 }
 

@@ -35,7 +35,8 @@ pub fn put_ahead<W: Write>(page: &mut Page<W>, parse: &Parse) {
 fn put_token<W: Write>(
     page: &mut Page<W>,
     parse: &Parse,
-    read: &mut Option<(&Text, Spots<'_>)>,
+    text: Option<&Text>,
+    spots: &mut Spots<'_>,
     index: usize,
 ) {
     let (token, number) = upcoming_token(parse.session(), index);
@@ -46,7 +47,7 @@ fn put_token<W: Write>(
     }
     page.put("  ");
     page.put(name_of(grammar_of(parse.tables()), token));
-    if let (true, Some((text, spots))) = (number > 0, read) {
+    if let (true, Some(text)) = (number > 0, text) {
         let (line, column) = spots.reach(text.at(number));
         page.tab(40);
         let _ = write!(page, "{line}:{column}");
@@ -60,9 +61,13 @@ pub fn put_upcoming<W: Write>(page: &mut Page<W>, parse: &Parse) {
     if count == 0 {
         page.line("There is no upcoming token.");
     }
-    let mut read = parse.text().map(|text| (text, Spots::new(&text.bytes)));
+    let bytes = match parse.text() {
+        Some(text) => text.bytes.as_slice(),
+        None => &[],
+    };
+    let mut spots = Spots::new(bytes);
     for index in 0..count.min(MANY) {
-        put_token(page, parse, &mut read, index);
+        put_token(page, parse, parse.text(), &mut spots, index);
     }
     put_more(page, count.saturating_sub(MANY), " tokens behind");
 }

@@ -70,82 +70,87 @@ fn cards_of(alloc: Global, opened: Opened, wanted: bool) -> io::Result<(Opened, 
     }
 }
 
-/// A page to be made: of what files, what is asked for, and where is written.
-#[derive(Drop)]
-struct Task<'a, F, W, E> {
-    source: &'a Source<'a, F>,
-    asked: Asked<'a>,
-    out: &'a mut W,
-    errors: &'a mut E,
+/// Writes that there are more steps than a page shows.
+fn refuse_long<E: Write>(errors: &mut E, from: usize) -> io::Result<u8> {
+    let to = from.saturating_add(MOST_STEPS);
+    writeln!(
+        errors,
+        "ydebug: there are more than {MOST_STEPS} steps, the most that one page shows; choose a \
+         part with --from and --to, such as --from {from} --to {to}"
+    )?;
+    Ok(1)
 }
 
-impl<F: Files + AllocGlobal, W: Write, E: Write> Task<'_, F, W, E> {
-    /// Writes that there are more steps than a page shows.
-    fn refuse_long(self) -> io::Result<u8> {
-        let from = self.asked.part.from;
-        let to = from.saturating_add(MOST_STEPS);
-        writeln!(
-            self.errors,
-            "ydebug: there are more than {MOST_STEPS} steps, the most that one page shows; choose \
-             a part with --from and --to, such as --from {from} --to {to}"
-        )?;
-        Ok(1)
-    }
+/// Writes that the parse ends before the part.
+fn refuse_short<E: Write>(errors: &mut E, from: usize, end: usize) -> io::Result<u8> {
+    writeln!(
+        errors,
+        "ydebug: the parse ends at position {end}, before --from {from}"
+    )?;
+    Ok(1)
+}
 
-    /// Writes that the parse ends before the part.
-    fn refuse_short(self, end: usize) -> io::Result<u8> {
-        let from = self.asked.part.from;
-        writeln!(
-            self.errors,
-            "ydebug: the parse ends at position {end}, before --from {from}"
-        )?;
-        Ok(1)
-    }
+/// Writes the page of what is shown, and gives the exit status.
+fn put_shown<F: Files + AllocGlobal, W: Write, E: Write>(
+    rt: &F,
+    file: Option<&str>,
+    shown: Shown<'_>,
+    out: &mut W,
+    errors: &mut E,
+) -> io::Result<u8> {
+    let page = page_of(rt.alloc(), shown)?;
+    put_output(rt, file, &page, out, errors)
+}
 
-    /// Writes the page of what is shown, and gives the exit status.
-    fn put_shown(self, shown: Shown<'_>) -> io::Result<u8> {
-        let page = page_of(self.source.rt.alloc(), shown)?;
-        put_output(
-            self.source.rt,
-            self.asked.file,
-            &page,
-            self.out,
-            self.errors,
-        )
-    }
+/// Writes the page of the steps that a parse has made, and gives the exit status.
+fn put_steps<F: Files + AllocGlobal, W: Write, E: Write>(
+    source: &Source<'_, F>,
+    asked: Asked<'_>,
+    parse: Parse,
+    trail: &Trail,
+    out: &mut W,
+    errors: &mut E,
+) -> io::Result<u8> {
+    let alloc = source.rt.alloc();
+    let input = Input::new(alloc, &parse, &trail.record)?;
+    let (opened, cards) = cards_of(alloc, parse.into_opened(), asked.conflicts)?;
+    let shown = Shown {
+        files: (source.grammar.path, source.input.path),
+        opened: &opened,
+        input: &input,
+        record: &trail.record,
+        asked: trail.cells.as_slice(),
+        conflicts: cards.as_ref(),
+    };
+    put_shown(source.rt, asked.file, shown, out, errors)
+}
 
-    /// Writes the page of the steps that a parse has made, and gives the exit status.
-    fn put_steps(self, parse: Parse, trail: &Trail) -> io::Result<u8> {
-        let alloc = self.source.rt.alloc();
-        let input = Input::new(alloc, &parse, &trail.record)?;
-        let (opened, cards) = cards_of(alloc, parse.into_opened(), self.asked.conflicts)?;
-        let shown = Shown {
-            files: (self.source.grammar.path, self.source.input.path),
-            opened: &opened,
-            input: &input,
-            record: &trail.record,
-            asked: trail.cells.as_slice(),
-            conflicts: cards.as_ref(),
-        };
-        self.put_shown(shown)
+/// Writes the page of a parse at its start, and gives the exit status.
+fn put_parse<F: Files + AllocGlobal, W: Write, E: Write>(
+    source: &Source<'_, F>,
+    asked: Asked<'_>,
+    parse: Parse,
+    out: &mut W,
+    errors: &mut E,
+) -> io::Result<u8> {
+    let mut parse = parse;
+    match walk_part(source.rt.alloc(), &mut parse, asked.part)? {
+        Walked::Done(trail) => put_steps(source, asked, parse, &trail, out, errors),
+        Walked::Long => refuse_long(errors, asked.part.from),
+        Walked::Short(end) => refuse_short(errors, asked.part.from, end),
     }
+}
 
-    /// Writes the page of a parse at its start, and gives the exit status.
-    fn put_parse(self, parse: Parse) -> io::Result<u8> {
-        let mut parse = parse;
-        match walk_part(self.source.rt.alloc(), &mut parse, self.asked.part)? {
-            Walked::Done(trail) => self.put_steps(parse, &trail),
-            Walked::Long => self.refuse_long(),
-            Walked::Short(end) => self.refuse_short(end),
-        }
-    }
-
-    /// Opens the parse and writes its page, and gives the exit status.
-    fn put(self) -> io::Result<u8> {
-        match self.source.open(self.errors)? {
-            Ok(parse) => self.put_parse(parse),
-            Err(status) => Ok(status),
-        }
+/// Opens a parse and writes its page, and gives the exit status.
+fn open_parse<F: Files + AllocGlobal, W: Write, E: Write>(
+    source: &Source<'_, F>,
+    asked: Asked<'_>,
+    out: &mut W,
+    errors: &mut E,
+) -> io::Result<u8> {
+    match source.open(errors)? {
+        Ok(parse) => put_parse(source, asked, parse, out, errors),
+        Err(status) => Ok(status),
     }
 }
 
@@ -153,11 +158,11 @@ impl<F: Files + AllocGlobal, W: Write, E: Write> Task<'_, F, W, E> {
 /// there are more steps than a page shows, or the parse ends before the part; 2 where the part
 /// ends before it begins, or the page would go to an input; 3 where a file can't be read or
 /// written, there are too many states, or memory runs out.
-pub fn run_page<'a, F: Files + AllocGlobal, W: Write, E: Write>(
-    source: &'a Source<'a, F>,
-    asked: Asked<'a>,
-    out: &'a mut W,
-    errors: &'a mut E,
+pub fn run_page<F: Files + AllocGlobal, W: Write, E: Write>(
+    source: &Source<'_, F>,
+    asked: Asked<'_>,
+    out: &mut W,
+    errors: &mut E,
 ) -> io::Result<u8> {
     let grammar = source.grammar.path;
     let inputs = [grammar, source.input.path, source.spec.unwrap_or(grammar)];
@@ -170,12 +175,6 @@ pub fn run_page<'a, F: Files + AllocGlobal, W: Write, E: Write>(
             writeln!(errors, "ydebug: --to {to} stands before --from {from}")?;
             Ok(2)
         }
-        _ => Task {
-            source,
-            asked,
-            out,
-            errors,
-        }
-        .put(),
+        _ => open_parse(source, asked, out, errors),
     }
 }
