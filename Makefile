@@ -5,10 +5,12 @@
 # make build      proves the programs and leaves them in bin/
 # make bench      times whole runs of the programs, on growing grammars and over long parses; FILES="a.y b.y" adds grammar files to them
 # make refuse     refuses allocations of a run, each once and each with all behind it, on every example and some scenarios, and counts those of each line of every session; FILES="a.y b.y" refuses some thousands over these grammar files instead
-# make debug      refuses the allocations of twelve sessions and eight commands of ydebug in turn, gives it 100,000 random command lines over random grammars, and shows its screens at a terminal, which needs tmux
+# make debug      refuses the allocations of twelve sessions and twelve commands of ydebug in turn, gives it 100,000 random command lines over random grammars, and shows its screens at a terminal, which needs tmux
 # make page-test  steps through the pages of every example in a browser without a window, which apt-get installs where it is missing, and compares them with ystep; keeps pictures in screenshots/
 # make compare    compares the programs that make build left with plain machines in Python, on grammars drawn at random, for a minute, verdicts with sessions over every scenario, texts with a lexer in Python, and what hints and warnings on conflicts say with changed grammars, for a minute each; FILES="a.y b.y" adds these, cut off and spoiled, with a second reader
 # make parsers    compares the steps of parsers that ycc makes with those of ystep, over scenarios and 2,000 grammars at random, and builds the calculator of examples/calculator-c in every way; some minutes
+# make features   builds small programs, each of which uses a feature of bison's or byacc's files, by the peer and by ycc, and compares what they do; it takes bison, byacc and a C compiler; some minutes
+# make packages   builds some source packages of Debian with parsers that ycc makes and with those of byacc or bison, runs their own tests, and gives both builds 300 spoiled inputs for each program; PACKAGES="bc units" names some. It takes a network, byacc, bison, flex, cmake, automake and meson
 # make drivers    builds the drivers in C and Python, and compares their steps with those of ystep, over scenarios, at random and by tables that are wrong
 # make install    copies programs, manual pages, drivers and books below PREFIX (/usr/local), and with DESTDIR below that; make build comes first. YACC_LINK=1 makes bin/yacc a link to ycc, for builds that call it so; YACC_TABLES=1 installs the program of this name that writes tables and no C
 # make uninstall  takes the same files away
@@ -17,7 +19,7 @@
 # make hostile    runs both programs, proved, between devices that fail and on files and streams that are no one's friends, and ydebug on full disks and pipes that nobody reads
 # make edits      tries every wrong body that the prover must refuse, also those that the gate leaves out; some 40 minutes
 # make test       the gate: every proof from nothing, the wrong bodies in must-fail, the tests, the stored runs, the scenarios, make hostile, make refuse over three examples, the allocations of every session
-.PHONY: demo examples scenarios accept build bench refuse debug page-test compare parsers drivers install uninstall dist imports hostile edits test
+.PHONY: demo examples scenarios accept build bench refuse debug page-test compare parsers features packages drivers install uninstall dist imports hostile edits test
 
 programs := $(foreach file,$(wildcard crates/*/src/main.rt),$(notdir $(file:/src/main.rt=)))
 run := python3 scenarios/run.py $(foreach name,$(programs),$(name)=crates/$(name)/out/$(name))
@@ -71,13 +73,19 @@ compare:
 parsers: build
 	@python3 scripts/parsers.py --drawn 2000 yacc=bin/yacc ystep=bin/ystep ycc=bin/ycc
 
+features: build
+	@python3 scripts/features.py ycc=bin/ycc
+
+packages: build
+	@python3 scripts/packages.py bin/ycc $(PACKAGES)
+
 bin/libydriver.a: drivers/c/ydriver.c drivers/c/ydriver.h
 	@mkdir -p bin
 	@$(CC) -std=c99 -O2 -Wall -Wextra -c -o bin/ydriver.o $<
 	@$(AR) rcs $@ bin/ydriver.o
 
 drivers: build bin/libydriver.a
-	@python3 drivers/check.py yacc=bin/yacc ystep=bin/ystep
+	@python3 drivers/check.py yacc=bin/yacc ystep=bin/ystep ydebug=bin/ydebug
 
 .PHONY: bin/ydriver.pc
 bin/ydriver.pc: drivers/c/ydriver.pc.in Makefile

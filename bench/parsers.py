@@ -57,7 +57,7 @@ yylex (void)
 static void
 yyerror (const char *what)
 {
-  if (what[0] == 'm' || next != input + sizeof input / sizeof *input)
+  if (what[0] != 's' || next != input + sizeof input / sizeof *input)
     exit (1);
 }
 

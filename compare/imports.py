@@ -15,7 +15,6 @@ import os
 import re
 import subprocess
 import sys
-import tarfile
 import tempfile
 from collections import Counter
 from pathlib import Path
@@ -23,14 +22,9 @@ from pathlib import Path
 sys.dont_write_bytecode = True
 
 from automata import by_bison, by_yacc, difference
+from debian import Apt, Unfetched
 
 PACKAGES = "mawk bc libpcap gawk flex jq libxkbcommon iproute2 units bash nftables ntpsec".split()
-SOURCES = """Types: deb-src
-URIs: http://deb.debian.org/debian
-Suites: bookworm
-Components: main
-Signed-By: /usr/share/keyrings/debian-archive-keyring.gpg
-"""
 # A comment, a string, a character, code, a mark, a directive, or one byte.
 PIECE = re.compile(
     rb"/\*.*?\*/|//[^\n]*|\"(?:\\.|[^\"\\])*\"|'(?:\\.|[^'\\])*'|%\{.*?%\}|%%|%[\w-]+|.", re.S
@@ -40,47 +34,6 @@ ASIDE = {b"%destructor", b"%printer", b"%code", b"%union", b"%initial-action", b
 EXPECTS = re.compile(rb"%expect(-rr)?[ \t]+\d+")
 COUNTED = re.compile(r"(shift|reduce)/reduce conflicts, as bison counts them: (\d+)")
 TOO_MANY = 99_999_999
-
-
-class Unfetched(Exception):
-    pass
-
-
-class Apt:
-    """`apt-get` over lists of its own, below a folder."""
-
-    def __init__(self, room):
-        self.room = room
-        for name in ("lists/partial", "cache/archives/partial", "parts", "source"):
-            (room / name).mkdir(parents=True)
-        (room / "parts" / "source.sources").write_text(SOURCES)
-        self.run("update", room)
-
-    def run(self, word, folder, *more):
-        options = {
-            "Dir::Etc::sourcelist": "/dev/null",
-            "Dir::Etc::sourceparts": self.room / "parts",
-            "Dir::State::lists": self.room / "lists",
-            "Dir::Cache": self.room / "cache",
-            "APT::Sandbox::User": "root",
-        }
-        words = [it for name, value in options.items() for it in ("-o", f"{name}={value}")]
-        ran = subprocess.run(["apt-get", *words, word, *more], cwd=folder, capture_output=True, text=True)
-        if ran.returncode or "Err:" in ran.stdout:
-            raise Unfetched((ran.stderr or ran.stdout).strip().splitlines()[-1])
-
-    def grammars(self, package):
-        """The grammar files of a source package, each with its name."""
-        folder = self.room / "source" / package
-        folder.mkdir()
-        self.run("source", folder, "--download-only", package)
-        for archive in sorted(folder.glob("*.tar.*")):
-            if archive.suffix == ".asc":
-                continue
-            with tarfile.open(archive) as tar:
-                for member in tar:
-                    if member.isfile() and member.name.endswith((".y", ".yy")):
-                        yield member.name, tar.extractfile(member).read()
 
 
 def pieces_between_marks(source):

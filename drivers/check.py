@@ -1,13 +1,14 @@
 #!/usr/bin/env python3
 """Compares the steps of both drivers with those of `ystep`, and shows them tables that are wrong.
 
-    check.py [--try] [--seed N] [--sessions N] yacc=PATH ystep=PATH
+    check.py [--try] [--seed N] [--sessions N] yacc=PATH ystep=PATH ydebug=PATH
 
 Over the grammar and tokens of every scenario and example, and over 1,000 random ones, both drivers
-make the steps of `ystep`, line for line. Of 10,000 tables with bytes changed or cut both say the
-same: the line that is at fault, or the same steps. Each beginning of a table is refused with its
-last line. C runs as it is and with the sanitizers of the
-compiler (CC, or cc). Both calculators, and the program of the tutorial, answer as they should.
+make the steps of `ystep`, line for line, and the digest of the table is that of `ydebug rules`. Of
+10,000 tables with bytes changed or cut both say the same: the line that is at fault, or the same
+steps. Each beginning of a table is refused with its last line. C runs as it is and with the
+sanitizers of the compiler (CC, or cc). Both calculators, and the program of the tutorial, answer as
+they should, and refuse a table that got a rule more than their names were made for.
 With --try the programs are built by `rt try`.
 """
 import argparse
@@ -29,17 +30,21 @@ sys.path[:0] = [str(TOP / it) for it in ("scenarios", "compare", "drivers/python
 import proved
 import tried
 from folders import Fault as NoScenario
-from folders import Scenario, found_below, read
+from folders import Scenario, found_below, lay, read
 from grammars import grammar_of, tokens_of
 from pages import blocks_of
 from reader import LITERAL, value_of
 from spoil import spoiled
-from ydriver import Fault, Kind, Parser, Result, read_table
+from ydriver import Fault, Kind, Parser, Result, digest_of, read_table
 
 TABLES = 10_000
 MOST, FEW = 20_000, 200
 NAMED = {Kind.SHIFT, Kind.POP, Kind.DISCARD}
 WORD = re.compile(rb"%b|[^\s']+" % LITERAL.pattern)
+DIGEST = re.compile(rb"a table with the digest ([0-9a-f]{8})\n")
+OTHER = b"the names of its rules were made for another table\n"
+# A rule more in the grammar of the calculators, above those that have actions.
+FIRST, MORE = b"      | input line\n", b"      | input ';'\n"
 STRICT = ["-std=c99", "-Wall", "-Wextra", "-Wpedantic", "-Wconversion", "-Werror"]
 CHECKED = ["-g", "-O1", "-fsanitize=address,undefined", "-fno-sanitize-recover=all"]
 # As it is, with the sanitizers, and where each growth of the stack is refused once.
@@ -66,13 +71,15 @@ def pair_at_random(rng):
             return grammar.text.encode(), f"{tokens}\n".encode()
 
 
-def runs_of(pairs):
-    """What `yacc` and `ystep` are given, one after the other for each pair."""
+def runs_of(pairs, has_names):
+    """What `yacc`, `ystep` and, where it is there, `ydebug` are given, in turn for each pair."""
     for grammar, tokens in pairs:
         files = {"grammar": grammar, "tokens": tokens}
         yield Scenario(HERE, ["yacc", "grammar"], b"", files, {}, {}, {})
         run = b"run %d\n" % MOST
         yield Scenario(HERE, ["ystep", "grammar", "tokens"], run, files, {}, {}, {})
+        if has_names:
+            yield Scenario(HERE, ["ydebug", "rules", "grammar"], b"", files, {}, {}, {})
 
 
 def name_of(word):
@@ -83,23 +90,40 @@ def name_of(word):
     return f"'{chr(value)}'" if 32 <= value <= 126 and value not in b"'\\" else f"'\\{value:03o}'"
 
 
+def taken(made):
+    """What came back of a run; the check ends where it came to nothing."""
+    if isinstance(made, NoScenario):
+        sys.exit(f"check.py: {made}")
+    return made
+
+
+def compare_digest(case, told):
+    """Whether a list of rules has the digest of the table."""
+    found, ours = DIGEST.search(told), b"%08x" % digest_of(case[0])
+    if not found or found[1] != ours:
+        differ("a digest", case, ours, told)
+
+
 def cases_of(pairs, way, programs):
     """The table, the tokens and the steps of each pair that no program refuses."""
-    made = way.run_all(list(runs_of(pairs)), programs)
-    for (_, tokens), table, steps in zip(pairs, made[::2], made[1::2]):
-        for it in (table, steps):
-            if isinstance(it, NoScenario):
-                sys.exit(f"check.py: {it}")
+    runs = list(runs_of(pairs, "ydebug" in programs))
+    made = [taken(it) for it in way.run_all(runs, programs)]
+    many = len(runs) // max(len(pairs), 1)
+    for at, (_, tokens) in enumerate(pairs):
+        table, steps, *rules = made[at * many : (at + 1) * many]
         if table["status"] == steps["status"] == b"0\n":
             names = [name_of(word[0]) for word in WORD.finditer(tokens)]
-            yield table["left/y.tab"], names, steps["stdout"].decode()
+            case = table["left/y.tab"], names, steps["stdout"].decode()
+            for it in rules:
+                compare_digest(case, it["stdout"])
+            yield case
 
 
 def steps_of_python(table, names, most):
     """The steps of the driver in Python, and what came of them."""
-    read_as, lines = read_table(table), []
+    read_as, lines = read_table(table, digest_of(table)), []
     if isinstance(read_as, Fault):
-        return "", f"line {read_as.line}: {read_as.what}"
+        return "", str(read_as)
 
     def say(kind, number):
         shown = f" {read_as.names[number]}" if kind in NAMED else ""
@@ -119,7 +143,7 @@ def steps_of_c(program, cases, most):
     """The same of the driver in C, of all cases in one run."""
     frames = []
     for table, names, _ in cases:
-        frames += [b"%d %d %d\n" % (len(table), len(names), most), table]
+        frames += [b"%d %d %d %d\n" % (len(table), len(names), most, digest_of(table)), table]
         frames += [f"{name}\n".encode() for name in names]
     ran = subprocess.run([program], input=b"".join(frames), capture_output=True)
     if ran.returncode or ran.stderr:
@@ -175,39 +199,67 @@ def compare_beginnings(table, program):
     return len(cases)
 
 
-def table_of(grammar, way, programs):
-    """The table of a grammar."""
-    run = Scenario(HERE, ["yacc", "grammar"], b"", {"grammar": grammar}, {}, {}, {})
-    return way.run_all([run], programs)[0]["left/y.tab"]
+def makers_of(grammar, names):
+    """What `yacc` is given for a table, and `ydebug` for its names as a header and a module."""
+    outputs = f"{names}.h", f"{names}.py"
+    files = {"grammar": grammar, **dict.fromkeys(outputs, b"")}
+    words = ["ydebug", "rules", "grammar", "--header", outputs[0], "--python", outputs[1]]
+    yield Scenario(HERE, ["yacc", "grammar"], b"", {"grammar": grammar}, {}, {}, {})
+    yield Scenario(HERE, words, b"", files, {}, {}, {})
 
 
-def compare_answers(words, given, answers):
-    """Whether a program answers as it should."""
-    where = {**os.environ, "PYTHONPATH": str(HERE / "python")}
-    ran = subprocess.run(words, input=given, capture_output=True, env=where)
-    if ran.returncode or ran.stderr or ran.stdout != answers:
-        sys.exit(f"check.py: {words[-2]}\n{(ran.stdout + ran.stderr).decode()}")
+def lay_made(names, folders, way, programs):
+    """Lays what is made of each grammar into its folder."""
+    runs = [run for grammar in folders.values() for run in makers_of(grammar, names)]
+    made = [taken(it) for it in way.run_all(runs, programs)]
+    for folder, table, named in zip(folders, made[::2], made[1::2]):
+        files = {"y.tab": table["left/y.tab"]}
+        files.update((it, named[f"left/{it}"]) for it in (f"{names}.h", f"{names}.py"))
+        lay(files, folder)
+
+
+def compare_answers(words, folders, given, answers, refused=b""):
+    """Whether a program with the names in one folder answers as it should by the table in another,
+    or refuses that with these words."""
+    names, table = folders
+    where = {**os.environ, "PYTHONPATH": os.pathsep.join([str(HERE / "python"), names])}
+    run = [*words, f"{table}/y.tab"]
+    ran = subprocess.run(run, input=given, capture_output=True, env=where)
+    if (ran.stdout, ran.stderr, not ran.returncode) != (answers, refused, not refused):
+        sys.exit(f"check.py: {run}\n{(ran.stdout + ran.stderr).decode()}")
+
+
+def calculators_in(folder):
+    """The words of both calculators, that in C with the names in a folder."""
+    in_c = build(folder, "calculator", "calculator.c", [*CHECKED, f"-I{folder}"])
+    return [in_c], [sys.executable, str(HERE / "python/calculator.py")]
 
 
 def compare_calculators(folder, way, programs):
-    """Both calculators, on sums whose answers are known."""
-    table = Path(f"{folder}/calculator.tab")
-    table.write_bytes(table_of((HERE / "calculator.y").read_bytes(), way, programs))
-    in_c = build(folder, "calculator", "calculator.c", CHECKED)
-    for words in ([in_c], [sys.executable, str(HERE / "python/calculator.py")]):
-        sums, answers = (HERE / "sums").read_bytes(), (HERE / "answers").read_bytes()
-        compare_answers([*words, str(table)], sums, answers)
+    """Both calculators, on sums whose answers are known, and with the table of another grammar."""
+    grammar = (HERE / "calculator.y").read_bytes()
+    sums, answers = (HERE / "sums").read_bytes(), (HERE / "answers").read_bytes()
+    old, new = f"{folder}/old", f"{folder}/new"
+    more = grammar.replace(FIRST, FIRST + MORE)
+    lay_made("calculator_rules", {old: grammar, new: more}, way, programs)
+    for names, other in ((old, new), (new, old)):
+        for words in calculators_in(names):
+            compare_answers(words, (names, names), sums, answers)
+            compare_answers(words, (names, other), sums, b"", OTHER)
 
 
 def compare_tutorial(folder, way, programs):
-    """The program of the tutorial, on its questions."""
+    """The program of the tutorial, on its questions, and with a rule above the others."""
     blocks = blocks_of((TOP / "docs/TUTORIAL.md").read_text())
     files = {name: "".join(lines).encode() for kind, name, lines, _ in blocks if kind == "file"}
-    table, program = Path(f"{folder}/queries.tab"), Path(f"{folder}/ask.py")
-    table.write_bytes(table_of(files["queries.y"], way, programs))
-    program.write_bytes(files["ask.py"])
-    words = [sys.executable, str(program), str(table)]
-    compare_answers(words, files["questions"], files["answers"])
+    old, new = f"{folder}/queries", f"{folder}/more queries"
+    more = files["queries.y"].replace(b"%%\n", b"%%\nqueries : queries ';' ;\n")
+    lay_made("queries_rules", {old: files["queries.y"], new: more}, way, programs)
+    lay({"ask.py": files["ask.py"]}, folder)
+    words = [sys.executable, f"{folder}/ask.py"]
+    for names in (old, new):
+        compare_answers(words, (names, names), files["questions"], files["answers"])
+    compare_answers(words, (old, new), files["questions"], b"", b"the table: " + OTHER)
 
 
 def build(folder, name, main, flags):

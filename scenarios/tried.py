@@ -1,8 +1,8 @@
 """Runs scenarios with `rt try --cases`: the programs are built without proof, once for all.
 
-What names a file where a scenario runs becomes an absolute path, since each case runs in a folder
-of its own; the path is taken out of what comes back. A program that writes files by a prefix gets
-an absolute one. Under `rt try` each program's own name is `program`.
+What names a file that lies where a scenario runs, before or after, becomes an absolute path, since
+each case runs in a folder of its own; the path is taken out of what comes back. A program that
+writes files by a prefix gets an absolute one. Under `rt try` each program's own name is `program`.
 """
 import os
 import re
@@ -43,7 +43,9 @@ def with_prefix(words, room, letter, usual):
 def placed(scenario, room):
     """The words behind the program's name, with absolute paths."""
     program, *words = scenario.words
-    words = [f"{room}/{word}" if word in scenario.inputs else word for word in words]
+    left = [path[5:] for path in scenario.wanted if path.startswith("left/")]
+    files = {*scenario.inputs, *left}
+    words = [f"{room}/{word}" if os.path.normpath(word) in files else word for word in words]
     return with_prefix(words, room, *PREFIXES[program]) if program in PREFIXES else words
 
 

@@ -26,12 +26,14 @@ for page in yacc ycc ystep ydebug; do
 done
 
 "$there/bin/yacc" "$there/share/ydriver/calculator.y"
+"$there/bin/ydebug" rules "$there/share/ydriver/calculator.y" --header calculator_rules.h \
+  --python calculator_rules.py
 export PKG_CONFIG_PATH="$there/lib/pkgconfig" PKG_CONFIG_SYSROOT_DIR="$room/root"
 # shellcheck disable=SC2046
-${CC:-cc} -std=c99 -o sums $(pkg-config --cflags ydriver) "$there/share/ydriver/calculator.c" \
+${CC:-cc} -std=c99 -I. -o sums $(pkg-config --cflags ydriver) "$there/share/ydriver/calculator.c" \
   $(pkg-config --libs ydriver)
 ./sums y.tab < "$top/drivers/sums" | cmp - "$top/drivers/answers" || fail "other sums in C"
-python3 -B "$there/share/ydriver/calculator.py" y.tab < "$top/drivers/sums" |
+PYTHONPATH=. python3 -B "$there/share/ydriver/calculator.py" y.tab < "$top/drivers/sums" |
   cmp - "$top/drivers/answers" || fail "other sums in Python"
 
 make -s -C "$top" uninstall DESTDIR="$room/root" PREFIX=/opt/y

@@ -65,6 +65,9 @@ def disks(programs):
         words = ["ydebug", "page", "list.y", "tokens", "-o", "out"]
         inputs = {"list.y": LIST, "tokens": b"'x'\n"}
         yield partial(on_a_full_disk, words, inputs | old, programs, **refused)
+        for form in ("--header", "--python"):
+            words, inputs = ["ydebug", "rules", "far.y", form, "out"], {"far.y": FAR}
+            yield partial(on_a_full_disk, words, inputs | old, programs, **refused)
     words, inputs = ["ydebug", "list.y", "tokens"], {"list.y": LIST, "tokens": TOKENS, "old": OLD}
     lines = b"save! old\nsave new\nsave! new\nsave! tokens\n"
     replies = b"".join(b"%s can't be written.\n" % it for it in (b"old", b"new", b"new", b"tokens"))
@@ -92,11 +95,11 @@ def pipes(programs):
     inputs |= {"tokens": b"'x'\n", "text": b"x\n", "a.lex": SPEC}
     forms = ["list.y tokens", "conflicts far.y", "check list.y tokens", "page list.y tokens"]
     forms += ["import list.y", "tokens list.y --lex a.lex text", "lex-spec list.y", "--help"]
-    forms += ["conflicts --help", "check list.y --lex a.lex text", "check list.y none"]
+    forms += ["rules list.y", "conflicts --help", "check list.y --lex a.lex text", "check list.y none"]
     for form in forms:
         it = scenario(["ydebug", *form.split()], inputs, b"run\ngrammar\n")
         yield partial(unread, it, "stdout", programs)
-    for form in ("bad.y tokens", "conflicts bad.y", "list.y none", "import bad.y"):
+    for form in ("bad.y tokens", "conflicts bad.y", "list.y none", "import bad.y", "rules bad.y"):
         it = scenario(["ydebug", *form.split()], inputs)
         yield partial(unread, it, "stderr", programs)
 

@@ -4,11 +4,12 @@
     parsers.py [--seed N] [--drawn N] yacc=PATH ystep=PATH ycc=PATH
 
 Over the grammar and tokens of every scenario and example, and over N grammars drawn at random (40),
-each parser is compiled by the compiler (CC, or cc) with its sanitizers, as C90 without a warning,
-and makes the steps of `ystep`, line for line. Texts of actions, code and `%union` are left out,
+each parser, in byacc's order or in bison's, is compiled by the compiler (CC, or cc) with its
+sanitizers, as C90 without a warning, and makes the steps of `ystep`, line for line. Texts of actions, code and `%union` are left out,
 since those of scenarios are no C; values are numbers. The calculator of examples/calculator-c is built as C90, C99, C17
 and C++17 by each compiler that is there, without a warning, with a trace and without, and answers
-as it should; a copy of it with another prefix is linked beside it.
+as it should; a copy of it with another prefix is linked beside it. The program of the tutorial
+answers as the tutorial says.
 """
 import argparse
 import os
@@ -17,6 +18,7 @@ import shutil
 import subprocess
 import sys
 import tempfile
+import zlib
 from concurrent.futures import ThreadPoolExecutor
 from pathlib import Path
 
@@ -27,6 +29,7 @@ sys.path[:0] = [str(TOP / it) for it in ("scenarios", "compare", "drivers", "dri
 
 import proved
 from check import MOST, cases_of, pair_at_random, pairs_of_scenarios
+from pages import blocks_of
 from reader import GAP, Fault, lexeme_at, lexemes_of
 
 WAY = ["-std=c90", "-Wall", "-Wextra", "-pedantic", "-Werror", "-O1"]
@@ -55,7 +58,7 @@ static void said (int kind, int number)
 
 static void yyerror (const char *what)
 {
-  if (what[0] == 'm')
+  if (what[0] != 's')
     exit (4);
 }
 
@@ -150,7 +153,8 @@ def built(folder, grammar, ycc):
     """The parser of a grammar."""
     file, parser, program = (f"{folder}/{it}" for it in ("grammar.y", "parser.c", "parser"))
     Path(file).write_bytes(HEAD + bare(grammar) + TAIL)
-    ran([ycc, "-o", parser, file], "ycc")
+    order = ["--bison"] if zlib.crc32(grammar) % 2 else []
+    ran([ycc, *order, "-o", parser, file], "ycc")
     ran([os.environ.get("CC", "cc"), *WAY, *CHECKED, "-o", program, parser], "the compiler")
     return program
 
@@ -231,8 +235,23 @@ def link_both(ycc):
             raise Differs("two parsers in one program: other answers")
 
 
+def compare_tutorial(ycc):
+    """The program of the tutorial."""
+    blocks = blocks_of((TOP / "docs/TUTORIAL.md").read_text())
+    files = {name: "".join(lines).encode() for kind, name, lines, _ in blocks if kind == "file"}
+    with tempfile.TemporaryDirectory() as folder:
+        file, parser, program = (f"{folder}/{it}" for it in ("sums.y", "sums.c", "sums"))
+        Path(file).write_bytes(files["sums.y"])
+        ran([ycc, "-o", parser, file], "ycc")
+        ran([os.environ.get("CC", "cc"), *STRICT, "-o", program, parser], "the compiler")
+        answers = ran([program], "the program of the tutorial", files["sums"])
+    if answers != files["answers-in-c"]:
+        raise Differs(f"the tutorial: {answers.decode(errors='replace')}")
+
+
 def examples(ycc):
-    """What is tried with the example."""
+    """What is tried with the example, and the program of the tutorial."""
+    yield compare_tutorial, (ycc,)
     for compiler, language in compilers():
         for options in ([], ["-t"], ["-l"]):
             yield compare_calculator, (ycc, options, compiler, language)

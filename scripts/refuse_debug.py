@@ -57,6 +57,10 @@ COMMANDS = {
     "bison text": (HERE / "from-bison", "tokens grammar.y --from bison --lex text/e.lex text/good"),
     "page": (HERE / "lex/page-places", "page grammar.y --lex sums.lex sums.txt -o page"),
     "bison page": (HERE / "from-bison", "page grammar.y tokens --from bison --conflicts -o page"),
+    "rules": (HERE / "rules", "rules grammar.y"),
+    "header": (HERE / "rules", "rules grammar.y --header sums.h --python sums.py"),
+    "name": (HERE / "rules/name-twice", "rules names.y"),
+    "bison rules": (HERE / "rules/from-bison", "rules bison.y --from bison"),
 }
 MARK = "#" * 50
 # What a move is, and where a parse stands.

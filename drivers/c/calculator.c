@@ -1,15 +1,19 @@
-/* A calculator. `yacc calculator.y` makes its table; the actions of the grammar stand here, by the
-   numbers of their rules:
+/* A calculator. The actions of its grammar stand here, by the names of their rules. These come from
+   the grammar, as the table does:
 
+       yacc calculator.y
+       ydebug rules calculator.y --header calculator_rules.h
+       cc -I. -o calculator calculator.c ydriver.c
        ./calculator y.tab < sums
 */
+#include "calculator_rules.h"
 #include "ydriver.h"
 
 #include <ctype.h>
 #include <stdio.h>
 #include <stdlib.h>
 
-enum { MOST = 1 << 20, NUMBER = 257 };
+enum { MOST = 1 << 20 };
 
 static yd_value calculate(void *context, int rule, int left, const yd_entry *entry, size_t count) {
   double first = count ? entry[0].value.number : 0;
@@ -18,13 +22,13 @@ static yd_value calculate(void *context, int rule, int left, const yd_entry *ent
   yd_value value = {.number = first};
   (void)context, (void)left;
   switch (rule) {
-    case 4: printf("%g\n", first); break;
-    case 7: value.number = first + third; break;
-    case 8: value.number = first - third; break;
-    case 9: value.number = first * third; break;
-    case 10: value.number = first / third; break;
-    case 11: value.number = -second; break;
-    case 12: value.number = second; break;
+    case RULE_print: printf("%g\n", first); break;
+    case RULE_add: value.number = first + third; break;
+    case RULE_subtract: value.number = first - third; break;
+    case RULE_multiply: value.number = first * third; break;
+    case RULE_divide: value.number = first / third; break;
+    case RULE_negate: value.number = -second; break;
+    case RULE_group: value.number = second; break;
   }
   return value;
 }
@@ -38,7 +42,7 @@ static int next_token(char **text, yd_value *value) {
   while (**text == ' ' || **text == '\t') ++*text;
   if (!isdigit((unsigned char)**text)) return **text ? (unsigned char)*(*text)++ : 0;
   value->number = strtod(*text, text);
-  return NUMBER;
+  return TOKEN_NUMBER;
 }
 
 static yd_result run(yd_parser *parser, char *text) {
@@ -59,12 +63,18 @@ static size_t read_file(FILE *file, char *text) {
   return length;
 }
 
+static int refuse(const yd_fault *fault) {
+  if (fault->line) fprintf(stderr, "line %zu: ", fault->line);
+  fprintf(stderr, "%s\n", fault->what);
+  return 2;
+}
+
 int main(int words, char **word) {
   static char text[MOST];
   yd_fault fault;
   size_t length = read_file(words == 2 ? fopen(word[1], "rb") : NULL, text);
-  yd_table *table = yd_read(text, length, &fault);
-  if (!table) return fprintf(stderr, "line %zu: %s\n", fault.line, fault.what), 2;
+  yd_table *table = yd_read_checked(text, length, TABLE_DIGEST, &fault);
+  if (!table) return refuse(&fault);
   yd_parser parser;
   yd_start(&parser, table, (yd_calls){.context = table, .reduce = calculate, .error = complain});
   read_file(stdin, text);

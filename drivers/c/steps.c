@@ -1,7 +1,8 @@
 /* Writes the steps of parses, for drivers/check.py. Standard input has any number of cases: a line
-   `LENGTH TOKENS MOST`, LENGTH bytes of a table, and TOKENS lines with the name of a token each. The
-   answer to each is a line for each step, at most MOST, as `ystep` has them, and `== ` with what
-   came of it. With -Drealloc=refusing each growth of a stack is refused once, and asked for again.
+   `LENGTH TOKENS MOST DIGEST`, LENGTH bytes of a table, and TOKENS lines with the name of a token
+   each. The answer to each is a line for each step, at most MOST, as `ystep` has them, and `== `
+   with what came of it. With -Drealloc=refusing each growth of a stack is refused once, and asked
+   for again.
 */
 #ifdef realloc
 #undef realloc
@@ -85,12 +86,12 @@ static char *read_name(void) {
   return name ? strcpy(name, line) : (exit(2), NULL);
 }
 
-static void answer(size_t length, size_t count, size_t most) {
+static void answer(size_t length, size_t count, size_t most, unsigned long digest) {
   char *text = read_bytes(length), **names = calloc(count + 1, sizeof *names);
   if (!names) exit(2);
   for (size_t at = 0; at < count; at++) names[at] = read_name();
   yd_fault fault;
-  yd_table *table = yd_read(text, length, &fault);
+  yd_table *table = yd_read_checked(text, length, digest, &fault);
   free(text);
   if (table) parse(table, names, count, most);
   if (!table) printf("== line %zu: %s\n", fault.line, fault.what);
@@ -101,8 +102,9 @@ static void answer(size_t length, size_t count, size_t most) {
 
 int main(void) {
   size_t length, count, most;
+  unsigned long digest;
   char newline;
-  while (scanf("%zu %zu %zu%c", &length, &count, &most, &newline) == 4)
-    answer(length, count, most);
+  while (scanf("%zu %zu %zu %lu%c", &length, &count, &most, &digest, &newline) == 5)
+    answer(length, count, most, digest);
   return 0;
 }

@@ -294,6 +294,26 @@ yd_table *yd_read(const char *text, size_t length, yd_fault *fault) {
   return filled.table;
 }
 
+/* The remainder with one byte more. */
+static uint32_t with_byte(uint32_t rest, unsigned char byte) {
+  rest ^= byte;
+  for (int bit = 0; bit < 8; bit++) rest = rest >> 1 ^ (rest & 1 ? 0xedb88320u : 0);
+  return rest;
+}
+
+unsigned long yd_digest(const char *text, size_t length) {
+  uint32_t rest = UINT32_MAX;
+  for (size_t at = 0; at < length; at++) rest = with_byte(rest, (unsigned char)text[at]);
+  return rest ^ UINT32_MAX;
+}
+
+yd_table *yd_read_checked(const char *text, size_t length, unsigned long digest, yd_fault *fault) {
+  yd_table *table = yd_read(text, length, fault);
+  if (!table || yd_digest(text, length) == digest) return table;
+  yd_free(table);
+  return refused(fault, 0, "the names of its rules were made for another table");
+}
+
 void yd_free(yd_table *table) { free(table); }
 
 int yd_find(const yd_table *table, const char *name) {

@@ -37,7 +37,8 @@ typedef struct {
 /* A table, in one block of memory. Parsers only read it. */
 typedef struct yd_table yd_table;
 
-/* Why a table is refused. The line counts from 1; it is 0 where there is no memory. */
+/* Why a table is refused. The line counts from 1; it is 0 where there is no memory, and where the
+   digest is another. */
 typedef struct {
   size_t line;
   const char *what;
@@ -94,6 +95,11 @@ typedef struct {
 
 /* Reads a table. NULL where it is refused; `fault`, unless it is NULL, then says why. */
 yd_table *yd_read(const char *text, size_t length, yd_fault *fault);
+/* The same, and a table with another digest is refused too: so the numbers of rules are those of
+   the header that has this digest as its TABLE_DIGEST (`ydebug rules --header`). */
+yd_table *yd_read_checked(const char *text, size_t length, unsigned long digest, yd_fault *fault);
+/* The digest of a table: the CRC-32 of its text, as gzip and zip have it. */
+unsigned long yd_digest(const char *text, size_t length);
 void yd_free(yd_table *table);
 
 /* The symbol of this printed name (NUM, '+'), or -1. */

@@ -1,7 +1,9 @@
 #!/usr/bin/env python3
-"""A calculator. `yacc calculator.y` makes its table; the actions of the grammar stand here, by the
-numbers of their rules:
+"""A calculator. The actions of its grammar stand here, by the names of their rules. These come from
+the grammar, as the table does:
 
+    yacc calculator.y
+    ydebug rules calculator.y --python calculator_rules.py
     python3 calculator.py y.tab < sums
 """
 from __future__ import annotations
@@ -11,6 +13,7 @@ import sys
 from pathlib import Path
 from typing import Iterator, List, Tuple
 
+import calculator_rules as rules
 from ydriver import Entry, Fault, Parser, Result, read_table
 
 TOKEN = re.compile(r"[ \t]*(?:([0-9]+\.?[0-9]*)|(.|\n))")
@@ -21,13 +24,13 @@ def divide(first: float, second: float) -> float:
 
 
 ACTIONS = {
-    4: lambda sum, _: print(f"{sum:g}"),
-    7: lambda first, _, second: first + second,
-    8: lambda first, _, second: first - second,
-    9: lambda first, _, second: first * second,
-    10: lambda first, _, second: divide(first, second),
-    11: lambda _, sum: -sum,
-    12: lambda _open, sum, _close: sum,
+    rules.RULE_print: lambda sum, _: print(f"{sum:g}"),
+    rules.RULE_add: lambda first, _, second: first + second,
+    rules.RULE_subtract: lambda first, _, second: first - second,
+    rules.RULE_multiply: lambda first, _, second: first * second,
+    rules.RULE_divide: lambda first, _, second: divide(first, second),
+    rules.RULE_negate: lambda _, sum: -sum,
+    rules.RULE_group: lambda _open, sum, _close: sum,
 }
 
 
@@ -45,9 +48,9 @@ def tokens_of(text: str) -> Iterator[Tuple[str, float, int]]:
 
 
 def main(path: str) -> int:
-    table = read_table(Path(path).read_bytes())
+    table = read_table(Path(path).read_bytes(), rules.TABLE_DIGEST)
     if isinstance(table, Fault):
-        sys.exit(f"line {table.line}: {table.what}")
+        sys.exit(str(table))
 
     def complain(token: int, line: int) -> None:
         print(f"line {line}: {table.names[token]} can't come here")

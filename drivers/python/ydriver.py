@@ -11,6 +11,7 @@ docs/FORMATS.md has the format of a table, and what the steps of a parse are.
 from __future__ import annotations
 
 import re
+from binascii import crc32
 from dataclasses import dataclass, field
 from enum import Enum
 from typing import Any, Callable, Dict, List, Optional, Tuple, Union
@@ -62,10 +63,13 @@ class Mode(Enum):
 
 @dataclass(frozen=True)
 class Fault:
-    """Why a table is refused. The line counts from 1."""
+    """Why a table is refused. The line counts from 1; it is 0 where the digest is another."""
 
     line: int
     what: str
+
+    def __str__(self) -> str:
+        return f"line {self.line}: {self.what}" if self.line else self.what
 
 
 @dataclass
@@ -234,13 +238,22 @@ def _is_behind(last: Tuple[int, bytes, int], read: Tuple[int, bytes, int]) -> bo
     return read[1] != b"d" and read[2] > last[2]
 
 
-def read_table(text: bytes) -> Union[Table, Fault]:
-    """Reads a table, or says why it is refused."""
+def digest_of(text: bytes) -> int:
+    """The digest of a table: the CRC-32 of its text, as gzip and zip have it."""
+    return crc32(text)
+
+
+def read_table(text: bytes, digest: Optional[int] = None) -> Union[Table, Fault]:
+    """Reads a table, or says why it is refused. Where a digest is given, a table with another one
+    is refused too: so the numbers of rules are those of the module that has it as its TABLE_DIGEST
+    (`ydebug rules --python`)."""
     reader = _Reader(text)
     try:
         reader.take_table()
     except _Refused as refused:
         return Fault(reader.line, str(refused))
+    if digest is not None and digest_of(text) != digest:
+        return Fault(0, "the names of its rules were made for another table")
     return reader.table
 
 

@@ -1,260 +1,109 @@
-//! `ycc [-dltv] [-b prefix] [-o file] [-p prefix] [-H file] grammar`: writes a parser in C of a
-//! grammar file, a drop-in for `yacc` in a build.
+//! `ycc [-dltvyLP] [-b prefix] [-o file] [-p prefix] [-H file] [-D name=value] grammar`: writes a
+//! parser in C of a grammar file, a drop-in for `yacc` and `bison` in a build.
 //!
-//! `words` has the command line, `names` those of the files that are written.
+//! `words` has the command line, `names` the names of the files that are written; `reading` reads
+//! the grammar file, `making` makes the texts and writes them, and `ending` says how a run ends.
 #![tactic(auto)]
 
+mod ending;
+mod making;
 mod names;
+mod reading;
 mod words;
 
-use crate::names::names_of;
-use crate::words::{Given, USAGE, command, given_in};
+use crate::ending::{Ending, File, outside};
+use crate::making::write_files;
+use crate::reading::{Reading, read};
+use crate::words::{Given, USAGE, VERSION, command, given_in, is_idle, is_other};
 use clap::error::ErrorKind;
 use clap::{ArgMatches, Command};
-use std::alloc::{AllocError, Global};
+use std::alloc::AllocError;
 use std::env;
-use std::fmt::Display;
-use std::io::{self, Write};
+use std::io::Write;
 use std::process::ExitCode;
-use ycode::code_of;
-use yexplain::lines::Spots;
-use yfaults::opening::{Trouble as Unopened, grammar_bytes, put_trouble};
-use yfaults::shown::Place;
-use yfiles::writing::write_over;
-use ygrammar::{Grammar, Mapped, Mark, read_mapped};
-use ylalr::build;
-use yskeleton::{Misuse, Source, Trouble, Whose, Wishes};
-use ytables::{Counts, Link, Tables, resolve};
+use yfaults::opening::grammar_bytes;
+use yparts::options::Purity;
 
-/// How the program ends.
-#[derive(Clone, Copy, PartialEq, Eq)]
-enum Ending {
-    /// Help or a version was asked for, and is written.
-    Helped,
-    /// The grammar file is refused, and that is said.
-    Refused,
-    /// The words are refused.
-    Words,
-    /// Memory ran out.
-    Memory,
-    /// A file can't be read or written, and that is said.
-    Outside,
+/// The text between the braces or quotes of a value, and whether they are braces.
+fn unwrapped(value: &str) -> (&str, bool) {
+    if let Some(code) = value
+        .strip_prefix('{')
+        .and_then(|rest| rest.strip_suffix('}'))
+    {
+        return (code, true);
+    }
+    let quoted = value
+        .strip_prefix('"')
+        .and_then(|rest| rest.strip_suffix('"'));
+    (quoted.unwrap_or(value), false)
 }
 
-impl From<AllocError> for Ending {
-    fn from(_refused: AllocError) -> Ending {
-        Ending::Memory
-    }
-}
-
-impl From<io::Error> for Ending {
-    fn from(error: io::Error) -> Ending {
-        match error.kind() {
-            io::ErrorKind::OutOfMemory => Ending::Memory,
-            _ => Ending::Outside,
-        }
-    }
-}
-
-/// Says that a file can't be opened, read or written, or that memory ran out.
-fn outside(rt: &HostRuntime, what: &str, path: &str, error: &io::Error) -> Ending {
-    if error.kind() == io::ErrorKind::OutOfMemory {
-        return Ending::Memory;
-    }
-    let _ = writeln!(rt.stderr(), "ycc: cannot {what} {path}");
-    Ending::Outside
-}
-
-/// Says why a grammar file has no tables.
-fn refused(rt: &HostRuntime, given: Given<'_>, source: &[u8], trouble: &Unopened<'_>) -> Ending {
-    if matches!(trouble, Unopened::Memory) {
-        return Ending::Memory;
-    }
-    match put_trouble(&mut rt.stderr(), rt.alloc(), given.grammar, source, trouble) {
-        Ok(()) => Ending::Refused,
-        Err(error) => Ending::from(error),
-    }
-}
-
-/// What a grammar file of these bytes has and means; where it is refused, that is said.
-fn read<'a>(
+/// Sets the variables that words have.
+fn define<'a>(
     rt: &HostRuntime,
-    given: Given<'_>,
-    source: &'a [u8],
-) -> Result<(Grammar, Vec<Mark<'a>>), Ending> {
-    let Mapped {
-        grammar,
-        marks,
-        barren,
-    } = match read_mapped(rt.alloc(), source) {
-        Ok(mapped) => mapped,
-        Err(placed) => {
-            let trouble = Unopened::of_text(rt.alloc(), placed);
-            return Err(refused(rt, given, source, &trouble));
-        }
-    };
-    match grammar {
-        Ok(grammar) => Ok((grammar, marks)),
-        Err(placed) => {
-            let trouble = Unopened::of_fault(placed, marks, barren);
-            Err(refused(rt, given, source, &trouble))
-        }
-    }
-}
-
-/// The tables of a grammar; where there are too many states, that is said.
-fn tables_of(
-    rt: &HostRuntime,
-    given: Given<'_>,
-    source: &[u8],
-    grammar: Grammar,
-) -> Result<Tables, Ending> {
-    match build(rt.alloc(), grammar) {
-        Ok(automaton) => resolve(rt.alloc(), automaton).map_err(|_| Ending::Memory),
-        Err(fault) => Err(refused(rt, given, source, &Unopened::from(fault))),
-    }
-}
-
-/// Says how many conflicts there are, where there are some.
-fn put_conflicts(rt: &HostRuntime, counts: Counts) -> io::Result<()> {
-    let Counts {
-        shift_reduce,
-        reduce_reduce,
-    } = counts;
-    if shift_reduce == 0 && reduce_reduce == 0 {
-        return Ok(());
-    }
-    let (first, second) = (shift_reduce, reduce_reduce);
-    writeln!(
-        rt.stderr(),
-        "conflicts: {first} shift/reduce, {second} reduce/reduce"
-    )
-}
-
-/// Writes what is wrong with a value, and how to mend it.
-fn put_misuse<W: Write>(out: &mut W, misuse: Misuse) -> io::Result<()> {
-    match misuse {
-        Misuse::OutOfRange(number, seen) => {
-            writeln!(
-                out,
-                "${number} is out of range: {seen} symbols stand before this action"
-            )
-        }
-        Misuse::Untyped(Whose::Left) => put_untyped(out, "$"),
-        Misuse::Untyped(Whose::Symbol(number)) => put_untyped(out, number),
-    }
-}
-
-/// Writes that a value has no tag, and how to give it one.
-fn put_untyped<W: Write, N: Copy + Display>(out: &mut W, name: N) -> io::Result<()> {
-    write!(out, "${name} has no tag, and other symbols have: ")?;
-    writeln!(
-        out,
-        "give it one by %token or %type, or here as $<tag>{name}"
-    )
-}
-
-/// Says what is wrong with a value that an action names, and at which place.
-fn put_misused(rt: &HostRuntime, source: &Source<'_>, misuse: Misuse, at: usize) -> io::Result<()> {
-    let Source { path, bytes, .. } = *source;
-    let line = Spots::new(bytes).reach(at).0;
-    let mut out = rt.stderr();
-    write!(out, "{path}:{line}: ")?;
-    put_misuse(&mut out, misuse)?;
-    let source = bytes;
-    Place { path, source, at }.put_text(&mut out, true)
-}
-
-/// A text that was made; where an action stands in its way, that is said.
-fn made<T>(rt: &HostRuntime, source: &Source<'_>, text: Result<T, Trouble>) -> Result<T, Ending> {
-    match text {
-        Ok(text) => Ok(text),
-        Err(Trouble::Unwritten(error)) => Err(Ending::from(error)),
-        Err(Trouble::Misused(misuse, at)) => {
-            put_misused(rt, source, misuse, at)?;
-            Err(Ending::Refused)
-        }
-    }
-}
-
-/// The report on states.
-fn report_of(alloc: Global, tables: &Tables) -> Result<Vec<u8>, Ending> {
-    let mut link = Link::new(Vec::new(alloc));
-    match tables.write_report(&mut link) {
-        Ok(()) => Ok(link.into_inner()),
-        Err(_) => Err(Ending::Memory),
-    }
-}
-
-/// Writes a file; where that can't be done, that is said.
-fn write(rt: &HostRuntime, path: &str, text: &[u8]) -> Result<(), Ending> {
-    match write_over(rt, path, text) {
-        Ok(()) => Ok(()),
-        Err(error) => Err(outside(rt, "write", path, &error)),
-    }
-}
-
-/// Makes all texts, and then writes their files.
-fn write_files(
-    rt: &HostRuntime,
-    given: Given<'_>,
-    source: &Source<'_>,
-    tables: &Tables,
+    variables: &[&'a str],
+    read: &mut Reading<'a>,
 ) -> Result<(), Ending> {
-    let alloc = rt.alloc();
-    let names = names_of(alloc, given)?;
-    let wishes = Wishes {
-        parser: names.parser.as_str(),
-        header: names.header.as_str(),
-        prefix: given.prefix,
-        lines: !given.no_lines,
-        debug: given.trace,
-    };
-    let code = code_of(alloc, tables)?;
-    let (parser, header) = made(rt, source, source.texts(alloc, &code, wishes))?;
-    let report = if given.verbose {
-        Some(report_of(alloc, tables)?)
-    } else {
-        None
-    };
-    write(rt, &names.parser, parser.bytes())?;
-    if given.define {
-        write(rt, &names.header, header.bytes())?;
+    for variable in variables {
+        let variable: &'a str = *variable;
+        let (name, value) = variable.split_once('=').unwrap_or((variable, ""));
+        let (value, is_code) = unwrapped(value);
+        let options = &mut read.parts.options;
+        options.is_bison = true;
+        if let Err(refusal) = options.define(name.as_bytes(), value.as_bytes(), is_code) {
+            let why = refusal.text();
+            let _ = writeln!(rt.stderr(), "ycc: -D {variable}: {why}");
+            return Err(Ending::Refused);
+        }
     }
-    match report {
-        Some(text) => write(rt, &names.report, &text),
-        None => Ok(()),
+    Ok(())
+}
+
+/// Takes wishes of words as if the file had them.
+fn wish(given: Given<'_>, read: &mut Reading<'_>) {
+    let options = &mut read.parts.options;
+    if given.pure {
+        options.purity = Purity::Yes;
     }
+    options.locations = options.locations || given.locations;
 }
 
 /// Does what words ask for with a grammar file of these bytes.
-fn generate(rt: &HostRuntime, given: Given<'_>, bytes: &[u8]) -> Result<(), Ending> {
-    let (grammar, marks) = read(rt, given, bytes)?;
-    let tables = tables_of(rt, given, bytes, grammar)?;
-    put_conflicts(rt, tables.conflicts())?;
-    let source = Source {
+fn generate(
+    rt: &HostRuntime,
+    given: Given<'_>,
+    variables: &[&str],
+    bytes: Vec<u8>,
+) -> Result<(), Ending> {
+    let file = File {
         path: given.grammar,
-        bytes,
-        marks: &marks,
-        grammar: tables.automaton().grammar(),
+        bytes: &bytes,
     };
-    write_files(rt, given, &source, &tables)
+    let mut found = read(rt, file)?;
+    wish(given, &mut found);
+    define(rt, &*variables, &mut found)?;
+    write_files(rt, given, file, &found)
 }
 
 /// Does what words ask for.
-fn obey(rt: &HostRuntime, given: Given<'_>) -> Result<(), Ending> {
+fn obey(rt: &HostRuntime, given: Given<'_>, variables: &[&str]) -> Result<(), Ending> {
     match grammar_bytes(rt, given.grammar) {
-        Ok(bytes) => generate(rt, given, &bytes),
+        Ok(bytes) => generate(rt, given, variables, bytes),
         Err(error) => Err(outside(rt, "read", given.grammar, &error)),
     }
 }
 
-/// Writes the help or the version that was asked for.
+/// Writes the help that was asked for.
 fn put_help(rt: &HostRuntime, help: &clap::Error) -> Ending {
     let Ok(text) = format!(in rt.alloc(); "{help}") else {
         return Ending::Memory;
     };
-    match rt.stdout().write_all(text.as_bytes()) {
+    put_asked(rt, text.as_bytes())
+}
+
+/// Writes what was asked for.
+fn put_asked(rt: &HostRuntime, text: &[u8]) -> Ending {
+    match rt.stdout().write_all(text) {
         Ok(()) => Ending::Helped,
         Err(_) => Ending::Outside,
     }
@@ -281,16 +130,32 @@ fn matches_by<'a>(
     }
 }
 
+/// Answers a word that asks for a version or for what `ycc` doesn't have.
+fn answer(rt: &HostRuntime, word: &str) -> Result<(), Ending> {
+    if word == "--version" || word == "-V" {
+        return Err(put_asked(rt, VERSION));
+    }
+    if is_other(word) {
+        let _ = writeln!(rt.stderr(), "ycc: no {word}: ycc has no such output");
+        return Err(Ending::Words);
+    }
+    Ok(())
+}
+
 /// Reads the words and does what they ask for.
 fn run(rt: &HostRuntime) -> Result<(), Ending> {
     let given: Vec<String> = env::args(rt)?.collect(rt.alloc())?;
     let mut words = Vec::with_capacity(rt.alloc(), given.len())?;
     for word in &given {
-        words.push(word.as_str()).map_err(AllocError::from)?;
+        answer(rt, word)?;
+        if !is_idle(word) {
+            words.push(word.as_str()).map_err(AllocError::from)?;
+        }
     }
     let matches = matches_by(rt, command(rt.alloc())?, &words)?;
+    let variables = matches.get_strs("define").unwrap_or(&[]);
     match given_in(&matches) {
-        Some(given) => obey(rt, given),
+        Some(given) => obey(rt, given, variables),
         None => Err(Ending::Words),
     }
 }

@@ -10,7 +10,8 @@ const FORMS: &str = "Other forms:\n\
     \x20 ydebug page grammar tokens [--lex SPEC] [-o FILE] [--from K] [--to K] [--conflicts]\n\
     \x20 ydebug tokens grammar --lex SPEC input\n\
     \x20 ydebug lex-spec grammar\n\
-    \x20 ydebug import file [-o grammar]";
+    \x20 ydebug import file [-o grammar]\n\
+    \x20 ydebug rules grammar [--header FILE] [--python FILE]";
 /// What is written where the words are not those of the program.
 pub const USAGE: &[u8] = b"usage: ydebug grammar tokens [--lex SPEC]\n\
     \x20      ydebug conflicts grammar [--save FOLDER] [--strict]\n\
@@ -19,6 +20,7 @@ pub const USAGE: &[u8] = b"usage: ydebug grammar tokens [--lex SPEC]\n\
     \x20      ydebug tokens grammar --lex SPEC input\n\
     \x20      ydebug lex-spec grammar\n\
     \x20      ydebug import file [-o grammar]\n\
+    \x20      ydebug rules grammar [--header FILE] [--python FILE]\n\
     With --from bison the grammar is a file of bison or byacc.\n\
     With --limit N an input has up to N bytes; without it, up to 16777216.\n";
 
@@ -39,16 +41,19 @@ pub enum Form {
     Tokens,
     /// A sketch of a SPEC.
     Sketch,
+    /// Names for rules.
+    Rules,
 }
 
 /// Each form but the first by its word.
-pub const BY_WORD: [(&str, Form); 6] = [
+pub const BY_WORD: [(&str, Form); 7] = [
     ("conflicts", Form::Conflicts),
     ("check", Form::Check),
     ("page", Form::Page),
     ("import", Form::Import),
     ("tokens", Form::Tokens),
     ("lex-spec", Form::Sketch),
+    ("rules", Form::Rules),
 ];
 
 /// The form that a first word means.
@@ -71,6 +76,7 @@ pub fn name_of(form: Form) -> &'static str {
         Form::Import => "ydebug import",
         Form::Tokens => "ydebug tokens",
         Form::Sketch => "ydebug lex-spec",
+        Form::Rules => "ydebug rules",
     }
 }
 
@@ -199,6 +205,21 @@ const IMPORT: &[Word] = &[
     Word("output", Given::Output, "Writes the grammar to this file"),
 ];
 
+const RULES: &[Word] = &[
+    GRAMMAR,
+    Word(
+        "header",
+        Given::Value("FILE"),
+        "Writes the names as a header in C to this file",
+    ),
+    Word(
+        "python",
+        Given::Value("FILE"),
+        "Writes them as a module in Python to this file",
+    ),
+    FROM,
+];
+
 /// The argument that a word is.
 fn argument<'a>(alloc: Global, word: &Word) -> Arg<'a> {
     let Word(name, given, help) = *word;
@@ -224,6 +245,7 @@ fn about(form: Form) -> &'static str {
         Form::Import => "Makes a grammar file of bison or byacc one that yacc reads",
         Form::Tokens => "Writes the tokens of a text as a tokens file",
         Form::Sketch => "Sketches the file that says how the tokens of a text look",
+        Form::Rules => "Names the rules of a grammar for programs that read its table",
     }
 }
 
@@ -246,6 +268,7 @@ pub fn words_of(form: Form) -> &'static [Word] {
         Form::Import => IMPORT,
         Form::Tokens => TOKENS,
         Form::Sketch => SKETCH,
+        Form::Rules => RULES,
     }
 }
 

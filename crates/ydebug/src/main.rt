@@ -2,7 +2,8 @@
 //! the conflicts of a grammar, `ydebug check grammar tokens..` says what its sentences are, and
 //! `ydebug page grammar tokens` makes a page of a parse. `ydebug import file` makes a grammar file
 //! that `yacc` reads out of one for bison. With `--lex SPEC` a text stands in place of a tokens
-//! file; `ydebug tokens` writes the tokens of one, and `ydebug lex-spec` sketches a SPEC.
+//! file; `ydebug tokens` writes the tokens of one, and `ydebug lex-spec` sketches a SPEC. `ydebug
+//! rules grammar` names the rules of a grammar for programs that read its table.
 //!
 //! `forms` has the words of the forms, and `near` what could be meant by others; what the forms are
 //! given is opened by `ysources`.
@@ -25,6 +26,7 @@ use yimported::run::{Asked as Import, run_import};
 use ypage::page::{self, run_page};
 use ypage::walk::Part;
 use yreports::report::{Asked, put_conflicts};
+use yrules::run::{Asked as Rules, run_rules};
 use ysources::check::{self, check_inputs};
 use ysources::grammars::{GrammarFile, open_file};
 use ysources::sketch::run_sketch;
@@ -249,6 +251,20 @@ fn sketch_file<W: Write>(
     Ok(run_sketch(rt, file, out, &mut rt.stderr())?)
 }
 
+/// Names for rules.
+fn name_rules<W: Write>(
+    rt: &HostRuntime,
+    matches: &ArgMatches<'_>,
+    out: &mut W,
+) -> Result<u8, Refused> {
+    let asked = Rules {
+        grammar: grammar_in(matches)?,
+        header: matches.get_str("header"),
+        python: matches.get_str("python"),
+    };
+    Ok(run_rules(rt, asked, out, &mut rt.stderr())?)
+}
+
 /// Whether an environment variable is set to something that counts.
 fn is_set(rt: &HostRuntime, name: &str) -> bool {
     match env::var(rt, name) {
@@ -314,6 +330,7 @@ fn obey<W: Write>(
         Form::Import => import(rt, matches, out),
         Form::Tokens => cut_file(rt, matches, out),
         Form::Sketch => sketch_file(rt, matches, out),
+        Form::Rules => name_rules(rt, matches, out),
     }
 }
 

@@ -124,8 +124,8 @@ fn stands_for(b: u8, wanted: u8) -> bool {
     b.to_ascii_lowercase() == wanted || (b == b'_' && wanted == b'-')
 }
 
-/// Whether a word is this one.
-fn is_word(word: &[u8], name: &str) -> bool {
+/// Whether a word is this one, up to capitals, and to lines below in place of dashes.
+pub fn is_word(word: &[u8], name: &str) -> bool {
     let name = name.as_bytes();
     word.len() == name.len()
         && word

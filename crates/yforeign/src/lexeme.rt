@@ -85,8 +85,8 @@ pub enum Flaw {
 /// Why a file isn't cut into lexemes.
 #[derive(Drop)]
 pub enum Uncut {
-    /// A flaw, and its line.
-    Flaw(Flaw, usize),
+    /// A flaw, and where it is: a part without bytes.
+    Flaw(Flaw, Span),
     /// Memory ran out.
     Memory,
 }

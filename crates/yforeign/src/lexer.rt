@@ -62,7 +62,11 @@ impl Walk {
                 self.at = to;
                 Ok(true)
             }
-            Err(flaw) => Err(Uncut::Flaw(flaw, self.line)),
+            Err(flaw) => {
+                let (line, from) = (self.line, self.at);
+                let to = from;
+                Err(Uncut::Flaw(flaw, Span { line, from, to }))
+            }
         }
     }
 }

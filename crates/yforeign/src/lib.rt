@@ -7,7 +7,7 @@ pub mod groups;
 pub mod lexeme;
 pub mod lexer;
 pub mod numbers;
-mod quoted;
+pub mod quoted;
 pub mod runs;
 mod signs;
 pub mod survey;

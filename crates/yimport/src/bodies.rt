@@ -29,6 +29,11 @@ fn has_to_move(behind: &[Lexeme]) -> bool {
     symbols > 0 || actions > 1
 }
 
+/// Whether a lexeme of this kind stands for something in a body.
+fn fills(kind: Kind) -> bool {
+    is_symbol(kind) || kind == Kind::Braced
+}
+
 /// Where a body stands.
 #[derive(Clone, Copy)]
 struct Place {
@@ -36,6 +41,8 @@ struct Place {
     prec: Option<Lexeme>,
     /// Whether `%prec` goes to the end.
     moves: bool,
+    /// Whether a symbol or an action came.
+    filled: bool,
     /// Whether a semicolon has ended it.
     closed: bool,
     /// Where what stands in it ends, without its semicolon.
@@ -138,12 +145,22 @@ impl Work<'_> {
         }
     }
 
+    /// Takes in `%empty`, after which one action may come.
+    fn import_empty(&mut self, place: &Place, around: Around<'_>) {
+        let (symbols, actions) = counts(around.behind);
+        if place.filled || symbols > 0 || actions > 1 {
+            self.edits.refuse(Refusal::NotEmpty, around.lexeme);
+        } else {
+            self.edits.take_out(around.lexeme, Reason::EmptyWord);
+        }
+    }
+
     /// Takes in a percent word of a body.
     fn import_word(&mut self, place: &mut Place, around: Around<'_>) {
         let lexeme = around.lexeme;
         match directive_of(lexeme.text(self.source)) {
             Directive::Prec => self.import_prec(place, around),
-            Directive::Empty => self.edits.take_out(lexeme, Reason::EmptyWord),
+            Directive::Empty => self.import_empty(place, around),
             _ if around.is_before(Kind::Number) => self.edits.take_out(lexeme, Reason::Expected),
             _ => self.edits.refuse(Refusal::Misplaced, lexeme),
         }
@@ -196,6 +213,7 @@ impl Work<'_> {
         let mut place = Place {
             prec: None,
             moves: false,
+            filled: false,
             closed: false,
             end: 0,
         };
@@ -212,6 +230,7 @@ impl Work<'_> {
             };
             self.import_part(&mut place, around);
             before = Some(lexeme.kind);
+            place.filled = place.filled || fills(lexeme.kind);
             if lexeme.kind != Kind::Semicolon {
                 place.end = lexeme.span.to;
             }

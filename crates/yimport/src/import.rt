@@ -3,12 +3,15 @@
 use crate::applied::applied;
 use crate::note::Note;
 use crate::refusal::{Refusal, Trouble};
+use crate::spelling::Spelling;
 use crate::symbols::{Ended, Expected, Work};
+use indexmap::IndexMap;
 use std::alloc::Global;
 use std::mem;
 use yforeign::groups::{Group, Head, groups_of};
-use yforeign::lexeme::Span;
-use yforeign::lexer::lexemes_of;
+use yforeign::lexeme::{Lexeme, Span};
+use yforeign::lexer::{Lexemes, lexemes_of};
+use yforeign::survey::Survey;
 
 /// A file that `yacc` reads, and what was changed for it.
 pub struct Imported {
@@ -26,6 +29,10 @@ pub struct Imported {
     pub reduce_reduce: Option<Expected>,
     /// The ends that were taken out of bodies, in their order.
     pub ended: Vec<Ended>,
+    /// The lexemes of the file, up to its second mark.
+    pub lexemes: Vec<Lexeme>,
+    /// How its symbols are spelled in the text.
+    pub spelling: Spelling,
 }
 
 impl Drop for Imported {
@@ -39,7 +46,10 @@ impl Drop for Imported {
             shift_reduce: _,
             reduce_reduce: _,
             ended: _,
+            lexemes: _,
+            spelling,
         } = self;
+        drop(spelling);
     }
 }
 
@@ -92,17 +102,18 @@ impl Work<'_> {
         Ok(())
     }
 
-    /// Takes in the file.
-    fn run(&mut self) -> Result<(), Trouble> {
-        let lexemes = lexemes_of(self.alloc, self.source)?;
+    /// Takes in the file, which has these lexemes.
+    fn run(&mut self, lexemes: &Lexemes) -> Result<(), Trouble> {
         let groups = groups_of(self.alloc, self.source, &lexemes.all)?;
         self.import_all(&lexemes.remarks, &groups);
         self.make_changes()
     }
 
-    /// The import, once all is taken in; nothing of it stays behind.
-    fn imported(&mut self) -> Imported {
+    /// The import, once all is taken in; nothing of it stays in the work.
+    fn imported(&mut self, lexemes: Vec<Lexeme>) -> Imported {
         let alloc = self.alloc;
+        let survey = mem::replace(&mut self.survey, Survey::new(alloc));
+        let made = mem::replace(&mut self.made, IndexMap::new(alloc));
         Imported {
             text: mem::replace(&mut self.text, Vec::new(alloc)),
             notes: mem::replace(&mut self.edits.notes, Vec::new(alloc)),
@@ -111,15 +122,17 @@ impl Work<'_> {
             shift_reduce: self.shift_reduce,
             reduce_reduce: self.reduce_reduce,
             ended: mem::replace(&mut self.ended, Vec::new(alloc)),
+            lexemes,
+            spelling: Spelling::new(survey, made),
         }
     }
 }
 
 /// A file of bison or byacc as one that `yacc` reads.
 pub fn import(alloc: Global, source: &[u8]) -> Result<Imported, Trouble> {
+    let mut lexemes = lexemes_of(alloc, source)?;
     let mut work = Work::new(alloc, source);
-    match work.run() {
-        Ok(()) => Ok(work.imported()),
-        Err(trouble) => Err(trouble),
-    }
+    work.run(&lexemes)?;
+    let all = mem::replace(&mut lexemes.all, Vec::new(alloc));
+    Ok(work.imported(all))
 }

@@ -9,6 +9,7 @@ pub mod import;
 mod listings;
 pub mod note;
 pub mod refusal;
+pub mod spelling;
 pub mod symbols;
 mod trouble;
 mod typed;

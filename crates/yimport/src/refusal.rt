@@ -30,11 +30,13 @@ pub enum Refusal {
     EndBehindAction,
     /// A second `%prec` in a rule.
     SecondPrec,
+    /// `%empty` in a body that isn't.
+    NotEmpty,
     /// A name with dashes that would become one that is there.
     NameTaken,
 }
 
-/// What is refused, and where it stands: a line alone, where it is no lexeme.
+/// What is refused, and where it stands: a part without bytes, where it is no lexeme.
 #[derive(Clone, Copy, Drop)]
 pub struct Refused {
     /// What is refused.
@@ -84,6 +86,7 @@ impl Refusal {
                 "it is the end, and without it the action before it would be the rule's last"
             }
             Refusal::SecondPrec => "a rule has one %prec",
+            Refusal::NotEmpty => "this body isn't empty",
             Refusal::NameTaken => "yacc's names have no dashes, and the name without them is taken",
         }
     }
@@ -99,13 +102,9 @@ impl From<Uncut> for Trouble {
     fn from(uncut: Uncut) -> Trouble {
         match uncut {
             Uncut::Memory => Trouble::Memory,
-            Uncut::Flaw(flaw, line) => Trouble::Refused(Refused {
+            Uncut::Flaw(flaw, span) => Trouble::Refused(Refused {
                 refusal: Refusal::Flaw(flaw),
-                span: Span {
-                    line,
-                    from: 0,
-                    to: 0,
-                },
+                span,
             }),
         }
     }

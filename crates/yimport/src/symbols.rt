@@ -3,11 +3,12 @@
 use crate::edits::Edits;
 use crate::note::Reason;
 use crate::refusal::{Refusal, Trouble};
+use crate::spelling::{made_name, other_name, unbroken};
 use indexmap::IndexMap;
-use std::alloc::Global;
+use std::alloc::{AllocError, Global};
 use yforeign::lexeme::{Kind, Lexeme, Span};
 use yforeign::survey::{Survey, inside, is_text};
-use ysymbols::names::{Printed, is_among};
+use ysymbols::names::is_among;
 
 /// A number of conflicts that a file expects, and the line that says so.
 #[derive(Clone, Copy, Drop)]
@@ -38,7 +39,7 @@ pub struct Work<'a> {
     /// The changes so far.
     pub edits: Edits<'a>,
     /// The number of the name made for each string that stands for no token.
-    made: IndexMap<Vec<u8>, usize>,
+    pub made: IndexMap<Vec<u8>, usize>,
     /// The last of these numbers.
     last_made: usize,
     /// The names that have no dashes any more, and where one stands that became each.
@@ -115,13 +116,19 @@ impl<'a> Work<'a> {
         copy
     }
 
-    /// Writes a name with lines below in place of its dashes, if no other name is spelled so.
-    fn write_without_dashes(&mut self, lexeme: &Lexeme) {
-        let mut name = self.copied(lexeme.text(self.source));
-        for b in name.iter_mut() {
-            *b = if *b == b'-' { b'_' } else { *b };
+    /// What was made, empty where memory ran out, which is remembered.
+    fn made_or_trouble(&mut self, made: Result<Vec<u8>, AllocError>) -> Vec<u8> {
+        match made {
+            Ok(text) => text,
+            Err(_) => {
+                self.edits.trouble.remember(Trouble::Memory);
+                Vec::new(self.alloc)
+            }
         }
-        self.edits.write(&name);
+    }
+
+    /// Notes the name that another one without dashes became, if no other name is spelled so.
+    fn rename(&mut self, name: Vec<u8>, lexeme: &Lexeme) {
         if is_among(&self.survey.names, &name) || self.is_other(&name, lexeme) {
             self.edits.refuse(Refusal::NameTaken, lexeme);
         } else if self.renamed.insert(name, *lexeme).is_err() {
@@ -139,32 +146,24 @@ impl<'a> Work<'a> {
 
     /// Writes a symbol that is no string, where its spelling is another one, and gives the reason.
     fn spell_plain(&mut self, lexeme: &Lexeme) -> Option<Reason> {
-        let text = lexeme.text(self.source);
-        match lexeme.kind {
-            Kind::ByteLiteral => {
-                let value = text.get(1).copied().unwrap_or(0);
-                self.edits.write(Printed::new(value).as_slice());
-                Some(Reason::ByteLiteral)
+        let (name, reason) = match other_name(self.alloc, self.source, lexeme) {
+            Ok(other) => other?,
+            Err(_) => {
+                self.edits.trouble.remember(Trouble::Memory);
+                return None;
             }
-            Kind::Name if text == b"YYerror".as_slice() => {
-                self.edits.write(b"error");
-                Some(Reason::ErrorName)
-            }
-            Kind::Name if text.contains(&b'-') => {
-                self.write_without_dashes(lexeme);
-                Some(Reason::Dash)
-            }
-            _ => None,
+        };
+        self.edits.write(&name);
+        if matches!(reason, Reason::Dash) {
+            self.rename(name, lexeme);
         }
+        Some(reason)
     }
 
     /// The name made for a string, from its number.
     fn made_name(&mut self, number: usize) -> Vec<u8> {
-        let mut name = self.copied(b"string_");
-        let mut digits = itoa::Buffer::new();
-        let digits = digits.format(number).as_bytes();
-        self.edits.trouble.append(&mut name, digits);
-        name
+        let name = made_name(self.alloc, number);
+        self.made_or_trouble(name)
     }
 
     /// The first number behind the last one that makes a name which isn't taken.
@@ -203,22 +202,6 @@ impl<'a> Work<'a> {
         self.edits.write(&name);
     }
 
-    /// A string without the ends of lines that have a backslash before them: byacc reads on behind
-    /// them, so one string is spelled with them and without.
-    fn unbroken(&mut self, text: &[u8]) -> Vec<u8> {
-        let mut whole = Vec::new(self.alloc);
-        let mut escaped = false;
-        for b in text {
-            if escaped && *b == b'\n' {
-                let _ = whole.pop();
-            } else {
-                self.edits.trouble.append(&mut whole, &[*b]);
-            }
-            escaped = !escaped && *b == b'\\';
-        }
-        whole
-    }
-
     /// Writes the token that a string is, and gives the reason.
     fn spell_text(&mut self, text: &Lexeme) -> Reason {
         if let Some(token) = self.survey.alias(self.source, text) {
@@ -227,7 +210,8 @@ impl<'a> Work<'a> {
             }
             return Reason::AliasUsed;
         }
-        let key = self.unbroken(inside(self.source, text));
+        let key = unbroken(self.alloc, inside(self.source, text));
+        let key = self.made_or_trouble(key);
         self.write_made(&key);
         if key.len() == 1 {
             Reason::MadeSign

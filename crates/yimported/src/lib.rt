@@ -3,8 +3,8 @@
 #![tactic(auto)]
 
 mod cell_text;
-mod compared;
+pub mod compared;
 pub mod opening;
 mod peer;
 pub mod run;
-mod told;
+pub mod told;

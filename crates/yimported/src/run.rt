@@ -1,7 +1,7 @@
 //! `ydebug import`.
 
 use crate::cell_text::{CellText, put_cells};
-use crate::compared::{Compared, Other};
+use crate::compared::{Compared, Counts, Other};
 use crate::opening::open_bytes;
 use crate::peer::Peer;
 use crate::told::{Source, Telling, put_expected, put_notes, put_refused, put_unreadable};
@@ -16,7 +16,7 @@ use yfiles::writing::put_output;
 use ygrammar::{GrammarFault, LONGEST_FILE, PlacedFault};
 use yimport::import::{Imported, import};
 use yimport::refusal;
-use yimport::symbols::Ended;
+use yimport::symbols::{Ended, Expected};
 use ysymbols::Grammar;
 
 /// What is said of a file that is too long.
@@ -82,13 +82,14 @@ fn put_changes<E: Write>(
 }
 
 /// Compares the cells of what a file becomes with bison's, says what is to be said of the import,
-/// and gives the exit status: 1 where bison does something else in a cell.
+/// and gives the conflicts as bison counts them, or the exit status where bison does something else
+/// in a cell.
 fn look_at<E: Write>(
     alloc: Global,
     errors: &mut E,
     asked: Looked<'_>,
     opened: &Opened,
-) -> io::Result<u8> {
+) -> io::Result<Result<Counts, u8>> {
     let Opened { tables, lines } = opened;
     let ends = &asked.imported.ended;
     let ended = ended_rules(alloc, grammar_of(tables), ends)?;
@@ -108,11 +109,11 @@ fn look_at<E: Write>(
     match found.deed {
         Some(other) => {
             text(other).put_refused(errors)?;
-            Ok(1)
+            Ok(Err(1))
         }
         None => {
             put_changes(errors, asked, &found, found.conflict.map(text))?;
-            Ok(0)
+            Ok(Ok(found.counts))
         }
     }
 }
@@ -132,19 +133,16 @@ fn put_unopened<E: Write>(
     Ok(trouble.status())
 }
 
-/// What is opened, where all its cells are the same; else the exit status.
+/// What is opened, with its conflicts, where all its cells are the same; else the exit status.
 fn stands<E: Write>(
     alloc: Global,
     errors: &mut E,
     asked: Looked<'_>,
     opened: Opened,
-) -> io::Result<Result<Opened, u8>> {
-    match look_at(alloc, errors, asked, &opened) {
-        Ok(0) => Ok(Ok(opened)),
-        status => {
-            drop(opened);
-            status.map(Err)
-        }
+) -> io::Result<Result<(Opened, Counts), u8>> {
+    match look_at(alloc, errors, asked, &opened)? {
+        Ok(counts) => Ok(Ok((opened, counts))),
+        Err(status) => Ok(Err(status)),
     }
 }
 
@@ -153,7 +151,7 @@ fn open_imported<E: Write>(
     alloc: Global,
     errors: &mut E,
     asked: Looked<'_>,
-) -> io::Result<Result<Opened, u8>> {
+) -> io::Result<Result<(Opened, Counts), u8>> {
     match open_bytes(alloc, &asked.imported.text) {
         Ok(opened) => stands(alloc, errors, asked, opened),
         Err(trouble) => put_unopened(errors, alloc, asked, &trouble).map(Err),
@@ -239,6 +237,54 @@ pub fn run_import<F: Files + AllocGlobal, W: Write, E: Write>(
     }
 }
 
+/// A file of bison or byacc that was opened.
+#[derive(Drop)]
+pub struct Foreign {
+    /// What it becomes.
+    pub imported: Imported,
+    /// The tables of that.
+    pub opened: Opened,
+    /// Its conflicts as bison counts them.
+    pub counts: Counts,
+}
+
+/// Whether a number that is expected isn't the one that was found.
+fn differs(expected: Option<Expected>, found: usize) -> bool {
+    expected.map_or(false, |expected| expected.number != found)
+}
+
+impl Foreign {
+    /// Whether the file expects other numbers of conflicts than it has.
+    pub fn surprises(&self) -> bool {
+        differs(self.imported.shift_reduce, self.counts.shift_reduce)
+            || differs(self.imported.reduce_reduce, self.counts.reduce_reduce)
+    }
+}
+
+/// Opens the grammar that the bytes of a file of bison become, by an import that was made. Only
+/// changes by which the language or a conflict can change are told on `errors`. Where the file is
+/// refused, that is written, and the exit status is the answer.
+pub fn open_import<E: Write>(
+    alloc: Global,
+    errors: &mut E,
+    source: Source<'_>,
+    imported: Imported,
+) -> io::Result<Result<Foreign, u8>> {
+    let looked = Looked {
+        source,
+        imported: &imported,
+        telling: Telling::Weighty,
+    };
+    match open_imported(alloc, errors, looked)? {
+        Ok((opened, counts)) => Ok(Ok(Foreign {
+            imported,
+            opened,
+            counts,
+        })),
+        Err(status) => Ok(Err(status)),
+    }
+}
+
 /// Opens the grammar that the bytes of a file of bison become. Only changes by which the language
 /// or a conflict can change are told on `errors`. Where the file is refused, that is written, and
 /// the exit status is the answer.
@@ -258,5 +304,8 @@ pub fn open_foreign<E: Write>(
         imported: &imported,
         telling: Telling::Weighty,
     };
-    open_imported(alloc, errors, looked)
+    match open_imported(alloc, errors, looked)? {
+        Ok((opened, _)) => Ok(Ok(opened)),
+        Err(status) => Ok(Err(status)),
+    }
 }

@@ -26,10 +26,19 @@ fn put_numbers<W: Write>(out: &mut W, numbers: &[usize]) -> io::Result<()> {
     Ok(())
 }
 
-/// Writes an array of this name. An empty one has a 0, since C has no empty arrays.
+/// Writes an array of this name.
 pub fn put_array<W: Write>(out: &mut W, name: &str, numbers: &Numbers) -> io::Result<()> {
-    let kind = type_of(numbers.greatest());
-    let numbers = numbers.as_slice();
+    put_list(out, name, numbers.as_slice(), numbers.greatest())
+}
+
+/// Writes an array of numbers up to a greatest. An empty one has a 0, since C has no empty arrays.
+pub fn put_list<W: Write>(
+    out: &mut W,
+    name: &str,
+    numbers: &[usize],
+    greatest: usize,
+) -> io::Result<()> {
+    let kind = type_of(greatest);
     write!(out, "static const {kind} {name}[] = {{")?;
     put_numbers(out, if numbers.is_empty() { &[0] } else { numbers })?;
     out.write_all(b"\n};\n")

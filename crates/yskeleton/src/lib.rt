@@ -1,22 +1,35 @@
 //! The texts of a parser in C and of its header.
 //!
-//! `machine` has the fixed text, which reads the arrays of `ycode` as its definitions say, and
-//! `tables` writes those. `references` finds the values that actions name, `actions` makes places
-//! of the stack of them, with the `tags` of the file; `declared` has tokens and the type of values,
-//! and `parser` puts all together in a `text` that knows its lines.
+//! `words`, `machine` and `errors` have the fixed texts, which read the arrays of `ycode` as its
+//! definitions say, with conditions that `template` knows; `tables` writes the arrays, and `lists`
+//! what is needed for lists as bison has them. `style` says how the parser looks; `references` finds the
+//! values and places that actions name, `scene` says where they stand, and `actions` writes them;
+//! `declared` has tokens and types, `calls` functions with their parameters, `cares` what is done
+//! with values. `parser` puts all together for a `skeleton`, in a `text` that knows its lines.
 #![tactic(auto)]
 
 mod actions;
 mod arrays;
+mod calls;
+mod cares;
 mod declared;
+mod errors;
+mod lists;
 mod machine;
 mod parser;
 mod references;
+mod scene;
+mod skeleton;
+mod style;
 mod tables;
-mod tags;
+mod template;
 mod text;
+mod words;
 
-pub use actions::{Misuse, Trouble};
-pub use parser::{Source, Wishes};
-pub use references::Whose;
+pub use actions::Trouble;
+pub use declared::{CToken, in_c, is_c_name};
+pub use lists::default_rules;
+pub use scene::Misuse;
+pub use skeleton::{Skeleton, style_of};
+pub use style::{Mode, Style, Wishes};
 pub use text::Text;

@@ -1,117 +1,20 @@
-//! The fixed texts of a parser in C: what stands before its tables, and the machine that reads
-//! them. It is C90 and C++, and makes the steps of docs/FORMATS.md, "Steps by a table".
+//! The machine in C that reads the tables of a parser. It is C90 and C++, and makes the steps of
+//! docs/FORMATS.md, "Steps by a table". Lines that begin with `@` are conditions: `template` knows
+//! them.
 
-/// What each parser begins with, after the line that tells where it is from.
-pub const FRONT: &str = r##"
-#define YYBYACC 1
-#define YYEMPTY (-1)
-#define YYEOF 0
-"##;
-
-/// What follows the user's first code: how `yyparse`, `yylex` and `yyerror` are declared and
-/// called, as byacc has it.
-pub const CALLS: &str = r##"
-#if YYDEBUG
-#include <stdio.h>
-#endif
-#include <stdlib.h>
-#include <string.h>
-
-#ifdef YYPARSE_PARAM
-# ifdef YYPARSE_PARAM_TYPE
-#  define YYPARSE_DECL() yyparse(YYPARSE_PARAM_TYPE YYPARSE_PARAM)
-# else
-#  define YYPARSE_DECL() yyparse(void *YYPARSE_PARAM)
-# endif
-#else
-# define YYPARSE_DECL() yyparse(void)
-#endif
-
-#ifdef YYLEX_PARAM
-# define YYLEX_DECL() yylex(void *YYLEX_PARAM)
-# define YYLEX yylex(YYLEX_PARAM)
-#else
-# define YYLEX_DECL() yylex(void)
-# define YYLEX yylex()
-#endif
-
-#ifndef YYERROR_DECL
-#define YYERROR_DECL() yyerror(const char *s)
-#endif
-#ifndef YYERROR_CALL
-#define YYERROR_CALL(msg) yyerror(msg)
-#endif
-
-extern int YYPARSE_DECL();
-"##;
-
-/// What stands after the tables and before the user's last code: words for actions, the limits of
-/// the stack, and the variables.
-pub const WORDS: &str = r##"
-#define YYUNDEF 2147483647
-#define YYTRANSLATE(c) ((unsigned) (c) <= YYMAXTOKEN ? (int) yytranslate[c] : YYNTOKENS)
-
-#define yyerrok (yyerrflag = 0)
-#define yyclearin (yychar = YYEMPTY)
-#define YYRECOVERING() (yyerrflag != 0)
-#define YYACCEPT goto yyaccept
-#define YYABORT goto yyabort
-#define YYERROR goto yyerrorlab
-#define YYNOMEM goto yynomem
-
-/* The stack begins with YYINITDEPTH entries, and grows up to YYMAXDEPTH. */
-#ifdef YYSTACKSIZE
-# undef YYMAXDEPTH
-# define YYMAXDEPTH YYSTACKSIZE
-#endif
-#ifndef YYMAXDEPTH
-# define YYMAXDEPTH 10000
-#endif
-#ifndef YYINITDEPTH
-# ifdef YYINITSTACKSIZE
-#  define YYINITDEPTH YYINITSTACKSIZE
-# else
-#  define YYINITDEPTH 200
-# endif
-#endif
-#ifndef YYMALLOC
-# define YYMALLOC malloc
-#endif
-#ifndef YYFREE
-# define YYFREE free
-#endif
-
-/* Each step of the parser: its kind, and the token, rule or state that it is about. A token that
-   is shifted: 's'; a rule that is reduced: 'r'; acceptance: 'a'; an error that is detected: 'e',
-   and then a state that is popped: 'p', the shift of `error`: 'x', a token that is discarded: 'd';
-   and 'f' where the parser gives up. */
-#ifndef YYSTEP
-# define YYSTEP(kind, number) ((void) 0)
-#endif
-
-#if YYDEBUG
-# define YYTRACE(words) do { if (yydebug) fprintf words; } while (0)
-#else
-# define YYTRACE(words) ((void) 0)
-#endif
-
-#if YYDEBUG
-int yydebug;
-#endif
-int yynerrs;
-int yychar;
-YYSTYPE yylval;
-"##;
-
-/// The machine up to the actions. It comes after the user's last code, where `yylex` may be static.
-pub const MACHINE: &str = r##"
-#if ! defined yylex && ! defined YYSTATE
-int YYLEX_DECL();
-#endif
-
+/// The machine up to what comes before the first token.
+pub const BEGIN: &str = r##"
 int
 YYPARSE_DECL()
 {
+@if pure
+  int yychar;
+  int yynerrs;
+  YYSTYPE yylval;
+@if locations
+  YYLTYPE yylloc;
+@end
+@end
   /* Each state on the stack stands for a symbol, but the first; so a value belongs to it. They are
      local, since a lexer may call this function again. */
   yystate_number yyssa[YYINITDEPTH];
@@ -121,47 +24,91 @@ YYPARSE_DECL()
   yystate_number *yysslast = yyssa + YYINITDEPTH - 1;
   YYSTYPE *yyvs = yyvsa;
   YYSTYPE *yyvsp = yyvsa;
+@if locations
+  YYLTYPE yylsa[YYINITDEPTH];
+  YYLTYPE *yyls = yylsa;
+  YYLTYPE *yylsp = yylsa;
+  YYLTYPE yyloc;
+  /* Where an error begins and ends. */
+  YYLTYPE yyerror_range[3];
+@if bison
+  /* How deep the stack is where its top is an `error` that stands for what is discarded too. */
+  size_t yyerrdepth = 0;
+@end
+@end
   size_t yydepth = YYINITDEPTH;
   YYSTYPE yyval;
   int yyerrflag = 0;
-  int yystate = 0;
-  int yytoken;
-  int yyn;
-  int yym;
+  /* Indices have no sign, so that none is widened. */
+  unsigned yystate = 0;
+  unsigned yytoken;
+  unsigned yyn;
+  /* While an action runs, how many symbols its rule has. */
+  unsigned yym = 0;
   int yyresult;
 
 #if YYDEBUG
+@if bison
+@if locations
+# ifdef YYPRINTS_LOCATIONS
+  (void) yylocation_print;
+# endif
+@end
+@else
   {
     const char *yylevel = getenv ("YYDEBUG");
     if (yylevel && *yylevel >= '0' && *yylevel <= '9')
       yydebug = *yylevel - '0';
   }
+@end
 #endif
   memset ((void *) &yyval, 0, sizeof yyval);
   yynerrs = 0;
-  yychar = YYEMPTY;
+  yychar = YYNOTOKEN;
   memset ((void *) yyvsp, 0, sizeof *yyvsp);
+@if pure
+  memset ((void *) &yylval, 0, sizeof yylval);
+@if locations
+  memset ((void *) &yylloc, 0, sizeof yylloc);
+# if defined YYLTYPE_IS_TRIVIAL && YYLTYPE_IS_TRIVIAL
+  yylloc.first_line = yylloc.last_line = 1;
+  yylloc.first_column = yylloc.last_column = 1;
+# endif
+@end
+@end
+@if locations
+  memset ((void *) yyerror_range, 0, sizeof yyerror_range);
+@end
   *yyssp = 0;
+"##;
 
+/// The machine up to the actions.
+pub const MACHINE: &str = r##"
+@if locations
+  *yylsp = yylloc;
+@end
 yyloop:
   if (yyset[yystate] == 0)
     {
       yyn = yyusual[yystate];
       goto yyreduce;
     }
-  if (yychar == YYEMPTY)
+  if (yychar == YYNOTOKEN)
     {
       yychar = YYLEX;
       if (yychar < 0)
-        yychar = YYEOF;
-      YYTRACE ((stderr, "%sdebug: state %d, reading %d (%s)\n", YYPREFIX, yystate, yychar,
-                yyname[YYTRANSLATE (yychar)]));
+        yychar = YYENDTOKEN;
+      YYTRACE ((stderr, "%sdebug: state %u, reading %d (%s)\n", YYPREFIX, yystate, (int) yychar,
+                YYNAME (yychar)));
     }
   yytoken = YYTRANSLATE (yychar);
   if (yytoken == YYERRTOKEN)
     {
       /* the lexer has told of the error itself */
-      yychar = YYUNDEF;
+      yychar = YYNOSYMBOL;
+@if locations
+      yyerror_range[1] = yylloc;
+@end
       goto yyrecover;
     }
   yyn = yyrow[yystate] + yytoken;
@@ -183,13 +130,19 @@ yyloop:
       YYSTEP ('a', 0);
       YYACCEPT;
     }
-  YYTRACE ((stderr, "%sdebug: state %d, shifting to state %d\n", YYPREFIX, yystate, yyn));
+  YYTRACE ((stderr, "%sdebug: state %u, shifting to state %u\n", YYPREFIX, yystate, yyn));
+@if prints
+  YYSHOW ("shifted", (int) yytoken, &yylval, &yylloc);
+@end
   YYSTEP ('s', yychar);
   if (yyerrflag > 0)
     --yyerrflag;
-  yychar = YYEMPTY;
+  yychar = YYNOTOKEN;
   yystate = yyn;
   *++yyvsp = yylval;
+@if locations
+  *++yylsp = yylloc;
+@end
 
 yypush:
   *++yyssp = (yystate_number) yystate;
@@ -198,14 +151,18 @@ yypush:
   goto yyloop;
 
 yyreduce:
-  YYTRACE ((stderr, "%sdebug: state %d, reducing by rule %d (%s)\n", YYPREFIX, yystate, yyn,
+  YYTRACE ((stderr, "%sdebug: state %u, reducing by rule %u (%s)\n", YYPREFIX, yystate, yyn,
             yyrule[yyn]));
-  YYSTEP ('r', yyn);
+  YYSTEP ('r', (int) yyn);
   yym = yylen[yyn];
   if (yym > 0)
-    yyval = yyvsp[1 - yym];
+    yyval = *(yyvsp - yym + 1);
   else
     memset ((void *) &yyval, 0, sizeof yyval);
+@if locations
+  YYLLOC_DEFAULT (yyloc, (yylsp - yym), (int) yym);
+  yyerror_range[1] = yyloc;
+@end
   switch (yyn)
     {
 "##;
@@ -215,11 +172,19 @@ pub const END: &str = r##"
     default:
       break;
     }
-  yyssp -= yym;
-  yyvsp -= yym;
+  YYPOPSTACK (yym);
   *++yyvsp = yyval;
+@if locations
+  *++yylsp = yyloc;
+@end
   yym = yylhs[yyn];
   YYGOTO (yystate, *yyssp, yym);
+@if prints
+  YYSHOW ("made", yystos[yystate], &yyval, &yyloc);
+@end
+@if destroys
+  yym = 0;
+@end
   goto yypush;
 
 yygrow:
@@ -227,9 +192,19 @@ yygrow:
     size_t yyused = yydepth;
     yystate_number *yynewss;
     YYSTYPE *yynewvs;
+@if locations
+    YYLTYPE *yynewls;
+@end
 
+@if destroys
+    yym = 0;
+@end
     if (yydepth >= YYMAXDEPTH)
+@if bison
       YYNOMEM;
+@else
+      goto yyoverflow;
+@end
     yydepth = yydepth > YYMAXDEPTH / 2 ? YYMAXDEPTH : yydepth * 2;
     yynewss = (yystate_number *) YYMALLOC (yydepth * sizeof *yynewss);
     if (!yynewss)
@@ -240,40 +215,116 @@ yygrow:
         YYFREE (yynewss);
         YYNOMEM;
       }
+@if locations
+    yynewls = (YYLTYPE *) YYMALLOC (yydepth * sizeof *yynewls);
+    if (!yynewls)
+      {
+        YYFREE (yynewss);
+        YYFREE (yynewvs);
+        YYNOMEM;
+      }
+    memcpy ((void *) yynewls, (const void *) yyls, yyused * sizeof *yynewls);
+@end
     memcpy (yynewss, yyss, yyused * sizeof *yynewss);
     memcpy ((void *) yynewvs, (const void *) yyvs, yyused * sizeof *yynewvs);
     if (yyss != yyssa)
       {
         YYFREE (yyss);
         YYFREE (yyvs);
+@if locations
+        YYFREE (yyls);
+@end
       }
     yyss = yynewss;
     yyvs = yynewvs;
     yyssp = yyss + yyused - 1;
     yysslast = yyss + yydepth - 1;
     yyvsp = yyvs + yyused - 1;
+@if locations
+    yyls = yynewls;
+    yylsp = yyls + yyused - 1;
+@end
   }
   goto yyloop;
 
+@if bison
+yybackup:
+  if (0)
+    goto yybackup; /* so the label is used */
+@if destroys
+  yym = 0;
+@end
+  goto yyloop;
+
+@end
 yyerrlab:
+@if locations
+  yyerror_range[1] = yylloc;
+@end
   if (yyerrflag == 3)
     {
-      if (yychar == YYEOF)
+      if (yychar == YYENDTOKEN)
         {
           YYSTEP ('f', 0);
           YYABORT;
         }
-      YYTRACE ((stderr, "%sdebug: state %d, error recovery discards token %d (%s)\n", YYPREFIX,
-                yystate, yychar, yyname[YYTRANSLATE (yychar)]));
+      YYTRACE ((stderr, "%sdebug: state %u, error recovery discards token %d (%s)\n", YYPREFIX,
+                yystate, (int) yychar, YYNAME (yychar)));
       YYSTEP ('d', yychar);
-      yychar = YYEMPTY;
+@if locations
+@if bison
+      if (yyerrdepth == (size_t) (yyssp - yyss))
+        {
+          yyerror_range[1] = *yylsp;
+          yyerror_range[2] = yylloc;
+          YYLLOC_DEFAULT (*yylsp, yyerror_range, 2);
+        }
+@end
+@end
+@if destroys
+      YYDESTRUCT ((int) yytoken, &yylval, &yylloc);
+@end
+      yychar = YYNOTOKEN;
       goto yyloop;
     }
   YYSTEP ('e', yychar);
   if (yyerrflag == 0)
     {
+@if bison
       ++yynerrs;
-      YYERROR_CALL ("syntax error");
+@end
+@if expecting
+      {
+        char yyroom[128];
+        char *yytext = yysyntax_error (yyroom, sizeof yyroom, yyssp, (int) yytoken);
+        YYERROR_CALL (yytext ? yytext : YY_("syntax error"));
+        if (!yytext)
+          YYNOMEM;
+        if (yytext != yyroom)
+          YYFREE (yytext);
+      }
+@else
+@if custom
+      {
+        yypcontext_t yycontext;
+        (void) yypcontext_expected_tokens;
+        (void) yysymbol_name;
+        yycontext.yyssp = yyssp;
+        yycontext.yytoken = (yysymbol_kind_t) yytoken;
+@if locations
+        yycontext.yylloc = &yylloc;
+@end
+        if (YYREPORT (&yycontext) == 2)
+          YYNOMEM;
+      }
+@else
+      YYERROR_CALL (YY_("syntax error"));
+@end
+@end
+@if bison
+@else
+      ++yynerrs;
+@end
     }
   goto yyrecover;
 
@@ -282,8 +333,10 @@ yyerrorlab:
     YYERROR; /* so the label is used */
   ++yynerrs;
   yym = yylen[yyn];
-  yyssp -= yym;
-  yyvsp -= yym;
+  YYPOPSTACK (yym);
+@if destroys
+  yym = 0;
+@end
   yystate = *yyssp;
 
 yyrecover:
@@ -298,17 +351,30 @@ yyrecover:
           YYSTEP ('f', 0);
           YYABORT;
         }
-      YYTRACE ((stderr, "%sdebug: error recovery discarding state %d\n", YYPREFIX, yystate));
-      YYSTEP ('p', yystate);
-      --yyssp;
-      --yyvsp;
+      YYTRACE ((stderr, "%sdebug: error recovery discarding state %u\n", YYPREFIX, yystate));
+      YYSTEP ('p', (int) yystate);
+@if locations
+      yyerror_range[1] = *yylsp;
+@end
+@if destroys
+      YYDESTRUCT (yystos[yystate], yyvsp, yylsp);
+@end
+      YYPOPSTACK (1);
       yystate = *yyssp;
     }
-  YYTRACE ((stderr, "%sdebug: state %d, error recovery shifting to state %d\n", YYPREFIX, yystate,
+  YYTRACE ((stderr, "%sdebug: state %u, error recovery shifting to state %u\n", YYPREFIX, yystate,
             yyn));
-  YYSTEP ('x', yyn);
+  YYSTEP ('x', (int) yyn);
   yystate = yyn;
   *++yyvsp = yylval;
+@if locations
+  yyerror_range[2] = yylloc;
+  YYLLOC_DEFAULT (yyloc, yyerror_range, 2);
+  *++yylsp = yyloc;
+@if bison
+  yyerrdepth = (size_t) (yyssp - yyss) + 1;
+@end
+@end
   goto yypush;
 
 yyaccept:
@@ -319,15 +385,40 @@ yyabort:
   yyresult = 1;
   goto yyreturn;
 
+@if bison
+@else
+yyoverflow:
+  YYERROR_CALL ("yacc stack overflow");
+  yyresult = 2;
+  goto yyreturn;
+
+@end
 yynomem:
-  YYERROR_CALL ("memory exhausted");
+  YYERROR_CALL (YY_("memory exhausted"));
   yyresult = 2;
 
 yyreturn:
+@if destroys
+  if (yychar != YYNOTOKEN)
+    {
+      yytoken = YYTRANSLATE (yychar);
+      YYDESTRUCT ((int) yytoken, &yylval, &yylloc);
+    }
+  /* The symbols of a rule whose action ended the parse are that action's. */
+  YYPOPSTACK (yym);
+  while (yyssp != yyss)
+    {
+      YYDESTRUCT (yystos[*yyssp], yyvsp, yylsp);
+      YYPOPSTACK (1);
+    }
+@end
   if (yyss != yyssa)
     {
       YYFREE (yyss);
       YYFREE (yyvs);
+@if locations
+      YYFREE (yyls);
+@end
     }
   return yyresult;
 }

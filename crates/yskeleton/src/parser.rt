@@ -1,244 +1,326 @@
-//! The text of a parser in C and that of its header, in the order that byacc has.
+//! The text of a parser in C and that of its header, in the order that byacc or bison has.
 
-use crate::actions::{Kept, Scene, Trouble};
-use crate::declared::{NUMBERS, put_tokens, put_union};
-use crate::machine::{CALLS, END, FRONT, MACHINE, WORDS};
-use crate::tables::{READING, put_tables};
-use crate::tags::Tags;
+use crate::actions::Trouble;
+use crate::calls::put_calls;
+use crate::errors::{
+    CUSTOM, DESTROY_FRONT, MESSAGE, SHOW_END, SHOW_FRONT, SWITCH, SWITCH_END, TEXTS,
+};
+use crate::machine::{BEGIN, END, MACHINE};
+use crate::skeleton::Skeleton;
+use crate::style::Style;
+use crate::tables::READING;
+use crate::template::put_template;
 use crate::text::Text;
+use crate::words::{FRONT, INCLUDES, WORDS};
 use std::alloc::Global;
 use std::io::{self, Write};
-use ycode::Code;
-use yexplain::lines::Spots;
-use ylexemes::part::Lexeme;
-use ysourcemap::{Mark, Role};
-use ysymbols::Grammar;
+use yparts::options::Purity;
+use yparts::parts::{Deed, Target};
 
-/// What is read of a grammar file: its path and bytes, its lexemes with their roles, and what it
-/// means.
-#[derive(Clone, Copy)]
-pub struct Source<'a> {
-    /// The path, as `#line` has it.
-    pub path: &'a str,
-    /// All bytes of the file.
-    pub bytes: &'a [u8],
-    /// The source map.
-    pub marks: &'a [Mark<'a>],
-    /// The grammar.
-    pub grammar: &'a Grammar,
-}
+/// The names that a prefix changes; the first stay where each call has its own variables.
+const SHARED: [&str; 4] = ["parse", "lex", "error", "debug"];
 
-/// What is asked of the texts.
-#[derive(Clone, Copy)]
-pub struct Wishes<'a> {
-    /// The path of the parser.
-    pub parser: &'a str,
-    /// The path of the header.
-    pub header: &'a str,
-    /// What names begin with in place of `yy`.
-    pub prefix: &'a str,
-    /// Whether `#line` tells where parts are from.
-    pub lines: bool,
-    /// Whether the parser can trace its steps, unless YYDEBUG says otherwise.
-    pub debug: bool,
-}
+/// Those that stand for variables that calls share.
+const VARIABLES: [&str; 3] = ["lval", "char", "nerrs"];
 
-/// The action that a lexeme is.
-fn action_of<'a>(mark: &Mark<'a>) -> Option<Kept<'a>> {
-    match (mark.role, mark.placed.lexeme) {
-        (Role::Action(_), Lexeme::Braced(text)) => Some(Kept {
-            text,
-            at: mark.placed.at,
-        }),
-        _ => None,
-    }
-}
+/// The names of types and macros that `api.prefix` changes.
+const TYPES: [&str; 4] = ["STYPE", "LTYPE", "LTYPE_IS_TRIVIAL", "DEBUG"];
 
-/// The names that a prefix changes.
-const PREFIXED: [&str; 7] = ["parse", "lex", "error", "char", "lval", "debug", "nerrs"];
-
-/// Writes the names that begin with another prefix.
-fn put_prefix<W: Write>(out: &mut W, prefix: &str) -> io::Result<()> {
-    if prefix != "yy" {
-        for name in PREFIXED {
-            writeln!(out, "#define yy{name} {prefix}{name}")?;
-        }
-    }
-    writeln!(out, "#define YYPREFIX \"{prefix}\"")
-}
-
-impl<'a> Source<'a> {
-    /// The bytes from one place to another.
-    fn part(&self, from: usize, to: usize) -> &'a [u8] {
-        self.bytes.get(from..to).unwrap_or(&[])
+impl Style<'_> {
+    /// Writes another name for one that begins with `yy`.
+    fn put_name(&self, out: &mut Text<'_>, name: &str) -> io::Result<()> {
+        write!(out, "#define yy{name} ")?;
+        out.add(self.names)?;
+        out.add(name.as_bytes())?;
+        out.add(b"\n")
     }
 
-    /// Whether the file has a `%union`.
-    fn has_union(&self) -> bool {
-        self.marks.iter().any(|mark| mark.role == Role::Union)
-    }
-
-    /// Where the text after the second mark begins, where there is one.
-    fn tail(&self) -> Option<usize> {
-        let mut marks = self.marks.iter().filter(|mark| mark.role == Role::Mark);
-        marks.nth(1).map(|mark| mark.placed.end)
-    }
-
-    /// Writes a code block without its braces.
-    fn put_block(&self, out: &mut Text<'_>, mark: Mark<'_>, line: usize) -> io::Result<()> {
-        let from = mark.placed.at.saturating_add(2);
-        let to = mark.placed.end.saturating_sub(2);
-        out.from(line, self.path)?;
-        out.add(self.part(from, to))?;
-        out.back()
-    }
-
-    /// Writes the code blocks and the `%union`, in their order.
-    fn put_first(&self, out: &mut Text<'_>) -> io::Result<()> {
-        let mut spots = Spots::new(self.bytes);
-        for mark in self.marks {
-            match (mark.role, mark.placed.lexeme) {
-                (Role::Block, _) => self.put_block(out, *mark, spots.reach(mark.placed.at).0)?,
-                (Role::Union, Lexeme::Braced(text)) => {
-                    put_union(out, text, (spots.reach(mark.placed.at).0, self.path))?;
+    /// Writes the names that begin with another prefix.
+    fn put_prefix(&self, out: &mut Text<'_>) -> io::Result<()> {
+        if self.names != b"yy".as_slice() {
+            for name in SHARED {
+                self.put_name(out, name)?;
+            }
+            if !self.is_pure() {
+                for name in VARIABLES {
+                    self.put_name(out, name)?;
                 }
-                _ => {}
+                self.put_name(out, "lloc")?;
+            }
+        }
+        out.add(b"#define YYPREFIX \"")?;
+        out.add(self.names)?;
+        out.add(b"\"\n")
+    }
+
+    /// Writes the types that begin with another prefix.
+    fn put_types(&self, out: &mut Text<'_>) -> io::Result<()> {
+        if self.macros.as_slice() == b"YY".as_slice() {
+            return Ok(());
+        }
+        for name in TYPES {
+            write!(out, "#define YY{name} ")?;
+            out.add(&self.macros)?;
+            out.add(name.as_bytes())?;
+            out.add(b"\n")?;
+        }
+        Ok(())
+    }
+}
+
+impl Skeleton<'_> {
+    /// Writes a fixed text.
+    fn put_fixed(&self, out: &mut Text<'_>, text: &str) -> io::Result<()> {
+        put_template(out, text, &self.style.switches())
+    }
+
+    /// Writes what the first lines say: which parser it is, and its names.
+    fn put_begin(&self, out: &mut Text<'_>) -> io::Result<()> {
+        out.add(b"/* A parser that ycc made. */\n")?;
+        self.put_fixed(out, FRONT)?;
+        let pure = match self.style.options.purity {
+            Purity::No => 0u8,
+            Purity::Yes => 1,
+            Purity::Full => 2,
+        };
+        writeln!(out, "#define YYPURE {pure}")?;
+        self.put_all(out, Target::Top)?;
+        self.style.put_types(out)?;
+        self.style.put_prefix(out)
+    }
+
+    /// Writes whether steps can be traced, and for a header that the parser has a variable for it.
+    fn put_debug(&self, out: &mut Text<'_>) -> io::Result<()> {
+        let debug = u8::from(self.style.wishes.debug);
+        self.put_macros(out, "\n#ifndef @DEBUG\n# define @DEBUG ")?;
+        writeln!(out, "{debug}\n#endif")?;
+        if !self.style.is_bison() {
+            return Ok(());
+        }
+        self.put_macros(out, "#if @DEBUG\nextern int ")?;
+        out.add(self.style.names)?;
+        out.add(b"debug;\n#endif\n")
+    }
+
+    /// Writes the variables that calls share, as others know them.
+    fn put_shared(&self, out: &mut Text<'_>) -> io::Result<()> {
+        if self.style.is_pure() {
+            return Ok(());
+        }
+        self.put_macros(out, "\nextern @STYPE ")?;
+        out.add(self.style.names)?;
+        out.add(b"lval;\n")?;
+        if self.style.locations {
+            self.put_macros(out, "extern @LTYPE ")?;
+            out.add(self.style.names)?;
+            out.add(b"lloc;\n")?;
+        }
+        Ok(())
+    }
+
+    /// Writes what bison's header has.
+    fn put_declarations(&self, out: &mut Text<'_>) -> io::Result<()> {
+        self.put_debug(out)?;
+        self.put_all(out, Target::Requires)?;
+        self.put_tokens(out)?;
+        self.put_values(out)?;
+        self.put_places(out)?;
+        self.put_shared(out)?;
+        self.put_prototype(out)?;
+        self.put_all(out, Target::Provides)
+    }
+
+    /// Writes the declarations, or that they are those of the header.
+    fn put_declared(&self, out: &mut Text<'_>) -> io::Result<()> {
+        let Some(header) = self.style.options.include else {
+            return self.put_declarations(out);
+        };
+        out.add(b"#include ")?;
+        out.add(header)?;
+        out.add(b"\n")
+    }
+
+    /// Writes the code blocks that stand before the first union, or those after it, where other
+    /// code joins them.
+    fn put_blocks(&self, out: &mut Text<'_>, before: bool) -> io::Result<()> {
+        let mut is_before = true;
+        for block in &self.parts.blocks {
+            is_before = is_before && block.target != Target::Union;
+            let is_here = match block.target {
+                Target::Prologue => is_before == before,
+                Target::Code => !before,
+                _ => false,
+            };
+            if is_here {
+                self.put_piece(out, block.piece)?;
             }
         }
         Ok(())
     }
 
-    /// Writes the text after the second mark.
-    fn put_tail(&self, out: &mut Text<'_>) -> io::Result<()> {
-        let Some(from) = self.tail() else {
-            return Ok(());
-        };
-        let text = self.part(from, self.bytes.len());
-        if text.trim_ascii().is_empty() {
-            return Ok(());
-        }
-        out.from(Spots::new(self.bytes).reach(from).0, self.path)?;
-        out.add(text)?;
-        out.back()
+    /// Writes all that stands before the tables, in bison's order.
+    fn put_bison_front(&self, out: &mut Text<'_>) -> io::Result<()> {
+        self.put_blocks(out, true)?;
+        self.put_declared(out)?;
+        self.put_kinds(out)?;
+        self.put_blocks(out, false)?;
+        self.put_fixed(out, INCLUDES)?;
+        put_calls(self, out)
     }
 
-    /// Writes the type of values.
-    fn put_value_type(&self, out: &mut Text<'_>, tags: &Tags<'_>) -> io::Result<()> {
-        if self.has_union() || tags.any() {
+    /// Writes the code blocks and the type of values, in their order.
+    fn put_in_order(&self, out: &mut Text<'_>) -> io::Result<()> {
+        let mut has_values = false;
+        for block in &self.parts.blocks {
+            if block.target == Target::Prologue {
+                self.put_piece(out, block.piece)?;
+            } else if block.target == Target::Union && !has_values {
+                has_values = true;
+                self.put_values(out)?;
+            }
+        }
+        if has_values {
             Ok(())
         } else {
-            out.add(NUMBERS)
+            self.put_values(out)
         }
+    }
+
+    /// Writes all that stands before the tables, in byacc's order.
+    fn put_byacc_front(&self, out: &mut Text<'_>) -> io::Result<()> {
+        self.put_all(out, Target::Requires)?;
+        self.put_in_order(out)?;
+        self.put_places(out)?;
+        self.put_debug(out)?;
+        self.put_fixed(out, INCLUDES)?;
+        put_calls(self, out)?;
+        self.put_tokens(out)?;
+        self.put_all(out, Target::Provides)?;
+        self.put_all(out, Target::Code)
+    }
+
+    /// Writes what needs the values that are thrown away, and what shows values.
+    fn put_values_code(&self, out: &mut Text<'_>) -> Result<(), Trouble> {
+        if self.style.destroys {
+            self.put_fixed(out, DESTROY_FRONT)?;
+            self.put_switch(out, Deed::Destroy)?;
+            out.add(SWITCH_END.as_bytes())?;
+        }
+        if self.style.prints {
+            self.put_fixed(out, SHOW_FRONT)?;
+            self.put_switch(out, Deed::Print)?;
+            out.add(SHOW_END.as_bytes())?;
+        }
+        Ok(())
+    }
+
+    /// Writes code by the kinds of symbols.
+    fn put_switch(&self, out: &mut Text<'_>, deed: Deed) -> Result<(), Trouble> {
+        self.put_used(out)?;
+        out.add(SWITCH.as_bytes())?;
+        self.put_cares(out, deed)
+    }
+
+    /// Writes how texts of errors are made.
+    fn put_texts(&self, out: &mut Text<'_>) -> io::Result<()> {
+        if self.style.names_tokens() || self.style.is_custom() {
+            self.put_fixed(out, TEXTS)?;
+        }
+        if self.style.names_tokens() {
+            self.put_fixed(out, MESSAGE)?;
+        }
+        if self.style.is_custom() {
+            self.put_fixed(out, CUSTOM)?;
+        }
+        Ok(())
+    }
+
+    /// Writes the machine with the actions.
+    fn put_machine(&self, out: &mut Text<'_>) -> Result<(), Trouble> {
+        out.add(READING.as_bytes())?;
+        self.put_texts(out)?;
+        self.put_values_code(out)?;
+        if !self.style.is_bison() {
+            out.add(b"\n#if ! defined yylex && ! defined YYSTATE\nint YYLEX_DECL();\n#endif\n")?;
+        }
+        self.put_fixed(out, BEGIN)?;
+        self.put_initial(out)?;
+        self.put_fixed(out, MACHINE)?;
+        self.put_actions(out)?;
+        self.put_fixed(out, END)?;
+        Ok(())
     }
 }
 
-impl Source<'_> {
-    /// Writes the action of a rule, which stands on a line.
-    fn put_case(
-        &self,
-        out: &mut Text<'_>,
-        tags: &Tags<'_>,
-        rule: usize,
-        (kept, line): (Kept<'_>, usize),
-    ) -> Result<(), Trouble> {
-        writeln!(out, "    case {rule}:")?;
-        out.from(line, self.path)?;
-        kept.put(out, tags, Scene::of(self.grammar, rule))?;
-        out.back()?;
-        out.add(b"      break;\n")?;
-        Ok(())
+/// A byte of a path as it stands in the name of a macro.
+fn in_macro(byte: u8) -> u8 {
+    if byte.is_ascii_alphanumeric() {
+        byte.to_ascii_uppercase()
+    } else {
+        b'_'
     }
+}
 
-    /// Writes the actions. They stand in the file in the order of their rules.
-    fn put_actions(&self, out: &mut Text<'_>, tags: &Tags<'_>) -> Result<(), Trouble> {
-        let mut spots = Spots::new(self.bytes);
-        let mut actions = self.marks.iter().filter_map(action_of);
-        for rule in 1..self.grammar.rules() {
-            if self.grammar.action_text(rule).is_some() {
-                if let Some(kept) = actions.next() {
-                    let line = spots.reach(kept.at).0;
-                    self.put_case(out, tags, rule, (kept, line))?;
-                }
-            }
-        }
-        Ok(())
-    }
-
-    /// Writes all that stands before the tables.
-    fn put_front(&self, out: &mut Text<'_>, tags: &Tags<'_>, wishes: Wishes<'_>) -> io::Result<()> {
-        let debug = u8::from(wishes.debug);
-        out.add(b"/* A parser that ycc made. */\n")?;
-        out.add(FRONT.as_bytes())?;
-        put_prefix(out, wishes.prefix)?;
-        self.put_first(out)?;
-        self.put_value_type(out, tags)?;
-        writeln!(out, "\n#ifndef YYDEBUG\n#define YYDEBUG {debug}\n#endif")?;
-        out.add(CALLS.as_bytes())?;
-        put_tokens(out, self.grammar)
-    }
-
-    /// The text of the parser.
-    fn parser<'w>(
-        &self,
-        alloc: Global,
-        code: &Code,
-        tags: &Tags<'_>,
-        wishes: Wishes<'w>,
-    ) -> Result<Text<'w>, Trouble> {
+impl<'a> Skeleton<'a> {
+    /// The text of the parser, with these rules that bison would reduce by default, where its lists
+    /// are wanted.
+    pub fn parser(&self, alloc: Global, defaults: &[usize]) -> Result<Text<'a>, Trouble> {
+        let wishes = self.style.wishes;
         let mut out = Text::new(alloc, wishes.parser, wishes.lines);
-        self.put_front(&mut out, tags, wishes)?;
-        put_tables(&mut out, self.grammar, code)?;
-        out.add(WORDS.as_bytes())?;
-        self.put_tail(&mut out)?;
-        out.add(READING.as_bytes())?;
-        out.add(MACHINE.as_bytes())?;
-        self.put_actions(&mut out, tags)?;
-        out.add(END.as_bytes())?;
+        self.put_begin(&mut out)?;
+        if self.style.is_bison() {
+            self.put_bison_front(&mut out)?;
+        } else {
+            self.put_byacc_front(&mut out)?;
+        }
+        self.put_tables(alloc, &mut out, defaults)?;
+        self.put_fixed(&mut out, WORDS)?;
+        if self.style.is_bison() {
+            self.put_machine(&mut out)?;
+            self.put_tail(&mut out)?;
+        } else {
+            self.put_tail(&mut out)?;
+            self.put_machine(&mut out)?;
+        }
         Ok(out)
+    }
+
+    /// Writes the macro by which a header stands once.
+    fn put_guard(&self, out: &mut Text<'_>) -> io::Result<()> {
+        out.add(b"YY_")?;
+        out.add(self.style.names)?;
+        out.add(b"_")?;
+        let wishes = self.style.wishes;
+        for byte in wishes.header.as_bytes() {
+            out.add(&[in_macro(*byte)])?;
+        }
+        out.add(b"_INCLUDED\n")
+    }
+
+    /// Writes what byacc's header has.
+    fn put_byacc_header(&self, out: &mut Text<'_>) -> io::Result<()> {
+        self.put_all(out, Target::Requires)?;
+        self.put_tokens(out)?;
+        self.put_values(out)?;
+        self.put_places(out)?;
+        self.put_shared(out)?;
+        self.put_all(out, Target::Provides)
     }
 
     /// The text of the header.
-    fn header<'w>(
-        &self,
-        alloc: Global,
-        tags: &Tags<'_>,
-        wishes: Wishes<'w>,
-    ) -> io::Result<Text<'w>> {
+    pub fn header(&self, alloc: Global) -> io::Result<Text<'a>> {
+        let wishes = self.style.wishes;
         let mut out = Text::new(alloc, wishes.header, wishes.lines);
-        let prefix = wishes.prefix;
-        out.add(b"/* What a parser that ycc made declares. */\n")?;
-        writeln!(
-            out,
-            "#ifndef YY_{prefix}_DEFINES_H\n#define YY_{prefix}_DEFINES_H"
-        )?;
-        put_tokens(&mut out, self.grammar)?;
-        self.put_union(&mut out)?;
-        self.put_value_type(&mut out, tags)?;
-        writeln!(out, "\nextern YYSTYPE {prefix}lval;\n\n#endif")?;
-        Ok(out)
-    }
-
-    /// Writes the type that a `%union` gives.
-    fn put_union(&self, out: &mut Text<'_>) -> io::Result<()> {
-        let mut spots = Spots::new(self.bytes);
-        for mark in self.marks {
-            if let (Role::Union, Lexeme::Braced(text)) = (mark.role, mark.placed.lexeme) {
-                put_union(out, text, (spots.reach(mark.placed.at).0, self.path))?;
-            }
+        out.add(b"/* What a parser that ycc made declares. */\n#ifndef ")?;
+        self.put_guard(&mut out)?;
+        out.add(b"#define ")?;
+        self.put_guard(&mut out)?;
+        if self.style.is_bison() {
+            self.put_declarations(&mut out)?;
+        } else {
+            self.put_byacc_header(&mut out)?;
         }
-        Ok(())
-    }
-
-    /// The texts of the parser and of its header.
-    pub fn texts<'w>(
-        &self,
-        alloc: Global,
-        code: &Code,
-        wishes: Wishes<'w>,
-    ) -> Result<(Text<'w>, Text<'w>), Trouble> {
-        let tags = Tags::new(alloc, self.grammar, self.marks)?;
-        let parser = self.parser(alloc, code, &tags, wishes)?;
-        let header = self.header(alloc, &tags, wishes)?;
-        Ok((parser, header))
+        out.add(b"\n#endif\n")?;
+        Ok(out)
     }
 }

@@ -1,21 +1,25 @@
-//! What an action says of values: `$$`, `$1`, `$<tag>1`, and what is no such thing.
+//! What an action says of values and places: `$$`, `$1`, `$<tag>1`, `$name`, `@1`, and what is no
+//! such thing.
 
-use ylexemes::bytes::{after_comment, digit_run, is_digit, name_run};
+use yforeign::quoted;
+use ylexemes::bytes::{after_comment, digit_run, is_digit, is_name_byte, is_name_start};
 
-/// Whose value is meant.
+/// Whose value or place is meant.
 #[derive(Clone, Copy, Debug, PartialEq, Eq)]
-pub enum Whose {
+pub enum Whose<'a> {
     /// The left side's, `$$`.
     Left,
     /// That of a symbol of the body, counted from 1; 0 and less are below the body on the stack.
     Symbol(i64),
+    /// That of a name.
+    Named(&'a [u8]),
 }
 
 /// A value that an action names, and the tag that it gives itself.
 #[derive(Clone, Copy)]
 pub struct Reference<'a> {
     /// Whose it is.
-    pub whose: Whose,
+    pub whose: Whose<'a>,
     /// The tag between `<` and `>`.
     pub tag: Option<&'a [u8]>,
 }
@@ -27,9 +31,21 @@ pub enum Piece<'a> {
     Text,
     /// A value.
     Value(Reference<'a>),
+    /// A place.
+    Place(Whose<'a>),
 }
 
-/// How many bytes a string or a character constant has that begins with this quote.
+/// What an action may name.
+#[derive(Clone, Copy)]
+pub struct Dialect {
+    /// Names of symbols.
+    pub names: bool,
+    /// Places.
+    pub places: bool,
+}
+/// How many bytes a string or a character constant has that begins with this quote. As in C it
+/// ends with its line at the latest, so that an apostrophe in a text that is left out hides nothing
+/// of the next line.
 fn quoted_len(bytes: &[u8], quote: u8) -> usize {
     let mut escaped = true;
     for (index, byte) in bytes.iter().enumerate() {
@@ -37,7 +53,7 @@ fn quoted_len(bytes: &[u8], quote: u8) -> usize {
             escaped = false;
         } else if *byte == b'\\' {
             escaped = true;
-        } else if *byte == quote {
+        } else if *byte == quote || *byte == b'\n' {
             return index.saturating_add(1);
         }
     }
@@ -66,15 +82,17 @@ fn text_len(bytes: &[u8]) -> usize {
     }
 }
 
-/// The tag at the front, `<tag>`, and what follows it.
+/// The tag at the front, `<tag>`, and what follows it. Brackets nest, and the `>` of an arrow isn't
+/// one.
 fn tag_at(bytes: &[u8]) -> (Option<&[u8]>, &[u8]) {
-    if let Some((b'<', rest)) = bytes.split_first() {
-        let (name, after) = name_run(rest);
-        if let (false, Some((b'>', after))) = (name.is_empty(), after.split_first()) {
-            return (Some(name), after);
-        }
+    if bytes.first() != Some(&b'<') {
+        return (None, bytes);
     }
-    (None, bytes)
+    let Ok((_, length)) = quoted::tag_at(bytes) else {
+        return (None, bytes);
+    };
+    let tag = bytes.get(1..length.saturating_sub(1)).unwrap_or(&[]);
+    (Some(tag.trim_ascii()), bytes.get(length..).unwrap_or(&[]))
 }
 
 /// The number that digits spell, where they are few.
@@ -109,25 +127,79 @@ fn number_at(bytes: &[u8]) -> Option<(i64, &[u8])> {
     Some((value, after))
 }
 
-/// The value that is named at the front, which begins with `$`, and what follows it.
-fn reference_at(bytes: &[u8]) -> Option<(Reference<'_>, &[u8])> {
-    let (tag, rest) = tag_at(bytes.split_first()?.1);
-    if let Some((b'$', after)) = rest.split_first() {
-        let whose = Whose::Left;
-        return Some((Reference { whose, tag }, after));
+/// Whether a byte can stand in a name of C.
+fn is_in_c(b: u8) -> bool {
+    is_name_byte(b) && b != b'.'
+}
+
+/// The name at the front, in square brackets or as far as it is one of C, and what follows it.
+fn name_at(bytes: &[u8]) -> Option<(&[u8], &[u8])> {
+    let first = *bytes.first()?;
+    if first == b'[' {
+        let end = bytes.iter().position(|b| *b == b']')?;
+        let name = bytes.get(1..end)?.trim_ascii();
+        let is_name = name.first().map_or(false, |b| is_name_start(*b));
+        return is_name.then_some((name, bytes.get(end.saturating_add(1)..)?));
     }
-    let (number, after) = number_at(rest)?;
-    let whose = Whose::Symbol(number);
-    Some((Reference { whose, tag }, after))
+    if !is_name_start(first) || first == b'.' {
+        return None;
+    }
+    let end = bytes.iter().position(|b| !is_in_c(*b));
+    Some(bytes.split_at(end.unwrap_or(bytes.len())))
+}
+
+/// Who is meant at the front, and what follows that; `sign` stands for the left side.
+fn whose_at(bytes: &[u8], names: bool) -> Option<(Whose<'_>, &[u8])> {
+    if let Some((b'$', after)) = bytes.split_first() {
+        return Some((Whose::Left, after));
+    }
+    if let Some((number, after)) = number_at(bytes) {
+        return Some((Whose::Symbol(number), after));
+    }
+    if !names {
+        return None;
+    }
+    let (name, after) = name_at(bytes)?;
+    Some((Whose::Named(name), after))
+}
+
+/// The value or place at the front, and what follows it.
+fn named_at(bytes: &[u8], dialect: Dialect) -> Option<(Piece<'_>, &[u8])> {
+    match bytes.split_first()? {
+        (b'$', rest) => {
+            let (tag, rest) = tag_at(rest);
+            let (whose, after) = whose_at(rest, dialect.names)?;
+            Some((Piece::Value(Reference { whose, tag }), after))
+        }
+        (b'@', rest) if dialect.places => {
+            let (whose, after) = whose_at(rest, dialect.names)?;
+            Some((Piece::Place(whose), after))
+        }
+        _ => None,
+    }
 }
 
 /// What stands at the front of a part of an action, and how many bytes it has, at least one.
-pub fn piece_at(bytes: &[u8]) -> (Piece<'_>, usize) {
-    if bytes.first() == Some(&b'$') {
-        if let Some((reference, after)) = reference_at(bytes) {
-            let taken = len_before(bytes, Some(after));
-            return (Piece::Value(reference), taken);
-        }
+pub fn piece_at(bytes: &[u8], dialect: Dialect) -> (Piece<'_>, usize) {
+    match named_at(bytes, dialect) {
+        Some((piece, after)) => (piece, len_before(bytes, Some(after))),
+        None => (Piece::Text, text_len(bytes)),
     }
-    (Piece::Text, text_len(bytes))
+}
+
+/// Whether a text names a place.
+pub fn names_place(text: &[u8], dialect: Dialect) -> bool {
+    let mut rest = text;
+    // each piece has a byte at least
+    for _ in text {
+        if rest.is_empty() {
+            break;
+        }
+        let (piece, taken) = piece_at(rest, dialect);
+        if let Piece::Place(_) = piece {
+            return true;
+        }
+        rest = rest.get(taken..).unwrap_or(&[]);
+    }
+    false
 }

@@ -1,0 +1,172 @@
+//! The files that are made of a grammar file.
+
+use crate::ending::{Ending, File, outside};
+use crate::names::{Names, names_of};
+use crate::reading::Reading;
+use crate::words::Given;
+use std::alloc::Global;
+use std::io::Write;
+use ycode::code_of;
+use yfiles::writing::write_over;
+use yparts::options::{Header, Options};
+use yskeleton::{Mode, Skeleton, Text, Trouble, Wishes, default_rules, style_of};
+use ytables::{Link, Tables};
+
+/// A text that was made; where an action stands in its way, that is said.
+fn made<T>(rt: &HostRuntime, file: File<'_>, text: Result<T, Trouble>) -> Result<T, Ending> {
+    match text {
+        Ok(text) => Ok(text),
+        Err(Trouble::Unwritten(error)) => Err(Ending::from(error)),
+        Err(Trouble::Misused(misuse, at)) => {
+            file.put_misused(rt, misuse, at)?;
+            Err(Ending::Refused)
+        }
+    }
+}
+
+/// The report on states.
+fn report_of(alloc: Global, tables: &Tables) -> Result<Vec<u8>, Ending> {
+    let mut link = Link::new(Vec::new(alloc));
+    match tables.write_report(&mut link) {
+        Ok(()) => Ok(link.into_inner()),
+        Err(_) => Err(Ending::Memory),
+    }
+}
+
+/// The table that `yacc` writes.
+fn table_of(alloc: Global, tables: &Tables) -> Result<Vec<u8>, Ending> {
+    let mut link = Link::new(Vec::new(alloc));
+    match tables.write_table(&mut link) {
+        Ok(()) => Ok(link.into_inner()),
+        Err(_) => Err(Ending::Memory),
+    }
+}
+
+/// Writes a file; where that can't be done, that is said.
+fn write(rt: &HostRuntime, path: &str, text: &[u8]) -> Result<(), Ending> {
+    match write_over(rt, path, text) {
+        Ok(()) => Ok(()),
+        Err(error) => Err(outside(rt, "write", path, &error)),
+    }
+}
+
+/// Texts that are made before any file is written.
+#[derive(Drop)]
+struct Texts<'a> {
+    parser: Text<'a>,
+    header: Option<Text<'a>>,
+    report: Option<Vec<u8>>,
+    table: Option<Vec<u8>>,
+}
+
+impl Texts<'_> {
+    /// Writes the files.
+    fn write(&self, rt: &HostRuntime, names: &Names) -> Result<(), Ending> {
+        write(rt, &names.parser, self.parser.bytes())?;
+        if let Some(header) = &self.header {
+            write(rt, &names.header, header.bytes())?;
+        }
+        if let Some(report) = &self.report {
+            write(rt, &names.report, report)?;
+        }
+        match &self.table {
+            Some(table) => write(rt, &names.table, table),
+            None => Ok(()),
+        }
+    }
+}
+
+/// Whose order and names are taken.
+fn mode_of(given: Given<'_>, options: &Options<'_>) -> Mode {
+    if given.bison || options.is_bison {
+        Mode::Bison
+    } else {
+        Mode::Byacc
+    }
+}
+
+/// What is asked for of the texts.
+fn wishes_of<'a>(given: Given<'a>, options: &Options<'_>, names: &'a Names) -> Wishes<'a> {
+    Wishes {
+        parser: names.parser.as_str(),
+        header: names.header.as_str(),
+        prefix: given.prefix,
+        lines: !given.no_lines && !options.no_lines,
+        debug: given.trace || options.trace,
+        mode: mode_of(given, options),
+        is_yacc: given.yacc || options.is_yacc,
+        lists: given.lists,
+    }
+}
+
+/// Says whose order and names are taken.
+fn tell_mode(rt: &HostRuntime, file: File<'_>, mode: Mode) {
+    let path = file.path;
+    let whose = match mode {
+        Mode::Byacc => "byacc",
+        Mode::Bison => "bison",
+    };
+    let _ = writeln!(rt.stderr(), "ycc: {path}: order and names of {whose}");
+}
+
+/// Makes all texts, and then writes their files.
+pub fn write_files<'a>(
+    rt: &HostRuntime,
+    given: Given<'_>,
+    file: File<'a>,
+    read: &'a Reading<'a>,
+) -> Result<(), Ending> {
+    let alloc = rt.alloc();
+    let (tables, parts) = (&read.tables, &read.parts);
+    let options = &parts.options;
+    let is_bison = mode_of(given, options) == Mode::Bison;
+    let names = names_of(alloc, given, options, is_bison)?;
+    let wishes = wishes_of(given, options, &names);
+    if given.verbose {
+        tell_mode(rt, file, wishes.mode);
+    }
+    let style = style_of(alloc, parts, wishes)?;
+    let code = code_of(alloc, tables)?;
+    let skeleton = Skeleton {
+        path: file.path,
+        grammar: tables.automaton().grammar(),
+        parts,
+        style: &style,
+        code: &code,
+    };
+    texts_of(rt, given, file, tables, &skeleton)?.write(rt, &names)
+}
+
+/// The texts that are wanted.
+fn texts_of<'a>(
+    rt: &HostRuntime,
+    given: Given<'_>,
+    file: File<'_>,
+    tables: &Tables,
+    skeleton: &Skeleton<'a>,
+) -> Result<Texts<'a>, Ending> {
+    let alloc = rt.alloc();
+    let options = &skeleton.parts.options;
+    let defaults = default_rules(alloc, tables)?;
+    let parser = made(rt, file, skeleton.parser(alloc, &defaults))?;
+    let header = if given.define || options.header != Header::No {
+        Some(skeleton.header(alloc)?)
+    } else {
+        None
+    };
+    let report = if given.verbose || options.verbose {
+        Some(report_of(alloc, tables)?)
+    } else {
+        None
+    };
+    let table = match given.table {
+        Some(_) => Some(table_of(alloc, tables)?),
+        None => None,
+    };
+    Ok(Texts {
+        parser,
+        header,
+        report,
+        table,
+    })
+}

@@ -1,0 +1,175 @@
+//! A grammar file read: one that `yacc` takes as `yacc` reads it, any other by its import.
+
+use crate::ending::{Ending, File};
+use std::io::{self, Write};
+use yfaults::opening::{Opened, Trouble as Unopened, put_trouble};
+use yforeign::directive::is_imported;
+use ygrammar::{Grammar, LONGEST_FILE, Mapped, Mark, read_mapped};
+use yimport::import::{Imported, import};
+use yimport::refusal::Trouble as Unimported;
+use yimported::run::{Foreign, open_import};
+use yimported::told::Source;
+use ylalr::build;
+use yparts::parts::Parts;
+use yparts::refusal::Trouble as Unmade;
+use yparts::{foreign, native};
+use ytables::{Counts, Tables, resolve};
+
+/// A grammar file read.
+#[derive(Drop)]
+pub struct Reading<'a> {
+    /// Its tables.
+    pub tables: Tables,
+    /// What it says of its parser.
+    pub parts: Parts<'a>,
+}
+
+/// Says why a grammar file has no tables.
+fn refused(rt: &HostRuntime, file: File<'_>, trouble: &Unopened<'_>) -> Ending {
+    if matches!(trouble, Unopened::Memory) {
+        return Ending::Memory;
+    }
+    match put_trouble(&mut rt.stderr(), rt.alloc(), file.path, file.bytes, trouble) {
+        Ok(()) => Ending::Refused,
+        Err(error) => Ending::from(error),
+    }
+}
+
+/// What a grammar file has and means.
+fn map<'a>(rt: &HostRuntime, bytes: &'a [u8]) -> Result<(Grammar, Vec<Mark<'a>>), Unopened<'a>> {
+    let Mapped {
+        grammar,
+        marks,
+        barren,
+    } = match read_mapped(rt.alloc(), bytes) {
+        Ok(mapped) => mapped,
+        Err(placed) => return Err(Unopened::of_text(rt.alloc(), placed)),
+    };
+    match grammar {
+        Ok(grammar) => Ok((grammar, marks)),
+        Err(placed) => Err(Unopened::of_fault(placed, marks, barren)),
+    }
+}
+
+/// The tables of a grammar; where there are too many states, that is said.
+fn tables_of(rt: &HostRuntime, file: File<'_>, grammar: Grammar) -> Result<Tables, Ending> {
+    match build(rt.alloc(), grammar) {
+        Ok(automaton) => resolve(rt.alloc(), automaton).map_err(|_| Ending::Memory),
+        Err(fault) => Err(refused(rt, file, &Unopened::from(fault))),
+    }
+}
+
+/// Says how many conflicts there are, where there are some.
+fn put_conflicts(rt: &HostRuntime, first: u64, second: u64) -> io::Result<()> {
+    if first == 0 && second == 0 {
+        return Ok(());
+    }
+    writeln!(
+        rt.stderr(),
+        "conflicts: {first} shift/reduce, {second} reduce/reduce"
+    )
+}
+
+/// A file that `yacc` takes.
+fn read_native<'a>(
+    rt: &HostRuntime,
+    file: File<'a>,
+    (grammar, marks): (Grammar, Vec<Mark<'a>>),
+) -> Result<Reading<'a>, Ending> {
+    let parts = native::parts_of(rt.alloc(), file.bytes, &grammar, &marks)?;
+    let tables = tables_of(rt, file, grammar)?;
+    let Counts {
+        shift_reduce,
+        reduce_reduce,
+    } = tables.conflicts();
+    put_conflicts(rt, shift_reduce, reduce_reduce)?;
+    Ok(Reading { tables, parts })
+}
+
+/// What a foreign file says of its parser; where that is refused, it is said.
+fn parts_in<'a, 'b>(
+    rt: &HostRuntime,
+    file: File<'a>,
+    grammar: &'b Grammar,
+    imported: &'b Imported,
+) -> Result<Parts<'a>, Ending> {
+    match foreign::parts_of(rt.alloc(), file.bytes, grammar, imported) {
+        Ok(parts) => Ok(parts),
+        Err(Unmade::Memory) => Err(Ending::Memory),
+        Err(Unmade::Refused(refusal, at)) => Err(file.refuse(rt, at, refusal.text())),
+    }
+}
+
+/// Says how many conflicts a foreign file has, unless it expects some; where it expects others,
+/// that was said, and it is refused.
+fn count(rt: &HostRuntime, foreign: &Foreign) -> Result<(), Ending> {
+    if foreign.surprises() {
+        return Err(Ending::Refused);
+    }
+    let imported = &foreign.imported;
+    if imported.shift_reduce.is_none() && imported.reduce_reduce.is_none() {
+        let counts = foreign.counts;
+        put_conflicts(rt, counts.shift_reduce as u64, counts.reduce_reduce as u64)?;
+    }
+    Ok(())
+}
+
+/// A file that an import made one of `yacc`.
+fn read_imported<'a>(
+    rt: &HostRuntime,
+    file: File<'a>,
+    imported: Imported,
+) -> Result<Reading<'a>, Ending> {
+    let File { path, bytes } = file;
+    let source = Source { path, bytes };
+    let foreign = match open_import(rt.alloc(), &mut rt.stderr(), source, imported)? {
+        Ok(foreign) => foreign,
+        Err(3) => return Err(Ending::Outside),
+        Err(_) => return Err(Ending::Refused),
+    };
+    count(rt, &foreign)?;
+    let grammar = foreign.opened.tables.automaton().grammar();
+    let parts = parts_in(rt, file, grammar, &foreign.imported)?;
+    let Foreign { opened, .. } = foreign;
+    let Opened { tables, .. } = opened;
+    Ok(Reading { tables, parts })
+}
+
+/// Whether the place where `yacc` stops reading begins with what an import takes.
+fn is_foreign(bytes: &[u8], trouble: &Unopened<'_>) -> bool {
+    match trouble {
+        Unopened::Grammar(refusal) => {
+            let at = refusal.placed.at;
+            is_imported(bytes.get(at..).unwrap_or(&[]))
+        }
+        _ => false,
+    }
+}
+
+/// A file that `yacc` refuses for this reason.
+fn read_other<'a>(
+    rt: &HostRuntime,
+    file: File<'a>,
+    trouble: &Unopened<'_>,
+) -> Result<Reading<'a>, Ending> {
+    if file.bytes.len() > LONGEST_FILE || matches!(trouble, Unopened::Memory) {
+        return Err(refused(rt, file, trouble));
+    }
+    match import(rt.alloc(), file.bytes) {
+        Ok(imported) if imported.notes.is_empty() => Err(refused(rt, file, trouble)),
+        Ok(imported) => read_imported(rt, file, imported),
+        Err(Unimported::Memory) => Err(Ending::Memory),
+        Err(Unimported::Refused(found)) if is_foreign(file.bytes, trouble) => {
+            Err(file.refuse(rt, found.span.from, found.refusal.text()))
+        }
+        Err(Unimported::Refused(_)) => Err(refused(rt, file, trouble)),
+    }
+}
+
+/// What a grammar file means and says; where it is refused, that is said.
+pub fn read<'a>(rt: &HostRuntime, file: File<'a>) -> Result<Reading<'a>, Ending> {
+    match map(rt, file.bytes) {
+        Ok(mapped) => read_native(rt, file, mapped),
+        Err(trouble) => read_other(rt, file, &trouble),
+    }
+}

@@ -1,0 +1,139 @@
+//! How the symbols of a file are spelled in what it becomes.
+
+use crate::note::Reason;
+use indexmap::IndexMap;
+use std::alloc::{AllocError, Global};
+use yforeign::lexeme::{Kind, Lexeme};
+use yforeign::survey::{Survey, inside, is_text};
+use ylexemes::literal::literal_at;
+use ysymbols::names::Printed;
+use ysymbols::{Grammar, Sym};
+
+/// The end of every input.
+const END: Sym = 0;
+
+/// What names each symbol of a file in what it becomes.
+pub struct Spelling {
+    /// What names and strings of the file are.
+    survey: Survey,
+    /// The number of the name made for each string that stands for no token.
+    made: IndexMap<Vec<u8>, usize>,
+}
+
+impl Drop for Spelling {
+    // A call in each owner, which keeps their proofs short.
+    fn drop(self) {
+        let Spelling { survey, made } = self;
+        drop(survey);
+        drop(made);
+    }
+}
+
+/// A name with lines below in place of its dashes.
+fn without_dashes(alloc: Global, name: &[u8]) -> Result<Vec<u8>, AllocError> {
+    let mut plain = Vec::from_slice(alloc, name)?;
+    for b in plain.iter_mut() {
+        *b = if *b == b'-' { b'_' } else { *b };
+    }
+    Ok(plain)
+}
+
+/// The name of a symbol that is no string, where `yacc` spells it otherwise, and the reason.
+pub fn other_name(
+    alloc: Global,
+    source: &[u8],
+    lexeme: &Lexeme,
+) -> Result<Option<(Vec<u8>, Reason)>, AllocError> {
+    let text = lexeme.text(source);
+    match lexeme.kind {
+        Kind::ByteLiteral => {
+            let value = text.get(1).copied().unwrap_or(0);
+            let name = Vec::from_slice(alloc, Printed::new(value).as_slice())?;
+            Ok(Some((name, Reason::ByteLiteral)))
+        }
+        Kind::Name if text == b"YYerror".as_slice() => {
+            Ok(Some((Vec::from_slice(alloc, b"error")?, Reason::ErrorName)))
+        }
+        Kind::Name if text.contains(&b'-') => {
+            Ok(Some((without_dashes(alloc, text)?, Reason::Dash)))
+        }
+        _ => Ok(None),
+    }
+}
+
+/// The name made for a string, from its number.
+pub fn made_name(alloc: Global, number: usize) -> Result<Vec<u8>, AllocError> {
+    let mut name = Vec::from_slice(alloc, b"string_")?;
+    let mut digits = itoa::Buffer::new();
+    name.extend_from_slice(digits.format(number).as_bytes())?;
+    Ok(name)
+}
+
+/// A string without the ends of lines that have a backslash before them: byacc reads on after
+/// them, so one string is spelled with them and without.
+pub fn unbroken(alloc: Global, text: &[u8]) -> Result<Vec<u8>, AllocError> {
+    let mut whole = Vec::new(alloc);
+    let mut escaped = false;
+    for b in text {
+        if escaped && *b == b'\n' {
+            let _ = whole.pop();
+        } else {
+            whole.push(*b)?;
+        }
+        escaped = !escaped && *b == b'\\';
+    }
+    Ok(whole)
+}
+
+/// The symbol that a lexeme which is no string names.
+fn plain_symbol(
+    alloc: Global,
+    source: &[u8],
+    grammar: &Grammar,
+    lexeme: &Lexeme,
+) -> Result<Option<Sym>, AllocError> {
+    let text = lexeme.text(source);
+    if lexeme.kind == Kind::Literal {
+        return Ok(literal_at(text).and_then(|(value, _)| grammar.find_literal(value)));
+    }
+    Ok(match other_name(alloc, source, lexeme)? {
+        Some((name, _)) => grammar.find(&name),
+        None => grammar.find(text),
+    })
+}
+
+impl Spelling {
+    /// What a file said of its symbols, with the numbers of the names that were made.
+    pub fn new(survey: Survey, made: IndexMap<Vec<u8>, usize>) -> Spelling {
+        Spelling { survey, made }
+    }
+
+    /// Whether a lexeme is a string that stands for no token, so that a name was made for it.
+    pub fn is_made(&self, source: &[u8], lexeme: &Lexeme) -> bool {
+        is_text(lexeme.kind) && self.survey.alias(source, lexeme).is_none()
+    }
+
+    /// The symbol that a lexeme names, in the grammar of what the file became.
+    pub fn symbol(
+        &self,
+        alloc: Global,
+        source: &[u8],
+        grammar: &Grammar,
+        lexeme: &Lexeme,
+    ) -> Result<Option<Sym>, AllocError> {
+        if self.survey.is_end(source, lexeme) {
+            return Ok(Some(END));
+        }
+        if !is_text(lexeme.kind) {
+            return plain_symbol(alloc, source, grammar, lexeme);
+        }
+        if let Some(token) = self.survey.alias(source, lexeme) {
+            return plain_symbol(alloc, source, grammar, &token);
+        }
+        let key = unbroken(alloc, inside(source, lexeme))?;
+        match self.made.get(&key) {
+            Some(number) => Ok(grammar.find(&made_name(alloc, *number)?)),
+            None => Ok(None),
+        }
+    }
+}

@@ -1,0 +1,252 @@
+//! Declarations of a foreign file.
+
+use crate::bodies::inner;
+use crate::gather::Gather;
+use crate::options::{Errors, Header, Purity};
+use crate::params::{is_done, param_at};
+use crate::parts::{Block, Care, Deed, Piece, Taker, Target, Whose};
+use crate::refusal::{Refusal, Trouble};
+use crate::words::{Word, target_of, word_of};
+use std::alloc::AllocError;
+use yforeign::directive::{Directive, is_symbol, is_word};
+use yforeign::lexeme::{Kind, Lexeme};
+use yforeign::survey::{inside, is_macro, is_text};
+
+/// A list of symbols while it is read.
+#[derive(Clone, Copy)]
+struct Listing<'a> {
+    directive: Directive,
+    tag: Option<&'a [u8]>,
+    /// The token that a string would stand for.
+    token: Option<Lexeme>,
+}
+
+/// The text of a piece between its braces.
+fn between<'a>(piece: Piece<'a>) -> Piece<'a> {
+    Piece {
+        text: inner(piece.text),
+        at: piece.at.saturating_add(1),
+        line: piece.line,
+    }
+}
+
+/// The text of a code block without its signs.
+fn within<'a>(piece: Piece<'a>) -> Piece<'a> {
+    between(between(piece))
+}
+
+impl<'a> Gather<'a, '_> {
+    /// Takes in code for a place.
+    fn take_text(&mut self, target: Target, piece: Piece<'a>) -> Result<(), AllocError> {
+        self.parts.blocks.push(Block { target, piece })?;
+        Ok(())
+    }
+
+    /// Takes in a code block.
+    pub fn take_block(&mut self, lexeme: &Lexeme) -> Result<(), AllocError> {
+        let piece = within(self.piece(lexeme));
+        self.take_text(Target::Prologue, piece)
+    }
+
+    /// The first lexeme of a kind, as a piece.
+    fn first(&self, rest: &[Lexeme], kind: Kind) -> Option<Piece<'a>> {
+        let found = rest.iter().find(|lexeme| lexeme.kind == kind);
+        found.map(|lexeme| self.piece(lexeme))
+    }
+
+    /// The first string, without its quotes.
+    fn string(&self, rest: &[Lexeme]) -> Option<&'a [u8]> {
+        let found = rest.iter().find(|lexeme| is_text(lexeme.kind));
+        found.map(|lexeme| inside(self.source, lexeme))
+    }
+
+    /// Takes in `%union`.
+    pub fn take_union(&mut self, rest: &[Lexeme]) -> Result<(), AllocError> {
+        if let Some(name) = self.first(rest, Kind::Name) {
+            self.parts.options.union_name = Some(name.text);
+        }
+        match self.first(rest, Kind::Braced) {
+            Some(piece) => self.take_text(Target::Union, piece),
+            None => Ok(()),
+        }
+    }
+
+    /// Takes in code with the word for its place, or without.
+    fn take_code(&mut self, rest: &[Lexeme]) -> Result<(), Trouble> {
+        let Some(piece) = self.first(rest, Kind::Braced) else {
+            return Ok(());
+        };
+        let target = match self.first(rest, Kind::Name) {
+            Some(word) => {
+                let unknown = Trouble::Refused(Refusal::Qualifier, word.at);
+                target_of(word.text).ok_or(unknown)?
+            }
+            None => Target::Code,
+        };
+        self.take_text(target, between(piece))?;
+        Ok(())
+    }
+
+    /// Takes in parameters that stand between braces.
+    fn take_params(&mut self, taker: Taker, piece: Piece<'a>) -> Result<(), Trouble> {
+        let mut rest = inner(piece.text);
+        // there is one parameter at least
+        for turn in 0..piece.text.len() {
+            if turn > 0 && is_done(rest) {
+                break;
+            }
+            let unnamed = Trouble::Refused(Refusal::Parameter, piece.at);
+            let (param, after) = param_at(taker, rest).ok_or(unnamed)?;
+            self.parts.params.push(param)?;
+            rest = after;
+        }
+        Ok(())
+    }
+
+    /// Takes in all parameters of a directive.
+    fn take_all_params(&mut self, taker: Taker, rest: &[Lexeme]) -> Result<(), Trouble> {
+        for lexeme in rest {
+            if lexeme.kind == Kind::Braced {
+                let piece = self.piece(lexeme);
+                self.take_params(taker, piece)?;
+            }
+        }
+        Ok(())
+    }
+
+    /// Whose values a lexeme means.
+    fn whose(&self, lexeme: &Lexeme) -> Result<Option<Whose<'a>>, AllocError> {
+        if lexeme.kind == Kind::Tag {
+            let tag = inner(lexeme.text(self.source)).trim_ascii();
+            return Ok(Some(match tag {
+                [] => Whose::Untagged,
+                [b'*'] => Whose::Tagged,
+                _ => Whose::Tag(tag),
+            }));
+        }
+        if !is_symbol(lexeme.kind) {
+            return Ok(None);
+        }
+        Ok(self.symbol(lexeme)?.map(|symbol| Whose::Symbol(symbol)))
+    }
+
+    /// Takes in code for the values of some symbols.
+    fn take_care(&mut self, deed: Deed, rest: &[Lexeme]) -> Result<(), AllocError> {
+        let Some(piece) = self.first(rest, Kind::Braced) else {
+            return Ok(());
+        };
+        for lexeme in rest {
+            if let Some(whose) = self.whose(lexeme)? {
+                self.parts.cares.push(Care { deed, whose, piece })?;
+            }
+        }
+        Ok(())
+    }
+
+    /// Takes in a variable with its value.
+    fn take_define(&mut self, rest: &[Lexeme]) -> Result<(), Trouble> {
+        let Some((name, rest)) = rest.split_first() else {
+            return Ok(());
+        };
+        let (value, is_code) = match rest.first() {
+            Some(value) if value.kind == Kind::Braced => {
+                (inner(value.text(self.source)).trim_ascii(), true)
+            }
+            Some(value) if is_text(value.kind) => (inside(self.source, value), false),
+            Some(value) if value.kind == Kind::Name => (value.text(self.source), false),
+            _ => (self.source.get(..0).unwrap_or(&[]), false),
+        };
+        let at = name.span.from;
+        let name = name.text(self.source);
+        match self.parts.options.define(name, value, is_code) {
+            Ok(()) => Ok(()),
+            Err(refusal) => Err(Trouble::Refused(refusal, at)),
+        }
+    }
+
+    /// Refuses a language or a skeleton that isn't the one.
+    fn only(&self, rest: &[Lexeme], wanted: &str, refusal: Refusal) -> Result<(), Trouble> {
+        match (self.string(rest), rest.first()) {
+            (Some(named), Some(lexeme)) if !is_word(named, wanted) => {
+                Err(Trouble::Refused(refusal, lexeme.span.from))
+            }
+            _ => Ok(()),
+        }
+    }
+
+    /// Takes in a directive that sets an option.
+    fn take_option(&mut self, word: Word, rest: &[Lexeme]) {
+        let string = self.string(rest);
+        let options = &mut self.parts.options;
+        match word {
+            Word::Pure => options.purity = Purity::Yes,
+            Word::Locations => options.locations = true,
+            Word::ErrorVerbose => options.errors = Errors::Verbose,
+            Word::Trace => options.trace = true,
+            Word::Names => options.has_names = true,
+            Word::NoLines => options.no_lines = true,
+            Word::Report => options.verbose = true,
+            Word::Yacc => options.is_yacc = true,
+            Word::Header => options.header = string.map_or(Header::Beside, |at| Header::At(at)),
+            Word::Output => options.output = string,
+            Word::FilePrefix => options.file_prefix = string,
+            Word::NamePrefix => options.name_prefix = string,
+            _ => {}
+        }
+    }
+
+    /// Takes in a directive that stands for nothing in the grammar.
+    pub fn take_aside(&mut self, word: &[u8], rest: &[Lexeme]) -> Result<(), Trouble> {
+        match word_of(word) {
+            Word::Code => self.take_code(rest)?,
+            Word::Initial => {
+                if let Some(piece) = self.first(rest, Kind::Braced) {
+                    self.take_text(Target::Initial, piece)?;
+                }
+            }
+            Word::Params(taker) => self.take_all_params(taker, rest)?,
+            Word::Care(deed) => self.take_care(deed, rest)?,
+            Word::Define => self.take_define(rest)?,
+            Word::Language => self.only(rest, "c", Refusal::Language)?,
+            Word::Skeleton => self.only(rest, "yacc.c", Refusal::Skeleton)?,
+            word => self.take_option(word, rest),
+        }
+        Ok(())
+    }
+
+    /// Takes in a lexeme of a list.
+    fn take_listed(
+        &mut self,
+        listing: &mut Listing<'a>,
+        rest: &[Lexeme],
+        at: usize,
+        lexeme: &Lexeme,
+    ) -> Result<(), AllocError> {
+        match lexeme.kind {
+            Kind::Tag => listing.tag = Some(inner(lexeme.text(self.source)).trim_ascii()),
+            kind if is_text(kind) && listing.directive.names_tokens() => match listing.token {
+                Some(token) => self.label(&token, lexeme)?,
+                None => self.see_symbol(lexeme, listing.tag)?,
+            },
+            kind if is_symbol(kind) && !is_macro(rest, at) => {
+                listing.token = Some(*lexeme);
+                self.see_symbol(lexeme, listing.tag)?;
+            }
+            _ => {}
+        }
+        Ok(())
+    }
+
+    /// Takes in a list of symbols.
+    pub fn take_list(&mut self, directive: Directive, rest: &[Lexeme]) -> Result<(), AllocError> {
+        let mut listing = Listing {
+            directive,
+            tag: None,
+            token: None,
+        };
+        for (at, lexeme) in rest.iter().enumerate() {
+            self.take_listed(&mut listing, rest, at, lexeme)?;
+        }
+        Ok(())
+    }
+}

@@ -1,0 +1,150 @@
+//! The variables of `%define`.
+
+use crate::options::{Errors, Options, Purity, Values};
+use crate::refusal::Refusal;
+use yforeign::directive::is_word;
+
+/// A variable, by what is done with its value.
+#[derive(Clone, Copy, PartialEq, Eq)]
+enum Variable {
+    Pure,
+    Errors,
+    Trace,
+    Locations,
+    ApiPrefix,
+    TokenPrefix,
+    SymbolPrefix,
+    Raw,
+    Values,
+    UnionName,
+    LocationType,
+    Include,
+    Tables,
+    Push,
+    /// It changes nothing: errors are found where they are without it.
+    Idle,
+}
+
+/// The variables that are known.
+const VARIABLES: [(&str, Variable); 23] = [
+    ("api.pure", Variable::Pure),
+    ("parse.error", Variable::Errors),
+    ("parse.trace", Variable::Trace),
+    ("parse.lac", Variable::Idle),
+    ("parse.assert", Variable::Idle),
+    ("locations", Variable::Locations),
+    ("api.prefix", Variable::ApiPrefix),
+    ("api.token.prefix", Variable::TokenPrefix),
+    ("api.symbol.prefix", Variable::SymbolPrefix),
+    ("api.token.raw", Variable::Raw),
+    ("api.value.type", Variable::Values),
+    ("api.value.union.name", Variable::UnionName),
+    ("api.location.type", Variable::LocationType),
+    ("location_type", Variable::LocationType),
+    ("api.header.include", Variable::Include),
+    ("lr.type", Variable::Tables),
+    ("lr.default-reduction", Variable::Idle),
+    ("lr.default-reductions", Variable::Idle),
+    ("lr.keep-unreachable-state", Variable::Idle),
+    ("lr.keep-unreachable-states", Variable::Idle),
+    ("lr.keep_unreachable_states", Variable::Idle),
+    ("api.push-pull", Variable::Push),
+    ("api.push_pull", Variable::Push),
+];
+
+/// What is said of an error, by the words for it.
+const ERRORS: [(&str, Errors); 4] = [
+    ("simple", Errors::Simple),
+    ("verbose", Errors::Verbose),
+    ("detailed", Errors::Detailed),
+    ("custom", Errors::Custom),
+];
+
+/// Whether a text is this one.
+fn is(text: &[u8], wanted: &str) -> bool {
+    text == wanted.as_bytes()
+}
+
+/// Yes or no.
+fn switch(value: &[u8]) -> Result<bool, Refusal> {
+    if value.is_empty() || is(value, "true") {
+        Ok(true)
+    } else if is(value, "false") {
+        Ok(false)
+    } else {
+        Err(Refusal::Value)
+    }
+}
+
+/// How far a parser does without shared variables.
+fn purity(value: &[u8]) -> Result<Purity, Refusal> {
+    if is(value, "full") {
+        return Ok(Purity::Full);
+    }
+    Ok(if switch(value)? {
+        Purity::Yes
+    } else {
+        Purity::No
+    })
+}
+
+/// What is said of an error.
+fn errors(value: &[u8]) -> Result<Errors, Refusal> {
+    let found = ERRORS.iter().find(|(word, _)| is(value, word));
+    found.map_or(Err(Refusal::Value), |(_, errors)| Ok(*errors))
+}
+
+/// The type of values; one in braces is one of C.
+fn values(value: &[u8], is_code: bool) -> Result<Values<'_>, Refusal> {
+    if is_code {
+        Ok(Values::Named(value))
+    } else if is(value, "union") {
+        Ok(Values::Symbols)
+    } else if is(value, "variant") {
+        Err(Refusal::Variant)
+    } else if is(value, "union-directive") {
+        Ok(Values::Declared)
+    } else {
+        Ok(Values::Named(value))
+    }
+}
+
+/// Nothing, where a value is this one.
+fn only(value: &[u8], wanted: &str, refusal: Refusal) -> Result<(), Refusal> {
+    if is(value, wanted) {
+        Ok(())
+    } else {
+        Err(refusal)
+    }
+}
+
+/// The variable of a name.
+fn variable_of(name: &[u8]) -> Result<Variable, Refusal> {
+    let found = VARIABLES.iter().find(|(known, _)| is_word(name, known));
+    found.map_or(Err(Refusal::Variable), |(_, variable)| Ok(*variable))
+}
+
+impl<'a> Options<'a> {
+    /// Gives a variable a value, the text between its quotes or braces, and says whether it stood
+    /// in braces.
+    pub fn define(&mut self, name: &[u8], value: &'a [u8], is_code: bool) -> Result<(), Refusal> {
+        match variable_of(name)? {
+            Variable::Pure => self.purity = purity(value)?,
+            Variable::Errors => self.errors = errors(value)?,
+            Variable::Trace => self.trace = switch(value)?,
+            Variable::Locations => self.locations = switch(value)?,
+            Variable::ApiPrefix => self.api_prefix = Some(value),
+            Variable::TokenPrefix => self.token_prefix = Some(value),
+            Variable::SymbolPrefix => self.symbol_prefix = Some(value),
+            Variable::Raw => only(value, "false", Refusal::Numbers)?,
+            Variable::Values => self.values = values(value, is_code)?,
+            Variable::UnionName => self.union_name = Some(value),
+            Variable::LocationType => self.location_type = Some(value),
+            Variable::Include => self.include = Some(value),
+            Variable::Tables => only(value, "lalr", Refusal::Tables)?,
+            Variable::Push => only(value, "pull", Refusal::Push)?,
+            Variable::Idle => {}
+        }
+        Ok(())
+    }
+}

@@ -1,0 +1,116 @@
+//! The parts of a file of byacc or bison.
+
+use crate::gather::Gather;
+use crate::parts::{Parts, Piece};
+use crate::refusal::Trouble;
+use std::alloc::Global;
+use std::mem;
+use yexplain::lines::is_inner;
+use yexplain::reads::left_of;
+use yforeign::directive::Directive;
+use yforeign::groups::{Group, Head, groups_of};
+use yforeign::lexeme::Lexeme;
+use yimport::import::Imported;
+use ysymbols::Grammar;
+
+impl<'a> Gather<'a, '_> {
+    /// Takes in a declaration.
+    fn take_declaration(
+        &mut self,
+        directive: Directive,
+        lexemes: &[Lexeme],
+    ) -> Result<(), Trouble> {
+        let Some((word, rest)) = lexemes.split_first() else {
+            return Ok(());
+        };
+        let word = word.text(self.source);
+        self.see_word(word);
+        match directive {
+            Directive::Type | Directive::Nterm => self.take_list(directive, rest)?,
+            directive if directive.lists_tokens() => self.take_list(directive, rest)?,
+            Directive::Union => self.take_union(rest)?,
+            _ => self.take_aside(word, rest)?,
+        }
+        Ok(())
+    }
+
+    /// Takes in what stands after the second mark.
+    fn take_tail(&mut self, mark: &Lexeme) {
+        let at = mark.span.to;
+        self.parts.tail = Some(Piece {
+            text: self.source.get(at..).unwrap_or(&[]),
+            at,
+            line: mark.span.line,
+        });
+    }
+
+    /// Takes in a group.
+    fn take(&mut self, group: &Group<'_>) -> Result<(), Trouble> {
+        let Some(first) = group.lexemes.first() else {
+            return Ok(());
+        };
+        match group.head {
+            Head::Word(directive) => self.take_declaration(directive, group.lexemes)?,
+            Head::Code => self.take_block(first)?,
+            Head::Left => self.take_rule(group.lexemes)?,
+            Head::Bar => self.take_bar(group.lexemes)?,
+            Head::Mark if group.in_rules => self.take_tail(first),
+            Head::Mark | Head::Stray => {}
+        }
+        Ok(())
+    }
+
+    /// Gives the values of inner actions the tags that these give themselves.
+    fn tag_actions(&mut self) {
+        for number in 0..self.parts.actions.len() {
+            let rule = self.parts.actions.get(number).map(|action| action.rule);
+            let tag = self.action_tags.get(number).copied().flatten();
+            if let (Some(rule), Some(tag)) = (rule, tag) {
+                if is_inner(self.grammar, rule) {
+                    self.tag_left(rule, tag);
+                }
+            }
+        }
+    }
+
+    /// Gives the left side of a rule a tag.
+    fn tag_left(&mut self, rule: usize, tag: &'a [u8]) {
+        if let Some(left) = left_of(self.grammar, rule) {
+            self.parts.give_tag(left, tag);
+        }
+    }
+
+    /// Takes in all groups.
+    fn take_all(&mut self, groups: &[Group<'_>]) -> Result<(), Trouble> {
+        for group in groups {
+            self.take(group)?;
+        }
+        let actions = mem::replace(&mut self.actions, Vec::new(self.alloc));
+        self.parts.set_actions(self.grammar, &actions)?;
+        self.tag_actions();
+        Ok(())
+    }
+}
+
+/// The parts of a file that became a text of this grammar by this import.
+pub fn parts_of<'a, 'b>(
+    alloc: Global,
+    source: &'a [u8],
+    grammar: &'b Grammar,
+    imported: &'b Imported,
+) -> Result<Parts<'a>, Trouble> {
+    let groups = groups_of(alloc, source, &imported.lexemes)?;
+    let mut gather = Gather {
+        alloc,
+        source,
+        grammar,
+        imported,
+        parts: Parts::new(alloc, grammar.symbols())?,
+        actions: Vec::new(alloc),
+        action_tags: Vec::new(alloc),
+        left: source.get(..0).unwrap_or(&[]),
+    };
+    gather.take_all(&groups)?;
+    let empty = Parts::new(alloc, 0)?;
+    Ok(mem::replace(&mut gather.parts, empty))
+}

@@ -1,0 +1,111 @@
+//! The parts of a foreign file while they are gathered.
+
+use crate::parts::{Parts, Piece};
+use crate::words::is_only_bison;
+use std::alloc::{AllocError, Global};
+use yforeign::lexeme::{Kind, Lexeme};
+use yimport::import::Imported;
+use ysymbols::{Grammar, Sym};
+
+/// The text of a lexeme as a piece.
+pub fn piece_of<'a>(source: &'a [u8], lexeme: &Lexeme) -> Piece<'a> {
+    Piece {
+        text: lexeme.text(source),
+        at: lexeme.span.from,
+        line: lexeme.span.line,
+    }
+}
+
+/// A file whose parts are gathered.
+pub struct Gather<'a, 'b> {
+    /// The allocator.
+    pub alloc: Global,
+    /// The file.
+    pub source: &'a [u8],
+    /// The grammar of what it became.
+    pub grammar: &'b Grammar,
+    /// Its import.
+    pub imported: &'b Imported,
+    /// What is found.
+    pub parts: Parts<'a>,
+    /// The actions found.
+    pub actions: Vec<Piece<'a>>,
+    /// The tag that each gives itself, which counts for inner ones.
+    pub action_tags: Vec<Option<&'a [u8]>>,
+    /// The name of the left side.
+    pub left: &'a [u8],
+}
+
+impl Drop for Gather<'_, '_> {
+    // A call in each owner, which keeps their proofs short.
+    fn drop(self) {
+        let Gather {
+            alloc: _,
+            source: _,
+            grammar: _,
+            imported: _,
+            parts: _,
+            actions: _,
+            action_tags: _,
+            left: _,
+        } = self;
+    }
+}
+
+impl<'a, 'b> Gather<'a, 'b> {
+    /// The text of a lexeme.
+    pub fn piece(&self, lexeme: &Lexeme) -> Piece<'a> {
+        piece_of(self.source, lexeme)
+    }
+
+    /// The symbol that a lexeme names.
+    pub fn symbol(&self, lexeme: &Lexeme) -> Result<Option<Sym>, AllocError> {
+        let spelling = &self.imported.spelling;
+        spelling.symbol(self.alloc, self.source, self.grammar, lexeme)
+    }
+
+    /// Notes whether a directive is one that only bison has.
+    pub fn see_word(&mut self, text: &[u8]) {
+        if is_only_bison(text) {
+            self.parts.options.is_bison = true;
+        }
+    }
+
+    /// Notes what a file says of a symbol by naming it below a tag or without one.
+    pub fn see_symbol(&mut self, lexeme: &Lexeme, tag: Option<&'a [u8]>) -> Result<(), AllocError> {
+        let text = lexeme.text(self.source);
+        let is_made = self.imported.spelling.is_made(self.source, lexeme);
+        let is_literal = matches!(lexeme.kind, Kind::Literal | Kind::ByteLiteral);
+        let symbol = self.symbol(lexeme)?;
+        if symbol == Some(0) {
+            self.name_end(lexeme)?;
+        }
+        if let Some(looks) = symbol.and_then(|symbol| self.parts.looks.get_mut(symbol)) {
+            looks.tag = tag.or(looks.tag);
+            looks.is_made = looks.is_made || is_made;
+            if is_made || is_literal {
+                looks.label = Some(text);
+            }
+        }
+        Ok(())
+    }
+
+    /// Notes a name of the end.
+    fn name_end(&mut self, lexeme: &Lexeme) -> Result<(), AllocError> {
+        let name = lexeme.text(self.source);
+        if lexeme.kind == Kind::Name && !self.parts.ends.iter().any(|end| *end == name) {
+            self.parts.ends.push(name)?;
+        }
+        Ok(())
+    }
+
+    /// Notes the string that stands for a token.
+    pub fn label(&mut self, token: &Lexeme, text: &Lexeme) -> Result<(), AllocError> {
+        let label = text.text(self.source);
+        let symbol = self.symbol(token)?;
+        if let Some(looks) = symbol.and_then(|symbol| self.parts.looks.get_mut(symbol)) {
+            looks.label = Some(label);
+        }
+        Ok(())
+    }
+}

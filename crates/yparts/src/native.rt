@@ -1,0 +1,127 @@
+//! The parts of a file that `yacc` reads, by its source map.
+
+use crate::parts::{Block, Parts, Piece, Target};
+use std::alloc::{AllocError, Global};
+use std::mem;
+use yexplain::lines::{Spots, symbol_of};
+use ylexemes::part::Lexeme;
+use ysourcemap::{Mark, Role};
+use ysymbols::{Grammar, Sym};
+
+/// A file whose parts are gathered.
+struct Gather<'a, 'b> {
+    source: &'a [u8],
+    grammar: &'b Grammar,
+    spots: Spots<'a>,
+    parts: Parts<'a>,
+    actions: Vec<Piece<'a>>,
+    tag: Option<&'a [u8]>,
+    /// How many marks came.
+    marks: usize,
+}
+
+impl Drop for Gather<'_, '_> {
+    // A call in each owner, which keeps their proofs short.
+    fn drop(self) {
+        let Gather {
+            source: _,
+            grammar: _,
+            spots: _,
+            parts: _,
+            actions: _,
+            tag: _,
+            marks: _,
+        } = self;
+    }
+}
+
+/// The name of a lexeme, where it is one.
+fn name_in(lexeme: Lexeme<'_>) -> Option<&[u8]> {
+    match lexeme {
+        Lexeme::Name(name) | Lexeme::CIdentifier(name) => Some(name),
+        _ => None,
+    }
+}
+
+impl<'a> Gather<'a, '_> {
+    /// The bytes from one place to another, on the line of the first.
+    fn piece(&mut self, at: usize, to: usize) -> Piece<'a> {
+        Piece {
+            text: self.source.get(at..to).unwrap_or(&[]),
+            at,
+            line: self.spots.reach(at).0,
+        }
+    }
+
+    /// Takes in code.
+    fn take_text(&mut self, target: Target, from: usize, to: usize) -> Result<(), AllocError> {
+        let piece = self.piece(from, to);
+        self.parts.blocks.push(Block { target, piece })?;
+        Ok(())
+    }
+
+    /// Gives a symbol the tag that stands before it.
+    fn tag(&mut self, symbol: Option<Sym>) {
+        if let (Some(symbol), Some(tag)) = (symbol, self.tag) {
+            self.parts.give_tag(symbol, tag);
+        }
+    }
+
+    /// Takes in a mark between the parts of the file.
+    fn take_mark(&mut self, end: usize) {
+        self.marks = self.marks.saturating_add(1);
+        if self.marks == 2 {
+            let tail = self.piece(end, self.source.len());
+            self.parts.tail = Some(tail);
+        }
+    }
+
+    /// Takes in a lexeme.
+    fn take(&mut self, mark: &Mark<'a>) -> Result<(), AllocError> {
+        let (lexeme, at, end) = (mark.placed.lexeme, mark.placed.at, mark.placed.end);
+        match (mark.role, lexeme) {
+            (Role::Block, _) => {
+                let (from, to) = (at.saturating_add(2), end.saturating_sub(2));
+                self.take_text(Target::Prologue, from, to)?;
+            }
+            (Role::Union, Lexeme::Braced(_)) => self.take_text(Target::Union, at, end)?,
+            (Role::Word, _) => self.tag = None,
+            (Role::Tag, _) => self.tag = name_in(lexeme),
+            (Role::Declared | Role::Levelled | Role::Typed, _) => {
+                self.tag(symbol_of(self.grammar, lexeme));
+            }
+            (Role::Action(_), Lexeme::Braced(_)) => {
+                let piece = self.piece(at, end);
+                self.actions.push(piece)?;
+            }
+            (Role::Mark, _) => self.take_mark(end),
+            _ => {}
+        }
+        Ok(())
+    }
+}
+
+/// The parts of a file with this source map.
+pub fn parts_of<'a>(
+    alloc: Global,
+    source: &'a [u8],
+    grammar: &Grammar,
+    marks: &[Mark<'a>],
+) -> Result<Parts<'a>, AllocError> {
+    let mut gather = Gather {
+        source,
+        grammar,
+        spots: Spots::new(source),
+        parts: Parts::new(alloc, grammar.symbols())?,
+        actions: Vec::new(alloc),
+        tag: None,
+        marks: 0,
+    };
+    for mark in marks {
+        gather.take(mark)?;
+    }
+    let actions = mem::replace(&mut gather.actions, Vec::new(alloc));
+    gather.parts.set_actions(grammar, &actions)?;
+    let empty = Parts::new(alloc, 0)?;
+    Ok(mem::replace(&mut gather.parts, empty))
+}

@@ -1,0 +1,120 @@
+//! What a file wishes of its parser as a whole.
+
+/// How far a parser does without variables that all its calls share.
+#[derive(Clone, Copy, PartialEq, Eq)]
+pub enum Purity {
+    /// It shares them.
+    No,
+    /// It has its own, and hands them to `yylex`.
+    Yes,
+    /// It hands the place of an error to `yyerror` too.
+    Full,
+}
+
+/// What is said of an error.
+#[derive(Clone, Copy, PartialEq, Eq)]
+pub enum Errors {
+    /// That there is one.
+    Simple,
+    /// Which token came and which could come, named as in the file, with quotes.
+    Verbose,
+    /// The same, named without quotes.
+    Detailed,
+    /// What a function of the user's says.
+    Custom,
+}
+
+/// The type of values.
+#[derive(Clone, Copy, PartialEq, Eq)]
+pub enum Values<'a> {
+    /// That of `%union`, or else numbers.
+    Declared,
+    /// A union with a member for each symbol that has a tag; the tag is its type.
+    Symbols,
+    /// A type by its name.
+    Named(&'a [u8]),
+}
+
+/// Whether a header is wished for.
+#[derive(Clone, Copy, PartialEq, Eq)]
+pub enum Header<'a> {
+    /// None.
+    No,
+    /// One beside the parser.
+    Beside,
+    /// One at a path.
+    At(&'a [u8]),
+}
+
+/// What a file wishes of its parser as a whole.
+#[derive(Clone, Copy)]
+pub struct Options<'a> {
+    /// Whether it has a directive that only bison has.
+    pub is_bison: bool,
+    /// Whether the names of files are those of `yacc`.
+    pub is_yacc: bool,
+    /// `api.pure`.
+    pub purity: Purity,
+    /// Whether symbols have places.
+    pub locations: bool,
+    /// `parse.error`.
+    pub errors: Errors,
+    /// Whether the parser can trace its steps.
+    pub trace: bool,
+    /// Whether a table of names is wished for.
+    pub has_names: bool,
+    /// Whether `#line` is left out.
+    pub no_lines: bool,
+    /// Whether the report on states is wished for.
+    pub verbose: bool,
+    /// The header.
+    pub header: Header<'a>,
+    /// The file of the parser.
+    pub output: Option<&'a [u8]>,
+    /// What the names of files begin with.
+    pub file_prefix: Option<&'a [u8]>,
+    /// What names in C begin with in place of `yy`.
+    pub name_prefix: Option<&'a [u8]>,
+    /// The same, of types and macros too.
+    pub api_prefix: Option<&'a [u8]>,
+    /// What the names of tokens in C begin with.
+    pub token_prefix: Option<&'a [u8]>,
+    /// What the names of the kinds of symbols begin with.
+    pub symbol_prefix: Option<&'a [u8]>,
+    /// The type of values.
+    pub values: Values<'a>,
+    /// The name of the union of values.
+    pub union_name: Option<&'a [u8]>,
+    /// The type of places.
+    pub location_type: Option<&'a [u8]>,
+    /// What the parser includes for its header.
+    pub include: Option<&'a [u8]>,
+}
+
+impl Options<'_> {
+    /// No wishes.
+    pub fn none<'a>() -> Options<'a> {
+        Options {
+            is_bison: false,
+            is_yacc: false,
+            purity: Purity::No,
+            locations: false,
+            errors: Errors::Simple,
+            trace: false,
+            has_names: false,
+            no_lines: false,
+            verbose: false,
+            header: Header::No,
+            output: None,
+            file_prefix: None,
+            name_prefix: None,
+            api_prefix: None,
+            token_prefix: None,
+            symbol_prefix: None,
+            values: Values::Declared,
+            union_name: None,
+            location_type: None,
+            include: None,
+        }
+    }
+}

@@ -1,0 +1,131 @@
+//! The directives that a parser is told something by.
+
+use crate::parts::{Deed, Taker, Target};
+use yforeign::directive::is_word;
+
+/// What a directive tells.
+#[derive(Clone, Copy, PartialEq, Eq)]
+pub enum Word {
+    /// Code, with its place or without.
+    Code,
+    /// The action before the first token.
+    Initial,
+    /// Parameters.
+    Params(Taker),
+    /// Code for values.
+    Care(Deed),
+    /// `%define`.
+    Define,
+    /// `%pure-parser`.
+    Pure,
+    /// `%locations`.
+    Locations,
+    /// `%error-verbose`.
+    ErrorVerbose,
+    /// `%debug`.
+    Trace,
+    /// `%token-table`.
+    Names,
+    /// `%no-lines`.
+    NoLines,
+    /// `%verbose`.
+    Report,
+    /// `%yacc`.
+    Yacc,
+    /// `%header`.
+    Header,
+    /// `%output`.
+    Output,
+    /// `%file-prefix`.
+    FilePrefix,
+    /// `%name-prefix`.
+    NamePrefix,
+    /// `%language`.
+    Language,
+    /// `%skeleton`.
+    Skeleton,
+    /// Nothing.
+    Nothing,
+}
+
+/// The directives that tell something.
+const WORDS: [(&str, Word); 24] = [
+    ("code", Word::Code),
+    ("initial-action", Word::Initial),
+    ("parse-param", Word::Params(Taker::Parse)),
+    ("lex-param", Word::Params(Taker::Lex)),
+    ("param", Word::Params(Taker::Both)),
+    ("destructor", Word::Care(Deed::Destroy)),
+    ("printer", Word::Care(Deed::Print)),
+    ("define", Word::Define),
+    ("pure-parser", Word::Pure),
+    ("locations", Word::Locations),
+    ("error-verbose", Word::ErrorVerbose),
+    ("debug", Word::Trace),
+    ("token-table", Word::Names),
+    ("no-lines", Word::NoLines),
+    ("verbose", Word::Report),
+    ("yacc", Word::Yacc),
+    ("fixed-output-files", Word::Yacc),
+    ("header", Word::Header),
+    ("defines", Word::Header),
+    ("output", Word::Output),
+    ("file-prefix", Word::FilePrefix),
+    ("name-prefix", Word::NamePrefix),
+    ("language", Word::Language),
+    ("skeleton", Word::Skeleton),
+];
+
+/// The directives of byacc 2.0.
+const BYACC: [&str; 24] = [
+    "binary",
+    "code",
+    "debug",
+    "destructor",
+    "error-verbose",
+    "expect",
+    "expect-rr",
+    "ident",
+    "initial-action",
+    "left",
+    "lex-param",
+    "locations",
+    "nonassoc",
+    "parse-param",
+    "prec",
+    "pure-parser",
+    "right",
+    "start",
+    "term",
+    "token",
+    "token-table",
+    "type",
+    "union",
+    "yacc",
+];
+
+/// The places of `%code`.
+const QUALIFIERS: [(&str, Target); 3] = [
+    ("top", Target::Top),
+    ("requires", Target::Requires),
+    ("provides", Target::Provides),
+];
+
+/// What the directive of this text, with its percent sign, tells.
+pub fn word_of(text: &[u8]) -> Word {
+    let word = text.get(1..).unwrap_or(&[]);
+    let found = WORDS.iter().find(|(name, _)| is_word(word, name));
+    found.map_or(Word::Nothing, |(_, word)| *word)
+}
+
+/// Whether byacc hasn't the directive of this text.
+pub fn is_only_bison(text: &[u8]) -> bool {
+    let word = text.get(1..).unwrap_or(&[]);
+    !BYACC.iter().any(|name| is_word(word, name))
+}
+
+/// Where code with this word goes.
+pub fn target_of(word: &[u8]) -> Option<Target> {
+    let found = QUALIFIERS.iter().find(|(name, _)| is_word(word, name));
+    found.map(|(_, target)| *target)
+}

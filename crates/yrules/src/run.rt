@@ -1,0 +1,167 @@
+//! `ydebug rules`.
+
+use crate::comments::comments_of;
+use crate::digest::digest_of;
+use crate::given::given_in;
+use crate::header::put_header;
+use crate::list::put_list;
+use crate::names::{Names, names_of};
+use crate::opening::{Text, marks_of, open};
+use crate::python::put_module;
+use crate::refusal::Trouble;
+use crate::sheet::{Sheet, tokens_of};
+use crate::stems::stems_of;
+use std::alloc::Global;
+use std::io::{self, ErrorKind, Write};
+use std::rt::Files;
+use yexplain::reads::grammar_of;
+use yfaults::opening::Opened;
+use yfiles::same::{is_same_file, refused_output};
+use yfiles::writing::put_output;
+use ygrammar::Mark;
+use ysources::grammars::GrammarFile;
+use ysymbols::Grammar;
+
+/// What is asked for: the names of the rules of a grammar file, in a header, in a module, or where
+/// neither is wanted, in a list.
+#[derive(Clone, Copy)]
+pub struct Asked<'a> {
+    /// The grammar file.
+    pub grammar: GrammarFile<'a>,
+    /// The path of the header in C.
+    pub header: Option<&'a str>,
+    /// The path of the module in Python.
+    pub python: Option<&'a str>,
+}
+
+/// The names of the rules of a file with this source map.
+fn named(
+    alloc: Global,
+    bytes: &[u8],
+    marks: &[Mark<'_>],
+    grammar: &Grammar,
+) -> Result<Names, Trouble> {
+    let comments = comments_of(alloc, bytes, marks)?;
+    let given = given_in(alloc, &comments)?;
+    let stems = stems_of(alloc, grammar, marks, &given)?;
+    names_of(alloc, grammar, &stems)
+}
+
+/// Writes a text to a file, where one is asked for.
+fn put_text<F: Files + AllocGlobal, W: Write, E: Write>(
+    rt: &F,
+    path: Option<&str>,
+    text: &[u8],
+    out: &mut W,
+    errors: &mut E,
+) -> io::Result<u8> {
+    match path {
+        Some(_) => put_output(rt, path, text, out, errors),
+        None => Ok(0),
+    }
+}
+
+/// Makes the texts, and then writes those that are asked for.
+fn put_files<F: Files + AllocGlobal, W: Write, E: Write>(
+    rt: &F,
+    asked: Asked<'_>,
+    sheet: Sheet<'_>,
+    out: &mut W,
+    errors: &mut E,
+) -> io::Result<u8> {
+    let (mut header, mut module) = (Vec::new(rt.alloc()), Vec::new(rt.alloc()));
+    put_header(&mut header, sheet)?;
+    put_module(&mut module, sheet)?;
+    match put_text(rt, asked.header, &header, out, errors)? {
+        0 => put_text(rt, asked.python, &module, out, errors),
+        status => Ok(status),
+    }
+}
+
+/// Writes what is asked for of a grammar whose rules have names.
+fn put_named<F: Files + AllocGlobal, W: Write, E: Write>(
+    rt: &F,
+    asked: Asked<'_>,
+    opened: &Opened,
+    names: &Names,
+    out: &mut W,
+    errors: &mut E,
+) -> io::Result<u8> {
+    let Opened { tables, lines } = opened;
+    let grammar = grammar_of(tables);
+    let tokens = tokens_of(rt.alloc(), grammar)?;
+    let sheet = Sheet {
+        grammar,
+        lines,
+        names,
+        tokens: &tokens,
+        digest: digest_of(rt.alloc(), tables)?,
+    };
+    if asked.header.is_none() && asked.python.is_none() {
+        put_list(out, asked.grammar.path, sheet).map(|()| 0)
+    } else {
+        put_files(rt, asked, sheet, out, errors)
+    }
+}
+
+/// Writes what is asked for of a file that is open, unless a name in it is refused.
+fn put_open<F: Files + AllocGlobal, W: Write, E: Write>(
+    rt: &F,
+    asked: Asked<'_>,
+    text: &Text,
+    out: &mut W,
+    errors: &mut E,
+) -> io::Result<u8> {
+    let Text { bytes, opened } = text;
+    let marks = marks_of(rt.alloc(), bytes)?;
+    match named(rt.alloc(), bytes, &marks, grammar_of(&opened.tables)) {
+        Ok(names) => put_named(rt, asked, opened, &names, out, errors),
+        Err(Trouble::Refused(refusal)) => {
+            refusal.put(errors, (asked.grammar.path, bytes), &opened.lines)?;
+            Ok(1)
+        }
+        Err(Trouble::Memory) => Err(io::Error::from(ErrorKind::OutOfMemory)),
+    }
+}
+
+/// Writes that an output can't be written, where it is the grammar file or the other output, and
+/// gives the exit status.
+fn refused_outputs<F: Files, E: Write>(
+    rt: &F,
+    asked: Asked<'_>,
+    errors: &mut E,
+) -> io::Result<Option<u8>> {
+    let Asked {
+        grammar,
+        header,
+        python,
+    } = asked;
+    if let Some(status) = refused_output(rt, header, &[grammar.path], errors)? {
+        return Ok(Some(status));
+    }
+    match header {
+        Some(header) if python.map_or(false, |path| is_same_file(rt, path, header)) => {
+            writeln!(errors, "ydebug: {header} can't be both outputs")?;
+            Ok(Some(2))
+        }
+        _ => refused_output(rt, python, &[grammar.path], errors),
+    }
+}
+
+/// Writes what is asked for, and gives the exit status: 0; 1 where the file or a name in it is
+/// refused; 2 where an output is the file itself, or both are one; 3 where a file can't be read or
+/// written, memory runs out, or there are too many states.
+pub fn run_rules<F: Files + AllocGlobal, W: Write, E: Write>(
+    rt: &F,
+    asked: Asked<'_>,
+    out: &mut W,
+    errors: &mut E,
+) -> io::Result<u8> {
+    if let Some(status) = refused_outputs(rt, asked, errors)? {
+        return Ok(status);
+    }
+    match open(rt, asked.grammar, errors)? {
+        Ok(text) => put_open(rt, asked, &text, out, errors),
+        Err(status) => Ok(status),
+    }
+}

@@ -1,0 +1,320 @@
+//! The fixed texts in C that tell of an error which tokens could come.
+
+/// What stands before the names of tokens in texts.
+pub const TEXTS: &str = r##"
+/* As many states a list of tokens that could come goes on beyond the stack. */
+#ifndef YYLOOKDEPTH
+# define YYLOOKDEPTH 200
+#endif
+
+/* A way that the parser would go, on a copy of the top of its stack. */
+typedef struct
+{
+  const yystate_number *yybelow; /* what of the stack still stands */
+  yystate_number yymade[YYLOOKDEPTH];
+  int yyup; /* how many states stand above it */
+} yyway;
+
+/* Reduces by a rule, and gives the state after it, or -1 where there is no room. */
+static int
+yygo (yyway *yywayp, int yyrulep)
+{
+  int yycount = yylen[yyrulep];
+  int yyleft = yylhs[yyrulep];
+  int yystate;
+  if (yycount <= yywayp->yyup)
+    yywayp->yyup -= yycount;
+  else
+    {
+      yywayp->yybelow -= yycount - yywayp->yyup;
+      yywayp->yyup = 0;
+    }
+  yystate = yywayp->yyup ? yywayp->yymade[yywayp->yyup - 1] : *yywayp->yybelow;
+  YYGOTO (yystate, yystate, yyleft);
+  if (yywayp->yyup == YYLOOKDEPTH)
+    return -1;
+  yywayp->yymade[yywayp->yyup++] = (yystate_number) yystate;
+  return yystate;
+}
+
+/* What a state does at a token: a state, or YYNSTATES and a rule, where 0 is acceptance and
+   YYNRULES an error. */
+static int
+yydoes (int yystate, int yytoken)
+{
+  int yyn;
+  if (yyset[yystate] == 0)
+    return YYNSTATES + yyusual[yystate];
+  yyn = yyrow[yystate] + yytoken;
+  if (yycheck[yyn] == yytoken)
+    return yyvalue[yyn];
+  return YYNSTATES + (YYMEMBER (yystate, yytoken) ? (int) yyusual[yystate] : YYNRULES);
+}
+
+@if lists
+/* Whether a token stands in the list that bison would write: after the reductions that are the
+   most usual of their states, which it makes before it sees an error. */
+static int
+yycan_come (const yystate_number *yyssp, int yytoken)
+{
+  yyway yywayd;
+  int yystate = *yyssp;
+  yywayd.yybelow = yyssp;
+  yywayd.yyup = 0;
+  while (yystate >= 0 && yydefault[yystate] != 0)
+    yystate = yygo (&yywayd, yydefault[yystate]);
+  return yystate >= 0 && yydoes (yystate, yytoken) != YYNSTATES + YYNRULES;
+}
+@else
+/* Whether a token could come: after all reductions before it, it would be shifted. */
+static int
+yycan_come (const yystate_number *yyssp, int yytoken)
+{
+  yyway yywayd;
+  int yystate = *yyssp;
+  int yyn;
+  yywayd.yybelow = yyssp;
+  yywayd.yyup = 0;
+  for (;;)
+    {
+      yyn = yydoes (yystate, yytoken) - YYNSTATES;
+      if (yyn <= 0 || yyn == YYNRULES)
+        return yyn != YYNRULES;
+      yystate = yygo (&yywayd, yyn);
+      if (yystate < 0)
+        return 1;
+    }
+}
+@end
+
+/* Notes up to so many tokens that could come, none where there are more, and gives their number;
+   without a place for them it counts them all. */
+static int
+yyexpected (const yystate_number *yyssp, int *yytokens, int yymost)
+{
+  int yycount = 0;
+  int yytoken;
+  for (yytoken = 0; yytoken < YYNTOKENS; ++yytoken)
+    if (yytoken != YYERRTOKEN && yycan_come (yyssp, yytoken))
+      {
+        if (yytokens)
+          {
+            if (yycount == yymost)
+              return 0;
+            yytokens[yycount] = yytoken;
+          }
+        ++yycount;
+      }
+  return yycount;
+}
+"##;
+
+/// How the text of an error is made.
+pub const MESSAGE: &str = r##"
+@if verbose
+#ifndef yystpcpy
+# define yystpcpy yycopied
+static char *
+yycopied (char *yyto, const char *yyfrom)
+{
+  size_t yylength = strlen (yyfrom);
+  memcpy (yyto, yyfrom, yylength + 1);
+  return yyto + yylength;
+}
+#endif
+#ifndef yytnamerr
+# define yytnamerr yyunquoted
+/* Copies a name, without its quotes where nothing in them is quoted, and gives its length. */
+static size_t
+yyunquoted (char *yyto, const char *yyname)
+{
+  if (*yyname == '"')
+    {
+      size_t yycount = 0;
+      const char *yyp = yyname;
+      for (;;)
+        switch (*++yyp)
+          {
+          case '\'':
+          case ',':
+            goto yywhole;
+          case '\\':
+            if (*++yyp != '\\')
+              goto yywhole;
+            if (yyto)
+              yyto[yycount] = *yyp;
+            ++yycount;
+            break;
+          case '"':
+            if (yyto)
+              yyto[yycount] = '\0';
+            return yycount;
+          default:
+            if (yyto)
+              yyto[yycount] = *yyp;
+            ++yycount;
+            break;
+          }
+    yywhole: ;
+    }
+  if (yyto)
+    return (size_t) (yystpcpy (yyto, yyname) - yyto);
+  return strlen (yyname);
+}
+#endif
+# define YYCOPY(to, token) yytnamerr (to, yytname[token])
+@else
+# define YYCOPY(to, token) yyspelled (to, yysymbol_name ((yysymbol_kind_t) (token)))
+static size_t
+yyspelled (char *yyto, const char *yyname)
+{
+  size_t yylength = strlen (yyname);
+  if (yyto)
+    memcpy (yyto, yyname, yylength + 1);
+  return yylength;
+}
+@end
+
+/* The text of an error at a token: in the room, or where it is too long in memory of its own; null
+   where there is none. */
+static char *
+yysyntax_error (char *yyroom, size_t yysize, const yystate_number *yyssp, int yytoken)
+{
+  int yytokens[5];
+  int yycount = 1 + yyexpected (yyssp, yytokens + 1, 4);
+  const char *yyform;
+  size_t yylength;
+  char *yytext = yyroom;
+  char *yyto;
+  int yyn = 0;
+@if verbose
+  (void) yystpcpy;
+@end
+  yytokens[0] = yytoken;
+  switch (yycount)
+    {
+    case 1: yyform = YY_("syntax error, unexpected %s"); break;
+    case 2: yyform = YY_("syntax error, unexpected %s, expecting %s"); break;
+    case 3: yyform = YY_("syntax error, unexpected %s, expecting %s or %s"); break;
+    case 4: yyform = YY_("syntax error, unexpected %s, expecting %s or %s or %s"); break;
+    default: yyform = YY_("syntax error, unexpected %s, expecting %s or %s or %s or %s"); break;
+    }
+  yylength = strlen (yyform) + 1;
+  for (yyn = 0; yyn < yycount; ++yyn)
+    yylength += YYCOPY (0, yytokens[yyn]);
+  if (yylength > yysize)
+    {
+      yytext = (char *) YYMALLOC (yylength);
+      if (!yytext)
+        return 0;
+    }
+  yyn = 0;
+  for (yyto = yytext; (*yyto = *yyform) != '\0';)
+    if (*yyform == '%' && yyform[1] == 's' && yyn < yycount)
+      {
+        yyto += YYCOPY (yyto, yytokens[yyn++]);
+        yyform += 2;
+      }
+    else
+      {
+        ++yyto;
+        ++yyform;
+      }
+  return yytext;
+}
+"##;
+
+/// What a function of the user's that tells of errors can ask.
+pub const CUSTOM: &str = r##"
+typedef struct
+{
+  const yystate_number *yyssp;
+  yysymbol_kind_t yytoken;
+@if locations
+  YYLTYPE *yylloc;
+@end
+} yypcontext_t;
+
+#define yypcontext_token(context) ((context)->yytoken)
+@if locations
+#define yypcontext_location(context) ((context)->yylloc)
+@end
+
+/* Notes up to so many tokens that could come, none where there are more, and gives their number;
+   without a place for them it counts them all. */
+static int
+yypcontext_expected_tokens (const yypcontext_t *yycontext, yysymbol_kind_t yyarg[], int yymost)
+{
+  int yytokens[YYNTOKENS];
+  int yycount = yyexpected (yycontext->yyssp, yyarg ? yytokens : 0, yymost);
+  int yyn;
+  for (yyn = 0; yyarg && yyn < yycount; ++yyn)
+    yyarg[yyn] = (yysymbol_kind_t) yytokens[yyn];
+  if (yyarg && yycount == 0 && yymost > 0)
+    yyarg[0] = (yysymbol_kind_t) -2;
+  return yycount;
+}
+
+static int yyreport_syntax_error (const yypcontext_t *yycontext YYMORE_DECL);
+#define YYREPORT(context) yyreport_syntax_error (context YYMORE)
+"##;
+
+/// What values need that are thrown away, up to the cases.
+pub const DESTROY_FRONT: &str = r##"
+@if locations
+# define YYDESTRUCT(kind, value, location) yydestruct (kind, value, location YYMORE)
+static void
+yydestruct (int yykind, YYSTYPE *yyvaluep, YYLTYPE *yylocationp YYMORE_DECL)
+{
+  (void) yylocationp;
+@else
+# define YYDESTRUCT(kind, value, location) yydestruct (kind, value YYMORE)
+static void
+yydestruct (int yykind, YYSTYPE *yyvaluep YYMORE_DECL)
+{
+@end
+  (void) yyvaluep;
+"##;
+
+/// The beginning of the cases by kinds of symbols.
+pub const SWITCH: &str = "  switch (yykind)\n    {\n";
+
+/// The end of the cases.
+pub const SWITCH_END: &str = "    default:\n      break;\n    }\n}\n";
+
+/// How values are shown by a trace, up to the cases.
+pub const SHOW_FRONT: &str = r##"
+#if YYDEBUG
+@if locations
+# define YYSHOW(what, kind, value, location) \
+  do { if (yydebug) yyshow (what, kind, value, location YYMORE); } while (0)
+static void
+yyshow (const char *yywhat, int yykind, YYSTYPE *yyvaluep, YYLTYPE *yylocationp YYMORE_DECL)
+{
+  FILE *yyo = stderr;
+  FILE *yyoutput = yyo;
+  (void) yylocationp;
+@else
+# define YYSHOW(what, kind, value, location) \
+  do { if (yydebug) yyshow (what, kind, value YYMORE); } while (0)
+static void
+yyshow (const char *yywhat, int yykind, YYSTYPE *yyvaluep YYMORE_DECL)
+{
+  FILE *yyo = stderr;
+  FILE *yyoutput = yyo;
+@end
+  (void) yyoutput;
+  (void) yyvaluep;
+  fprintf (yyo, "%sdebug: %s %s (", YYPREFIX, yywhat, yytname[yykind]);
+"##;
+
+/// The end of that.
+pub const SHOW_END: &str = r##"    default:
+      break;
+    }
+  fprintf (yyo, ")\n");
+}
+#else
+# define YYSHOW(what, kind, value, location) ((void) 0)
+#endif
+"##;

@@ -1,0 +1,214 @@
+//! What an action sees: the values and places of its body, and the names of these.
+
+use crate::references::{Reference, Whose};
+use crate::style::Style;
+use yexplain::lines::is_inner;
+use yexplain::reads::{body_of, left_of, name_of};
+use yparts::options::Values;
+use yparts::parts::{Action, Named, Parts};
+use ysymbols::{Grammar, Sym};
+
+/// What is wrong with a value or place that an action names.
+#[derive(Clone, Copy, Debug, Drop, PartialEq, Eq)]
+pub enum Misuse {
+    /// A symbol of this number is named, and only so many stand before the action.
+    OutOfRange(i64, usize),
+    /// The value of the left side needs a tag, and has none.
+    UntypedLeft,
+    /// The value of the symbol of this number needs a tag, and has none.
+    Untyped(i64),
+    /// No symbol before the action has this name.
+    Unknown,
+    /// Several symbols have it.
+    Ambiguous,
+}
+
+/// A member of a value.
+#[derive(Clone, Copy)]
+pub enum Member<'a> {
+    /// The value itself.
+    Whole,
+    /// A tag.
+    Tag(&'a [u8]),
+    /// A member that has the name of a symbol, with what names of tokens begin with.
+    Symbol(&'a [u8], &'a [u8]),
+}
+
+/// What an action sees.
+#[derive(Clone, Copy)]
+pub struct Scene<'a> {
+    grammar: &'a Grammar,
+    parts: &'a Parts<'a>,
+    style: &'a Style<'a>,
+    /// The symbols before it in its body.
+    before: &'a [Sym],
+    /// The symbol that `$$` is of.
+    left: Option<Sym>,
+    /// The names of values.
+    names: &'a [Named<'a>],
+    /// Whether it stands within its body, where the left side has no name.
+    is_inner: bool,
+    /// Whether `$$` needs a tag where other values have some.
+    is_strict: bool,
+    /// What `$$` is in C.
+    pub value: &'static str,
+    /// What `@$` is in C.
+    pub location: &'static str,
+}
+
+/// The rule in whose body an inner action stands: the next that is not one of an inner action.
+fn outer_of(grammar: &Grammar, rule: usize) -> usize {
+    (rule..grammar.rules())
+        .find(|number| !is_inner(grammar, *number))
+        .unwrap_or(rule)
+}
+
+/// The symbols that an action sees before it.
+fn before_of(grammar: &Grammar, rule: usize) -> &[Sym] {
+    if !is_inner(grammar, rule) {
+        return body_of(grammar, rule);
+    }
+    let left = left_of(grammar, rule);
+    let body = body_of(grammar, outer_of(grammar, rule));
+    let seen = body.iter().take_while(|symbol| Some(**symbol) != left);
+    body.get(..seen.count()).unwrap_or(&[])
+}
+
+impl<'a> Scene<'a> {
+    /// What the action of a rule sees.
+    pub fn of_action(
+        grammar: &'a Grammar,
+        parts: &'a Parts<'a>,
+        style: &'a Style<'a>,
+        action: Action<'a>,
+    ) -> Scene<'a> {
+        Scene {
+            grammar,
+            parts,
+            style,
+            before: before_of(grammar, action.rule),
+            left: left_of(grammar, action.rule),
+            names: parts.names_in(action.body),
+            is_inner: is_inner(grammar, action.rule),
+            is_strict: true,
+            value: "yyval",
+            location: "yyloc",
+        }
+    }
+
+    /// What code sees that stands in no rule: a value, of this symbol or of none, and a place.
+    pub fn of_value(
+        grammar: &'a Grammar,
+        parts: &'a Parts<'a>,
+        style: &'a Style<'a>,
+        left: Option<Sym>,
+        (value, location): (&'static str, &'static str),
+    ) -> Scene<'a> {
+        Scene {
+            grammar,
+            parts,
+            style,
+            before: &[],
+            left,
+            names: &[],
+            is_inner: true,
+            is_strict: false,
+            value,
+            location,
+        }
+    }
+
+    /// Whether a name is that of a value that the action sees.
+    fn sees(&self, named: &Named<'_>) -> bool {
+        if named.place == 0 {
+            !self.is_inner
+        } else {
+            named.place <= self.before.len()
+        }
+    }
+
+    /// The number of the symbol that has a name; 0 is the left side.
+    fn number_of(&self, name: &[u8]) -> Result<usize, Misuse> {
+        let mut found = None;
+        for named in self.names {
+            if named.name == name && self.sees(named) {
+                if found.is_some() {
+                    return Err(Misuse::Ambiguous);
+                }
+                found = Some(named.place);
+            }
+        }
+        found.ok_or(Misuse::Unknown)
+    }
+
+    /// Who is meant, by a number where it is not the left side.
+    fn meant(&self, whose: Whose<'_>) -> Result<Option<i64>, Misuse> {
+        match whose {
+            Whose::Left => Ok(None),
+            Whose::Symbol(number) => Ok(Some(number)),
+            Whose::Named(name) => match self.number_of(name)? {
+                0 => Ok(None),
+                number => Ok(Some(i64::try_from(number).unwrap_or(i64::MAX))),
+            },
+        }
+    }
+
+    /// The symbol of a number in the body, counted from 1.
+    fn symbol(&self, number: i64) -> Option<Sym> {
+        let index = usize::try_from(number.checked_sub(1)?).ok()?;
+        self.before.get(index).copied()
+    }
+
+    /// Where a symbol of a number stands on the stack, counted from its top; it may be below the
+    /// body, but not above it.
+    fn depth(&self, number: i64) -> Result<i64, Misuse> {
+        let seen = self.before.len();
+        if number > seen as i64 {
+            Err(Misuse::OutOfRange(number, seen))
+        } else {
+            Ok(number.saturating_sub(seen as i64))
+        }
+    }
+
+    /// Where what is meant stands on the stack, counted from its top; `None` for the left side.
+    pub fn place(&self, whose: Whose<'_>) -> Result<Option<i64>, Misuse> {
+        match self.meant(whose)? {
+            None => Ok(None),
+            Some(number) => Ok(Some(self.depth(number)?)),
+        }
+    }
+
+    /// The member that a symbol's value is, where the file tells it.
+    fn member_of(&self, symbol: Option<Sym>) -> Option<Member<'a>> {
+        let symbol = symbol?;
+        let tag = self.parts.tag_of(symbol)?;
+        if self.style.options.values != Values::Symbols {
+            return Some(Member::Tag(tag));
+        }
+        let prefix = if self.grammar.is_token(symbol) {
+            self.style.token_prefix()
+        } else {
+            b""
+        };
+        Some(Member::Symbol(prefix, name_of(self.grammar, symbol)))
+    }
+
+    /// Where a value stands, and the member that it is.
+    pub fn locate(&self, value: Reference<'a>) -> Result<(Option<i64>, Member<'a>), Misuse> {
+        let meant = self.meant(value.whose)?;
+        let (place, symbol) = match meant {
+            None => (None, self.left),
+            Some(number) => (Some(self.depth(number)?), self.symbol(number)),
+        };
+        let member = match value.tag {
+            Some(tag) => Some(Member::Tag(tag)),
+            None => self.member_of(symbol),
+        };
+        match (member, meant) {
+            (Some(member), _) => Ok((place, member)),
+            (None, None) if self.is_strict && self.style.has_tags => Err(Misuse::UntypedLeft),
+            (None, Some(number)) if self.style.has_tags => Err(Misuse::Untyped(number)),
+            (None, _) => Ok((place, Member::Whole)),
+        }
+    }
+}

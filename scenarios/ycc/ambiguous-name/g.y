@@ -1,0 +1,4 @@
+%define api.pure
+%token A
+%%
+s : A A { f ($A); } ;

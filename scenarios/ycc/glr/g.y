@@ -1,0 +1,4 @@
+%token A
+%glr-parser
+%%
+s : A ;

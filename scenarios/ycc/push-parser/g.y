@@ -1,0 +1,4 @@
+%define api.push-pull push
+%token A
+%%
+s : A ;

@@ -1,0 +1,4 @@
+%token NUM "number"
+%%
+exp : "number"        // name: a number
+    | '(' exp ')' ;

@@ -1,0 +1,3 @@
+%%
+s          : { } 'a' s_1_action ;
+s_1_action : 'b' ;

@@ -1,0 +1,5 @@
+%%
+s : 'a'   /* name: one */
+  | 'b'   /* name: two */
+  | 'c'   /* name: one */
+  ;

@@ -1,0 +1,4 @@
+%%
+s : 'a'   /* name: first */
+  | 'b'   /* name: 2nd */
+  ;

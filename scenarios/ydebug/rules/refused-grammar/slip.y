@@ -1,0 +1,3 @@
+%token NUMBER NAME
+%%
+s : NAME NUMBR ; /* name: 2nd */

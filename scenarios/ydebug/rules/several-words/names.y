@@ -1,0 +1,3 @@
+%%
+/* name: the start of all */
+s : 'a' ;

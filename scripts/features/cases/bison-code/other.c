@@ -1,0 +1,5 @@
+#include "parser.h"
+int described (YYSTYPE *value)
+{
+  return value->value.number + NUMBER;
+}

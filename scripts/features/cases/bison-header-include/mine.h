@@ -1,0 +1,2 @@
+#define MINE "by mine.h"
+#include "parser.h"

@@ -1,0 +1,15 @@
+%define parse.trace
+%{
+#include "plain.h"
+%}
+%printer { fprintf (yyo, "%d", $$); } NUMBER sum <>
+%token NUMBER
+%%
+all : sum             { printf ("sum %d, trace %d %d\n", $1, YYDEBUG, yydebug); }
+    | error '+'       { printf ("wrong\n"); }
+    ;
+sum : NUMBER
+    | sum '+' NUMBER  { $$ = $1 + $3; }
+    ;
+%%
+#include "plain_tail.h"

@@ -1,0 +1,5 @@
+#include "parser.h"
+int described (struct value *value)
+{
+  return value->number + NUMBER;
+}

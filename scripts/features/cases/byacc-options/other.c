@@ -1,0 +1,6 @@
+#include "named.tab.h"
+int more (void);
+int more (void)
+{
+  return NUMBER;
+}

@@ -1,0 +1,10 @@
+%{
+#include "plain.h"
+int more (void);
+%}
+%token NUMBER
+%%
+all : NUMBER          { printf ("%d\n", $1 + more ()); }
+    ;
+%%
+#include "plain_tail.h"

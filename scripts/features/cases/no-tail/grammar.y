@@ -1,0 +1,11 @@
+%{
+#include <stdio.h>
+int yylex (void);
+void yyerror (const char *what);
+%}
+%token NUMBER 300
+%%
+all : sum             { printf ("sum %d\n", $1); }
+    ;
+sum : NUMBER
+    | sum '+' NUMBER  { $$ = $1 + $3; }

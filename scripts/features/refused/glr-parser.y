@@ -1,0 +1,5 @@
+%token A
+/* refused below: %glr-parser */
+%glr-parser
+%%
+all : A ;

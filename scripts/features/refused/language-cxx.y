@@ -1,0 +1,5 @@
+/* refused below: %language */
+%language "c++"
+%token A
+%%
+all : A ;

@@ -1,0 +1,5 @@
+%token A
+/* refused below: %language */
+%language "Java"
+%%
+all : A ;

@@ -1,0 +1,6 @@
+%token A
+
+/* refused below: lr.type */
+%define lr.type ielr
+%%
+all : A ;

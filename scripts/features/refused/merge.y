@@ -1,0 +1,8 @@
+%token A
+%%
+/* refused below: %merge */
+all : one %merge <joined>
+    | two %merge <joined>
+    ;
+one : A ;
+two : A ;

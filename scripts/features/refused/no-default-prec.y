@@ -1,0 +1,5 @@
+%token A
+/* refused below: %no-default-prec */
+%no-default-prec
+%%
+all : A ;

@@ -1,0 +1,5 @@
+%token A
+/* refused below: api.push-pull */
+%define api.push-pull push
+%%
+all : A ;

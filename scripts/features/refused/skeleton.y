@@ -1,0 +1,5 @@
+%token A
+/* refused below: %skeleton */
+%skeleton "lalr1.cc"
+%%
+all : A ;

@@ -1,0 +1,5 @@
+%token A
+/* refused below: api.token.raw */
+%define api.token.raw
+%%
+all : A ;

@@ -1,0 +1,6 @@
+/* the peer refuses it too */
+%define api.pure full
+%token A
+%%
+/* refused below: other */
+all : A other ;

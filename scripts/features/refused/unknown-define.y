@@ -1,0 +1,6 @@
+/* the peer refuses it too */
+%token A
+/* refused below: api.nothing */
+%define api.nothing full
+%%
+all : A ;

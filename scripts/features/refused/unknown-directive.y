@@ -1,0 +1,7 @@
+/* the peer refuses it too */
+%define api.pure full
+%token A
+/* refused below: %nothing */
+%nothing
+%%
+all : A ;
