@@ -37,13 +37,15 @@ impl From<io::Error> for Ending {
     }
 }
 
-/// A grammar file: its path and its bytes.
-#[derive(Clone, Copy)]
-pub struct File<'a> {
-    /// The path.
-    pub path: &'a str,
-    /// The bytes.
-    pub bytes: &'a [u8],
+/// A grammar file.
+#[derive(Drop)]
+pub struct File {
+    /// Its path.
+    pub path: String,
+    /// Its bytes.
+    pub bytes: Vec<u8>,
+    /// The variables that words set as if the file did, with a zero after each.
+    pub variables: Vec<u8>,
 }
 
 /// Says that a file can't be opened, read or written, or that memory ran out.
@@ -55,23 +57,23 @@ pub fn outside(rt: &HostRuntime, what: &str, path: &str, error: &io::Error) -> E
     Ending::Outside
 }
 
-impl File<'_> {
+impl File {
     /// Writes what is wrong at a place, with the text of its line.
-    fn put_place<W: Write>(self, out: &mut W, at: usize) -> io::Result<()> {
-        let File { path, bytes } = self;
-        let source = bytes;
+    fn put_place<W: Write>(&self, out: &mut W, at: usize) -> io::Result<()> {
+        let path = self.path.as_str();
+        let source = self.bytes.as_slice();
         Place { path, source, at }.put_text(out, true)
     }
 
     /// Writes the path and the line of a place.
-    fn put_line<W: Write>(self, out: &mut W, at: usize) -> io::Result<()> {
-        let line = Spots::new(self.bytes).reach(at).0;
-        let path = self.path;
+    fn put_line<W: Write>(&self, out: &mut W, at: usize) -> io::Result<()> {
+        let line = Spots::new(&self.bytes).reach(at).0;
+        let path = self.path.as_str();
         write!(out, "{path}:{line}: ")
     }
 
     /// Says why a file is refused that is at a place.
-    pub fn refuse(self, rt: &HostRuntime, at: usize, why: &str) -> Ending {
+    pub fn refuse(&self, rt: &HostRuntime, at: usize, why: &str) -> Ending {
         let mut out = rt.stderr();
         let said = self
             .put_line(&mut out, at)
@@ -83,7 +85,7 @@ impl File<'_> {
     }
 
     /// Says what is wrong with a value that an action names, and at which place.
-    pub fn put_misused(self, rt: &HostRuntime, misuse: Misuse, at: usize) -> io::Result<()> {
+    pub fn put_misused(&self, rt: &HostRuntime, misuse: Misuse, at: usize) -> io::Result<()> {
         let mut out = rt.stderr();
         self.put_line(&mut out, at)?;
         put_misuse(&mut out, misuse)?;

@@ -14,7 +14,7 @@ mod words;
 use crate::ending::{Ending, File, outside};
 use crate::making::write_files;
 use crate::reading::{Reading, read};
-use crate::words::{Given, USAGE, VERSION, command, given_in, is_idle, is_other};
+use crate::words::{Given, USAGE, VERSION, command, given_in, is_idle, is_other, variables_in};
 use clap::error::ErrorKind;
 use clap::{ArgMatches, Command};
 use std::alloc::AllocError;
@@ -25,34 +25,41 @@ use yfaults::opening::grammar_bytes;
 use yparts::options::Purity;
 
 /// The text between the braces or quotes of a value, and whether they are braces.
-fn unwrapped(value: &str) -> (&str, bool) {
-    if let Some(code) = value
-        .strip_prefix('{')
-        .and_then(|rest| rest.strip_suffix('}'))
-    {
-        return (code, true);
+fn unwrapped(value: &[u8]) -> (&[u8], bool) {
+    match value {
+        [b'{', code @ .., b'}'] => (code, true),
+        [b'"', text @ .., b'"'] => (text, false),
+        _ => (value, false),
     }
-    let quoted = value
-        .strip_prefix('"')
-        .and_then(|rest| rest.strip_suffix('"'));
-    (quoted.unwrap_or(value), false)
 }
 
-/// Sets the variables that words have.
-fn define<'a>(
-    rt: &HostRuntime,
-    variables: &[&'a str],
-    read: &mut Reading<'a>,
-) -> Result<(), Ending> {
-    for variable in variables {
-        let variable: &'a str = *variable;
-        let (name, value) = variable.split_once('=').unwrap_or((variable, ""));
-        let (value, is_code) = unwrapped(value);
-        let options = &mut read.parts.options;
+/// A name and the value after it.
+fn halves(variable: &[u8]) -> (&[u8], &[u8]) {
+    match variable.iter().position(|byte| *byte == b'=') {
+        Some(at) => (
+            variable.get(..at).unwrap_or(&[]),
+            variable.get(at + 1..).unwrap_or(&[]),
+        ),
+        None => (variable, &[]),
+    }
+}
+
+/// Sets the variables that words have, each with a zero after it.
+fn define<'a>(rt: &HostRuntime, variables: &'a [u8], read: &mut Reading<'a>) -> Result<(), Ending> {
+    let options = &mut read.parts.options;
+    for variable in variables.split(|byte| *byte == 0) {
+        if variable.is_empty() {
+            continue;
+        }
         options.is_bison = true;
-        if let Err(refusal) = options.define(name.as_bytes(), value.as_bytes(), is_code) {
+        let (name, value) = halves(variable);
+        let (value, is_code) = unwrapped(value);
+        if let Err(refusal) = options.define(name, value, is_code) {
             let why = refusal.text();
-            let _ = writeln!(rt.stderr(), "ycc: -D {variable}: {why}");
+            let mut out = rt.stderr();
+            out.write_all(b"ycc: -D ")?;
+            out.write_all(variable)?;
+            writeln!(out, ": {why}")?;
             return Err(Ending::Refused);
         }
     }
@@ -68,29 +75,27 @@ fn wish(given: Given<'_>, read: &mut Reading<'_>) {
     options.locations = options.locations || given.locations;
 }
 
-/// Does what words ask for with a grammar file of these bytes.
-fn generate(
-    rt: &HostRuntime,
-    given: Given<'_>,
-    variables: &[&str],
-    bytes: Vec<u8>,
-) -> Result<(), Ending> {
-    let file = File {
-        path: given.grammar,
-        bytes: &bytes,
-    };
+/// Does what words ask for with a grammar file.
+fn generate(rt: &HostRuntime, given: Given<'_>, file: &File) -> Result<(), Ending> {
     let mut found = read(rt, file)?;
     wish(given, &mut found);
-    define(rt, &*variables, &mut found)?;
+    define(rt, file.variables.as_slice(), &mut found)?;
     write_files(rt, given, file, &found)
 }
 
 /// Does what words ask for.
-fn obey(rt: &HostRuntime, given: Given<'_>, variables: &[&str]) -> Result<(), Ending> {
-    match grammar_bytes(rt, given.grammar) {
-        Ok(bytes) => generate(rt, given, variables, bytes),
-        Err(error) => Err(outside(rt, "read", given.grammar, &error)),
-    }
+fn obey(rt: &HostRuntime, given: Given<'_>, variables: Vec<u8>) -> Result<(), Ending> {
+    let name = given.grammar;
+    let bytes = match grammar_bytes(rt, name) {
+        Ok(bytes) => bytes,
+        Err(error) => return Err(outside(rt, "read", name, &error)),
+    };
+    let file = File {
+        path: format!(in rt.alloc(); "{name}")?,
+        bytes,
+        variables,
+    };
+    generate(rt, given, &file)
 }
 
 /// Writes the help that was asked for.
@@ -153,7 +158,7 @@ fn run(rt: &HostRuntime) -> Result<(), Ending> {
         }
     }
     let matches = matches_by(rt, command(rt.alloc())?, &words)?;
-    let variables = matches.get_strs("define").unwrap_or(&[]);
+    let variables = variables_in(rt.alloc(), &matches)?;
     match given_in(&matches) {
         Some(given) => obey(rt, given, variables),
         None => Err(Ending::Words),

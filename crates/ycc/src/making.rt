@@ -4,7 +4,7 @@ use crate::ending::{Ending, File, outside};
 use crate::names::{Names, names_of};
 use crate::reading::Reading;
 use crate::words::Given;
-use std::alloc::Global;
+use std::alloc::{AllocError, Global};
 use std::io::Write;
 use ycode::code_of;
 use yfiles::writing::write_over;
@@ -13,7 +13,7 @@ use yskeleton::{Mode, Skeleton, Text, Trouble, Wishes, default_rules, style_of};
 use ytables::{Link, Tables};
 
 /// A text that was made; where an action stands in its way, that is said.
-fn made<T>(rt: &HostRuntime, file: File<'_>, text: Result<T, Trouble>) -> Result<T, Ending> {
+fn made<T>(rt: &HostRuntime, file: &File, text: Result<T, Trouble>) -> Result<T, Ending> {
     match text {
         Ok(text) => Ok(text),
         Err(Trouble::Unwritten(error)) => Err(Ending::from(error)),
@@ -86,11 +86,8 @@ fn mode_of(given: Given<'_>, options: &Options<'_>) -> Mode {
 }
 
 /// What is asked for of the texts.
-fn wishes_of<'a>(given: Given<'a>, options: &Options<'_>, names: &'a Names) -> Wishes<'a> {
+fn wishes_of(given: Given<'_>, options: &Options<'_>) -> Wishes {
     Wishes {
-        parser: names.parser.as_str(),
-        header: names.header.as_str(),
-        prefix: given.prefix,
         lines: !given.no_lines && !options.no_lines,
         debug: given.trace || options.trace,
         mode: mode_of(given, options),
@@ -100,8 +97,8 @@ fn wishes_of<'a>(given: Given<'a>, options: &Options<'_>, names: &'a Names) -> W
 }
 
 /// Says whose order and names are taken.
-fn tell_mode(rt: &HostRuntime, file: File<'_>, mode: Mode) {
-    let path = file.path;
+fn tell_mode(rt: &HostRuntime, file: &File, mode: Mode) {
+    let path = file.path.as_str();
     let whose = match mode {
         Mode::Byacc => "byacc",
         Mode::Bison => "bison",
@@ -110,44 +107,66 @@ fn tell_mode(rt: &HostRuntime, file: File<'_>, mode: Mode) {
 }
 
 /// Makes all texts, and then writes their files.
-pub fn write_files<'a>(
+pub fn write_files(
     rt: &HostRuntime,
     given: Given<'_>,
-    file: File<'a>,
-    read: &'a Reading<'a>,
+    file: &File,
+    read: &Reading<'_>,
 ) -> Result<(), Ending> {
     let alloc = rt.alloc();
     let (tables, parts) = (&read.tables, &read.parts);
     let options = &parts.options;
-    let is_bison = mode_of(given, options) == Mode::Bison;
-    let names = names_of(alloc, given, options, is_bison)?;
-    let wishes = wishes_of(given, options, &names);
+    let wishes = wishes_of(given, options);
+    let names = names_of(alloc, given, options, wishes.mode == Mode::Bison)?;
     if given.verbose {
         tell_mode(rt, file, wishes.mode);
     }
-    let style = style_of(alloc, parts, wishes)?;
+    let style = style_of(alloc, parts, wishes, given.prefix)?;
     let code = code_of(alloc, tables)?;
     let skeleton = Skeleton {
-        path: file.path,
+        path: file.path.as_str(),
+        parser_path: names.parser.as_str(),
+        header_path: names.header.as_str(),
         grammar: tables.automaton().grammar(),
         parts,
         style: &style,
         code: &code,
     };
-    texts_of(rt, given, file, tables, &skeleton)?.write(rt, &names)
+    make(rt, given, file, tables, &skeleton, &names)
+}
+
+/// Makes the texts that are wanted, and then writes their files.
+fn make(
+    rt: &HostRuntime,
+    given: Given<'_>,
+    file: &File,
+    tables: &Tables,
+    skeleton: &Skeleton<'_>,
+    names: &Names,
+) -> Result<(), Ending> {
+    texts_of(rt, given, file, tables, skeleton)?.write(rt, names)
+}
+
+/// The rules by which bison's lists go, where these are wanted.
+fn defaults_of(alloc: Global, tables: &Tables, is_wanted: bool) -> Result<Vec<usize>, AllocError> {
+    if is_wanted {
+        default_rules(alloc, tables)
+    } else {
+        Ok(Vec::new(alloc))
+    }
 }
 
 /// The texts that are wanted.
 fn texts_of<'a>(
     rt: &HostRuntime,
     given: Given<'_>,
-    file: File<'_>,
+    file: &File,
     tables: &Tables,
     skeleton: &Skeleton<'a>,
 ) -> Result<Texts<'a>, Ending> {
     let alloc = rt.alloc();
     let options = &skeleton.parts.options;
-    let defaults = default_rules(alloc, tables)?;
+    let defaults = defaults_of(alloc, tables, skeleton.style.lists())?;
     let parser = made(rt, file, skeleton.parser(alloc, &defaults))?;
     let header = if given.define || options.header != Header::No {
         Some(skeleton.header(alloc)?)

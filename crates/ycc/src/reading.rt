@@ -25,11 +25,12 @@ pub struct Reading<'a> {
 }
 
 /// Says why a grammar file has no tables.
-fn refused(rt: &HostRuntime, file: File<'_>, trouble: &Unopened<'_>) -> Ending {
+fn refused(rt: &HostRuntime, file: &File, trouble: &Unopened<'_>) -> Ending {
     if matches!(trouble, Unopened::Memory) {
         return Ending::Memory;
     }
-    match put_trouble(&mut rt.stderr(), rt.alloc(), file.path, file.bytes, trouble) {
+    let (path, bytes) = (file.path.as_str(), file.bytes.as_slice());
+    match put_trouble(&mut rt.stderr(), rt.alloc(), path, bytes, trouble) {
         Ok(()) => Ending::Refused,
         Err(error) => Ending::from(error),
     }
@@ -52,7 +53,7 @@ fn map<'a>(rt: &HostRuntime, bytes: &'a [u8]) -> Result<(Grammar, Vec<Mark<'a>>)
 }
 
 /// The tables of a grammar; where there are too many states, that is said.
-fn tables_of(rt: &HostRuntime, file: File<'_>, grammar: Grammar) -> Result<Tables, Ending> {
+fn tables_of(rt: &HostRuntime, file: &File, grammar: Grammar) -> Result<Tables, Ending> {
     match build(rt.alloc(), grammar) {
         Ok(automaton) => resolve(rt.alloc(), automaton).map_err(|_| Ending::Memory),
         Err(fault) => Err(refused(rt, file, &Unopened::from(fault))),
@@ -73,10 +74,10 @@ fn put_conflicts(rt: &HostRuntime, first: u64, second: u64) -> io::Result<()> {
 /// A file that `yacc` takes.
 fn read_native<'a>(
     rt: &HostRuntime,
-    file: File<'a>,
+    file: &'a File,
     (grammar, marks): (Grammar, Vec<Mark<'a>>),
 ) -> Result<Reading<'a>, Ending> {
-    let parts = native::parts_of(rt.alloc(), file.bytes, &grammar, &marks)?;
+    let parts = native::parts_of(rt.alloc(), file.bytes.as_slice(), &grammar, &marks)?;
     let tables = tables_of(rt, file, grammar)?;
     let Counts {
         shift_reduce,
@@ -89,11 +90,11 @@ fn read_native<'a>(
 /// What a foreign file says of its parser; where that is refused, it is said.
 fn parts_in<'a, 'b>(
     rt: &HostRuntime,
-    file: File<'a>,
+    file: &'a File,
     grammar: &'b Grammar,
     imported: &'b Imported,
 ) -> Result<Parts<'a>, Ending> {
-    match foreign::parts_of(rt.alloc(), file.bytes, grammar, imported) {
+    match foreign::parts_of(rt.alloc(), file.bytes.as_slice(), grammar, imported) {
         Ok(parts) => Ok(parts),
         Err(Unmade::Memory) => Err(Ending::Memory),
         Err(Unmade::Refused(refusal, at)) => Err(file.refuse(rt, at, refusal.text())),
@@ -117,10 +118,10 @@ fn count(rt: &HostRuntime, foreign: &Foreign) -> Result<(), Ending> {
 /// A file that an import made one of `yacc`.
 fn read_imported<'a>(
     rt: &HostRuntime,
-    file: File<'a>,
+    file: &'a File,
     imported: Imported,
 ) -> Result<Reading<'a>, Ending> {
-    let File { path, bytes } = file;
+    let (path, bytes) = (file.path.as_str(), file.bytes.as_slice());
     let source = Source { path, bytes };
     let foreign = match open_import(rt.alloc(), &mut rt.stderr(), source, imported)? {
         Ok(foreign) => foreign,
@@ -149,17 +150,17 @@ fn is_foreign(bytes: &[u8], trouble: &Unopened<'_>) -> bool {
 /// A file that `yacc` refuses for this reason.
 fn read_other<'a>(
     rt: &HostRuntime,
-    file: File<'a>,
+    file: &'a File,
     trouble: &Unopened<'_>,
 ) -> Result<Reading<'a>, Ending> {
     if file.bytes.len() > LONGEST_FILE || matches!(trouble, Unopened::Memory) {
         return Err(refused(rt, file, trouble));
     }
-    match import(rt.alloc(), file.bytes) {
+    match import(rt.alloc(), file.bytes.as_slice()) {
         Ok(imported) if imported.notes.is_empty() => Err(refused(rt, file, trouble)),
         Ok(imported) => read_imported(rt, file, imported),
         Err(Unimported::Memory) => Err(Ending::Memory),
-        Err(Unimported::Refused(found)) if is_foreign(file.bytes, trouble) => {
+        Err(Unimported::Refused(found)) if is_foreign(&file.bytes, trouble) => {
             Err(file.refuse(rt, found.span.from, found.refusal.text()))
         }
         Err(Unimported::Refused(_)) => Err(refused(rt, file, trouble)),
@@ -167,8 +168,8 @@ fn read_other<'a>(
 }
 
 /// What a grammar file means and says; where it is refused, that is said.
-pub fn read<'a>(rt: &HostRuntime, file: File<'a>) -> Result<Reading<'a>, Ending> {
-    match map(rt, file.bytes) {
+pub fn read<'a>(rt: &HostRuntime, file: &'a File) -> Result<Reading<'a>, Ending> {
+    match map(rt, file.bytes.as_slice()) {
         Ok(mapped) => read_native(rt, file, mapped),
         Err(trouble) => read_other(rt, file, &trouble),
     }

@@ -198,6 +198,16 @@ pub fn given_in<'a>(matches: &ArgMatches<'a>) -> Option<Given<'a>> {
     })
 }
 
+/// The variables that words set, with a zero after each.
+pub fn variables_in(alloc: Global, matches: &ArgMatches<'_>) -> Result<Vec<u8>, AllocError> {
+    let mut variables = Vec::new(alloc);
+    for variable in matches.get_strs("define").unwrap_or(&[]) {
+        variables.extend_from_slice(variable.as_bytes())?;
+        variables.push(0).map_err(AllocError::from)?;
+    }
+    Ok(variables)
+}
+
 /// Whether a word asks for nothing: one of bison's that chooses warnings or what is drawn of them.
 pub fn is_idle(word: &str) -> bool {
     let idle = ["-W", "-f", "--feature", "--color"];

@@ -3,9 +3,18 @@
 use crate::note::{How, Reason};
 use crate::refusal::Refusal;
 use crate::symbols::{Expected, Work};
-use yforeign::directive::Directive;
+use yforeign::directive::{Directive, is_word};
 use yforeign::lexeme::{Kind, Lexeme};
 use yforeign::numbers::number_of;
+
+/// Whether the value of a variable is `lalr`, also between quotes or braces.
+fn is_lalr(value: &[u8]) -> bool {
+    let inner = match value {
+        [b'"', inner @ .., b'"'] | [b'{', inner @ .., b'}'] => inner,
+        _ => value,
+    };
+    inner == b"lalr".as_slice()
+}
 
 impl Work<'_> {
     /// What a file expects of its conflicts, where it says a number.
@@ -25,7 +34,9 @@ impl Work<'_> {
     /// Why a definition is taken out.
     fn definition_reason(&self, rest: &[Lexeme]) -> Reason {
         match rest {
-            [name, ..] if name.text(self.source).starts_with(b"lr.") => Reason::TablesAsked,
+            [name, value, ..]
+                if is_word(name.text(self.source), "lr.type")
+                    && !is_lalr(value.text(self.source)) => { Reason::TablesAsked }
             _ => Reason::ForItsParser,
         }
     }

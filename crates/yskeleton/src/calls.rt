@@ -143,7 +143,7 @@ impl Skeleton<'_> {
     /// Declares `yyparse` for a header.
     pub fn put_prototype(&self, out: &mut Text<'_>) -> io::Result<()> {
         out.add(b"\nint ")?;
-        out.add(self.style.names)?;
+        out.add(&self.style.names)?;
         self.put_line(out, b"parse (", Shown::Declared, b");\n")
     }
 

@@ -30,14 +30,14 @@ impl Style<'_> {
     /// Writes another name for one that begins with `yy`.
     fn put_name(&self, out: &mut Text<'_>, name: &str) -> io::Result<()> {
         write!(out, "#define yy{name} ")?;
-        out.add(self.names)?;
+        out.add(&self.names)?;
         out.add(name.as_bytes())?;
         out.add(b"\n")
     }
 
     /// Writes the names that begin with another prefix.
     fn put_prefix(&self, out: &mut Text<'_>) -> io::Result<()> {
-        if self.names != b"yy".as_slice() {
+        if self.names.as_slice() != b"yy".as_slice() {
             for name in SHARED {
                 self.put_name(out, name)?;
             }
@@ -49,7 +49,7 @@ impl Style<'_> {
             }
         }
         out.add(b"#define YYPREFIX \"")?;
-        out.add(self.names)?;
+        out.add(&self.names)?;
         out.add(b"\"\n")
     }
 
@@ -98,7 +98,7 @@ impl Skeleton<'_> {
             return Ok(());
         }
         self.put_macros(out, "#if @DEBUG\nextern int ")?;
-        out.add(self.style.names)?;
+        out.add(&self.style.names)?;
         out.add(b"debug;\n#endif\n")
     }
 
@@ -108,11 +108,11 @@ impl Skeleton<'_> {
             return Ok(());
         }
         self.put_macros(out, "\nextern @STYPE ")?;
-        out.add(self.style.names)?;
+        out.add(&self.style.names)?;
         out.add(b"lval;\n")?;
         if self.style.locations {
             self.put_macros(out, "extern @LTYPE ")?;
-            out.add(self.style.names)?;
+            out.add(&self.style.names)?;
             out.add(b"lloc;\n")?;
         }
         Ok(())
@@ -266,7 +266,7 @@ impl<'a> Skeleton<'a> {
     /// are wanted.
     pub fn parser(&self, alloc: Global, defaults: &[usize]) -> Result<Text<'a>, Trouble> {
         let wishes = self.style.wishes;
-        let mut out = Text::new(alloc, wishes.parser, wishes.lines);
+        let mut out = Text::new(alloc, self.parser_path, wishes.lines);
         self.put_begin(&mut out)?;
         if self.style.is_bison() {
             self.put_bison_front(&mut out)?;
@@ -288,10 +288,9 @@ impl<'a> Skeleton<'a> {
     /// Writes the macro by which a header stands once.
     fn put_guard(&self, out: &mut Text<'_>) -> io::Result<()> {
         out.add(b"YY_")?;
-        out.add(self.style.names)?;
+        out.add(&self.style.names)?;
         out.add(b"_")?;
-        let wishes = self.style.wishes;
-        for byte in wishes.header.as_bytes() {
+        for byte in self.header_path.as_bytes() {
             out.add(&[in_macro(*byte)])?;
         }
         out.add(b"_INCLUDED\n")
@@ -310,7 +309,7 @@ impl<'a> Skeleton<'a> {
     /// The text of the header.
     pub fn header(&self, alloc: Global) -> io::Result<Text<'a>> {
         let wishes = self.style.wishes;
-        let mut out = Text::new(alloc, wishes.header, wishes.lines);
+        let mut out = Text::new(alloc, self.header_path, wishes.lines);
         out.add(b"/* What a parser that ycc made declares. */\n#ifndef ")?;
         self.put_guard(&mut out)?;
         out.add(b"#define ")?;

@@ -16,6 +16,10 @@ use ysymbols::{Grammar, Sym};
 pub struct Skeleton<'a> {
     /// The path of the grammar file, as `#line` has it.
     pub path: &'a str,
+    /// The path of the parser.
+    pub parser_path: &'a str,
+    /// The path of its header.
+    pub header_path: &'a str,
     /// The grammar.
     pub grammar: &'a Grammar,
     /// What the file says of the parser.
@@ -36,11 +40,12 @@ fn dialect_of(mode: Mode, locations: bool) -> Dialect {
     }
 }
 
-/// How the parser of these parts looks.
+/// How the parser of these parts looks, with names that begin with a prefix where one is given.
 pub fn style_of<'a>(
     alloc: Global,
     parts: &Parts<'a>,
-    wishes: Wishes<'a>,
+    wishes: Wishes,
+    prefix: Option<&str>,
 ) -> Result<Style<'a>, AllocError> {
     let dialect = dialect_of(wishes.mode, parts.options.locations);
     let actions = parts.actions.iter();
@@ -48,7 +53,7 @@ pub fn style_of<'a>(
         && actions
             .map(|action| action.piece.text)
             .any(|text| names_place(text, dialect));
-    Style::of(alloc, parts, wishes, uses_places)
+    Style::of(alloc, parts, wishes, prefix, uses_places)
 }
 
 impl<'a> Skeleton<'a> {

@@ -15,13 +15,7 @@ pub enum Mode {
 
 /// What is asked for by words.
 #[derive(Clone, Copy)]
-pub struct Wishes<'a> {
-    /// The path of the parser.
-    pub parser: &'a str,
-    /// The path of the header.
-    pub header: &'a str,
-    /// What names begin with in place of `yy`.
-    pub prefix: Option<&'a str>,
+pub struct Wishes {
     /// Whether `#line` tells where parts are from.
     pub lines: bool,
     /// Whether the parser can trace its steps, unless YYDEBUG says otherwise.
@@ -37,11 +31,11 @@ pub struct Wishes<'a> {
 /// How a parser looks.
 pub struct Style<'a> {
     /// What is asked for.
-    pub wishes: Wishes<'a>,
+    pub wishes: Wishes,
     /// What the file wishes.
     pub options: Options<'a>,
     /// What names begin with.
-    pub names: &'a [u8],
+    pub names: Vec<u8>,
     /// What types and enums begin with.
     pub types: &'a [u8],
     /// What macros begin with.
@@ -82,27 +76,42 @@ fn capitals(alloc: Global, prefix: &[u8]) -> Result<Vec<u8>, AllocError> {
     Ok(macros)
 }
 
+/// What names begin with: what words ask for, or else what the file does.
+fn prefix_of(
+    alloc: Global,
+    options: &Options<'_>,
+    prefix: Option<&str>,
+) -> Result<Vec<u8>, AllocError> {
+    match prefix {
+        Some(prefix) => Vec::from_slice(alloc, prefix.as_bytes()),
+        None => {
+            let named = options.name_prefix.or(options.api_prefix);
+            Vec::from_slice(alloc, named.unwrap_or(b"yy"))
+        }
+    }
+}
+
 /// Whether a file has code of this kind.
 fn has(parts: &Parts<'_>, deed: Deed) -> bool {
     parts.cares.iter().any(|care| care.deed == deed)
 }
 
 impl<'a> Style<'a> {
-    /// How the parser of these parts looks, with places where `uses_places`.
+    /// How the parser of these parts looks, with names that begin with a prefix where one is given,
+    /// and with places where `uses_places`.
     pub fn of(
         alloc: Global,
         parts: &Parts<'a>,
-        wishes: Wishes<'a>,
+        wishes: Wishes,
+        prefix: Option<&str>,
         uses_places: bool,
     ) -> Result<Style<'a>, AllocError> {
         let options = parts.options;
         let types = options.api_prefix.unwrap_or(b"yy");
-        let named = wishes.prefix.map(|prefix| prefix.as_bytes());
-        let names = named.or(options.name_prefix).unwrap_or(types);
         Ok(Style {
             wishes,
             options,
-            names,
+            names: prefix_of(alloc, &options, prefix)?,
             types,
             macros: capitals(alloc, types)?,
             has_tags: parts.has_tags(),
