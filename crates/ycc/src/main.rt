@@ -22,7 +22,7 @@ use std::env;
 use std::io::Write;
 use std::process::ExitCode;
 use yfaults::opening::grammar_bytes;
-use yparts::options::Purity;
+use yparts::options::{Options, Purity};
 
 /// The text between the braces or quotes of a value, and whether they are braces.
 fn unwrapped(value: &[u8]) -> (&[u8], bool) {
@@ -44,23 +44,32 @@ fn halves(variable: &[u8]) -> (&[u8], &[u8]) {
     }
 }
 
+/// Sets a variable that words have.
+fn define_one<'a>(
+    rt: &HostRuntime,
+    variable: &'a [u8],
+    options: &mut Options<'a>,
+) -> Result<(), Ending> {
+    let (name, value) = halves(variable);
+    let (value, is_code) = unwrapped(value);
+    options.is_bison = true;
+    if let Err(refusal) = options.define(name, value, is_code) {
+        let why = refusal.text();
+        let mut out = rt.stderr();
+        out.write_all(b"ycc: -D ")?;
+        out.write_all(variable)?;
+        writeln!(out, ": {why}")?;
+        return Err(Ending::Refused);
+    }
+    Ok(())
+}
+
 /// Sets the variables that words have, each with a zero after it.
 fn define<'a>(rt: &HostRuntime, variables: &'a [u8], read: &mut Reading<'a>) -> Result<(), Ending> {
-    let options = &mut read.parts.options;
     for variable in variables.split(|byte| *byte == 0) {
-        if variable.is_empty() {
-            continue;
-        }
-        options.is_bison = true;
-        let (name, value) = halves(variable);
-        let (value, is_code) = unwrapped(value);
-        if let Err(refusal) = options.define(name, value, is_code) {
-            let why = refusal.text();
-            let mut out = rt.stderr();
-            out.write_all(b"ycc: -D ")?;
-            out.write_all(variable)?;
-            writeln!(out, ": {why}")?;
-            return Err(Ending::Refused);
+        if !variable.is_empty() {
+            let options = &mut read.parts.options;
+            define_one(rt, variable, options)?;
         }
     }
     Ok(())
