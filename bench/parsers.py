@@ -110,15 +110,23 @@ class Machine:
         first = next(at for at, it in enumerate(words) if it[0] == "rules") + 1
         rules = words[first : first + int(words[first - 1][1])]
         self.rules = [(int(left), int(length)) for _, left, length in rules]
-        self.defaults, self.actions, self.gotos = {}, {}, {}
+        self.defaults, self.actions, self.gotos, self.cells = {}, {}, {}, {}
         for it in words[first + len(rules) :]:
             if it[0] == "d":
                 self.defaults[int(it[1])] = int(it[2])
             elif it[0] == "a" and it[3] != "acc":
                 self.actions[int(it[1]), int(it[2])] = it[3], int(it[4])
+                self.cells.setdefault(int(it[1]), []).append(int(it[2]))
             elif it[0] == "g":
                 self.gotos[int(it[1]), int(it[2])] = int(it[3])
         self.stack = [0]
+
+    def settle(self):
+        """Makes the reductions that need no token."""
+        while (rule := self.defaults.get(self.stack[-1])) is not None:
+            left, length = self.rules[rule]
+            del self.stack[len(self.stack) - length :]
+            self.stack.append(self.gotos[self.stack[-1], left])
 
     def after(self, token):
         """How many states stay below, and which stand on them, where the token is shifted."""
@@ -140,15 +148,18 @@ class Machine:
         return None
 
     def draw(self, rng):
-        """A token that can come: of three, one, or mostly the one that leaves the lowest stack."""
-        order, found = rng.sample(range(2, len(self.names)), len(self.names) - 2), []
+        """A token that can come: one of three, or where the stack is deep, and else mostly, the one
+        of all that leaves the lowest stack."""
+        self.settle()
+        is_deep = len(self.stack) > DEEP or rng.random() < 0.6
+        order, found = self.cells[self.stack[-1]][:], []
+        rng.shuffle(order)
         for token in order:
-            after = self.after(token)
+            after = self.after(token) if token > 1 else None
             if after:
                 found.append((after[0] + len(after[1]), token, after))
-            if len(found) == 3:
+            if len(found) == 3 and not is_deep:
                 break
-        is_deep = len(self.stack) > DEEP or rng.random() < 0.6
         _, token, (kept, above) = min(found) if is_deep else rng.choice(found)
         self.stack[kept:] = above
         return self.names[token]

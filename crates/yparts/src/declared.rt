@@ -71,12 +71,14 @@ impl<'a> Gather<'a, '_> {
         }
     }
 
-    /// Takes in code with the word for its place, or without.
+    /// Takes in code with the word for its place, or without. `imports` has a place in Java alone,
+    /// so it is left out, as bison leaves it out in C.
     fn take_code(&mut self, rest: &[Lexeme]) -> Result<(), Trouble> {
         let Some(piece) = self.first(rest, Kind::Braced) else {
             return Ok(());
         };
         let target = match self.first(rest, Kind::Name) {
+            Some(word) if is_word(word.text, "imports") => return Ok(()),
             Some(word) => {
                 let unknown = Trouble::Refused(Refusal::Qualifier, word.at);
                 target_of(word.text).ok_or(unknown)?
