@@ -141,7 +141,8 @@ fn is_foreign(bytes: &[u8], trouble: &Unopened<'_>) -> bool {
     match trouble {
         Unopened::Grammar(refusal) => {
             let at = refusal.placed.at;
-            is_imported(bytes.get(at..).unwrap_or(&[]))
+            let rest = bytes.get(at..).unwrap_or(&[]);
+            rest.starts_with(b"//") || is_imported(rest)
         }
         _ => false,
     }

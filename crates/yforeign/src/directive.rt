@@ -1,7 +1,7 @@
 //! The directives of bison and byacc.
 
 use crate::lexeme::Kind;
-use crate::runs::word_length;
+use crate::runs::percent_length;
 
 /// A directive, by what is done with it.
 #[derive(Clone, Copy, Drop, PartialEq, Eq)]
@@ -66,13 +66,17 @@ pub enum Shape {
 }
 
 /// The directives, each by its word, with dashes.
-const WORDS: [(&str, Directive); 49] = [
+const WORDS: [(&str, Directive); 53] = [
     ("token", Directive::Token),
     ("term", Directive::Term),
     ("left", Directive::Left),
     ("right", Directive::Right),
     ("nonassoc", Directive::Nonassoc),
     ("binary", Directive::Binary),
+    ("0", Directive::Token),
+    ("<", Directive::Left),
+    (">", Directive::Right),
+    ("2", Directive::Binary),
     ("precedence", Directive::Precedence),
     ("type", Directive::Type),
     ("nterm", Directive::Nterm),
@@ -147,9 +151,9 @@ pub fn directive_of(text: &[u8]) -> Directive {
 pub fn is_imported(bytes: &[u8]) -> bool {
     match bytes {
         [b'"', ..] => true,
-        [b'%', word @ ..] => {
-            let length = word_length(word).saturating_add(1);
-            directive_of(bytes.get(..length).unwrap_or(bytes)) != Directive::Unknown
+        [b'%', ..] => {
+            let word = bytes.get(..percent_length(bytes)).unwrap_or(bytes);
+            directive_of(word) != Directive::Unknown
         }
         _ => false,
     }

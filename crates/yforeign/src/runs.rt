@@ -10,6 +10,15 @@ pub fn word_length(bytes: &[u8]) -> usize {
         .unwrap_or(bytes.len())
 }
 
+/// How many bytes a percent word has, with its sign. Four old ones of byacc are a sign or a digit.
+pub fn percent_length(bytes: &[u8]) -> usize {
+    match bytes {
+        [b'%', b'<' | b'>' | b'0' | b'2', ..] => 2,
+        [b'%', word @ ..] => word_length(word).saturating_add(1),
+        _ => 0,
+    }
+}
+
 /// How many bytes stand before a newline.
 pub fn line_length(bytes: &[u8]) -> usize {
     bytes

@@ -2,7 +2,7 @@
 
 use crate::lexeme::{Flaw, Kind};
 use crate::quoted::{arguments_at, quote_at, reference_at, tag_at, text_at, translated_at};
-use crate::runs::{line_length, word_length};
+use crate::runs::{line_length, percent_length, word_length};
 use ylexemes::bytes::{is_blank, is_digit, is_name_start};
 use ylexemes::front::part_at;
 use ylexemes::part::LexicalFault;
@@ -75,12 +75,8 @@ fn percent_at(bytes: &[u8]) -> Result<(Piece, usize), Flaw> {
         Some(b'%') => Ok((Piece::Lexeme(Kind::Mark), 2)),
         Some(b'{') => shared_at(bytes, Piece::Lexeme(Kind::Code)),
         Some(b'?') => Ok((Piece::Lexeme(Kind::Predicate), 2)),
-        Some(b) if is_name_start(*b) => {
-            let word = bytes.get(1..).unwrap_or(&[]);
-            Ok((
-                Piece::Lexeme(Kind::Word),
-                word_length(word).saturating_add(1),
-            ))
+        Some(b) if is_name_start(*b) || matches!(*b, b'<' | b'>' | b'0' | b'2') => {
+            Ok((Piece::Lexeme(Kind::Word), percent_length(bytes)))
         }
         _ => Err(Flaw::Foreign),
     }

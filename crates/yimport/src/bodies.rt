@@ -29,9 +29,9 @@ fn has_to_move(behind: &[Lexeme]) -> bool {
     symbols > 0 || actions > 1
 }
 
-/// Whether a lexeme of this kind stands for something in a body.
-fn fills(kind: Kind) -> bool {
-    is_symbol(kind) || kind == Kind::Braced
+/// Whether a lexeme of this kind stands for something in a body. What `%prec` names doesn't.
+fn fills(before: Option<Kind>, kind: Kind) -> bool {
+    kind == Kind::Braced || (is_symbol(kind) && before != Some(Kind::Word))
 }
 
 /// Where a body stands.
@@ -229,8 +229,8 @@ impl Work<'_> {
                 behind,
             };
             self.import_part(&mut place, around);
+            place.filled = place.filled || fills(before, lexeme.kind);
             before = Some(lexeme.kind);
-            place.filled = place.filled || fills(lexeme.kind);
             if lexeme.kind != Kind::Semicolon {
                 place.end = lexeme.span.to;
             }

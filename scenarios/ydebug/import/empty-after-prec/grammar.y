@@ -1,0 +1,3 @@
+%left NEG
+%%
+e : %prec NEG %empty { none(); } | 'x' e ;

@@ -1,0 +1,3 @@
+%token NUM
+%%
+e : NUM %empty ;
