@@ -116,6 +116,7 @@ class Checked:
                     yield state, token, taken, left
 
 
+COUNTS = re.compile(r"grammar\.y: (\d+) shift/reduce, (\d+) reduce/reduce, in ")
 HEAD = re.compile(r"conflict \d+: state (\d+) on (\S+): (shift|accept|reduce)")
 
 
@@ -213,6 +214,15 @@ def wrong_list(checked, told, state, token, first, others):
     return None
 
 
+def wrong_counts(tables, text):
+    """What is wrong with the counts of the first line; nothing where they are those of the tables."""
+    found = COUNTS.match(text)
+    told = tuple(map(int, found.groups())) if found else (0, 0)
+    ours = tables.shift_reduce, tables.reduce_reduce
+    is_told = bool(found) or text.startswith("grammar.y: no conflicts\n")
+    return None if told == ours and is_told else f"{ours} conflicts, told {told}"
+
+
 def differences(grammar, text):
     """What is wrong with what was told of a grammar."""
     checked, parts = Checked(grammar), parts_of(text)
@@ -223,6 +233,9 @@ def differences(grammar, text):
     lost = {int(it) for it in re.findall(r"rule (\d+) is never reduced", text)}
     if lost != checked.lost():
         return f"rules never reduced: {sorted(lost)} for {sorted(checked.lost())}"
+    wrong = wrong_counts(checked.tables, text)
+    if wrong:
+        return wrong
     counts = re.search(r"in (\d+) cells? of (\d+) kinds?", text)
     told = [int(it) for it in counts.groups()] if counts else [0, 0]
     same = sum(int(it) - 1 for it in re.findall(r"The same in (\d+) states", text))

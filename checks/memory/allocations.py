@@ -102,13 +102,19 @@ def sessions():
 def counts_right(name, it, programs, library):
     """What is wrong with a session whose lines are counted, and how many there are of each kind."""
     made, obeyed = counted(it, programs, library)
-    kinds, differs = Counter(), wrong(summed(made, it.wanted), it.wanted)
+    differs, kinds = judged(obeyed)
+    return name, wrong(summed(made, it.wanted), it.wanted) + differs, kinds
+
+
+def judged(obeyed):
+    """What is wrong with lines that were counted, and how many there are of each kind."""
+    kinds, differs = Counter(), []
     for line in obeyed:
         kind = kind_of(line)
         kinds[kind] += line.asked if kind == "steps" else not line.asked
         if line.asked and kind != "steps":
             differs.append(f"{line.asked} allocations at {line.text!r}\n")
-    return name, differs, kinds
+    return differs, kinds
 
 
 def refused_from(session, at, programs, library):

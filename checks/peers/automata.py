@@ -28,6 +28,7 @@ def by_bison(path):
     end = tree.find("grammar/rules/rule[@number='0']").findall("rhs/symbol")[-1].text
 
     def name(text):
+        """A name, where the end of the grammar is `$end`."""
         return END if text == end else text
 
     for rule in tree.iterfind("grammar/rules/rule"):

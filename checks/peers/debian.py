@@ -1,6 +1,7 @@
 """Source packages of Debian, fetched by `apt-get` over lists of its own."""
-import subprocess
 import tarfile
+
+from checks.shared.running import ran
 
 SOURCES = """Types: deb-src
 URIs: http://deb.debian.org/debian
@@ -25,6 +26,7 @@ class Apt:
         self.run("update", room)
 
     def run(self, word, folder, *more):
+        """Runs `apt-get` for a word."""
         options = {
             "Dir::Etc::sourcelist": "/dev/null",
             "Dir::Etc::sourceparts": self.room / "parts",
@@ -34,11 +36,12 @@ class Apt:
         }
         words = [it for name, value in options.items() for it in ("-o", f"{name}={value}")]
         words = ["apt-get", *words, word, *more]
-        ran = subprocess.run(words, cwd=folder, capture_output=True, text=True)
-        if ran.returncode or "Err:" in ran.stdout:
-            raise Unfetched((ran.stderr or ran.stdout).strip().splitlines()[-1])
+        made = ran(words, folder)
+        if made.returncode or "Err:" in made.stdout:
+            raise Unfetched((made.stderr or made.stdout).strip().splitlines()[-1])
 
     def folder_of(self, package):
+        """A new folder for a package."""
         folder = self.room / "source" / package
         folder.mkdir()
         return folder

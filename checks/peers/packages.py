@@ -174,9 +174,8 @@ def main(words):
     """Compares packages."""
     given, tally = given_by(words), Tally()
     with ExitStack() as stack:
-        new = tempfile.TemporaryDirectory(prefix="packages-")
-        room = Path(given.keep or stack.enter_context(new)).absolute()
-        sources = Sources(room)
+        room = given.keep or stack.enter_context(tempfile.TemporaryDirectory(prefix="packages-"))
+        sources = Sources(Path(room).absolute())
         for package in given.packages:
-            tally.add(*counted(package, sources, room, given))
+            tally.add(*counted(package, sources, sources.room, given))
     return tally.end()
