@@ -1,6 +1,7 @@
 """The gate, the quick checks, and what is counted."""
 import contextlib
 import io
+import re
 import subprocess
 import sys
 import unittest
@@ -214,6 +215,17 @@ class Commands(Planted):
         for name in commands.modules():
             named = f"$(checks) {name}" in targets or f"`{name}`" in text or f" {name} " in text
             self.assertTrue(named, f"{name} has no target and isn't in docs/ARCHITECTURE.md")
+
+    def test_order(self):
+        """A package names only those that stand above it in the page on the code."""
+        page = (TOP / "docs/ARCHITECTURE.md").read_text()
+        order = [name for name in re.findall(r"(?m)^\| `(\w+)` \|", page[page.index("## The checks") :])]
+        self.assertIn("shared", order)
+        for file in (TOP / "checks").glob("*/*.py"):
+            for name in re.findall(r"(?m)^from checks\.(\w+)", file.read_text()):
+                home = file.parent.name
+                if home != "tests":
+                    self.assertLessEqual(order.index(name), order.index(home), f"{file}: {name}")
 
     def test_programs(self):
         """A program that isn't there, or isn't used, ends a command."""
