@@ -215,7 +215,7 @@ def wrong_list(checked, told, state, token, first, others):
 
 
 def wrong_counts(tables, text):
-    """What is wrong with the counts of the first line; nothing where they are those of the tables."""
+    """What is wrong with the counts of the first line; nothing where the tables have them."""
     found = COUNTS.match(text)
     told = tuple(map(int, found.groups())) if found else (0, 0)
     ours = tables.shift_reduce, tables.reduce_reduce

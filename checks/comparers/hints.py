@@ -2,9 +2,9 @@
 
     hints [ydebug=PATH] [--seconds N] [--seed N]
 
-Grammars with precedences are drawn at random. Each hint is followed in all ways that its words allow:
-a line is put at every place, by each word that is named. A precedence that is said to settle nothing
-is taken out, which must leave all cells and their conflicts as they are. The last line is
+Grammars with precedences are drawn at random. Each hint is followed in all ways that its words
+allow: a line is put at every place, by each word that is named. A precedence that is said to settle
+nothing is taken out, which must leave all cells and their conflicts as they are. The last line is
 `N passed, M failed`: hints and warnings.
 """
 import random
@@ -57,7 +57,9 @@ def changed(draw, levels, named):
     for at, (kind, listed) in enumerate(levels, 1):
         other.precedences |= {it: (at, kind) for it in listed}
     rules = enumerate(draw.rules, 1)
-    other.rules = [(left, body, named.get(at, last), ends) for at, (left, body, last, ends) in rules]
+    other.rules = [
+        (left, body, named.get(at, last), ends) for at, (left, body, last, ends) in rules
+    ]
     return Cells(other.grammar())
 
 
@@ -175,20 +177,28 @@ def by_all(trial, needs_line):
         yield lines, {it: HIGH if it == rule else LOW for it in trial.rules}, rule
 
 
-HINTS = {
-    r"To choose, name (\S+) in a line: %left reduces, %right shifts\.": by_one,
-    r"To reduce by rule (\d+), name (\S+) in a line of %left\.": by_left,
-    r"To shift (\S+), name it in a line of %right\.": by_right,
-    r"To choose, name (\S+) and (\S+) on two lines of (.*): \S+ on the later one shifts, .*": by_two,
-    r"To shift (\S+), name it and (\S+) on two lines of (.*), \S+ on the later one\.": by_later_of_two,
-    r"To reduce by rule (\d+), name (\S+) and (\S+) on two lines of (.*), \S+ on .*": by_earlier_of_two,
-    r"To choose, name (\S+) on a line of (.*): later than (\S+) shifts .* by rule (\d+)\.": by_token_line,
-    r"To choose, name (\S+) on a line of .*: earlier than (\S+) shifts .* by rule (\d+)\.": by_rule_line,
-    r"To choose, write %nonassoc LOW above (the line of|%nonassoc) (\S+), and .* rule (\d+): .*": by_low,
-    r"To shift instead, write %right for the line of (\S+)\.": by_right_there,
-    r"To shift instead, name (\S+) on a later line than (\S+?)(?:, one of (.*))?\.": by_later,
-    r"To choose, (name \S+ on a line of %nonassoc, and )?give each of these rules a %prec: .*": by_all,
+# The words of each hint after its first ones, and what follows it.
+TO_CHOOSE = {
+    r"name (\S+) in a line: %left reduces, %right shifts\.": by_one,
+    r"name (\S+) and (\S+) on two lines of (.*): \S+ on the later one shifts, .*": by_two,
+    r"name (\S+) on a line of (.*): later than (\S+) shifts .* by rule (\d+)\.": by_token_line,
+    r"name (\S+) on a line of .*: earlier than (\S+) shifts .* by rule (\d+)\.": by_rule_line,
+    r"write %nonassoc LOW above (the line of|%nonassoc) (\S+), and .* rule (\d+): .*": by_low,
+    r"(name \S+ on a line of %nonassoc, and )?give each of these rules a %prec: .*": by_all,
 }
+TO_SHIFT = {
+    r"(\S+), name it in a line of %right\.": by_right,
+    r"(\S+), name it and (\S+) on two lines of (.*), \S+ on the later one\.": by_later_of_two,
+    r"instead, write %right for the line of (\S+)\.": by_right_there,
+    r"instead, name (\S+) on a later line than (\S+?)(?:, one of (.*))?\.": by_later,
+}
+TO_REDUCE = {
+    r"(\d+), name (\S+) in a line of %left\.": by_left,
+    r"(\d+), name (\S+) and (\S+) on two lines of (.*), \S+ on .*": by_earlier_of_two,
+}
+HINTS = {f"To choose, {words}": follow for words, follow in TO_CHOOSE.items()}
+HINTS |= {f"To shift {words}": follow for words, follow in TO_SHIFT.items()}
+HINTS |= {f"To reduce by rule {words}": follow for words, follow in TO_REDUCE.items()}
 
 
 def cases_of(trial, hint):

@@ -313,7 +313,9 @@ def compared(ydebug, folder, given):
 
 def main(words):
     """Compares texts and tokens."""
-    given, folder = asked(__doc__, words, ("ydebug",), seconds=60.0, seed=1), Path(tempfile.mkdtemp())
+    given, folder = asked(__doc__, words, ("ydebug",), seconds=60.0, seed=1), Path(
+        tempfile.mkdtemp()
+    )
     tally, counts = compared(given.programs["ydebug"], folder, given)
     if not tally.failed:
         shutil.rmtree(folder)

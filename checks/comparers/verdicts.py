@@ -94,7 +94,8 @@ def drawn(grammar, count, room, rng):
 
 def main(words):
     """Compares verdicts with sessions."""
-    given, rng, tally = asked(__doc__, words, ("verdicts", "ystep"), count=100), random.Random(1), Tally()
+    given = asked(__doc__, words, ("verdicts", "ystep"), count=100)
+    rng, tally = random.Random(1), Tally()
     programs = [given.programs[it] for it in ("verdicts", "ystep")]
     with tempfile.TemporaryDirectory() as room:
         for grammar, tokens in pairs_of_scenarios(Path(room)):

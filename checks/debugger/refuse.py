@@ -84,7 +84,7 @@ def run(ydebug, source, given, **more):
 
 
 def answers(text):
-    """The answer to each line and the place behind it; none where marks are missing."""
+    """The answer to each line and the place after it; none where marks are missing."""
     parts = re.split(rf"(?m)^{MARK} is no command; .*\n", text)
     if len(parts) % 2 == 0 or parts[-1]:
         return None
@@ -95,7 +95,7 @@ KNOWN = {}
 
 
 def usual(ydebug, source, lines):
-    """The answer to the last of some lines and the place behind it, undisturbed."""
+    """The answer to the last of some lines and the place after it, undisturbed."""
     key = source, *lines
     if key not in KNOWN:
         KNOWN[key] = answers(run(ydebug, source, spelled(lines))[1])[-1]
@@ -109,7 +109,7 @@ def position_of(place):
 
 
 def is_told(answer, place, ydebug, source, obeyed, line):
-    """The lines that lead to where the parse stands behind a refused line; none where none do."""
+    """The lines that lead to where the parse stands after a refused line; none where none do."""
     stays = [*obeyed] or ["to 0"]
     if usual(ydebug, source, [*stays, "where"])[1] == place:
         return obeyed

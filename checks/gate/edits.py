@@ -3,9 +3,9 @@
     edits [CRATE | CRATE/EDIT]..
 
 Those that the gate tries are in `crates/CRATE/must-fail`, those that it leaves out in
-`edits/CRATE`. Of each CRATE, or of all that have some in `edits/`, `rt must-fail` tries both, or one
-that is named. The copy has all crates, with what was built of those that are needed, and is removed
-again. The last line is `N passed, M failed`: crates.
+`edits/CRATE`. Of each CRATE, or of all that have some in `edits/`, `rt must-fail` tries both, or
+the one that is named. The copy has all crates, with what was built of those that are needed, and is
+removed again. The last line is `N passed, M failed`: crates.
 """
 import shutil
 import subprocess
@@ -73,7 +73,9 @@ def tried(crate, only, top):
 
 def main(words):
     """Tries the edits of some crates, or of all."""
-    meant = [word.partition("/")[::2] for word in words or sorted(it.name for it in EDITS.iterdir())]
+    meant = [
+        word.partition("/")[::2] for word in words or sorted(it.name for it in EDITS.iterdir())
+    ]
     unknown = [crate for crate, _ in meant if not (CRATES / crate).is_dir()]
     if unknown:
         sys.exit(f"edits: no crate {', '.join(unknown)}")

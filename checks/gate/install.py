@@ -3,7 +3,7 @@
     install
 
 The programs run from there, both calculators are built from what lies there, and nothing stays
-behind. It takes a C compiler and pkg-config.
+there. It takes a C compiler and pkg-config.
 """
 import subprocess
 from pathlib import Path

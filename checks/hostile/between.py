@@ -86,7 +86,7 @@ def written(text, device, programs, library):
 
 
 def after_a_read(it, cut_input, told):
-    """What is wanted of a session whose input fails, or ends, behind some bytes."""
+    """What is wanted of a session whose input fails, or ends, after some bytes."""
 
     def broken(at):
         """What is wanted where the call of a number is disturbed."""
@@ -125,13 +125,13 @@ def file_reads():
 
 
 def ends_at_quit(programs, library):
-    """Of an input that comes byte by byte nothing is read behind the newline of `quit`."""
+    """Of an input that comes byte by byte nothing is read after the newline of `quit`."""
     replies = [("step", lines("1 shift 'x'")), ("quit", ""), ("step", "")]
     it = Session("%% s : 'x' ;\n", "'x'\n", replies).scenario()
     device = Device("read", "0", at=LATER, most=1)
     made, calls = counting(device, library, partial(run, it, programs))
     read = [] if calls == len("step\nquit\n") else [f"{calls} calls of the reader\n"]
-    yield "nothing is read behind quit", wrong(made, it.wanted) + read
+    yield "nothing is read after quit", wrong(made, it.wanted) + read
 
 
 def tasks(programs, library):

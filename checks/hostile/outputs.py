@@ -98,7 +98,9 @@ def pipes(programs):
     inputs |= {"tokens": b"'x'\n", "text": b"x\n", "a.lex": SPEC}
     forms = ["list.y tokens", "conflicts far.y", "check list.y tokens", "page list.y tokens"]
     forms += ["import list.y", "tokens list.y --lex a.lex text", "lex-spec list.y", "--help"]
-    forms += ["rules list.y", "conflicts --help", "check list.y --lex a.lex text", "check list.y none"]
+    forms += [
+        "rules list.y", "conflicts --help", "check list.y --lex a.lex text", "check list.y none"
+    ]
     for form in forms:
         it = scenario(["ydebug", *form.split()], inputs, b"run\ngrammar\n")
         yield partial(unread, it, "stdout", programs)

@@ -105,7 +105,7 @@ SHORT = Session(
         ("show", lines("0 running", "stack:", "rest: 'x'", "counter: 0", "errors: 0")),
     ],
 )
-# The second error comes before three tokens are shifted behind the first, and isn't reported.
+# The second error comes before three tokens are shifted after the first, and isn't reported.
 ERROR_STEPS = [*LIST_STEPS[:9], "detect", "pop NUM", "shift error", "discard NUM", "shift ';'"]
 ERROR_STEPS += ["reduce 3", "accept"]
 ERRORS = Session(

@@ -165,13 +165,13 @@ def small_memory():
 def files(programs):
     """Runs over folders, pipes and files without an end."""
     for name in ("yacc", "ystep"):
-        behind = [] if name == "yacc" else ["tokens"]
+        more = [] if name == "yacc" else ["tokens"]
         inputs = {"tokens": b"'x'"}
-        it = refused([name, "..", *behind], f"{name}: cannot read ..", 3, inputs)
+        it = refused([name, "..", *more], f"{name}: cannot read ..", 3, inputs)
         yield partial(usual, it, programs, f"{name}: a folder as grammar")
-        it = refused([name, "/dev/zero", *behind], f"{name}: G1", 1, inputs)
+        it = refused([name, "/dev/zero", *more], f"{name}: G1", 1, inputs)
         yield partial(usual, it, programs, f"{name}: zeros without end as grammar")
-        it = refused([name, "endless", *behind], f"{name}: G1", 1, inputs)
+        it = refused([name, "endless", *more], f"{name}: G1", 1, inputs)
         yield partial(without_end, it, "endless", b" " * 4096, FILE_LIMIT + 1, programs)
     it = refused(["ystep", "one.y", ".."], "ystep: cannot read ..", 3, {"one.y": SHORT})
     yield partial(usual, it, programs, "ystep: a folder as tokens")

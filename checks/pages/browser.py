@@ -29,13 +29,16 @@ class Driver:
         raise Fault("the driver does not start")
 
     def __enter__(self):
+        """Itself."""
         return self
 
     def __exit__(self, *_):
+        """Ends the driver."""
         self.process.terminate()
         self.process.wait()
 
     def ask(self, method, path, body=None):
+        """What the driver answers to a request."""
         link = HTTPConnection("127.0.0.1", self.port, timeout=120)
         text = None if body is None else json.dumps(body)
         link.request(method, path, text, {"Content-Type": "application/json"})
@@ -62,21 +65,27 @@ class Browser:
                      width=width, height=height, deviceScaleFactor=1, mobile=width < 500)
 
     def __enter__(self):
+        """Itself."""
         return self
 
     def __exit__(self, *_):
+        """Ends the session."""
         self.driver.ask("DELETE", self.path)
 
     def post(self, path, **body):
+        """Asks for something in the session."""
         return self.driver.ask("POST", f"{self.path}/{path}", body)
 
     def command(self, name, **params):
+        """Gives the browser a command of its own protocol."""
         return self.post("goog/cdp/execute", cmd=name, params=params)
 
     def go(self, url):
+        """Opens a page."""
         self.post("url", url=url)
 
     def run(self, script, *words):
+        """What a script in the page gives."""
         return self.post("execute/sync", script=script, args=list(words))
 
     def press(self, *names):
@@ -86,6 +95,7 @@ class Browser:
         self.post("actions", actions=[{"type": "key", "id": "keys", "actions": deeds}])
 
     def size(self, width, height):
+        """Makes the window as large."""
         self.command("Emulation.setDeviceMetricsOverride",
                      width=width, height=height, deviceScaleFactor=1, mobile=width < 500)
 

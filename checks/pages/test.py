@@ -165,7 +165,7 @@ def step_through(count, what, browser, want):
     browser.press("end")
     compare(count, f"{what}, end", browser, want[-1])
     browser.press("right")
-    compare(count, f"{what}, behind the end", browser, want[-1])
+    compare(count, f"{what}, after the end", browser, want[-1])
     browser.press("home")
     compare(count, f"{what}, home", browser, want[0])
 
@@ -190,7 +190,7 @@ def look(count, what, driver, url, shots):
 
 
 def telling(want):
-    """A position that tells most: behind the last pop, or in the middle."""
+    """A position that tells most: after the last pop, or in the middle."""
     popping = [at for at, it in enumerate(want) if it["mode"] == "popping"]
     return popping[-1] if popping else len(want) // 2
 

@@ -170,7 +170,9 @@ def compare_answers(tally, words, folders, given, answers, refused=b""):
     run = [*words, f"{table}/y.tab"]
     made = ran(run, None, given, env=where)
     fits = (made.stdout, made.stderr, not made.returncode) == (answers, refused, not refused)
-    tally.take(f"{run}", [] if fits else [(made.stdout + made.stderr).decode(errors="replace") + "\n"])
+    tally.take(
+        f"{run}", [] if fits else [(made.stdout + made.stderr).decode(errors="replace") + "\n"]
+    )
 
 
 def calculators_in(folder):

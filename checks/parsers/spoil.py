@@ -5,6 +5,7 @@ ODD = b"\0\n\r \t-+0123456789adgnrst$'\xff"
 
 
 def cut(table, rng):
+    """A beginning of a table."""
     return table[: rng.randrange(len(table))]
 
 

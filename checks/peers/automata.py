@@ -81,7 +81,7 @@ def names_of(bison, yacc):
 
 
 def mapped(bison, yacc, names):
-    """The state of `yacc` for each state of bison that is reached without the end; or a difference."""
+    """The state of `yacc` for each state of bison before the end; or a difference."""
     found, waiting = {0: 0}, [0]
     for state in waiting:
         mine = {names.get(name): to for name, to in bison.ways[state].items() if name != END}
@@ -107,14 +107,14 @@ def difference(bison, yacc):
     states = mapped(bison, yacc, names)
     if isinstance(states, str):
         return states, ""
-    behind = len(bison.ways) - len(states)
+    after = len(bison.ways) - len(states)
     cut = len(yacc.ways) - len(states)
     ends = sum(END in rule for rule in bison.rules[1:])
     told = f"{len(bison.ways)} states of bison, {len(yacc.ways)} of yacc"
     told += f", {cut} of which bison cuts off" if cut else ""
-    told += f", {behind} of bison behind ends in {ends} bodies" if ends else ""
-    if behind != 1 and not ends:
-        return f"bison has {behind} states that yacc hasn't", told
+    told += f", {after} of bison after ends in {ends} bodies" if ends else ""
+    if after != 1 and not ends:
+        return f"bison has {after} states that yacc hasn't", told
     mine = {(states[at], names[name]) for at, name in bison.pairs(states)}
     theirs = yacc.pairs(set(states.values()))
     if mine != theirs:

@@ -66,7 +66,9 @@ class Comparison:
                     waiting.append(to)
         reached = set(found.values())
         self.conflicts += [
-            cell for cell, (_, counts) in self.ours.kept.items() if counts and cell[0] not in reached
+            cell for cell, (_, counts) in self.ours.kept.items() if counts and cell[
+                0
+            ] not in reached
         ]
 
     def deed(self, state, name, accepts):
@@ -75,8 +77,8 @@ class Comparison:
         if name in it.errors:
             return None
         if name in it.ways and name == self.end and not accepts:
-            behind = self.states[it.ways[name]].reductions
-            return ("r", int(behind.get(self.end) or behind["$default"]))
+            after = self.states[it.ways[name]].reductions
+            return ("r", int(after.get(self.end) or after["$default"]))
         if name in it.ways:
             return "shift"
         rule = it.reductions.get(name) or it.reductions.get("$default")

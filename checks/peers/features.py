@@ -10,8 +10,9 @@ warnings and the sanitizers; one warning fails the case. With `--peer-twice` the
 ycc's place, bison without default reductions: so it shows that a case depends on nothing that ycc
 does otherwise by design.
 
-Each file of checks/data/features/refused has to be refused with status 1, a message that names the file
-and the line below its comment `refused below: WORDS`, and has these words; no file may be written.
+Each file of checks/data/features/refused has to be refused with status 1, a message that names the
+file and the line below its comment `refused below: WORDS`, and has these words; no file may be
+written.
 
 A line of `case` has a key and words; but for `peer` each may be left out:
 

@@ -85,7 +85,9 @@ def looked_at(ydebug, yacc, folder, source):
         return made.stderr.strip(), ""
     if actions_of(source) != actions_of((folder / "imported.y").read_bytes()):
         return "other actions", ""
-    ours, theirs = counted(ydebug, folder, source), conflicts_in((folder / "bison.output").read_text(errors="replace"))
+    ours, theirs = counted(ydebug, folder, source), conflicts_in(
+        (folder / "bison.output").read_text(errors="replace")
+    )
     if ours != theirs:
         return f"{ours} conflicts are counted as bison does, {theirs} by bison", ""
     return difference(by_bison(folder / "bison.xml"), by_yacc(folder / "y.output"))

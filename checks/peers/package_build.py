@@ -48,6 +48,7 @@ class Build:
 
     @property
     def folder(self):
+        """Where the package is built."""
         return self.room / "source"
 
     def has(self, path):
@@ -61,6 +62,7 @@ class Build:
         return told.read_text().splitlines() if told.exists() else []
 
     def environment(self):
+        """The environment of a build, with the generators first."""
         kept = {name: value for name, value in os.environ.items() if name not in TAKEN_OUT}
         path = f"{self.room / 'tools'}:{kept['PATH']}"
         return {**kept, "PATH": path, "LC_ALL": "C", "PEER": str(self.peer / "source")}
@@ -82,6 +84,7 @@ class Build:
 
 
 def lay_shims(room, generators):
+    """Puts generators into a folder, by the names that builds know."""
     (room / "tools").mkdir(parents=True)
     commands = {"yacc": generators.yacc, "byacc": generators.yacc, "bison": generators.bison}
     for name, command in commands.items():
@@ -91,6 +94,7 @@ def lay_shims(room, generators):
 
 
 def last_lines(text, count=12):
+    """The last lines of a text."""
     return "\n".join(text.rstrip().splitlines()[-count:])
 
 

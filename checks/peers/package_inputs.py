@@ -61,6 +61,7 @@ class Reader:
 
     @property
     def name(self):
+        """The program with its words."""
         return " ".join([Path(self.program).name, *self.words])
 
 
@@ -158,6 +159,7 @@ class Verdict(NamedTuple):
 
     @property
     def complains(self):
+        """Whether the peer complains of the text."""
         return self.peer.status != 0 or self.peer.err != b""
 
 

@@ -14,6 +14,7 @@ def files(*patterns):
     """The texts of files, each pattern's in order of their names."""
 
     def texts(folder):
+        """The texts in a folder."""
         paths = [it for pattern in patterns for it in sorted(folder.glob(pattern))]
         return [it.read_bytes() for it in paths if it.is_file()]
 
@@ -24,6 +25,7 @@ def parts(pattern, *patterns):
     """The parts of files that a pattern finds: its first group, where it has one."""
 
     def texts(folder):
+        """The texts in a folder."""
         return [it for text in files(*patterns)(folder) for it in re.findall(pattern, text)]
 
     return texts

@@ -13,7 +13,7 @@ STATUS = re.compile(r"status=(\d+)")
 
 
 def blocks_of(text):
-    """The kind of each block, what stands behind it, the lines in it, and the line it begins at."""
+    """The kind of each block, what stands after it, the lines in it, and the line it begins at."""
     for found in BLOCK.finditer(text):
         line = text.count("\n", 0, found.start()) + 1
         yield found[1], found[2] or "", found[3].splitlines(keepends=True), line

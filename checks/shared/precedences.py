@@ -61,7 +61,7 @@ class Draw:
         return "\n".join([*lines, ""])
 
     def precedence(self, body, last, ends):
-        """That of a rule: the end has none, and it is the last token of a body that ends with it."""
+        """That of a rule: by what is named, or by the last token of the body but the end."""
         named = last or next((it for it in reversed(body) if it in self.tokens), None)
         return self.precedences.get(named)
 

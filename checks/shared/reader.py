@@ -131,7 +131,7 @@ def percent_at(text, at):
 
 
 def name_at(text, at):
-    """A name, or with the colon behind it the left side of a rule."""
+    """A name, or with the colon after it the left side of a rule."""
     found = NAME.match(text, at)
     colon = GAP.match(text, found.end()).end()
     if text.startswith(b":", colon):

@@ -51,7 +51,9 @@ def reached(direct):
 
 def growing(rules):
     """The nonterminals without a longest sentence: those that lead back to themselves, and more."""
-    inner = {left: {s for body in bodies for s in body} & rules.keys() for left, bodies in rules.items()}
+    inner = {
+        left: {s for body in bodies for s in body} & rules.keys() for left, bodies in rules.items()
+    }
     reach = reached(inner)
     loops = {s for s in rules if s in reach[s]}
     return loops | {s for s in rules if reach[s] & loops}

@@ -13,7 +13,7 @@ def shown(value):
 
 
 def spelled(symbol):
-    """The printed name of a symbol of the reader: the bytes of a name, or the value of a literal."""
+    """The printed name of a symbol of the reader: a name in bytes, or a literal's value."""
     return symbol.decode() if isinstance(symbol, bytes) else shown(symbol)
 
 

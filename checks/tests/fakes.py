@@ -30,7 +30,7 @@ def ended(out="", message="", status=0):
 
 
 def grammar_in(text):
-    """The grammar of a file whose tokens are declared first, or are literals, without precedences."""
+    """The grammar of a file without precedences, whose tokens are declared or literals."""
     file = File(lexemes_of(text))
     used = [it for rule in file.rules for it in rule.symbols() if isinstance(it, int)]
     tokens = list(dict.fromkeys([*file.listed, *used]))

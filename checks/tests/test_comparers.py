@@ -65,7 +65,9 @@ class Programs(Planted):
         self.assertTrue(self.is_right())
         changes = [{"table": lambda it: it.replace(" s ", " r ", 1)}, {"status": 1}]
         changes += [{"table": lambda it: it.replace("\nend", "", 1)}, {"message": swapped}]
-        changes += [{"message": lambda _: ""}, {"table": lambda it: it.replace("states ", "states 1")}]
+        changes += [
+            {"message": lambda _: ""}, {"table": lambda it: it.replace("states ", "states 1")}
+        ]
         changes += [{"replies": lambda it: it + "99 shift X\n"}]
         changes += [{"replies": lambda it: it.split("\n", 1)[1]}]
         changes += [{"replies": lambda it: it.replace("running", "popping")}]
@@ -134,7 +136,8 @@ class Hints(Planted):
 
     def judged(self, hint):
         """Whether each hint of a report holds."""
-        report = f"conflict 1: state 4 on A: shift, to state 3\n  reduce  rule 1 (line 3)\n  {hint}\n"
+        report = "conflict 1: state 4 on A: shift, to state 3\n  reduce  rule 1 (line 3)\n"
+        report += f"  {hint}\n"
         return [holds for _, _, holds in hints.judged(self.draw, report)]
 
     def test_each_hint(self):
@@ -203,7 +206,9 @@ class Texts(Planted):
 
     def test_each_change(self):
         """Another column, token, caret, status; a token less; a session that fails."""
-        pairs = [("2:3", "2:4"), ("NUM", "'+'"), ("$end, ", ""), ("      ^", "     ^"), ("2 3 +", "2 3")]
+        pairs = [
+            ("2:3", "2:4"), ("NUM", "'+'"), ("$end, ", ""), ("      ^", "     ^"), ("2 3 +", "2 3")
+        ]
         right = texts.answer(self.tables, self.spec, b"1 +\n2 3 +\n")
         for wrong in changed(right, *pairs):
             self.assertTrue(self.fault(lambda _, wrong=wrong: wrong), wrong)
@@ -213,8 +218,8 @@ class Texts(Planted):
     def test_spoiled(self):
         """A refusal by a name that isn't one, and a status that isn't one, are faults."""
         good = "text:1:1: no line of the SPEC matches here: !\n"
-        for answer, found in (((1, good, ""), False), ((1, "it fails\n", ""), True), ((2, good, ""), True),
-                              ((1, "", ""), True), ((1, good, good), True)):
+        wrong = (1, "it fails\n", ""), (2, good, ""), (1, "", ""), (1, good, good)
+        for answer, found in (((1, good, ""), False), *((it, True) for it in wrong)):
             (self.room / "spec").write_text(self.spec.text())
             with mock.patch.object(texts, "run", return_value=answer):
                 fault = texts.fault_of_spoiled(self.room, "ydebug", random.Random(1), Counter())

@@ -127,7 +127,9 @@ class FaultWords(Planted):
         text, program = FAULTS.read_text(), words.FILES[0].read_text()
         rows = [found[0] for found in words.ROW.finditer(text) if words.CODE.fullmatch(found[1])]
         pairs = [(rows[0] + "\n", ""), (rows[0], rows[0].replace("|", "|  no", 2))]
-        pairs += [(f"{rows[0]}\n{rows[1]}", f"{rows[1]}\n{rows[0]}"), (rows[2], rows[2] + "\n" + rows[2])]
+        pairs += [
+            (f"{rows[0]}\n{rows[1]}", f"{rows[1]}\n{rows[0]}"), (rows[2], rows[2] + "\n" + rows[2])
+        ]
 
         def look(document):
             """What differs from the program."""
@@ -143,7 +145,9 @@ class Trace(Planted):
 
     def test_each_difference(self):
         """A step less, another step, a step too many, in either text."""
-        trace_of, replies = ((trace.RECOVERY / it).read_text() for it in ("trace", "session/stdout"))
+        trace_of, replies = (
+            (trace.RECOVERY / it).read_text() for it in ("trace", "session/stdout")
+        )
         steps = trace.steps_of_replies(replies)
         shift = next(it for it in steps if it.startswith("shift"))
         pairs = [(f" {shift}\n", " reduce 99\n"), (f" {shift}\n", f" {shift}\n9 {shift}\n")]
@@ -219,7 +223,9 @@ class Commands(Planted):
     def test_order(self):
         """A package names only those that stand above it in the page on the code."""
         page = (TOP / "docs/ARCHITECTURE.md").read_text()
-        order = [name for name in re.findall(r"(?m)^\| `(\w+)` \|", page[page.index("## The checks") :])]
+        order = [
+            name for name in re.findall(r"(?m)^\| `(\w+)` \|", page[page.index("## The checks") :])
+        ]
         self.assertIn("shared", order)
         for file in (TOP / "checks").glob("*/*.py"):
             for name in re.findall(r"(?m)^from checks\.(\w+)", file.read_text()):

@@ -80,7 +80,11 @@ class Between(Hostile):
             device = Device("write", "out", how="fail", most=0)
             return all_of(between.written(text, device, self.programs(program), library))
 
-        pairs = [("sys.exit(3)", "sys.exit(0)"), ("cannot write", "can not write"), ("sys.exit(3)", "pass")]
+        pairs = [
+            ("sys.exit(3)", "sys.exit(0)"),
+            ("cannot write", "can not write"),
+            ("sys.exit(3)", "pass"),
+        ]
         pairs += [("    sys.stderr.write", "    os.write(out, text)\n    sys.stderr.write")]
         pairs += [("text[2:]", "text[3:]")]
         self.each_caught(look, COPY, *changed(COPY, *pairs))
@@ -90,7 +94,9 @@ class Between(Hostile):
     def test_beginnings(self):
         """What isn't a beginning, or is one of another length."""
         part = Beginning(b"abc", 1, 2)
-        for text, fits in ((b"a", True), (b"ab", True), (b"abc", False), (b"", False), (b"b", False)):
+        for text, fits in (
+            (b"a", True), (b"ab", True), (b"abc", False), (b"", False), (b"b", False)
+        ):
             self.assertEqual(part.fits(text), fits)
         self.assertFalse(part.fits(None))
 
@@ -168,7 +174,9 @@ except OSError:
     def test_disks(self):
         """A file that is cut, one that is left beside it, a full disk that isn't said."""
         told = {"message": b"p: cannot write out\n", "status": b"3\n"}
-        pairs = [('"new", os.O_W', '"out", os.O_W'), ("    os.unlink", "    #"), ("sys.exit(3)", "pass")]
+        pairs = [
+            ('"new", os.O_W', '"out", os.O_W'), ("    os.unlink", "    #"), ("sys.exit(3)", "pass")
+        ]
         pairs += [("cannot write", "wrote")]
 
         def look(text):
@@ -206,9 +214,14 @@ except OSError:
 
     def test_spent(self):
         """Kinds that are neither told nor counted."""
-        right = "dense.y: 1 shift/reduce, 0 reduce/reduce, in 3 cells of 3 kinds\nconflict 1: state\n"
+        right = "dense.y: 1 shift/reduce, 0 reduce/reduce, in 3 cells of 3 kinds\n"
+        right += "conflict 1: state\n"
         right += "2 kinds more; the search for their lists of tokens would take too long:\n"
-        pairs = [("of 3 kinds", "of 4 kinds"), ("2 kinds more", "1 kinds more"), ("conflict 1", "conflict")]
+        pairs = [
+            ("of 3 kinds", "of 4 kinds"),
+            ("2 kinds more", "1 kinds more"),
+            ("conflict 1", "conflict"),
+        ]
 
         def look(text):
             """What is wrong with a report."""

@@ -35,9 +35,13 @@ class Ends(Planted):
         wrong = [{**refused, "status": it} for it in (b"0\n", b"1\n", b"signal 11\n")]
         wrong += [{**refused, "stdout": b"x"}, {**refused, "message": b"ystep: no memory\n"}]
         wrong += [{**refused, "left/y.tab": b"other\n"}, {**refused, "left/more": b"one"}]
-        wrong += [{**refused, "left/g.y": b"%"}, {n: t for n, t in refused.items() if n != "left/g.y"}]
+        wrong += [
+            {**refused, "left/g.y": b"%"}, {n: t for n, t in refused.items() if n != "left/g.y"}
+        ]
         self.each_caught(self.way, refused, *wrong)
-        self.each_caught(self.way, {**refused, "left/y.tab": b"one\n"}, {**refused, "left/y.tab": b"two"})
+        self.each_caught(
+            self.way, {**refused, "left/y.tab": b"one\n"}, {**refused, "left/y.tab": b"two"}
+        )
 
 
 # A session that replies by a list, as `ystep` does.
@@ -64,7 +68,9 @@ class Sessions(Planted):
             """Whether a text of replies is wrong."""
             return refuse.way_of({**usual, "stdout": text.encode()}, it, programs) is None
 
-        self.each_caught(look, lines, lines[:-1], lines + "no memory\n", lines.replace("2 r", "3 r", 1))
+        self.each_caught(
+            look, lines, lines[:-1], lines + "no memory\n", lines.replace("2 r", "3 r", 1)
+        )
         none = "no memory\nat start\n"
         self.each_caught(look, lines, lines.replace("1 shift 'x'\n", none, 1))
         other = {**usual, "stdout": b"no memory\n", "status": b"1\n"}
@@ -126,7 +132,9 @@ class Verdicts(Planted):
         wrong += (said[: said.index(b"b:")], b"", b"3\n"), (usual, b"", b"3\n")
         self.each_caught(look, (said, b"", b"3\n"), *wrong)
         begun = usual[: usual.index(b"b:")]
-        wrong = (begun, b"ydebug: no memory\n", b"1\n"), (b"c: good\n", b"ydebug: no memory\n", b"3\n")
+        wrong = (begun, b"ydebug: no memory\n", b"1\n"), (
+            b"c: good\n", b"ydebug: no memory\n", b"3\n"
+        )
         self.each_caught(look, (begun, b"ydebug: no memory\n", b"3\n"), *wrong)
 
 
@@ -137,7 +145,9 @@ class Allocations(Planted):
         """Only steps and edits may ask."""
         quiet = [Line(b"show\n", 0, b"0 running\n"), Line(b"back 1\n", 0, b"0 undo shift A\n")]
         quiet += [Line(b"to 0\n", 0, b"0 undo shift A\n"), Line(b"frob\n", 0, b"unknown command\n")]
-        quiet += [Line(b"tree\n", 0, b""), Line(b"unwind\n", 0, b""), Line(b"step\n", 7, b"1 shift A\n")]
+        quiet += [
+            Line(b"tree\n", 0, b""), Line(b"unwind\n", 0, b""), Line(b"step\n", 7, b"1 shift A\n")
+        ]
         quiet += [Line(b"to 1\n", 7, b"1 shift A\n"), Line(b"insert A\n", 2, b"2 insert A\n")]
         wrong = [[Line(it.text, 1, it.reply)] for it in quiet if not it.asked]
         self.each_caught(lambda lines: allocations.judged(lines)[0], quiet, *wrong)
@@ -162,8 +172,14 @@ class Debugger(Planted):
 
     def fault(self, answer, place, marks=MARKED):
         """What is wrong with an answer to `step` and the place after it."""
-        known = {("step",): (STEP, "1  x\n"), ("to 0", "where"): ("", "0  x\n"), ("to 1",): (STEP, "1  x\n")}
-        with mock.patch.object(debugger, "usual", lambda _, __, lines: known.get((*lines,), ("", "?"))):
+        known = {
+            ("step",): (STEP, "1  x\n"),
+            ("to 0", "where"): ("", "0  x\n"),
+            ("to 1",): (STEP, "1  x\n"),
+        }
+        with mock.patch.object(
+            debugger, "usual", lambda _, __, lines: known.get((*lines,), ("", "?"))
+        ):
             return debugger.fault_of(f"{answer}{MARKED}{place}{marks}", "ydebug", "here", ["step"])
 
     def test_each_answer(self):
@@ -204,7 +220,9 @@ class Babble(Planted):
     def test_each_fault(self):
         """No answer, no mark, a message, a status, a signal."""
         pairs = [('print("an answer")', "pass"), ('print(f"{line}', 'print(f"")  #')]
-        pairs += [('print("an answer")', 'sys.exit(1)'), ('print("an answer")', 'sys.stderr.write("x")')]
+        pairs += [
+            ('print("an answer")', 'sys.exit(1)'), ('print("an answer")', 'sys.stderr.write("x")')
+        ]
         pairs += [('print("an answer")', "os.kill(os.getpid(), 11)"), ("#", "##")]
         numbers = iter(range(99))
 

@@ -47,8 +47,9 @@ class Pages(Planted):
         wanted = [{**WANTED, "position": at} for at in range(3)]
         passed, failed = self.passed(wanted, wanted)
         self.assertEqual((passed > 0, failed), (True, 0))
-        for part, other in (("position", 9), ("mode", "failed"), ("errors", "3"), ("counter", "0"),
-                            ("stack", ["s", "NUM"]), ("rest", ["NUM"]), ("tree", WANTED["tree"][:-1])):
+        others = {"position": 9, "mode": "failed", "errors": "3", "counter": "0", "rest": ["NUM"]}
+        others |= {"stack": ["s", "NUM"], "tree": WANTED["tree"][:-1]}
+        for part, other in others.items():
             shown = copy.deepcopy(wanted)
             shown[1][part] = other
             self.assertGreater(self.passed(shown, wanted)[1], 0, part)
@@ -56,7 +57,9 @@ class Pages(Planted):
 
     def test_lint(self):
         """A line that is too long, ends in a blank, or runs what comes from a file."""
-        for line, failed in (("let a = 1;", 0), ("x" * 101, 1), ("let a; ", 1), ("e.innerHTML = a;", 1)):
+        for line, failed in (
+            ("let a = 1;", 0), ("x" * 101, 1), ("let a; ", 1), ("e.innerHTML = a;", 1)
+        ):
             made = self.counted(lambda count, line=line: test.lint_text(count, "it", line))
             self.assertEqual(made[1], failed, line)
 
@@ -64,8 +67,8 @@ class Pages(Planted):
         """A page with a byte before its data, none after, a < in it, or too few positions."""
         right = parts.before() + json.dumps({"record": {"kinds": "s"}}) + parts.after()
         wanted = [WANTED, WANTED]
-        for text, failed in ((right, False), ("x" + right, True), (right[:-1], True),
-                             (right.replace('"s"', '"<"'), True), (right.replace('"s"', '"ss"'), True)):
+        wrong = "x" + right, right[:-1], right.replace('"s"', '"<"'), right.replace('"s"', '"ss"')
+        for text, failed in ((right, False), *((it, True) for it in wrong)):
             self.assertEqual(self.example(text, wanted)[1] > 0, failed, text[-80:])
 
     def example(self, text, wanted):

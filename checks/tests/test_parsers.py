@@ -26,7 +26,9 @@ class Parsers(Planted):
 
     def test_each_step(self):
         """Another step, a step too many, too few, another status, a message."""
-        pairs = [("r 1", "r 0"), ("s 120", "s 256"), ("a 0\n", ""), ("r 1\n", "r 1\nr 1\n"), ("a", "f")]
+        pairs = [
+            ("r 1", "r 0"), ("s 120", "s 256"), ("a 0\n", ""), ("r 1\n", "r 1\nr 1\n"), ("a", "f")
+        ]
         self.each_caught(self.fault, MADE, *changed(MADE, *pairs), "")
         self.assertTrue(self.fault(MADE, status=1))
         self.assertTrue(self.fault(MADE, message="runtime error: index 9 out of bounds"))
@@ -50,7 +52,9 @@ class Parsers(Planted):
     def test_compilers(self):
         """A compiler that complains fails the build."""
         for status, message, wrong in ((0, b"", False), (1, b"", True), (0, b"warning: it", True)):
-            with mock.patch.object(parsers.running, "ran", return_value=ended(b"", message, status)):
+            with mock.patch.object(
+                parsers.running, "ran", return_value=ended(b"", message, status)
+            ):
                 job = parsers.ran, ["cc"], "the compiler"
                 self.assertEqual(bool(parsers.wrong(job)), wrong)
 
@@ -66,7 +70,7 @@ class Drivers(Planted):
         self.addCleanup(kept.stop)
 
     def test_steps(self):
-        """The driver in Python makes the steps of `ystep`; by a table with a wrong cell it doesn't."""
+        """The driver in Python makes the steps of `ystep`, but by a table with a wrong cell."""
         self.assertEqual(drivers.steps_of_python(TABLE, ["'x'"], 99), (STEPS, "accepted"))
         for table in changed(TABLE.decode(), ("d 1 1", "d 1 0"), ("a 0 2 s 1", "a 0 0 s 1")):
             made = drivers.steps_of_python(table.encode(), ["'x'"], 99)
@@ -76,10 +80,14 @@ class Drivers(Planted):
         """Another step, a step too many, an answer too few, in one of two drivers."""
         right = {"plain": [(STEPS, "accepted")], "python": [(STEPS, "accepted")]}
         self.assertEqual(self.counted(drivers.compare_steps, [CASE], right), (2, 0))
-        for steps in (*changed(STEPS, ("reduce 1", "reduce 0"), ("3 accept\n", "")), STEPS + "4 fail\n"):
+        for steps in (
+            *changed(STEPS, ("reduce 1", "reduce 0"), ("3 accept\n", "")), STEPS + "4 fail\n"
+        ):
             wrong = {**right, "python": [(steps, "accepted")]}
             self.assertEqual(self.counted(drivers.compare_steps, [CASE], wrong), (1, 1))
-        self.assertEqual(self.counted(drivers.compare_steps, [CASE], {**right, "plain": []}), (1, 1))
+        self.assertEqual(
+            self.counted(drivers.compare_steps, [CASE], {**right, "plain": []}), (1, 1)
+        )
 
     def test_digests(self):
         """Another digest, and none."""
@@ -101,13 +109,17 @@ class Drivers(Planted):
             return drivers.wrong_answer(cut, *it)
 
         early = "", "line 1: no table"
-        self.each_caught(look, right, (early, early, True), (early, right[0], False), (right[0], early, True))
+        self.each_caught(
+            look, right, (early, early, True), (early, right[0], False), (right[0], early, True)
+        )
 
     def test_in_c(self):
         """A driver in C that ends otherwise, or complains, ends the check."""
         text = f"sys.stdin.read(); sys.stdout.write({STEPS!r} + '== accepted\\n')\n"
         path = self.program("good", text)
-        self.assertEqual(drivers.steps_of_c(path, [(TABLE, ["'x'"], "")], 99), [(STEPS, "accepted")])
+        self.assertEqual(
+            drivers.steps_of_c(path, [(TABLE, ["'x'"], "")], 99), [(STEPS, "accepted")]
+        )
         for more in ("sys.exit(1)", "sys.stderr.write('runtime error')"):
             with self.assertRaises(SystemExit):
                 drivers.steps_of_c(self.program("bad", f"{text}{more}\n"), [(TABLE, [], "")], 99)
@@ -116,7 +128,9 @@ class Drivers(Planted):
         """A calculator that answers otherwise, or takes a table that isn't its own."""
         text = "sys.stdin.read(); print('7')\n"
         words, folders = [self.program("calculator", text)], ("names", "table")
-        right = self.counted(lambda tally: drivers.compare_answers(tally, words, folders, b"", b"7\n"))
+        right = self.counted(
+            lambda tally: drivers.compare_answers(tally, words, folders, b"", b"7\n")
+        )
         self.assertEqual(right, (1, 0))
         for answers, refused in ((b"8\n", b""), (b"7\n", b"another table\n"), (b"", drivers.OTHER)):
             more = words, folders, b"", answers, refused

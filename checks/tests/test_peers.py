@@ -89,14 +89,19 @@ class Cells(Planted):
             return lambda answer: cells.judged(wanted, *answer)
 
         swapped = stays.replace(": 2", ": 9").replace(": 1", ": 2")
-        self.each_caught(look((False, True, (2, 1))), (0, stays), (0, may_not), (1, stays), (0, swapped))
+        self.each_caught(
+            look((False, True, (2, 1))), (0, stays), (0, may_not), (1, stays), (0, swapped)
+        )
         self.each_caught(look((False, False, (2, 1))), (0, may_not), (0, stays), (2, may_not))
         refused = 1, "g.y:3: refused: a cell\n"
-        self.each_caught(look((True, True, (2, 1))), refused, (0, refused[1]), (1, "no\n"), (1, stays))
+        self.each_caught(
+            look((True, True, (2, 1))), refused, (0, refused[1]), (1, "no\n"), (1, stays)
+        )
 
     def test_counts(self):
         """The counts of a report are those of its lines."""
-        text = "State 3 conflicts: 2 shift/reduce, 1 reduce/reduce\nState 5 conflicts: 4 shift/reduce\n"
+        text = "State 3 conflicts: 2 shift/reduce, 1 reduce/reduce\n"
+        text += "State 5 conflicts: 4 shift/reduce\n"
         self.assertEqual(bison.conflicts_in(text), (6, 1))
         self.assertEqual(bison.conflicts_in(text.replace("4 s", "5 s")), (7, 1))
         self.assertEqual(bison.said_counts("", 7), (7, 7))
@@ -128,12 +133,15 @@ class Imports(Planted):
         wrong = [(ours[0][:2], *ours[1:]), ([*ours[0][:2], ["s", "B"]], *ours[1:])]
         wrong += [(ours[0], [{"A": 1, "s": 3}, *ours[1][1:]], ours[2])]
         wrong += [(ours[0], [{"A": 1}, *ours[1][1:]], ours[2])]
-        wrong += [(*ours[:2], [set(), set(), set(), set()]), (*ours[:2], [{"A"}, {"A"}, set(), set()])]
+        wrong += [
+            (*ours[:2], [set(), set(), set(), set()]), (*ours[:2], [{"A"}, {"A"}, set(), set()])
+        ]
         self.each_caught(look, ours, *wrong)
 
     def test_actions(self):
         """Actions that an import changed: a text, an order, one too few."""
-        text = b"%union { int i; }\n%%\ns : A { one('}'); } B { two(\"{\"); /* } */ } ;\n%%\n{ rest }"
+        text = b"%union { int i; }\n%%\ns : A { one('}'); } B { two(\"{\"); /* } */ } ;\n"
+        text += b"%%\n{ rest }"
         wanted = [b"{ one('}'); }", b'{ two("{"); /* } */ }']
         self.assertEqual(imports.actions_of(text), wanted)
         for other in (text.replace(b"one", b"uno"), text.replace(b"{ one('}'); }", b"")):
@@ -142,7 +150,9 @@ class Imports(Planted):
     def look(self, change):
         """What is found of a grammar, with a change of what programs do."""
         source = b"%%\ns : 'x' { it } ;\n"
-        import_of = {"text": source, "said": "", "counts": (0, 0), "difference": (None, "told"), **change}
+        import_of = {
+            "text": source, "said": "", "counts": (0, 0), "difference": (None, "told"), **change
+        }
 
         def ran(words, folder, *_):
             """A run of `ydebug`, bison or `yacc`."""
@@ -174,7 +184,9 @@ class Features(Planted):
     def test_runs(self):
         """Another output, message or status, an output that is missing."""
         right = b"1\n", b"out\n", b"", 0
-        for made in ((b"1\n", b"other\n", b"", 0), (b"1\n", b"out\n", b"x", 0), (b"1\n", b"out\n", b"", 1)):
+        for made in (
+            (b"1\n", b"other\n", b"", 0), (b"1\n", b"out\n", b"x", 0), (b"1\n", b"out\n", b"", 1)
+        ):
             self.assertTrue(self.look(features.compare_results, {"gcc": [right]}, {"gcc": [made]}))
         self.assertFalse(self.look(features.compare_results, {"gcc": [right]}, {"gcc": [right]}))
         silent = {"gcc": [(b"1\n", b"", b"", 0)]}
@@ -208,7 +220,9 @@ class Features(Planted):
         (self.room / "grammar.y").write_text("")
         case = features.Case(self.room, {}, "bison", "c90")
         maker = features.Maker(["ycc"], True)
-        for status, said, wrong in ((0, b"", False), (1, b"", True), (0, b"a.c:1:2: warning: it\n", True)):
+        for status, said, wrong in (
+            (0, b"", False), (1, b"", True), (0, b"a.c:1:2: warning: it\n", True)
+        ):
             with mock.patch.object(features, "run", return_value=ended(b"", said, status)):
                 found = self.look(features.compiled, case, maker, "gcc", self.room)
             self.assertEqual(bool(found), wrong)
@@ -241,8 +255,8 @@ class Packages(Planted):
         """Another output, message or status; what differs by memory is told apart."""
         peer, case = Outcome(0, b"out", b""), Case("text 0", b"text", 1)
         reader = mock.Mock(designs=())
-        for ours, word in ((peer, "alike"), (Outcome(1, b"out", b""), "differ"),
-                           (Outcome(0, b"out", b"err"), "differ"), (Outcome(0, b"", b""), "differ")):
+        others = Outcome(1, b"out", b""), Outcome(0, b"out", b"err"), Outcome(0, b"", b"")
+        for ours, word in ((peer, "alike"), *((it, "differ") for it in others)):
             outcomes = lambda _, build, *__, ours=ours, **___: ours if build == "ours" else peer
             with mock.patch.object(package_inputs, "outcome", outcomes):
                 made = package_inputs.judged(reader, "ours", "peer", case)

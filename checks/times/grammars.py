@@ -9,6 +9,7 @@ import sys
 
 
 def declared(words, n):
+    """The declarations: N tokens by each word, and one more."""
     return "%token LAST" + "".join(f" {word}{k}" for word in words for k in range(n)) + "\n%%\n"
 
 
@@ -19,9 +20,10 @@ def levels(n):
 
 
 def statements(n):
-    """N kinds of statements, each with a word and a nonterminal of its own, over one kind of expression."""
+    """N kinds of statements, each with a word and a nonterminal, over one kind of expression."""
     rules = "".join(f"statement : kind{k} ;\nkind{k} : WORD{k} e ';' ;\n" for k in range(n))
-    return declared(["WORD"], n) + "list : | list statement ;\n" + rules + "e : e '+' 'n' | 'n' | '(' e ')' ;\n"
+    ends = "list : | list statement ;\n", "e : e '+' 'n' | 'n' | '(' e ')' ;\n"
+    return declared(["WORD"], n) + ends[0] + rules + ends[1]
 
 
 def options(n):
@@ -49,38 +51,50 @@ def ring_mixed(n):
 
 
 def limit(n):
-    """N bodies of 255 symbols that begin with different tokens, and one of 62: with 64 of them 16,384 states."""
+    """N bodies of 255 symbols that begin with different tokens, and one of 62: 64 of them have
+    16,384 states."""
     bodies = "".join(f"s : WORD{k}" + " 'x'" * 254 + " ;\n" for k in range(n))
     return declared(["WORD"], n) + bodies + "s : LAST" + " 'x'" * 61 + " ;\n"
 
 
 def symbols(n):
-    """N nonterminals with four rules each, and seven rules more: with 2,046 of them 4,096 symbols and 8,192 rules."""
+    """N nonterminals with four rules each, and seven rules more: with 2,046 of them 4,096 symbols
+    and 8,192 rules."""
     first = "n0 : n0 | n0 n0 | n0 n0 n0 | n0 LAST | LAST n0 | LAST LAST | LAST ;\n"
-    rules = (f"n{k} : WORD{k} n{k // 2} | WORD{k} WORD{k // 2} | n{k // 2} | WORD{k // 2} ;\n" for k in range(n))
+    rules = (
+        f"n{k} : WORD{k} n{k // 2} | WORD{k} WORD{k // 2} | n{k // 2} | WORD{k // 2} ;\n"
+        for k in range(n)
+    )
     return declared(["WORD"], n) + first + "".join(rules)
 
 
 def text(n):
     """N nonterminals with actions and comments, some 256 bytes each."""
-    rules = (f"nonterminal_number_{k:04} : 'x' /* {k:>83} */ {{ action({k:>120}); }} ;\n" for k in range(n))
+    rules = (
+        f"nonterminal_number_{k:04} : 'x' /* {k:>83} */ {{ action({k:>120}); }} ;\n"
+        for k in range(n)
+    )
     return "%%\n" + "".join(rules)
 
 
 def queries(n):
-    """N kinds of statements as a query language has them: an expression of 20 levels and 100 rules, and names of 61, stand in
-    hundreds of rules, and so after the dot in hundreds of items of hundreds of states. With 250 kinds some 3,000 rules, 6,000
-    states, 500 tokens and 400,000 items."""
+    """N kinds of statements as a query language has them: an expression of 20 levels and 100 rules,
+    and names of 61, stand in hundreds of rules, and so after the dot in hundreds of items of
+    hundreds of states. With 250 kinds some 3,000 rules, 6,000 states, 500 tokens, 400,000 items."""
     kinds = [f"DO{k}" for k in range(n)]
     modes = [f"MODE{k}" for k in range((n + 1) // 2)]
     ops = [f"OP{k}" for k in range(20)]
     calls = [f"CALL{k}" for k in range(36)]
     words = [f"WORD{k}" for k in range(60)]
-    lines = ["%token NAME NUMBER TEXT OF TO BY AS WITH IN END", "%token " + " ".join(kinds + modes + calls + words)]
+    lines = [
+        "%token NAME NUMBER TEXT OF TO BY AS WITH IN END",
+        "%token " + " ".join(kinds + modes + calls + words),
+    ]
     lines += [f"%left {op}" for op in ops]
     lines += ["%right NOT", "%%", "file : | file statement ';' ;"]
     lines += [f"e : e {op} e ;" for op in ops]
-    lines += ["e : NOT e | '(' e ')' | name | NUMBER | TEXT | name '.' name | name '(' ')' | name '(' es ')' ;"]
+    calls_of = "name '.' name | name '(' ')' | name '(' es ')'"
+    lines += [f"e : NOT e | '(' e ')' | name | NUMBER | TEXT | {calls_of} ;"]
     lines += [f"e : {call} '(' e ')' | {call} '(' e ',' e ')' ;" for call in calls]
     lines += ["es : e | es ',' e ;", "name : NAME | " + " | ".join(words) + " ;"]
     for k, kind in enumerate(kinds):
@@ -94,11 +108,12 @@ def queries(n):
 
 
 def rules_of(left, bodies):
+    """The rules of a left side."""
     return f"{left} : " + " | ".join(bodies) + " ;\n"
 
 
 def zigzag(n):
-    """Unit rules up and down a chain of N nonterminals, each with a token behind it, in 125 states."""
+    """Unit rules up and down a chain of N nonterminals, each with a token after it: 125 states."""
     ends = [[f"n{j}" for j in (k + 1, k - 1) if 0 <= j < n] + [f"n{k} WORD{k}"] for k in range(n)]
     ends[-1].append("LAST")
     start = rules_of("s", ["LAST " + "LAST n0 " * 125])
@@ -106,7 +121,8 @@ def zigzag(n):
 
 
 def web(n):
-    """N nullable nonterminals with three unit rules each on average, drawn at random, 250 of them in one body."""
+    """N nullable nonterminals with three unit rules each on average, drawn at random, 250 of them
+    in one body."""
     drawn = random.Random(1)
     bodies = [[""] for _ in range(n)]
     for _ in range(3 * n):
@@ -133,7 +149,8 @@ def one_empty(n):
 
 
 def nullable(n):
-    """N bodies of 250 symbols for each of eight nonterminals, where each symbol can be left out, in 2,000 states, and 4,000 tokens."""
+    """N bodies of 250 symbols for each of eight nonterminals, where each symbol can be left out, in
+    2,000 states, and 4,000 tokens."""
     bodies = [" ".join([f"n{k}"] + ["a"] * 249) for k in range(8) for _ in range(n)]
     rules = rules_of("s", ["a"]) + rules_of("a", [""] + bodies)
     return declared(["WORD"], 4000) + rules + "".join(rules_of(f"n{k}", [""]) for k in range(8))
@@ -146,10 +163,23 @@ def equals(n):
 
 
 KINDS = {
-    "levels": levels, "statements": statements, "options": options, "ring": ring, "ring-back": ring_back,
-    "ring-mixed": ring_mixed, "limit": limit, "symbols": symbols, "text": text, "queries": queries,
-    "zigzag": zigzag, "web": web, "empties": empties, "operators": operators, "one-empty": one_empty,
-    "nullable": nullable, "equals": equals,
+    "levels": levels,
+    "statements": statements,
+    "options": options,
+    "ring": ring,
+    "ring-back": ring_back,
+    "ring-mixed": ring_mixed,
+    "limit": limit,
+    "symbols": symbols,
+    "text": text,
+    "queries": queries,
+    "zigzag": zigzag,
+    "web": web,
+    "empties": empties,
+    "operators": operators,
+    "one-empty": one_empty,
+    "nullable": nullable,
+    "equals": equals,
 }
 
 

@@ -33,7 +33,8 @@ CALCULATOR = """%token NUM
 %right SIGN
 %%
 lines : | lines sum ';' ;
-sum : NUM | sum '+' sum | sum '-' sum | sum '*' sum | sum '/' sum | '-' sum %prec SIGN | '(' sum ')' ;
+sum : NUM | sum '+' sum | sum '-' sum | sum '*' sum | sum '/' sum
+    | '-' sum %prec SIGN | '(' sum ')' ;
 """
 
 HEAD = """%{
