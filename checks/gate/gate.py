@@ -8,6 +8,7 @@ them took, what was skipped, and how much of the time other machines took away.
 """
 import os
 import resource
+import shutil
 import subprocess
 import sys
 import time
@@ -39,6 +40,8 @@ RUNNERS = (
     ["cells", SECONDS],
     ["pages"],
 )
+# What some of them need beside a C compiler; without it they are skipped.
+NEEDS = {"cells": "bison"}
 SKIPPED = "skipped: "
 
 
@@ -107,6 +110,15 @@ def streamed(name, words):
     return Ran(name, last, running.returncode, skipped, spent() - before)
 
 
+def result_of(name, words):
+    """What comes of a runner, or that it is skipped."""
+    need = NEEDS.get(name)
+    if need and not shutil.which(need):
+        line = f"{SKIPPED}there is no {need}\n"
+        return Ran(name, "0 passed, 0 failed\n", 0, [f"{name}: {line}"], 0.0)
+    return streamed(name, words)
+
+
 def stolen():
     """Seconds that a virtual machine's processors were kept from it, 0 where nobody says."""
     words = words_of("/proc/stat")
@@ -142,7 +154,7 @@ def run(quick, runners):
     if is_quickly_wrong(quick):
         tally.add(0, 1)
         return tally.end()
-    results = [streamed(*it) for it in runners]
+    results = [result_of(*it) for it in runners]
     for it in results:
         tally.add(*it.counted())
     tell_runners(results)

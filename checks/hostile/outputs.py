@@ -11,7 +11,7 @@ from pathlib import Path
 
 from checks.scenarios.cases import program_of, run, scenario, stored, wrong
 from checks.scenarios.folders import lay
-from checks.scenarios.proved import ended, words_of
+from checks.scenarios.proved import run_in, words_of
 from checks.shared.grammars import dense
 
 SECONDS = 60
@@ -115,12 +115,8 @@ def pipes(programs):
 def kept(it, programs, prepare, look):
     """A run in a folder that is prepared; what is wrong with what is there afterwards."""
     with tempfile.TemporaryDirectory() as room:
-        lay(it.inputs, room)
-        prepare(room)
-        how = {"cwd": room, "env": {}, "timeout": SECONDS, "executable": program_of(it, programs)}
-        ran = subprocess.run(words_of(it), capture_output=True, input=it.stdin, **how)
-        differs = wrong(ended(ran, room), it.wanted)
-        differs += [f"{line}\n" for line in look(room)]
+        made = run_in(room, it, program_of(it, programs), prepare)
+        differs = wrong(made, it.wanted) + [f"{line}\n" for line in look(room)]
     yield f"{' '.join(it.words)}: {look.__doc__}", differs
 
 

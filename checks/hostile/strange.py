@@ -7,12 +7,13 @@ import subprocess
 import tempfile
 import threading
 from contextlib import contextmanager
+from dataclasses import replace
 from functools import partial
 
 from checks.hostile.sessions import SESSIONS
 from checks.scenarios.cases import program_of, run, scenario, stored, wrong
 from checks.scenarios.folders import lay
-from checks.scenarios.proved import ended, words_of
+from checks.scenarios.proved import ended, run_in, words_of
 
 FILE_LIMIT, MEMORY, SECONDS = 1_048_576, 300 << 20, 20
 READ_FAULT = {"stdout": b"", "message": b"ystep: read fault\n", "status": b"3\n"}
@@ -111,15 +112,12 @@ def through_a_pipe(it, name, programs):
     others = {path: text for path, text in it.inputs.items() if path != name}
     wanted = {path: text for path, text in it.wanted.items() if path != f"left/{name}"}
     with tempfile.TemporaryDirectory() as room, tempfile.TemporaryDirectory() as beside:
-        lay(others, room)
         pipe = os.path.join(beside, name)
-        words = [pipe.encode() if word == name else word.encode() for word in it.words]
-        how = {"cwd": room, "env": {}, "timeout": SECONDS, "input": it.stdin}
+        words = [pipe if word == name else word for word in it.words]
+        piped = replace(it, words=words, inputs=others)
         with fed(pipe, it.inputs[name]):
-            ran = subprocess.run(
-                words, executable=program_of(it, programs), capture_output=True, **how
-            )
-        yield f"{' '.join(it.words)}: {name} is a pipe", wrong(ended(ran, room), wanted)
+            made = run_in(room, piped, program_of(it, programs))
+        yield f"{' '.join(it.words)}: {name} is a pipe", wrong(made, wanted)
 
 
 def taken_while(running, pipe, piece):

@@ -26,6 +26,7 @@ from checks.scenarios.folders import Scenario, lay
 from checks.scenarios.pages import blocks_of
 from checks.shared.arguments import asked
 from checks.shared.grammars import pair_of
+from checks.shared.libraries import compiler
 from checks.shared.places import DRIVERS, TUTORIAL
 from checks.shared.running import ran
 from checks.shared.tally import Tally
@@ -212,7 +213,7 @@ def build(folder, name, main, flags):
     """A program of the driver in C."""
     files = [str(DRIVERS / "c" / it) for it in ("ydriver.c", main)]
     made = f"{folder}/{name}"
-    subprocess.run([os.environ.get("CC", "cc"), *STRICT, *flags, "-o", made, *files], check=True)
+    subprocess.run([compiler(), *STRICT, *flags, "-o", made, *files], check=True)
     return made
 
 

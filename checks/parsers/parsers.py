@@ -25,6 +25,7 @@ from checks.scenarios.pages import blocks_of
 from checks.shared import running
 from checks.shared.arguments import asked
 from checks.shared.grammars import pair_of
+from checks.shared.libraries import compiler
 from checks.shared.places import EXAMPLES, TUTORIAL
 from checks.shared.spelling import bare
 from checks.shared.table_file import table_of
@@ -132,7 +133,7 @@ def built(folder, grammar, ycc):
     Path(file).write_bytes(HEAD + bare(grammar) + TAIL)
     order = ["--bison"] if zlib.crc32(grammar) % 2 else []
     ran([ycc, *order, "-o", parser, file], "ycc")
-    ran([os.environ.get("CC", "cc"), *WAY, *CHECKED, "-o", program, parser], "the compiler")
+    ran([compiler(), *WAY, *CHECKED, "-o", program, parser], "the compiler")
     return program
 
 
@@ -201,11 +202,11 @@ def link_both(ycc):
             ran([ycc, "-p", prefix, "-o", parser, str(CALCULATOR / "calc.y")], "ycc")
             objects.append(f"{folder}/{prefix}.o")
             words = [f"-Dmain={prefix}_main", "-c", "-o", objects[-1], parser]
-            ran([os.environ.get("CC", "cc"), *words], "the compiler")
+            ran([compiler(), *words], "the compiler")
         main = f"{folder}/main.c"
         Path(main).write_text("int yy_main (void);\nint main (void) { return yy_main (); }\n")
         program = f"{folder}/both"
-        ran([os.environ.get("CC", "cc"), "-o", program, main, *objects], "the compiler")
+        ran([compiler(), "-o", program, main, *objects], "the compiler")
         if sums_of(program) != (CALCULATOR / "answers").read_bytes():
             raise Differs("two parsers in one program: other answers")
 
@@ -218,7 +219,7 @@ def compare_tutorial(ycc):
         file, parser, program = (f"{folder}/{it}" for it in ("sums.y", "sums.c", "sums"))
         Path(file).write_bytes(files["sums.y"])
         ran([ycc, "-o", parser, file], "ycc")
-        ran([os.environ.get("CC", "cc"), *STRICT, "-o", program, parser], "the compiler")
+        ran([compiler(), *STRICT, "-o", program, parser], "the compiler")
         answers = ran([program], "the program of the tutorial", files["sums"])
     if answers != files["answers-in-c"]:
         raise Differs(f"the tutorial: {answers.decode(errors='replace')}")

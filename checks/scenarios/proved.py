@@ -51,10 +51,11 @@ def ended(ran, room):
     return came_back(ran.stdout or b"", ran.stderr or b"", status_of(ran.returncode), room)
 
 
-def run_in(room, scenario, program, **how):
-    """What comes back of a scenario in a folder, with other streams or another environment."""
+def run_in(room, scenario, program, prepare=lambda _: None, **how):
+    """What comes back of a scenario in a prepared folder, with other streams or limits."""
     lay(scenario.inputs, room)
     lay_links(scenario.links, room)
+    prepare(room)
     with streams_of(scenario, room) as streams:
         how = {"cwd": room, "env": {}, "timeout": SECONDS, **streams, **how}
         if "stdin" in how:

@@ -12,16 +12,17 @@ DEVICES, REFUSED, LINES = (DATA / "libraries" / f"{it}.c" for it in ("devices", 
 
 
 def compiler():
-    """A C compiler, or none."""
+    """A C compiler; a fault of the machine where there is none."""
     names = (os.environ.get("CC", ""), "cc", "clang", "gcc")
-    return next((it for it in names if it and shutil.which(it)), None)
+    found = next((it for it in names if it and shutil.which(it)), None)
+    if not found:
+        raise OSError("there is no C compiler")
+    return found
 
 
 def library_in(room, source):
     """A library, built into a folder; a fault of the machine where it can't be."""
     library = Path(room) / f"{source.stem}.so"
-    if not compiler():
-        raise OSError("there is no C compiler")
     subprocess.run([compiler(), "-shared", "-fPIC", "-o", library, source, "-ldl"], check=True)
     return str(library)
 

@@ -84,6 +84,12 @@ class Gate(Planted):
         _, said = self.said(lambda _: gate.run([], [python(f"print('skipped: it'); {WELL}")]))
         self.assertEqual(said.count("skipped: it"), 2)
 
+    def test_needs(self):
+        """A runner that can't be run here is skipped, and that is said."""
+        with mock.patch.dict(gate.NEEDS, {"runner": "no-such-program"}):
+            status, said = self.said(lambda _: gate.run([], [python("raise SystemExit(1)")]))
+        self.assertEqual((status, said.count("skipped: there is no no-such-program")), (1, 1))
+
     def test_every_runner(self):
         """Each runner is a command of this program."""
         names = [it[0] for it in (*gate.QUICK, *gate.RUNNERS)]

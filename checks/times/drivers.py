@@ -7,12 +7,12 @@ at its top. The driver calls a function at each reduction; the actions of byacc 
 byacc and a C compiler (CC, or cc).
 """
 import array
-import os
 import tempfile
 from pathlib import Path
 
 from checks.shared import running
 from checks.shared.arguments import asked
+from checks.shared.libraries import compiler
 from checks.shared.places import DRIVERS
 from checks.shared.spelling import bare, names_of
 from checks.shared.table_file import table_of
@@ -38,7 +38,7 @@ def lay(folder, yacc, grammar, tokens, times):
 
 def build(folder):
     """Both parsers."""
-    make = [os.environ.get("CC", "cc"), "-O2", "-w", "-I", str(DRIVERS / "c"), "-I", str(folder)]
+    make = [compiler(), "-O2", "-w", "-I", str(DRIVERS / "c"), "-I", str(folder)]
     speed = str(DRIVERS / "c/speed.c")
     run(folder, *make, "-o", "ours", speed, str(DRIVERS / "c/ydriver.c"))
     run(folder, "byacc", "-b", "b", "g.y")

@@ -8,13 +8,13 @@ and the bytes of its tables. The 30,000 tokens are drawn at random among those t
 so that the stack stays low; so they begin a sentence, and all parsers find an error after the last.
 Files have no kept texts but empty ones. Needs bison, byacc, a C compiler (CC, or cc) and nm.
 """
-import os
 import random
 import tempfile
 from pathlib import Path
 
 from checks.shared import running
 from checks.shared.arguments import asked
+from checks.shared.libraries import compiler
 from checks.shared.places import DATA
 from checks.shared.spelling import bare
 from checks.shared.table_file import table_of
@@ -157,7 +157,7 @@ def tokens_of(yacc, folder, text):
 def bytes_of(folder, name):
     """How many bytes the constant tables of a parser take."""
     flags = ["-O0", "-w", "-fno-toplevel-reorder", "-c"]
-    run(os.environ.get("CC", "cc"), *flags, f"{name}.c", "-o", f"{name}.o", cwd=folder)
+    run(compiler(), *flags, f"{name}.c", "-o", f"{name}.o", cwd=folder)
     rows = [row.split() for row in run("nm", "-S", f"{name}.o", cwd=folder).splitlines()]
     rows = [row for row in rows if len(row) == 4 and row[2] == "r" and row[3].startswith("yy")]
     return sum(int(row[1], 16) for row in rows)
@@ -169,7 +169,7 @@ def build(folder, ycc, text, tokens):
     Path(file).write_text(f"{HEAD}{text}" + TAIL % (tokens, LOOPS))
     for name, words in generators(ycc).items():
         run(*words, f"{folder}/{name}.c", file)
-        run(os.environ.get("CC", "cc"), "-O2", "-w", f"{name}.c", "-o", name, cwd=folder)
+        run(compiler(), "-O2", "-w", f"{name}.c", "-o", name, cwd=folder)
 
 
 def measured(yacc, ycc, text):
