@@ -4,10 +4,10 @@
 # make accept NAME..   keeps what comes back of these scenarios as what is wanted, and marks them unread
 # make build      proves the programs and leaves them in bin/
 # make bench      times whole runs of the programs, on growing grammars and over long parses; FILES="a.y b.y" adds grammar files to them
-# make refuse     refuses allocations of a run, each once and each with all behind it, on every example and some scenarios, and counts those of each line of every session; FILES="a.y b.y" refuses some thousands over these grammar files instead
+# make refuse     refuses allocations of a run, each once and each with all later ones, on every example and some scenarios, and counts those of each line of every session; FILES="a.y b.y" refuses some thousands over these grammar files instead
 # make debug      refuses the allocations of twelve sessions and twelve commands of ydebug in turn, gives it 100,000 random command lines over random grammars, and shows its screens at a terminal, which needs tmux
-# make page-test  steps through the pages of every example in a browser without a window, which apt-get installs where it is missing, and compares them with ystep; keeps pictures in screenshots/
-# make compare    compares the programs that make build left with plain machines in Python, on grammars drawn at random, for a minute, verdicts with sessions over every scenario, texts with a lexer in Python, and what hints and warnings on conflicts say with changed grammars, for a minute each; FILES="a.y b.y" adds these, cut off and spoiled, with a second reader
+# make page-test  steps through the pages of every example in a headless browser, which apt-get installs where it is missing, and compares them with ystep; keeps pictures in screenshots/
+# make compare    compares the programs that make build left with plain machines in Python, on grammars drawn at random, for a minute, its reports on conflicts with all canonical sets, verdicts with sessions over every scenario, texts with a lexer in Python, and what hints and warnings on conflicts say with changed grammars, for a minute each; FILES="a.y b.y" adds these, cut off and spoiled, with a second reader
 # make parsers    compares the steps of parsers that ycc makes with those of ystep, over scenarios and 2,000 grammars at random, and builds the calculator of examples/calculator-c in every way; some minutes
 # make features   builds small programs, each of which uses a feature of bison's or byacc's files, by the peer and by ycc, and compares what they do; it takes bison, byacc and a C compiler; some minutes
 # make packages   builds some source packages of Debian with parsers that ycc makes and with those of byacc or bison, runs their own tests, and gives both builds 300 spoiled inputs for each program; PACKAGES="bc units" names some. It takes a network, byacc, bison, flex, cmake, automake and meson
@@ -16,18 +16,18 @@
 # make uninstall  takes the same files away
 # make dist       packs what git has of this state into bin/; VERSION=1.0 names it
 # make imports    imports grammars drawn at random, for a minute, and those of some source packages of Debian, by the programs that make build left, and compares their tables with bison's; FILES="a.y b.y" or PACKAGES="bash" names others. It takes bison and a network
-# make hostile    runs both programs, proved, between devices that fail and on files and streams that are no one's friends, and ydebug on full disks and pipes that nobody reads
-# make edits      tries every wrong body that the prover must refuse, also those that the gate leaves out; some 40 minutes
-# make test       the gate: every proof from nothing, the wrong bodies in must-fail, the tests, the stored runs, the scenarios, make hostile, make refuse over three examples, the allocations of every session
-.PHONY: demo examples scenarios accept build bench refuse debug page-test compare parsers features packages drivers install uninstall dist imports hostile edits test
+# make hostile    runs both programs, proved, between devices that fail and on hostile files and streams, and ydebug on full disks and pipes that nobody reads
+# make edits      tries every wrong body that the prover must refuse, also those that the gate leaves out, on a copy; some 40 minutes
+# make selftest   gives each check wrong answers, which it has to catch; under a minute
+# make try-install   tries make install, uninstall and dist in an empty folder, by the programs that make build left
+# make test       the gate: every proof from nothing, the wrong bodies in must-fail, the tests, the stored runs, make selftest, the scenarios, make hostile, make refuse over three examples, the allocations of every session, the parsers, the drivers, each comparison for half a minute at most, and the pages where there is a browser
+#
+# python3 -m checks --help lists all checks as commands; python3 -m checks scenario NAME runs one scenario.
+.PHONY: demo examples scenarios accept build bench refuse debug page-test compare parsers features packages drivers install uninstall dist imports hostile edits selftest try-install test
 
-programs := $(foreach file,$(wildcard crates/*/src/main.rt),$(notdir $(file:/src/main.rt=)))
-run := python3 scenarios/run.py $(foreach name,$(programs),$(name)=crates/$(name)/out/$(name))
-both := --at scenarios --at examples --at docs/TUTORIAL.md --at docs/FAULTS.md
-hostile := python3 scripts/hostile.py $(foreach name,yacc ystep ydebug,$(name)=crates/$(name)/out/$(name))
-refuse := python3 scripts/refuse.py $(foreach name,$(programs),$(name)=crates/$(name)/out/$(name))
-parsers := python3 scripts/parsers.py $(foreach name,yacc ystep ycc,$(name)=crates/$(name)/out/$(name))
-allocations := python3 scripts/allocations.py ystep=crates/ystep/out/ystep
+# The checks, and where `make build` leaves a program. Without a path a check takes crates/NAME/out/NAME.
+checks := python3 -m checks
+at = $(foreach name,$(1),$(name)=bin/$(name))
 
 PREFIX ?= /usr/local
 VERSION ?= 1.0
@@ -39,45 +39,46 @@ demo:
 	@sh examples/demo.sh statements
 
 examples:
-	@python3 examples/trace.py
-	@$(run) --or-try --at examples
+	@$(checks) trace
+	@$(checks) scenarios --or-try --at examples
 
 scenarios: build
-	@$(run) $(both)
+	@$(checks) scenarios
 
 build:
 	@sh examples/build.sh
 
 bench: build
-	@python3 bench/bench.py bin/yacc bin/ystep $(FILES)
+	@$(checks) bench $(call at,yacc ystep) $(FILES)
 
 refuse: build
-	@$(refuse) $(FILES)
-	@$(if $(FILES),true,$(allocations))
+	@$(checks) refuse $(FILES)
+	@$(if $(FILES),true,$(checks) allocations)
 
 debug: build
-	@python3 scripts/refuse_debug.py bin/ydebug
-	@python3 scripts/babble.py bin/ydebug
-	@sh scripts/terminal.sh bin/ydebug
+	@$(checks) refuse-debugger $(call at,ydebug)
+	@$(checks) babble $(call at,ydebug)
+	@$(checks) terminal $(call at,ydebug)
 
 page-test: build
-	@python3 scripts/page_test.py bin/ydebug bin/ystep
+	@$(checks) pages --install $(call at,ydebug ystep)
 
 compare:
-	@python3 compare/compare.py bin/yacc bin/ystep
-	@python3 compare/verdicts.py bin/verdicts bin/ystep
-	@python3 compare/texts.py bin/ydebug
-	@python3 compare/hints.py bin/ydebug
-	@$(if $(FILES),python3 compare/faults.py bin/ystep $(FILES),true)
+	@$(checks) compare $(call at,yacc ystep)
+	@$(checks) conflicts $(call at,ydebug)
+	@$(checks) verdicts $(call at,verdicts ystep)
+	@$(checks) texts $(call at,ydebug)
+	@$(checks) hints $(call at,ydebug)
+	@$(if $(FILES),$(checks) faults $(call at,ystep) $(FILES),true)
 
 parsers: build
-	@python3 scripts/parsers.py --drawn 2000 yacc=bin/yacc ystep=bin/ystep ycc=bin/ycc
+	@$(checks) parsers --drawn 2000 $(call at,yacc ystep ycc)
 
 features: build
-	@python3 scripts/features.py ycc=bin/ycc
+	@$(checks) features $(call at,ycc)
 
 packages: build
-	@python3 scripts/packages.py bin/ycc $(PACKAGES)
+	@$(checks) packages $(call at,ycc) $(PACKAGES)
 
 bin/libydriver.a: drivers/c/ydriver.c drivers/c/ydriver.h
 	@mkdir -p bin
@@ -85,7 +86,7 @@ bin/libydriver.a: drivers/c/ydriver.c drivers/c/ydriver.h
 	@$(AR) rcs $@ bin/ydriver.o
 
 drivers: build bin/libydriver.a
-	@python3 drivers/check.py yacc=bin/yacc ystep=bin/ystep ydebug=bin/ydebug
+	@$(checks) drivers $(call at,yacc ystep ydebug)
 
 .PHONY: bin/ydriver.pc
 bin/ydriver.pc: drivers/c/ydriver.pc.in Makefile
@@ -136,17 +137,23 @@ dist:
 	@mkdir -p bin
 	@git archive --prefix=ydriver-$(VERSION)/ -o bin/ydriver-$(VERSION).tar.gz HEAD
 imports:
-	@python3 compare/cells.py bin/ydebug
-	@python3 compare/imports.py bin/ydebug bin/yacc $(FILES) $(PACKAGES)
+	@$(checks) cells $(call at,ydebug)
+	@$(checks) imports $(call at,ydebug yacc) $(FILES) $(PACKAGES)
 
 hostile: build
-	@$(hostile)
+	@$(checks) hostile
 
 edits:
-	@python3 scripts/edits.py
+	@$(checks) edits
+
+selftest:
+	@$(checks) selftest
+
+try-install:
+	@$(checks) install
 
 test:
-	@python3 scripts/gate.py scripts/rings.py scripts/faults.py scenarios/kinds.py examples/trace.py -- $(run) $(both) -- $(hostile) -- $(refuse) --few -- $(allocations) -- $(parsers)
+	@$(checks) gate
 
 # The names of scenarios stand behind `accept` as goals of their own.
 ifeq (accept,$(firstword $(MAKECMDGOALS)))
@@ -154,5 +161,5 @@ names := $(wordlist 2,99,$(MAKECMDGOALS))
 .PHONY: $(names)
 $(names): ;
 accept:
-	@$(run) --or-try --accept $(both) $(names)
+	@$(checks) scenarios --or-try --accept $(names)
 endif

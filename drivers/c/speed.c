@@ -1,7 +1,7 @@
 /* Parses the numbers in a file five times, and prints the million tokens of a second
    of processor time in the fastest. With
    PARSER, the file of a parser of byacc, by that one; else by the driver and the table that the
-   second word names. See drivers/speed.py. */
+   second word names. See checks/times/drivers.py. */
 #include <stdio.h>
 #include <stdlib.h>
 #include <time.h>

@@ -1,4 +1,4 @@
-/* Writes the steps of parses, for drivers/check.py. Standard input has any number of cases: a line
+/* Writes the steps of parses, for checks/parsers/drivers.py. Standard input has any number of cases: a line
    `LENGTH TOKENS MOST DIGEST`, LENGTH bytes of a table, and TOKENS lines with the name of a token
    each. The answer to each is a line for each step, at most MOST, as `ystep` has them, and `== `
    with what came of it. With -Drealloc=refusing each growth of a stack is refused once, and asked

@@ -1,0 +1,1 @@
+"""Programs beside machines in Python, which know nothing of them."""

@@ -1,0 +1,1 @@
+"""The debugger without memory, over random lines, at a terminal."""

@@ -1,0 +1,168 @@
+"""Runs the gate: quick checks, then `rt ci`, then what runs the programs that it built.
+
+    gate
+
+The first quick check that doesn't end with status 0 ends the gate. The last line,
+`N passed, M failed`, is the sum of `rt ci` and the others; the lines before it say how long each of
+them took, what was skipped, and how much of the time other machines took away.
+"""
+import os
+import resource
+import shutil
+import subprocess
+import sys
+import time
+from dataclasses import dataclass
+from pathlib import Path
+
+from checks.shared.places import TOP
+from checks.shared.tally import Tally, sum_of
+
+# What one proof takes at most, in bytes, where it has one processor.
+PROOF = 5_000_000_000
+QUICK = ["rings"], ["fault-words"], ["trace"]
+# Each comparer draws for some seconds.
+SECONDS = "--seconds=25"
+RUNNERS = (
+    ["selftest"],
+    ["scenarios"],
+    ["hostile"],
+    ["refuse", "--few"],
+    ["allocations"],
+    ["parsers"],
+    ["drivers", "--sessions=200", "--tables=2000"],
+    ["compare", SECONDS],
+    ["conflicts", SECONDS],
+    ["hints", SECONDS],
+    ["texts", SECONDS],
+    ["verdicts"],
+    ["faults", "--count=50"],
+    ["cells", SECONDS],
+    ["pages"],
+)
+# What some of them need beside a C compiler; without it they are skipped.
+NEEDS = {"cells": "bison"}
+SKIPPED = "skipped: "
+
+
+def words_of(file):
+    """The words of a file of the system's, none where it isn't there."""
+    try:
+        return Path(file).read_text().split()
+    except OSError:
+        return []
+
+
+def lanes():
+    """How many proofs run beside each other: one a processor, as far as memory goes."""
+    found = len(os.sched_getaffinity(0))
+    quota = words_of("/sys/fs/cgroup/cpu.max")
+    if len(quota) == 2 and quota[0].isdigit():
+        found = min(found, int(quota[0]) // int(quota[1]))
+    memory = words_of("/proc/meminfo")
+    if "MemAvailable:" in memory:
+        free = 1024 * int(memory[memory.index("MemAvailable:") + 1])
+        found = min(found, free // PROOF)
+    return max(found, 1)
+
+
+def command(words):
+    """The words of the system's for a command of this program."""
+    return [sys.executable, "-m", "checks", *words]
+
+
+@dataclass
+class Ran:
+    """What a runner said last, how it ended, what it skipped, and its seconds of a processor."""
+
+    name: str
+    last: str
+    status: int
+    skipped: list
+    spent: float
+
+    def counted(self):
+        """What passed and failed; it fails where it says nothing of the kind."""
+        found = sum_of(self.last)
+        passed, failed = found or (0, 0)
+        if not failed and (self.status or not found):
+            print(f"{self.name}: status {self.status} after the line {self.last!r}")
+            failed = 1
+        return passed, failed
+
+
+def spent():
+    """The seconds of a processor that all that was run has taken so far."""
+    used = resource.getrusage(resource.RUSAGE_CHILDREN)
+    return used.ru_utime + used.ru_stime
+
+
+def streamed(name, words):
+    """Runs a command, and passes its output on as it comes."""
+    last, skipped, before = "", [], spent()
+    # A proof that is spread over several processors takes up to half as much time again.
+    how = {"RT_JOBS": str(lanes()), **os.environ}
+    pipes = {"stdout": subprocess.PIPE, "text": True, "errors": "replace"}
+    with subprocess.Popen(words, env=how, cwd=TOP, **pipes) as running:
+        for last in running.stdout:
+            print(last, end="", flush=True)
+            skipped += [f"{name}: {last}"] if last.startswith(SKIPPED) else []
+    return Ran(name, last, running.returncode, skipped, spent() - before)
+
+
+def result_of(name, words):
+    """What comes of a runner, or that it is skipped."""
+    need = NEEDS.get(name)
+    if need and not shutil.which(need):
+        line = f"{SKIPPED}there is no {need}\n"
+        return Ran(name, "0 passed, 0 failed\n", 0, [f"{name}: {line}"], 0.0)
+    return streamed(name, words)
+
+
+def stolen():
+    """Seconds that a virtual machine's processors were kept from it, 0 where nobody says."""
+    words = words_of("/proc/stat")
+    return int(words[8]) / os.sysconf("SC_CLK_TCK") if len(words) > 8 else 0
+
+
+def tell_time(begun, stolen_before):
+    """Says how long the gate took, by the clock and in processor time."""
+    wall, processor = time.monotonic() - begun, spent()
+    lost = stolen() - stolen_before
+    print(
+        f"gate: {wall / 60:.1f} minutes, {processor / 60:.1f} of processor time on"
+        f" {len(os.sched_getaffinity(0))} processors, {lost / 60:.1f} stolen"
+    )
+
+
+def tell_runners(results):
+    """Says how long each runner took, in processor time, and what was skipped."""
+    told = ", ".join(f"{it.name} {it.spent / 60:.1f}" for it in results)
+    print(f"minutes of a processor: {told}")
+    for it in results:
+        print("".join(it.skipped), end="")
+
+
+def is_quickly_wrong(checks):
+    """Whether one of the quick checks ends otherwise than with status 0."""
+    return any(subprocess.run(words, cwd=TOP).returncode for words in checks)
+
+
+def run(quick, runners):
+    """Runs quick checks, and then runners, each a name and its words; the status of the gate."""
+    begun, stolen_before, tally = time.monotonic(), stolen(), Tally()
+    if is_quickly_wrong(quick):
+        tally.add(0, 1)
+        return tally.end()
+    results = [result_of(*it) for it in runners]
+    for it in results:
+        tally.add(*it.counted())
+    tell_runners(results)
+    tell_time(begun, stolen_before)
+    return tally.end()
+
+
+def main(_):
+    """Runs the gate."""
+    runners = [(words[0], command(words)) for words in RUNNERS]
+    return run(map(command, QUICK), [("proofs", ["rt", "ci"]), *runners])

@@ -1,0 +1,1 @@
+"""Programs between devices that fail, at limits, on hostile files and streams."""

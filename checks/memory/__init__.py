@@ -1,0 +1,1 @@
+"""Runs whose allocations are refused or counted."""

@@ -1,0 +1,1 @@
+"""Parsers in C, and drivers, beside `ystep`."""

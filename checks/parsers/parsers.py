@@ -1,0 +1,269 @@
+"""Compares the steps of parsers that `ycc` makes with those of `ystep`.
+
+    parsers [--seed N] [--drawn N] [yacc=PATH] [ystep=PATH] [ycc=PATH]
+
+Over the grammar and tokens of every scenario and example, and over N grammars drawn at random (40),
+each parser, in byacc's order or in bison's, is compiled by the compiler (CC, or cc) with its
+sanitizers, as C90 without a warning, and makes the steps of `ystep`, line for line. Texts of
+actions, code and `%union` are left out, since those of scenarios are no C; values are numbers. The
+calculator of examples/calculator-c is built as C90, C99, C17 and C++17 by each compiler that is
+there, without a warning, with a trace and without, and answers as it should; a copy of it with
+another prefix is linked beside it. The program of the tutorial answers as the tutorial says. The
+last line is `N passed, M failed`.
+"""
+import os
+import random
+import shutil
+import tempfile
+import zlib
+from concurrent.futures import ThreadPoolExecutor
+from pathlib import Path
+
+from checks.parsers.pairs import MOST, cases_of, pairs_of_scenarios
+from checks.scenarios import proved
+from checks.scenarios.pages import blocks_of
+from checks.shared import running
+from checks.shared.arguments import asked
+from checks.shared.grammars import pair_of
+from checks.shared.libraries import compiler
+from checks.shared.places import EXAMPLES, TUTORIAL
+from checks.shared.spelling import bare
+from checks.shared.table_file import table_of
+from checks.shared.tally import Tally
+
+WAY = ["-std=c90", "-Wall", "-Wextra", "-pedantic", "-Werror", "-O1"]
+CHECKED = ["-fsanitize=address,undefined", "-fno-sanitize-recover=all"]
+
+HEAD = b"""%{
+#include <stdio.h>
+#include <stdlib.h>
+static void said (int kind, int number);
+static int yylex (void);
+static void yyerror (const char *what);
+#define YYSTEP(kind, number) said (kind, number)
+#define YYSTYPE int
+#define YYMAXDEPTH 1000000
+%}
+"""
+
+TAIL = b"""
+%%%%
+static void said (int kind, int number)
+{
+  static int steps;
+  if (printf ("%%c %%d\\n", kind, number) < 0 || ++steps == %d)
+    exit (fflush (stdout) ? 3 : 0);
+}
+
+static void yyerror (const char *what)
+{
+  if (what[0] != 's')
+    exit (4);
+}
+
+static int yylex (void)
+{
+  int token;
+  return scanf ("%%d", &token) == 1 ? token : 0;
+}
+
+int main (void)
+{
+  int ended = yyparse ();
+  return ended == 0 || ended == 1 ? 0 : 5;
+}
+""" % MOST
+
+
+LONGEST = 1_000_000
+CALCULATOR = EXAMPLES / "calculator-c"
+# Compilers, and what each is asked to take the calculator for.
+LANGUAGES = {
+    "gcc": ["-std=c90", "-std=c99", "-std=c17"],
+    "clang": ["-std=c90", "-std=c99", "-std=c17"],
+    "g++": ["-std=c++17"],
+    "clang++": ["-std=c++17"],
+}
+STRICT = ["-Wall", "-Wextra", "-pedantic", "-Werror"]
+
+
+class Differs(Exception):
+    """What a parser does that it should not."""
+
+
+class Names:
+    """The steps that a parser writes, by the names of its table."""
+
+    def __init__(self, table):
+        self.numbers, self.leads = table.numbers, table.leads()
+        self.tokens = {number: name for name, number in table.numbers.items()}
+
+    def step(self, kind, number):
+        """A step as `ystep` writes it."""
+        return {
+            "s": lambda: f"shift {self.tokens[number]}",
+            "r": lambda: f"reduce {number}",
+            "a": lambda: "accept",
+            "e": lambda: "detect",
+            "p": lambda: f"pop {self.leads[number]}",
+            "x": lambda: "shift error",
+            "d": lambda: f"discard {self.tokens[number]}",
+            "f": lambda: "fail",
+        }[kind]()
+
+
+def told_steps(text, known):
+    """The lines that a parser writes, as `ystep` writes them."""
+    lines = text.decode().split("\n")[:-1]
+    steps = (known.step(line[0], int(line[2:])) for line in lines)
+    return "".join(f"{at} {step}\n" for at, step in enumerate(steps, 1))
+
+
+def ran(words, what, given=b""):
+    """What a program writes, which has to end well and in silence."""
+    it = running.ran(words, None, given)
+    if it.returncode or it.stderr.replace(b"conflicts: ", b"", 1)[:1].strip(b"0123456789"):
+        raise Differs(f"{what} ended with {it.returncode}\n{it.stderr.decode(errors='replace')}")
+    return it.stdout
+
+
+def built(folder, grammar, ycc):
+    """The parser of a grammar."""
+    file, parser, program = (f"{folder}/{it}" for it in ("grammar.y", "parser.c", "parser"))
+    Path(file).write_bytes(HEAD + bare(grammar) + TAIL)
+    order = ["--bison"] if zlib.crc32(grammar) % 2 else []
+    ran([ycc, *order, "-o", parser, file], "ycc")
+    ran([compiler(), *WAY, *CHECKED, "-o", program, parser], "the compiler")
+    return program
+
+
+def steps_of(program, table, names):
+    """The steps that a parser makes, as `ystep` writes them."""
+    known = Names(table_of(table))
+    given = " ".join(str(known.numbers[name]) for name in names)
+    return told_steps(ran([program], "the parser", given.encode()), known)
+
+
+def compare(grammar, cases, ycc):
+    """The parser of a grammar on each of its lists of tokens."""
+    with tempfile.TemporaryDirectory() as folder:
+        program = built(folder, grammar, ycc)
+        for table, names, steps, _ in cases:
+            made = steps_of(program, table, names)
+            if made != steps:
+                raise Differs(f"{grammar.decode()}\n{names}\nystep:\n{steps}\nthe parser:\n{made}")
+
+
+def by_grammar(pairs, programs):
+    """The cases of each grammar that no program refuses."""
+    found = {}
+    for pair in pairs:
+        cases = list(cases_of([pair], proved, programs))
+        if cases:
+            found.setdefault(pair[0], []).extend(cases)
+    return found
+
+
+def compilers():
+    """Each compiler that is there, with each language."""
+    for compiler, languages in LANGUAGES.items():
+        if shutil.which(compiler):
+            yield from ((compiler, language) for language in languages)
+
+
+def sums_of(program):
+    """What the calculator answers to the sums of the example."""
+    return ran([program], "the calculator", (CALCULATOR / "sums").read_bytes())
+
+
+def calculator(folder, ycc, options, compiler, language):
+    """The calculator, built in one way."""
+    kind = "cc" if "++" in language else "c"
+    parser, program = f"{folder}/calc.{kind}", f"{folder}/calc"
+    ran([ycc, *options, "-o", parser, str(CALCULATOR / "calc.y")], "ycc")
+    ran([compiler, language, *STRICT, "-O1", "-o", program, parser], f"{compiler} {language}")
+    return program
+
+
+def compare_calculator(ycc, options, compiler, language):
+    """The calculator, built in one way, on sums whose answers are known."""
+    with tempfile.TemporaryDirectory() as folder:
+        answers = sums_of(calculator(folder, ycc, options, compiler, language))
+    if answers != (CALCULATOR / "answers").read_bytes():
+        raise Differs(f"{compiler} {language} {options}: {answers.decode(errors='replace')}")
+
+
+def link_both(ycc):
+    """Two parsers in one program, which have no name in common but `main`."""
+    with tempfile.TemporaryDirectory() as folder:
+        objects = []
+        for prefix in ("yy", "other"):
+            parser = f"{folder}/{prefix}.c"
+            ran([ycc, "-p", prefix, "-o", parser, str(CALCULATOR / "calc.y")], "ycc")
+            objects.append(f"{folder}/{prefix}.o")
+            words = [f"-Dmain={prefix}_main", "-c", "-o", objects[-1], parser]
+            ran([compiler(), *words], "the compiler")
+        main = f"{folder}/main.c"
+        Path(main).write_text("int yy_main (void);\nint main (void) { return yy_main (); }\n")
+        program = f"{folder}/both"
+        ran([compiler(), "-o", program, main, *objects], "the compiler")
+        if sums_of(program) != (CALCULATOR / "answers").read_bytes():
+            raise Differs("two parsers in one program: other answers")
+
+
+def compare_tutorial(ycc):
+    """The program of the tutorial."""
+    blocks = blocks_of(TUTORIAL.read_text())
+    files = {name: "".join(lines).encode() for kind, name, lines, _ in blocks if kind == "file"}
+    with tempfile.TemporaryDirectory() as folder:
+        file, parser, program = (f"{folder}/{it}" for it in ("sums.y", "sums.c", "sums"))
+        Path(file).write_bytes(files["sums.y"])
+        ran([ycc, "-o", parser, file], "ycc")
+        ran([compiler(), *STRICT, "-o", program, parser], "the compiler")
+        answers = ran([program], "the program of the tutorial", files["sums"])
+    if answers != files["answers-in-c"]:
+        raise Differs(f"the tutorial: {answers.decode(errors='replace')}")
+
+
+def examples(ycc):
+    """What is tried with the example, and the program of the tutorial."""
+    yield compare_tutorial, (ycc,)
+    for compiler, language in compilers():
+        for options in ([], ["-t"], ["-l"]):
+            yield compare_calculator, (ycc, options, compiler, language)
+    yield link_both, (ycc,)
+
+
+def wrong(job):
+    """The lines that say why a check fails; none where it doesn't."""
+    check, *given = job
+    try:
+        check(*given)
+        return []
+    except Differs as differs:
+        return [f"{differs}\n"]
+
+
+def pairs_in(given):
+    """The grammars and tokens of scenarios, and those that are drawn."""
+    rng = random.Random(given.seed)
+    # A file at the limit has no room for what reads its tokens.
+    pairs = [it for it in dict.fromkeys(pairs_of_scenarios()) if len(it[0]) < LONGEST]
+    return pairs + [pair_of(rng) for _ in range(given.drawn)]
+
+
+def main(words):
+    """Compares parsers with `ystep`."""
+    given = asked(__doc__, words, ("yacc", "ystep", "ycc"), seed=1, drawn=40)
+    tally, ycc = Tally(), given.programs["ycc"]
+    found = by_grammar(pairs_in(given), given.programs)
+    jobs = [(compare, grammar, cases, ycc) for grammar, cases in found.items()]
+    jobs += [(check, *more) for check, more in examples(ycc)]
+    with ThreadPoolExecutor(os.cpu_count()) as pool:
+        for job, lines in zip(jobs, pool.map(wrong, jobs)):
+            tally.take(job[0].__name__, lines)
+    lists = sum(map(len, found.values()))
+    print(f"{len(found)} grammars, {lists} lists of tokens, {len(jobs) - len(found)} builds")
+    if not lists:
+        tally.take("lists of tokens", ["there is none\n"])
+    return tally.end()

@@ -1,0 +1,1 @@
+"""Programs beside bison and byacc."""

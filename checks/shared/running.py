@@ -1,0 +1,25 @@
+"""Programs run by their words, and what they come to."""
+import subprocess
+import time
+
+SECONDS = 600
+
+
+def status_of(returned):
+    """An exit status as a scenario has it; a signal is none."""
+    return f"{returned}\n".encode() if returned >= 0 else f"signal {-returned}\n".encode()
+
+
+def ran(words, room=None, given="", **how):
+    """A run of a program in a folder. Its streams are texts or bytes, as what it is given is."""
+    is_text = {"text": True, "errors": "replace"} if isinstance(given, str) else {}
+    how = {"capture_output": True, "timeout": SECONDS, **is_text, **how}
+    return subprocess.run(words, cwd=room, input=given, **how)
+
+
+def turns(seconds):
+    """The numbers of turns, as long as some seconds last, and at least one."""
+    end, turn = time.monotonic() + seconds, 0
+    while not turn or time.monotonic() < end:
+        yield turn
+        turn += 1

@@ -1,0 +1,269 @@
+"""The comparers: programs that say something else than the machines."""
+import random
+from collections import Counter
+from unittest import mock
+
+from checks.comparers import conflicts, faults, hints, programs, texts, verdicts
+from checks.shared.grammars import grammar_of
+from checks.shared.machine import replies_of
+from checks.shared.places import SCENARIOS
+from checks.shared.precedences import whole
+from checks.shared.spelling import names_of
+from checks.shared.tables import Tables
+from checks.tests.fakes import Planted, changed, ended, grammar_in
+
+
+def same(text):
+    """A text as it is."""
+    return text
+
+
+class Answers:
+    """Stands for `yacc` and `ystep`: they answer as the machines do, with a change."""
+
+    def __init__(self, rng, table=same, message=same, replies=same, status=0):
+        self.rng, self.grammar = rng, None
+        self.table, self.message, self.replies, self.status = table, message, replies, status
+
+    def grammar_of(self, _):
+        """A grammar that has tables and a conflict."""
+        while not (it := grammar_of(self.rng)).is_productive() or not Tables(it).conflicts_line():
+            pass
+        self.grammar = it
+        return it
+
+    def ran(self, words, folder, given=""):
+        """A run of one of both."""
+        tables = Tables(self.grammar)
+        if words[0] == "yacc":
+            (folder / "y.tab").write_text(self.table(tables.text()))
+            return ended("", self.message(tables.conflicts_line()), self.status)
+        names = names_of((folder / "tokens").read_bytes())
+        tokens = [self.grammar.names.index(it) for it in names]
+        replies = replies_of(tables, tokens, given.splitlines())
+        return ended(self.replies(replies), "", self.status)
+
+
+def swapped(line):
+    """A line on conflicts whose counts are those of each other."""
+    words = line.split(" ")
+    return " ".join([words[0], words[3], words[2], words[1], *words[4:]])
+
+
+class Programs(Planted):
+    """Tables and replies that are wrong in one place."""
+
+    def is_right(self, **change):
+        """Whether an answer passes as right."""
+        rng, counts = random.Random(3), Counter()
+        answers = Answers(rng, **change)
+        with mock.patch.multiple(programs, ran=answers.ran, grammar_of=answers.grammar_of):
+            return programs.is_right(self.room, "yacc", "ystep", rng, counts)
+
+    def test_each_change(self):
+        """A cell, a line, a count, a status, a step too many or too few, another reply."""
+        self.assertTrue(self.is_right())
+        changes = [{"table": lambda it: it.replace(" s ", " r ", 1)}, {"status": 1}]
+        changes += [{"table": lambda it: it.replace("\nend", "", 1)}, {"message": swapped}]
+        changes += [
+            {"message": lambda _: ""}, {"table": lambda it: it.replace("states ", "states 1")}
+        ]
+        changes += [{"replies": lambda it: it + "99 shift X\n"}]
+        changes += [{"replies": lambda it: it.split("\n", 1)[1]}]
+        changes += [{"replies": lambda it: it.replace("running", "popping")}]
+        for change in changes:
+            with self.subTest(change=str(change)):
+                self.assertFalse(self.is_right(**change))
+
+    def test_refused(self):
+        """A file without tables has to be refused with its fault."""
+        grammar = grammar_in(b"%% s : s ;\n")
+        for said, fits in (("yacc: G11 at line 1", True), ("yacc: G10 at line 1", False)):
+            run = mock.Mock(return_value=ended("", f"{said}\n", 1))
+            with mock.patch.object(programs, "ran", run):
+                self.assertEqual(programs.table_is_right(self.room, "yacc", grammar), fits)
+
+    def test_ends(self):
+        """The first difference ends a run, which fails."""
+        given = mock.Mock(seed=1, seconds=0)
+        for fits, failed in ((True, 0), (False, 1)):
+            with mock.patch.object(programs, "is_right", return_value=fits):
+                tally, _ = programs.compared(["yacc", "ystep"], self.room, given)
+            self.assertEqual(tally.failed, failed)
+
+
+class Conflicts(Planted):
+    """Reports on conflicts that say something else."""
+
+    def look(self, name):
+        """What a scenario's report is, and what is wrong with another."""
+        folder = SCENARIOS / "ydebug/conflicts" / name
+        grammar = grammar_in((folder / "grammar.y").read_bytes())
+        report = (folder / "stdout").read_text()
+        return report, lambda text: conflicts.differences(grammar, text)
+
+    def test_each_change(self):
+        """A longer list, another token, a wrong trial, counts, a rule, a warning too few."""
+        report, look = self.look("a-list-for-each-rule")
+        pairs = [("tokens  C A . B", "tokens  C A A . B"), ("tokens  C A . B", "tokens  C A . E")]
+        pairs += [("A parse comes to", "A parse over them misses"), ("shift, to", "reduce, to")]
+        pairs += [("2 shift/reduce, 1 reduce", "1 shift/reduce, 2 reduce"), ("2 cells", "3 cells")]
+        pairs += [("2 kinds", "1 kinds"), ("state 4 on E", "state 4 on B")]
+        pairs += [("rule 10 is never reduced", "rule 9 is never reduced"), ("warning: ", "")]
+        pairs = [it for it in pairs if it[0] != "warning: "]
+        gone = report[: report.index("\nwarning")], report.replace("conflict 2", "conflict two")
+        lists = report.replace("  for rule 10 (line 15):\n  tokens  D A . B\n", "")
+        self.each_caught(look, report, *changed(report, *pairs), *gone, lists, "")
+
+    def test_none(self):
+        """A conflict that isn't told, and one that isn't there."""
+        report, look = self.look("dangling-else")
+        longer = report.replace("IF ID IF ID ID ';' .", "IF ID IF ID IF ID ID ';' .")
+        none = "grammar.y: no conflicts\n"
+        self.each_caught(look, report, longer, none, report.replace("in 1 cell of 1 kind", ""))
+
+
+class Hints(Planted):
+    """Advice that isn't so."""
+
+    def setUp(self):
+        """Draws a grammar with a conflict between one rule and a token, neither with a level."""
+        super().setUp()
+        self.draw = whole(random.Random(1), hints.KINDS, may_end=False)
+        self.draw.tokens, self.draw.lows, self.draw.lefts = ["A", "B"], ["LOW"], ["s"]
+        self.draw.levels, self.draw.precedences = [], {}
+        self.draw.rules = [("s", ["s", "A", "s"], None, False), ("s", ["B"], None, False)]
+
+    def judged(self, hint):
+        """Whether each hint of a report holds."""
+        report = "conflict 1: state 4 on A: shift, to state 3\n  reduce  rule 1 (line 3)\n"
+        report += f"  {hint}\n"
+        return [holds for _, _, holds in hints.judged(self.draw, report)]
+
+    def test_each_hint(self):
+        """The right words hold, and the same ones turned round don't."""
+        name = "name A in a line"
+        for right, wrong in (
+            (f"To choose, {name}: %left reduces, %right shifts.", None),
+            (f"To reduce by rule 1, {name} of %left.", f"To reduce by rule 2, {name} of %left."),
+            ("To shift A, name it in a line of %right.", None),
+        ):
+            self.assertEqual(self.judged(right), [True], right)
+            if wrong:
+                self.assertEqual(self.judged(wrong), [False], wrong)
+
+    def test_low(self):
+        """A rule with a token of its own, above and below the line of the other."""
+        hint = "To choose, write %nonassoc LOW above {} A, and %prec LOW at the end of rule {}: it."
+        self.assertEqual(self.judged(hint.format("%nonassoc", 1)), [True])
+        self.assertEqual(self.judged(hint.format("%nonassoc", 2)), [False])
+
+    def test_warnings(self):
+        """A precedence that settles nothing, and one that does."""
+        warning = "warning: line 2: the precedence of A settles nothing"
+        self.draw.levels, self.draw.precedences = [("left", ["B"])], {"B": (1, "left")}
+        idle = warning.replace("of A", "of B")
+        self.assertEqual([it[2] for it in hints.judged(self.draw, idle)], [True])
+        self.draw.levels, self.draw.precedences = [("left", ["A"])], {"A": (1, "left")}
+        self.assertEqual([it[2] for it in hints.judged(self.draw, warning)], [False])
+        missed = warning.replace("line 2", "line 1")
+        self.assertEqual([it[2] for it in hints.judged(self.draw, missed)], [False])
+
+
+class Texts(Planted):
+    """Verdicts on texts, and tokens, that are wrong."""
+
+    def setUp(self):
+        """Lays a grammar, a SPEC and a text with a mistake, and knows what is said of it."""
+        super().setUp()
+        self.grammar = grammar_in(b"%token NUM\n%%\ns : NUM | s '+' NUM ;\n")
+        self.tables = Tables(self.grammar)
+        self.spec = texts.Spec(self.grammar, random.Random(1))
+        self.spec.lines, self.spec.words, self.spec.rules = [], [], []
+        self.spec.skip(r"[ \n]")
+        self.spec.lines.append((3, "NUM  [0-9]+", (2, texts.re.compile(b"[0-9]+"))))
+        self.spec.rules = [it[2] for it in self.spec.lines]
+        (self.room / "text").write_bytes(b"1 +\n2 3 +\n")
+
+    def fault(self, check=None, tokens="NUM '+' NUM NUM '+'\n", status=1, session=0):
+        """What is found where `ydebug` says this."""
+        right = texts.answer(self.tables, self.spec, b"1 +\n2 3 +\n")
+
+        def run(_, __, form, *___, given=b""):
+            """A run of one of the forms."""
+            if form == "check":
+                return status, right if check is None else check(right), ""
+            return (0, tokens, "") if form == "tokens" else (session, "", "")
+
+        with mock.patch.object(texts, "run", run):
+            return texts.fault_of_text(self.room, "ydebug", self.tables, self.spec, Counter())
+
+    def test_right(self):
+        """What is right is no fault; the column and the tokens that can come are these."""
+        wanted = "text:2:3: NUM can't come here; expected $end, '+'\n    2 3 +\n      ^\n"
+        self.assertEqual(texts.answer(self.tables, self.spec, b"1 +\n2 3 +\n"), wanted)
+        self.assertIsNone(self.fault())
+
+    def test_each_change(self):
+        """Another column, token, caret, status; a token less; a session that fails."""
+        pairs = [
+            ("2:3", "2:4"), ("NUM", "'+'"), ("$end, ", ""), ("      ^", "     ^"), ("2 3 +", "2 3")
+        ]
+        right = texts.answer(self.tables, self.spec, b"1 +\n2 3 +\n")
+        for wrong in changed(right, *pairs):
+            self.assertTrue(self.fault(lambda _, wrong=wrong: wrong), wrong)
+        for change in ({"status": 0}, {"tokens": "NUM '+' NUM NUM\n"}, {"session": 1}):
+            self.assertTrue(self.fault(**change), change)
+
+    def test_spoiled(self):
+        """A refusal by a name that isn't one, and a status that isn't one, are faults."""
+        good = "text:1:1: no line of the SPEC matches here: !\n"
+        wrong = (1, "it fails\n", ""), (2, good, ""), (1, "", ""), (1, good, good)
+        for answer, found in (((1, good, ""), False), *((it, True) for it in wrong)):
+            (self.room / "spec").write_text(self.spec.text())
+            with mock.patch.object(texts, "run", return_value=answer):
+                fault = texts.fault_of_spoiled(self.room, "ydebug", random.Random(1), Counter())
+            self.assertEqual(bool(fault), found, answer)
+
+
+REPLIES = "1 shift A\n2 detect\n3 pop A\n4 fail\n"
+
+
+class Verdicts(Planted):
+    """Verdicts that differ from a session."""
+
+    def counted_with(self, verdict, replies=REPLIES, lines=1):
+        """How much passed and failed where the two programs say this."""
+        said = "".join(f"print({verdict!r})\n" * lines)
+        both = self.program("verdicts", f"print('grammar.y: no choices')\n{said}")
+        ystep = self.program("ystep", f"sys.stdin.read()\nsys.stdout.write({replies!r})\n")
+        return self.counted(verdicts.compare, [both, ystep], "grammar.y", ["tokens"])
+
+    def test_each_change(self):
+        """Another token, another verdict, a step too many, a line too few or too many."""
+        self.assertEqual(self.counted_with("tokens: rejected at token 2"), (1, 0))
+        accepted = "1 shift A\n2 reduce 1\n3 accept\n"
+        self.assertEqual(self.counted_with("tokens: accepted at 3", accepted), (1, 0))
+        for wrong in ("rejected at token 1", "rejected at token 3", "accepted at 2", "limit"):
+            self.assertEqual(self.counted_with(f"tokens: {wrong}"), (0, 1), wrong)
+        self.assertEqual(self.counted_with("tokens: accepted at 4", accepted), (0, 1))
+        self.assertEqual(self.counted_with("tokens: rejected at token 2", lines=0), (0, 1))
+        self.assertEqual(self.counted_with("tokens: rejected at token 2", lines=2), (1, 1))
+
+
+class Faults(Planted):
+    """Faults that the stepper says otherwise."""
+
+    def counted_with(self, message, status=1, out=""):
+        """How much passed and failed of a file that ends too early, where this is said."""
+        text = f"sys.stderr.write({message!r}); sys.stdout.write({out!r}); sys.exit({status})\n"
+        ystep = self.program("ystep", text)
+        with mock.patch.object(faults, "kept", lambda *_: "kept\n"):
+            return self.counted(faults.compare, ystep, "name", [b"%%\ns : 'x"])
+
+    def test_each_change(self):
+        """Another code, line or status, and an acceptance."""
+        self.assertEqual(self.counted_with("ystep: G2 at line 2\n"), (1, 0))
+        for wrong in (("ystep: G3 at line 2\n",), ("ystep: G2 at line 1\n",), ("", 0),
+                      ("ystep: G2 at line 2\n", 3), ("ystep: G2 at line 2\n", 1, "more")):
+            self.assertEqual(self.counted_with(*wrong), (0, 1), wrong)

@@ -1,0 +1,255 @@
+"""The gate, the quick checks, and what is counted."""
+import contextlib
+import io
+import re
+import subprocess
+import sys
+import unittest
+from unittest import mock
+
+from checks import commands
+from checks.gate import edits, gate, rings, selftest, trace, words
+from checks.shared import arguments
+from checks.shared.places import FAULTS, TOP
+from checks.shared.tally import Tally, sum_of
+from checks.tests.fakes import Planted, changed
+
+WELL = "print('2 passed, 0 failed')"
+
+
+def python(text):
+    """The words of a runner, and its name."""
+    return "runner", [sys.executable, "-ISc", text]
+
+
+class Sums(Planted):
+    """What counts, and the sum of it."""
+
+    def test_a_tally(self):
+        """One failure, or nothing at all, is a failure of the whole."""
+        for results, status in ((([], []), 0), (([], ["wrong\n"]), 1), ((), 1)):
+            tally, out = Tally(), io.StringIO()
+            with contextlib.redirect_stdout(out):
+                for lines in results:
+                    tally.take("a result", lines)
+                self.assertEqual(tally.end(), status)
+            failed = sum(map(bool, results))
+            last = f"{len(results) - failed} passed, {failed} failed"
+            self.assertEqual(out.getvalue().splitlines()[-1], last)
+
+    def test_no_sum(self):
+        """A line that is no sum has none."""
+        self.assertEqual(sum_of("12 passed, 3 failed\n"), (12, 3))
+        for line in ("", "12 passed", "all 12 passed, 3 failed", "12 passed, 3 failed, or so"):
+            self.assertIsNone(sum_of(line))
+
+    def test_holds(self):
+        """What doesn't hold is a failure, with an empty text in its place, too."""
+        tally = Tally()
+        with contextlib.redirect_stdout(io.StringIO()):
+            for holds, found in ((True, ""), (False, ""), (False, 0)):
+                tally.hold("it", holds, found)
+        self.assertEqual((tally.passed, tally.failed), (1, 2))
+
+
+class Gate(Planted):
+    """Runners that go wrong in each way."""
+
+    def gate(self, quick, *runners):
+        """The status and the last line of a gate."""
+        status, said = self.said(lambda _: gate.run(quick, runners))
+        return status, said.splitlines()[-1]
+
+    def test_well(self):
+        """Sums of runners are added."""
+        both = python(WELL), python(WELL)
+        self.assertEqual(self.gate([], *both), (0, "4 passed, 0 failed"))
+
+    def test_each_failure(self):
+        """A failure, another status, no sum and no line at all fail the gate."""
+        bad = ["print('2 passed, 1 failed')", f"{WELL}; raise SystemExit(1)", "print('fine')", ""]
+        for text in [*bad, f"{WELL}; print()", f"{WELL}; import os; os.kill(os.getpid(), 9)"]:
+            with self.subTest(text=text):
+                status, last = self.gate([], python(WELL), python(text))
+                self.assertEqual(status, 1)
+                self.assertTrue(last.endswith(" passed, 1 failed"), last)
+
+    def test_quick(self):
+        """A quick check that fails ends the gate before any runner."""
+        quick = [python("raise SystemExit(1)")[1]]
+        self.assertEqual(self.gate(quick, python(WELL)), (1, "0 passed, 1 failed"))
+
+    def test_skipped(self):
+        """What is skipped is said again at the end."""
+        _, said = self.said(lambda _: gate.run([], [python(f"print('skipped: it'); {WELL}")]))
+        self.assertEqual(said.count("skipped: it"), 2)
+
+    def test_needs(self):
+        """A runner that can't be run here is skipped, and that is said."""
+        with mock.patch.dict(gate.NEEDS, {"runner": "no-such-program"}):
+            status, said = self.said(lambda _: gate.run([], [python("raise SystemExit(1)")]))
+        self.assertEqual((status, said.count("skipped: there is no no-such-program")), (1, 1))
+
+    def test_every_runner(self):
+        """Each runner is a command of this program."""
+        names = [it[0] for it in (*gate.QUICK, *gate.RUNNERS)]
+        self.assertLessEqual({*names}, {*commands.modules()})
+        self.assertEqual(len(names), len({*names}))
+
+
+class Rings(Planted):
+    """Modules of a crate that name each other."""
+
+    GOOD = {"lib.rt": "mod a; mod b;", "a.rt": "use crate::b::Thing;", "b.rt": "use std::fmt;"}
+
+    def look(self, files):
+        """Whether there is a ring in a crate of these files."""
+        src = self.room / str(id(files)) / "crate" / "src"
+        for name, text in files.items():
+            (src / name).parent.mkdir(parents=True, exist_ok=True)
+            (src / name).write_text(text)
+        return self.said(rings.main, str(src.parents[1]))[0]
+
+    def test_each_ring(self):
+        """By use, by a path, by super, of three, and of folders."""
+        wrong = [{**self.GOOD, "b.rt": it} for it in ("use crate::a::It;", "f(crate::a::It)")]
+        wrong += [{**self.GOOD, "b.rt": "use super::a::{It, Other};"}]
+        wrong += [{**self.GOOD, "b.rt": "use crate::c::It;", "c.rt": "use crate::a::It;"}]
+        folders = {"x/one.rt": "use crate::y::one::It;", "y/two.rt": "use crate::x::two::It;"}
+        wrong += [{"lib.rt": "", **folders, "x/two.rt": "", "y/one.rt": ""}]
+        self.each_caught(self.look, self.GOOD, *wrong)
+
+    def test_tests_may(self):
+        """What stands under #[cfg(test)] is passed over, and so is a comment."""
+        for text in ("#[cfg(test)] mod tests { use crate::a::It; }", "// use crate::a::It;"):
+            self.assertFalse(self.look({**self.GOOD, "b.rt": text}))
+
+
+class FaultWords(Planted):
+    """Words of the program and rows of the document."""
+
+    def test_each_difference(self):
+        """Another word, another order, a row less, no row."""
+        text, program = FAULTS.read_text(), words.FILES[0].read_text()
+        rows = [found[0] for found in words.ROW.finditer(text) if words.CODE.fullmatch(found[1])]
+        pairs = [(rows[0] + "\n", ""), (rows[0], rows[0].replace("|", "|  no", 2))]
+        pairs += [
+            (f"{rows[0]}\n{rows[1]}", f"{rows[1]}\n{rows[0]}"), (rows[2], rows[2] + "\n" + rows[2])
+        ]
+
+        def look(document):
+            """What differs from the program."""
+            ours, theirs = words.of_program(program), words.of_document(document)
+            return list(words.differences(ours, theirs))
+
+        self.each_caught(look, text, *changed(text, *pairs), "")
+        self.assertTrue(list(words.differences([], words.of_document(text))))
+
+
+class Trace(Planted):
+    """A trace of byacc and the replies of a session."""
+
+    def test_each_difference(self):
+        """A step less, another step, a step too many, in either text."""
+        trace_of, replies = (
+            (trace.RECOVERY / it).read_text() for it in ("trace", "session/stdout")
+        )
+        steps = trace.steps_of_replies(replies)
+        shift = next(it for it in steps if it.startswith("shift"))
+        pairs = [(f" {shift}\n", " reduce 99\n"), (f" {shift}\n", f" {shift}\n9 {shift}\n")]
+        wrong = [*changed(replies, *pairs), ""]
+        self.each_caught(lambda it: trace.differences(trace_of, it), replies, *wrong)
+        rules = [("reducing by rule", "going by rule"), ("discarding state", "keeping state")]
+        wrong = [*changed(trace_of, *rules), "", "nothing"]
+        self.each_caught(lambda it: trace.differences(it, replies), trace_of, *wrong)
+
+
+class Edits(Planted):
+    """Edits that the prover doesn't refuse."""
+
+    def tried(self, crate, only, status):
+        """What is wrong where `rt must-fail` ends so."""
+        (self.room / "crates" / crate).mkdir(parents=True, exist_ok=True)
+        ran = subprocess.CompletedProcess([], status)
+        with mock.patch.object(edits.subprocess, "run", return_value=ran) as run:
+            lines = edits.tried(crate, only, self.room)
+        where = [it.kwargs["cwd"] for it in run.call_args_list]
+        self.assertLessEqual({*where}, {self.room})
+        return lines
+
+    def test_each_end(self):
+        """Another status, and an edit that isn't there, fail; all is done in the copy."""
+        crate = sorted(it.name for it in edits.EDITS.iterdir())[0]
+        name = next((edits.EDITS / crate).glob("*.edit")).stem
+        before = sorted((TOP / "crates" / crate).rglob("*.edit"))
+        self.assertFalse(self.tried(crate, "", 0))
+        self.assertTrue(self.tried(crate, "", 1))
+        self.assertTrue(self.tried(crate, "no-such-edit", 0))
+        self.assertFalse(self.tried(crate, name, 0))
+        laid = self.room / "crates" / crate / "must-fail"
+        self.assertEqual([it.stem for it in laid.iterdir()], [name])
+        self.assertEqual(before, sorted((TOP / "crates" / crate).rglob("*.edit")))
+
+
+class Selftest(Planted):
+    """Tests that fail are told."""
+
+    def test_each_end(self):
+        """A failure, an error and a test that is skipped are failures; so is no test."""
+        cases = {
+            "test_good": (lambda _: None, 0),
+            "test_bad": (lambda it: it.fail("planted"), 1),
+            "test_error": (lambda _: 1 / 0, 1),
+            "test_skip": (lambda it: it.skipTest("planted"), 1),
+        }
+        for name, (text, status) in cases.items():
+            suite = unittest.TestSuite([type("Case", (unittest.TestCase,), {name: text})(name)])
+            with mock.patch.object(selftest, "suite_of", return_value=suite), self.quiet():
+                self.assertEqual(self.said(selftest.main)[0], status, name)
+        with mock.patch.object(selftest, "suite_of", return_value=unittest.TestSuite()):
+            with self.quiet():
+                self.assertEqual(self.said(selftest.main)[0], 1)
+
+    def quiet(self):
+        """Keeps what a run of tests says from being seen."""
+        return contextlib.redirect_stderr(io.StringIO())
+
+
+class Commands(Planted):
+    """Commands and what they are given."""
+
+    def test_each_is_reachable(self):
+        """Each command has a target, or the page on the code names it."""
+        makefile, page = (TOP / it for it in ("Makefile", "docs/ARCHITECTURE.md"))
+        targets, text = makefile.read_text(), page.read_text()
+        for name in commands.modules():
+            named = f"$(checks) {name}" in targets or f"`{name}`" in text or f" {name} " in text
+            self.assertTrue(named, f"{name} has no target and isn't in docs/ARCHITECTURE.md")
+
+    def test_order(self):
+        """A package names only those that stand above it in the page on the code."""
+        page = (TOP / "docs/ARCHITECTURE.md").read_text()
+        order = [
+            name for name in re.findall(r"(?m)^\| `(\w+)` \|", page[page.index("## The checks") :])
+        ]
+        self.assertIn("shared", order)
+        for file in (TOP / "checks").glob("*/*.py"):
+            for name in re.findall(r"(?m)^from checks\.(\w+)", file.read_text()):
+                home = file.parent.name
+                if home != "tests":
+                    self.assertLessEqual(order.index(name), order.index(home), f"{file}: {name}")
+
+    def test_programs(self):
+        """A program that isn't there, or isn't used, ends a command."""
+        path = self.program("yacc", "")
+        given = arguments.asked("usage", [f"yacc={path}", "more"], ("yacc",))
+        self.assertEqual((given.programs, given.words), ({"yacc": path}, ["more"]))
+        for words_given in ([f"yacc={path}no"], [f"yacc={path}", f"ystep={path}"]):
+            with self.assertRaises(SystemExit) as end, contextlib.redirect_stderr(io.StringIO()):
+                arguments.asked("usage", words_given, ("yacc",))
+            self.assertTrue(end.exception.code)
+
+    def test_unknown(self):
+        """An unknown command ends with status 2."""
+        with contextlib.redirect_stderr(io.StringIO()):
+            self.assertEqual(commands.main(["no-such-command"]), 2)

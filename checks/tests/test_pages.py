@@ -1,0 +1,109 @@
+"""Pages that show something else than `ystep` says."""
+import copy
+import json
+from unittest import mock
+
+from checks.pages import parts, sums, test
+from checks.shared.places import SCENARIOS
+from checks.tests.fakes import Planted, ended
+
+LINES = ["2 running", "stack: NUM s", "rest: '+' NUM", "counter: 1", "errors: 2"]
+LINES += ["NUM@1", "(3 NUM@2 (1) error)"]
+WANTED = {
+    "position": 2, "mode": "running", "errors": "2", "counter": "1", "stack": ["NUM", "s"],
+    "rest": ["'+'", "NUM"],
+    "tree": [(1, "NUM@1"), (1, "3"), (2, "NUM@2"), (2, "1"), (2, "error")],
+}
+
+
+class Browser:
+    """A browser that shows positions by keys."""
+
+    def __init__(self, positions, at=0):
+        self.positions, self.at = positions, at
+
+    def press(self, key):
+        """Goes to another position."""
+        last = len(self.positions) - 1
+        moved = {"left": self.at - 1, "right": self.at + 1, "home": 0, "end": last}[key]
+        self.at = min(max(moved, 0), last)
+
+
+class Pages(Planted):
+    """Positions, trees and sources of a page."""
+
+    def test_wanted(self):
+        """What `show` and `tree` say is read as the page shows it."""
+        self.assertEqual(test.wanted_at(LINES, 2), WANTED)
+
+    def passed(self, shown, wanted):
+        """How much passed and failed where a page shows these positions."""
+        with mock.patch.object(test, "seen", lambda browser: browser.positions[browser.at]):
+            browser = Browser(shown)
+            return self.counted(lambda count: test.step_through(count, "it", browser, wanted))
+
+    def test_each_part(self):
+        """Each part of a position that is another one is caught."""
+        wanted = [{**WANTED, "position": at} for at in range(3)]
+        passed, failed = self.passed(wanted, wanted)
+        self.assertEqual((passed > 0, failed), (True, 0))
+        others = {"position": 9, "mode": "failed", "errors": "3", "counter": "0", "rest": ["NUM"]}
+        others |= {"stack": ["s", "NUM"], "tree": WANTED["tree"][:-1]}
+        for part, other in others.items():
+            shown = copy.deepcopy(wanted)
+            shown[1][part] = other
+            self.assertGreater(self.passed(shown, wanted)[1], 0, part)
+        self.assertGreater(self.passed(wanted[:2], wanted)[1], 0)
+
+    def test_lint(self):
+        """A line that is too long, ends in a blank, or runs what comes from a file."""
+        for line, failed in (
+            ("let a = 1;", 0), ("x" * 101, 1), ("let a; ", 1), ("e.innerHTML = a;", 1)
+        ):
+            made = self.counted(lambda count, line=line: test.lint_text(count, "it", line))
+            self.assertEqual(made[1], failed, line)
+
+    def test_frame(self):
+        """A page with a byte before its data, none after, a < in it, or too few positions."""
+        right = parts.before() + json.dumps({"record": {"kinds": "s"}}) + parts.after()
+        wanted = [WANTED, WANTED]
+        wrong = "x" + right, right[:-1], right.replace('"s"', '"<"'), right.replace('"s"', '"ss"')
+        for text, failed in ((right, False), *((it, True) for it in wrong)):
+            self.assertEqual(self.example(text, wanted)[1] > 0, failed, text[-80:])
+
+    def example(self, text, wanted):
+        """How much passed and failed of an example whose page is a text."""
+        def made(_, __, ___, page):
+            """A page that is made."""
+            page.write_text(text)
+            return ended()
+
+        browser = mock.MagicMock()
+        browser.return_value.__enter__.return_value.errors.return_value = []
+        how = {"make_page": made, "wanted": lambda *_: wanted, "step_through": mock.Mock()}
+        with mock.patch.multiple(test, **how, look=mock.Mock(), Browser=browser):
+            given = test.try_example, None, ("ydebug", "ystep"), self.room / "one", self.room, None
+            return self.counted(lambda count: test.attempt(count, "it", *given))
+
+    def test_attempts(self):
+        """What the browser refuses is a failure."""
+        def broken(_):
+            """A part that ends with a fault."""
+            raise test.Fault("planted")
+
+        self.assertEqual(self.counted(lambda count: test.attempt(count, "it", broken)), (0, 1))
+
+    def test_skipped(self):
+        """Without a browser a line says so."""
+        with mock.patch.object(test, "missing", return_value=["chromium"]):
+            paths = [f"{it}={self.program(it, '')}" for it in ("ydebug", "ystep")]
+            _, said = self.said(test.main, *paths)
+        self.assertIn("\nskipped: no chromium", "\n" + said)
+
+    def test_sums(self):
+        """The sum of a scenario's page is the one that is kept, and another one is another page."""
+        folder = next(it.parent for it in SCENARIOS.rglob("page.json"))
+        self.assertEqual(f"{sums.sum_of(folder)}\n", (folder / "stdout.sum").read_text())
+        text = (folder / "page.json").read_text()
+        (self.room / "page.json").write_text(text.replace('"', '"x', 1))
+        self.assertNotEqual(sums.sum_of(self.room), sums.sum_of(folder))

@@ -1,0 +1,144 @@
+"""Parsers and drivers that make other steps, and tables that are wrong."""
+import random
+from unittest import mock
+
+from checks.parsers import drivers, parsers, spoil
+from checks.parsers.pairs import Case, digest_in
+from checks.shared.places import EXAMPLES
+from checks.shared.table_file import table_of
+from checks.tests.fakes import Planted, changed, ended
+
+TABLE = (EXAMPLES / "one-rule/tables/left/y.tab").read_bytes()
+STEPS = "1 shift 'x'\n2 reduce 1\n3 accept\n"
+MADE = "s 120\nr 1\na 0\n"
+CASE = Case(TABLE, ["'x'"], STEPS, None)
+
+
+class Parsers(Planted):
+    """Parsers of `ycc`."""
+
+    def fault(self, text, status=0, message=""):
+        """What is wrong with a parser that writes this."""
+        lines = f"sys.stdin.read(); sys.stdout.write({text!r}); sys.stderr.write({message!r})\n"
+        program = self.program("parser", f"{lines}sys.exit({status})\n")
+        with mock.patch.object(parsers, "built", return_value=program):
+            return parsers.wrong((parsers.compare, b"%%", [CASE], "ycc"))
+
+    def test_each_step(self):
+        """Another step, a step too many, too few, another status, a message."""
+        pairs = [
+            ("r 1", "r 0"), ("s 120", "s 256"), ("a 0\n", ""), ("r 1\n", "r 1\nr 1\n"), ("a", "f")
+        ]
+        self.each_caught(self.fault, MADE, *changed(MADE, *pairs), "")
+        self.assertTrue(self.fault(MADE, status=1))
+        self.assertTrue(self.fault(MADE, message="runtime error: index 9 out of bounds"))
+        self.assertFalse(self.fault(MADE, message="conflicts: 1 shift/reduce"))
+
+    def test_given(self):
+        """The parser gets the numbers of the tokens."""
+        known = parsers.Names(table_of(TABLE))
+        self.assertEqual(known.numbers["'x'"], 120)
+        self.assertEqual(parsers.told_steps(b"p 1\nx 0\nd 120\n", known),
+                         "1 pop 'x'\n2 shift error\n3 discard 'x'\n")
+
+    def test_answers(self):
+        """The calculator, built in any way, with a sum that is wrong."""
+        right = (parsers.CALCULATOR / "answers").read_bytes()
+        for answers, wrong in ((right, False), (right.replace(b"7", b"8", 1), True), (b"", True)):
+            with mock.patch.multiple(parsers, calculator=mock.Mock(), sums_of=lambda _: answers):
+                job = parsers.compare_calculator, "ycc", [], "cc", "-std=c90"
+                self.assertEqual(bool(parsers.wrong(job)), wrong)
+
+    def test_compilers(self):
+        """A compiler that complains fails the build."""
+        for status, message, wrong in ((0, b"", False), (1, b"", True), (0, b"warning: it", True)):
+            with mock.patch.object(
+                parsers.running, "ran", return_value=ended(b"", message, status)
+            ):
+                job = parsers.ran, ["cc"], "the compiler"
+                self.assertEqual(bool(parsers.wrong(job)), wrong)
+
+
+class Drivers(Planted):
+    """Both drivers."""
+
+    def setUp(self):
+        """Leaves no case in a folder."""
+        super().setUp()
+        kept = mock.patch.object(drivers, "kept", lambda *_: "kept\n")
+        kept.start()
+        self.addCleanup(kept.stop)
+
+    def test_steps(self):
+        """The driver in Python makes the steps of `ystep`, but by a table with a wrong cell."""
+        self.assertEqual(drivers.steps_of_python(TABLE, ["'x'"], 99), (STEPS, "accepted"))
+        for table in changed(TABLE.decode(), ("d 1 1", "d 1 0"), ("a 0 2 s 1", "a 0 0 s 1")):
+            made = drivers.steps_of_python(table.encode(), ["'x'"], 99)
+            self.assertNotEqual(made[0], STEPS, table)
+
+    def test_each_step(self):
+        """Another step, a step too many, an answer too few, in one of two drivers."""
+        right = {"plain": [(STEPS, "accepted")], "python": [(STEPS, "accepted")]}
+        self.assertEqual(self.counted(drivers.compare_steps, [CASE], right), (2, 0))
+        for steps in (
+            *changed(STEPS, ("reduce 1", "reduce 0"), ("3 accept\n", "")), STEPS + "4 fail\n"
+        ):
+            wrong = {**right, "python": [(steps, "accepted")]}
+            self.assertEqual(self.counted(drivers.compare_steps, [CASE], wrong), (1, 1))
+        self.assertEqual(
+            self.counted(drivers.compare_steps, [CASE], {**right, "plain": []}), (1, 1)
+        )
+
+    def test_digests(self):
+        """Another digest, and none."""
+        right = b"%08x" % drivers.digest_of(TABLE)
+        for digest, failed in ((right, 0), (b"00000000", 1), (digest_in(b"no rules"), 1)):
+            case = CASE._replace(digest=digest)
+            self.assertEqual(self.counted(drivers.compare_digests, [case])[1], failed)
+        told = b"2 rules, of a table with the digest 0123abcd\n"
+        self.assertEqual(digest_in(told), b"0123abcd")
+
+    def test_wrong_tables(self):
+        """Drivers that say other lines, or the same wrong one of a table that is cut."""
+        cut = TABLE[:-4], ["'x'"], "cut"
+        line = f"line {cut[0].count(10) + 1}: "
+        right = ("", f"{line}no end"), ("", f"{line}no end"), True
+
+        def look(it):
+            """What is wrong with two answers."""
+            return drivers.wrong_answer(cut, *it)
+
+        early = "", "line 1: no table"
+        self.each_caught(
+            look, right, (early, early, True), (early, right[0], False), (right[0], early, True)
+        )
+
+    def test_in_c(self):
+        """A driver in C that ends otherwise, or complains, ends the check."""
+        text = f"sys.stdin.read(); sys.stdout.write({STEPS!r} + '== accepted\\n')\n"
+        path = self.program("good", text)
+        self.assertEqual(
+            drivers.steps_of_c(path, [(TABLE, ["'x'"], "")], 99), [(STEPS, "accepted")]
+        )
+        for more in ("sys.exit(1)", "sys.stderr.write('runtime error')"):
+            with self.assertRaises(SystemExit):
+                drivers.steps_of_c(self.program("bad", f"{text}{more}\n"), [(TABLE, [], "")], 99)
+
+    def test_answers(self):
+        """A calculator that answers otherwise, or takes a table that isn't its own."""
+        text = "sys.stdin.read(); print('7')\n"
+        words, folders = [self.program("calculator", text)], ("names", "table")
+        right = self.counted(
+            lambda tally: drivers.compare_answers(tally, words, folders, b"", b"7\n")
+        )
+        self.assertEqual(right, (1, 0))
+        for answers, refused in ((b"8\n", b""), (b"7\n", b"another table\n"), (b"", drivers.OTHER)):
+            more = words, folders, b"", answers, refused
+            made = self.counted(lambda tally, more=more: drivers.compare_answers(tally, *more))
+            self.assertEqual(made, (0, 1))
+
+    def test_spoil(self):
+        """A spoiled table is another one."""
+        rng = random.Random(1)
+        for _ in range(50):
+            self.assertNotEqual(spoil.spoiled(TABLE, rng)[0], TABLE)

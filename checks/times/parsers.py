@@ -1,0 +1,223 @@
+"""Times parsers that `ycc`, byacc and bison make of the same grammars, over the same tokens.
+
+    bench-parsers [yacc=PATH] [ycc=PATH] [FILE..]
+
+For a calculator, the grammar of C of checks/data/times/c.y, queries 275, and each FILE: nanoseconds
+a token of each parser, by -O2, without a lexer and without actions, the least of many runs in turn;
+and the bytes of its tables. The 30,000 tokens are drawn at random among those that can come, mostly
+so that the stack stays low; so they begin a sentence, and all parsers find an error after the last.
+Files have no kept texts but empty ones. Needs bison, byacc, a C compiler (CC, or cc) and nm.
+"""
+import random
+import tempfile
+from pathlib import Path
+
+from checks.shared import running
+from checks.shared.arguments import asked
+from checks.shared.libraries import compiler
+from checks.shared.places import DATA
+from checks.shared.spelling import bare
+from checks.shared.table_file import table_of
+from checks.times.grammars import queries
+
+TOKENS, TURNS, LOOPS = 30_000, 25, 9
+NONE = None, None
+HEADINGS = ["grammar", "ycc", "byacc", "bison", "of the faster", "bytes: ycc", "byacc", "bison"]
+HEADINGS += ["of bison's"]
+# A stack of more states grows no further than it must.
+DEEP = 60
+
+CALCULATOR = """%token NUM
+%left '+' '-'
+%left '*' '/'
+%right SIGN
+%%
+lines : | lines sum ';' ;
+sum : NUM | sum '+' sum | sum '-' sum | sum '*' sum | sum '/' sum
+    | '-' sum %prec SIGN | '(' sum ')' ;
+"""
+
+HEAD = """%{
+#define _POSIX_C_SOURCE 199309L
+#include <stdio.h>
+#include <stdlib.h>
+#include <time.h>
+#define YYMAXDEPTH 1000000
+static int yylex (void);
+static void yyerror (const char *what);
+%}
+"""
+
+TAIL = """
+%%%%
+static const int input[] = { %s 0 };
+static const int *next;
+
+static int
+yylex (void)
+{
+  return *next++;
+}
+
+static void
+yyerror (const char *what)
+{
+  if (what[0] != 's' || next != input + sizeof input / sizeof *input)
+    exit (1);
+}
+
+int
+main (void)
+{
+  double least = 1e30;
+  int turn;
+
+  for (turn = 0; turn < %d; turn++)
+    {
+      struct timespec from, to;
+      double took;
+      next = input;
+      clock_gettime (CLOCK_MONOTONIC, &from);
+      yyparse ();
+      clock_gettime (CLOCK_MONOTONIC, &to);
+      took = 1e9 * (double) (to.tv_sec - from.tv_sec) + (double) (to.tv_nsec - from.tv_nsec);
+      if (took < least)
+        least = took;
+    }
+  printf ("%%f\\n", least / (double) (sizeof input / sizeof *input - 1));
+  return 0;
+}
+"""
+
+
+def run(*words, cwd=None):
+    """What a program writes, which ends well."""
+    return running.ran(words, cwd, check=True).stdout
+
+
+def generators(ycc):
+    """How each generator is asked for a parser."""
+    return {"ycc": [ycc, "-o"], "byacc": ["byacc", "-o"], "bison": ["bison", "-o"]}
+
+
+class Machine:
+    """A table, and the states of a stack."""
+
+    def __init__(self, table):
+        self.table = table
+        self.stack = [0]
+        self.cells = {}
+        for state, token in table.actions:
+            self.cells.setdefault(state, []).append(token)
+
+    def settle(self):
+        """Makes the reductions that need no token."""
+        while (rule := self.table.defaults.get(self.stack[-1])) is not None:
+            left, length = self.table.rules[rule]
+            del self.stack[len(self.stack) - length :]
+            self.stack.append(self.table.gotos[self.stack[-1], left])
+
+    def action(self, state, token):
+        """What a state does on a token."""
+        rule = self.table.defaults.get(state)
+        return ("r", rule) if rule is not None else self.table.actions.get((state, token), NONE)
+
+    def after(self, token):
+        """How many states stay below, and which stand on them, where the token is shifted."""
+        kept, above = len(self.stack), []
+        for _ in range(1_000):
+            state = above[-1] if above else self.stack[kept - 1]
+            kind, number = self.action(state, token)
+            if kind == "s":
+                return kept, [*above, number]
+            if kind != "r":
+                return None
+            left, length = self.table.rules[number]
+            gone = min(length, len(above))
+            above = above[: len(above) - gone]
+            kept -= length - gone
+            below = above[-1] if above else self.stack[kept - 1]
+            above.append(self.table.gotos[below, left])
+        return None
+
+    def draw(self, rng):
+        """A token that can come: one of three, or where the stack is deep, and else mostly, the one
+        of all that leaves the lowest stack."""
+        self.settle()
+        is_deep = len(self.stack) > DEEP or rng.random() < 0.6
+        order, found = self.cells[self.stack[-1]][:], []
+        rng.shuffle(order)
+        for token in order:
+            after = self.after(token) if token > 1 else None
+            if after:
+                found.append((after[0] + len(after[1]), token, after))
+            if len(found) == 3 and not is_deep:
+                break
+        _, token, (kept, above) = min(found) if is_deep else rng.choice(found)
+        self.stack[kept:] = above
+        return self.table.names[token]
+
+
+def tokens_of(yacc, folder, text):
+    """The tokens, as C has them."""
+    Path(f"{folder}/plain.y").write_text(text)
+    run(yacc, "-b", "plain", "plain.y", cwd=folder)
+    machine = Machine(table_of(Path(f"{folder}/plain.tab").read_bytes()))
+    rng = random.Random(1)
+    return "".join(f"{machine.draw(rng)},\n" for _ in range(TOKENS))
+
+
+def bytes_of(folder, name):
+    """How many bytes the constant tables of a parser take."""
+    flags = ["-O0", "-w", "-fno-toplevel-reorder", "-c"]
+    run(compiler(), *flags, f"{name}.c", "-o", f"{name}.o", cwd=folder)
+    rows = [row.split() for row in run("nm", "-S", f"{name}.o", cwd=folder).splitlines()]
+    rows = [row for row in rows if len(row) == 4 and row[2] == "r" and row[3].startswith("yy")]
+    return sum(int(row[1], 16) for row in rows)
+
+
+def build(folder, ycc, text, tokens):
+    """The parser of each generator."""
+    file = f"{folder}/g.y"
+    Path(file).write_text(f"{HEAD}{text}" + TAIL % (tokens, LOOPS))
+    for name, words in generators(ycc).items():
+        run(*words, f"{folder}/{name}.c", file)
+        run(compiler(), "-O2", "-w", f"{name}.c", "-o", name, cwd=folder)
+
+
+def measured(yacc, ycc, text):
+    """The least time a token of each parser, and the bytes of its tables."""
+    with tempfile.TemporaryDirectory() as folder:
+        build(folder, ycc, text, tokens_of(yacc, folder, text))
+        least = dict.fromkeys(generators(ycc), float("inf"))
+        for _ in range(TURNS):
+            for name in least:
+                least[name] = min(least[name], float(run(f"{folder}/{name}")))
+        return {name: (time, bytes_of(folder, name)) for name, time in least.items()}
+
+
+def grammars_of(files):
+    """The texts of all grammars, by their names."""
+    yield "calculator", CALCULATOR.encode()
+    yield "C", (DATA / "times/c.y").read_bytes()
+    yield "queries 275", queries(275).encode()
+    yield from ((Path(file).stem, Path(file).read_bytes()) for file in files)
+
+
+def row(name, made):
+    """A line of the table of times."""
+    (ours, size), (byacc, b), (bison, c) = (made[it] for it in ("ycc", "byacc", "bison"))
+    times = [f"{it:.1f} ns" for it in (ours, byacc, bison)]
+    shares = [f"{ours / min(byacc, bison):.2f}", f"{size / c:.2f}"]
+    cells = [name, *times, shares[0], f"{size:,}", f"{b:,}", f"{c:,}", shares[1]]
+    return f"| {' | '.join(cells)} |"
+
+
+def main(words):
+    """Times the parsers of all grammars."""
+    given = asked(__doc__, words, ("yacc", "ycc"))
+    print(f"| {' | '.join(HEADINGS)} |")
+    print(f"|{'---|' * len(HEADINGS)}")
+    for name, text in grammars_of(given.words):
+        plain = bare(text, b"").decode()
+        print(row(name, measured(given.programs["yacc"], given.programs["ycc"], plain)), flush=True)
