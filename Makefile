@@ -12,28 +12,31 @@
 # make features   builds small programs, each of which uses a feature of bison's or byacc's files, by the peer and by ycc, and compares what they do; it takes bison, byacc and a C compiler; some minutes
 # make packages   builds some source packages of Debian with parsers that ycc makes and with those of byacc or bison, runs their own tests, and gives both builds 300 spoiled inputs for each program; PACKAGES="bc units" names some. It takes a network, byacc, bison, flex, cmake, automake and meson
 # make drivers    builds the drivers in C and Python, and compares their steps with those of ystep, over scenarios, at random and by tables that are wrong
-# make install    copies programs, manual pages, drivers and books below PREFIX (/usr/local), and with DESTDIR below that; make build comes first. YACC_LINK=1 makes bin/yacc a link to ycc, for builds that call it so; YACC_TABLES=1 installs the program of this name that writes tables and no C
-# make uninstall  takes the same files away
-# make dist       packs what git has of this state into bin/; VERSION=1.0 names it
+# make install    copies programs, manual pages, completions, drivers and books below PREFIX (/usr/local), and with DESTDIR below that; make build comes first. The yacc that writes tables and no C goes to libexec/sulderko; TABLE_WRITER=1 puts it into bin. YACC_LINK=1 makes bin/yacc a symbolic link to ycc, for builds that call it so
+# make uninstall  takes the same files away; a bin/yacc that isn't ours stays
+# make dist       packs what git has of this state into bin/; its name has what VERSION says
+# make deb        makes a Debian package in bin/ of the programs there; make deb-test tries it in a scratch root, with lintian, CMake and Meson (packaging/README.md says what both need)
 # make imports    imports grammars drawn at random, for a minute, and those of some source packages of Debian, by the programs that make build left, and compares their tables with bison's; FILES="a.y b.y" or PACKAGES="bash" names others. It takes bison and a network
 # make hostile    runs both programs, proved, between devices that fail and on hostile files and streams, and ydebug on full disks and pipes that nobody reads
-# make edits      tries every wrong body that the prover must refuse, also those that the gate leaves out, on a copy; some 40 minutes
+# make edits      tries every mutant that the prover must refuse, also those that the gate leaves out, on a copy; some 40 minutes
 # make selftest   gives each check wrong answers, which it has to catch; under a minute
 # make try-install   tries make install, uninstall and dist in an empty folder, by the programs that make build left
-# make test       the gate: every proof from nothing, the wrong bodies in must-fail, the tests, the stored runs, make selftest, the scenarios, make hostile, make refuse over three examples, the allocations of every session, the parsers, the drivers, each comparison for half a minute at most, and the pages where there is a browser
+# make test       the gate: every proof from nothing, the mutants in must-fail, the tests, the stored runs, make selftest, the scenarios, make hostile, make refuse over three examples, the allocations of every session, the parsers, the drivers, each comparison for half a minute at most, and the pages where there is a browser
 #
 # python3 -m checks --help lists all checks as commands; python3 -m checks scenario NAME runs one scenario.
-.PHONY: demo examples scenarios accept build bench refuse debug page-test compare parsers features packages drivers install uninstall dist imports hostile edits selftest try-install test
+.PHONY: demo examples scenarios accept build bench refuse debug page-test compare parsers features packages drivers install uninstall dist deb deb-test imports hostile edits selftest try-install test
 
 # The checks, and where `make build` leaves a program. Without a path a check takes crates/NAME/out/NAME.
 checks := python3 -m checks
 at = $(foreach name,$(1),$(name)=bin/$(name))
 
 PREFIX ?= /usr/local
-VERSION ?= 1.0
+LIBDIR ?= lib
+ZSHDIR ?= share/zsh/site-functions
+VERSION := $(shell cat VERSION)
 there := $(DESTDIR)$(PREFIX)
 shared := share/ydriver
-books := share/doc/ydriver
+books := share/doc/sulderko
 
 demo:
 	@sh examples/demo.sh statements
@@ -88,10 +91,16 @@ bin/libydriver.a: drivers/c/ydriver.c drivers/c/ydriver.h
 drivers: build bin/libydriver.a
 	@$(checks) drivers $(call at,yacc ystep ydebug)
 
-.PHONY: bin/ydriver.pc
-bin/ydriver.pc: drivers/c/ydriver.pc.in Makefile
-	@mkdir -p bin
-	@sed 's,@PREFIX@,$(PREFIX),; s,@VERSION@,$(VERSION),' $< > $@
+# The files that name where things are.
+writer := $(if $(TABLE_WRITER),bin/yacc,libexec/sulderko/yacc)
+filled := bin/ydriver.pc bin/SulderkoConfig.cmake bin/SulderkoConfigVersion.cmake
+fill = mkdir -p bin && sed 's,@PREFIX@,$(PREFIX),; s,@LIBDIR@,$(LIBDIR),; s,@WRITER@,$(writer),; s,@VERSION@,$(VERSION),' $< > $@
+
+.PHONY: $(filled)
+bin/ydriver.pc: drivers/c/ydriver.pc.in
+	@$(fill)
+bin/SulderkoConfig.cmake bin/SulderkoConfigVersion.cmake: bin/%.cmake: packaging/cmake/%.cmake.in
+	@$(fill)
 
 # What is copied: a mode, a file, and where it goes.
 define copies
@@ -102,8 +111,18 @@ define copies
 644 man/ystep.1 share/man/man1/ystep.1
 644 man/ydebug.1 share/man/man1/ydebug.1
 644 drivers/c/ydriver.h include/ydriver.h
-644 bin/libydriver.a lib/libydriver.a
-644 bin/ydriver.pc lib/pkgconfig/ydriver.pc
+644 bin/libydriver.a $(LIBDIR)/libydriver.a
+644 bin/ydriver.pc $(LIBDIR)/pkgconfig/ydriver.pc
+644 bin/SulderkoConfig.cmake share/cmake/Sulderko/SulderkoConfig.cmake
+644 bin/SulderkoConfigVersion.cmake share/cmake/Sulderko/SulderkoConfigVersion.cmake
+644 packaging/completions/bash/ycc share/bash-completion/completions/ycc
+644 packaging/completions/bash/ystep share/bash-completion/completions/ystep
+644 packaging/completions/bash/ydebug share/bash-completion/completions/ydebug
+644 packaging/completions/bash/yacc share/bash-completion/completions/yacc
+644 packaging/completions/zsh/_ycc $(ZSHDIR)/_ycc
+644 packaging/completions/zsh/_ystep $(ZSHDIR)/_ystep
+644 packaging/completions/zsh/_ydebug $(ZSHDIR)/_ydebug
+644 packaging/completions/zsh/_yacc $(ZSHDIR)/_yacc
 644 drivers/c/ydriver.c $(shared)/ydriver.c
 644 drivers/c/calculator.c $(shared)/calculator.c
 644 drivers/python/ydriver.py $(shared)/ydriver.py
@@ -112,30 +131,50 @@ define copies
 644 docs/TUTORIAL.md $(books)/TUTORIAL.md
 644 docs/FORMATS.md $(books)/FORMATS.md
 644 docs/FAULTS.md $(books)/FAULTS.md
+644 packaging/examples/CMakeLists.txt $(books)/examples/CMakeLists.txt
+644 packaging/examples/meson.build $(books)/examples/meson.build
+644 examples/calculator-c/calc.y $(books)/examples/calc.y
+644 drivers/calculator.y $(books)/examples/calculator.y
+644 drivers/c/calculator.c $(books)/examples/calculator.c
 endef
 export copies
 
-# The program that writes tables and no C is installed by its name, `yacc`, where that is asked for.
-define tables
+# The program that writes tables and no C is on the path only where that is asked for.
+define aside
+755 bin/yacc libexec/sulderko/yacc
+644 man/yacc.1 share/man/man1/sulderko-yacc.1
+endef
+define on_path
 755 bin/yacc bin/yacc
 644 man/yacc.1 share/man/man1/yacc.1
 endef
-export tables
+export aside on_path
 
-install: bin/libydriver.a bin/ydriver.pc
-	@test -z "$(YACC_TABLES)" || test -z "$(YACC_LINK)" || { echo "YACC_TABLES and YACC_LINK both want bin/yacc"; exit 1; }
+install: bin/libydriver.a $(filled)
+	@test -z "$(TABLE_WRITER)" || test -z "$(YACC_LINK)" || { echo "TABLE_WRITER and YACC_LINK both want bin/yacc"; exit 1; }
 	@for name in ycc yacc ystep ydebug; do test -x bin/$$name || { echo "no bin/$$name: make build"; exit 1; }; done
-	@{ echo "$$copies"; test -z "$(YACC_TABLES)" || echo "$$tables"; } | while read -r mode from to; do \
+	@{ echo "$$copies"; echo "$$$(if $(TABLE_WRITER),on_path,aside)"; } | while read -r mode from to; do \
 	  mkdir -p "$(there)/$${to%/*}" && install -m "$$mode" "$$from" "$(there)/$$to" || exit 1; done
 	@test -z "$(YACC_LINK)" || ln -sf ycc "$(there)/bin/yacc"
 
 uninstall:
-	@{ echo "$$copies"; echo "$$tables"; } | while read -r mode from to; do rm -f "$(there)/$$to" || exit 1; done
-	@for folder in $(shared) $(books); do rmdir "$(there)/$$folder" 2> /dev/null || true; done
+	@{ echo "$$copies"; echo "$$aside"; } | while read -r mode from to; do rm -f "$(there)/$$to" || exit 1; done
+	@test "$$(readlink "$(there)/bin/yacc")" != ycc || rm "$(there)/bin/yacc"
+	@echo "$$on_path" | while read -r mode from to; do \
+	  ! cmp -s "$$from" "$(there)/$$to" || rm "$(there)/$$to" || exit 1; done
+	@for folder in $(shared) $(books)/examples $(books) share/cmake/Sulderko libexec/sulderko; do \
+	  rmdir "$(there)/$$folder" 2> /dev/null || true; done
 
 dist:
 	@mkdir -p bin
-	@git archive --prefix=ydriver-$(VERSION)/ -o bin/ydriver-$(VERSION).tar.gz HEAD
+	@git archive --prefix=sulderko-$(VERSION)/ -o bin/sulderko-$(VERSION).tar.gz HEAD
+
+deb:
+	@sh packaging/build.sh "$(VERSION)"
+
+deb-test: deb
+	@sh packaging/try.sh bin/sulderko_$(VERSION)_*.deb
+
 imports:
 	@$(checks) cells $(call at,ydebug)
 	@$(checks) imports $(call at,ydebug yacc) $(FILES) $(PACKAGES)

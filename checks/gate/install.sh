@@ -16,9 +16,14 @@ cd "$room"
 test "$(readlink "$there/bin/yacc")" = ycc || fail "no link"
 cp "$top/examples/calculator-c/"* .  2> /dev/null || true
 make -s YACC="$there/bin/yacc" check || fail "other sums by ycc"
-make -s -C "$top" install DESTDIR="$room/root" PREFIX=/opt/y YACC_TABLES=1
+rm "$there/bin/yacc"
+make -s -C "$top" install DESTDIR="$room/root" PREFIX=/opt/y
+test ! -e "$there/bin/yacc" || fail "a table writer on the path"
+"$there/libexec/sulderko/yacc" -b aside "$top/examples/one-rule/grammar.y"
+make -s -C "$top" install DESTDIR="$room/root" PREFIX=/opt/y TABLE_WRITER=1
 
 "$there/bin/yacc" "$top/examples/one-rule/grammar.y"
+cmp y.tab aside.tab || fail "another table aside"
 cmp y.tab "$top/examples/one-rule/tables/left/y.tab" || fail "another table"
 for page in yacc ycc ystep ydebug; do
   "$there/bin/$page" --help > /dev/null || fail "no help of $page"
@@ -41,8 +46,8 @@ left=$(find "$room/root" -type f)
 test -z "$left" || fail "left behind: $left"
 
 make -s -C "$top" dist VERSION=0
-tar xzf "$top/bin/ydriver-0.tar.gz"
-rm "$top/bin/ydriver-0.tar.gz"
-test -f ydriver-0/README.md || fail "no README in the archive"
-make -s -C ydriver-0 bin/libydriver.a
+tar xzf "$top/bin/sulderko-0.tar.gz"
+rm "$top/bin/sulderko-0.tar.gz"
+test -f sulderko-0/README.md || fail "no README in the archive"
+make -s -C sulderko-0 bin/libydriver.a
 echo "installed, run, taken away, packed"

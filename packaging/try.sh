@@ -1,0 +1,92 @@
+#!/bin/sh
+# Tries a Debian package: lintian finds no error and no warning; in an empty root it installs, its
+# programs run, its completions name the options of the programs, a project is built by CMake and by
+# Meson with what it installed, and nothing is left after its removal.
+#
+#     try.sh PACKAGE [ROOT]
+#
+# ROOT is a Debian root (debootstrap makes one): the package is installed, run and removed there too.
+set -eu
+top=$(cd "$(dirname "$0")/.." && pwd)
+package=$(readlink -f "$1")
+debian=${2:-}
+room=$(mktemp -d)
+trap 'rm -rf "$room"' EXIT
+root=$room/root
+fail() { echo "try.sh: $1"; exit 1; }
+
+# An empty root has no libc6, so dpkg is told to go on without it; the programs then run by the
+# libraries of this machine.
+dpkg_there() { dpkg --root="$root" --force-not-root --force-depends --log="$room/log" "$@" > "$room/dpkg" 2>&1; }
+
+answers() { cmp -s "$1" "$2" || fail "other sums by $3"; }
+
+options_of() { "$@" --help | grep -o -E -e '(^|[ ,])--?[A-Za-z][A-Za-z-]*' | tr -d ' ,' | sort -u; }
+
+named() {
+  file=$1
+  shift
+  for option in $(options_of "$@"); do
+    for shell in bash-completion/completions/ zsh/vendor-completions/_; do
+      grep -q -E -e "(^|[^-A-Za-z])$option([^-A-Za-z]|\$)" "$root/usr/share/$shell$file" ||
+        fail "$shell$file lacks $option of $*"
+    done
+  done
+}
+
+run_there() {
+  cd "$room"
+  PATH=$root/usr/bin:$PATH
+  for name in ycc ystep ydebug; do "$name" --help > /dev/null || fail "no help of $name"; done
+  "$root/usr/libexec/sulderko/yacc" "$top/examples/one-rule/grammar.y"
+  cmp -s y.tab "$top/examples/one-rule/tables/left/y.tab" || fail "another table"
+}
+
+completed() {
+  for name in ycc ystep ydebug; do named "$name" "$name"; done
+  named yacc "$root/usr/libexec/sulderko/yacc"
+  for form in check conflicts import lex-spec page rules tokens; do
+    named ydebug ydebug "$form"
+  done
+}
+
+built() {
+  cp -r "$root/usr/share/doc/sulderko/examples" "$room/project"
+  cd "$room/project"
+  cmake -S . -B by-cmake -DCMAKE_PREFIX_PATH="$root/usr" -DCMAKE_FIND_USE_CMAKE_SYSTEM_PATH=OFF > "$room/cmake" ||
+    { cat "$room/cmake"; fail "no build files by CMake"; }
+  cmake --build by-cmake > "$room/cmake" || { cat "$room/cmake"; fail "no build by CMake"; }
+  PKG_CONFIG_LIBDIR=$(echo "$root"/usr/lib/*/pkgconfig) PKG_CONFIG_YDRIVER_PREFIX=$root/usr \
+    meson setup by-meson > "$room/meson" || { cat "$room/meson"; fail "no build files by Meson"; }
+  meson compile -C by-meson > "$room/meson" || { cat "$room/meson"; fail "no build by Meson"; }
+  for way in by-cmake by-meson; do
+    "$way/calc" < "$top/examples/calculator-c/sums" > "$room/sums"
+    answers "$room/sums" "$top/examples/calculator-c/answers" "calc $way"
+    "$way/calculator" "$way/calculator.tab" < "$top/drivers/sums" > "$room/sums" || test $? -eq 1
+    answers "$room/sums" "$top/drivers/answers" "calculator $way"
+  done
+}
+
+lintian --fail-on error,warning "$package" || fail "lintian"
+mkdir -p "$root/var/lib/dpkg/info" "$root/var/lib/dpkg/updates"
+: > "$root/var/lib/dpkg/status"
+dpkg_there -i "$package" || { cat "$room/dpkg"; fail "not installed"; }
+run_there
+completed
+built
+dpkg_there --purge sulderko || { cat "$room/dpkg"; fail "not removed"; }
+left=$(find "$root/usr" -not -type d 2> /dev/null || true)
+test -z "$left" || fail "left: $left"
+
+if test -n "$debian"; then
+  cp "$package" "$debian/tmp/package.deb"
+  cp "$top/examples/one-rule/grammar.y" "$debian/tmp/grammar.y"
+  chroot "$debian" dpkg -i /tmp/package.deb > "$room/dpkg" 2>&1 || { cat "$room/dpkg"; fail "not installed in $debian"; }
+  for name in ycc ystep ydebug; do chroot "$debian" "$name" --help > /dev/null || fail "no help of $name in $debian"; done
+  chroot "$debian" /usr/libexec/sulderko/yacc -b /tmp/y /tmp/grammar.y
+  cmp -s "$debian/tmp/y.tab" "$top/examples/one-rule/tables/left/y.tab" || fail "another table in $debian"
+  chroot "$debian" dpkg --purge sulderko > "$room/dpkg" 2>&1 || fail "not removed from $debian"
+  rm -f "$debian/tmp/package.deb" "$debian/tmp/grammar.y" "$debian/tmp/y.tab"
+  test ! -e "$debian/usr/bin/ycc" || fail "left in $debian: ycc"
+fi
+echo "packed, installed, run, built by CMake and Meson, removed"
