@@ -6,7 +6,7 @@ use std::alloc::{AllocError, Global};
 /// The other forms, as the help text has them.
 const FORMS: &str = "Other forms:\n\
     \x20 ydebug conflicts grammar [--save FOLDER] [--strict]\n\
-    \x20 ydebug check grammar tokens.. [--lex SPEC] [--choice]\n\
+    \x20 ydebug check grammar tokens.. [--lex SPEC] [--choice] [--plain]\n\
     \x20 ydebug page grammar tokens [--lex SPEC] [-o FILE] [--from K] [--to K] [--conflicts]\n\
     \x20 ydebug tokens grammar --lex SPEC input\n\
     \x20 ydebug lex-spec grammar\n\
@@ -15,7 +15,7 @@ const FORMS: &str = "Other forms:\n\
 /// What is written where the words are not those of the program.
 pub const USAGE: &[u8] = b"usage: ydebug grammar tokens [--lex SPEC]\n\
     \x20      ydebug conflicts grammar [--save FOLDER] [--strict]\n\
-    \x20      ydebug check grammar tokens.. [--lex SPEC] [--choice]\n\
+    \x20      ydebug check grammar tokens.. [--lex SPEC] [--choice] [--plain]\n\
     \x20      ydebug page grammar tokens [--lex SPEC] [-o FILE] [--from K] [--to K] [--conflicts]\n\
     \x20      ydebug tokens grammar --lex SPEC input\n\
     \x20      ydebug lex-spec grammar\n\
@@ -164,6 +164,11 @@ const CHECK: &[Word] = &[
         "choice",
         Given::Flag,
         "Says whether the grammar is free of choices",
+    ),
+    Word(
+        "plain",
+        Given::Flag,
+        "Writes a plain line for the grammar and for each input",
     ),
 ];
 

@@ -6,14 +6,20 @@
 //! rules grammar` names the rules of a grammar for programs that read its table.
 //!
 //! `forms` has the words of the forms, and `near` what could be meant by others; what the forms are
-//! given is opened by `ysources`.
+//! given is opened by `yinput`.
 #![tactic(auto)]
 
+mod check;
 mod forms;
 mod near;
+mod sketch;
+mod tokens;
 
+use crate::check::run_check;
 use crate::forms::{Form, USAGE, command_of, form_of, name_of};
 use crate::near::{put_near_form, put_near_words};
+use crate::sketch::run_sketch;
+use crate::tokens::run_tokens;
 use clap::error::ErrorKind;
 use clap::{ArgMatches, Command};
 use std::alloc::{AllocError, Global};
@@ -23,15 +29,13 @@ use std::process::ExitCode;
 use ydebugger::{Setting, debug};
 use yfiles::reading::{LONGEST_INPUT, Limited};
 use yimported::run::{Asked as Import, run_import};
+use yinput::grammars::{GrammarFile, open_file};
+use yinput::language::LanguageFiles;
+use yinput::source::Source;
 use ypage::page::{self, run_page};
 use ypage::walk::Part;
 use yreports::report::{Asked, put_conflicts};
 use yrules::run::{Asked as Rules, run_rules};
-use ysources::check::{self, check_inputs};
-use ysources::grammars::{GrammarFile, open_file};
-use ysources::sketch::run_sketch;
-use ysources::source::Source;
-use ysources::tokens::run_tokens;
 
 /// The exit status of a program that a signal ends since its pipe has no reader any more.
 const ENDED_BY_PIPE: u8 = 141;
@@ -119,6 +123,14 @@ fn grammar_in<'a>(matches: &ArgMatches<'a>) -> Result<GrammarFile<'a>, Refused> 
     }
 }
 
+/// The files of a language.
+fn language_in<'a>(matches: &ArgMatches<'a>) -> Result<LanguageFiles<'a>, Refused> {
+    Ok(LanguageFiles {
+        grammar: grammar_in(matches)?,
+        spec: matches.get_str("lex"),
+    })
+}
+
 /// The number that a word is.
 fn number_in(word: &str) -> Result<usize, Refused> {
     word.parse::<usize>().map_err(|_| Refused::Words)
@@ -187,25 +199,25 @@ fn check_files<W: Write>(
     out: &mut W,
 ) -> Result<u8, Refused> {
     let asked = check::Asked {
-        grammar: grammar_in(matches)?,
+        files: language_in(matches)?,
         inputs: matches.get_strs("tokens").unwrap_or(&[]),
-        spec: matches.get_str("lex"),
         choice: is_given(matches, "choice"),
+        plain: is_given(matches, "plain"),
         most: most_of(matches)?,
     };
-    let streams = (&mut rt.stdin(), out);
-    Ok(check_inputs(rt, asked, streams, &mut rt.stderr())?)
+    Ok(run_check(rt, asked, &mut rt.stdin(), out, &mut rt.stderr())?)
 }
 
 /// A page of a parse.
 fn page<W: Write>(rt: &HostRuntime, matches: &ArgMatches<'_>, out: &mut W) -> Result<u8, Refused> {
     let (bison, from) = page_from(matches.get_strs("from").unwrap_or(&[]))?;
     let path = value_of(matches, "grammar")?;
+    let grammar = GrammarFile { path, bison };
+    let spec = matches.get_str("lex");
     let source = Source {
         rt,
-        grammar: GrammarFile { path, bison },
+        files: LanguageFiles { grammar, spec },
         input: input_of(matches, value_of(matches, "tokens")?)?,
-        spec: matches.get_str("lex"),
     };
     let to = number_of(matches, "to")?;
     let asked = page::Asked {
@@ -235,10 +247,9 @@ fn cut_file<W: Write>(
     matches: &ArgMatches<'_>,
     out: &mut W,
 ) -> Result<u8, Refused> {
-    let file = grammar_in(matches)?;
+    let files = language_in(matches)?;
     let input = input_of(matches, value_of(matches, "tokens")?)?;
-    let files = (value_of(matches, "lex")?, input);
-    Ok(run_tokens(rt, file, files, out, &mut rt.stderr())?)
+    Ok(run_tokens(rt, files, input, out, &mut rt.stderr())?)
 }
 
 /// A sketch of how tokens look.
@@ -298,9 +309,8 @@ fn debug_files<W: Write>(
 ) -> Result<u8, Refused> {
     let source = Source {
         rt,
-        grammar: grammar_in(matches)?,
+        files: language_in(matches)?,
         input: input_of(matches, value_of(matches, "tokens")?)?,
-        spec: matches.get_str("lex"),
     };
     match source.open(&mut rt.stderr())? {
         Ok(parse) => {
@@ -309,7 +319,7 @@ fn debug_files<W: Write>(
         }
         Err(status) => {
             // Why there is no session is said; memory may have run out, and a hint is no more.
-            let _ = put_near_form(rt, &mut rt.stderr(), source.grammar.path);
+            let _ = put_near_form(rt, &mut rt.stderr(), source.files.grammar.path);
             Ok(status)
         }
     }

@@ -5,7 +5,7 @@ use std::io::Write;
 use yconflicts::groups::Conflicts;
 use yexplain::why::explain;
 use yfindings::kinds::{put_counts, put_named, put_states};
-use yfollow::Parse;
+use yinput::Parse;
 use yshow::page::Page;
 
 /// How many kinds of conflicts are explained, and how many are named at most.

@@ -3,7 +3,7 @@
 use std::alloc::{AllocError, Global};
 use std::io::Write;
 use yexplain::reads::grammar_of;
-use yfollow::expected::{Wanted, expected};
+use yinput::expected::{Wanted, expected};
 use yparse::Session;
 use yparse::machine::Mode;
 use yshow::page::Page;

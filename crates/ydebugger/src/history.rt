@@ -2,7 +2,7 @@
 
 use std::io::Write;
 use yexplain::reads::grammar_of;
-use yfollow::Parse;
+use yinput::Parse;
 use yparse::Session;
 use yparse::machine::StepKind;
 use yshow::page::Page;

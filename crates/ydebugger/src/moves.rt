@@ -7,7 +7,7 @@ use std::io::Write;
 use ycommands::condition::{Condition, put_cell};
 use ycommands::refusal::fault_words;
 use ycommands::travel::{LAST, Move, is_to, tells_each, until_of};
-use yfollow::Parse;
+use yinput::Parse;
 use yparse::machine::{StepFault, StepKind};
 use yshow::page::Page;
 use yshow::step_line::{StepLine, put_made};

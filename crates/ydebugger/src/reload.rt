@@ -5,11 +5,11 @@ use std::mem;
 use std::rt::Files;
 use ycommands::refusal::{Refusal, fault_words, put_refusal};
 use yexplain::reads::grammar_of;
-use yfollow::Parse;
+use yinput::Parse;
 use yparse::machine::{StepFault, StepKind};
 use yshow::page::Page;
 use yshow::reading::name_of;
-use ysources::source::Source;
+use yinput::source::Source;
 use ysymbols::Grammar;
 
 /// Why the past isn't made again.

@@ -3,8 +3,8 @@
 use std::io::Write;
 use yexplain::lines::Spots;
 use yexplain::reads::grammar_of;
-use yfollow::Parse;
-use yfollow::source::Text;
+use yinput::Parse;
+use yinput::text::Text;
 use yshow::page::Page;
 use yshow::place_view::{MANY, put_more};
 use yshow::reading::{name_of, upcoming_token};

@@ -10,7 +10,7 @@ use ycommands::verb::Verb;
 use ycommands::words::first_word;
 use yexplain::reads::grammar_of;
 use yexplain::why::{Question, explain};
-use yfollow::Parse;
+use yinput::Parse;
 use yparse::Session;
 use yparse::machine::Mode;
 use yshow::derivation::{SOME_FORMS, put_derivation, size_of_derivation};

@@ -4,7 +4,7 @@ use crate::record::Record;
 use serde::Serialize;
 use std::alloc::{AllocError, Global};
 use yexplain::lines::Spots;
-use yfollow::Parse;
+use yinput::Parse;
 use yparse::Session;
 use yparse::machine::StepKind;
 use yshow::reading::upcoming_token;

@@ -4,7 +4,7 @@ use crate::record::{Record, Start};
 use indexmap::IndexSet;
 use std::alloc::{AllocError, Global};
 use std::io::{self, ErrorKind};
-use yfollow::Parse;
+use yinput::Parse;
 use yparse::machine::{StepFault, StepKind};
 use yshow::reading::{is_running, token_ahead};
 use ysymbols::Sym;

@@ -9,7 +9,7 @@ use ygrammar::{Mapped, Mark, read_mapped};
 use yimport::import::import;
 use yimported::opening::open_text;
 use yimported::run::open_foreign;
-use ysources::grammars::GrammarFile;
+use yinput::grammars::GrammarFile;
 
 /// A grammar file that is open: the text that `yacc` reads, and what that comes to.
 #[derive(Drop)]

@@ -18,15 +18,6 @@ pub struct GrammarFile<'a> {
     pub bison: bool,
 }
 
-/// A SPEC for a grammar file.
-#[derive(Clone, Copy)]
-pub struct SpecFile<'a> {
-    /// The path of the SPEC.
-    pub path: &'a str,
-    /// The path of the grammar file.
-    pub grammar: &'a str,
-}
-
 /// Opens a grammar file. Where it is refused, that is written, and the exit status is the answer.
 pub fn open_file<F: Files + AllocGlobal, E: Write>(
     rt: &F,

@@ -1,15 +1,14 @@
 //! `ydebug tokens`: the tokens of a text as a tokens file.
 
-use crate::cut::{Cut, cut_file};
-use crate::grammars::{GrammarFile, SpecFile, open_file};
 use std::io::{self, Write};
 use std::rt::Files;
 use yexplain::lines::newlines;
 use yexplain::reads::grammar_of;
 use yexplain::text::Name;
-use yfaults::opening::Opened;
 use yfiles::reading::Limited;
-use ysymbols::Grammar;
+use yinput::language::{Language, LanguageFiles};
+use yinput::text::Text;
+use ysymbols::{Grammar, Sym};
 
 /// Writes as many newlines as stand between two tokens, or a space where none does.
 fn put_between<W: Write>(out: &mut W, between: &[u8]) -> io::Result<()> {
@@ -24,11 +23,15 @@ fn put_between<W: Write>(out: &mut W, between: &[u8]) -> io::Result<()> {
 }
 
 /// Writes the tokens of a text, each on the line that it has there.
-fn put_tokens<W: Write>(out: &mut W, grammar: &Grammar, cut: &Cut) -> io::Result<()> {
+fn put_tokens<W: Write>(
+    out: &mut W,
+    grammar: &Grammar,
+    tokens: &[Sym],
+    text: &Text,
+) -> io::Result<()> {
     let mut before = 0;
-    let tokens = cut.lexed.tokens.symbols.iter().zip(&cut.lexed.places);
-    for (index, (symbol, place)) in tokens.enumerate() {
-        let between = cut.bytes.get(before..*place).unwrap_or(&[]);
+    for (index, (symbol, place)) in tokens.iter().zip(&text.places).enumerate() {
+        let between = text.bytes.get(before..*place).unwrap_or(&[]);
         if index > 0 || between.contains(&b'\n') {
             put_between(out, between)?;
         }
@@ -39,38 +42,40 @@ fn put_tokens<W: Write>(out: &mut W, grammar: &Grammar, cut: &Cut) -> io::Result
     writeln!(out)
 }
 
-/// Writes the tokens of a text by a grammar that is open, and gives the exit status.
-fn put_file<F: Files + AllocGlobal, W: Write, E: Write>(
+/// Writes the tokens of a text of a language, and gives the exit status.
+fn put_input<F: Files + AllocGlobal, W: Write, E: Write>(
     rt: &F,
+    language: &Language,
+    input: Limited<'_>,
     out: &mut W,
     errors: &mut E,
-    opened: &Opened,
-    spec: SpecFile<'_>,
-    input: Limited<'_>,
 ) -> io::Result<u8> {
-    let mut cut = Cut::new(rt.alloc());
-    let status = cut_file(rt, opened, spec, input, &mut cut, errors)?;
-    if status == 0 {
-        put_tokens(out, grammar_of(&opened.tables), &cut)?;
+    match language.read(rt, input)? {
+        Ok(input) => {
+            if let Some(text) = &input.text {
+                let grammar = grammar_of(&language.opened.tables);
+                put_tokens(out, grammar, &input.tokens.symbols, text)?;
+            }
+            Ok(0)
+        }
+        Err(fault) => {
+            fault.put(rt, errors, &language.opened)?;
+            Ok(fault.status())
+        }
     }
-    Ok(status)
 }
 
 /// Writes a tokens file of a text that a SPEC cuts, and gives the exit status: 1 where the grammar,
 /// the SPEC or the text is refused, 3 where one can't be read or memory runs out.
 pub fn run_tokens<F: Files + AllocGlobal, W: Write, E: Write>(
     rt: &F,
-    file: GrammarFile<'_>,
-    (spec, input): (&str, Limited<'_>),
+    files: LanguageFiles<'_>,
+    input: Limited<'_>,
     out: &mut W,
     errors: &mut E,
 ) -> io::Result<u8> {
-    let spec = SpecFile {
-        path: spec,
-        grammar: file.path,
-    };
-    match open_file(rt, file, errors)? {
-        Ok(opened) => put_file(rt, out, errors, &opened, spec, input),
+    match Language::open(rt, files, errors)? {
+        Ok(language) => put_input(rt, &language, input, out, errors),
         Err(status) => Ok(status),
     }
 }

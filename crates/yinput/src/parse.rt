@@ -1,10 +1,13 @@
 //! A session with what a person is told of its files.
 
-use crate::source::Text;
+use crate::language::{Input, Language};
+use crate::text::Text;
+use std::alloc::Global;
+use std::io::{self, ErrorKind};
 use yexplain::lines::Lines;
 use yfaults::opening::Opened;
-use yparse::Session;
 use yparse::machine::{AtStart, StepFault, StepKind};
+use yparse::{Session, Tokens};
 use ytables::Tables;
 
 /// A session, the lines of its grammar's file, how many tokens its own file has, and that file,
@@ -28,14 +31,31 @@ impl Drop for Parse {
     }
 }
 
+/// A session over tokens; `None` where one of them is no token of the tables.
+fn session_of(alloc: Global, tables: Tables, tokens: Tokens) -> Option<Session> {
+    if tokens.fits(&tables) {
+        Some(Session::new(alloc, tables, tokens))
+    } else {
+        drop(tables);
+        drop(tokens);
+        None
+    }
+}
+
 impl Parse {
-    /// A session at its start, with the text that its tokens were read from, where it was one.
-    pub fn new(session: Session, lines: Lines, tokens: usize, text: Option<Text>) -> Parse {
-        Parse {
-            session,
-            lines,
-            tokens,
-            text,
+    /// A parse of an input of a language, at its start.
+    pub fn new(alloc: Global, language: Language, input: Input) -> io::Result<Parse> {
+        let Opened { tables, lines } = language.into_opened();
+        let Input { tokens, text } = input;
+        let count = tokens.len();
+        match session_of(alloc, tables, tokens) {
+            Some(session) => Ok(Parse {
+                session,
+                lines,
+                tokens: count,
+                text,
+            }),
+            None => Err(io::Error::from(ErrorKind::Other)),
         }
     }
 

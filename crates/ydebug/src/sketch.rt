@@ -1,11 +1,11 @@
 //! `ydebug lex-spec`: a SPEC for a grammar.
 
-use crate::grammars::{GrammarFile, open_file, used_in};
 use std::alloc::Global;
 use std::io::{self, Write};
 use std::rt::Files;
 use yexplain::reads::grammar_of;
 use yfaults::opening::Opened;
+use yinput::grammars::{GrammarFile, open_file, used_in};
 use ylex::sketch::put_sketch;
 
 /// Writes a SPEC for a grammar that is open.
