@@ -65,7 +65,7 @@ page-test: build
 
 compare:
 	@python3 compare/compare.py bin/yacc bin/ystep
-	@python3 compare/verdicts.py bin/verdicts bin/ystep
+	@python3 compare/verdicts.py bin/ydebug bin/ystep
 	@python3 compare/texts.py bin/ydebug
 	@python3 compare/hints.py bin/ydebug
 	@$(if $(FILES),python3 compare/faults.py bin/ystep $(FILES),true)

@@ -1,14 +1,15 @@
 #!/usr/bin/env python3
 """Compares verdicts with sessions: over every scenario's files, and over sentences drawn at random.
 
-    verdicts.py VERDICTS YSTEP [COUNT GRAMMAR..]
+    verdicts.py YDEBUG YSTEP [COUNT GRAMMAR..]
 
-A session's replies to `run 1000000` say what the verdict must be: the position of the acceptance,
+Verdicts are those of `ydebug check --plain`. A session's replies to `run 1000000` say what a verdict must be: the position of the acceptance,
 or the place of the first error that is detected, which is behind the tokens shifted before it. Of
 each GRAMMAR, COUNT sentences are drawn, and a token of every other one is changed. Every difference
 is shown; the last line is `N compared, M differ`.
 """
 import random
+import re
 import subprocess
 import sys
 import tempfile
@@ -47,18 +48,24 @@ def session_says(ystep, grammar, tokens):
     return said_of(ran.stdout)
 
 
-def verdicts_on(verdicts, grammar, files):
+def refusal(message):
+    """The code and the line of a refused grammar file, as a session says them."""
+    line, code = re.search(r":(?:(\d+):)? (\w+): ", message).groups()
+    return f"{code} at line {line}" if line else code
+
+
+def verdicts_on(ydebug, grammar, files):
     """What is said of each tokens file, or of a grammar file without tables."""
-    ran = run([verdicts, grammar, *files])
-    if ran.returncode:
-        return [ran.stderr.strip().split(": ", 2)[2]] * len(files)
+    ran = run([ydebug, "check", "--plain", grammar, *files])
+    if not ran.stdout:
+        return [refusal(ran.stderr)] * len(files)
     return [line.split(": ", 1)[1] for line in ran.stdout.splitlines()[1:]]
 
 
 def differing(programs, grammar, files):
     """How many tokens files differ; each is shown."""
-    verdicts, ystep = programs
-    made = verdicts_on(verdicts, grammar, files)
+    ydebug, ystep = programs
+    made = verdicts_on(ydebug, grammar, files)
     with ThreadPoolExecutor() as pool:
         wanted = list(pool.map(lambda it: session_says(ystep, grammar, it), files))
     differ = [it for it in zip(files, wanted, made) if it[1] != it[2]]

@@ -3,22 +3,26 @@
 //! `ydebug page grammar tokens` makes a page of a parse. `ydebug import file` makes a grammar file
 //! that `yacc` reads out of one for bison. With `--lex SPEC` a text stands in place of a tokens
 //! file; `ydebug tokens` writes the tokens of one, and `ydebug lex-spec` sketches a SPEC. `ydebug
-//! rules grammar` names the rules of a grammar for programs that read its table.
+//! rules grammar` names the rules of a grammar for programs that read its table, and `ydebug table`
+//! writes that as `yacc` does.
 //!
-//! `forms` has the words of the forms, and `near` what could be meant by others; what the forms are
-//! given is opened by `yinput`.
+//! `forms` has the arguments of the forms, and `near` what could be meant by others. `check`,
+//! `tokens`, `sketch` and `table` are forms; the others have a crate each. What the forms are given
+//! is opened by `yinput`.
 #![tactic(auto)]
 
 mod check;
 mod forms;
 mod near;
 mod sketch;
+mod table;
 mod tokens;
 
 use crate::check::run_check;
-use crate::forms::{Form, USAGE, command_of, form_of, name_of};
+use crate::forms::{FORMS, Form, USAGE, command_of, form_of, name_of};
 use crate::near::{put_near_form, put_near_words};
 use crate::sketch::run_sketch;
+use crate::table::run_table;
 use crate::tokens::run_tokens;
 use clap::error::ErrorKind;
 use clap::{ArgMatches, Command};
@@ -45,7 +49,7 @@ const ENDED_BY_PIPE: u8 = 141;
 enum Refused {
     /// The words are not those of the program.
     Words,
-    /// Help was asked for, and is written.
+    /// Help or the version was asked for, and is written.
     Helped,
     /// Memory ran out.
     Memory,
@@ -71,7 +75,7 @@ impl From<io::Error> for Refused {
     }
 }
 
-/// Writes the help that was asked for.
+/// Writes the help or the version that was asked for.
 fn put_help(rt: &HostRuntime, help: &clap::Error) -> Refused {
     let Ok(text) = format!(in rt.alloc(); "{help}") else {
         return Refused::Memory;
@@ -82,10 +86,10 @@ fn put_help(rt: &HostRuntime, help: &clap::Error) -> Refused {
     }
 }
 
-/// Why words are refused. Help that they ask for is written.
+/// Why words are refused. Help or the version that they ask for is written.
 fn refused_for(rt: &HostRuntime, error: &clap::Error) -> Refused {
     match error.kind() {
-        ErrorKind::DisplayHelp => put_help(rt, error),
+        ErrorKind::DisplayHelp | ErrorKind::DisplayVersion => put_help(rt, error),
         ErrorKind::OutOfMemory => Refused::Memory,
         _ => Refused::Words,
     }
@@ -276,6 +280,16 @@ fn name_rules<W: Write>(
     Ok(run_rules(rt, asked, out, &mut rt.stderr())?)
 }
 
+/// The files that `yacc` writes.
+fn write_table(rt: &HostRuntime, matches: &ArgMatches<'_>) -> Result<u8, Refused> {
+    let asked = table::Asked {
+        grammar: value_of(matches, "grammar")?,
+        prefix: matches.get_str("prefix").unwrap_or("y"),
+        report: is_given(matches, "report"),
+    };
+    Ok(run_table(rt, asked, &mut rt.stderr())?)
+}
+
 /// Whether an environment variable is set to something that counts.
 fn is_set(rt: &HostRuntime, name: &str) -> bool {
     match env::var(rt, name) {
@@ -341,6 +355,7 @@ fn obey<W: Write>(
         Form::Tokens => cut_file(rt, matches, out),
         Form::Sketch => sketch_file(rt, matches, out),
         Form::Rules => name_rules(rt, matches, out),
+        Form::Table => write_table(rt, matches),
     }
 }
 
@@ -397,14 +412,18 @@ fn run(rt: &HostRuntime) -> Result<u8, Refused> {
 
 /// Says why nothing was done, and gives the exit status.
 fn refuse(rt: &HostRuntime, refused: Refused) -> u8 {
-    let (text, status): (&[u8], u8) = match refused {
-        Refused::Helped => (b"", 0),
+    let (text, status) = match refused {
+        Refused::Helped => ("", 0),
         Refused::Words => (USAGE, 2),
-        Refused::Memory => (b"ydebug: no memory\n", 3),
-        Refused::Unread => (b"", ENDED_BY_PIPE),
-        Refused::Outside => (b"ydebug: cannot read or write\n", 3),
+        Refused::Memory => ("ydebug: no memory\n", 3),
+        Refused::Unread => ("", ENDED_BY_PIPE),
+        Refused::Outside => ("ydebug: cannot read or write\n", 3),
     };
-    let _ = rt.stderr().write_all(text);
+    let others = if status == 2 { FORMS } else { "" };
+    let mut errors = rt.stderr();
+    for text in [text, others] {
+        let _ = errors.write_all(text.as_bytes());
+    }
     status
 }
 

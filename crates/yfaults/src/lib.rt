@@ -3,7 +3,7 @@
 
 mod coming;
 mod long;
-mod nearest;
+pub mod nearest;
 pub mod opening;
 mod place;
 pub mod shown;
