@@ -9,12 +9,12 @@ use yfaults::nearest::Search;
 use ylalr::{END, ERROR};
 use yparse::Session;
 use yparse::machine::StepKind;
-use yshow::Page;
-use yshow::reading::{
-    has_conflict, is_running, last_rule, last_state, name_of, token_ahead, upcoming_token,
-};
 use ysymbols::{Grammar, Sym};
 use ytables::Tables;
+use yview::Page;
+use yview::reading::{
+    has_conflict, is_running, last_rule, last_state, name_of, token_ahead, upcoming_token,
+};
 
 /// The most entries that a stack has.
 const DEEPEST: usize = 1_000_000;

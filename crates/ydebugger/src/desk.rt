@@ -22,11 +22,11 @@ use ycommands::verb::Verb;
 use ycommands::words::{Found, first_word};
 use yexplain::reads::grammar_of;
 use yinput::Parse;
-use yshow::grammar_view::put_grammar;
-use yshow::place_view::{put_stack, put_where};
-use yshow::reading::{last_rule, states_of};
-use yshow::{Page, Paint};
 use yinput::source::Source;
+use yview::grammar_view::put_grammar;
+use yview::place_view::{put_stack, put_where};
+use yview::reading::{last_rule, states_of};
+use yview::{Page, Paint};
 
 /// Where a session takes place: whether a person sits at a terminal.
 #[derive(Clone, Copy)]

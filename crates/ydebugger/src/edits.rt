@@ -8,10 +8,10 @@ use std::rt::Files;
 use ycommands::refusal::{Refusal, edit_words};
 use yfiles::writing::{write_new, write_over};
 use yinput::Parse;
-use yparse::machine::{StepFault, StepKind};
-use yshow::page::Page;
-use yshow::step_line::{StepLine, put_made};
 use yinput::source::Source;
+use yparse::machine::{StepFault, StepKind};
+use yview::page::Page;
+use yview::step_line::{StepLine, put_made};
 
 /// Writes an edit, or why it wasn't made.
 fn put_edit<W: Write>(page: &mut Page<W>, parse: &Parse, made: Result<StepKind, StepFault>) {

@@ -9,8 +9,8 @@ use ycommands::refusal::fault_words;
 use ycommands::travel::{LAST, Move, is_to, tells_each, until_of};
 use yinput::Parse;
 use yparse::machine::{StepFault, StepKind};
-use yshow::page::Page;
-use yshow::step_line::{StepLine, put_made};
+use yview::page::Page;
+use yview::step_line::{StepLine, put_made};
 
 /// More steps than can be made.
 const FARTHEST: usize = LAST + 1;

@@ -6,11 +6,11 @@ use std::rt::Files;
 use ycommands::refusal::{Refusal, fault_words, put_refusal};
 use yexplain::reads::grammar_of;
 use yinput::Parse;
-use yparse::machine::{StepFault, StepKind};
-use yshow::page::Page;
-use yshow::reading::name_of;
 use yinput::source::Source;
+use yparse::machine::{StepFault, StepKind};
 use ysymbols::Grammar;
+use yview::page::Page;
+use yview::reading::name_of;
 
 /// Why the past isn't made again.
 #[derive(Clone, Copy)]

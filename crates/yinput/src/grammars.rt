@@ -3,10 +3,10 @@
 use std::alloc::{AllocError, Global};
 use std::io::{self, Write};
 use std::rt::Files;
+use ybison::import::open_foreign;
+use ybison::opening::open_text;
 use yexplain::reads::{body_of, set};
 use yfaults::opening::{Opened, grammar_bytes, put_unread};
-use yimported::opening::open_text;
-use yimported::run::open_foreign;
 use ysymbols::Grammar;
 
 /// A grammar file.

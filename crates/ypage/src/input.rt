@@ -7,8 +7,8 @@ use yexplain::lines::Spots;
 use yinput::Parse;
 use yparse::Session;
 use yparse::machine::StepKind;
-use yshow::reading::upcoming_token;
 use ysymbols::Sym;
+use yview::reading::upcoming_token;
 
 /// How many tokens before the first position are shown.
 const BEFORE: usize = 100;

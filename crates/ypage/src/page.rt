@@ -165,7 +165,11 @@ pub fn run_page<F: Files + AllocGlobal, W: Write, E: Write>(
     errors: &mut E,
 ) -> io::Result<u8> {
     let grammar = source.files.grammar.path;
-    let inputs = [grammar, source.input.path, source.files.spec.unwrap_or(grammar)];
+    let inputs = [
+        grammar,
+        source.input.path,
+        source.files.spec.unwrap_or(grammar),
+    ];
     if let Some(status) = refused_output(source.rt, asked.file, &inputs, errors)? {
         return Ok(status);
     }

@@ -1,8 +1,8 @@
 //! Further lists of tokens for a cell, the shortest first: all sentences of the ways to it.
 
+use crate::search::{Finder, Found, Search, Target};
+use crate::sentences::Sentences;
 use std::alloc::{AllocError, Global};
-use yconflicts::search::{Finder, Found, Search, Target};
-use yconflicts::sentences::Sentences;
 use ylalr::Automaton;
 use ysymbols::Sym;
 

@@ -2,9 +2,9 @@
 
 use crate::cell_text::{CellText, put_cells};
 use crate::compared::{Compared, Counts, Other};
+use crate::notes::{Source, Telling, put_expected, put_notes, put_refused, put_unreadable};
 use crate::opening::open_bytes;
 use crate::peer::Peer;
-use crate::told::{Source, Telling, put_expected, put_notes, put_refused, put_unreadable};
 use std::alloc::{AllocError, Global};
 use std::io::{self, Write};
 use std::rt::Files;

@@ -1,11 +1,11 @@
 //! The lists of tokens that get to a conflict, each tried in a session.
 
+use crate::groups::{Group, Kind};
 use crate::others::Others;
+use crate::search::{Finder, Found, Target};
 use crate::trial::{self, Trial, try_list};
 use std::alloc::{AllocError, Global};
 use std::io;
-use yconflicts::groups::{Group, Kind};
-use yconflicts::search::{Finder, Found, Target};
 use ylalr::{Automaton, END};
 use yparse::Session;
 use ysymbols::Sym;

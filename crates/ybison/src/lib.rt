@@ -4,7 +4,7 @@
 
 mod cell_text;
 pub mod compared;
+pub mod import;
+pub mod notes;
 pub mod opening;
 mod peer;
-pub mod run;
-pub mod told;

@@ -1,11 +1,11 @@
 //! The conflicts of tables, in short.
 
 use std::io::Write;
-use yconflicts::groups::{Conflicts, Group};
+use ycounterexample::groups::{Conflicts, Group};
 use yexplain::lines::Lines;
 use yexplain::why::put_cell;
-use yshow::page::Page;
 use ytables::Tables;
+use yview::page::Page;
 
 /// Writes how many conflicts there are, as the end of a line.
 pub fn put_counts<W: Write>(page: &mut Page<W>, tables: &Tables, found: &Conflicts) {

@@ -1,15 +1,15 @@
 //! How lists of tokens are written: which rivals a list allows, its tokens, what a parse comes to.
 
-use crate::finding::{Allows, Finding, List};
-use crate::trial::Trial;
 use std::io::Write;
-use yconflicts::groups::{Group, Kind};
+use ycounterexample::finding::{Allows, Finding, List};
+use ycounterexample::groups::{Group, Kind};
+use ycounterexample::trial::Trial;
 use yexplain::lines::Lines;
 use yexplain::reads::grammar_of;
 use yexplain::text::{Name, Names, Numbered};
-use yshow::page::Page;
 use ysymbols::Sym;
 use ytables::Tables;
+use yview::page::Page;
 
 /// The lists of a kind of conflict.
 #[derive(Clone, Copy)]

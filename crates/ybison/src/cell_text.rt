@@ -1,8 +1,8 @@
 //! What is said of a cell that isn't bison's.
 
 use crate::compared::{Compared, Other};
+use crate::notes::{Source, put_place, put_span};
 use crate::peer::Peer;
-use crate::told::{Source, put_place, put_span};
 use std::io::{self, Write};
 use yexplain::lines::Lines;
 use yexplain::text::{Name, Numbered, RuleText};
