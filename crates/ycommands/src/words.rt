@@ -60,6 +60,7 @@ pub fn near_in<'a, T: Copy>(
 ) -> Result<Option<&'a str>, AllocError> {
     let mut search = Search::new(word.as_bytes());
     for (name, _) in table {
+        let name: &'static str = *name;
         search.offer(alloc, name.as_bytes())?;
     }
     Ok(search.text())

@@ -76,12 +76,12 @@ impl Asked<'_> {
         rt: &F,
         out: &mut W,
         language: &Language,
-        fault: &Fault<'_>,
+        fault: &Fault,
     ) -> io::Result<u8> {
         if self.plain {
             fault.put_plain(out)?;
         } else {
-            fault.put(rt, out, &language.opened)?;
+            fault.put(rt, out, self.files.grammar.path, &language.opened)?;
         }
         Ok(fault.status())
     }

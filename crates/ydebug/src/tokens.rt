@@ -46,6 +46,7 @@ fn put_tokens<W: Write>(
 fn put_input<F: Files + AllocGlobal, W: Write, E: Write>(
     rt: &F,
     language: &Language,
+    grammar: &str,
     input: Limited<'_>,
     out: &mut W,
     errors: &mut E,
@@ -59,7 +60,7 @@ fn put_input<F: Files + AllocGlobal, W: Write, E: Write>(
             Ok(0)
         }
         Err(fault) => {
-            fault.put(rt, errors, &language.opened)?;
+            fault.put(rt, errors, grammar, &language.opened)?;
             Ok(fault.status())
         }
     }
@@ -75,7 +76,7 @@ pub fn run_tokens<F: Files + AllocGlobal, W: Write, E: Write>(
     errors: &mut E,
 ) -> io::Result<u8> {
     match Language::open(rt, files, errors)? {
-        Ok(language) => put_input(rt, &language, input, out, errors),
+        Ok(language) => put_input(rt, &language, files.grammar.path, input, out, errors),
         Err(status) => Ok(status),
     }
 }

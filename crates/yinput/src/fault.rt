@@ -1,7 +1,6 @@
 //! Why an input, or the SPEC by which inputs are cut, isn't taken.
 
-use crate::grammars::GrammarFile;
-use std::alloc::Global;
+use std::alloc::{AllocError, Global};
 use std::io::{self, ErrorKind, Write};
 use std::rt::Files;
 use yexplain::reads::grammar_of;
@@ -18,7 +17,7 @@ const MOST_BYTES: usize = 8;
 
 /// What is wrong with a file.
 #[derive(Clone, Copy)]
-pub enum What<'a> {
+pub enum What {
     /// It can't be read.
     Unread,
     /// It is an input of more bytes than it may have.
@@ -33,19 +32,17 @@ pub enum What<'a> {
     TooMany(usize),
     /// It is a SPEC with this fault behind so many bytes.
     Spec(usize, Wrong),
-    /// It is a SPEC without a line for this token of a grammar file.
-    Ungiven(Sym, GrammarFile<'a>),
+    /// It is a SPEC without a line for this token.
+    Ungiven(Sym),
 }
 
 /// A file that isn't taken: what is wrong with it, and its bytes, as far as they were read.
 #[derive(Drop)]
-pub struct Fault<'a> {
-    /// The file.
-    pub file: Limited<'a>,
-    /// Its bytes.
-    pub bytes: Vec<u8>,
-    /// What is wrong.
-    pub what: What<'a>,
+pub struct Fault {
+    path: String,
+    most: u64,
+    bytes: Vec<u8>,
+    what: What,
 }
 
 /// The bytes behind a place, up to the end of its line; a newline where the line ends there.
@@ -69,15 +66,14 @@ fn put_bytes<W: Write>(out: &mut W, bytes: &[u8]) -> io::Result<()> {
 fn put_ungiven<W: Write>(
     out: &mut W,
     spec: &str,
-    file: GrammarFile<'_>,
+    path: &str,
     opened: &Opened,
     token: Sym,
 ) -> io::Result<()> {
     let mut mentions = opened.lines.mentions().iter();
-    let line = mentions
-        .find(|it| it.symbol == token)
-        .map_or(1, |it| it.line);
-    let (path, name) = (file.path, Name(grammar_of(&opened.tables), token));
+    let mention = mentions.find(|it| it.symbol == token);
+    let line = mention.map_or(1, |it| it.line);
+    let name = Name(grammar_of(&opened.tables), token);
     writeln!(
         out,
         "{path}:{line}: {name}: no line of {spec} gives this token; write one, or name it after \
@@ -85,26 +81,40 @@ fn put_ungiven<W: Write>(
     )
 }
 
-impl<'a> Fault<'a> {
+impl Fault {
+    /// What is wrong with a file of these bytes.
+    pub fn new(
+        alloc: Global,
+        file: Limited<'_>,
+        bytes: Vec<u8>,
+        what: What,
+    ) -> Result<Fault, AllocError> {
+        let Limited { path, most } = file;
+        let path = format!(in alloc; "{path}")?;
+        Ok(Fault {
+            path,
+            most,
+            bytes,
+            what,
+        })
+    }
+
     /// The bytes that were read of a file; or why there are none, `long` where there are too many.
     pub fn of_reading(
         alloc: Global,
-        file: Limited<'a>,
-        long: What<'a>,
+        file: Limited<'_>,
+        long: What,
         read: io::Result<Option<Vec<u8>>>,
-    ) -> io::Result<Result<Vec<u8>, Fault<'a>>> {
+    ) -> io::Result<Result<Vec<u8>, Fault>> {
         let what = match read {
             Ok(Some(bytes)) => return Ok(Ok(bytes)),
             Ok(None) => long,
             Err(error) if error.kind() == ErrorKind::OutOfMemory => return Err(error),
             Err(_) => What::Unread,
         };
-        let bytes = Vec::new(alloc);
-        Ok(Err(Fault { file, bytes, what }))
+        Ok(Err(Fault::new(alloc, file, Vec::new(alloc), what)?))
     }
-}
 
-impl Fault<'_> {
     /// The exit status of a run that ends with it.
     pub fn status(&self) -> u8 {
         match self.what {
@@ -116,7 +126,7 @@ impl Fault<'_> {
     /// Its place, where so many bytes stand before it.
     fn place(&self, at: usize) -> Place<'_> {
         Place {
-            path: self.file.path,
+            path: &self.path,
             source: &self.bytes,
             at,
         }
@@ -151,22 +161,25 @@ impl Fault<'_> {
         fault: TokenFault,
     ) -> io::Result<()> {
         let grammar = grammar_of(&opened.tables);
-        put_token_fault(out, self.file.path, &self.bytes, fault)?;
+        put_token_fault(out, &self.path, &self.bytes, fault)?;
         put_near_token(out, alloc, grammar, &self.bytes, fault)
     }
 
-    /// Writes what is wrong, with its place and the text there, for people.
+    /// Writes what is wrong, with its place and the text there, for people. The grammar that is
+    /// open, the file of which has this path, is that of its language.
     pub fn put<F: Files + AllocGlobal, W: Write>(
         &self,
         rt: &F,
         out: &mut W,
+        grammar: &str,
         opened: &Opened,
     ) -> io::Result<()> {
-        let path = self.file.path;
+        let path = self.path.as_str();
+        let most = self.most;
         match self.what {
             What::Unread => writeln!(out, "{path}: cannot read it"),
-            What::Long => self.file.put_long_input(rt, out),
-            What::LongSpec => self.file.put_long(rt, out),
+            What::Long => Limited { path, most }.put_long_input(rt, out),
+            What::LongSpec => Limited { path, most }.put_long(rt, out),
             What::Tokens(fault) => self.put_token(rt.alloc(), out, opened, fault),
             What::Unmatched(at) => {
                 self.put_unmatched(out, at, "no line of the SPEC matches here")
@@ -175,13 +188,13 @@ impl Fault<'_> {
                 self.put_unmatched(out, at, "more than 1,000,000 tokens; this is one more")
             }
             What::Spec(at, wrong) => self.put_line(out, at, wrong),
-            What::Ungiven(token, file) => put_ungiven(out, path, file, opened, token),
+            What::Ungiven(token) => put_ungiven(out, path, grammar, opened, token),
         }
     }
 
     /// Writes what is wrong as a plain line.
     pub fn put_plain<W: Write>(&self, out: &mut W) -> io::Result<()> {
-        let path = self.file.path;
+        let path = self.path.as_str();
         match self.what {
             What::Unread => writeln!(out, "{path}: cannot read it"),
             What::Tokens(fault) => writeln!(out, "{path}: {fault}"),
@@ -190,7 +203,7 @@ impl Fault<'_> {
                 writeln!(out, "{path}: refused at {line}:{column}")
             }
             What::Long | What::LongSpec => writeln!(out, "{path}: too long"),
-            What::Ungiven(_, _) => writeln!(out, "{path}: a token is missing"),
+            What::Ungiven(_) => writeln!(out, "{path}: a token is missing"),
         }
     }
 }

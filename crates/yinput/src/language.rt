@@ -41,20 +41,20 @@ pub struct Input {
 }
 
 /// The tokens of a text of these bytes, or why it has none.
-fn cut<'a>(
+fn cut(
     alloc: Global,
     opened: &Opened,
     lexer: &Lexer,
-    file: Limited<'a>,
+    file: Limited<'_>,
     bytes: Vec<u8>,
-) -> io::Result<Result<Input, Fault<'a>>> {
+) -> io::Result<Result<Input, Fault>> {
     let what = match lexer.lex(alloc, grammar_of(&opened.tables), &bytes) {
         Ok(lexed) => return with_text(alloc, lexed, file.path, bytes).map(Ok),
         Err(TextFault::Unmatched(at)) => What::Unmatched(at),
         Err(TextFault::TooMany(at)) => What::TooMany(at),
         Err(TextFault::Memory) => return Err(io::Error::from(ErrorKind::OutOfMemory)),
     };
-    Ok(Err(Fault { file, bytes, what }))
+    Ok(Err(Fault::new(alloc, file, bytes, what)?))
 }
 
 /// An input with its text.
@@ -78,19 +78,19 @@ fn with_text(alloc: Global, lexed: Lexed, path: &str, bytes: Vec<u8>) -> io::Res
 }
 
 /// The tokens of a tokens file of these bytes, or why it has none.
-fn read<'a>(
+fn read(
     alloc: Global,
     opened: &Opened,
-    file: Limited<'a>,
+    file: Limited<'_>,
     bytes: Vec<u8>,
-) -> io::Result<Result<Input, Fault<'a>>> {
+) -> io::Result<Result<Input, Fault>> {
     let fault = match read_tokens(alloc, &opened.tables, &bytes) {
         Ok(tokens) => return Ok(Ok(Input { tokens, text: None })),
         Err(TokenFault::Memory) => return Err(io::Error::from(ErrorKind::OutOfMemory)),
         Err(fault) => fault,
     };
     let what = What::Tokens(fault);
-    Ok(Err(Fault { file, bytes, what }))
+    Ok(Err(Fault::new(alloc, file, bytes, what)?))
 }
 
 impl Language {
@@ -120,13 +120,13 @@ impl Language {
                 lexer: None,
             }));
         };
-        match read_lexer(rt, &opened.tables, files.grammar, spec)? {
+        match read_lexer(rt, &opened.tables, spec)? {
             Ok(lexer) => Ok(Ok(Language {
                 opened,
                 lexer: Some(lexer),
             })),
             Err(fault) => {
-                fault.put(rt, errors, &opened)?;
+                fault.put(rt, errors, files.grammar.path, &opened)?;
                 Ok(Err(fault.status()))
             }
         }
@@ -139,12 +139,12 @@ impl Language {
     }
 
     /// The tokens of an input of which this was read, or why it has none.
-    pub fn input_of<'a>(
+    pub fn input_of(
         &self,
         alloc: Global,
-        file: Limited<'a>,
+        file: Limited<'_>,
         bytes: io::Result<Option<Vec<u8>>>,
-    ) -> io::Result<Result<Input, Fault<'a>>> {
+    ) -> io::Result<Result<Input, Fault>> {
         match Fault::of_reading(alloc, file, What::Long, bytes)? {
             Ok(bytes) => match &self.lexer {
                 Some(lexer) => cut(alloc, &self.opened, lexer, file, bytes),
@@ -155,11 +155,11 @@ impl Language {
     }
 
     /// The tokens of an input, or why it has none.
-    pub fn read<'a, F: Files + AllocGlobal>(
+    pub fn read<F: Files + AllocGlobal>(
         &self,
         rt: &F,
-        file: Limited<'a>,
-    ) -> io::Result<Result<Input, Fault<'a>>> {
+        file: Limited<'_>,
+    ) -> io::Result<Result<Input, Fault>> {
         self.input_of(rt.alloc(), file, file.bytes(rt))
     }
 }

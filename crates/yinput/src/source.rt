@@ -28,7 +28,7 @@ impl<F: Files + AllocGlobal> Source<'_, F> {
         match language.read(self.rt, self.input)? {
             Ok(input) => Parse::new(self.rt.alloc(), language, input).map(Ok),
             Err(fault) => {
-                fault.put(self.rt, errors, &language.opened)?;
+                fault.put(self.rt, errors, self.files.grammar.path, &language.opened)?;
                 Ok(Err(fault.status()))
             }
         }

@@ -1,7 +1,7 @@
 //! SPECs opened.
 
 use crate::fault::{Fault, What};
-use crate::grammars::{GrammarFile, used_in};
+use crate::grammars::used_in;
 use std::alloc::{AllocError, Global};
 use std::io::{self, ErrorKind};
 use std::rt::Files;
@@ -30,16 +30,11 @@ fn lexer_over(alloc: Global, grammar: &Grammar, bytes: &[u8]) -> Result<Lexer, S
 }
 
 /// What cuts texts by a SPEC of these bytes, or what is wrong with it.
-fn lexer_of<'a>(
-    alloc: Global,
-    tables: &Tables,
-    file: GrammarFile<'a>,
-    bytes: &[u8],
-) -> io::Result<Result<Lexer, What<'a>>> {
+fn lexer_of(alloc: Global, tables: &Tables, bytes: &[u8]) -> io::Result<Result<Lexer, What>> {
     let grammar = grammar_of(tables);
     match lexer_over(alloc, grammar, bytes) {
         Ok(lexer) => match ungiven(alloc, grammar, &lexer)? {
-            Some(token) => Ok(Err(What::Ungiven(token, file))),
+            Some(token) => Ok(Err(What::Ungiven(token))),
             None => Ok(Ok(lexer)),
         },
         Err(SpecFault::At(at, wrong)) => Ok(Err(What::Spec(at, wrong))),
@@ -47,22 +42,20 @@ fn lexer_of<'a>(
     }
 }
 
-/// What cuts texts by the SPEC at a path, for a grammar file with these tables; or why there is
-/// none.
-pub fn read_lexer<'a, F: Files + AllocGlobal>(
+/// What cuts texts by the SPEC at a path, for these tables; or why there is none.
+pub fn read_lexer<F: Files + AllocGlobal>(
     rt: &F,
     tables: &Tables,
-    grammar: GrammarFile<'a>,
-    path: &'a str,
-) -> io::Result<Result<Lexer, Fault<'a>>> {
+    path: &str,
+) -> io::Result<Result<Lexer, Fault>> {
     let most = LONGEST_SPEC;
     let file = Limited { path, most };
     let bytes = match Fault::of_reading(rt.alloc(), file, What::LongSpec, file.bytes(rt))? {
         Ok(bytes) => bytes,
         Err(fault) => return Ok(Err(fault)),
     };
-    match lexer_of(rt.alloc(), tables, grammar, &bytes)? {
+    match lexer_of(rt.alloc(), tables, &bytes)? {
         Ok(lexer) => Ok(Ok(lexer)),
-        Err(what) => Ok(Err(Fault { file, bytes, what })),
+        Err(what) => Ok(Err(Fault::new(rt.alloc(), file, bytes, what)?)),
     }
 }

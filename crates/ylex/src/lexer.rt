@@ -211,14 +211,14 @@ impl Cutting<'_> {
     /// The longest of the literals and words at the front of a rest.
     fn fixed(&self, rest: &[u8]) -> Found {
         let first = rest.first().copied().unwrap_or(0);
-        let literal = self.lexer.literals.get(usize::from(first)).copied();
-        let literal = literal.flatten();
+        let (lexer, grammar) = (self.lexer, self.grammar);
+        let literal = lexer.literals.get(usize::from(first)).copied().flatten();
         let mut found = Found {
             length: usize::from(literal.is_some()),
             token: literal,
         };
-        for word in &self.lexer.words {
-            let text = name_of(self.grammar, word.token);
+        for word in &lexer.words {
+            let text = name_of(grammar, word.token);
             if begins(rest, text, word.folded) {
                 found = found.or(text.len(), Some(word.token));
             }
@@ -229,7 +229,8 @@ impl Cutting<'_> {
     /// What stands at the front of a rest.
     fn front(&mut self, rest: &[u8]) -> Found {
         let mut found = self.fixed(rest);
-        for (matcher, token) in self.matchers.iter_mut().zip(&self.lexer.tokens) {
+        let lexer = self.lexer;
+        for (matcher, token) in self.matchers.iter_mut().zip(&lexer.tokens) {
             if let Some(part) = matcher.find(rest) {
                 found = found.or(part.end(), *token);
             }
