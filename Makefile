@@ -69,7 +69,7 @@ page-test: build
 compare:
 	@$(checks) compare $(call at,yacc ystep)
 	@$(checks) conflicts $(call at,ydebug)
-	@$(checks) verdicts $(call at,verdicts ystep)
+	@$(checks) verdicts $(call at,ydebug ystep)
 	@$(checks) texts $(call at,ydebug)
 	@$(checks) hints $(call at,ydebug)
 	@$(if $(FILES),$(checks) faults $(call at,ystep) $(FILES),true)

@@ -3,10 +3,10 @@
 set -eu
 top=$(cd "$(dirname "$0")/.." && pwd)
 mkdir -p "$top/bin"
-for name in yacc ycc ystep ydebug verdicts; do
+for name in yacc ycc ystep ydebug calls; do
   cd "$top/crates/$name"
   case $name in
-    verdicts) set -- data/one.y data/one.tokens ;;
+    calls) set -- data/one.y data/one.tokens ;;
     *) set -- --help ;;
   esac
   rt run -- "$@" > /dev/null

@@ -41,14 +41,14 @@ JUNK = ["!", "\u00e9", "\x01", "@@", "\\", "'", "#x\n", "~"]
 SESSION = "where\nrun until error\nupcoming\ninsert NUM\nback 3\nwhere\nreload\nrun\nupcoming\n"
 # What may be said of a SPEC or a text that was spoiled.
 NAMED = re.compile(
-    r"grammar\.y:\d+: \S+: no line of spec gives this token; write one, or name it behind %none"
+    r"grammar\.y:\d+: \S+: no line of spec gives this token; write one, or name it after %none"
     r"|spec:\d+:\d+: (the expression doesn't compile: .+|the expression matches the empty text"
     r"|nothing stands behind the name|this line is no text in UTF-8"
     r"|no token of the grammar has this name"
     r"|an input has tokens alone, and neither error nor \$end"
     r"|no directive of a SPEC; there are %skip, %keywords and %none)"
-    r"|text:\d+:\d+: (no line of the SPEC matches here: .+|\S+ can't come here; .+)"
-    r"|text: (good: accepted in \d+ steps|deep: more than 1,000,000 steps)"
+    r"|text:\d+:\d+: (no line of the SPEC matches here: .+|unexpected \S+[,;] .+)"
+    r"|text: (accepted after \d+ steps|undecided after 1,000,000 steps)"
 )
 
 
@@ -203,8 +203,11 @@ def expected(tables, tokens):
     if None in can:
         return None
     names = [tables.grammar.names[it] for it, yes in zip(every, can) if yes]
-    more = ", .." if len(names) > 20 else ""
-    return f"; expected {', '.join(names[:20])}{more}" if names else "; nothing can"
+    if not names:
+        return "; no token can come"
+    if len(names) > 20:
+        return f", expected {', '.join(names[:20])}, .."
+    return f", expected {' or '.join(filter(None, [', '.join(names[:-1]), names[-1]]))}"
 
 
 def answer(tables, spec, text):
@@ -220,12 +223,12 @@ def answer(tables, spec, text):
         return None
     taken, steps, good = ended
     if good:
-        return f"text: good: accepted in {steps} steps\n"
+        return f"text: accepted after {steps} steps\n"
     wanted = expected(tables, symbols[:taken])
     ahead, at = tokens[taken] if taken < len(tokens) else (END, end)
     line, column = spot(text, at)
     name = tables.grammar.names[ahead]
-    said = f"text:{line}:{column}: {name} can't come here{wanted}\n" + shown_line(text, at)
+    said = f"text:{line}:{column}: unexpected {name}{wanted}\n" + shown_line(text, at)
     return said if wanted else None
 
 
@@ -243,10 +246,10 @@ def fault_of_text(folder, ydebug, tables, spec, counts):
         counts["endless parses"] += 1
         return None
     status, out, message = run(folder, ydebug, "check", "grammar.y", "--lex", "spec", "text")
-    if message or wanted != out or status != (": good: " not in out):
+    if message or wanted != out or status != (": accepted " not in out):
         return f"check: {status} {message}{out} and not {wanted}"
     counts["texts"] += 1
-    counts["good ones"] += ": good: " in out
+    counts["good ones"] += ": accepted " in out
     tokens, _ = spec.cut(text)
     if tokens is None:
         return None

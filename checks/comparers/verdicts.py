@@ -1,13 +1,14 @@
 """Compares verdicts with sessions: over every scenario's files, and over sentences drawn at random.
 
-    verdicts [verdicts=PATH] [ystep=PATH] [--count N] [GRAMMAR..]
+    verdicts [ydebug=PATH] [ystep=PATH] [--count N] [GRAMMAR..]
 
-A session's replies to `run 1000000` say what the verdict must be: the position of the acceptance,
-or the place of the first error that is detected, which is after the tokens shifted before it. Of
-each GRAMMAR, N sentences (100) are drawn, and a token of every other one is changed. Every
-difference is shown; the last line is `N passed, M failed`.
+Verdicts are those of `ydebug check --plain`. A session's replies to `run 1000000` say what each
+must be: the position of the acceptance, or the place of the first error that is detected, which is
+after the tokens shifted before it. Of each GRAMMAR, N sentences (100) are drawn, and a token of
+every other one is changed. Every difference is shown; the last line is `N passed, M failed`.
 """
 import random
+import re
 import tempfile
 from concurrent.futures import ThreadPoolExecutor
 from pathlib import Path
@@ -41,18 +42,24 @@ def session_says(ystep, grammar, tokens):
     return said_of(made.stdout)
 
 
-def verdicts_on(verdicts, grammar, files):
+def refusal(message):
+    """The code and the line of a refused grammar file, as a session says them."""
+    line, code = re.search(r":(?:(\d+):)? (\w+): ", message).groups()
+    return f"{code} at line {line}" if line else code
+
+
+def verdicts_on(ydebug, grammar, files):
     """What is said of each tokens file, or of a grammar file without tables."""
-    made = ran([verdicts, grammar, *files])
-    if made.returncode:
-        return [made.stderr.strip().split(": ", 2)[-1]] * len(files)
+    made = ran([ydebug, "check", "--plain", grammar, *files])
+    if not made.stdout:
+        return [refusal(made.stderr)] * len(files)
     return [line.partition(": ")[2] for line in made.stdout.splitlines()[1:]]
 
 
 def compare(programs, grammar, files, tally):
     """Compares what is said of tokens files; each that differs is shown."""
-    verdicts, ystep = programs
-    made = verdicts_on(verdicts, grammar, files)
+    ydebug, ystep = programs
+    made = verdicts_on(ydebug, grammar, files)
     with ThreadPoolExecutor() as pool:
         wanted = list(pool.map(lambda it: session_says(ystep, grammar, it), files))
     if len(made) != len(files):
@@ -94,9 +101,9 @@ def drawn(grammar, count, room, rng):
 
 def main(words):
     """Compares verdicts with sessions."""
-    given = asked(__doc__, words, ("verdicts", "ystep"), count=100)
+    given = asked(__doc__, words, ("ydebug", "ystep"), count=100)
     rng, tally = random.Random(1), Tally()
-    programs = [given.programs[it] for it in ("verdicts", "ystep")]
+    programs = [given.programs[it] for it in ("ydebug", "ystep")]
     with tempfile.TemporaryDirectory() as room:
         for grammar, tokens in pairs_of_scenarios(Path(room)):
             compare(programs, grammar, [tokens], tally)

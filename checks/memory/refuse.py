@@ -1,13 +1,13 @@
 """Refuses allocations of a run: each of them once by itself, and from each of them on all.
 
-    refuse [yacc=PATH] [ystep=PATH] [ydebug=PATH] [verdicts=PATH] [ycc=PATH] [--few | GRAMMAR..]
+    refuse [yacc=PATH] [ystep=PATH] [ydebug=PATH] [calls=PATH] [ycc=PATH] [--few | GRAMMAR..]
 
 An allocator in front of that of C refuses the calls of some numbers, over every example and some
 scenarios, or over a few of them. Each run must end as usual, or with `no memory` and status 3,
 nothing on standard output and of each file a beginning. A session may also go on: then each step
-that was refused says `no memory`, and all else is as if nothing had been asked for there. A
-verdict may be `no memory`. `verdicts --calls`, which makes each call by itself, makes a refused
-one again, and where it is refused once more, goes on with the calls that take no memory. What
+that was refused says `no memory`, and all else is as if nothing had been asked for there.
+`calls`, which makes each call by itself, makes a refused one again, and where it is refused once
+more, goes on with the calls that take no memory. What
 `ydebug check` says of an input may be `no memory`, with status 3; it may also end after a line.
 Of each GRAMMAR, whose runs are long, the first 2,000 allocations are refused, then every 97th, and
 the last 97. The last line is `N passed, M failed`.
@@ -108,7 +108,7 @@ MADE = re.compile(rb"\d+ (insert|drop|shift|reduce|accept|detect|pop|discard|fai
 def is_made_again(made, it):
     """Whether a call was refused and made again, or some were refused twice, and what takes no
     memory followed: the undos of all steps."""
-    if "--calls" not in it.words:
+    if it.words[0] != "calls":
         return False
     usual, lines = (text.splitlines() for text in (it.wanted["stdout"], made["stdout"]))
     refused = [line for line in lines if line.endswith(b": no memory")]
@@ -124,18 +124,10 @@ def is_made_again(made, it):
     return steps == asked[: len(steps)] and undone == mirrored[::-1]
 
 
-def is_verdict(made, it):
-    """Whether each line is as usual or says no memory, or there are no tables or no words."""
-    if it.words[0] != "verdicts":
-        return False
-    if "--calls" in it.words:
-        told = made["message"].endswith(NO_MEMORY) and made["status"] == b"3\n"
-        return told and not made["stdout"]
-    usual, lines = (text.splitlines() for text in (it.wanted["stdout"], made["stdout"]))
-    if made["status"] == b"0\n" and len(usual) == len(lines):
-        pairs = zip(usual, lines)
-        return all(a == b or a.split(b":")[0] + b": no memory" == b for a, b in pairs)
-    return made["message"].endswith(NO_MEMORY) and made["status"] in (b"1\n", b"3\n")
+def is_uncalled(made, it):
+    """Whether there was no memory for the arguments of `calls`."""
+    told = made["message"].endswith(NO_MEMORY) and made["status"] == b"3\n"
+    return it.words[0] == "calls" and told and not made["stdout"]
 
 
 def told_of(lines):
@@ -166,7 +158,7 @@ def way_of(made, it, programs):
         return "go on after a step"
     if is_made_again(made, it):
         return "make a call again, or what takes no memory"
-    return "say no memory" if is_verdict(made, it) or is_told(made, it) else None
+    return "say no memory" if is_uncalled(made, it) or is_told(made, it) else None
 
 
 # What is run
@@ -175,7 +167,7 @@ def way_of(made, it, programs):
 def calls_over(it):
     """The calls by themselves over the files of a session."""
     files = {name: it.inputs[name] for name in it.words[1:]}
-    return replace(it, words=["verdicts", "--calls", *it.words[1:]], stdin=b"", inputs=files)
+    return replace(it, words=["calls", *it.words[1:]], stdin=b"", inputs=files)
 
 
 def scenarios(programs, few):

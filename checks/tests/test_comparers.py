@@ -200,14 +200,14 @@ class Texts(Planted):
 
     def test_right(self):
         """What is right is no fault; the column and the tokens that can come are these."""
-        wanted = "text:2:3: NUM can't come here; expected $end, '+'\n    2 3 +\n      ^\n"
+        wanted = "text:2:3: unexpected NUM, expected $end or '+'\n    2 3 +\n      ^\n"
         self.assertEqual(texts.answer(self.tables, self.spec, b"1 +\n2 3 +\n"), wanted)
         self.assertIsNone(self.fault())
 
     def test_each_change(self):
         """Another column, token, caret, status; a token less; a session that fails."""
         pairs = [
-            ("2:3", "2:4"), ("NUM", "'+'"), ("$end, ", ""), ("      ^", "     ^"), ("2 3 +", "2 3")
+            ("2:3", "2:4"), ("NUM", "'+'"), ("$end or ", ""), ("      ^", "     ^"), ("2 3 +", "2 3")
         ]
         right = texts.answer(self.tables, self.spec, b"1 +\n2 3 +\n")
         for wrong in changed(right, *pairs):
@@ -235,7 +235,7 @@ class Verdicts(Planted):
     def counted_with(self, verdict, replies=REPLIES, lines=1):
         """How much passed and failed where the two programs say this."""
         said = "".join(f"print({verdict!r})\n" * lines)
-        both = self.program("verdicts", f"print('grammar.y: no choices')\n{said}")
+        both = self.program("ydebug", f"print('grammar.y: no choices')\n{said}")
         ystep = self.program("ystep", f"sys.stdin.read()\nsys.stdout.write({replies!r})\n")
         return self.counted(verdicts.compare, [both, ystep], "grammar.y", ["tokens"])
 

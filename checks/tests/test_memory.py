@@ -80,28 +80,13 @@ class Sessions(Planted):
 CALLS = ["1 shift 'x'", "2 reduce 1", "1 undo reduce 1", "0 undo shift 'x'"]
 
 
-class Verdicts(Planted):
-    """`verdicts`, and its calls by themselves."""
-
-    def test_verdicts(self):
-        """A verdict may be no memory, and nothing else."""
-        usual = {**USUAL, "stdout": b"g: no choices\na: accepted at 3\nb: limit\n"}
-        it = scenario(["verdicts", "g", "a", "b"], {}, stdout=usual["stdout"])
-
-        def look(text):
-            """Whether a text is wrong."""
-            return refuse.way_of({**usual, "stdout": text}, it, {}) is None
-
-        right = usual["stdout"].replace(b"limit", b"no memory")
-        wrong = usual["stdout"].replace(b"limit", b"accepted at 4"), right + b"b: limit\n"
-        self.each_caught(look, right, *wrong, right.replace(b"b:", b"a:"), right[:-10])
-        status = {**usual, "stdout": right, "status": b"3\n"}
-        self.assertIsNone(refuse.way_of(status, it, {}))
+class Calls(Planted):
+    """The calls by themselves."""
 
     def test_calls(self):
         """A refused call is made again; where it is refused twice, all steps are undone."""
         usual = "".join(f"{line}\n" for line in CALLS).encode()
-        it = scenario(["verdicts", "--calls", "g", "a"], {}, stdout=usual)
+        it = scenario(["calls", "g", "a"], {}, stdout=usual)
 
         def look(made):
             """Whether an end is wrong."""
@@ -118,7 +103,7 @@ class Verdicts(Planted):
 
     def test_check(self):
         """What `ydebug check` leaves out, it says; it invents nothing."""
-        usual = b"a: good: accepted in 3 steps\nb: bad: 2: X can't come here\n  after X\n"
+        usual = b"a: accepted after 3 steps\nb: rejected at token 2: unexpected X\n  after X\n"
         it = scenario(["ydebug", "check", "g", "a", "b"], {}, stdout=usual, status=b"1\n")
 
         def look(made):
@@ -127,13 +112,13 @@ class Verdicts(Planted):
             back = {"stdout": text, "message": message, "status": status}
             return refuse.way_of({**USUAL, **back}, it, {}) is None
 
-        said = usual.replace(b"good: accepted in 3 steps", b"no memory")
-        wrong = (said, b"", b"1\n"), (said.replace(b"bad: 2", b"bad: 3"), b"", b"3\n")
+        said = usual.replace(b"accepted after 3 steps", b"no memory")
+        wrong = (said, b"", b"1\n"), (said.replace(b"token 2", b"token 3"), b"", b"3\n")
         wrong += (said[: said.index(b"b:")], b"", b"3\n"), (usual, b"", b"3\n")
         self.each_caught(look, (said, b"", b"3\n"), *wrong)
         begun = usual[: usual.index(b"b:")]
         wrong = (begun, b"ydebug: no memory\n", b"1\n"), (
-            b"c: good\n", b"ydebug: no memory\n", b"3\n"
+            b"c: accepted\n", b"ydebug: no memory\n", b"3\n"
         )
         self.each_caught(look, (begun, b"ydebug: no memory\n", b"3\n"), *wrong)
 

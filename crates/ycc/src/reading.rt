@@ -2,13 +2,13 @@
 
 use crate::ending::{Ending, File};
 use std::io::{self, Write};
+use ybison::import::{Foreign, open_import};
+use ybison::notes::Source;
 use yfaults::opening::{Opened, Trouble as Unopened, put_trouble};
 use yforeign::directive::is_imported;
 use ygrammar::{Grammar, LONGEST_FILE, Mapped, Mark, read_mapped};
 use yimport::import::{Imported, import};
 use yimport::refusal::Trouble as Unimported;
-use yimported::run::{Foreign, open_import};
-use yimported::told::Source;
 use ylalr::build;
 use yparts::parts::Parts;
 use yparts::refusal::Trouble as Unmade;

@@ -1,19 +1,20 @@
 //! What a run stops at.
 
 use crate::refusal::Refusal;
-use crate::words::{Found, Nearest, find, first_word, near_in, number_of};
+use crate::words::{Found, find, first_word, near_in, number_of};
 use std::alloc::{AllocError, Global};
 use std::io::Write;
 use yexplain::reads::{grammar_of, left_of};
+use yfaults::nearest::Search;
 use ylalr::{END, ERROR};
 use yparse::Session;
 use yparse::machine::StepKind;
-use yshow::Page;
-use yshow::reading::{
-    has_conflict, is_running, last_rule, last_state, name_of, token_ahead, upcoming_token,
-};
 use ysymbols::{Grammar, Sym};
 use ytables::Tables;
+use yview::Page;
+use yview::reading::{
+    has_conflict, is_running, last_rule, last_state, name_of, token_ahead, upcoming_token,
+};
 
 /// The most entries that a stack has.
 const DEEPEST: usize = 1_000_000;
@@ -172,13 +173,13 @@ pub fn symbol_near<'a>(
     name: &'a str,
     refusal: Refusal,
 ) -> Result<Option<&'a str>, AllocError> {
-    let mut nearest = Nearest::new(name);
+    let mut search = Search::new(name.as_bytes());
     for symbol in 0..grammar.symbols() {
         if is_wanted(grammar, symbol, refusal) {
-            nearest.offer(alloc, name_of(grammar, symbol))?;
+            search.offer(alloc, name_of(grammar, symbol).as_bytes())?;
         }
     }
-    Ok(nearest.best())
+    Ok(search.text())
 }
 
 /// Whether the state and the token ahead have a conflict.

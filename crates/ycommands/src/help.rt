@@ -5,7 +5,7 @@ use crate::words::{Found, begins, find, near_in};
 use std::alloc::{AllocError, Global};
 use std::io::Write;
 use yexplain::text::Escaped;
-use yshow::{Page, Paint};
+use yview::{Page, Paint};
 
 /// The command that a word means.
 pub fn verb_of(word: &str) -> Found<Verb> {

@@ -4,7 +4,7 @@ use crate::verb::Verb;
 use std::alloc::AllocError;
 use std::io::Write;
 use yparse::machine::{Mode, StepFault};
-use yshow::{Page, Paint};
+use yview::{Page, Paint};
 
 /// Why a command isn't obeyed. Nothing is changed then.
 #[derive(Clone, Copy)]

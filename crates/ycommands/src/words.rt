@@ -1,12 +1,7 @@
 //! Words: the first of a line, numbers, a word's place in a table, and the nearest other word.
 
 use std::alloc::{AllocError, Global};
-use strsim::osa_distance;
-
-/// The longest word for which another is suggested.
-const LONGEST: usize = 40;
-/// How many edits lead to a word that is suggested, at most.
-const FARTHEST: usize = 2;
+use yfaults::nearest::Search;
 
 /// The first word, and what follows it.
 pub fn first_word(text: &str) -> (&str, &str) {
@@ -57,57 +52,16 @@ pub fn find<T: Copy>(table: &[(&'static str, T)], word: &str) -> Found<T> {
     found
 }
 
-/// The search for the nearest word.
-#[derive(Clone, Copy)]
-pub struct Nearest<'a> {
-    word: &'a str,
-    best: Option<(usize, &'a str)>,
-}
-
-impl<'a> Nearest<'a> {
-    /// No word was offered yet.
-    pub fn new(word: &'a str) -> Nearest<'a> {
-        Nearest { word, best: None }
-    }
-
-    /// Whether a word so far away is better than what was found.
-    fn improves(&self, distance: usize) -> bool {
-        distance > 0
-            && distance <= FARTHEST
-            && distance < self.word.len()
-            && match self.best {
-                Some((best, _)) => distance < best,
-                None => true,
-            }
-    }
-
-    /// Looks at one more word; one that is too long is skipped.
-    pub fn offer(&mut self, alloc: Global, name: &'a str) -> Result<(), AllocError> {
-        if self.word.len() > LONGEST || name.len() > LONGEST {
-            return Ok(());
-        }
-        let distance = osa_distance(alloc, self.word, name)?;
-        if self.improves(distance) {
-            self.best = Some((distance, name));
-        }
-        Ok(())
-    }
-
-    /// The nearest of the words that were offered.
-    pub fn best(&self) -> Option<&'a str> {
-        self.best.map(|best| best.1)
-    }
-}
-
-/// The word of a table that is near to this one.
+/// The word of a table that is nearest to this one, where one is near.
 pub fn near_in<'a, T: Copy>(
     alloc: Global,
     table: &[(&'static str, T)],
     word: &'a str,
 ) -> Result<Option<&'a str>, AllocError> {
-    let mut nearest = Nearest::new(word);
+    let mut search = Search::new(word.as_bytes());
     for (name, _) in table {
-        nearest.offer(alloc, name)?;
+        let name: &'static str = *name;
+        search.offer(alloc, name.as_bytes())?;
     }
-    Ok(nearest.best())
+    Ok(search.text())
 }

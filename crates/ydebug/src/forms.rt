@@ -3,26 +3,24 @@
 use clap::{Arg, ArgAction, Command};
 use std::alloc::{AllocError, Global};
 
-/// The other forms, as the help text has them.
-const FORMS: &str = "Other forms:\n\
+/// How a session is asked for; the other forms are those of [`FORMS`].
+pub const USAGE: &str = "usage: ydebug grammar tokens [--lex SPEC]\n";
+
+/// The other forms, and what holds of all, as help and usage have them.
+pub const FORMS: &str = "Other forms:\n\
     \x20 ydebug conflicts grammar [--save FOLDER] [--strict]\n\
-    \x20 ydebug check grammar tokens.. [--lex SPEC] [--choice]\n\
+    \x20 ydebug check grammar tokens.. [--lex SPEC] [--choice] [--plain]\n\
     \x20 ydebug page grammar tokens [--lex SPEC] [-o FILE] [--from K] [--to K] [--conflicts]\n\
     \x20 ydebug tokens grammar --lex SPEC input\n\
     \x20 ydebug lex-spec grammar\n\
     \x20 ydebug import file [-o grammar]\n\
-    \x20 ydebug rules grammar [--header FILE] [--python FILE]";
-/// What is written where the words are not those of the program.
-pub const USAGE: &[u8] = b"usage: ydebug grammar tokens [--lex SPEC]\n\
-    \x20      ydebug conflicts grammar [--save FOLDER] [--strict]\n\
-    \x20      ydebug check grammar tokens.. [--lex SPEC] [--choice]\n\
-    \x20      ydebug page grammar tokens [--lex SPEC] [-o FILE] [--from K] [--to K] [--conflicts]\n\
-    \x20      ydebug tokens grammar --lex SPEC input\n\
-    \x20      ydebug lex-spec grammar\n\
-    \x20      ydebug import file [-o grammar]\n\
-    \x20      ydebug rules grammar [--header FILE] [--python FILE]\n\
+    \x20 ydebug rules grammar [--header FILE] [--python FILE]\n\
+    \x20 ydebug table [-v] [-b PREFIX] grammar\n\
     With --from bison the grammar is a file of bison or byacc.\n\
     With --limit N an input has up to N bytes; without it, up to 16777216.\n";
+
+/// The version of the program.
+const VERSION: &str = "1.0.0";
 
 /// A form of the command line.
 #[derive(Clone, Copy)]
@@ -43,10 +41,12 @@ pub enum Form {
     Sketch,
     /// Names for rules.
     Rules,
+    /// The files that `yacc` writes.
+    Table,
 }
 
 /// Each form but the first by its word.
-pub const BY_WORD: [(&str, Form); 7] = [
+pub const BY_WORD: [(&str, Form); 8] = [
     ("conflicts", Form::Conflicts),
     ("check", Form::Check),
     ("page", Form::Page),
@@ -54,6 +54,7 @@ pub const BY_WORD: [(&str, Form); 7] = [
     ("tokens", Form::Tokens),
     ("lex-spec", Form::Sketch),
     ("rules", Form::Rules),
+    ("table", Form::Table),
 ];
 
 /// The form that a first word means.
@@ -77,6 +78,7 @@ pub fn name_of(form: Form) -> &'static str {
         Form::Tokens => "ydebug tokens",
         Form::Sketch => "ydebug lex-spec",
         Form::Rules => "ydebug rules",
+        Form::Table => "ydebug table",
     }
 }
 
@@ -89,14 +91,16 @@ enum Given {
     Files,
     /// A flag of two dashes.
     Flag,
-    /// A value behind two dashes; help shows this name.
+    /// A value after two dashes; help shows this name.
     Value(&'static str),
     /// Such a value that is required.
     Required(&'static str),
     /// Such a value that may be given again.
     Again(&'static str),
-    /// A value behind `-o`.
-    Output,
+    /// A flag of one dash and this letter.
+    Letter(char),
+    /// A value after one dash and this letter.
+    Short(char),
 }
 
 /// A word of a form: its name, how it is given, and what help says of it.
@@ -107,7 +111,7 @@ impl Word {
     /// The option that it is, without its two dashes, where it is one.
     pub fn option(&self) -> Option<&'static str> {
         match self.1 {
-            Given::File(_) | Given::Files | Given::Output => None,
+            Given::File(_) | Given::Files | Given::Letter(_) | Given::Short(_) => None,
             Given::Flag | Given::Value(_) | Given::Required(_) | Given::Again(_) => Some(self.0),
         }
     }
@@ -165,6 +169,11 @@ const CHECK: &[Word] = &[
         Given::Flag,
         "Says whether the grammar is free of choices",
     ),
+    Word(
+        "plain",
+        Given::Flag,
+        "Writes a plain line for the grammar and for each input",
+    ),
 ];
 
 const PAGE: &[Word] = &[
@@ -172,7 +181,7 @@ const PAGE: &[Word] = &[
     INPUT,
     Word(
         "file",
-        Given::Output,
+        Given::Short('o'),
         "The file that the page goes to; without it, standard output",
     ),
     LEX,
@@ -202,7 +211,11 @@ const SKETCH: &[Word] = &[GRAMMAR, FROM];
 
 const IMPORT: &[Word] = &[
     Word("file", Given::File("file"), "The file of bison or byacc"),
-    Word("output", Given::Output, "Writes the grammar to this file"),
+    Word(
+        "output",
+        Given::Short('o'),
+        "Writes the grammar to this file",
+    ),
 ];
 
 const RULES: &[Word] = &[
@@ -220,6 +233,20 @@ const RULES: &[Word] = &[
     FROM,
 ];
 
+const TABLE: &[Word] = &[
+    GRAMMAR,
+    Word(
+        "report",
+        Given::Letter('v'),
+        "Writes the report on states too",
+    ),
+    Word(
+        "prefix",
+        Given::Short('b'),
+        "What the names of the files begin with; without it, y",
+    ),
+];
+
 /// The argument that a word is.
 fn argument<'a>(alloc: Global, word: &Word) -> Arg<'a> {
     let Word(name, given, help) = *word;
@@ -231,7 +258,8 @@ fn argument<'a>(alloc: Global, word: &Word) -> Arg<'a> {
         Given::Value(shown) => arg.long(name).value_name(shown),
         Given::Required(shown) => arg.long(name).value_name(shown).required(true),
         Given::Again(shown) => arg.long(name).value_name(shown).action(ArgAction::Append),
-        Given::Output => arg.short('o'),
+        Given::Letter(letter) => arg.short(letter).action(ArgAction::SetTrue),
+        Given::Short(letter) => arg.short(letter),
     }
 }
 
@@ -246,6 +274,7 @@ fn about(form: Form) -> &'static str {
         Form::Tokens => "Writes the tokens of a text as a tokens file",
         Form::Sketch => "Sketches the file that says how the tokens of a text look",
         Form::Rules => "Names the rules of a grammar for programs that read its table",
+        Form::Table => "Writes the table of a grammar as yacc does",
     }
 }
 
@@ -269,6 +298,7 @@ pub fn words_of(form: Form) -> &'static [Word] {
         Form::Tokens => TOKENS,
         Form::Sketch => SKETCH,
         Form::Rules => RULES,
+        Form::Table => TABLE,
     }
 }
 
@@ -276,7 +306,7 @@ pub fn words_of(form: Form) -> &'static [Word] {
 pub fn command_of<'a>(alloc: Global, form: Form) -> Result<Command<'a>, AllocError> {
     let command = with_words(alloc, form, words_of(form))?;
     match form {
-        Form::Debug => Ok(command.after_help(FORMS)),
+        Form::Debug => Ok(command.version(VERSION).after_help(FORMS)),
         _ => Ok(command),
     }
 }

@@ -3,35 +3,43 @@
 //! `ydebug page grammar tokens` makes a page of a parse. `ydebug import file` makes a grammar file
 //! that `yacc` reads out of one for bison. With `--lex SPEC` a text stands in place of a tokens
 //! file; `ydebug tokens` writes the tokens of one, and `ydebug lex-spec` sketches a SPEC. `ydebug
-//! rules grammar` names the rules of a grammar for programs that read its table.
+//! rules grammar` names the rules of a grammar for programs that read its table, and `ydebug table`
+//! writes that as `yacc` does.
 //!
-//! `forms` has the words of the forms, and `near` what could be meant by others; what the forms are
-//! given is opened by `ysources`.
+//! `forms` has the arguments of the forms, and `near` what could be meant by others. `check`,
+//! `tokens`, `sketch` and `table` are forms; the others have a crate each. What the forms are given
+//! is opened by `yinput`.
 #![tactic(auto)]
 
+mod check;
 mod forms;
 mod near;
+mod sketch;
+mod table;
+mod tokens;
 
-use crate::forms::{Form, USAGE, command_of, form_of, name_of};
+use crate::check::run_check;
+use crate::forms::{FORMS, Form, USAGE, command_of, form_of, name_of};
 use crate::near::{put_near_form, put_near_words};
+use crate::sketch::run_sketch;
+use crate::table::run_table;
+use crate::tokens::run_tokens;
 use clap::error::ErrorKind;
 use clap::{ArgMatches, Command};
 use std::alloc::{AllocError, Global};
 use std::env;
 use std::io::{self, BufWriter, IsTerminal, Write};
 use std::process::ExitCode;
+use ybison::import::{Asked as Import, run_import};
 use ydebugger::{Setting, debug};
 use yfiles::reading::{LONGEST_INPUT, Limited};
-use yimported::run::{Asked as Import, run_import};
+use yinput::grammars::{GrammarFile, open_file};
+use yinput::language::LanguageFiles;
+use yinput::source::Source;
 use ypage::page::{self, run_page};
 use ypage::walk::Part;
 use yreports::report::{Asked, put_conflicts};
 use yrules::run::{Asked as Rules, run_rules};
-use ysources::check::{self, check_inputs};
-use ysources::grammars::{GrammarFile, open_file};
-use ysources::sketch::run_sketch;
-use ysources::source::Source;
-use ysources::tokens::run_tokens;
 
 /// The exit status of a program that a signal ends since its pipe has no reader any more.
 const ENDED_BY_PIPE: u8 = 141;
@@ -41,7 +49,7 @@ const ENDED_BY_PIPE: u8 = 141;
 enum Refused {
     /// The words are not those of the program.
     Words,
-    /// Help was asked for, and is written.
+    /// Help or the version was asked for, and is written.
     Helped,
     /// Memory ran out.
     Memory,
@@ -67,7 +75,7 @@ impl From<io::Error> for Refused {
     }
 }
 
-/// Writes the help that was asked for.
+/// Writes the help or the version that was asked for.
 fn put_help(rt: &HostRuntime, help: &clap::Error) -> Refused {
     let Ok(text) = format!(in rt.alloc(); "{help}") else {
         return Refused::Memory;
@@ -78,10 +86,10 @@ fn put_help(rt: &HostRuntime, help: &clap::Error) -> Refused {
     }
 }
 
-/// Why words are refused. Help that they ask for is written.
+/// Why words are refused. Help or the version that they ask for is written.
 fn refused_for(rt: &HostRuntime, error: &clap::Error) -> Refused {
     match error.kind() {
-        ErrorKind::DisplayHelp => put_help(rt, error),
+        ErrorKind::DisplayHelp | ErrorKind::DisplayVersion => put_help(rt, error),
         ErrorKind::OutOfMemory => Refused::Memory,
         _ => Refused::Words,
     }
@@ -117,6 +125,14 @@ fn grammar_in<'a>(matches: &ArgMatches<'a>) -> Result<GrammarFile<'a>, Refused> 
         Some("bison") => Ok(GrammarFile { path, bison: true }),
         Some(_) => Err(Refused::Words),
     }
+}
+
+/// The files of a language.
+fn language_in<'a>(matches: &ArgMatches<'a>) -> Result<LanguageFiles<'a>, Refused> {
+    Ok(LanguageFiles {
+        grammar: grammar_in(matches)?,
+        spec: matches.get_str("lex"),
+    })
 }
 
 /// The number that a word is.
@@ -187,25 +203,25 @@ fn check_files<W: Write>(
     out: &mut W,
 ) -> Result<u8, Refused> {
     let asked = check::Asked {
-        grammar: grammar_in(matches)?,
+        files: language_in(matches)?,
         inputs: matches.get_strs("tokens").unwrap_or(&[]),
-        spec: matches.get_str("lex"),
         choice: is_given(matches, "choice"),
+        plain: is_given(matches, "plain"),
         most: most_of(matches)?,
     };
-    let streams = (&mut rt.stdin(), out);
-    Ok(check_inputs(rt, asked, streams, &mut rt.stderr())?)
+    Ok(run_check(rt, asked, &mut rt.stdin(), out, &mut rt.stderr())?)
 }
 
 /// A page of a parse.
 fn page<W: Write>(rt: &HostRuntime, matches: &ArgMatches<'_>, out: &mut W) -> Result<u8, Refused> {
     let (bison, from) = page_from(matches.get_strs("from").unwrap_or(&[]))?;
     let path = value_of(matches, "grammar")?;
+    let grammar = GrammarFile { path, bison };
+    let spec = matches.get_str("lex");
     let source = Source {
         rt,
-        grammar: GrammarFile { path, bison },
+        files: LanguageFiles { grammar, spec },
         input: input_of(matches, value_of(matches, "tokens")?)?,
-        spec: matches.get_str("lex"),
     };
     let to = number_of(matches, "to")?;
     let asked = page::Asked {
@@ -235,10 +251,9 @@ fn cut_file<W: Write>(
     matches: &ArgMatches<'_>,
     out: &mut W,
 ) -> Result<u8, Refused> {
-    let file = grammar_in(matches)?;
+    let files = language_in(matches)?;
     let input = input_of(matches, value_of(matches, "tokens")?)?;
-    let files = (value_of(matches, "lex")?, input);
-    Ok(run_tokens(rt, file, files, out, &mut rt.stderr())?)
+    Ok(run_tokens(rt, files, input, out, &mut rt.stderr())?)
 }
 
 /// A sketch of how tokens look.
@@ -263,6 +278,16 @@ fn name_rules<W: Write>(
         python: matches.get_str("python"),
     };
     Ok(run_rules(rt, asked, out, &mut rt.stderr())?)
+}
+
+/// The files that `yacc` writes.
+fn write_table(rt: &HostRuntime, matches: &ArgMatches<'_>) -> Result<u8, Refused> {
+    let asked = table::Asked {
+        grammar: value_of(matches, "grammar")?,
+        prefix: matches.get_str("prefix").unwrap_or("y"),
+        report: is_given(matches, "report"),
+    };
+    Ok(run_table(rt, asked, &mut rt.stderr())?)
 }
 
 /// Whether an environment variable is set to something that counts.
@@ -298,9 +323,8 @@ fn debug_files<W: Write>(
 ) -> Result<u8, Refused> {
     let source = Source {
         rt,
-        grammar: grammar_in(matches)?,
+        files: language_in(matches)?,
         input: input_of(matches, value_of(matches, "tokens")?)?,
-        spec: matches.get_str("lex"),
     };
     match source.open(&mut rt.stderr())? {
         Ok(parse) => {
@@ -309,7 +333,7 @@ fn debug_files<W: Write>(
         }
         Err(status) => {
             // Why there is no session is said; memory may have run out, and a hint is no more.
-            let _ = put_near_form(rt, &mut rt.stderr(), source.grammar.path);
+            let _ = put_near_form(rt, &mut rt.stderr(), source.files.grammar.path);
             Ok(status)
         }
     }
@@ -331,6 +355,7 @@ fn obey<W: Write>(
         Form::Tokens => cut_file(rt, matches, out),
         Form::Sketch => sketch_file(rt, matches, out),
         Form::Rules => name_rules(rt, matches, out),
+        Form::Table => write_table(rt, matches),
     }
 }
 
@@ -387,14 +412,18 @@ fn run(rt: &HostRuntime) -> Result<u8, Refused> {
 
 /// Says why nothing was done, and gives the exit status.
 fn refuse(rt: &HostRuntime, refused: Refused) -> u8 {
-    let (text, status): (&[u8], u8) = match refused {
-        Refused::Helped => (b"", 0),
+    let (text, status) = match refused {
+        Refused::Helped => ("", 0),
         Refused::Words => (USAGE, 2),
-        Refused::Memory => (b"ydebug: no memory\n", 3),
-        Refused::Unread => (b"", ENDED_BY_PIPE),
-        Refused::Outside => (b"ydebug: cannot read or write\n", 3),
+        Refused::Memory => ("ydebug: no memory\n", 3),
+        Refused::Unread => ("", ENDED_BY_PIPE),
+        Refused::Outside => ("ydebug: cannot read or write\n", 3),
     };
-    let _ = rt.stderr().write_all(text);
+    let others = if status == 2 { FORMS } else { "" };
+    let mut errors = rt.stderr();
+    for text in [text, others] {
+        let _ = errors.write_all(text.as_bytes());
+    }
     status
 }
 

@@ -5,7 +5,8 @@ use std::alloc::{AllocError, Global};
 use std::fs;
 use std::io::{self, Write};
 use std::rt::Files;
-use ycommands::words::{Nearest, near_in};
+use ycommands::words::near_in;
+use yfaults::nearest::Search;
 
 /// The option of a form that is near to a name, where that isn't one itself.
 fn near_option<'a>(
@@ -13,14 +14,14 @@ fn near_option<'a>(
     form: Form,
     name: &'a str,
 ) -> Result<Option<&'a str>, AllocError> {
-    let mut nearest = Nearest::new(name);
+    let mut search = Search::new(name.as_bytes());
     for option in words_of(form).iter().filter_map(|word| word.option()) {
         if option == name {
             return Ok(None);
         }
-        nearest.offer(alloc, option)?;
+        search.offer(alloc, option.as_bytes())?;
     }
-    Ok(nearest.best())
+    Ok(search.text())
 }
 
 /// Asks whether another option was meant by a word, where it begins as one.

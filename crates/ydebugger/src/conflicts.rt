@@ -2,11 +2,11 @@
 
 use std::alloc::{AllocError, Global};
 use std::io::Write;
-use yconflicts::groups::Conflicts;
+use ycounterexample::groups::Conflicts;
 use yexplain::why::explain;
-use yfindings::kinds::{put_counts, put_named, put_states};
-use yfollow::Parse;
-use yshow::page::Page;
+use yinput::Parse;
+use yreports::kinds::{put_counts, put_named, put_states};
+use yview::page::Page;
 
 /// How many kinds of conflicts are explained, and how many are named at most.
 const EXPLAINED: usize = 20;

@@ -21,12 +21,12 @@ use ycommands::travel::{Move, move_of, name_at_fault};
 use ycommands::verb::Verb;
 use ycommands::words::{Found, first_word};
 use yexplain::reads::grammar_of;
-use yfollow::Parse;
-use yshow::grammar_view::put_grammar;
-use yshow::place_view::{put_stack, put_where};
-use yshow::reading::{last_rule, states_of};
-use yshow::{Page, Paint};
-use ysources::source::Source;
+use yinput::Parse;
+use yinput::source::Source;
+use yview::grammar_view::put_grammar;
+use yview::place_view::{put_stack, put_where};
+use yview::reading::{last_rule, states_of};
+use yview::{Page, Paint};
 
 /// Where a session takes place: whether a person sits at a terminal.
 #[derive(Clone, Copy)]

@@ -7,11 +7,11 @@ use std::io::{self, ErrorKind, Write};
 use std::rt::Files;
 use ycommands::refusal::{Refusal, edit_words};
 use yfiles::writing::{write_new, write_over};
-use yfollow::Parse;
+use yinput::Parse;
+use yinput::source::Source;
 use yparse::machine::{StepFault, StepKind};
-use yshow::page::Page;
-use yshow::step_line::{StepLine, put_made};
-use ysources::source::Source;
+use yview::page::Page;
+use yview::step_line::{StepLine, put_made};
 
 /// Writes an edit, or why it wasn't made.
 fn put_edit<W: Write>(page: &mut Page<W>, parse: &Parse, made: Result<StepKind, StepFault>) {

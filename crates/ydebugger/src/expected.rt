@@ -3,12 +3,12 @@
 use std::alloc::{AllocError, Global};
 use std::io::Write;
 use yexplain::reads::grammar_of;
-use yfollow::expected::{Wanted, expected};
+use yinput::expected::{Wanted, expected};
 use yparse::Session;
 use yparse::machine::Mode;
-use yshow::page::Page;
-use yshow::reading::{name_of, stack_state};
 use ysymbols::{Grammar, Sym};
+use yview::page::Page;
+use yview::reading::{name_of, stack_state};
 
 /// The states of the stack from the bottom, the first state below it.
 fn states_of_stack(alloc: Global, session: &Session) -> Result<Vec<usize>, AllocError> {

@@ -2,13 +2,13 @@
 
 use std::io::Write;
 use yexplain::reads::grammar_of;
-use yfollow::Parse;
+use yinput::Parse;
 use yparse::Session;
 use yparse::machine::StepKind;
-use yshow::page::Page;
-use yshow::reading::{name_of, upcoming_token};
-use yshow::step_line::{kind_word, put_rule_number, put_subject};
 use ysymbols::Grammar;
+use yview::page::Page;
+use yview::reading::{name_of, upcoming_token};
+use yview::step_line::{kind_word, put_rule_number, put_subject};
 
 /// How many steps are shown unless told otherwise.
 pub const SOME_STEPS: usize = 20;

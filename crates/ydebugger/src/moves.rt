@@ -7,10 +7,10 @@ use std::io::Write;
 use ycommands::condition::{Condition, put_cell};
 use ycommands::refusal::fault_words;
 use ycommands::travel::{LAST, Move, is_to, tells_each, until_of};
-use yfollow::Parse;
+use yinput::Parse;
 use yparse::machine::{StepFault, StepKind};
-use yshow::page::Page;
-use yshow::step_line::{StepLine, put_made};
+use yview::page::Page;
+use yview::step_line::{StepLine, put_made};
 
 /// More steps than can be made.
 const FARTHEST: usize = LAST + 1;

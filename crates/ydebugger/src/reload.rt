@@ -5,12 +5,12 @@ use std::mem;
 use std::rt::Files;
 use ycommands::refusal::{Refusal, fault_words, put_refusal};
 use yexplain::reads::grammar_of;
-use yfollow::Parse;
+use yinput::Parse;
+use yinput::source::Source;
 use yparse::machine::{StepFault, StepKind};
-use yshow::page::Page;
-use yshow::reading::name_of;
-use ysources::source::Source;
 use ysymbols::Grammar;
+use yview::page::Page;
+use yview::reading::name_of;
 
 /// Why the past isn't made again.
 #[derive(Clone, Copy)]

@@ -3,8 +3,8 @@
 use std::alloc::{AllocError, Global};
 use std::io::Write;
 use yparse::Session;
-use yshow::Page;
-use yshow::step_line::{StepLine, put_made};
+use yview::Page;
+use yview::step_line::{StepLine, put_made};
 
 /// How many of a run's lines are kept.
 const KEPT: usize = 10;

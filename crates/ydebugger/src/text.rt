@@ -3,11 +3,11 @@
 use std::io::Write;
 use yexplain::lines::Spots;
 use yexplain::reads::grammar_of;
-use yfollow::Parse;
-use yfollow::source::Text;
-use yshow::page::Page;
-use yshow::place_view::{MANY, put_more};
-use yshow::reading::{name_of, upcoming_token};
+use yinput::Parse;
+use yinput::text::Text;
+use yview::page::Page;
+use yview::place_view::{MANY, put_more};
+use yview::reading::{name_of, upcoming_token};
 
 /// The place of the first upcoming token that wasn't inserted.
 fn place_ahead(parse: &Parse) -> usize {

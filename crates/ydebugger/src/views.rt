@@ -10,16 +10,16 @@ use ycommands::verb::Verb;
 use ycommands::words::first_word;
 use yexplain::reads::grammar_of;
 use yexplain::why::{Question, explain};
-use yfollow::Parse;
+use yinput::Parse;
 use yparse::Session;
 use yparse::machine::Mode;
-use yshow::derivation::{SOME_FORMS, put_derivation, size_of_derivation};
-use yshow::grammar_view::Rules;
-use yshow::page::Page;
-use yshow::reading::{last_rule, last_state, token_ahead};
-use yshow::state_view::put_state;
-use yshow::symbol_view::put_symbol;
-use yshow::tree_text::{SOME_LINES, put_tree, put_trees};
+use yview::derivation::{SOME_FORMS, put_derivation, size_of_derivation};
+use yview::grammar_view::Rules;
+use yview::page::Page;
+use yview::reading::{last_rule, last_state, token_ahead};
+use yview::state_view::put_state;
+use yview::symbol_view::put_symbol;
+use yview::tree_text::{SOME_LINES, put_tree, put_trees};
 
 /// Writes a refusal; how the command is used, where a word was no number.
 pub fn put_misuse<W: Write>(page: &mut Page<W>, verb: Verb, refusal: Refusal) {

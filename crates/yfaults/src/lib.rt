@@ -2,10 +2,10 @@
 #![tactic(auto)]
 
 mod coming;
+mod grammar_fault;
 mod long;
-mod nearest;
+pub mod nearest;
 pub mod opening;
 mod place;
 pub mod shown;
-mod told;
 mod words;

@@ -1,4 +1,4 @@
-//! The nearest of some names to another name, for a slip in spelling.
+//! The nearest of some names to another name, for a slip in spelling: of symbols, commands, options.
 
 use std::alloc::{AllocError, Global};
 use std::str;
@@ -61,5 +61,10 @@ impl<'a> Search<'a> {
     /// The nearest of the names that were offered.
     pub fn found(&self) -> Option<&'a [u8]> {
         self.found
+    }
+
+    /// The same as text.
+    pub fn text(&self) -> Option<&'a str> {
+        str::from_utf8(self.found?).ok()
     }
 }

@@ -1,9 +1,9 @@
 //! What is opened of a grammar file, and what is said of grammar files and tokens files that are
 //! refused.
 
+use crate::grammar_fault::{Refusal, nearest_token, put_grammar_fault, put_question};
 use crate::place::word_place;
 use crate::shown::{Place, put_whole};
-use crate::told::{Refusal, nearest_token, put_grammar_fault, put_question};
 use crate::words::{token_code, words_of};
 use std::alloc::{AllocError, Global};
 use std::io::{self, ErrorKind, Write};

@@ -119,6 +119,12 @@ impl<'a> Place<'a> {
         )
     }
 
+    /// Writes the file, the line and the column, as the front of a line.
+    pub fn put_front<W: Write>(self, out: &mut W) -> io::Result<()> {
+        let (path, (line, column)) = (self.path, self.spot());
+        write!(out, "{path}:{line}:{column}: ")
+    }
+
     /// Writes the file, the line and what is wrong there.
     fn put_head<W: Write>(self, out: &mut W, words: Words) -> io::Result<()> {
         let path = self.path;

@@ -6,6 +6,7 @@ use crate::spec::{Rule, Spec, Word};
 use regex::Error;
 use regex::bytes::{Matcher, Regex};
 use std::alloc::{AllocError, Global};
+use yexplain::reads::name_of;
 use ysymbols::{Grammar, Sym};
 use ytokens::tokens::Tokens;
 
@@ -43,10 +44,20 @@ impl Found {
 
 /// What cuts texts.
 #[derive(Drop)]
-pub struct Lexer<'a> {
-    words: &'a [Word<'a>],
-    rules: &'a [Rule<'a>],
+pub struct Lexer {
+    words: Vec<Word>,
     literals: Vec<Option<Sym>>,
+    /// The token of each expression; `None` where what it matches is passed over.
+    tokens: Vec<Option<Sym>>,
+    regexes: Vec<Regex>,
+    named: Vec<bool>,
+}
+
+/// A text on its way to be cut.
+#[derive(Drop)]
+struct Cutting<'a> {
+    lexer: &'a Lexer,
+    grammar: &'a Grammar,
     matchers: Vec<Matcher<'a>>,
 }
 
@@ -104,13 +115,22 @@ fn compiled(alloc: Global, rule: Rule<'_>) -> Result<Regex, SpecFault> {
 }
 
 /// The expressions of a SPEC, compiled; or the first that is refused.
-pub fn compile(alloc: Global, rules: &[Rule<'_>]) -> Result<Vec<Regex>, SpecFault> {
+fn compile(alloc: Global, rules: &[Rule<'_>]) -> Result<Vec<Regex>, SpecFault> {
     let mut all = Vec::new(alloc);
     for rule in rules {
         let regex = compiled(alloc, *rule)?;
         all.push(regex).map_err(AllocError::from)?;
     }
     Ok(all)
+}
+
+/// The tokens of the lines with expressions.
+fn tokens_of(alloc: Global, rules: &[Rule<'_>]) -> Result<Vec<Option<Sym>>, AllocError> {
+    let mut tokens = Vec::with_capacity(alloc, rules.len())?;
+    for rule in rules {
+        tokens.push(rule.token)?;
+    }
+    Ok(tokens)
 }
 
 /// The literal of each byte, but for those that no text has.
@@ -137,42 +157,70 @@ fn matchers_of(alloc: Global, regexes: &[Regex]) -> Result<Vec<Matcher<'_>>, All
     Ok(matchers)
 }
 
-/// Whether a word stands at the front of a rest.
-fn begins(word: Word<'_>, rest: &[u8]) -> bool {
-    match rest.get(..word.text.len()) {
-        Some(front) if word.folded => front.eq_ignore_ascii_case(word.text),
-        Some(front) => front == word.text,
+/// Whether a word of this spelling stands at the front of a rest.
+fn begins(rest: &[u8], text: &[u8], folded: bool) -> bool {
+    match rest.get(..text.len()) {
+        Some(front) if folded => front.eq_ignore_ascii_case(text),
+        Some(front) => front == text,
         None => false,
     }
 }
 
-impl<'a> Lexer<'a> {
-    /// What cuts texts by a SPEC, whose expressions are compiled.
-    pub fn new(
-        alloc: Global,
-        grammar: &Grammar,
-        spec: &'a Spec<'a>,
-        regexes: &'a [Regex],
-    ) -> Result<Lexer<'a>, AllocError> {
+impl Lexer {
+    /// What cuts texts by a SPEC; or the first expression that is refused.
+    pub fn new(alloc: Global, grammar: &Grammar, spec: Spec<'_>) -> Result<Lexer, SpecFault> {
+        let Spec {
+            rules,
+            words,
+            named,
+            absent,
+        } = spec;
         Ok(Lexer {
-            words: &spec.words,
-            rules: &spec.rules,
-            literals: literals_of(alloc, grammar, &spec.absent)?,
-            matchers: matchers_of(alloc, regexes)?,
+            words,
+            literals: literals_of(alloc, grammar, &absent)?,
+            tokens: tokens_of(alloc, &rules)?,
+            regexes: compile(alloc, &rules)?,
+            named,
         })
     }
 
+    /// Whether the SPEC names a symbol.
+    pub fn names(&self, symbol: Sym) -> bool {
+        self.named.get(symbol) == Some(&true)
+    }
+
+    /// Cuts a text into tokens.
+    pub fn lex<'a>(
+        &'a self,
+        alloc: Global,
+        grammar: &'a Grammar,
+        bytes: &[u8],
+    ) -> Result<Lexed, TextFault> {
+        let mut cutting = Cutting {
+            lexer: self,
+            grammar,
+            matchers: matchers_of(alloc, &self.regexes)?,
+        };
+        let mut lexed = Lexed::new(alloc);
+        cutting.lex(&mut lexed, bytes)?;
+        Ok(lexed)
+    }
+}
+
+impl Cutting<'_> {
     /// The longest of the literals and words at the front of a rest.
     fn fixed(&self, rest: &[u8]) -> Found {
         let first = rest.first().copied().unwrap_or(0);
-        let literal = self.literals.get(usize::from(first)).copied().flatten();
+        let (lexer, grammar) = (self.lexer, self.grammar);
+        let literal = lexer.literals.get(usize::from(first)).copied().flatten();
         let mut found = Found {
             length: usize::from(literal.is_some()),
             token: literal,
         };
-        for word in self.words {
-            if begins(*word, rest) {
-                found = found.or(word.text.len(), Some(word.token));
+        for word in &lexer.words {
+            let text = name_of(grammar, word.token);
+            if begins(rest, text, word.folded) {
+                found = found.or(text.len(), Some(word.token));
             }
         }
         found
@@ -181,9 +229,10 @@ impl<'a> Lexer<'a> {
     /// What stands at the front of a rest.
     fn front(&mut self, rest: &[u8]) -> Found {
         let mut found = self.fixed(rest);
-        for (matcher, rule) in self.matchers.iter_mut().zip(self.rules) {
+        let lexer = self.lexer;
+        for (matcher, token) in self.matchers.iter_mut().zip(&lexer.tokens) {
             if let Some(part) = matcher.find(rest) {
-                found = found.or(part.end(), rule.token);
+                found = found.or(part.end(), *token);
             }
         }
         found
@@ -203,9 +252,8 @@ impl<'a> Lexer<'a> {
         Ok(end)
     }
 
-    /// Cuts a text into tokens, in place of those that were there.
-    pub fn lex(&mut self, lexed: &mut Lexed, bytes: &[u8]) -> Result<(), TextFault> {
-        lexed.clear();
+    /// Cuts a text into tokens.
+    fn lex(&mut self, lexed: &mut Lexed, bytes: &[u8]) -> Result<(), TextFault> {
         let mut at = 0;
         for _ in 0..bytes.len() {
             if at >= bytes.len() {
@@ -219,7 +267,7 @@ impl<'a> Lexer<'a> {
 
 impl Lexed {
     /// No token yet.
-    pub fn new(alloc: Global) -> Lexed {
+    fn new(alloc: Global) -> Lexed {
         Lexed {
             tokens: Tokens {
                 symbols: Vec::new(alloc),
@@ -227,12 +275,6 @@ impl Lexed {
             places: Vec::new(alloc),
             end: 0,
         }
-    }
-
-    fn clear(&mut self) {
-        self.tokens.symbols.clear();
-        self.places.clear();
-        self.end = 0;
     }
 
     fn push(&mut self, token: Sym, at: usize, end: usize) -> Result<(), TextFault> {

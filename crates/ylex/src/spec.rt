@@ -20,39 +20,26 @@ pub struct Rule<'a> {
     pub at: usize,
 }
 
-/// A word that stands for itself.
+/// A token that stands for itself as the grammar spells it.
 #[derive(Clone, Copy, Drop)]
-pub struct Word<'a> {
-    /// Its token.
+pub struct Word {
+    /// The token.
     pub token: Sym,
-    /// How the grammar spells it.
-    pub text: &'a [u8],
     /// Whether it counts in any case.
     pub folded: bool,
 }
 
 /// What a SPEC says.
+#[derive(Drop)]
 pub struct Spec<'a> {
     /// Its lines with expressions.
     pub rules: Vec<Rule<'a>>,
     /// Its words.
-    pub words: Vec<Word<'a>>,
+    pub words: Vec<Word>,
     /// Which symbols of the grammar it names.
     pub named: Vec<bool>,
     /// Which of them no text has.
     pub absent: Vec<bool>,
-}
-
-impl Drop for Spec<'_> {
-    // A call in each owner, which keeps their proofs short.
-    fn drop(self) {
-        let Spec {
-            rules: _,
-            words: _,
-            named: _,
-            absent: _,
-        } = self;
-    }
 }
 
 /// What names behind a directive are.
@@ -159,7 +146,7 @@ impl<'a> Spec<'a> {
     fn add_name(
         &mut self,
         grammar: &Grammar,
-        piece: Piece<'a>,
+        piece: Piece<'_>,
         listed: Listed,
     ) -> Result<(), SpecFault> {
         let token = token_of(grammar, piece)?;
@@ -172,7 +159,6 @@ impl<'a> Spec<'a> {
         }
         let word = Word {
             token,
-            text: piece.first(piece.word()),
             folded: listed == Listed::FoldedWords,
         };
         self.words.push(word).map_err(AllocError::from)?;
@@ -183,7 +169,7 @@ impl<'a> Spec<'a> {
     fn add_names(
         &mut self,
         grammar: &Grammar,
-        names: Piece<'a>,
+        names: Piece<'_>,
         listed: Listed,
     ) -> Result<(), SpecFault> {
         if names.bytes.is_empty() {

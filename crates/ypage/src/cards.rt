@@ -4,16 +4,16 @@ use crate::cells::{text_of, why_of};
 use serde::Serialize;
 use std::alloc::{AllocError, Global};
 use std::io;
-use yconflicts::groups::{Conflicts, Group, Kind};
+use ycounterexample::finding::{Finding, List, Seeker};
+use ycounterexample::groups::{Conflicts, Group, Kind};
+use ycounterexample::trial::empty_session;
 use yexplain::lines::Lines;
 use yfaults::opening::Opened;
-use yfindings::finding::{Finding, List, Seeker};
-use yfindings::list_text::{ListText, put_unfound};
-use yfindings::trial::empty_session;
 use yparse::Session;
-use yshow::page::Page;
+use yreports::list_text::{ListText, put_unfound};
 use ysymbols::Sym;
 use ytables::Tables;
+use yview::page::Page;
 
 /// The most conflicts that a page shows.
 const MOST_CARDS: usize = 200;

@@ -4,11 +4,11 @@ use crate::record::Record;
 use serde::Serialize;
 use std::alloc::{AllocError, Global};
 use yexplain::lines::Spots;
-use yfollow::Parse;
+use yinput::Parse;
 use yparse::Session;
 use yparse::machine::StepKind;
-use yshow::reading::upcoming_token;
 use ysymbols::Sym;
+use yview::reading::upcoming_token;
 
 /// How many tokens before the first position are shown.
 const BEFORE: usize = 100;

@@ -13,8 +13,8 @@ use std::rt::Files;
 use yfaults::opening::Opened;
 use yfiles::same::refused_output;
 use yfiles::writing::put_output;
-use yfollow::Parse;
-use ysources::source::Source;
+use yinput::Parse;
+use yinput::source::Source;
 
 /// What is asked for: where the page of a parse goes, the part that it shows, and whether it has
 /// the conflicts of the grammar.
@@ -115,7 +115,7 @@ fn put_steps<F: Files + AllocGlobal, W: Write, E: Write>(
     let input = Input::new(alloc, &parse, &trail.record)?;
     let (opened, cards) = cards_of(alloc, parse.into_opened(), asked.conflicts)?;
     let shown = Shown {
-        files: (source.grammar.path, source.input.path),
+        files: (source.files.grammar.path, source.input.path),
         opened: &opened,
         input: &input,
         record: &trail.record,
@@ -164,8 +164,12 @@ pub fn run_page<F: Files + AllocGlobal, W: Write, E: Write>(
     out: &mut W,
     errors: &mut E,
 ) -> io::Result<u8> {
-    let grammar = source.grammar.path;
-    let inputs = [grammar, source.input.path, source.spec.unwrap_or(grammar)];
+    let grammar = source.files.grammar.path;
+    let inputs = [
+        grammar,
+        source.input.path,
+        source.files.spec.unwrap_or(grammar),
+    ];
     if let Some(status) = refused_output(source.rt, asked.file, &inputs, errors)? {
         return Ok(status);
     }

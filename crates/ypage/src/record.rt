@@ -4,8 +4,8 @@ use serde::Serialize;
 use std::alloc::{AllocError, Global};
 use yparse::Session;
 use yparse::machine::{Mode, StepKind};
-use yshow::reading::{stack_state, stack_symbol};
 use ysymbols::Sym;
+use yview::reading::{stack_state, stack_symbol};
 
 /// Where a parse stands at the first position of the page.
 #[derive(Drop, Serialize)]

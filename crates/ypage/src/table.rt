@@ -5,9 +5,9 @@ use std::alloc::{AllocError, Global};
 use yexplain::lines::Lines;
 use yexplain::reads::{body_of, grammar_of, items_of, left_of};
 use ylalr::{Automaton, END, token_count};
-use yshow::reading::name_of;
 use ysymbols::Sym;
 use ytables::Tables;
+use yview::reading::name_of;
 
 /// A state: its number, and the rule and the dot of each item that has begun. The page adds the
 /// others.

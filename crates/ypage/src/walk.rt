@@ -4,10 +4,10 @@ use crate::record::{Record, Start};
 use indexmap::IndexSet;
 use std::alloc::{AllocError, Global};
 use std::io::{self, ErrorKind};
-use yfollow::Parse;
+use yinput::Parse;
 use yparse::machine::{StepFault, StepKind};
-use yshow::reading::{is_running, token_ahead};
 use ysymbols::Sym;
+use yview::reading::{is_running, token_ahead};
 
 /// The most steps that a page shows.
 pub const MOST_STEPS: usize = 20_000;

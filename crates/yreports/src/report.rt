@@ -1,23 +1,23 @@
 //! `ydebug conflicts`: each kind of conflict with its rivals, what settled it, and lists of tokens
 //! that get there; then the warnings.
 
+use crate::kinds::{put_counts, put_named, put_states};
+use crate::list_text::{ListText, put_unfound};
 use crate::saving::Folder;
 use crate::warnings::put_warnings;
 use std::alloc::Global;
 use std::io::{self, Write};
 use std::rt::Files;
-use yconflicts::groups::{Conflicts, Group, Kind};
+use ycounterexample::finding::{Finding, Seeker, file_tokens};
+use ycounterexample::groups::{Conflicts, Group, Kind};
+use ycounterexample::trial::empty_session;
 use yexplain::lines::Lines;
 use yexplain::reads::grammar_of;
 use yexplain::why::explain;
 use yfaults::opening::Opened;
-use yfindings::finding::{Finding, Seeker, file_tokens};
-use yfindings::kinds::{put_counts, put_named, put_states};
-use yfindings::list_text::{ListText, put_unfound};
-use yfindings::trial::empty_session;
 use yparse::Session;
-use yshow::page::Page;
 use ytables::Tables;
+use yview::page::Page;
 
 /// The most kinds for which lists are made.
 const MOST_GROUPS: usize = 200;

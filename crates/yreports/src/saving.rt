@@ -7,8 +7,8 @@ use std::rt::Files;
 use yexplain::text::{Name, Names};
 use yfiles::same::is_same_file;
 use yfiles::writing::write_over;
-use yshow::page::Page;
 use ysymbols::{Grammar, Sym};
+use yview::page::Page;
 
 /// A folder for tokens files, where one is wanted.
 #[derive(Drop)]

@@ -7,10 +7,10 @@ use yexplain::lines::{Lines, Mention};
 use yexplain::reads::{grammar_of, is_reachable, left_of, level_of, set};
 use yexplain::text::{Name, RuleText};
 use ylalr::ERROR;
-use yshow::page::Page;
 use ysourcemap::Role;
 use ysymbols::{Grammar, Sym};
 use ytables::Tables;
+use yview::page::Page;
 
 /// How symbols are named in a file.
 #[derive(Drop)]

@@ -3,7 +3,7 @@
 use crate::sheet::Sheet;
 use std::io::{self, Write};
 use yexplain::text::{Bytes, RuleText};
-use yshow::page::Page;
+use yview::page::Page;
 
 /// Writes the number, the name, the text and the line of a rule.
 fn put_rule<W: Write>(page: &mut Page<W>, sheet: Sheet<'_>, rule: usize) {

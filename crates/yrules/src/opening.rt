@@ -4,12 +4,12 @@ use std::alloc::Global;
 use std::io::{self, ErrorKind, Write};
 use std::mem;
 use std::rt::Files;
+use ybison::import::open_foreign;
+use ybison::opening::open_text;
 use yfaults::opening::{Opened, grammar_bytes, put_unread};
 use ygrammar::{Mapped, Mark, read_mapped};
 use yimport::import::import;
-use yimported::opening::open_text;
-use yimported::run::open_foreign;
-use ysources::grammars::GrammarFile;
+use yinput::grammars::GrammarFile;
 
 /// A grammar file that is open: the text that `yacc` reads, and what that comes to.
 #[derive(Drop)]

@@ -19,7 +19,7 @@ use yfaults::opening::Opened;
 use yfiles::same::{is_same_file, refused_output};
 use yfiles::writing::put_output;
 use ygrammar::Mark;
-use ysources::grammars::GrammarFile;
+use yinput::grammars::GrammarFile;
 use ysymbols::Grammar;
 
 /// What is asked for: the names of the rules of a grammar file, in a header, in a module, or where

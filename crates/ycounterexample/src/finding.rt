@@ -1,0 +1,355 @@
+//! The lists of tokens that get to a conflict, each tried in a session.
+
+use crate::groups::{Group, Kind};
+use crate::others::Others;
+use crate::search::{Finder, Found, Target};
+use crate::trial::{self, Trial, try_list};
+use std::alloc::{AllocError, Global};
+use std::io;
+use ylalr::{Automaton, END};
+use yparse::Session;
+use ysymbols::Sym;
+
+/// How many lists are tried, the first one among them, where that one doesn't get there.
+const MOST_LISTS: usize = 100;
+
+/// The most steps of a parse over a first list.
+const MOST_STEPS: usize = 100_000;
+
+/// The most steps over all further lists of one.
+const MOST_FOR_OTHERS: usize = 100_000;
+
+/// The most forms that are made for the further lists of one.
+const MOST_FORMS: usize = 4_000;
+
+/// How many steps any trial may take.
+const LEAST_STEPS: usize = 5_000;
+
+/// How many steps all first lists of a run may take together, and all further ones, beside those
+/// that each may take in any case.
+const ALL_STEPS: usize = 2_000_000;
+
+/// The most tokens of a list that is shown.
+const MOST_TOKENS: usize = 1_000;
+
+/// Which rivals a list allows.
+#[derive(Clone, Copy, Drop, PartialEq, Eq)]
+pub enum Allows {
+    /// What is taken and its rules.
+    Both,
+    /// Its rules alone, since no list allows both: states were merged.
+    One,
+    /// Its rules alone, since no list for both was found within the limits.
+    Found,
+}
+
+/// A list of tokens before the token of the conflict.
+pub struct List {
+    /// Which of the rivals it allows.
+    pub allows: Allows,
+    /// The rules that it is for.
+    pub rules: Vec<usize>,
+    /// The tokens, up to the token of the conflict.
+    pub tokens: Vec<Sym>,
+    /// What a session over it came to.
+    pub trial: Trial,
+    /// Where the parse misses the state, the next list with which it doesn't, and in how many
+    /// steps.
+    pub other: Option<(Vec<Sym>, usize)>,
+    /// How many further lists were tried.
+    pub tried: usize,
+    /// Whether a parse over one of them comes to the state after an error.
+    pub recovered: bool,
+}
+
+impl Drop for List {
+    // A call in each owner, which keeps their proofs short.
+    fn drop(self) {
+        let List {
+            allows: _,
+            rules: _,
+            tokens: _,
+            trial: _,
+            other: _,
+            tried: _,
+            recovered: _,
+        } = self;
+    }
+}
+
+/// What was found for the cells of one kind.
+#[derive(Drop)]
+pub struct Finding {
+    /// The lists: one that allows what is taken and a further rule, or one for each of them.
+    pub lists: Vec<List>,
+    /// Whether a list was found, but is too long to be shown.
+    pub long: bool,
+    /// Whether a list wasn't found within the limits.
+    pub late: bool,
+}
+
+impl Finding {
+    /// Whether there is a list for a rule already, of which this is to be one.
+    fn is_done(&self, rule: usize, allows: Allows) -> bool {
+        self.lists
+            .iter()
+            .any(|list| list.allows == allows && list.rules.contains(&rule))
+    }
+
+    /// Adds a rule to the list of these tokens, and says whether there is one.
+    fn share(&mut self, goal: Goal, tokens: &[Sym]) -> Result<bool, AllocError> {
+        for list in self.lists.iter_mut() {
+            if list.allows == goal.allows && list.tokens.as_slice() == tokens {
+                list.rules.push(goal.rule)?;
+                return Ok(true);
+            }
+        }
+        Ok(false)
+    }
+}
+
+/// What lists are sought with.
+#[derive(Drop)]
+pub struct Seeker<'a> {
+    alloc: Global,
+    /// What searches for lists.
+    pub finder: Finder,
+    /// The session in which lists are tried.
+    pub session: &'a mut Session,
+    /// How many steps first lists may still take.
+    steps: usize,
+    /// How many steps further lists may still take.
+    steps_for_others: usize,
+}
+
+/// How many steps a trial may take: a part of those that may still be made.
+fn allowance(left: usize, most: usize) -> usize {
+    (left / 8).min(most).max(LEAST_STEPS)
+}
+
+/// A cell and the rules of which both are to be possible; the rule that the list is for.
+#[derive(Clone, Copy)]
+struct Goal {
+    target: Target,
+    rule: usize,
+    allows: Allows,
+}
+
+impl<'a> Seeker<'a> {
+    /// What lists for the conflicts of a session without tokens are sought with.
+    pub fn new(alloc: Global, session: &'a mut Session) -> Result<Seeker<'a>, AllocError> {
+        Ok(Seeker {
+            alloc,
+            finder: Finder::new(alloc, session.tables().automaton())?,
+            session,
+            steps: ALL_STEPS,
+            steps_for_others: ALL_STEPS,
+        })
+    }
+
+    /// The lists for the cells of a kind: for what is taken and each other rule that is shown.
+    pub fn find(&mut self, kind: &Kind, group: Group) -> io::Result<Finding> {
+        let mut finding = Finding {
+            lists: Vec::new(self.alloc),
+            long: false,
+            late: false,
+        };
+        self.find_each(kind, group, &mut finding)?;
+        Ok(finding)
+    }
+
+    /// The lists for what is taken and each other rule that is shown.
+    fn find_each(&mut self, kind: &Kind, group: Group, finding: &mut Finding) -> io::Result<()> {
+        for rule in kind.others() {
+            self.find_pair(kind, group, *rule, finding)?;
+        }
+        Ok(())
+    }
+
+    /// The list for what is taken and a rule, or else a list for each.
+    fn find_pair(
+        &mut self,
+        kind: &Kind,
+        group: Group,
+        rule: usize,
+        finding: &mut Finding,
+    ) -> io::Result<()> {
+        let goal = Goal {
+            target: Target {
+                state: group.state,
+                token: kind.token,
+                first: kind.taken(),
+                second: Some(rule),
+            },
+            rule,
+            allows: Allows::Both,
+        };
+        let allows = match self.way(goal)? {
+            Found::Way(way) => return self.add(goal, &way, finding),
+            Found::Nothing => Allows::One,
+            Found::Late => Allows::Found,
+        };
+        if let Some(taken) = kind.taken() {
+            self.find_one(goal, taken, allows, finding)?;
+        }
+        self.find_one(goal, rule, allows, finding)
+    }
+
+    /// The list for one rule.
+    fn find_one(
+        &mut self,
+        goal: Goal,
+        rule: usize,
+        allows: Allows,
+        finding: &mut Finding,
+    ) -> io::Result<()> {
+        if finding.is_done(rule, allows) {
+            return Ok(());
+        }
+        let target = Target {
+            first: Some(rule),
+            second: None,
+            ..goal.target
+        };
+        let goal = Goal {
+            target,
+            rule,
+            allows,
+        };
+        match self.way(goal)? {
+            Found::Way(way) => self.add(goal, &way, finding),
+            Found::Nothing | Found::Late => {
+                finding.late = true;
+                Ok(())
+            }
+        }
+    }
+
+    /// The shortest way for a list.
+    fn way(&mut self, goal: Goal) -> Result<Found, AllocError> {
+        let automaton = self.session.tables().automaton();
+        self.finder.shortest(automaton, goal.target)
+    }
+
+    /// Adds the list of a way.
+    fn add(&mut self, goal: Goal, way: &[Sym], finding: &mut Finding) -> io::Result<()> {
+        let automaton = self.session.tables().automaton();
+        let Some(tokens) = shown_tokens(&self.finder, automaton, way)? else {
+            finding.long = true;
+            return Ok(());
+        };
+        if !finding.share(goal, &tokens)? {
+            let list = self.tried(goal, tokens)?;
+            finding.lists.push(list).map_err(AllocError::from)?;
+        }
+        Ok(())
+    }
+
+    /// A list, tried.
+    fn tried(&mut self, goal: Goal, tokens: Vec<Sym>) -> io::Result<List> {
+        let mut list = List {
+            allows: goal.allows,
+            rules: Vec::new(self.alloc),
+            tokens,
+            trial: Trial::Missed,
+            other: None,
+            tried: 0,
+            recovered: false,
+        };
+        self.try_first(goal, &mut list)?;
+        Ok(list)
+    }
+
+    /// Tries a list, and others where its parse misses the state.
+    fn try_first(&mut self, goal: Goal, list: &mut List) -> io::Result<()> {
+        list.rules.push(goal.rule).map_err(AllocError::from)?;
+        let most = allowance(self.steps, MOST_STEPS);
+        let (trial, steps) = self.trial(goal, &list.tokens, most)?;
+        self.steps = self.steps.saturating_sub(steps);
+        self.finder.spend(steps);
+        list.trial = trial;
+        if trial.is_missed() {
+            self.try_others(goal, list)?;
+        }
+        Ok(())
+    }
+
+    /// What a parse over tokens comes to in so many steps, and in how many it does.
+    fn trial(&mut self, goal: Goal, tokens: &[Sym], most: usize) -> io::Result<(Trial, usize)> {
+        let cell = trial::Goal {
+            state: goal.target.state,
+            token: goal.target.token,
+            most,
+        };
+        try_list(self.session, tokens, cell)
+    }
+
+    /// Tries the next lists until the parse gets there.
+    fn try_others(&mut self, goal: Goal, list: &mut List) -> io::Result<()> {
+        let automaton = self.session.tables().automaton();
+        let finder = &mut self.finder;
+        let mut others = Others::new(self.alloc, finder, automaton, goal.target, MOST_FORMS)?;
+        self.try_each(goal, &mut others, list)
+    }
+
+    /// Tries so many lists until the parse gets there.
+    fn try_each(&mut self, goal: Goal, others: &mut Others, list: &mut List) -> io::Result<()> {
+        let mut left = allowance(self.steps_for_others, MOST_FOR_OTHERS);
+        for _ in 0..MOST_LISTS {
+            let automaton = self.session.tables().automaton();
+            let Some(tokens) = others.next(&mut self.finder, automaton)? else {
+                break;
+            };
+            left = left.saturating_sub(self.try_new(goal, tokens, left, list)?);
+            if left == 0 || list.other.is_some() || !self.finder.has_steps() {
+                break;
+            }
+        }
+        Ok(())
+    }
+
+    /// Tries another list, where it isn't the first one, keeps it where the parse gets there, and
+    /// gives the steps that it took.
+    fn try_new(
+        &mut self,
+        goal: Goal,
+        tokens: Vec<Sym>,
+        most: usize,
+        list: &mut List,
+    ) -> io::Result<usize> {
+        if tokens.as_slice() == list.tokens.as_slice() {
+            return Ok(0);
+        }
+        list.tried = list.tried.saturating_add(1);
+        let (trial, steps) = self.trial(goal, &tokens, most)?;
+        self.steps_for_others = self.steps_for_others.saturating_sub(steps);
+        self.finder.spend(steps);
+        match trial {
+            Trial::Reached(steps) => list.other = Some((tokens, steps)),
+            Trial::Recovered(_) => list.recovered = true,
+            Trial::Missed | Trial::Late(_) | Trial::HasError => {}
+        }
+        Ok(steps)
+    }
+}
+
+/// The tokens of a way, where they aren't too many to be shown.
+fn shown_tokens(
+    finder: &Finder,
+    automaton: &Automaton,
+    way: &[Sym],
+) -> Result<Option<Vec<Sym>>, AllocError> {
+    let found = finder.sentence(automaton, way)?;
+    Ok(found.filter(|tokens| tokens.len() <= MOST_TOKENS))
+}
+
+/// The tokens of a list as a tokens file has them: the one of the conflict behind the others, but
+/// for the end. They are those of the list that gets there, or of the first, where none does.
+pub fn file_tokens(list: &List, token: Sym) -> Option<(&[Sym], Option<Sym>)> {
+    let last = if token == END { None } else { Some(token) };
+    match (list.trial, &list.other) {
+        (Trial::HasError, _) => None,
+        (_, Some((tokens, _))) => Some((tokens.as_slice(), last)),
+        _ => Some((list.tokens.as_slice(), last)),
+    }
+}

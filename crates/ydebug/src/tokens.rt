@@ -1,0 +1,82 @@
+//! `ydebug tokens`: the tokens of a text as a tokens file.
+
+use std::io::{self, Write};
+use std::rt::Files;
+use yexplain::lines::newlines;
+use yexplain::reads::grammar_of;
+use yexplain::text::Name;
+use yfiles::reading::Limited;
+use yinput::language::{Language, LanguageFiles};
+use yinput::text::Text;
+use ysymbols::{Grammar, Sym};
+
+/// Writes as many newlines as stand between two tokens, or a space where none does.
+fn put_between<W: Write>(out: &mut W, between: &[u8]) -> io::Result<()> {
+    let lines = newlines(between);
+    if lines == 0 {
+        return out.write_all(b" ");
+    }
+    for _ in 0..lines {
+        out.write_all(b"\n")?;
+    }
+    Ok(())
+}
+
+/// Writes the tokens of a text, each on the line that it has there.
+fn put_tokens<W: Write>(
+    out: &mut W,
+    grammar: &Grammar,
+    tokens: &[Sym],
+    text: &Text,
+) -> io::Result<()> {
+    let mut before = 0;
+    for (index, (symbol, place)) in tokens.iter().zip(&text.places).enumerate() {
+        let between = text.bytes.get(before..*place).unwrap_or(&[]);
+        if index > 0 || between.contains(&b'\n') {
+            put_between(out, between)?;
+        }
+        let name = Name(grammar, *symbol);
+        write!(out, "{name}")?;
+        before = *place;
+    }
+    writeln!(out)
+}
+
+/// Writes the tokens of a text of a language, and gives the exit status.
+fn put_input<F: Files + AllocGlobal, W: Write, E: Write>(
+    rt: &F,
+    language: &Language,
+    grammar: &str,
+    input: Limited<'_>,
+    out: &mut W,
+    errors: &mut E,
+) -> io::Result<u8> {
+    match language.read(rt, input)? {
+        Ok(input) => {
+            if let Some(text) = &input.text {
+                let grammar = grammar_of(&language.opened.tables);
+                put_tokens(out, grammar, &input.tokens.symbols, text)?;
+            }
+            Ok(0)
+        }
+        Err(fault) => {
+            fault.put(rt, errors, grammar, &language.opened)?;
+            Ok(fault.status())
+        }
+    }
+}
+
+/// Writes a tokens file of a text that a SPEC cuts, and gives the exit status: 1 where the grammar,
+/// the SPEC or the text is refused, 3 where one can't be read or memory runs out.
+pub fn run_tokens<F: Files + AllocGlobal, W: Write, E: Write>(
+    rt: &F,
+    files: LanguageFiles<'_>,
+    input: Limited<'_>,
+    out: &mut W,
+    errors: &mut E,
+) -> io::Result<u8> {
+    match Language::open(rt, files, errors)? {
+        Ok(language) => put_input(rt, &language, files.grammar.path, input, out, errors),
+        Err(status) => Ok(status),
+    }
+}

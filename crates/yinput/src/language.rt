@@ -1,0 +1,165 @@
+//! A grammar with what cuts texts into its tokens, and the inputs that it reads.
+
+use crate::fault::{Fault, What};
+use crate::grammars::{GrammarFile, open_file};
+use crate::spec::read_lexer;
+use crate::text::Text;
+use std::alloc::Global;
+use std::io::{self, ErrorKind, Write};
+use std::rt::Files;
+use yexplain::reads::grammar_of;
+use yfaults::opening::Opened;
+use yfiles::reading::Limited;
+use ylex::fault::TextFault;
+use ylex::lexer::{Lexed, Lexer};
+use yparse::{TokenFault, Tokens, read_tokens};
+
+/// The files of a language.
+#[derive(Clone, Copy)]
+pub struct LanguageFiles<'a> {
+    /// The grammar file.
+    pub grammar: GrammarFile<'a>,
+    /// The path of the SPEC by which texts are cut; without one, inputs are tokens files.
+    pub spec: Option<&'a str>,
+}
+
+/// A grammar that is open, and what cuts its texts, where a SPEC is given.
+#[derive(Drop)]
+pub struct Language {
+    /// The tables, and where things stand in the grammar file.
+    pub opened: Opened,
+    lexer: Option<Lexer>,
+}
+
+/// An input as tokens.
+#[derive(Drop)]
+pub struct Input {
+    /// Its tokens.
+    pub tokens: Tokens,
+    /// The text from which they were cut; `None` for a tokens file.
+    pub text: Option<Text>,
+}
+
+/// The tokens of a text of these bytes, or why it has none.
+fn cut(
+    alloc: Global,
+    opened: &Opened,
+    lexer: &Lexer,
+    file: Limited<'_>,
+    bytes: Vec<u8>,
+) -> io::Result<Result<Input, Fault>> {
+    let what = match lexer.lex(alloc, grammar_of(&opened.tables), &bytes) {
+        Ok(lexed) => return with_text(alloc, lexed, file.path, bytes).map(Ok),
+        Err(TextFault::Unmatched(at)) => What::Unmatched(at),
+        Err(TextFault::TooMany(at)) => What::TooMany(at),
+        Err(TextFault::Memory) => return Err(io::Error::from(ErrorKind::OutOfMemory)),
+    };
+    Ok(Err(Fault::new(alloc, file, bytes, what)?))
+}
+
+/// An input with its text.
+fn with_text(alloc: Global, lexed: Lexed, path: &str, bytes: Vec<u8>) -> io::Result<Input> {
+    let Lexed {
+        tokens,
+        places,
+        end,
+    } = lexed;
+    let path = format!(in alloc; "{path}")?;
+    let text = Text {
+        path,
+        bytes,
+        places,
+        end,
+    };
+    Ok(Input {
+        tokens,
+        text: Some(text),
+    })
+}
+
+/// The tokens of a tokens file of these bytes, or why it has none.
+fn read(
+    alloc: Global,
+    opened: &Opened,
+    file: Limited<'_>,
+    bytes: Vec<u8>,
+) -> io::Result<Result<Input, Fault>> {
+    let fault = match read_tokens(alloc, &opened.tables, &bytes) {
+        Ok(tokens) => return Ok(Ok(Input { tokens, text: None })),
+        Err(TokenFault::Memory) => return Err(io::Error::from(ErrorKind::OutOfMemory)),
+        Err(fault) => fault,
+    };
+    let what = What::Tokens(fault);
+    Ok(Err(Fault::new(alloc, file, bytes, what)?))
+}
+
+impl Language {
+    /// Opens a grammar file, and the SPEC for it. Where one is refused, that is written, and the
+    /// exit status is the answer.
+    pub fn open<F: Files + AllocGlobal, E: Write>(
+        rt: &F,
+        files: LanguageFiles<'_>,
+        errors: &mut E,
+    ) -> io::Result<Result<Language, u8>> {
+        match open_file(rt, files.grammar, errors)? {
+            Ok(opened) => Language::over(rt, opened, files, errors),
+            Err(status) => Ok(Err(status)),
+        }
+    }
+
+    /// Opens the SPEC for a grammar that is open.
+    fn over<F: Files + AllocGlobal, E: Write>(
+        rt: &F,
+        opened: Opened,
+        files: LanguageFiles<'_>,
+        errors: &mut E,
+    ) -> io::Result<Result<Language, u8>> {
+        let Some(spec) = files.spec else {
+            return Ok(Ok(Language {
+                opened,
+                lexer: None,
+            }));
+        };
+        match read_lexer(rt, &opened.tables, spec)? {
+            Ok(lexer) => Ok(Ok(Language {
+                opened,
+                lexer: Some(lexer),
+            })),
+            Err(fault) => {
+                fault.put(rt, errors, files.grammar.path, &opened)?;
+                Ok(Err(fault.status()))
+            }
+        }
+    }
+
+    /// The grammar, once no more inputs are read.
+    pub fn into_opened(self) -> Opened {
+        let Language { opened, lexer: _ } = self;
+        opened
+    }
+
+    /// The tokens of an input of which this was read, or why it has none.
+    pub fn input_of(
+        &self,
+        alloc: Global,
+        file: Limited<'_>,
+        bytes: io::Result<Option<Vec<u8>>>,
+    ) -> io::Result<Result<Input, Fault>> {
+        match Fault::of_reading(alloc, file, What::Long, bytes)? {
+            Ok(bytes) => match &self.lexer {
+                Some(lexer) => cut(alloc, &self.opened, lexer, file, bytes),
+                None => read(alloc, &self.opened, file, bytes),
+            },
+            Err(fault) => Ok(Err(fault)),
+        }
+    }
+
+    /// The tokens of an input, or why it has none.
+    pub fn read<F: Files + AllocGlobal>(
+        &self,
+        rt: &F,
+        file: Limited<'_>,
+    ) -> io::Result<Result<Input, Fault>> {
+        self.input_of(rt.alloc(), file, file.bytes(rt))
+    }
+}

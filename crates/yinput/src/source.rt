@@ -1,0 +1,57 @@
+//! Parses from the files that a command is given.
+
+use crate::language::{Language, LanguageFiles};
+use crate::parse::Parse;
+use std::io::{self, Write};
+use std::rt::Files;
+use yfiles::reading::Limited;
+use yfiles::same::is_same_file;
+
+/// The files of a parse.
+#[derive(Drop)]
+pub struct Source<'a, F> {
+    /// What opens files.
+    pub rt: &'a F,
+    /// The files of its language.
+    pub files: LanguageFiles<'a>,
+    /// The input.
+    pub input: Limited<'a>,
+}
+
+impl<F: Files + AllocGlobal> Source<'_, F> {
+    /// A parse of the input, by a language that is open.
+    fn open_input<E: Write>(
+        &self,
+        language: Language,
+        errors: &mut E,
+    ) -> io::Result<Result<Parse, u8>> {
+        match language.read(self.rt, self.input)? {
+            Ok(input) => Parse::new(self.rt.alloc(), language, input).map(Ok),
+            Err(fault) => {
+                fault.put(self.rt, errors, self.files.grammar.path, &language.opened)?;
+                Ok(Err(fault.status()))
+            }
+        }
+    }
+
+    /// A parse at its start. Where a file is refused, that is written, and the exit status is the
+    /// answer: 1 for a fault of a file, 3 for too many states, and for a file that can't be read.
+    pub fn open<E: Write>(&self, errors: &mut E) -> io::Result<Result<Parse, u8>> {
+        match Language::open(self.rt, self.files, errors)? {
+            Ok(language) => self.open_input(language, errors),
+            Err(status) => Ok(Err(status)),
+        }
+    }
+
+    /// Whether a path means one of the files, which then isn't written over. A tokens file isn't
+    /// guarded: tokens may be written over those that they come from.
+    pub fn guards(&self, path: &str) -> bool {
+        let is_same = |other: &str| is_same_file(self.rt, path, other);
+        match self.files.spec {
+            Some(spec) => {
+                is_same(self.files.grammar.path) || is_same(spec) || is_same(self.input.path)
+            }
+            None => is_same(self.files.grammar.path),
+        }
+    }
+}

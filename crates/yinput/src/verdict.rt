@@ -1,0 +1,72 @@
+//! The verdict on an input.
+
+use crate::expected::{Wanted, expected, states_after};
+use crate::language::Input;
+use std::alloc::{AllocError, Global};
+use std::io::{self, ErrorKind};
+use ylalr::END;
+use yparse::{Verdict as Judged, judge};
+use ysymbols::Sym;
+use ytables::Tables;
+
+/// What comes of an input.
+#[derive(Drop)]
+pub enum Verdict {
+    /// It is accepted after so many steps.
+    Accepted(usize),
+    /// It is rejected at a token.
+    Rejected(Rejection),
+    /// Neither came within as many steps as are made.
+    Undecided,
+}
+
+/// The first token that can't come.
+#[derive(Drop)]
+pub struct Rejection {
+    /// Which token of the input it is, counted from 1.
+    pub number: usize,
+    /// The token; the end for the number after the last one.
+    pub token: Sym,
+    /// The tokens that can come in its place.
+    pub wanted: Wanted,
+}
+
+impl Rejection {
+    /// How many tokens stand before it.
+    pub fn before(&self) -> usize {
+        self.number.saturating_sub(1)
+    }
+
+    /// That of the token of a number, of these tokens.
+    fn new(
+        alloc: Global,
+        tables: &Tables,
+        tokens: &[Sym],
+        number: usize,
+    ) -> Result<Rejection, AllocError> {
+        let taken = number.saturating_sub(1);
+        let before = tokens.get(..taken).unwrap_or(tokens);
+        let states = states_after(alloc, tables, before)?;
+        Ok(Rejection {
+            number,
+            token: tokens.get(taken).copied().unwrap_or(END),
+            wanted: expected(alloc, tables, &states)?,
+        })
+    }
+}
+
+/// The verdict on an input of a language with these tables.
+pub fn verdict_on(alloc: Global, tables: &Tables, input: &Input) -> io::Result<Verdict> {
+    if !input.tokens.fits(tables) {
+        return Err(io::Error::from(ErrorKind::Other));
+    }
+    match judge(alloc, tables, &input.tokens) {
+        Ok(Judged::Accepted(steps)) => Ok(Verdict::Accepted(steps)),
+        Ok(Judged::Rejected(number)) => {
+            let rejection = Rejection::new(alloc, tables, &input.tokens.symbols, number)?;
+            Ok(Verdict::Rejected(rejection))
+        }
+        Ok(Judged::Limit) => Ok(Verdict::Undecided),
+        Err(_) => Err(io::Error::from(ErrorKind::OutOfMemory)),
+    }
+}

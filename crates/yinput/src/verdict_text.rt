@@ -1,0 +1,158 @@
+//! Verdicts as they are written: for people, and as plain lines.
+
+use crate::expected::Wanted;
+use crate::language::Input;
+use crate::text::Text;
+use crate::verdict::{Rejection, Verdict};
+use std::io::{self, Write};
+use yexplain::text::Name;
+use ysymbols::{Grammar, Sym};
+use ytables::Tables;
+
+/// The most tokens that are named of those before an error, and of those that were expected.
+const MOST_NAMED: usize = 20;
+
+impl Verdict {
+    /// The exit status where nothing else is said.
+    pub fn status(&self) -> u8 {
+        match self {
+            Verdict::Accepted(_) => 0,
+            Verdict::Rejected(_) | Verdict::Undecided => 1,
+        }
+    }
+
+    /// Writes it for people.
+    pub fn put<W: Write>(
+        &self,
+        out: &mut W,
+        grammar: &Grammar,
+        path: &str,
+        input: &Input,
+    ) -> io::Result<()> {
+        match self {
+            Verdict::Accepted(steps) => writeln!(out, "{path}: accepted after {steps} steps"),
+            Verdict::Rejected(rejection) => match &input.text {
+                Some(text) => rejection.put_in_text(out, grammar, text),
+                None => rejection.put_in_tokens(out, grammar, path, &input.tokens.symbols),
+            },
+            Verdict::Undecided => writeln!(out, "{path}: undecided after 1,000,000 steps"),
+        }
+    }
+
+    /// Writes it as a plain line.
+    pub fn put_plain<W: Write>(&self, out: &mut W, path: &str) -> io::Result<()> {
+        match self {
+            Verdict::Accepted(steps) => writeln!(out, "{path}: accepted at {steps}"),
+            Verdict::Rejected(rejection) => {
+                let number = rejection.number;
+                writeln!(out, "{path}: rejected at token {number}")
+            }
+            Verdict::Undecided => writeln!(out, "{path}: limit"),
+        }
+    }
+}
+
+/// What stands before a token of a list: nothing before the first one, and before the last of
+/// those that are named `or`, unless there are more.
+fn between(index: usize, count: usize) -> &'static str {
+    match index {
+        0 => " ",
+        _ if count <= MOST_NAMED && index.saturating_add(1) == count => " or ",
+        _ => ", ",
+    }
+}
+
+/// Writes the first of some tokens as a list, and dots where there are more.
+fn put_list<W: Write>(out: &mut W, grammar: &Grammar, tokens: &[Sym]) -> io::Result<()> {
+    for (index, token) in tokens.iter().take(MOST_NAMED).enumerate() {
+        let (between, name) = (between(index, tokens.len()), Name(grammar, *token));
+        write!(out, "{between}{name}")?;
+    }
+    if tokens.len() > MOST_NAMED {
+        write!(out, ", ..")?;
+    }
+    Ok(())
+}
+
+/// Writes which tokens were expected, as the end of a line.
+fn put_wanted<W: Write>(out: &mut W, grammar: &Grammar, wanted: &Wanted) -> io::Result<()> {
+    let Wanted { can, unknown } = wanted;
+    if can.is_empty() && unknown.is_empty() {
+        write!(out, "; no token can come")?;
+    }
+    if !can.is_empty() {
+        write!(out, ", expected")?;
+        put_list(out, grammar, can)?;
+    }
+    if !unknown.is_empty() {
+        write!(out, "; can't tell of")?;
+        put_list(out, grammar, unknown)?;
+    }
+    writeln!(out)
+}
+
+/// Writes which tokens stand before an error: the last ones, after dots where there are more.
+fn put_before<W: Write>(out: &mut W, grammar: &Grammar, before: &[Sym]) -> io::Result<()> {
+    if before.is_empty() {
+        return writeln!(out, "  at the start");
+    }
+    let start = before.len().saturating_sub(MOST_NAMED);
+    let dots = if start > 0 { " .." } else { "" };
+    write!(out, "  after{dots}")?;
+    for token in before.get(start..).unwrap_or(before) {
+        let name = Name(grammar, *token);
+        write!(out, " {name}")?;
+    }
+    writeln!(out)
+}
+
+impl Rejection {
+    /// Writes that the token can't come, and which can.
+    fn put_token<W: Write>(&self, out: &mut W, grammar: &Grammar) -> io::Result<()> {
+        let name = Name(grammar, self.token);
+        write!(out, "unexpected {name}")?;
+        put_wanted(out, grammar, &self.wanted)
+    }
+
+    /// Writes so at its place in a text, with the line there.
+    fn put_in_text<W: Write>(&self, out: &mut W, grammar: &Grammar, text: &Text) -> io::Result<()> {
+        let place = text.place(self.number);
+        place.put_front(out)?;
+        self.put_token(out, grammar)?;
+        place.put_text(out, true)
+    }
+
+    /// Writes so of a tokens file, with the tokens before it.
+    fn put_in_tokens<W: Write>(
+        &self,
+        out: &mut W,
+        grammar: &Grammar,
+        path: &str,
+        tokens: &[Sym],
+    ) -> io::Result<()> {
+        let number = self.number;
+        write!(out, "{path}: rejected at token {number}: ")?;
+        self.put_token(out, grammar)?;
+        put_before(out, grammar, tokens.get(..self.before()).unwrap_or(tokens))
+    }
+}
+
+/// Writes whether the cells of a grammar file's tables have choices, for people.
+pub fn put_choice<W: Write>(out: &mut W, path: &str, tables: &Tables) -> io::Result<()> {
+    let words = if tables.choice_free() {
+        "no cell has a choice, so the answers are those of the grammar's language"
+    } else {
+        "cells have choices, so a list that is rejected here may be in the grammar's language"
+    };
+    writeln!(out, "{path}: {words}")
+}
+
+/// Writes so as a plain line.
+pub fn put_plain_choice<W: Write>(out: &mut W, path: &str, tables: &Tables) -> io::Result<()> {
+    let word = if tables.choice_free() {
+        "no choices"
+    } else {
+        "choices"
+    };
+    writeln!(out, "{path}: {word}")
+}

@@ -1,0 +1,60 @@
+//! The conflicts of tables, in short.
+
+use std::io::Write;
+use ycounterexample::groups::{Conflicts, Group};
+use yexplain::lines::Lines;
+use yexplain::why::put_cell;
+use ytables::Tables;
+use yview::page::Page;
+
+/// Writes how many conflicts there are, as the end of a line.
+pub fn put_counts<W: Write>(page: &mut Page<W>, tables: &Tables, found: &Conflicts) {
+    let counts = tables.conflicts();
+    let (shifts, reduces) = (counts.shift_reduce, counts.reduce_reduce);
+    let _ = write!(page, "{shifts} shift/reduce, {reduces} reduce/reduce, in ");
+    page.count(found.cells, "cell", "cells");
+    page.put(" of ");
+    page.count(found.groups.len(), "kind", "kinds");
+    page.end();
+}
+
+/// Writes in how many states the conflicts of a kind stand, where that is more than one.
+pub fn put_states<W: Write>(page: &mut Page<W>, group: Group) {
+    let Group { states, last, .. } = group;
+    if states > 1 {
+        let _ = writeln!(
+            page,
+            "  The same in {states} states, the last of them {last}."
+        );
+    }
+}
+
+/// Writes how many kinds aren't named, and how many cells are of no kind.
+fn put_left<W: Write>(page: &mut Page<W>, left: usize, others: usize) {
+    if left > 0 {
+        page.put("and ");
+        page.count(left, "kind", "kinds");
+        page.line(" more");
+    }
+    if others > 0 {
+        page.put("and ");
+        page.count(others, "cell", "cells");
+        page.line(" whose kinds aren't told apart");
+    }
+}
+
+/// Writes a cell of each kind after the first ones, up to the last one that is named, and how many
+/// more there are.
+pub fn put_named<W: Write>(
+    page: &mut Page<W>,
+    tables: &Tables,
+    lines: &Lines,
+    found: &Conflicts,
+    (first, last): (usize, usize),
+) {
+    for (kind, group) in found.groups.iter().take(last).skip(first) {
+        let _ = put_cell(page, kind.cell(*group, tables, lines));
+        put_states(page, *group);
+    }
+    put_left(page, found.groups.len().saturating_sub(last), found.others);
+}
