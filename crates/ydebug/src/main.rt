@@ -409,10 +409,10 @@ fn refuse(rt: &HostRuntime, refused: Refused) -> u8 {
         Refused::Unread => ("", ENDED_BY_PIPE),
         Refused::Outside => ("ydebug: cannot read or write\n", 3),
     };
-    let others = if status == 2 { FORMS } else { "" };
     let mut errors = rt.stderr();
-    for text in [text, others] {
-        let _ = errors.write_all(text.as_bytes());
+    let _ = errors.write_all(text.as_bytes());
+    if let Refused::Words = refused {
+        let _ = errors.write_all(FORMS.as_bytes());
     }
     status
 }

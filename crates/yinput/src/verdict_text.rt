@@ -65,8 +65,8 @@ fn between(index: usize, count: usize) -> &'static str {
 /// Writes the first of some tokens as a list, and dots where there are more.
 fn put_list<W: Write>(out: &mut W, grammar: &Grammar, tokens: &[Sym]) -> io::Result<()> {
     for (index, token) in tokens.iter().take(MOST_NAMED).enumerate() {
-        let (between, name) = (between(index, tokens.len()), Name(grammar, *token));
-        write!(out, "{between}{name}")?;
+        let (front, name) = (between(index, tokens.len()), Name(grammar, *token));
+        write!(out, "{front}{name}")?;
     }
     if tokens.len() > MOST_NAMED {
         write!(out, ", ..")?;
