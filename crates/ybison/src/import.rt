@@ -299,13 +299,11 @@ pub fn open_foreign<E: Write>(
         Ok(imported) => imported,
         Err(status) => return Ok(Err(status)),
     };
-    let looked = Looked {
-        source,
-        imported: &imported,
-        telling: Telling::Weighty,
-    };
-    match open_imported(alloc, errors, looked)? {
-        Ok((opened, _)) => Ok(Ok(opened)),
+    match open_import(alloc, errors, source, imported)? {
+        Ok(foreign) => {
+            let Foreign { opened, .. } = foreign;
+            Ok(Ok(opened))
+        }
         Err(status) => Ok(Err(status)),
     }
 }

@@ -63,11 +63,10 @@ impl Asked<'_> {
         let tables = &language.opened.tables;
         let verdict = verdict_on(alloc, tables, input)?;
         if self.plain {
-            verdict.put_plain(out, path)?;
+            verdict.put_plain(out, path)
         } else {
-            verdict.put(out, grammar_of(tables), path, input)?;
+            verdict.put(out, grammar_of(tables), path, input)
         }
-        Ok(verdict.status())
     }
 
     /// Writes why an input has no verdict, and gives its exit status.
@@ -79,11 +78,10 @@ impl Asked<'_> {
         fault: &Fault,
     ) -> io::Result<u8> {
         if self.plain {
-            fault.put_plain(out)?;
+            fault.put_plain(out)
         } else {
-            fault.put(rt, out, self.files.grammar.path, &language.opened)?;
+            fault.put(rt, out, self.files.grammar.path, &language.opened)
         }
-        Ok(fault.status())
     }
 
     /// Writes what comes of an input, and gives its exit status.

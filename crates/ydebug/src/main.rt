@@ -162,7 +162,7 @@ fn most_of(matches: &ArgMatches<'_>) -> Result<u64, Refused> {
     }
 }
 
-/// What stands behind each `--from` of a page: `bison`, and a first position, each once at most.
+/// What stands after each `--from` of a page: `bison`, and a first position, each once at most.
 fn page_from(words: &[&str]) -> Result<(bool, usize), Refused> {
     match words {
         [] => Ok((false, 0)),
@@ -339,7 +339,7 @@ fn debug_files<W: Write>(
     }
 }
 
-/// Does what a form and what stands behind it ask for, and gives the exit status.
+/// Does what a form and what stands after it ask for, and gives the exit status.
 fn obey<W: Write>(
     rt: &HostRuntime,
     form: Form,
@@ -359,27 +359,17 @@ fn obey<W: Write>(
     }
 }
 
-/// Does so, and writes all that is left in the buffer.
-fn obey_all<W: Write>(
-    rt: &HostRuntime,
-    form: Form,
-    matches: &ArgMatches<'_>,
-    out: &mut W,
-) -> Result<u8, Refused> {
-    let status = obey(rt, form, matches, out)?;
-    out.flush()?;
-    Ok(status)
-}
-
 /// Does what words ask for, and gives the exit status. The first one is the name of the program.
 fn obey_words(rt: &HostRuntime, form: Form, words: &[&str]) -> Result<u8, Refused> {
     let alloc = rt.alloc();
     let matches = matches_by(rt, command_of(alloc, form)?, words)?;
     let mut out = BufWriter::new(alloc, rt.stdout())?;
-    obey_all(rt, form, &matches, &mut out)
+    let status = obey(rt, form, &matches, &mut out)?;
+    out.flush()?;
+    Ok(status)
 }
 
-/// The words of a form behind the name of the program with it, for the help text.
+/// The words of a form after the name of the program with it, for the help text.
 fn named<'a>(alloc: Global, name: &'a str, words: &[&'a str]) -> Result<Vec<&'a str>, AllocError> {
     let mut named = Vec::with_capacity(alloc, words.len())?;
     named.push(name)?;
@@ -387,7 +377,7 @@ fn named<'a>(alloc: Global, name: &'a str, words: &[&'a str]) -> Result<Vec<&'a 
     Ok(named)
 }
 
-/// Finds the form, and does what the words behind it ask for.
+/// Finds the form, and does what the words after it ask for.
 fn obey_given(rt: &HostRuntime, words: &[&str]) -> Result<u8, Refused> {
     let form = form_of(words.get(1));
     let first = if matches!(form, Form::Debug) { 1 } else { 2 };
@@ -419,10 +409,10 @@ fn refuse(rt: &HostRuntime, refused: Refused) -> u8 {
         Refused::Unread => ("", ENDED_BY_PIPE),
         Refused::Outside => ("ydebug: cannot read or write\n", 3),
     };
-    let others = if status == 2 { FORMS } else { "" };
     let mut errors = rt.stderr();
-    for text in [text, others] {
-        let _ = errors.write_all(text.as_bytes());
+    let _ = errors.write_all(text.as_bytes());
+    if let Refused::Words = refused {
+        let _ = errors.write_all(FORMS.as_bytes());
     }
     status
 }

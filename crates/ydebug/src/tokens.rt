@@ -59,10 +59,7 @@ fn put_input<F: Files + AllocGlobal, W: Write, E: Write>(
             }
             Ok(0)
         }
-        Err(fault) => {
-            fault.put(rt, errors, grammar, &language.opened)?;
-            Ok(fault.status())
-        }
+        Err(fault) => fault.put(rt, errors, grammar, &language.opened),
     }
 }
 

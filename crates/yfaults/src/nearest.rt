@@ -36,12 +36,14 @@ fn edits_between(alloc: Global, wanted: &[u8], name: &[u8]) -> Result<usize, All
 }
 
 impl<'a> Search<'a> {
-    /// A search for a name at most one edit away for each three bytes of the wanted name.
+    /// A search for a name at most one edit away for each three bytes of the wanted name, or for two
+    /// bytes.
     pub fn new(wanted: &'a [u8]) -> Search<'a> {
+        let most = (wanted.len() / 3).max(usize::from(wanted.len() > 1));
         Search {
             wanted,
             found: None,
-            edits: wanted.len() / 3 + 1,
+            edits: most.saturating_add(1),
         }
     }
 

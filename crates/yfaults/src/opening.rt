@@ -31,8 +31,6 @@ pub struct Opened {
 /// Why a file isn't opened.
 #[derive(Drop)]
 pub enum Trouble<'a> {
-    /// It can't be read.
-    Unread,
     /// Memory ran out.
     Memory,
     /// It has a fault.
@@ -61,11 +59,11 @@ impl<'a> Trouble<'a> {
     }
 
     /// The exit status of a run that ends with it: 1 for a fault of the file; 3 where memory runs
-    /// out, a file can't be read, or there are too many states.
+    /// out, or there are too many states.
     pub fn status(&self) -> u8 {
         match self {
             Trouble::Grammar(_) => 1,
-            Trouble::Unread | Trouble::Memory | Trouble::TooManySets => 3,
+            Trouble::Memory | Trouble::TooManySets => 3,
         }
     }
 }
@@ -102,7 +100,6 @@ pub fn put_trouble<W: Write>(
     trouble: &Trouble<'_>,
 ) -> io::Result<()> {
     match trouble {
-        Trouble::Unread => writeln!(out, "ydebug: cannot read {path}"),
         Trouble::Memory => writeln!(out, "ydebug: no memory"),
         Trouble::Grammar(refusal) => put_grammar_fault(out, alloc, path, source, refusal),
         Trouble::TooManySets => match words_of("B1") {

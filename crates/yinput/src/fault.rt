@@ -26,11 +26,11 @@ pub enum What {
     LongSpec,
     /// It is a tokens file with this fault.
     Tokens(TokenFault),
-    /// It is a text, and nothing matches behind so many bytes.
+    /// It is a text, and nothing matches after so many bytes.
     Unmatched(usize),
-    /// It is a text, and a token too many begins behind so many bytes.
+    /// It is a text, and a token too many begins after so many bytes.
     TooMany(usize),
-    /// It is a SPEC with this fault behind so many bytes.
+    /// It is a SPEC with this fault after so many bytes.
     Spec(usize, Wrong),
     /// It is a SPEC without a line for this token.
     Ungiven(Sym),
@@ -45,7 +45,7 @@ pub struct Fault {
     what: What,
 }
 
-/// The bytes behind a place, up to the end of its line; a newline where the line ends there.
+/// The bytes after a place, up to the end of its line; a newline where the line ends there.
 fn shown_at(source: &[u8], at: usize) -> &[u8] {
     let rest = source.get(at..).unwrap_or(&[]);
     let behind = rest.iter().skip(1).position(|b| *b == b'\n');
@@ -116,7 +116,7 @@ impl Fault {
     }
 
     /// The exit status of a run that ends with it.
-    pub fn status(&self) -> u8 {
+    fn status(&self) -> u8 {
         match self.what {
             What::Unread => 3,
             _ => 1,
@@ -165,18 +165,18 @@ impl Fault {
         put_near_token(out, alloc, grammar, &self.bytes, fault)
     }
 
-    /// Writes what is wrong, with its place and the text there, for people. The grammar that is
-    /// open, the file of which has this path, is that of its language.
+    /// Writes what is wrong, with its place and the text there, for people, and gives the exit
+    /// status. The grammar of the language is open, and its file has this path.
     pub fn put<F: Files + AllocGlobal, W: Write>(
         &self,
         rt: &F,
         out: &mut W,
         grammar: &str,
         opened: &Opened,
-    ) -> io::Result<()> {
+    ) -> io::Result<u8> {
         let path = self.path.as_str();
         let most = self.most;
-        match self.what {
+        let written = match self.what {
             What::Unread => writeln!(out, "{path}: cannot read it"),
             What::Long => Limited { path, most }.put_long_input(rt, out),
             What::LongSpec => Limited { path, most }.put_long(rt, out),
@@ -189,13 +189,15 @@ impl Fault {
             }
             What::Spec(at, wrong) => self.put_line(out, at, wrong),
             What::Ungiven(token) => put_ungiven(out, path, grammar, opened, token),
-        }
+        };
+        written?;
+        Ok(self.status())
     }
 
-    /// Writes what is wrong as a plain line.
-    pub fn put_plain<W: Write>(&self, out: &mut W) -> io::Result<()> {
+    /// Writes what is wrong as a plain line, and gives the exit status.
+    pub fn put_plain<W: Write>(&self, out: &mut W) -> io::Result<u8> {
         let path = self.path.as_str();
-        match self.what {
+        let written = match self.what {
             What::Unread => writeln!(out, "{path}: cannot read it"),
             What::Tokens(fault) => writeln!(out, "{path}: {fault}"),
             What::Unmatched(at) | What::TooMany(at) | What::Spec(at, _) => {
@@ -204,6 +206,8 @@ impl Fault {
             }
             What::Long | What::LongSpec => writeln!(out, "{path}: too long"),
             What::Ungiven(_) => writeln!(out, "{path}: a token is missing"),
-        }
+        };
+        written?;
+        Ok(self.status())
     }
 }

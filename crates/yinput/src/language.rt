@@ -125,10 +125,7 @@ impl Language {
                 opened,
                 lexer: Some(lexer),
             })),
-            Err(fault) => {
-                fault.put(rt, errors, files.grammar.path, &opened)?;
-                Ok(Err(fault.status()))
-            }
+            Err(fault) => fault.put(rt, errors, files.grammar.path, &opened).map(Err),
         }
     }
 

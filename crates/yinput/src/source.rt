@@ -27,10 +27,9 @@ impl<F: Files + AllocGlobal> Source<'_, F> {
     ) -> io::Result<Result<Parse, u8>> {
         match language.read(self.rt, self.input)? {
             Ok(input) => Parse::new(self.rt.alloc(), language, input).map(Ok),
-            Err(fault) => {
-                fault.put(self.rt, errors, self.files.grammar.path, &language.opened)?;
-                Ok(Err(fault.status()))
-            }
+            Err(fault) => fault
+                .put(self.rt, errors, self.files.grammar.path, &language.opened)
+                .map(Err),
         }
     }
 

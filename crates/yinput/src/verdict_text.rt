@@ -14,41 +14,45 @@ const MOST_NAMED: usize = 20;
 
 impl Verdict {
     /// The exit status where nothing else is said.
-    pub fn status(&self) -> u8 {
+    fn status(&self) -> u8 {
         match self {
             Verdict::Accepted(_) => 0,
             Verdict::Rejected(_) | Verdict::Undecided => 1,
         }
     }
 
-    /// Writes it for people.
+    /// Writes it for people, and gives the exit status.
     pub fn put<W: Write>(
         &self,
         out: &mut W,
         grammar: &Grammar,
         path: &str,
         input: &Input,
-    ) -> io::Result<()> {
-        match self {
+    ) -> io::Result<u8> {
+        let written = match self {
             Verdict::Accepted(steps) => writeln!(out, "{path}: accepted after {steps} steps"),
             Verdict::Rejected(rejection) => match &input.text {
                 Some(text) => rejection.put_in_text(out, grammar, text),
                 None => rejection.put_in_tokens(out, grammar, path, &input.tokens.symbols),
             },
             Verdict::Undecided => writeln!(out, "{path}: undecided after 1,000,000 steps"),
-        }
+        };
+        written?;
+        Ok(self.status())
     }
 
-    /// Writes it as a plain line.
-    pub fn put_plain<W: Write>(&self, out: &mut W, path: &str) -> io::Result<()> {
-        match self {
+    /// Writes it as a plain line, and gives the exit status.
+    pub fn put_plain<W: Write>(&self, out: &mut W, path: &str) -> io::Result<u8> {
+        let written = match self {
             Verdict::Accepted(steps) => writeln!(out, "{path}: accepted at {steps}"),
             Verdict::Rejected(rejection) => {
                 let number = rejection.number;
                 writeln!(out, "{path}: rejected at token {number}")
             }
             Verdict::Undecided => writeln!(out, "{path}: limit"),
-        }
+        };
+        written?;
+        Ok(self.status())
     }
 }
 
@@ -65,8 +69,8 @@ fn between(index: usize, count: usize) -> &'static str {
 /// Writes the first of some tokens as a list, and dots where there are more.
 fn put_list<W: Write>(out: &mut W, grammar: &Grammar, tokens: &[Sym]) -> io::Result<()> {
     for (index, token) in tokens.iter().take(MOST_NAMED).enumerate() {
-        let (between, name) = (between(index, tokens.len()), Name(grammar, *token));
-        write!(out, "{between}{name}")?;
+        let (front, name) = (between(index, tokens.len()), Name(grammar, *token));
+        write!(out, "{front}{name}")?;
     }
     if tokens.len() > MOST_NAMED {
         write!(out, ", ..")?;

@@ -175,11 +175,14 @@ impl Lexer {
             named,
             absent,
         } = spec;
+        let literals = literals_of(alloc, grammar, &absent)?;
+        let tokens = tokens_of(alloc, &rules)?;
+        let regexes = compile(alloc, &rules)?;
         Ok(Lexer {
             words,
-            literals: literals_of(alloc, grammar, &absent)?,
-            tokens: tokens_of(alloc, &rules)?,
-            regexes: compile(alloc, &rules)?,
+            literals,
+            tokens,
+            regexes,
             named,
         })
     }
