@@ -16,7 +16,7 @@ from pathlib import Path
 
 from checks.shared import running
 from checks.shared.arguments import asked
-from checks.shared.grammars import END, ERROR, grammar_of, tokens_of
+from checks.shared.grammars import END, ERROR, productive, tokens_of
 from checks.shared.machine import Session
 from checks.shared.tables import Tables
 from checks.shared.tally import Tally
@@ -288,9 +288,7 @@ def fault_of_spoiled(folder, ydebug, rng, counts):
 
 def fault_in(folder, ydebug, rng, counts):
     """What is wrong with what is said of a grammar, a SPEC and some texts."""
-    grammar = grammar_of(rng)
-    if not grammar.is_productive():
-        return None
+    grammar = productive(rng)
     (folder / "grammar.y").write_text(grammar.text)
     spec, tables = Spec(grammar, rng), Tables(grammar)
     (folder / "spec").write_text(spec.text())

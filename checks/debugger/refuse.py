@@ -195,7 +195,7 @@ def refused_in_turn(name, from_there_on, ydebug, library, pool):
         source, lines = (folder, tuple(text.split())), []
     given = dict(ydebug=ydebug, source=source, lines=lines, library=library)
     way, fault, calls = refused_once(0, 0, **given)
-    ways = Counter({"wrong": 1} if way == "wrong" else {})
+    ways = Counter({"wrong": 1} if way == "wrong" or not calls else {})
     once = partial(refused_once, last=ALL if from_there_on else 0, **given)
     for number, (way, fault, _) in enumerate(pool.map(once, range(1, calls + 1), chunksize=8), 1):
         ways[way] += 1

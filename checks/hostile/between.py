@@ -75,6 +75,7 @@ def in_turn(it, device, broken, programs, library):
         disturbed = replace(device, at=at)
         made, calls = counting(disturbed, library, partial(run, it, programs))
         differs = wrong(made, broken(at) if at <= calls else it.wanted)
+        differs += [] if calls else ["the device was never called\n"]
         yield f"{' '.join(it.words)}: {disturbed}", differs
         if at > calls:
             return

@@ -217,7 +217,7 @@ def refused_once(number, from_there_on, it, programs, library):
 def refused_in_turn(name, it, from_there_on, is_long, programs, library, pool):
     """How the runs of one scenario ended, each with other allocations refused; says so."""
     made, calls = refused_at(0, 0, it, programs, library)
-    ways = Counter({"wrong": 1} if wrong(made, it.wanted) else {})
+    ways = Counter({"wrong": 1} if wrong(made, it.wanted) or not calls else {})
     numbers = numbers_of(calls, is_long)
     once = partial(
         refused_once, from_there_on=from_there_on, it=it, programs=programs, library=library

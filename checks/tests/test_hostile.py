@@ -91,6 +91,12 @@ class Between(Hostile):
         whole = COPY.replace("    for part", "    text += b'g'\n    for part")
         self.assertTrue(look(whole))
 
+    def test_never_called(self):
+        """A program that doesn't go through the device was not looked at."""
+        library, it = library_in(self.room, DEVICES), scenario(["p"], {})
+        results = between.in_turn(it, Device("write", "out"), None, self.programs(""), library)
+        self.assertTrue(all_of(results))
+
     def test_beginnings(self):
         """What isn't a beginning, or is one of another length."""
         part = Beginning(b"abc", 1, 2)

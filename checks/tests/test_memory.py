@@ -1,6 +1,9 @@
 """Runs without memory: ends that are none, lines that ask for memory, answers that are missing."""
+import contextlib
+import io
 import os
 from collections import Counter
+from functools import partial
 from unittest import mock
 
 from checks.debugger import babble
@@ -9,6 +12,8 @@ from checks.hostile.sessions import SHORT
 from checks.memory import allocations, refuse
 from checks.memory.allocations import Line
 from checks.scenarios.cases import scenario
+from checks.shared.libraries import LINES, REFUSED, compiler, library_in, refusing
+from checks.shared.running import ran
 from checks.tests.fakes import Planted, changed
 
 OLD, NEW = b"old\n", b"one\ntwo\n"
@@ -147,6 +152,72 @@ class Allocations(Planted):
         made = list(allocations.lines_of(b"step\nrun 123\n", b"ab123", rows))
         self.assertEqual([it.asked for it in made], [1, 6])
         self.assertEqual([it.reply for it in made], [b"ab", b"123"])
+
+
+# What asks for memory five times, once for each letter of a line, and says what it got.
+ASKS = r"""
+#include <stdlib.h>
+#include <unistd.h>
+
+int main(void) {
+  char line[9];
+  for (int turn = 0; turn < 5; turn++) {
+    ssize_t length = read(0, line, sizeof line);
+    for (int at = 0; at < 5 && !length; at++, turn = 5)
+      if (write(1, malloc(100) ? "1" : "0", 1) != 1) return 1;
+    for (int at = 0; at + 1 < length; at++)
+      if (write(1, malloc(100) ? "1" : "0", 1) != 1) return 1;
+  }
+  return 0;
+}
+"""
+
+
+class Libraries(Planted):
+    """What counts and refuses allocations, before a program that asks for some."""
+
+    def setUp(self):
+        """Builds the program and the libraries."""
+        super().setUp()
+        source, self.path = self.room / "asks.c", str(self.room / "asks")
+        source.write_text(ASKS)
+        words = [compiler(), "-O0", "-fno-builtin", "-w", "-o", self.path, str(source)]
+        self.assertEqual(ran(words).returncode, 0)
+        self.refused, self.lines = (library_in(self.room, it) for it in (REFUSED, LINES))
+
+    def test_refused(self):
+        """The calls of some numbers are refused, and all are counted."""
+        run = partial(ran, [self.path])
+        for first, last, wanted in (
+            (0, 0, "11111"), (2, 2, "10111"), (4, 99, "11100"), (1, 3, "00011")
+        ):
+            made, calls = refusing(first, last, self.refused, run)
+            self.assertEqual((made.stdout, calls), (wanted, 5))
+
+    def test_lines(self):
+        """Each line has its own count, and from one on all are refused."""
+        it = scenario(["asks"], {}, b"ab\nabc\n", stdout=b"11111")
+        programs = {"asks": self.path}
+        made, lines = allocations.counted(it, programs, self.lines)
+        self.assertEqual([(line.text, line.asked) for line in lines], [(b"ab\n", 2), (b"abc\n", 3)])
+        self.assertEqual(made["stdout"][:5], b"11111")
+        made, _ = allocations.counted(it, programs, self.lines, at=2)
+        self.assertEqual(made["stdout"][:5], b"11000")
+        made, _ = allocations.counted(it, programs, self.lines, at=2, number=2)
+        self.assertEqual(made["stdout"][:5], b"11101")
+
+    def test_without(self):
+        """A program that never asks was not looked at, which is a failure."""
+        quiet = {"yacc": self.program("yacc", ""), "ydebug": self.program("ydebug", "")}
+        pool = mock.Mock(map=lambda once, numbers, chunksize: [once(it) for it in numbers])
+        with mock.patch.object(refuse, "refused_at", return_value=(USUAL, 0)), self.silent():
+            it = scenario(["yacc"], {})
+            ways = refuse.refused_in_turn("it", it, False, False, quiet, self.refused, pool)
+        self.assertEqual(ways["wrong"], 1)
+
+    def silent(self):
+        """Keeps what is said from being seen."""
+        return contextlib.redirect_stdout(io.StringIO())
 
 
 STEP, MARKED = "      1  shift    'x'\n", f"{debugger.MARK} is no command; try help\n"
