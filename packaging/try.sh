@@ -5,7 +5,8 @@
 #
 #     try.sh PACKAGE [ROOT]
 #
-# ROOT is a Debian root (debootstrap makes one): the package is installed, run and removed there too.
+# ROOT is a Debian root (debootstrap makes one): the package is installed, run and removed there
+# too.
 set -eu
 top=$(cd "$(dirname "$0")/.." && pwd)
 package=$(readlink -f "$1")
