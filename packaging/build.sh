@@ -3,7 +3,7 @@
 #
 #     build.sh VERSION        after make build
 #
-# The same programs make the same bytes: every file has the time of the newest entry of the changelog.
+# The same programs make the same bytes: every file has the time of the changelog's newest entry.
 set -eu
 umask 022
 top=$(cd "$(dirname "$0")/.." && pwd)

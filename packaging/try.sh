@@ -5,7 +5,8 @@
 #
 #     try.sh PACKAGE [ROOT]
 #
-# ROOT is a Debian root (debootstrap makes one): the package is installed, run and removed there too.
+# ROOT is a Debian root (debootstrap makes one): the package is installed, run and removed there
+# too.
 set -eu
 top=$(cd "$(dirname "$0")/.." && pwd)
 package=$(readlink -f "$1")
@@ -17,7 +18,10 @@ fail() { echo "try.sh: $1"; exit 1; }
 
 # An empty root has no libc6, so dpkg is told to go on without it; the programs then run by the
 # libraries of this machine.
-dpkg_there() { dpkg --root="$root" --force-not-root --force-depends --log="$room/log" "$@" > "$room/dpkg" 2>&1; }
+dpkg_there() {
+  dpkg --root="$root" --force-not-root --force-depends --log="$room/log" "$@" > "$room/dpkg" 2>&1 ||
+    { cat "$room/dpkg"; fail "dpkg $1"; }
+}
 
 answers() { cmp -s "$1" "$2" || fail "other sums by $3"; }
 
@@ -50,15 +54,19 @@ completed() {
   done
 }
 
+# Runs a step of a build quietly; what it wrote is shown where it fails.
+step() { "$@" > "$room/step" 2>&1 || { cat "$room/step"; fail "$*"; }; }
+
 built() {
   cp -r "$root/usr/share/doc/sulderko/examples" "$room/project"
   cd "$room/project"
-  cmake -S . -B by-cmake -DCMAKE_PREFIX_PATH="$root/usr" -DCMAKE_FIND_USE_CMAKE_SYSTEM_PATH=OFF > "$room/cmake" ||
-    { cat "$room/cmake"; fail "no build files by CMake"; }
-  cmake --build by-cmake > "$room/cmake" || { cat "$room/cmake"; fail "no build by CMake"; }
-  PKG_CONFIG_LIBDIR=$(echo "$root"/usr/lib/*/pkgconfig) PKG_CONFIG_YDRIVER_PREFIX=$root/usr \
-    meson setup by-meson > "$room/meson" || { cat "$room/meson"; fail "no build files by Meson"; }
-  meson compile -C by-meson > "$room/meson" || { cat "$room/meson"; fail "no build by Meson"; }
+  step cmake -S . -B by-cmake -DCMAKE_PREFIX_PATH="$root/usr" -DCMAKE_FIND_USE_CMAKE_SYSTEM_PATH=OFF
+  step cmake --build by-cmake
+  PKG_CONFIG_LIBDIR=$(echo "$root"/usr/lib/*/pkgconfig)
+  PKG_CONFIG="pkg-config --define-variable=prefix=$root/usr"
+  export PKG_CONFIG_LIBDIR PKG_CONFIG
+  step meson setup by-meson
+  step meson compile -C by-meson
   for way in by-cmake by-meson; do
     "$way/calc" < "$top/examples/calculator-c/sums" > "$room/sums"
     answers "$room/sums" "$top/examples/calculator-c/answers" "calc $way"
@@ -67,26 +75,29 @@ built() {
   done
 }
 
+in_debian() {
+  cp "$package" "$debian/tmp/package.deb"
+  cp "$top/examples/one-rule/grammar.y" "$debian/tmp/grammar.y"
+  step chroot "$debian" dpkg -i /tmp/package.deb
+  for name in ycc ystep ydebug; do step chroot "$debian" "$name" --help; done
+  step chroot "$debian" /usr/libexec/sulderko/yacc -b /tmp/y /tmp/grammar.y
+  cmp -s "$debian/tmp/y.tab" "$top/examples/one-rule/tables/left/y.tab" ||
+    fail "another table in $debian"
+  step chroot "$debian" dpkg --purge sulderko
+  rm "$debian/tmp/package.deb" "$debian/tmp/grammar.y" "$debian/tmp/y.tab"
+  test ! -e "$debian/usr/bin/ycc" || fail "left in $debian: ycc"
+}
+
 lintian --fail-on error,warning "$package" || fail "lintian"
 mkdir -p "$root/var/lib/dpkg/info" "$root/var/lib/dpkg/updates"
 : > "$root/var/lib/dpkg/status"
-dpkg_there -i "$package" || { cat "$room/dpkg"; fail "not installed"; }
+dpkg_there -i "$package"
 run_there
 completed
 built
-dpkg_there --purge sulderko || { cat "$room/dpkg"; fail "not removed"; }
+dpkg_there --purge sulderko
 left=$(find "$root/usr" -not -type d 2> /dev/null || true)
 test -z "$left" || fail "left: $left"
 
-if test -n "$debian"; then
-  cp "$package" "$debian/tmp/package.deb"
-  cp "$top/examples/one-rule/grammar.y" "$debian/tmp/grammar.y"
-  chroot "$debian" dpkg -i /tmp/package.deb > "$room/dpkg" 2>&1 || { cat "$room/dpkg"; fail "not installed in $debian"; }
-  for name in ycc ystep ydebug; do chroot "$debian" "$name" --help > /dev/null || fail "no help of $name in $debian"; done
-  chroot "$debian" /usr/libexec/sulderko/yacc -b /tmp/y /tmp/grammar.y
-  cmp -s "$debian/tmp/y.tab" "$top/examples/one-rule/tables/left/y.tab" || fail "another table in $debian"
-  chroot "$debian" dpkg --purge sulderko > "$room/dpkg" 2>&1 || fail "not removed from $debian"
-  rm -f "$debian/tmp/package.deb" "$debian/tmp/grammar.y" "$debian/tmp/y.tab"
-  test ! -e "$debian/usr/bin/ycc" || fail "left in $debian: ycc"
-fi
+test -z "$debian" || in_debian
 echo "packed, installed, run, built by CMake and Meson, removed"
