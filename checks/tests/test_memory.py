@@ -18,7 +18,7 @@ from checks.tests.fakes import Planted, changed
 
 OLD, NEW = b"old\n", b"one\ntwo\n"
 USUAL = {"stdout": b"", "message": b"", "status": b"0\n"}
-REFUSED = {"stdout": b"", "message": b"yacc: no memory\n", "status": b"3\n"}
+NO_MEMORY = {"stdout": b"", "message": b"yacc: no memory\n", "status": b"3\n"}
 
 
 class Ends(Planted):
@@ -33,7 +33,7 @@ class Ends(Planted):
     def test_each_end(self):
         """Other messages and statuses, an output with more, a file gone, changed or too many."""
         usual = {**USUAL, "left/g.y": b"%%", "left/y.tab": NEW}
-        refused = {**REFUSED, "left/g.y": b"%%", "left/y.tab": OLD}
+        refused = {**NO_MEMORY, "left/g.y": b"%%", "left/y.tab": OLD}
         wrong = [{**usual, "left/y.tab": NEW[:-1]}, {**usual, "status": b"3\n"}]
         wrong += [{**usual, "stdout": b"x"}, {**usual, "message": b"x"}]
         self.each_caught(self.way, usual, *wrong)
