@@ -49,7 +49,7 @@ run_there() {
 completed() {
   for name in ycc ystep ydebug; do named "$name" "$name"; done
   named yacc "$root/usr/libexec/sulderko/yacc"
-  for form in check conflicts import lex-spec page rules tokens; do
+  for form in check conflicts import lex-spec page rules table tokens; do
     named ydebug ydebug "$form"
   done
 }
