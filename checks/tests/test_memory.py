@@ -12,7 +12,8 @@ from checks.hostile.sessions import SHORT
 from checks.memory import allocations, refuse
 from checks.memory.allocations import Line
 from checks.scenarios.cases import scenario
-from checks.shared.libraries import LINES, REFUSED, compiler, library_in, refusing
+from checks.shared import libraries
+from checks.shared.libraries import compiler, library_in, refusing
 from checks.shared.running import ran
 from checks.tests.fakes import Planted, changed
 
@@ -183,7 +184,7 @@ class Libraries(Planted):
         source.write_text(ASKS)
         words = [compiler(), "-O0", "-fno-builtin", "-w", "-o", self.path, str(source)]
         self.assertEqual(ran(words).returncode, 0)
-        self.refused, self.lines = (library_in(self.room, it) for it in (REFUSED, LINES))
+        self.refused, self.lines = (library_in(self.room, it) for it in (libraries.REFUSED, libraries.LINES))
 
     def test_refused(self):
         """The calls of some numbers are refused, and all are counted."""
