@@ -184,7 +184,8 @@ class Libraries(Planted):
         source.write_text(ASKS)
         words = [compiler(), "-O0", "-fno-builtin", "-w", "-o", self.path, str(source)]
         self.assertEqual(ran(words).returncode, 0)
-        self.refused, self.lines = (library_in(self.room, it) for it in (libraries.REFUSED, libraries.LINES))
+        sources = libraries.REFUSED, libraries.LINES
+        self.refused, self.lines = (library_in(self.room, it) for it in sources)
 
     def test_refused(self):
         """The calls of some numbers are refused, and all are counted."""
