@@ -4,11 +4,11 @@
 
 For a calculator, the grammar of C of checks/data/times/c.y, queries 275, and each FILE: nanoseconds
 a token of each parser, by -O2, without a lexer and without actions, the least of many runs in turn;
-and the bytes of its tables. The 30,000 tokens are drawn at random among those that can come, mostly
-so that the stack stays low; so they begin a sentence, and all parsers find an error after the last.
+and the bytes of its tables. The tokens are a sentence of 30,000, drawn at random, as far as the
+tables take it: precedences refuse some. So all parsers may find an error after the last.
 Files have no kept texts but empty ones. Needs bison, byacc, a C compiler (CC, or cc) and nm.
 """
-import random
+import itertools
 import tempfile
 from pathlib import Path
 
@@ -16,16 +16,15 @@ from checks.shared import running
 from checks.shared.arguments import asked
 from checks.shared.libraries import compiler
 from checks.shared.places import DATA
+from checks.shared.sentences import sentence_of
 from checks.shared.spelling import bare
 from checks.shared.table_file import table_of
 from checks.times.grammars import queries
 
-TOKENS, TURNS, LOOPS = 30_000, 25, 9
+TOKENS, SENTENCES, TURNS, LOOPS = 30_000, 5, 25, 9
 NONE = None, None
 HEADINGS = ["grammar", "ycc", "byacc", "bison", "of the faster", "bytes: ycc", "byacc", "bison"]
 HEADINGS += ["of bison's"]
-# A stack of more states grows no further than it must.
-DEEP = 60
 
 CALCULATOR = """%token NUM
 %left '+' '-'
@@ -106,65 +105,40 @@ class Machine:
     def __init__(self, table):
         self.table = table
         self.stack = [0]
-        self.cells = {}
-        for state, token in table.actions:
-            self.cells.setdefault(state, []).append(token)
-
-    def settle(self):
-        """Makes the reductions that need no token."""
-        while (rule := self.table.defaults.get(self.stack[-1])) is not None:
-            left, length = self.table.rules[rule]
-            del self.stack[len(self.stack) - length :]
-            self.stack.append(self.table.gotos[self.stack[-1], left])
 
     def action(self, state, token):
         """What a state does on a token."""
         rule = self.table.defaults.get(state)
         return ("r", rule) if rule is not None else self.table.actions.get((state, token), NONE)
 
-    def after(self, token):
-        """How many states stay below, and which stand on them, where the token is shifted."""
-        kept, above = len(self.stack), []
-        for _ in range(1_000):
-            state = above[-1] if above else self.stack[kept - 1]
-            kind, number = self.action(state, token)
+    def takes(self, token):
+        """Makes the steps up to the shift of a token, and says whether it is shifted."""
+        while True:
+            kind, number = self.action(self.stack[-1], token)
             if kind == "s":
-                return kept, [*above, number]
+                self.stack.append(number)
+                return True
             if kind != "r":
-                return None
+                return False
             left, length = self.table.rules[number]
-            gone = min(length, len(above))
-            above = above[: len(above) - gone]
-            kept -= length - gone
-            below = above[-1] if above else self.stack[kept - 1]
-            above.append(self.table.gotos[below, left])
-        return None
+            del self.stack[len(self.stack) - length :]
+            self.stack.append(self.table.gotos[self.stack[-1], left])
 
-    def draw(self, rng):
-        """A token that can come: one of three, or where the stack is deep, and else mostly, the one
-        of all that leaves the lowest stack."""
-        self.settle()
-        is_deep = len(self.stack) > DEEP or rng.random() < 0.6
-        order, found = self.cells[self.stack[-1]][:], []
-        rng.shuffle(order)
-        for token in order:
-            after = self.after(token) if token > 1 else None
-            if after:
-                found.append((after[0] + len(after[1]), token, after))
-            if len(found) == 3 and not is_deep:
-                break
-        _, token, (kept, above) = min(found) if is_deep else rng.choice(found)
-        self.stack[kept:] = above
-        return self.table.names[token]
+
+def taken(table, words):
+    """The words up to the first that the table doesn't take."""
+    machine, tokens = Machine(table), {name: at for at, name in enumerate(table.names)}
+    return list(itertools.takewhile(lambda word: machine.takes(tokens[word]), words))
 
 
 def tokens_of(yacc, folder, text):
-    """The tokens, as C has them."""
+    """The tokens, as C has them: of some sentences, the one of which the table takes most."""
     Path(f"{folder}/plain.y").write_text(text)
     run(yacc, "-b", "plain", "plain.y", cwd=folder)
-    machine = Machine(table_of(Path(f"{folder}/plain.tab").read_bytes()))
-    rng = random.Random(1)
-    return "".join(f"{machine.draw(rng)},\n" for _ in range(TOKENS))
+    table = table_of(Path(f"{folder}/plain.tab").read_bytes())
+    drawn = (sentence_of(text.encode(), TOKENS, seed).split() for seed in range(1, SENTENCES + 1))
+    words = max((taken(table, words) for words in drawn), key=len)
+    return "".join(f"{word},\n" for word in words)
 
 
 def bytes_of(folder, name):
