@@ -72,7 +72,7 @@ impl<'a> Gather<'a, '_> {
     }
 
     /// Takes in code with the word for its place, or without. `imports` has a place in Java alone,
-    /// so it is left out, as bison leaves it out in C.
+    /// so it is left out, as byacc does; bison refuses it in C.
     fn take_code(&mut self, rest: &[Lexeme]) -> Result<(), Trouble> {
         let Some(piece) = self.first(rest, Kind::Braced) else {
             return Ok(());

@@ -22,9 +22,6 @@ static YYSTYPE kept;
 %code {
 static int order_last = __LINE__;
 }
-%code imports {
-#error "this is for parsers in Java"
-}
 %token <value> NUMBER 500
 %%
 all : NUMBER NUMBER
