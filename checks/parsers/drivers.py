@@ -70,7 +70,7 @@ def steps_of_python(table, names, most):
 def steps_of_c(program, cases, most):
     """The same of the driver in C, of all cases in one run."""
     frames = []
-    for table, names, _ in cases:
+    for table, names, *_ in cases:
         frames += [b"%d %d %d %d\n" % (len(table), len(names), most, digest_of(table)), table]
         frames += [f"{name}\n".encode() for name in names]
     made = ran([program], None, b"".join(frames))
