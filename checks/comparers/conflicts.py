@@ -11,6 +11,8 @@ import heapq
 import random
 import re
 import tempfile
+from copy import copy
+from functools import partial
 from pathlib import Path
 
 from checks.shared.arguments import asked
@@ -117,6 +119,8 @@ class Checked:
 
 
 COUNTS = re.compile(r"grammar\.y: (\d+) shift/reduce, (\d+) reduce/reduce, in ")
+UNSOUGHT = re.compile(r"(?m)^(\d+) kinds? more; the search for ")
+UNSOUGHT_CELL = re.compile(r"(?m)^state (\d+) on (\S+): (?:shift|accept|reduce)")
 HEAD = re.compile(r"conflict \d+: state (\d+) on (\S+): (shift|accept|reduce)")
 
 
@@ -133,6 +137,8 @@ def parts_of(text):
     return [it for it in found if it and HEAD.match(it[0])]
 
 
+# What is said where not each rule has a list, since that would take too many steps.
+GIVEN_UP = "  The search for a list of tokens took too long."
 # What is said of a parse that comes to the state by a recovery alone.
 AFTER_ERROR = " only after an error, "
 
@@ -148,6 +154,12 @@ class Told:
         self.other = None
         if len(lines) > 3 and lines[2].startswith("  Over these"):
             self.other, _ = tokens_in(lines[3], names)
+
+    def for_rule(self, rule):
+        """The same list, for one rule."""
+        made = copy(self)
+        made.rules = [rule]
+        return made
 
 
 def tokens_in(line, names):
@@ -180,16 +192,26 @@ def difference(checked, part):
     first, others = (set(), left) if taken else ({left[0]}, left[1:])
     lists = lists_in(part, names)
     told = {rule for it in lists for rule in (it.rules or others)}
-    if told - first != set(others[:10]):
+    wanted = set(others[:10])
+    if told - first != wanted and not (GIVEN_UP in part and told - first < wanted):
         return "not each rule has a list"
-    for it in lists:
-        wrong = wrong_list(checked, it, state, token, first, others)
-        if wrong:
-            return wrong
+    wrong_of = partial(wrong_list, checked, state=state, token=token, first=first, others=others)
+    if GIVEN_UP in part:
+        return wrong_of_some(wrong_of, lists, others)
+    return next(filter(None, map(wrong_of, lists)), None)
+
+
+def wrong_of_some(wrong_of, lists, others):
+    """What is wrong with lists of which each need be right for one rule alone, since the search for
+    those of others was given up."""
+    for told in lists:
+        each = [wrong_of(told.for_rule(rule)) for rule in told.rules or others]
+        if all(each):
+            return each[0]
     return None
 
 
-def wrong_list(checked, told, state, token, first, others):
+def wrong_list(checked, told, *, state, token, first, others):
     """What is wrong with one list."""
     if told.last != token:
         return "the token"
@@ -223,6 +245,23 @@ def wrong_counts(tables, text):
     return None if told == ours and is_told else f"{ours} conflicts, told {told}"
 
 
+def wrong_kinds(checked, parts, text):
+    """What is wrong with the cells and kinds of the first line, and with kinds that aren't sought;
+    of these the other states aren't told."""
+    names, unsought = checked.grammar.names, UNSOUGHT.search(text)
+    cells = [(int(state), names.index(token)) for state, token in UNSOUGHT_CELL.findall(text)]
+    counts = re.search(r"in (\d+) cells? of (\d+) kinds?", text)
+    told = [int(it) for it in counts.groups()] if counts else [0, 0]
+    same = sum(int(it) - 1 for it in re.findall(r"The same in (\d+) states", text))
+    listed = parts + same + len(cells)
+    fits = listed <= told[0] if cells else listed == told[0]
+    if told != [len(checked.cells), parts + len(cells)] or not fits:
+        return f"{len(checked.cells)} cells, {parts} kinds, {len(cells)} unsought, told {told}"
+    if len(cells) != (int(unsought[1]) if unsought else 0) or set(cells) - checked.cells.keys():
+        return f"unsought {cells}"
+    return None
+
+
 def differences(grammar, text):
     """What is wrong with what was told of a grammar."""
     checked, parts = Checked(grammar), parts_of(text)
@@ -236,12 +275,7 @@ def differences(grammar, text):
     wrong = wrong_counts(checked.tables, text)
     if wrong:
         return wrong
-    counts = re.search(r"in (\d+) cells? of (\d+) kinds?", text)
-    told = [int(it) for it in counts.groups()] if counts else [0, 0]
-    same = sum(int(it) - 1 for it in re.findall(r"The same in (\d+) states", text))
-    if told != [len(checked.cells), len(parts)] or len(parts) + same != told[0]:
-        return f"{len(checked.cells)} cells, {len(parts)} kinds, told {told}"
-    return None
+    return wrong_kinds(checked, len(parts), text)
 
 
 # What is counted, so that a run shows that each of it was met.
