@@ -1,9 +1,9 @@
 /* What a parser that ycc made declares. */
-#ifndef YY_yy_DEFINES_H
-#define YY_yy_DEFINES_H
+#ifndef YY_yy_CALC_H_INCLUDED
+#define YY_yy_CALC_H_INCLUDED
 
 #ifndef YYTOKENTYPE
-#define YYTOKENTYPE
+# define YYTOKENTYPE
 enum yytokentype {
   NUMBER = 257,
   VARIABLE = 258,
@@ -16,12 +16,14 @@ enum yytokentype {
 #define YYERRCODE 256
 
 #if ! defined YYSTYPE && ! defined YYSTYPE_IS_DECLARED
+union YYSTYPE
+{
 #line 11 "calc.y"
-union YYSTYPE {
+
   double number;
   int variable;
+#line 26 "calc.h"
 };
-#line 25 "calc.h"
 typedef union YYSTYPE YYSTYPE;
 # define YYSTYPE_IS_TRIVIAL 1
 # define YYSTYPE_IS_DECLARED 1
