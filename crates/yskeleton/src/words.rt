@@ -34,6 +34,7 @@ pub const WORDS: &str = r##"
 #define YYENDTOKEN 0
 @else
 #define YYUNDEF 2147483647
+#define YYerror YYERRCODE
 #define YYNOTOKEN YYEMPTY
 #define YYNOSYMBOL YYUNDEF
 #define YYENDTOKEN YYEOF
