@@ -184,7 +184,7 @@ yysyntax_error (char *yyroom, size_t yysize, const yystate_number *yyssp, int yy
   int yycount = 1 + yyexpected (yyssp, yytokens + 1, 4);
   const char *yyform;
   size_t yylength;
-  char *yytext = yyroom;
+  char *yymsg = yyroom;
   char *yyto;
   int yyn = 0;
 @if verbose
@@ -204,12 +204,12 @@ yysyntax_error (char *yyroom, size_t yysize, const yystate_number *yyssp, int yy
     yylength += YYCOPY (0, yytokens[yyn]);
   if (yylength > yysize)
     {
-      yytext = (char *) YYMALLOC (yylength);
-      if (!yytext)
+      yymsg = (char *) YYMALLOC (yylength);
+      if (!yymsg)
         return 0;
     }
   yyn = 0;
-  for (yyto = yytext; (*yyto = *yyform) != '\0';)
+  for (yyto = yymsg; (*yyto = *yyform) != '\0';)
     if (*yyform == '%' && yyform[1] == 's' && yyn < yycount)
       {
         yyto += YYCOPY (yyto, yytokens[yyn++]);
@@ -220,7 +220,7 @@ yysyntax_error (char *yyroom, size_t yysize, const yystate_number *yyssp, int yy
         ++yyto;
         ++yyform;
       }
-  return yytext;
+  return yymsg;
 }
 "##;
 

@@ -296,12 +296,12 @@ yyerrlab:
 @if expecting
       {
         char yyroom[128];
-        char *yytext = yysyntax_error (yyroom, sizeof yyroom, yyssp, (int) yytoken);
-        YYERROR_CALL (yytext ? yytext : YY_("syntax error"));
-        if (!yytext)
+        char *yymsg = yysyntax_error (yyroom, sizeof yyroom, yyssp, (int) yytoken);
+        YYERROR_CALL (yymsg ? yymsg : YY_("syntax error"));
+        if (!yymsg)
           YYNOMEM;
-        if (yytext != yyroom)
-          YYFREE (yytext);
+        if (yymsg != yyroom)
+          YYFREE (yymsg);
       }
 @else
 @if custom
