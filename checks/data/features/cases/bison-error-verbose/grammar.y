@@ -3,6 +3,9 @@
 #include "lexer.h"
 static int yylex (void);
 static void yyerror (const char *what);
+/* flex makes macros of such names. */
+#define yytext no_name->of_the_parser
+#define yyleng no_name->of_the_parser
 %}
 %error-verbose
 %token NUMBER "a number" IF "if" NAME
