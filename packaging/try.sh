@@ -75,16 +75,17 @@ built() {
   done
 }
 
+# chroot begins in the root that it changes to, so these paths are below it.
 in_debian() {
-  cp "$package" "$debian/tmp/package.deb"
-  cp "$top/examples/one-rule/grammar.y" "$debian/tmp/grammar.y"
-  step chroot "$debian" dpkg -i /tmp/package.deb
+  cp "$package" "$debian/package.deb"
+  cp "$top/examples/one-rule/grammar.y" "$debian/grammar.y"
+  step chroot "$debian" dpkg -i package.deb
   for name in ycc ystep ydebug; do step chroot "$debian" "$name" --help; done
-  step chroot "$debian" /usr/libexec/sulderko/yacc -b /tmp/y /tmp/grammar.y
-  cmp -s "$debian/tmp/y.tab" "$top/examples/one-rule/tables/left/y.tab" ||
+  step chroot "$debian" usr/libexec/sulderko/yacc -b y grammar.y
+  cmp -s "$debian/y.tab" "$top/examples/one-rule/tables/left/y.tab" ||
     fail "another table in $debian"
   step chroot "$debian" dpkg --purge sulderko
-  rm "$debian/tmp/package.deb" "$debian/tmp/grammar.y" "$debian/tmp/y.tab"
+  rm "$debian/package.deb" "$debian/grammar.y" "$debian/y.tab"
   test ! -e "$debian/usr/bin/ycc" || fail "left in $debian: ycc"
 }
 
