@@ -1,0 +1,22 @@
+use Rattle.std.proofs.Common.{◌<◌, List, length, sym, ap, subst}
+use Rattle.ylalr.specs.Collection.{Collection}
+use Rattle.yreasons.specs.declared.reason.Cause.TheVariants.{Starts}
+use Rattle.yreasons.specs.declared.trail.Entry.{Entry}
+use Rattle.yreasons.specs.Trail.{IsTrail}
+use Rattle.yreasons.proofs.TrailSteps.{one_trail}
+use Rattle.yreasons.proofs.reasons.Reasons.chain.Goals as goal
+
+pub search-requires-clause-trail : goal.search-requires-clause-trail
+search-requires-clause-trail c =
+    let m = c.self.inside.automaton.now in
+    let l = c.looks.ensures.0 c.if-not-looks.false in
+    let e : Entry = record {
+      place = record { state = c.args.q; item = c.args.item };
+      cause = Starts;
+      gives = 0;
+    } in
+    subst (IsTrail m) (sym c.in_ok-trail.ensures) (one_trail m e (record {
+      state = subst (λ (x : Collection). c.args.q < length x.states) (sym c.self.view_is)
+          c.requires.state;
+      item = (l.core c.args.item).1 (c.args.t, l.valid);
+    }))
