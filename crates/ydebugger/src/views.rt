@@ -9,10 +9,12 @@ use ycommands::travel::LAST;
 use ycommands::verb::Verb;
 use ycommands::words::first_word;
 use yexplain::reads::grammar_of;
+use yexplain::sources::sources_of;
 use yexplain::why::{Question, explain};
 use yinput::Parse;
 use yparse::Session;
 use yparse::machine::Mode;
+use yreasons::Reasons;
 use yview::derivation::{SOME_FORMS, put_derivation, size_of_derivation};
 use yview::grammar_view::Rules;
 use yview::page::Page;
@@ -51,6 +53,19 @@ fn put_mode<W: Write>(page: &mut Page<W>, mode: Mode) {
     }
 }
 
+/// Why a cell says what it says, and where the token of a reduction comes from.
+fn put_why<W: Write>(
+    alloc: Global,
+    page: &mut Page<W>,
+    asked: Question<'_>,
+) -> Result<(), AllocError> {
+    // The page remembers a fault.
+    let _ = explain(page, asked);
+    let reasons = Reasons::of(alloc, asked.tables.automaton())?;
+    let _ = asked.put_sources(page, &sources_of(alloc, &reasons, asked)?);
+    Ok(())
+}
+
 /// Why the cell of the state and the token ahead says what it says, or that of another token.
 pub fn show_why<W: Write>(
     alloc: Global,
@@ -65,17 +80,15 @@ pub fn show_why<W: Write>(
         state: session.state(),
         token: token_ahead(session),
     };
-    // The page remembers a fault.
     if text.is_empty() {
-        let _ = explain(page, asked);
+        put_why(alloc, page, asked)?;
         put_mode(page, session.view().mode());
         return Ok(());
     }
     let Some(token) = token_named(session, text) else {
         return refuse_name(alloc, session, page, text, Refusal::NoToken);
     };
-    let _ = explain(page, Question { token, ..asked });
-    Ok(())
+    put_why(alloc, page, Question { token, ..asked })
 }
 
 /// A rule.

@@ -8,6 +8,7 @@ pub mod lines;
 mod question;
 pub mod reads;
 mod rivals;
+pub mod sources;
 pub mod supposed;
 pub mod text;
 pub mod why;

@@ -5,6 +5,7 @@ ghost use Rattle.std.specs.Iterator.{at_most};
 use std::alloc::{AllocError, Global};
 use ycells::{Candidate, candidate_at, next_rule, shift_at};
 use ylalr::{Automaton, Item};
+use yreasons::{Place, Reason, Reasons};
 use ysymbols::{Grammar, Precedence, Rule, Sym};
 use ytables::{Action, Conflict, Tables, is_ready, next_symbol};
 
@@ -122,6 +123,21 @@ pub fn looks_at(automaton: &Automaton, state: usize, item: Item, token: Sym) -> 
     state < automaton.states()
         && token < automaton.grammar().symbols()
         && automaton.looks(state, item, token)
+}
+
+/// Why a token is a merged lookahead of an item of a state, where it is one.
+pub fn chain_at(
+    alloc: Global,
+    reasons: &Reasons<'_>,
+    place: Place,
+    token: Sym,
+) -> Result<Option<Vec<Reason>>, AllocError> {
+    let automaton = reasons.automaton();
+    if place.state < automaton.states() && token < automaton.grammar().symbols() {
+        reasons.chain(alloc, place.state, place.item, token)
+    } else {
+        Ok(None)
+    }
 }
 
 /// Whether a symbol derives the empty form.

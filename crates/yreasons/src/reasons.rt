@@ -17,6 +17,7 @@ use ysymbols::Sym;
 use yspread::links::Links;
 
 /// An automaton, and for each of its states those that lead to it.
+#[derive(Drop)]
 pub struct Reasons<'a> {
     automaton: &'a Automaton,
     before: Links,
@@ -40,6 +41,13 @@ impl<'a> Reasons<'a> {
     {
         let before = before_of(alloc, automaton)?;
         Ok(Reasons { automaton, before })
+    }
+
+    /// The automaton.
+    pub fn automaton(&self) -> &'a Automaton
+        ensures { result.now ≡ self.now }
+    {
+        self.automaton
     }
 
     /// Why the token `t` is a lookahead of the item in state `q`: a chain of reasons, from an item

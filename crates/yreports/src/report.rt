@@ -5,7 +5,7 @@ use crate::kinds::{put_counts, put_named, put_states};
 use crate::list_text::{ListText, put_unfound};
 use crate::saving::Folder;
 use crate::warnings::put_warnings;
-use std::alloc::Global;
+use std::alloc::{AllocError, Global};
 use std::io::{self, Write};
 use std::rt::Files;
 use ycounterexample::finding::{Finding, Seeker, file_tokens};
@@ -13,9 +13,11 @@ use ycounterexample::groups::{Conflicts, Group, Kind};
 use ycounterexample::trial::empty_session;
 use yexplain::lines::Lines;
 use yexplain::reads::grammar_of;
+use yexplain::sources::{Source, sources_of};
 use yexplain::why::explain;
 use yfaults::opening::Opened;
 use yparse::Session;
+use yreasons::Reasons;
 use ytables::Tables;
 use yview::page::Page;
 
@@ -46,32 +48,61 @@ struct Report<'a, W, F> {
     folder: Folder<'a, F>,
 }
 
+/// Where the tokens of the first kinds come from.
+fn all_sources(
+    alloc: Global,
+    tables: &Tables,
+    lines: &Lines,
+    found: &Conflicts,
+) -> Result<Vec<Vec<Source>>, AllocError> {
+    let reasons = Reasons::of(alloc, tables.automaton())?;
+    let mut sources = Vec::new(alloc);
+    for (kind, group) in found.groups.iter().take(MOST_GROUPS) {
+        let asked = kind.cell(*group, tables, lines);
+        sources.push(sources_of(alloc, &reasons, asked)?)?;
+    }
+    Ok(sources)
+}
+
 impl<W: Write, F: Files + AllocGlobal + Clone + Drop> Report<'_, W, F> {
     /// Writes the conflicts of the first kinds, with their lists, as long as there are steps to
     /// seek them, and says how many kinds these are.
     fn put_groups(&mut self, session: &mut Session, found: &Conflicts) -> io::Result<usize> {
+        let sources = all_sources(self.alloc, session.tables(), self.lines, found)?;
         let mut number: usize = 0;
         let mut seeker = Seeker::new(self.alloc, session)?;
         for (kind, group) in found.groups.iter().take(MOST_GROUPS) {
             if !seeker.finder.has_steps() {
                 break;
             }
-            number = number.saturating_add(1);
             let finding = seeker.find(kind, *group)?;
-            self.put_finding(seeker.session.tables(), number, kind, *group, &finding)?;
+            let tables = seeker.session.tables();
+            let sources = sources.get(number).map_or(&[][..], Vec::as_slice);
+            number = number.saturating_add(1);
+            self.put_group(tables, number, kind, *group, sources);
+            self.put_finding(tables, number, kind, *group, &finding)?;
         }
         Ok(number)
     }
 
-    /// Writes a kind of conflict and why it is settled so.
-    fn put_group(&mut self, tables: &Tables, number: usize, kind: &Kind, group: Group) {
+    /// Writes a kind of conflict, why it is settled so, and where its token comes from.
+    fn put_group(
+        &mut self,
+        tables: &Tables,
+        number: usize,
+        kind: &Kind,
+        group: Group,
+        sources: &[Source],
+    ) {
+        let asked = kind.cell(group, tables, self.lines);
         self.page.end();
         let _ = write!(self.page, "conflict {number}: ");
-        let _ = explain(self.page, kind.cell(group, tables, self.lines));
+        let _ = explain(self.page, asked);
         put_states(self.page, group);
+        let _ = asked.put_sources(self.page, sources);
     }
 
-    /// Writes a kind of conflict and the lists for it.
+    /// Writes the lists for a kind of conflict.
     fn put_finding(
         &mut self,
         tables: &Tables,
@@ -87,7 +118,6 @@ impl<W: Write, F: Files + AllocGlobal + Clone + Drop> Report<'_, W, F> {
             group,
             lists: finding.lists.len(),
         };
-        self.put_group(tables, number, kind, group);
         text.put_merged(self.page, finding);
         for (part, list) in finding.lists.iter().enumerate() {
             text.put_list(self.page, list);
