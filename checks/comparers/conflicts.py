@@ -4,8 +4,9 @@
 
 Each list of tokens must be as short as the shortest way to a canonical set that has both rivals;
 where the program says that there is none, there must be none; what it says of a parse over the
-tokens must be what the tables do; and the rules that it says are never reduced must be those. The
-first difference ends the run. The last line is `N passed, M failed`: grammars.
+tokens must be what the tables do; the items from which a token comes must be a shortest chain by the
+sets; and the rules that it says are never reduced must be those. The first difference ends the
+run. The last line is `N passed, M failed`: grammars.
 """
 import heapq
 import random
@@ -15,6 +16,7 @@ from copy import copy
 from functools import partial
 from pathlib import Path
 
+from checks.comparers.chains import wrong_chains
 from checks.shared.arguments import asked
 from checks.shared.grammars import ERROR, productive
 from checks.shared.running import ran, turns
@@ -195,6 +197,9 @@ def difference(checked, part):
     wanted = set(others[:10])
     if told - first != wanted and not (GIVEN_UP in part and told - first < wanted):
         return "not each rule has a list"
+    wrong = wrong_chains(checked, part, state, token)
+    if wrong:
+        return wrong
     wrong_of = partial(wrong_list, checked, state=state, token=token, first=first, others=others)
     if GIVEN_UP in part:
         return wrong_of_some(wrong_of, lists, others)
@@ -284,6 +289,7 @@ COUNTED = {
     "in several states": ("  The same in",),
     "lists": ("\n  tokens ",),
     "without what is taken": (" alone:", "without what is taken:"),
+    "chains": (" from:\n    state ",),
     "with error": ("  Not tried",),
     "missed by a parse": ("settled otherwise", "given up"),
     "of these after an error": (AFTER_ERROR,),
