@@ -43,7 +43,7 @@ SESSION = "where\nrun until error\nupcoming\ninsert NUM\nback 3\nwhere\nreload\n
 NAMED = re.compile(
     r"grammar\.y:\d+: \S+: no line of spec gives this token; write one, or name it after %none"
     r"|spec:\d+:\d+: (the expression doesn't compile: .+|the expression matches the empty text"
-    r"|nothing stands behind the name|this line is no text in UTF-8"
+    r"|nothing stands after the name|this line is no text in UTF-8"
     r"|no token of the grammar has this name"
     r"|an input has tokens alone, and neither error nor \$end"
     r"|no directive of a SPEC; there are %skip, %keywords and %none)"

@@ -12,6 +12,7 @@ from checks.shared.places import CRATES, FAULTS
 
 FILES = CRATES / "yfaults/src/words.rt", FAULTS
 TEXT = r'"((?:[^"\\]|\\.)*)"'
+TABLE = re.compile(rf"const TABLE: &str = {TEXT};", re.S)
 ENTRY = re.compile(rf"Words \{{\s*code: {TEXT},\s*what:\s*{TEXT},\s*mend:\s*{TEXT},\s*\}}", re.S)
 ROW = re.compile(r"^\| (\w+)(?: at the end)? \| (.*) \| (.*) \|$", re.M)
 CODE = re.compile(r"[GBK]\d+")
@@ -24,7 +25,9 @@ def spelled(text):
 
 def of_program(text):
     """The code, the fault and the mending of each entry, in order."""
-    return [tuple(map(spelled, entry)) for entry in ENTRY.findall(text)]
+    lines = [spelled(line) for table in TABLE.findall(text) for line in table.split("\n")[1:]]
+    entries = [(*line.split(" ", 1), mend) for line, mend in zip(lines[::2], lines[1::2])]
+    return entries + [tuple(map(spelled, entry)) for entry in ENTRY.findall(text)]
 
 
 def of_document(text):

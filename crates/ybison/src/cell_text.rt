@@ -7,7 +7,6 @@ use std::io::{self, Write};
 use yexplain::lines::Lines;
 use yexplain::text::{Name, Numbered, RuleText};
 use yimport::symbols::Ended;
-use ysymbols::Grammar;
 
 /// A cell of what a file becomes.
 #[derive(Clone, Copy)]
@@ -25,12 +24,8 @@ pub struct CellText<'a> {
 }
 
 impl<'a> CellText<'a> {
-    fn grammar(self) -> &'a Grammar {
-        self.peer.grammar()
-    }
-
     fn name(self) -> Name<'a> {
-        Name(self.grammar(), self.other.token)
+        Name(self.peer.grammar(), self.other.token)
     }
 
     fn numbered(self, rule: usize) -> Numbered<'a> {
@@ -38,7 +33,7 @@ impl<'a> CellText<'a> {
     }
 
     fn text(self, rule: usize) -> RuleText<'a> {
-        RuleText(self.grammar(), rule)
+        RuleText(self.peer.grammar(), rule)
     }
 
     /// Writes the file, and the line of a rule where it has one.
@@ -103,17 +98,25 @@ impl<'a> CellText<'a> {
         }
     }
 
-    /// Writes that a file is refused for an end that was taken out of a rule.
-    fn put_ended<W: Write>(self, out: &mut W, rule: usize) -> io::Result<()> {
+    /// Writes what comes of an end that was taken out of a rule: the file is refused, or bison has
+    /// a conflict of another kind.
+    fn put_ended<W: Write>(self, out: &mut W, rule: usize, is_refused: bool) -> io::Result<()> {
         let state = self.other.state;
         let first = self.other.left.first.unwrap_or(rule);
         self.put_end(out, rule)?;
         let (ended, other) = (self.numbered(rule), self.numbered(first));
+        if is_refused {
+            return writeln!(
+                out,
+                "refused: without it {ended} and {other} could both be reduced at the end in state \
+                 {state}, and yacc would reduce by {other}; bison has a shift/reduce conflict, and \
+                 shifts it"
+            );
+        }
         writeln!(
             out,
-            "refused: without it {ended} and {other} could both be reduced at the end in state \
-             {state}, and yacc would reduce by {other}; bison has a shift/reduce conflict, and \
-             shifts it"
+            "without it {ended} and {other} have a reduce/reduce conflict at the end in state \
+             {state}, a shift/reduce one to bison; both choose {ended}"
         )
     }
 
@@ -121,7 +124,7 @@ impl<'a> CellText<'a> {
     pub fn put_refused<W: Write>(self, out: &mut W) -> io::Result<()> {
         let left = self.other.left;
         if let Some(rule) = left.ended {
-            return self.put_ended(out, rule);
+            return self.put_ended(out, rule, true);
         }
         let rule = left.passed.or(left.first).unwrap_or(0);
         match (self.peer.line_of(rule), left.winner) {
@@ -140,24 +143,11 @@ impl<'a> CellText<'a> {
         }
     }
 
-    /// Writes that bison has a conflict of another kind at the end.
-    fn put_other_kind<W: Write>(self, out: &mut W, rule: usize) -> io::Result<()> {
-        let state = self.other.state;
-        let first = self.other.left.first.unwrap_or(rule);
-        self.put_end(out, rule)?;
-        let (ended, other) = (self.numbered(rule), self.numbered(first));
-        writeln!(
-            out,
-            "without it {ended} and {other} have a reduce/reduce conflict at the end in state \
-             {state}, a shift/reduce one to bison; both choose {ended}"
-        )
-    }
-
     /// Writes that a cell has a conflict to bison and none here, or one of another kind.
     pub fn put_conflict<W: Write>(self, out: &mut W) -> io::Result<()> {
         let left = self.other.left;
         if let Some(rule) = left.ended {
-            return self.put_other_kind(out, rule);
+            return self.put_ended(out, rule, false);
         }
         let rule = left.second.or(left.first).unwrap_or(0);
         let first = left.first.unwrap_or(rule);

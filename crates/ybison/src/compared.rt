@@ -2,14 +2,14 @@
 
 use crate::peer::{Left, Peer};
 use std::alloc::{AllocError, Global};
-use yexplain::reads::{action_of, conflict_of, conflicts_of, goto_of, ready_of};
+use yexplain::reads::{action_of, conflict_of, conflicts_of, goto_of, ready_of, set};
 use ylalr::token_count;
 use ysymbols::Sym;
 use ytables::Action;
 
 /// The conflicts of an automaton as bison counts them. Where a shift meets two reductions, there
 /// is one of each kind.
-#[derive(Clone, Copy, Drop)]
+#[derive(Clone, Copy, Default, Drop)]
 pub struct Counts {
     /// Shift/reduce conflicts.
     pub shift_reduce: usize,
@@ -26,12 +26,10 @@ pub struct Other {
     pub token: Sym,
     /// What bison leaves in it.
     pub left: Left,
-    /// What is done in it.
-    pub action: Action,
 }
 
 /// What a comparison finds.
-#[derive(Clone, Copy, Drop)]
+#[derive(Clone, Copy, Default, Drop)]
 pub struct Compared {
     /// The conflicts of the states that bison keeps.
     pub counts: Counts,
@@ -70,11 +68,9 @@ fn does(left: &Left, action: Action) -> bool {
 impl Walk<'_> {
     /// Reaches a state.
     fn reach(&mut self, state: usize) -> Result<(), AllocError> {
-        if let Some(mark) = self.is_reached.get_mut(state) {
-            if !*mark {
-                *mark = true;
-                self.reached.push(state)?;
-            }
+        if self.is_reached.get(state) == Some(&false) {
+            set(&mut self.is_reached, state, true);
+            self.reached.push(state)?;
         }
         Ok(())
     }
@@ -104,12 +100,7 @@ impl Walk<'_> {
     /// Compares a cell.
     fn compare(&mut self, state: usize, token: Sym, left: Left) {
         let action = action_of(self.peer.tables, state, token);
-        let other = Other {
-            state,
-            token,
-            left,
-            action,
-        };
+        let other = Other { state, token, left };
         if !does(&left, action) {
             self.found.deed = self.found.deed.or(Some(other));
         } else if self.is_other(state, token, &left) {
@@ -169,33 +160,17 @@ impl Walk<'_> {
 }
 
 impl Compared {
-    /// Nothing yet.
-    fn nothing() -> Compared {
-        Compared {
-            counts: Counts {
-                shift_reduce: 0,
-                reduce_reduce: 0,
-            },
-            deed: None,
-            conflict: None,
-            conflicts: 0,
-            cut: 0,
-        }
-    }
-
     /// Compares the cells of tables with bison's, in the states that bison keeps: those that can
     /// be reached by what it leaves in the cells.
     pub fn new(alloc: Global, peer: Peer<'_>) -> Result<Compared, AllocError> {
         let mut walk = Walk {
             peer,
-            found: Compared::nothing(),
+            found: Compared::default(),
             reached: Vec::new(alloc),
             is_reached: vec![in alloc; false; peer.tables.automaton().states()]?,
         };
-        match walk.run(alloc) {
-            Ok(()) => Ok(walk.found),
-            Err(error) => Err(error),
-        }
+        walk.run(alloc)?;
+        Ok(walk.found)
     }
 
     /// Whether the same cells have conflicts to bison.

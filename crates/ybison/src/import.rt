@@ -2,7 +2,7 @@
 
 use crate::cell_text::{CellText, put_cells};
 use crate::compared::{Compared, Counts, Other};
-use crate::notes::{Source, Telling, put_expected, put_notes, put_refused, put_unreadable};
+use crate::notes::{Source, Telling, put_expected, put_notes, put_span};
 use crate::opening::open_bytes;
 use crate::peer::Peer;
 use std::alloc::{AllocError, Global};
@@ -35,7 +35,7 @@ pub struct Asked<'a> {
     pub output: Option<&'a str>,
 }
 
-/// A file, what it becomes, and which changes are told.
+/// A file, what it becomes, and which changes are written.
 #[derive(Clone, Copy)]
 struct Looked<'a> {
     source: Source<'a>,
@@ -68,17 +68,13 @@ fn put_changes<E: Write>(
     found: &Compared,
     text: Option<CellText<'_>>,
 ) -> io::Result<()> {
-    let Looked {
-        source,
-        imported,
-        telling,
-    } = asked;
-    put_notes(errors, source, imported, telling, found.conflicts_stay())?;
+    let (path, imported, stay) = (asked.source.path, asked.imported, found.conflicts_stay());
+    put_notes(errors, asked.source, imported, asked.telling, stay)?;
     if let Some(text) = text {
         text.put_conflict(errors)?;
     }
-    put_cells(errors, source.path, found)?;
-    put_expected(errors, source.path, imported, found.counts)
+    put_cells(errors, path, found)?;
+    put_expected(errors, path, imported, found.counts)
 }
 
 /// Compares the cells of what a file becomes with bison's, says what is to be said of the import,
@@ -118,61 +114,30 @@ fn look_at<E: Write>(
     }
 }
 
-/// Says why `yacc` doesn't read what a file becomes, and gives the exit status.
-fn put_unopened<E: Write>(
-    errors: &mut E,
-    alloc: Global,
-    asked: Looked<'_>,
-    trouble: &Trouble<'_>,
-) -> io::Result<u8> {
-    let path = asked.source.path;
-    if trouble.status() == 1 {
-        put_unreadable(errors, path)?;
-    }
-    put_trouble(errors, alloc, path, &asked.imported.text, trouble)?;
-    Ok(trouble.status())
-}
-
-/// What is opened, with its conflicts, where all its cells are the same; else the exit status.
-fn stands<E: Write>(
-    alloc: Global,
-    errors: &mut E,
-    asked: Looked<'_>,
-    opened: Opened,
-) -> io::Result<Result<(Opened, Counts), u8>> {
-    match look_at(alloc, errors, asked, &opened)? {
-        Ok(counts) => Ok(Ok((opened, counts))),
-        Err(status) => Ok(Err(status)),
-    }
-}
-
-/// Opens what a file becomes as `yacc` does, where it stands; else gives the exit status.
+/// Opens what a file becomes as `yacc` does, with its conflicts, where all its cells are the same;
+/// else says why not, and gives the exit status.
 fn open_imported<E: Write>(
     alloc: Global,
     errors: &mut E,
     asked: Looked<'_>,
 ) -> io::Result<Result<(Opened, Counts), u8>> {
-    match open_bytes(alloc, &asked.imported.text) {
-        Ok(opened) => stands(alloc, errors, asked, opened),
-        Err(trouble) => put_unopened(errors, alloc, asked, &trouble).map(Err),
-    }
-}
-
-/// Says why a file isn't imported, and gives the exit status.
-fn put_unmade<E: Write>(
-    errors: &mut E,
-    source: Source<'_>,
-    trouble: refusal::Trouble,
-) -> io::Result<u8> {
-    match trouble {
-        refusal::Trouble::Refused(refused) => {
-            put_refused(errors, source, refused)?;
-            Ok(1)
+    let path = asked.source.path;
+    let opened = match open_bytes(alloc, &asked.imported.text) {
+        Ok(opened) => opened,
+        Err(trouble) => {
+            if trouble.status() == 1 {
+                writeln!(
+                    errors,
+                    "{path}: refused: yacc would refuse what it becomes:"
+                )?;
+            }
+            put_trouble(errors, alloc, path, &asked.imported.text, &trouble)?;
+            return Ok(Err(trouble.status()));
         }
-        refusal::Trouble::Memory => {
-            writeln!(errors, "ydebug: no memory")?;
-            Ok(3)
-        }
+    };
+    match look_at(alloc, errors, asked, &opened)? {
+        Ok(counts) => Ok(Ok((opened, counts))),
+        Err(status) => Ok(Err(status)),
     }
 }
 
@@ -190,32 +155,16 @@ fn imported_from<E: Write>(
     }
     match import(alloc, bytes) {
         Ok(imported) => Ok(Ok(imported)),
-        Err(trouble) => put_unmade(errors, source, trouble).map(Err),
-    }
-}
-
-/// Imports bytes, writes what they become, and gives the exit status.
-fn import_bytes<F: Files + AllocGlobal, W: Write, E: Write>(
-    rt: &F,
-    asked: Asked<'_>,
-    out: &mut W,
-    errors: &mut E,
-    bytes: &[u8],
-) -> io::Result<u8> {
-    let path = asked.file;
-    let source = Source { path, bytes };
-    let imported = match imported_from(rt.alloc(), errors, source)? {
-        Ok(imported) => imported,
-        Err(status) => return Ok(status),
-    };
-    let looked = Looked {
-        source,
-        imported: &imported,
-        telling: Telling::All,
-    };
-    match open_imported(rt.alloc(), errors, looked)? {
-        Ok(_) => put_output(rt, asked.output, &imported.text, out, errors),
-        Err(status) => Ok(status),
+        Err(refusal::Trouble::Refused(refused)) => {
+            put_span(errors, source, refused.span)?;
+            let why = refused.refusal.text();
+            writeln!(errors, "refused: {why}")?;
+            Ok(Err(1))
+        }
+        Err(refusal::Trouble::Memory) => {
+            writeln!(errors, "ydebug: no memory")?;
+            Ok(Err(3))
+        }
     }
 }
 
@@ -231,9 +180,25 @@ pub fn run_import<F: Files + AllocGlobal, W: Write, E: Write>(
     if let Some(status) = refused_output(rt, asked.output, &[asked.file], errors)? {
         return Ok(status);
     }
-    match grammar_bytes(rt, asked.file) {
-        Ok(bytes) => import_bytes(rt, asked, out, errors, &bytes),
-        Err(error) => put_unread(errors, asked.file, &error),
+    let (alloc, path) = (rt.alloc(), asked.file);
+    let read = match grammar_bytes(rt, path) {
+        Ok(bytes) => bytes,
+        Err(error) => return put_unread(errors, path, &error),
+    };
+    let bytes = read.as_slice();
+    let source = Source { path, bytes };
+    let imported = match imported_from(alloc, errors, source)? {
+        Ok(imported) => imported,
+        Err(status) => return Ok(status),
+    };
+    let looked = Looked {
+        source,
+        imported: &imported,
+        telling: Telling::All,
+    };
+    match open_imported(alloc, errors, looked)? {
+        Ok(_) => put_output(rt, asked.output, &imported.text, out, errors),
+        Err(status) => Ok(status),
     }
 }
 
@@ -262,8 +227,8 @@ impl Foreign {
 }
 
 /// Opens the grammar that the bytes of a file of bison become, by an import that was made. Only
-/// changes by which the language or a conflict can change are told on `errors`. Where the file is
-/// refused, that is written, and the exit status is the answer.
+/// changes by which the language or a conflict can change are written to `errors`. Where the file
+/// is refused, that is written, and the exit status is the answer.
 pub fn open_import<E: Write>(
     alloc: Global,
     errors: &mut E,
@@ -285,25 +250,16 @@ pub fn open_import<E: Write>(
     }
 }
 
-/// Opens the grammar that the bytes of a file of bison become. Only changes by which the language
-/// or a conflict can change are told on `errors`. Where the file is refused, that is written, and
-/// the exit status is the answer.
+/// Opens the grammar that the bytes of a file of bison become, likewise.
 pub fn open_foreign<E: Write>(
     alloc: Global,
     errors: &mut E,
     path: &str,
     bytes: &[u8],
-) -> io::Result<Result<Opened, u8>> {
+) -> io::Result<Result<Foreign, u8>> {
     let source = Source { path, bytes };
-    let imported = match imported_from(alloc, errors, source)? {
-        Ok(imported) => imported,
-        Err(status) => return Ok(Err(status)),
-    };
-    match open_import(alloc, errors, source, imported)? {
-        Ok(foreign) => {
-            let Foreign { opened, .. } = foreign;
-            Ok(Ok(opened))
-        }
+    match imported_from(alloc, errors, source)? {
+        Ok(imported) => open_import(alloc, errors, source, imported),
         Err(status) => Ok(Err(status)),
     }
 }

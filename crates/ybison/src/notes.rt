@@ -2,12 +2,9 @@
 
 use crate::compared::Counts;
 use std::io::{self, Write};
-use yexplain::text::Bytes;
 use yforeign::lexeme::Span;
 use yimport::import::Imported;
-use yimport::note::{Effect, How, Note};
-use yimport::refusal::Refused;
-use yimport::symbols::Expected;
+use yimport::note::{Effect, How};
 
 /// The most bytes of the file that a line shows.
 const MOST_SHOWN: usize = 40;
@@ -69,36 +66,13 @@ fn put_how<W: Write>(out: &mut W, texts: &[u8], how: How) -> io::Result<()> {
     }
 }
 
-/// Which changes are told.
+/// Which changes are written.
 #[derive(Clone, Copy, PartialEq, Eq)]
 pub enum Telling {
     /// All of them.
     All,
     /// Those by which the language or a conflict can change.
     Weighty,
-}
-
-/// Whether the language or a conflict can change by a change.
-fn is_weighty(note: &Note) -> bool {
-    match note.reason.effect() {
-        Effect::None => false,
-        Effect::Conflicts | Effect::Language => true,
-    }
-}
-
-/// Writes a change, and whether conflicts stay with it.
-fn put_note<W: Write>(
-    out: &mut W,
-    source: Source<'_>,
-    texts: &[u8],
-    note: &Note,
-    conflicts_stay: bool,
-) -> io::Result<()> {
-    put_span(out, source, note.span)?;
-    put_how(out, texts, note.how)?;
-    let why = note.reason.text();
-    let effect = note.reason.effect().text(conflicts_stay);
-    writeln!(out, "; {why}; {effect}")
 }
 
 /// Writes the changes, and whether conflicts stay with them.
@@ -110,36 +84,15 @@ pub fn put_notes<W: Write>(
     conflicts_stay: bool,
 ) -> io::Result<()> {
     for note in &imported.notes {
-        if telling == Telling::All || is_weighty(note) {
-            put_note(out, source, &imported.texts, note, conflicts_stay)?;
+        let effect = note.reason.effect();
+        if telling == Telling::All || !matches!(effect, Effect::None) {
+            put_span(out, source, note.span)?;
+            put_how(out, &imported.texts, note.how)?;
+            let (why, effect) = (note.reason.text(), effect.text(conflicts_stay));
+            writeln!(out, "; {why}; {effect}")?;
         }
     }
     Ok(())
-}
-
-/// Writes why a file is refused.
-pub fn put_refused<W: Write>(out: &mut W, source: Source<'_>, refused: Refused) -> io::Result<()> {
-    put_span(out, source, refused.span)?;
-    let why = refused.refusal.text();
-    writeln!(out, "refused: {why}")
-}
-
-/// Writes that bison's count isn't what is expected.
-fn put_count<W: Write>(
-    out: &mut W,
-    path: &str,
-    expected: Expected,
-    word: &str,
-    (kind, found): (&str, usize),
-) -> io::Result<()> {
-    let Expected { line, number } = expected;
-    if number == found {
-        return Ok(());
-    }
-    writeln!(
-        out,
-        "{path}:{line}: {word} {number}: {kind} conflicts, as bison counts them: {found}"
-    )
 }
 
 /// Writes where the conflicts that a file expects aren't those that bison would count.
@@ -149,28 +102,18 @@ pub fn put_expected<W: Write>(
     imported: &Imported,
     counts: Counts,
 ) -> io::Result<()> {
-    let Counts {
-        shift_reduce,
-        reduce_reduce,
-    } = counts;
-    if let Some(expected) = imported.shift_reduce {
-        put_count(
-            out,
-            path,
-            expected,
-            "%expect",
-            ("shift/reduce", shift_reduce),
-        )?;
-    }
-    if let Some(expected) = imported.reduce_reduce {
-        let found = ("reduce/reduce", reduce_reduce);
-        put_count(out, path, expected, "%expect-rr", found)?;
+    let (shifts, reduces) = (imported.shift_reduce, imported.reduce_reduce);
+    for (expected, word, kind, found) in [
+        (shifts, "%expect", "shift/reduce", counts.shift_reduce),
+        (reduces, "%expect-rr", "reduce/reduce", counts.reduce_reduce),
+    ] {
+        let (line, number) = expected.map_or((0, found), |it| (it.line, it.number));
+        if number != found {
+            writeln!(
+                out,
+                "{path}:{line}: {word} {number}: {kind} conflicts, as bison counts them: {found}"
+            )?;
+        }
     }
     Ok(())
-}
-
-/// Writes that `yacc` refuses what a file becomes.
-pub fn put_unreadable<W: Write>(out: &mut W, path: &str) -> io::Result<()> {
-    let path = Bytes(path.as_bytes());
-    writeln!(out, "{path}: refused: yacc would refuse what it becomes:")
 }

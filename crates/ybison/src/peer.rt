@@ -19,7 +19,7 @@ pub struct Peer<'a> {
 }
 
 /// What bison leaves in a cell.
-#[derive(Clone, Copy, Drop)]
+#[derive(Clone, Copy, Default, Drop)]
 pub struct Left {
     /// Whether the shift is left.
     pub shift: bool,
@@ -27,7 +27,7 @@ pub struct Left {
     pub reductions: usize,
     /// The first rules that are left.
     pub first: Option<usize>,
-    /// The rule that is left behind the first.
+    /// The rule that is left after the first.
     pub second: Option<usize>,
     /// The rule that took the shift away.
     pub winner: Option<usize>,
@@ -36,42 +36,24 @@ pub struct Left {
     /// The first rule with which `yacc` forbids the shift, and bison doesn't: it isn't compared,
     /// or has the level of the token by `%precedence`.
     pub passed: Option<usize>,
-    /// The first rule behind which bison shifts the end of its body.
+    /// The first rule after which bison shifts the end of its body.
     pub ended: Option<usize>,
     /// How many such rules there are.
     pub ends: usize,
 }
 
 impl Left {
-    /// A cell without rules.
-    fn new(shift: bool) -> Left {
-        Left {
-            shift,
-            reductions: 0,
-            first: None,
-            second: None,
-            winner: None,
-            banning: None,
-            passed: None,
-            ended: None,
-            ends: 0,
-        }
-    }
-
     /// Leaves a rule.
     fn leave(&mut self, rule: usize) {
         self.reductions = self.reductions.saturating_add(1);
-        if self.first.is_none() {
-            self.first = Some(rule);
-        } else if self.second.is_none() {
-            self.second = Some(rule);
-        }
+        self.second = self.second.or(self.first.and(Some(rule)));
+        self.first = self.first.or(Some(rule));
     }
 
     /// Leaves a rule that isn't compared with the shift.
     fn pass(&mut self, candidate: Candidate) {
-        if candidate.standing.class() == Class::Ban && self.passed.is_none() {
-            self.passed = Some(candidate.rule);
+        if candidate.standing.class() == Class::Ban {
+            self.passed = self.passed.or(Some(candidate.rule));
         }
         self.leave(candidate.rule);
     }
@@ -94,15 +76,6 @@ impl Left {
         }
     }
 
-    /// Takes in a rule behind which bison shifts the end.
-    fn take_ended(&mut self, rule: usize) {
-        self.shift = true;
-        self.ends = self.ends.saturating_add(1);
-        if self.ended.is_none() {
-            self.ended = Some(rule);
-        }
-    }
-
     /// Whether there is anything to be done, or was.
     pub fn is_filled(&self) -> bool {
         self.shift || self.reductions > 0 || self.banning.is_some()
@@ -113,10 +86,10 @@ impl Left {
         usize::from(self.shift && self.reductions > 0)
     }
 
-    /// How many reduce/reduce conflicts bison counts, with those behind the end.
+    /// How many reduce/reduce conflicts bison counts, with those after the end.
     pub fn reduce_reduce(&self) -> usize {
-        let behind = self.ends.saturating_sub(1);
-        self.reductions.saturating_sub(1).saturating_add(behind)
+        let ends = self.ends.saturating_sub(1);
+        self.reductions.saturating_sub(1).saturating_add(ends)
     }
 }
 
@@ -133,11 +106,6 @@ impl<'a> Peer<'a> {
         self.levels.get(place).copied()?
     }
 
-    /// Whether bison leaves a rule and the shift beside each other where yacc forbids both.
-    fn is_equal(&self, candidate: Candidate) -> bool {
-        candidate.standing.class() == Class::Ban && self.line_of(candidate.rule).is_some()
-    }
-
     /// Which of the ends that were taken out of bodies stood in that of a rule.
     pub fn end_of(&self, rule: usize) -> Option<usize> {
         self.ended.get(rule).copied().flatten()
@@ -146,11 +114,16 @@ impl<'a> Peer<'a> {
     /// Takes a rule into a cell that had a shift, or hadn't.
     fn take(&self, left: &mut Left, candidate: Candidate, token: Sym, shifts: bool) {
         let rule = candidate.rule;
+        let is_ban = candidate.standing.class() == Class::Ban;
+        // bison leaves a rule and the shift beside each other where yacc forbids both
+        let is_equal = is_ban && self.line_of(rule).is_some();
         if token == END && self.end_of(rule).is_some() {
-            left.take_ended(rule);
+            left.shift = true;
+            left.ends = left.ends.saturating_add(1);
+            left.ended = left.ended.or(Some(rule));
         } else if !shifts {
             left.leave(rule);
-        } else if left.shift && !self.is_equal(candidate) {
+        } else if left.shift && !is_equal {
             left.compare(candidate);
         } else {
             left.pass(candidate);
@@ -160,7 +133,10 @@ impl<'a> Peer<'a> {
     /// What is left in a cell, where the items at these places can be reduced.
     pub fn left_in(&self, state: usize, token: Sym, ready: &[usize]) -> Left {
         let shifts = shift_of(self.tables, state, token).is_some();
-        let mut left = Left::new(shifts);
+        let mut left = Left {
+            shift: shifts,
+            ..Left::default()
+        };
         for index in ready {
             if let Some(candidate) = candidate_of(self.tables, state, token, *index) {
                 self.take(&mut left, candidate, token, shifts);

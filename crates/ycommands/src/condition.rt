@@ -42,29 +42,16 @@ pub enum Condition {
     Accept,
 }
 
-/// The word of a condition.
-#[derive(Clone, Copy)]
-enum Word {
-    Shift,
-    Reduce,
-    Error,
-    Conflict,
-    State,
-    Token,
-    Depth,
-    Accept,
-}
-
-/// Each condition by its word.
-const WORDS: [(&str, Word); 8] = [
-    ("shift", Word::Shift),
-    ("reduce", Word::Reduce),
-    ("error", Word::Error),
-    ("conflict", Word::Conflict),
-    ("state", Word::State),
-    ("token", Word::Token),
-    ("depth", Word::Depth),
-    ("accept", Word::Accept),
+/// Each condition by its word, with 0 where a name or a number has to follow.
+const WORDS: [(&str, Condition); 8] = [
+    ("shift", Condition::Shift(0)),
+    ("reduce", Condition::Reduce(0)),
+    ("error", Condition::Error),
+    ("conflict", Condition::Conflict),
+    ("state", Condition::State(0)),
+    ("token", Condition::Token(0)),
+    ("depth", Condition::Depth(0)),
+    ("accept", Condition::Accept),
 ];
 
 /// A number of these.
@@ -82,23 +69,16 @@ pub fn is_digits(word: &str) -> bool {
     !word.is_empty() && word.bytes().all(|b| b.is_ascii_digit())
 }
 
+/// The symbol of a name.
+pub fn symbol_named(session: &Session, name: &str) -> Option<Sym> {
+    let named = grammar_of(session.tables()).find(name.as_bytes());
+    session.token(name.as_bytes()).or(named)
+}
+
 /// The token of a name: one of the input, or `error` or `$end`.
 pub fn token_named(session: &Session, name: &str) -> Option<Sym> {
     let grammar = grammar_of(session.tables());
-    match session.token(name.as_bytes()) {
-        Some(token) => Some(token),
-        None => grammar
-            .find(name.as_bytes())
-            .filter(|symbol| grammar.is_token(*symbol)),
-    }
-}
-
-/// The symbol of a name.
-pub fn symbol_named(session: &Session, name: &str) -> Option<Sym> {
-    match session.token(name.as_bytes()) {
-        Some(token) => Some(token),
-        None => grammar_of(session.tables()).find(name.as_bytes()),
-    }
+    symbol_named(session, name).filter(|symbol| grammar.is_token(*symbol))
 }
 
 /// What is reduced: a rule by its number, or a nonterminal by its name.
@@ -112,39 +92,34 @@ fn reduced(grammar: &Grammar, name: &str) -> Result<Condition, Refusal> {
     }
 }
 
-/// A condition by its word and what follows.
+/// A condition by its word and what follows, where the file has so many tokens.
 fn condition_for(
     session: &Session,
     tokens: usize,
-    word: Word,
+    word: Condition,
     name: &str,
 ) -> Result<Condition, Refusal> {
     let tables = session.tables();
     match word {
-        Word::Shift => token_named(session, name)
+        Condition::Error | Condition::Conflict | Condition::Accept if name.is_empty() => Ok(word),
+        Condition::Error | Condition::Conflict | Condition::Accept => Err(Refusal::Alone),
+        _ if name.is_empty() => Err(Refusal::Unfinished),
+        Condition::Shift(_) => token_named(session, name)
             .map(Condition::Shift)
             .ok_or(Refusal::NoToken),
-        Word::Reduce => reduced(grammar_of(tables), name),
-        Word::State => { number_in(name, "states", 0, last_state(tables)).map(Condition::State) }
-        Word::Token => number_in(name, "tokens", 1, tokens).map(Condition::Token),
-        Word::Depth => number_in(name, "depths", 0, DEEPEST).map(Condition::Depth),
-        Word::Error => Ok(Condition::Error),
-        Word::Conflict => Ok(Condition::Conflict),
-        Word::Accept => Ok(Condition::Accept),
+        Condition::Reduce(_) | Condition::ReduceTo(_) => reduced(grammar_of(tables), name),
+        Condition::State(_) => {
+            number_in(name, "states", 0, last_state(tables)).map(Condition::State)
+        }
+        Condition::Token(_) => number_in(name, "tokens", 1, tokens).map(Condition::Token),
+        Condition::Depth(_) => number_in(name, "depths", 0, DEEPEST).map(Condition::Depth),
     }
-}
-
-/// Whether a condition is a word alone.
-fn is_alone(word: Word) -> bool {
-    matches!(word, Word::Error | Word::Conflict | Word::Accept)
 }
 
 /// The condition that a text says, where the file has so many tokens.
 pub fn condition_of(session: &Session, tokens: usize, text: &str) -> Result<Condition, Refusal> {
     let (word, name) = first_word(text);
     match find(&WORDS, word) {
-        Found::One(word) if is_alone(word) && !name.is_empty() => Err(Refusal::Alone),
-        Found::One(word) if !is_alone(word) && name.is_empty() => Err(Refusal::Unfinished),
         Found::One(word) => condition_for(session, tokens, word, name),
         Found::Many if !word.is_empty() => Err(Refusal::ManyConditions),
         _ => Err(Refusal::NoCondition),
@@ -182,16 +157,6 @@ pub fn symbol_near<'a>(
     Ok(search.text())
 }
 
-/// Whether the state and the token ahead have a conflict.
-fn is_in_conflict(tables: &Tables, session: &Session) -> bool {
-    is_running(session) && has_conflict(tables, session.state(), token_ahead(session))
-}
-
-/// Whether the token of this place is ahead.
-fn is_ahead(session: &Session, place: usize) -> bool {
-    session.view().rest_len() > 0 && upcoming_token(session, 0).1 == place
-}
-
 impl Condition {
     /// Whether it is met by what was done or undone.
     fn meets_kind(self, grammar: &Grammar, kind: StepKind) -> bool {
@@ -210,9 +175,13 @@ impl Condition {
     /// Whether it holds in the configuration.
     fn holds_in(self, tables: &Tables, session: &Session) -> bool {
         match self {
-            Condition::Conflict => is_in_conflict(tables, session),
+            Condition::Conflict => {
+                is_running(session) && has_conflict(tables, session.state(), token_ahead(session))
+            }
             Condition::State(state) => session.state() == state,
-            Condition::Token(place) => is_ahead(session, place),
+            Condition::Token(place) => {
+                session.view().rest_len() > 0 && upcoming_token(session, 0).1 == place
+            }
             Condition::Depth(depth) => session.view().stack_len() == depth,
             _ => false,
         }
@@ -224,34 +193,20 @@ impl Condition {
         self.meets_kind(grammar_of(tables), kind) || self.holds_in(tables, session)
     }
 
-    /// Its words, up to the name or the number that it has.
-    fn words(self) -> &'static str {
-        match self {
-            Condition::Shift(_) => "shift of ",
-            Condition::ReduceTo(_) => "reduction to ",
-            Condition::Reduce(_) => "reduction by rule ",
-            Condition::Error => "error",
-            Condition::Conflict => "conflict",
-            Condition::State(_) => "state ",
-            Condition::Token(_) => "token ",
-            Condition::Depth(_) => "depth ",
-            Condition::Accept => "acceptance",
-        }
-    }
-
     /// Why the run stopped, or what never came.
     pub fn put<W: Write>(self, page: &mut Page<W>, session: &Session) {
-        page.put(self.words());
-        match self {
-            Condition::Shift(symbol) | Condition::ReduceTo(symbol) => {
-                page.put(name_of(grammar_of(session.tables()), symbol));
-            }
-            Condition::Reduce(number)
-            | Condition::State(number)
-            | Condition::Token(number)
-            | Condition::Depth(number) => page.number(number),
-            Condition::Error | Condition::Conflict | Condition::Accept => {}
-        }
+        let grammar = grammar_of(session.tables());
+        let _ = match self {
+            Condition::Shift(token) => write!(page, "shift of {}", name_of(grammar, token)),
+            Condition::ReduceTo(left) => write!(page, "reduction to {}", name_of(grammar, left)),
+            Condition::Reduce(rule) => write!(page, "reduction by rule {rule}"),
+            Condition::Error => write!(page, "error"),
+            Condition::Conflict => write!(page, "conflict"),
+            Condition::State(state) => write!(page, "state {state}"),
+            Condition::Token(place) => write!(page, "token {place}"),
+            Condition::Depth(depth) => write!(page, "depth {depth}"),
+            Condition::Accept => write!(page, "acceptance"),
+        };
     }
 }
 

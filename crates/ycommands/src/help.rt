@@ -20,8 +20,7 @@ pub fn verb_of(word: &str) -> Found<Verb> {
 
 /// The commands that begin so.
 pub fn put_candidates<W: Write>(page: &mut Page<W>, word: &str) {
-    page.put(word);
-    page.put(" could be any of:");
+    let _ = write!(page, "{word} could be any of:");
     for (name, _) in &VERBS {
         if begins(name, word) {
             page.put(" ");
@@ -41,13 +40,10 @@ pub fn put_unknown<W: Write>(
     page.paint(Paint::Bad);
     page.show(Escaped(word.as_bytes()));
     page.paint(Paint::Plain);
-    page.put(" is no command; ");
-    match near {
-        Some(best) => {
-            let _ = writeln!(page, "did you mean {best}?");
-        }
-        None => page.line("help lists them."),
-    }
+    let _ = match near {
+        Some(best) => writeln!(page, " is no command; did you mean {best}?"),
+        None => writeln!(page, " is no command; help lists them."),
+    };
     Ok(())
 }
 
@@ -69,14 +65,6 @@ fn put_commands<W: Write>(page: &mut Page<W>) {
     page.line("An empty line repeats the last move.");
 }
 
-/// One command.
-fn put_command<W: Write>(page: &mut Page<W>, verb: Verb) {
-    put_usage(page, verb);
-    if !verb.more().is_empty() {
-        page.line(verb.more());
-    }
-}
-
 /// Help on all commands, or on one.
 pub fn show_help<W: Write>(
     alloc: Global,
@@ -85,7 +73,12 @@ pub fn show_help<W: Write>(
 ) -> Result<(), AllocError> {
     match verb_of(text) {
         _ if text.is_empty() => put_commands(page),
-        Found::One(verb) => put_command(page, verb),
+        Found::One(verb) => {
+            put_usage(page, verb);
+            if !verb.more().is_empty() {
+                page.line(verb.more());
+            }
+        }
         Found::Many => put_candidates(page, text),
         Found::Nothing => return put_unknown(alloc, page, text),
     }

@@ -23,12 +23,6 @@ fn read_line<R: Read>(reader: &mut BufReader<R>, line: &mut Vec<u8>) -> io::Resu
     first.read_until(b'\n', line)
 }
 
-/// Skips the rest of a line that is too long.
-fn skip_rest<R: Read>(reader: &mut BufReader<R>) -> io::Result<Came> {
-    reader.skip_until(b'\n')?;
-    Ok(Came::Long)
-}
-
 /// Reads the next line without its newline.
 pub fn next_line<R: Read>(reader: &mut BufReader<R>, line: &mut Vec<u8>) -> io::Result<Came> {
     let read = read_line(reader, line)?;
@@ -39,6 +33,9 @@ pub fn next_line<R: Read>(reader: &mut BufReader<R>, line: &mut Vec<u8>) -> io::
     match read {
         0 => Ok(Came::End),
         1..LONGEST => Ok(Came::Line),
-        _ => skip_rest(reader),
+        _ => {
+            reader.skip_until(b'\n')?;
+            Ok(Came::Long)
+        }
     }
 }

@@ -2,6 +2,7 @@
 
 use crate::verb::Verb;
 use std::alloc::AllocError;
+use std::fmt;
 use std::io::Write;
 use yparse::machine::{Mode, StepFault};
 use yview::{Page, Paint};
@@ -9,7 +10,7 @@ use yview::{Page, Paint};
 /// Why a command isn't obeyed. Nothing is changed then.
 #[derive(Clone, Copy)]
 pub enum Refusal {
-    /// The words behind the command are not those that it takes.
+    /// The arguments of the command are not those that it takes.
     Usage(&'static str),
     /// A number is out of range.
     Range(&'static str, usize, usize),
@@ -44,12 +45,23 @@ impl From<AllocError> for Refusal {
 }
 
 impl Refusal {
-    /// What it says, up to the first name or number that it has.
+    /// Writes what it says.
+    fn put<W: Write>(self, page: &mut Page<W>) {
+        let _ = match self {
+            Refusal::Usage(usage) => write!(page, "Usage: {usage}"),
+            Refusal::Range(what, from, to) => {
+                let (from, to) = (Grouped(from), Grouped(to));
+                write!(page, "That is out of range: {what} are {from} to {to}.")
+            }
+            Refusal::None(what) => write!(page, "There are no {what}."),
+            _ => write!(page, "{}", self.words()),
+        };
+    }
+
+    /// What it says where it has no name and no number.
     fn words(self) -> &'static str {
         match self {
-            Refusal::Usage(_) => "Usage: ",
-            Refusal::Range(_, _, _) => "That is out of range: ",
-            Refusal::None(_) => "There are no ",
+            Refusal::Usage(_) | Refusal::Range(_, _, _) | Refusal::None(_) => "",
             Refusal::NoNumber => "That is no number.",
             Refusal::NoToken => "The grammar has no such token.",
             Refusal::NoInput => "That is no token that an input can have.",
@@ -58,65 +70,28 @@ impl Refusal {
             Refusal::NoCondition => "That is no condition; help run lists them.",
             Refusal::ManyConditions => "Several conditions begin so; help run lists them.",
             Refusal::Alone => "That condition is a word alone; help run lists them.",
-            Refusal::Unfinished => {
-                "That condition needs a name or a number; help run lists them."
-            }
+            Refusal::Unfinished => "That condition needs a name or a number; help run lists them.",
             Refusal::Memory => "There is no memory for that; the parse is as it was.",
         }
     }
+}
 
-    /// Writes what it says.
-    fn put<W: Write>(self, page: &mut Page<W>) {
-        page.put(self.words());
-        match self {
-            Refusal::Usage(usage) => page.put(usage),
-            Refusal::Range(what, from, to) => put_range(page, what, from, to),
-            Refusal::None(what) => {
-                page.put(what);
-                page.put(".");
-            }
-            _ => {}
+/// A number as it stands in texts: `1,000,000`.
+#[derive(Clone, Copy)]
+struct Grouped(usize);
+
+impl fmt::Display for Grouped {
+    fn fmt<W: fmt::Write>(&self, f: &mut fmt::Formatter<W>) -> fmt::Result {
+        let (thousands, rest) = (self.0 / 1_000, self.0 % 1_000);
+        match (thousands / 1_000, thousands % 1_000) {
+            (0, 0) => write!(f, "{rest}"),
+            (0, thousands) => write!(f, "{thousands},{rest:03}"),
+            (millions, thousands) => write!(f, "{millions},{thousands:03},{rest:03}"),
         }
     }
 }
 
-/// Writes which numbers some things have.
-fn put_range<W: Write>(page: &mut Page<W>, what: &str, from: usize, to: usize) {
-    page.put(what);
-    page.put(" are ");
-    put_grouped(page, from);
-    page.put(" to ");
-    put_grouped(page, to);
-    page.put(".");
-}
-
-/// Writes a number as it stands in texts: `1,000,000`.
-fn put_grouped<W: Write>(page: &mut Page<W>, number: usize) {
-    let (thousands, rest) = (number / 1_000, number % 1_000);
-    if thousands == 0 {
-        page.number(rest);
-        return;
-    }
-    if thousands < 1_000 {
-        page.number(thousands);
-    } else {
-        page.number(thousands / 1_000);
-        put_group(page, thousands % 1_000);
-    }
-    put_group(page, rest);
-}
-
-/// Writes a comma and the three digits of a number below 1,000.
-fn put_group<W: Write>(page: &mut Page<W>, number: usize) {
-    page.put(match number {
-        0..10 => ",00",
-        10..100 => ",0",
-        _ => ",",
-    });
-    page.number(number);
-}
-
-/// The words behind a command are not those that it takes.
+/// The arguments of a command are not those that it takes.
 pub fn misused(verb: Verb) -> Refusal {
     Refusal::Usage(verb.usage())
 }

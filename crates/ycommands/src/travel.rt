@@ -1,4 +1,4 @@
-//! Moves, and what the words behind their commands mean.
+//! Moves, and what the arguments of their commands mean.
 
 use crate::condition::{Condition, condition_of, number_in};
 use crate::refusal::{Refusal, misused};
@@ -34,17 +34,13 @@ fn count_of(text: &str) -> Result<usize, Refusal> {
     number_in(text, "counts", 1, LAST)
 }
 
-/// What stands behind `until`, or a beginning of it.
+/// What stands after `until`, or a beginning of it.
 fn until_in(text: &str) -> Option<&str> {
     let (word, condition) = first_word(text);
-    if !word.is_empty() && "until".starts_with(word) {
-        Some(condition)
-    } else {
-        None
-    }
+    (!word.is_empty() && "until".starts_with(word)).then_some(condition)
 }
 
-/// The word for which a condition was refused: its first one, or the name behind that.
+/// The word for which a condition was refused: its first one, or the name after that.
 pub fn name_at_fault(text: &str, refusal: Refusal) -> &str {
     let (word, name) = first_word(until_in(text).unwrap_or(""));
     match refusal {
@@ -53,7 +49,7 @@ pub fn name_at_fault(text: &str, refusal: Refusal) -> &str {
     }
 }
 
-/// The move that a command and the words behind it mean.
+/// The move that a command and its arguments mean.
 pub fn move_of(session: &Session, tokens: usize, verb: Verb, text: &str) -> Result<Move, Refusal> {
     let until = |condition: &str| condition_of(session, tokens, condition);
     match (verb, until_in(text)) {
@@ -73,11 +69,6 @@ pub fn until_of(wanted: Move) -> Option<Condition> {
         Move::RunUntil(condition) | Move::BackUntil(condition) => Some(condition),
         _ => None,
     }
-}
-
-/// Whether a move goes to a position.
-pub fn is_to(wanted: Move) -> bool {
-    matches!(wanted, Move::To(_))
 }
 
 /// Whether each step of a move is written.

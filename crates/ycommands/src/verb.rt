@@ -1,55 +1,31 @@
 //! The commands: their words, how they are used, and what they do.
 
-/// A command.
+/// A command; what each does is its `about`.
 #[derive(Clone, Copy, PartialEq, Eq)]
 pub enum Verb {
-    /// One step forward, or more.
     Step,
-    /// One step back, or more, or to where a condition holds.
     Back,
-    /// To a position.
     To,
-    /// To the end, or to where a condition holds.
     Run,
-    /// Where the parse stands.
     Where,
-    /// The entries of the stack.
     Stack,
-    /// The upcoming tokens.
     Upcoming,
-    /// A state with its items, actions and gotos.
     State,
-    /// The tokens that can come.
     Expected,
-    /// Why a cell says what it says.
     Why,
-    /// A rule.
     Rule,
-    /// A symbol.
     Symbol,
-    /// All rules.
     Grammar,
-    /// The trees of the stack.
     Tree,
-    /// The rightmost derivation up to here.
     Derivation,
-    /// The last steps and edits.
     History,
-    /// Puts a token before the upcoming ones.
     Insert,
-    /// Takes out the first of the upcoming tokens.
     Drop,
-    /// Writes the input with its edits to a new file.
     Save,
-    /// Writes the input with its edits over a file.
     SaveOver,
-    /// The conflicts of the grammar.
     Conflicts,
-    /// Reads both files again.
     Reload,
-    /// The commands, or more on one of them.
     Help,
-    /// Ends the session.
     Quit,
 }
 
@@ -82,64 +58,46 @@ pub const VERBS: [(&str, Verb); 24] = [
 ];
 
 impl Verb {
+    /// How it is written, and after a colon what it does.
+    fn said(self) -> &'static str {
+        match self {
+            Verb::Step => "step [N]: one step forward, or N",
+            Verb::Back => "back [N] | back until C: one step back, or N, or to where C holds",
+            Verb::To => "to K: to position K, forward or back",
+            Verb::Run => "run | run until C: to the end, or to where C holds",
+            Verb::Where => "where: the position, the stack, the upcoming tokens, the state",
+            Verb::Stack => "stack: every entry of the stack, with its state",
+            Verb::Upcoming => "upcoming: the upcoming tokens, with their places",
+            Verb::State => "state [N]: a state: its items, actions and gotos",
+            Verb::Expected => "expected: the tokens that can come here",
+            Verb::Why => "why [T]: why the state does what it does at the token ahead, or at T",
+            Verb::Rule => "rule N: a rule and its precedence",
+            Verb::Symbol => "symbol NAME: a symbol: its rules, its uses, what it begins with",
+            Verb::Grammar => "grammar: every rule",
+            Verb::Tree => "tree [N] [all]: the trees of the stack, or that of entry N",
+            Verb::Derivation =>
+                "derivation [N | all]: the rightmost derivation up to here, the last form first",
+            Verb::History => "history [N]: the last steps and edits, or the last N",
+            Verb::Insert => "insert T: puts the token T before the upcoming ones",
+            Verb::Drop => "drop: removes the first upcoming token",
+            Verb::Save => "save FILE: writes the tokens, edits included, to a new file",
+            Verb::SaveOver => "save! FILE: writes the tokens, edits included, over a file",
+            Verb::Conflicts =>
+                "conflicts: the conflicts of the grammar file as it is now, explained",
+            Verb::Reload => "reload: reads both files again, and goes to the same position",
+            Verb::Help => "help [command]: this list, or more on one command",
+            Verb::Quit => "quit: ends the session, as the end of input does",
+        }
+    }
+
     /// How it is written.
     pub fn usage(self) -> &'static str {
-        match self {
-            Verb::Step => "step [N]",
-            Verb::Back => "back [N] | back until C",
-            Verb::To => "to K",
-            Verb::Run => "run | run until C",
-            Verb::Where => "where",
-            Verb::Stack => "stack",
-            Verb::Upcoming => "upcoming",
-            Verb::State => "state [N]",
-            Verb::Expected => "expected",
-            Verb::Why => "why [T]",
-            Verb::Rule => "rule N",
-            Verb::Symbol => "symbol NAME",
-            Verb::Grammar => "grammar",
-            Verb::Tree => "tree [N] [all]",
-            Verb::Derivation => "derivation [N | all]",
-            Verb::History => "history [N]",
-            Verb::Insert => "insert T",
-            Verb::Drop => "drop",
-            Verb::Save => "save FILE",
-            Verb::SaveOver => "save! FILE",
-            Verb::Conflicts => "conflicts",
-            Verb::Reload => "reload",
-            Verb::Help => "help [command]",
-            Verb::Quit => "quit",
-        }
+        self.said().split_once(": ").map_or("", |(usage, _)| usage)
     }
 
     /// What it does, in a line.
     pub fn about(self) -> &'static str {
-        match self {
-            Verb::Step => "one step forward, or N",
-            Verb::Back => "one step back, or N, or to where C holds",
-            Verb::To => "to position K, forward or back",
-            Verb::Run => "to the end, or to where C holds",
-            Verb::Where => "the position, the stack, the upcoming tokens, the state",
-            Verb::Stack => "every entry of the stack, with its state",
-            Verb::Upcoming => "the upcoming tokens, with their places",
-            Verb::State => "a state: its items, actions and gotos",
-            Verb::Expected => "the tokens that can come here",
-            Verb::Why => "why the state does what it does at the token ahead, or at T",
-            Verb::Rule => "a rule and its precedence",
-            Verb::Symbol => "a symbol: its rules, its uses, what it begins with",
-            Verb::Grammar => "every rule",
-            Verb::Tree => "the trees of the stack, or that of entry N",
-            Verb::Derivation => "the rightmost derivation up to here, the last form first",
-            Verb::History => "the last steps and edits, or the last N",
-            Verb::Insert => "puts the token T before the upcoming ones",
-            Verb::Drop => "removes the first upcoming token",
-            Verb::Save => "writes the tokens, edits included, to a new file",
-            Verb::SaveOver => "writes the tokens, edits included, over a file",
-            Verb::Conflicts => "the conflicts of the grammar file as it is now, explained",
-            Verb::Reload => "reads both files again, and goes to the same position",
-            Verb::Help => "this list, or more on one command",
-            Verb::Quit => "ends the session, as the end of input does",
-        }
+        self.said().split_once(": ").map_or("", |(_, about)| about)
     }
 
     /// More on it, or nothing.

@@ -44,9 +44,10 @@ pub struct Budget {
     steps: usize,
 }
 
-/// How many spots a search may meet: a part of those that may still be met.
-fn part_of(left: usize, most: usize) -> usize {
-    (left / 8).min(most).max(LEAST_SPOTS)
+/// How many spots a search may meet, or how many steps a trial may take: a part of those that are
+/// left, at most so many, but some in any case.
+pub fn part_of(left: usize, most: usize, least: usize) -> usize {
+    (left / 8).min(most).max(least)
 }
 
 impl Budget {
@@ -62,9 +63,9 @@ impl Budget {
     /// What a search for so many ways may take that begins now.
     pub fn allowance(&self, ways: usize) -> Allowance {
         let spots = if ways == 1 {
-            part_of(self.left, MOST_SPOTS)
+            part_of(self.left, MOST_SPOTS, LEAST_SPOTS)
         } else {
-            part_of(self.left_for_several, MOST_FOR_SEVERAL)
+            part_of(self.left_for_several, MOST_FOR_SEVERAL, LEAST_SPOTS)
         };
         let end = self.steps.saturating_sub(self.steps / PARTS);
         Allowance { spots, end }

@@ -52,7 +52,7 @@ impl Digest {
         }
     }
 
-    /// The digest of this list and another behind it.
+    /// The digest of this list and another after it.
     pub fn before(self, rest: Digest) -> Digest {
         Digest {
             sum: self.sum.wrapping_mul(rest.factor).wrapping_add(rest.sum),

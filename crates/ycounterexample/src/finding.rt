@@ -1,23 +1,21 @@
 //! The lists of tokens that get to a conflict, each tried in a session.
 
+use crate::budget::part_of;
 use crate::groups::{Group, Kind};
 use crate::others::Others;
 use crate::search::{Finder, Found, Target};
 use crate::trial::{self, Trial, try_list};
 use std::alloc::{AllocError, Global};
 use std::io;
-use ylalr::{Automaton, END};
+use ylalr::END;
 use yparse::Session;
 use ysymbols::Sym;
 
 /// How many lists are tried, the first one among them, where that one doesn't get there.
 const MOST_LISTS: usize = 100;
 
-/// The most steps of a parse over a first list.
+/// The most steps of a parse over a first list, and over all further lists of one.
 const MOST_STEPS: usize = 100_000;
-
-/// The most steps over all further lists of one.
-const MOST_FOR_OTHERS: usize = 100_000;
 
 /// The most forms that are made for the further lists of one.
 const MOST_FORMS: usize = 4_000;
@@ -122,11 +120,6 @@ pub struct Seeker<'a> {
     steps_for_others: usize,
 }
 
-/// How many steps a trial may take: a part of those that may still be made.
-fn allowance(left: usize, most: usize) -> usize {
-    (left / 8).min(most).max(LEAST_STEPS)
-}
-
 /// A cell and the rules of which both are to be possible; the rule that the list is for.
 #[derive(Clone, Copy)]
 struct Goal {
@@ -154,16 +147,10 @@ impl<'a> Seeker<'a> {
             long: false,
             late: false,
         };
-        self.find_each(kind, group, &mut finding)?;
-        Ok(finding)
-    }
-
-    /// The lists for what is taken and each other rule that is shown.
-    fn find_each(&mut self, kind: &Kind, group: Group, finding: &mut Finding) -> io::Result<()> {
         for rule in kind.others() {
-            self.find_pair(kind, group, *rule, finding)?;
+            self.find_pair(kind, group, *rule, &mut finding)?;
         }
-        Ok(())
+        Ok(finding)
     }
 
     /// The list for what is taken and a rule, or else a list for each.
@@ -234,7 +221,8 @@ impl<'a> Seeker<'a> {
     /// Adds the list of a way.
     fn add(&mut self, goal: Goal, way: &[Sym], finding: &mut Finding) -> io::Result<()> {
         let automaton = self.session.tables().automaton();
-        let Some(tokens) = shown_tokens(&self.finder, automaton, way)? else {
+        let tokens = self.finder.sentence(automaton, way)?;
+        let Some(tokens) = tokens.filter(|tokens| tokens.len() <= MOST_TOKENS) else {
             finding.long = true;
             return Ok(());
         };
@@ -245,33 +233,25 @@ impl<'a> Seeker<'a> {
         Ok(())
     }
 
-    /// A list, tried.
+    /// A list, tried, and others where its parse misses the state.
     fn tried(&mut self, goal: Goal, tokens: Vec<Sym>) -> io::Result<List> {
+        let most = part_of(self.steps, MOST_STEPS, LEAST_STEPS);
+        let (trial, steps) = self.trial(goal, &tokens, most)?;
+        self.steps = self.steps.saturating_sub(steps);
+        self.finder.spend(steps);
         let mut list = List {
             allows: goal.allows,
-            rules: Vec::new(self.alloc),
+            rules: Vec::from_slice(self.alloc, &[goal.rule])?,
             tokens,
-            trial: Trial::Missed,
+            trial,
             other: None,
             tried: 0,
             recovered: false,
         };
-        self.try_first(goal, &mut list)?;
-        Ok(list)
-    }
-
-    /// Tries a list, and others where its parse misses the state.
-    fn try_first(&mut self, goal: Goal, list: &mut List) -> io::Result<()> {
-        list.rules.push(goal.rule).map_err(AllocError::from)?;
-        let most = allowance(self.steps, MOST_STEPS);
-        let (trial, steps) = self.trial(goal, &list.tokens, most)?;
-        self.steps = self.steps.saturating_sub(steps);
-        self.finder.spend(steps);
-        list.trial = trial;
         if trial.is_missed() {
-            self.try_others(goal, list)?;
+            self.try_others(goal, &mut list)?;
         }
-        Ok(())
+        Ok(list)
     }
 
     /// What a parse over tokens comes to in so many steps, and in how many it does.
@@ -284,17 +264,12 @@ impl<'a> Seeker<'a> {
         try_list(self.session, tokens, cell)
     }
 
-    /// Tries the next lists until the parse gets there.
+    /// Tries the next lists, so many at most, until the parse gets there.
     fn try_others(&mut self, goal: Goal, list: &mut List) -> io::Result<()> {
         let automaton = self.session.tables().automaton();
         let finder = &mut self.finder;
         let mut others = Others::new(self.alloc, finder, automaton, goal.target, MOST_FORMS)?;
-        self.try_each(goal, &mut others, list)
-    }
-
-    /// Tries so many lists until the parse gets there.
-    fn try_each(&mut self, goal: Goal, others: &mut Others, list: &mut List) -> io::Result<()> {
-        let mut left = allowance(self.steps_for_others, MOST_FOR_OTHERS);
+        let mut left = part_of(self.steps_for_others, MOST_STEPS, LEAST_STEPS);
         for _ in 0..MOST_LISTS {
             let automaton = self.session.tables().automaton();
             let Some(tokens) = others.next(&mut self.finder, automaton)? else {
@@ -333,17 +308,7 @@ impl<'a> Seeker<'a> {
     }
 }
 
-/// The tokens of a way, where they aren't too many to be shown.
-fn shown_tokens(
-    finder: &Finder,
-    automaton: &Automaton,
-    way: &[Sym],
-) -> Result<Option<Vec<Sym>>, AllocError> {
-    let found = finder.sentence(automaton, way)?;
-    Ok(found.filter(|tokens| tokens.len() <= MOST_TOKENS))
-}
-
-/// The tokens of a list as a tokens file has them: the one of the conflict behind the others, but
+/// The tokens of a list as a tokens file has them: the one of the conflict after the others, but
 /// for the end. They are those of the list that gets there, or of the first, where none does.
 pub fn file_tokens(list: &List, token: Sym) -> Option<(&[Sym], Option<Sym>)> {
     let last = if token == END { None } else { Some(token) };

@@ -67,32 +67,20 @@ impl Kind {
 
     /// The rules that are shown: the one that is taken, if it is a rule, and then the others.
     pub fn rules(&self) -> &[usize] {
-        let all = if self.shift {
-            self.rivals
-        } else {
-            self.rivals.saturating_add(1)
-        };
-        self.rules
-            .get(..all.min(MOST_RIVALS))
-            .unwrap_or(&self.rules)
+        let all = self.rivals.saturating_add(usize::from(!self.shift));
+        let shown = self.rules.get(..all.min(MOST_RIVALS));
+        shown.unwrap_or(&self.rules)
     }
 
     /// The rule that is taken, where it isn't the shift.
     pub fn taken(&self) -> Option<usize> {
-        if self.shift {
-            None
-        } else {
-            self.rules().first().copied()
-        }
+        self.rules().first().copied().filter(|_| !self.shift)
     }
 
     /// The rules beside what is taken that are shown.
     pub fn others(&self) -> &[usize] {
-        if self.shift {
-            self.rules()
-        } else {
-            self.rules().get(1..).unwrap_or(&[])
-        }
+        let taken = usize::from(!self.shift);
+        self.rules().get(taken..).unwrap_or(&[])
     }
 }
 
@@ -145,16 +133,10 @@ impl Conflicts {
             cells: 0,
             others: 0,
         };
-        found.look_at_all(tables)?;
-        Ok(found)
-    }
-
-    /// Notes the conflicts of all states.
-    fn look_at_all(&mut self, tables: &Tables) -> Result<(), AllocError> {
         for state in 0..tables.automaton().states() {
-            self.look_at(tables, state)?;
+            found.look_at(tables, state)?;
         }
-        Ok(())
+        Ok(found)
     }
 
     /// Notes the conflicts of a state.

@@ -1,5 +1,5 @@
-//! The conflicts of a grammar, and lists of tokens that get to them: a shortest one is searched for,
-//! and each is tried in a session.
+//! The conflicts of a grammar, and lists of tokens that get to them: a shortest one is sought, and
+//! each is tried in a session.
 //!
 //! `groups` has the conflicts by their kinds, `search` the search for a list, `trial` a list in a
 //! session, and `finding` the lists that pass.

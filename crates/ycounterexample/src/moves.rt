@@ -47,16 +47,12 @@ impl Gathering {
             return Ok(());
         }
         set(&mut self.seen, symbol, stamp);
-        match goto_of(automaton, state, symbol) {
-            Some(to) => self.add(state, symbol, to),
-            None => Ok(()),
+        if let Some(to) = goto_of(automaton, state, symbol) {
+            set(&mut self.symbols, to, symbol);
+            self.before.push(to, short(state))?;
+            self.after.push(state, short(to))?;
         }
-    }
-
-    fn add(&mut self, state: usize, symbol: Sym, to: usize) -> Result<(), AllocError> {
-        set(&mut self.symbols, to, symbol);
-        self.before.push(to, short(state))?;
-        self.after.push(state, short(to))
+        Ok(())
     }
 
     /// Notes the ways from a state.
@@ -130,7 +126,7 @@ impl Moves {
         Ok(())
     }
 
-    /// Goes on from a state to those behind it.
+    /// Goes on from a state to those after it.
     fn leave(
         &mut self,
         queue: &mut Queue,
@@ -175,10 +171,8 @@ impl Moves {
 
     /// One of the states from which a way leads to a state.
     pub fn state_before(&self, state: usize, place: usize) -> usize {
-        match self.before(state).get(place) {
-            Some(before) => *before as usize,
-            None => 0,
-        }
+        let before = self.before(state).get(place);
+        before.map_or(0, |before| *before as usize)
     }
 
     /// The length of the shortest way to a state.

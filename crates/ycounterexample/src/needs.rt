@@ -19,31 +19,25 @@ pub enum Need {
 impl Need {
     /// Whether it is an item with its dot at 0, which rests on others of its state.
     pub fn is_closed(self) -> bool {
-        match self {
-            Need::Free => false,
-            Need::Item(item) => item.dot == 0,
-        }
+        matches!(self, Need::Item(Item { dot: 0, .. }))
     }
 
-    /// What has to hold in a state, so that this holds in the one behind it; none where it can't.
+    /// What has to hold in a state, so that this holds in the one after it; none where it can't.
     pub fn before(self, automaton: &Automaton, state: usize, token: Sym) -> Option<Need> {
         match self {
             Need::Free => Some(Need::Free),
-            Need::Item(item) => {
-                let item = moved_back(item);
-                if looks_at(automaton, state, item, token) {
-                    Some(Need::Item(item))
-                } else {
-                    None
-                }
+            Need::Item(Item { rule, dot }) => {
+                let dot = dot.saturating_sub(1);
+                let item = Item { rule, dot };
+                looks_at(automaton, state, item, token).then_some(Need::Item(item))
             }
         }
     }
 }
 
-/// What the form behind a nonterminal is to a token.
+/// What the form after a nonterminal is to a token.
 #[derive(Clone, Copy, Drop)]
-enum Behind {
+enum After {
     /// It begins with the token.
     Begins,
     /// It doesn't, but vanishes.
@@ -64,27 +58,19 @@ pub struct Needs {
     looked: usize,
 }
 
-/// What the form behind a nonterminal is to a token.
-fn form_behind(automaton: &Automaton, item: Item, token: Sym) -> Behind {
+/// What the form after a nonterminal is to a token.
+fn form_after(automaton: &Automaton, item: Item, token: Sym) -> After {
     let body = body_of(automaton.grammar(), item.rule);
     let form = body.get(item.dot.saturating_add(1)..).unwrap_or(&[]);
     for symbol in form {
         if begins_with(automaton, *symbol, token) {
-            return Behind::Begins;
+            return After::Begins;
         }
         if !vanishes(automaton, *symbol) {
-            return Behind::Other;
+            return After::Other;
         }
     }
-    Behind::Vanishes
-}
-
-/// The item with its dot one symbol further to the left.
-fn moved_back(item: Item) -> Item {
-    Item {
-        rule: item.rule,
-        dot: item.dot.saturating_sub(1),
-    }
+    After::Vanishes
 }
 
 impl Needs {
@@ -105,40 +91,15 @@ impl Needs {
 
     /// Adds the left side of a rule, where it wasn't met in this round.
     fn meet(&mut self, left: Sym) -> Result<(), AllocError> {
-        if self
-            .met
-            .get(left)
-            .map_or(false, |round| *round != self.round)
-        {
+        let (round, met) = (self.round, self.met.get(left));
+        if met.map_or(false, |met| *met != round) {
             set(&mut self.met, left, self.round);
             self.lefts.push(left)?;
         }
         Ok(())
     }
 
-    /// Takes in an item of the state with its dot before a left side, and says whether it frees.
-    fn take(
-        &mut self,
-        automaton: &Automaton,
-        state: usize,
-        item: Item,
-        token: Sym,
-        found: &mut Vec<Need>,
-    ) -> Result<bool, AllocError> {
-        match form_behind(automaton, item, token) {
-            Behind::Begins => return Ok(has_item(automaton, state, item)),
-            Behind::Vanishes if looks_at(automaton, state, item, token) => {}
-            _ => return Ok(false),
-        }
-        if item.dot > 0 {
-            found.push(Need::Item(item))?;
-        } else if let Some(left) = left_of(automaton.grammar(), item.rule) {
-            self.meet(left)?;
-        }
-        Ok(false)
-    }
-
-    /// Takes in the items with their dot before a left side.
+    /// Takes in the items of a state with their dot before a left side, and says whether one frees.
     fn take_all(
         &mut self,
         automaton: &Automaton,
@@ -149,8 +110,13 @@ impl Needs {
     ) -> Result<bool, AllocError> {
         self.looked = self.looked.saturating_add(items.len());
         for item in items {
-            if self.take(automaton, state, *item, token, found)? {
-                return Ok(true);
+            let left = left_of(automaton.grammar(), item.rule);
+            match (form_after(automaton, *item, token), left) {
+                (After::Begins, _) if has_item(automaton, state, *item) => return Ok(true),
+                (After::Vanishes, _) if !looks_at(automaton, state, *item, token) => {}
+                (After::Vanishes, _) if item.dot > 0 => found.push(Need::Item(*item))?,
+                (After::Vanishes, Some(left)) => self.meet(left)?,
+                _ => {}
             }
         }
         Ok(false)

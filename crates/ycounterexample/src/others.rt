@@ -63,7 +63,9 @@ impl Others {
         for _ in 0..MOST_FORMS {
             self.seek(finder, automaton)?;
             if self.is_way_next(finder) {
-                self.take_way(finder)?;
+                if let Some(way) = self.way.take() {
+                    self.sentences.add(finder, way)?;
+                }
             } else if self.sentences.least().is_none() {
                 return Ok(None);
             } else {
@@ -96,14 +98,6 @@ impl Others {
             (Some(way), Some(least)) => finder.length(way) <= least,
             (Some(_), None) => true,
             (None, _) => false,
-        }
-    }
-
-    /// Takes the next way in.
-    fn take_way(&mut self, finder: &Finder) -> Result<(), AllocError> {
-        match self.way.take() {
-            Some(way) => self.sentences.add(finder, way),
-            None => Ok(()),
         }
     }
 }

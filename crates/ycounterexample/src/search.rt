@@ -45,20 +45,13 @@ struct Spot {
     second: Need,
 }
 
-/// A spot that was met, the length and the digest of the way from it, and the spot behind it.
+/// A spot that was met, the length and the digest of the way from it, and the spot after it.
 #[derive(Clone, Copy, Drop)]
 struct Node {
     spot: Spot,
     length: u64,
     digest: Digest,
     next: Option<usize>,
-}
-
-/// Needs that lie side by side.
-#[derive(Clone, Copy, Drop)]
-struct Stretch {
-    start: usize,
-    end: usize,
 }
 
 /// A search for the ways to a cell.
@@ -73,8 +66,9 @@ pub struct Search {
     /// How often each spot was left; where several ways are wanted, with which lists of tokens.
     met: IndexMap<Spot, usize>,
     seen: IndexSet<(Spot, Digest)>,
-    /// What has to hold for each item of a state with its dot at 0, once that was looked for.
-    opened: IndexMap<(usize, Item), Stretch>,
+    /// What has to hold for each item of a state with its dot at 0, once that was looked for: the
+    /// needs from one place to another.
+    opened: IndexMap<(usize, Item), (usize, usize)>,
     needs: Vec<Need>,
 }
 
@@ -128,13 +122,10 @@ impl Drop for Finder {
 
 /// What has to hold in a state so that a rule can be reduced there.
 fn complete(grammar: &Grammar, rule: Option<usize>) -> Need {
-    match rule {
-        Some(rule) => {
-            let dot = body_of(grammar, rule).len();
-            Need::Item(Item { rule, dot })
-        }
-        None => Need::Free,
-    }
+    rule.map_or(Need::Free, |rule| {
+        let dot = body_of(grammar, rule).len();
+        Need::Item(Item { rule, dot })
+    })
 }
 
 /// The rules of each left side.
@@ -215,13 +206,10 @@ impl Search {
     }
 
     /// Keeps needs side by side.
-    fn keep(&mut self, needs: &[Need]) -> Result<Stretch, AllocError> {
+    fn keep(&mut self, needs: &[Need]) -> Result<(usize, usize), AllocError> {
         let start = self.needs.len();
         self.needs.extend_from_slice(needs)?;
-        Ok(Stretch {
-            start,
-            end: self.needs.len(),
-        })
+        Ok((start, self.needs.len()))
     }
 }
 
@@ -320,7 +308,11 @@ impl Finder {
             if search.is_end(node.spot) {
                 return Ok(Found::Way(self.way(search, number, node)?));
             }
-            self.leave(automaton, search, number, node)?;
+            if node.spot.first.is_closed() || node.spot.second.is_closed() {
+                self.open(automaton, search, node)?;
+            } else {
+                self.go_back(automaton, search, number, node)?;
+            }
         }
         Ok(Found::Late)
     }
@@ -341,9 +333,9 @@ impl Finder {
         search: &mut Search,
         state: usize,
         need: Need,
-    ) -> Result<Stretch, AllocError> {
+    ) -> Result<(usize, usize), AllocError> {
         let Need::Item(item) = need else {
-            return Ok(Stretch { start: 0, end: 1 });
+            return Ok((0, 1));
         };
         if let Some(stretch) = search.opened.get(&(state, item)) {
             return Ok(*stretch);
@@ -363,23 +355,7 @@ impl Finder {
         Ok(stretch)
     }
 
-    /// Goes on from a spot: to what has to hold there for items with their dot at 0, or else to
-    /// the states before it.
-    fn leave(
-        &mut self,
-        automaton: &Automaton,
-        search: &mut Search,
-        number: usize,
-        node: Node,
-    ) -> Result<(), AllocError> {
-        if node.spot.first.is_closed() || node.spot.second.is_closed() {
-            self.open(automaton, search, node)
-        } else {
-            self.go_back(automaton, search, number, node)
-        }
-    }
-
-    /// Goes on to what has to hold in the state itself.
+    /// Goes on from a spot with an item with its dot at 0 to what has to hold in the state itself.
     fn open(
         &mut self,
         automaton: &Automaton,
@@ -389,7 +365,7 @@ impl Finder {
         let state = node.spot.state;
         let firsts = self.opened(automaton, search, state, node.spot.first)?;
         let seconds = self.opened(automaton, search, state, node.spot.second)?;
-        for place in firsts.start..firsts.end {
+        for place in firsts.0..firsts.1 {
             if search.left.spots == 0 {
                 break;
             }
@@ -404,9 +380,9 @@ impl Finder {
         search: &mut Search,
         node: Node,
         first: Need,
-        seconds: Stretch,
+        seconds: (usize, usize),
     ) -> Result<(), AllocError> {
-        for place in seconds.start..seconds.end {
+        for place in seconds.0..seconds.1 {
             let spot = Spot {
                 state: node.spot.state,
                 first,
@@ -425,11 +401,7 @@ impl Finder {
         number: usize,
         node: Node,
     ) -> Result<(), AllocError> {
-        let Spot {
-            state,
-            first,
-            second,
-        } = node.spot;
+        let (spot, state) = (node.spot, node.spot.state);
         let symbol = self.moves.symbol(state);
         let length = node
             .length
@@ -439,8 +411,8 @@ impl Finder {
         self.spend(states);
         for place in 0..states {
             let before = self.moves.state_before(state, place);
-            let firsts = first.before(automaton, before, search.token);
-            let seconds = second.before(automaton, before, search.token);
+            let firsts = spot.first.before(automaton, before, search.token);
+            let seconds = spot.second.before(automaton, before, search.token);
             if let (Some(first), Some(second)) = (firsts, seconds) {
                 let node = Node {
                     spot: Spot {
@@ -458,7 +430,7 @@ impl Finder {
         Ok(())
     }
 
-    /// The symbols of a way: the shortest to the spot, and then those of the spots behind it.
+    /// The symbols of a way: the shortest to the spot, and then those of the spots after it.
     fn way(&self, search: &Search, number: usize, node: Node) -> Result<Vec<Sym>, AllocError> {
         let mut symbols = Vec::new(self.alloc);
         self.moves.push_way(&mut symbols, node.spot.state)?;

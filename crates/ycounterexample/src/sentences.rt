@@ -22,20 +22,6 @@ pub struct Sentences {
     symbols: usize,
 }
 
-/// A form in which other symbols stand for the one at a place.
-fn replaced(
-    alloc: Global,
-    form: &[Sym],
-    place: usize,
-    body: &[Sym],
-) -> Result<Vec<Sym>, AllocError> {
-    let mut found = Vec::new(alloc);
-    found.extend_from_slice(form.get(..place).unwrap_or(&[]))?;
-    found.extend_from_slice(body)?;
-    found.extend_from_slice(form.get(place.saturating_add(1)..).unwrap_or(&[]))?;
-    Ok(found)
-}
-
 impl Sentences {
     /// Nothing waits, and so many forms may be taken in.
     pub fn new(alloc: Global, most: usize) -> Sentences {
@@ -109,7 +95,10 @@ impl Sentences {
         let symbol = form.get(place).copied().unwrap_or(0);
         for rule in finder.rules(symbol) {
             if self.left > 0 {
-                let next = replaced(alloc, form, place, body_of(grammar, *rule))?;
+                let mut next = Vec::new(alloc);
+                next.extend_from_slice(form.get(..place).unwrap_or(&[]))?;
+                next.extend_from_slice(body_of(grammar, *rule))?;
+                next.extend_from_slice(form.get(place.saturating_add(1)..).unwrap_or(&[]))?;
                 self.add(finder, next)?;
             }
         }

@@ -30,10 +30,7 @@ pub enum Trial {
 impl Trial {
     /// Whether the parse doesn't come to the state without an error, or was given up before.
     pub fn is_missed(self) -> bool {
-        match self {
-            Trial::Missed | Trial::Recovered(_) | Trial::Late(_) => true,
-            Trial::Reached(_) | Trial::HasError => false,
-        }
+        matches!(self, Trial::Missed | Trial::Recovered(_) | Trial::Late(_))
     }
 }
 
@@ -79,13 +76,11 @@ fn fault_of(fault: StepFault) -> io::Error {
 
 /// Puts a token before the upcoming ones, and says whether it is one that an input can have.
 fn put(session: &mut Session, token: Sym) -> io::Result<bool> {
-    match session.token(session.name(token)) {
-        Some(token) => match session.insert(token) {
-            Ok(_) => Ok(true),
-            Err(fault) => Err(fault_of(fault)),
-        },
-        None => Ok(false),
-    }
+    let Some(token) = session.token(session.name(token)) else {
+        return Ok(false);
+    };
+    session.insert(token).map_err(fault_of)?;
+    Ok(true)
 }
 
 /// Puts tokens before the upcoming ones, and says whether an input can have them.
@@ -135,7 +130,7 @@ fn go_back(session: &mut Session) {
     }
 }
 
-/// Tries a list of tokens with the goal's token behind it, in a session at its start, which is
+/// Tries a list of tokens with the goal's token after it, in a session at its start, which is
 /// left there. Gives what the parse comes to and how many steps and edits that took.
 pub fn try_list(session: &mut Session, tokens: &[Sym], goal: Goal) -> io::Result<(Trial, usize)> {
     let tried = put_and_go(session, tokens, goal);
@@ -146,8 +141,8 @@ pub fn try_list(session: &mut Session, tokens: &[Sym], goal: Goal) -> io::Result
 
 fn put_and_go(session: &mut Session, tokens: &[Sym], goal: Goal) -> io::Result<Trial> {
     let last = [goal.token];
-    let behind: &[Sym] = if goal.token == END { &[] } else { &last };
-    if !put_all(session, behind)? || !put_all(session, tokens)? {
+    let last: &[Sym] = if goal.token == END { &[] } else { &last };
+    if !put_all(session, last)? || !put_all(session, tokens)? {
         return Ok(Trial::HasError);
     }
     go(session, goal)

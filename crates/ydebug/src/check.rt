@@ -1,12 +1,10 @@
 //! `ydebug check`: the verdict on each input, by tables that are made once.
 
-use std::alloc::Global;
 use std::io::{self, ErrorKind, Read, Write};
 use std::rt::Files;
 use yexplain::reads::grammar_of;
 use yfiles::reading::{Limited, all_bytes};
-use yinput::fault::Fault;
-use yinput::language::{Input, Language, LanguageFiles};
+use yinput::language::{Language, LanguageFiles};
 use yinput::verdict::verdict_on;
 use yinput::verdict_text::{put_choice, put_plain_choice};
 
@@ -25,19 +23,6 @@ pub struct Asked<'a> {
     pub most: u64,
 }
 
-/// All bytes of a file, or of standard input where the path is a dash; `None` where there are
-/// more than it may have.
-fn bytes_of<F: Files + AllocGlobal, R: Read>(
-    rt: &F,
-    input: &mut R,
-    file: Limited<'_>,
-) -> io::Result<Option<Vec<u8>>> {
-    match file.path {
-        "-" => all_bytes(rt.alloc(), input, file.most),
-        _ => file.bytes(rt),
-    }
-}
-
 impl Asked<'_> {
     /// Writes whether the grammar has choices, where that is wanted.
     fn put_choice<W: Write>(self, out: &mut W, language: &Language) -> io::Result<()> {
@@ -51,40 +36,8 @@ impl Asked<'_> {
         }
     }
 
-    /// Writes the verdict on an input, and gives its exit status.
-    fn put_verdict<W: Write>(
-        self,
-        alloc: Global,
-        out: &mut W,
-        language: &Language,
-        path: &str,
-        input: &Input,
-    ) -> io::Result<u8> {
-        let tables = &language.opened.tables;
-        let verdict = verdict_on(alloc, tables, input)?;
-        if self.plain {
-            verdict.put_plain(out, path)
-        } else {
-            verdict.put(out, grammar_of(tables), path, input)
-        }
-    }
-
-    /// Writes why an input has no verdict, and gives its exit status.
-    fn put_fault<F: Files + AllocGlobal, W: Write>(
-        self,
-        rt: &F,
-        out: &mut W,
-        language: &Language,
-        fault: &Fault,
-    ) -> io::Result<u8> {
-        if self.plain {
-            fault.put_plain(out)
-        } else {
-            fault.put(rt, out, self.files.grammar.path, &language.opened)
-        }
-    }
-
-    /// Writes what comes of an input, and gives its exit status.
+    /// Writes what comes of an input, which is standard input where its path is a dash, and gives
+    /// its exit status.
     fn put_input<F: Files + AllocGlobal, R: Read, W: Write>(
         self,
         rt: &F,
@@ -95,9 +48,21 @@ impl Asked<'_> {
     ) -> io::Result<u8> {
         let most = self.most;
         let file = Limited { path, most };
-        match language.input_of(rt.alloc(), file, bytes_of(rt, stdin, file))? {
-            Ok(input) => self.put_verdict(rt.alloc(), out, language, path, &input),
-            Err(fault) => self.put_fault(rt, out, language, &fault),
+        let read = match path {
+            "-" => all_bytes(rt.alloc(), stdin, most),
+            _ => file.bytes(rt),
+        };
+        match language.input_of(rt.alloc(), file, read)? {
+            Ok(input) => {
+                let tables = &language.opened.tables;
+                let verdict = verdict_on(rt.alloc(), tables, &input)?;
+                if self.plain {
+                    return verdict.put_plain(out, path);
+                }
+                verdict.put(out, grammar_of(tables), path, &input)
+            }
+            Err(fault) if self.plain => fault.put_plain(out),
+            Err(fault) => fault.put(rt, out, self.files.grammar.path, &language.opened),
         }
     }
 

@@ -22,26 +22,17 @@ pub const FORMS: &str = "Other forms:\n\
 /// The version of the program.
 const VERSION: &str = "1.0.0";
 
-/// A form of the command line.
+/// A form of the command line; `about` says what each does.
 #[derive(Clone, Copy)]
 pub enum Form {
-    /// A session.
     Debug,
-    /// The report on conflicts.
     Conflicts,
-    /// Verdicts.
     Check,
-    /// A page.
     Page,
-    /// An import.
     Import,
-    /// The tokens of a text.
     Tokens,
-    /// A sketch of a SPEC.
     Sketch,
-    /// Names for rules.
     Rules,
-    /// The files that `yacc` writes.
     Table,
 }
 
@@ -67,199 +58,122 @@ pub fn form_of(word: Option<&&str>) -> Form {
     Form::Debug
 }
 
-/// The whole name of the program with the word for a form.
-pub fn name_of(form: Form) -> &'static str {
-    match form {
-        Form::Debug => "ydebug",
-        Form::Conflicts => "ydebug conflicts",
-        Form::Check => "ydebug check",
-        Form::Page => "ydebug page",
-        Form::Import => "ydebug import",
-        Form::Tokens => "ydebug tokens",
-        Form::Sketch => "ydebug lex-spec",
-        Form::Rules => "ydebug rules",
-        Form::Table => "ydebug table",
-    }
-}
+const GRAMMAR: &str = "grammar: The grammar file";
 
-/// How a word is given.
-#[derive(Clone, Copy)]
-enum Given {
-    /// A file, which is required; help shows this name.
-    File(&'static str),
-    /// Files, at least one.
-    Files,
-    /// A flag of two dashes.
-    Flag,
-    /// A value after two dashes; help shows this name.
-    Value(&'static str),
-    /// Such a value that is required.
-    Required(&'static str),
-    /// Such a value that may be given again.
-    Again(&'static str),
-    /// A flag of one dash and this letter.
-    Letter(char),
-    /// A value after one dash and this letter.
-    Short(char),
-}
+const INPUT: &str = "tokens: The tokens file; with --lex, a text";
 
-/// A word of a form: its name, how it is given, and what help says of it.
-#[derive(Clone, Copy)]
-pub struct Word(&'static str, Given, &'static str);
+const LEX: &str = "--lex SPEC: The file that says how the tokens of a text look";
 
-impl Word {
-    /// The option that it is, without its two dashes, where it is one.
-    pub fn option(&self) -> Option<&'static str> {
-        match self.1 {
-            Given::File(_) | Given::Files | Given::Letter(_) | Given::Short(_) => None,
-            Given::Flag | Given::Value(_) | Given::Required(_) | Given::Again(_) => Some(self.0),
-        }
-    }
-}
+const LIMIT: &str = "--limit N: The most bytes of an input; without it, 16777216";
 
-const GRAMMAR: Word = Word("grammar", Given::File("grammar"), "The grammar file");
+const FROM: &str = "--from FORM: bison: the grammar is a file of bison or byacc";
 
-const INPUT: Word = Word(
-    "tokens",
-    Given::File("tokens"),
-    "The tokens file; with --lex, a text",
-);
+const DEBUG: &[&str] = &[GRAMMAR, INPUT, LEX, LIMIT, FROM];
 
-const LEX: Word = Word("lex", Given::Value("SPEC"), HOW_TOKENS_LOOK);
-
-const LIMIT: Word = Word("limit", Given::Value("N"), HOW_LONG);
-
-const FROM: Word = Word("from", Given::Value("FORM"), FROM_BISON);
-
-const HOW_TOKENS_LOOK: &str = "The file that says how the tokens of a text look";
-
-const HOW_LONG: &str = "The most bytes of an input; without it, 16777216";
-
-const FROM_BISON: &str = "bison: the grammar is a file of bison or byacc";
-
-const DEBUG: &[Word] = &[GRAMMAR, INPUT, LEX, LIMIT, FROM];
-
-const CONFLICTS: &[Word] = &[
+const CONFLICTS: &[&str] = &[
     GRAMMAR,
-    Word(
-        "save",
-        Given::Value("save"),
-        "Writes the tokens of each conflict to a file of this folder",
-    ),
+    "--save save: Writes the tokens of each conflict to a file of this folder",
     FROM,
-    Word(
-        "strict",
-        Given::Flag,
-        "Ends with 1 where there is a conflict or a warning",
-    ),
+    "--strict: Ends with 1 where there is a conflict or a warning",
 ];
 
-const CHECK: &[Word] = &[
+const CHECK: &[&str] = &[
     GRAMMAR,
-    Word(
-        "tokens",
-        Given::Files,
-        "The tokens files, or with --lex texts; - is standard input",
-    ),
+    "tokens..: The tokens files, or with --lex texts; - is standard input",
     LEX,
     LIMIT,
     FROM,
-    Word(
-        "choice",
-        Given::Flag,
-        "Says whether the grammar is free of choices",
-    ),
-    Word(
-        "plain",
-        Given::Flag,
-        "Writes a plain line for the grammar and for each input",
-    ),
+    "--choice: Says whether the grammar is free of choices",
+    "--plain: Writes a plain line for the grammar and for each input",
 ];
 
-const PAGE: &[Word] = &[
+const PAGE: &[&str] = &[
     GRAMMAR,
     INPUT,
-    Word(
-        "file",
-        Given::Short('o'),
-        "The file that the page goes to; without it, standard output",
-    ),
+    "-o file: The file that the page goes to; without it, standard output",
     LEX,
     LIMIT,
-    Word(
-        "from",
-        Given::Again("from"),
-        "The first position that it shows; bison: as elsewhere",
-    ),
-    Word("to", Given::Value("to"), "The last position that it shows"),
-    Word(
-        "conflicts",
-        Given::Flag,
-        "Shows the conflicts of the grammar too",
-    ),
+    "--from from..: The first position that it shows; bison: as elsewhere",
+    "--to to: The last position that it shows",
+    "--conflicts: Shows the conflicts of the grammar too",
 ];
 
-const TOKENS: &[Word] = &[
+const TOKENS: &[&str] = &[
     GRAMMAR,
-    Word("tokens", Given::File("input"), "The text"),
-    Word("lex", Given::Required("SPEC"), HOW_TOKENS_LOOK),
+    "tokens input: The text",
+    "--lex SPEC!: The file that says how the tokens of a text look",
     LIMIT,
     FROM,
 ];
 
-const SKETCH: &[Word] = &[GRAMMAR, FROM];
+const SKETCH: &[&str] = &[GRAMMAR, FROM];
 
-const IMPORT: &[Word] = &[
-    Word("file", Given::File("file"), "The file of bison or byacc"),
-    Word(
-        "output",
-        Given::Short('o'),
-        "Writes the grammar to this file",
-    ),
+const IMPORT: &[&str] = &[
+    "file: The file of bison or byacc",
+    "-o output: Writes the grammar to this file",
 ];
 
-const RULES: &[Word] = &[
+const RULES: &[&str] = &[
     GRAMMAR,
-    Word(
-        "header",
-        Given::Value("FILE"),
-        "Writes the names as a header in C to this file",
-    ),
-    Word(
-        "python",
-        Given::Value("FILE"),
-        "Writes them as a module in Python to this file",
-    ),
+    "--header FILE: Writes the names as a header in C to this file",
+    "--python FILE: Writes them as a module in Python to this file",
     FROM,
 ];
 
-const TABLE: &[Word] = &[
+const TABLE: &[&str] = &[
     GRAMMAR,
-    Word(
-        "report",
-        Given::Letter('v'),
-        "Writes the report on states too",
-    ),
-    Word(
-        "prefix",
-        Given::Short('b'),
-        "What the names of the files begin with; without it, y",
-    ),
+    "-v: Writes the report on states too",
+    "-b prefix: What the names of the files begin with; without it, y",
 ];
 
-/// The argument that a word is.
-fn argument<'a>(alloc: Global, word: &Word) -> Arg<'a> {
-    let Word(name, given, help) = *word;
-    let arg = Arg::new(alloc, name).action(ArgAction::Set).help(help);
-    match given {
-        Given::File(shown) => arg.required(true).value_name(shown),
-        Given::Files => arg.required(true).num_args(1..),
-        Given::Flag => arg.long(name).action(ArgAction::SetTrue),
-        Given::Value(shown) => arg.long(name).value_name(shown),
-        Given::Required(shown) => arg.long(name).value_name(shown).required(true),
-        Given::Again(shown) => arg.long(name).value_name(shown).action(ArgAction::Append),
-        Given::Letter(letter) => arg.short(letter).action(ArgAction::SetTrue),
-        Given::Short(letter) => arg.short(letter),
+/// An argument as it is spelled here, and what help says of it.
+fn halves(wanted: &'static str) -> (&'static str, &'static str) {
+    wanted.split_once(": ").unwrap_or((wanted, ""))
+}
+
+/// The option that an argument is, without its two dashes, where it is one.
+pub fn option_of(wanted: &'static str) -> Option<&'static str> {
+    let option = halves(wanted).0.strip_prefix("--")?;
+    Some(option.split_once(' ').map_or(option, |(name, _)| name))
+}
+
+/// An option with a value of this spelling: with `!` it is required, with dots it may be given
+/// again. Without a value it is a flag.
+fn with_value<'a>(arg: Arg<'a>, value: &'static str) -> Arg<'a> {
+    match (value.strip_suffix("!"), value.strip_suffix("..")) {
+        (Some(shown), _) => arg.value_name(shown).required(true),
+        (_, Some(shown)) => arg.value_name(shown).action(ArgAction::Append),
+        _ if value.is_empty() => arg.action(ArgAction::SetTrue),
+        _ => arg.value_name(value),
+    }
+}
+
+/// An argument of this name that is given once.
+fn named<'a>(alloc: Global, name: &'static str, help: &'static str) -> Arg<'a> {
+    Arg::new(alloc, name).action(ArgAction::Set).help(help)
+}
+
+/// An argument as clap has it: a name, and the one that help shows where that is another, are a
+/// file, which is required, and with dots several; a letter after a dash has the name of its value,
+/// where it has one.
+fn argument<'a>(alloc: Global, wanted: &'static str) -> Arg<'a> {
+    let (spelled, help) = halves(wanted);
+    let (front, value) = spelled.split_once(' ').unwrap_or((spelled, ""));
+    if let Some(name) = front.strip_prefix("--") {
+        return with_value(named(alloc, name, help).long(name), value);
+    }
+
+    match (front.strip_prefix("-"), front.strip_suffix("..")) {
+        (Some("v"), _) => named(alloc, "v", help)
+            .short('v')
+            .action(ArgAction::SetTrue),
+        (Some("o"), _) => named(alloc, value, help).short('o'),
+        (Some(_), _) => named(alloc, value, help).short('b'),
+        (None, Some(name)) => named(alloc, name, help).required(true).num_args(1..),
+        (None, None) => {
+            let shown = if value.is_empty() { front } else { value };
+            named(alloc, front, help).required(true).value_name(shown)
+        }
     }
 }
 
@@ -267,7 +181,7 @@ fn argument<'a>(alloc: Global, word: &Word) -> Arg<'a> {
 fn about(form: Form) -> &'static str {
     match form {
         Form::Debug => "Steps a parse forward and back for a person at a terminal",
-        Form::Conflicts => "Explains the conflicts of a grammar, and warns of what it has in vain",
+        Form::Conflicts => "Explains the conflicts of a grammar, and warns of what it doesn't use",
         Form::Check => "Says of each input whether it is a sentence of a grammar",
         Form::Page => "Makes a page in HTML of a parse, to be looked at in a browser",
         Form::Import => "Makes a grammar file of bison or byacc one that yacc reads",
@@ -278,17 +192,8 @@ fn about(form: Form) -> &'static str {
     }
 }
 
-/// The command line of a form with these words.
-fn with_words<'a>(alloc: Global, form: Form, words: &[Word]) -> Result<Command<'a>, AllocError> {
-    let mut command = Command::new(alloc, name_of(form)).about(about(form));
-    for word in words {
-        command = command.arg(argument(alloc, word))?;
-    }
-    Ok(command)
-}
-
-/// The words of a form.
-pub fn words_of(form: Form) -> &'static [Word] {
+/// The arguments of a form.
+pub fn arguments_of(form: Form) -> &'static [&'static str] {
     match form {
         Form::Debug => DEBUG,
         Form::Conflicts => CONFLICTS,
@@ -302,9 +207,13 @@ pub fn words_of(form: Form) -> &'static [Word] {
     }
 }
 
-/// The command line of a form. Help on the first one names the others.
-pub fn command_of<'a>(alloc: Global, form: Form) -> Result<Command<'a>, AllocError> {
-    let command = with_words(alloc, form, words_of(form))?;
+/// The command line of a form, which the program has under this name. Help on the first one names
+/// the others.
+pub fn command_of<'a>(alloc: Global, name: &'a str, form: Form) -> Result<Command<'a>, AllocError> {
+    let mut command = Command::new(alloc, name).about(about(form));
+    for word in arguments_of(form) {
+        command = command.arg(argument(alloc, *word))?;
+    }
     match form {
         Form::Debug => Ok(command.version(VERSION).after_help(FORMS)),
         _ => Ok(command),

@@ -1,6 +1,6 @@
 //! What could be meant by words that are no command and no option.
 
-use crate::forms::{BY_WORD, Form, words_of};
+use crate::forms::{BY_WORD, Form, arguments_of, option_of};
 use std::alloc::{AllocError, Global};
 use std::fs;
 use std::io::{self, Write};
@@ -15,7 +15,7 @@ fn near_option<'a>(
     name: &'a str,
 ) -> Result<Option<&'a str>, AllocError> {
     let mut search = Search::new(name.as_bytes());
-    for option in words_of(form).iter().filter_map(|word| word.option()) {
+    for option in arguments_of(form).iter().filter_map(|it| option_of(*it)) {
         if option == name {
             return Ok(None);
         }
@@ -39,19 +39,15 @@ fn put_near_option<W: Write>(alloc: Global, out: &mut W, form: Form, word: &str)
     }
 }
 
-/// Whether a word is the path of a file, or is spelled as no command can be.
-fn is_path<F: Files>(rt: &F, word: &str) -> bool {
-    word.contains('/') || fs::metadata(rt, word).is_ok()
-}
-
-/// Asks whether a command was meant by the first word of a session, where that is no file.
+/// Asks whether a command was meant by the first word of a session, where that is no file, and no
+/// path either.
 pub fn put_near_form<F: Files + AllocGlobal, W: Write>(
     rt: &F,
     out: &mut W,
     word: &str,
 ) -> io::Result<()> {
     match near_in(rt.alloc(), &BY_WORD, word)? {
-        Some(near) if !is_path(rt, word) => {
+        Some(near) if !word.contains('/') && fs::metadata(rt, word).is_err() => {
             writeln!(
                 out,
                 "ydebug: there is no command {word}; did you mean {near}?"

@@ -3,7 +3,7 @@
 use std::io::{self, ErrorKind, Write};
 use std::rt::Files;
 use yfolder::Disk;
-use ygenerate::generate::{GenerateFault, Text, generate};
+use ygenerate::generate::{GenerateFault, generate};
 use yinput::grammars::{GrammarFile, open_file};
 use ytables::Counts;
 
@@ -33,26 +33,6 @@ fn put_conflicts<E: Write>(errors: &mut E, counts: Counts) -> io::Result<()> {
     )
 }
 
-/// Writes why a grammar file has no tables, which is found once more, and gives the exit status.
-/// Where nothing is wrong with it, memory ran out.
-fn refuse_grammar<F: Files + AllocGlobal, E: Write>(
-    rt: &F,
-    path: &str,
-    errors: &mut E,
-) -> io::Result<u8> {
-    match open_file(rt, GrammarFile { path, bison: false }, errors)? {
-        Ok(_) => Err(io::Error::from(ErrorKind::OutOfMemory)),
-        Err(status) => Ok(status),
-    }
-}
-
-/// Writes that the file of a text can't be written, and gives the exit status.
-fn refuse_file<E: Write>(prefix: &str, text: Text, errors: &mut E) -> io::Result<u8> {
-    let ending = text.ending();
-    writeln!(errors, "ydebug: cannot write {prefix}{ending}")?;
-    Ok(3)
-}
-
 /// Writes the files, and gives the exit status: 0; 1 where the grammar is refused; 3 where a file
 /// can't be read or written, memory runs out, or there are too many states.
 pub fn run_table<F: Files + AllocGlobal, E: Write>(
@@ -60,18 +40,20 @@ pub fn run_table<F: Files + AllocGlobal, E: Write>(
     asked: Asked<'_>,
     errors: &mut E,
 ) -> io::Result<u8> {
-    let mut disk = Disk::new(rt);
-    match generate(
-        rt.alloc(),
-        &mut disk,
-        asked.grammar,
-        asked.prefix,
-        asked.report,
-    ) {
+    let (path, prefix) = (asked.grammar, asked.prefix);
+    match generate(rt.alloc(), &mut Disk::new(rt), path, prefix, asked.report) {
         Ok(counts) => put_conflicts(errors, counts).map(|()| 0),
-        Err(GenerateFault::Source(_)) => refuse_grammar(rt, asked.grammar, errors),
+        // What is wrong is found once more; where nothing is, memory ran out.
+        Err(GenerateFault::Source(_)) => {
+            match open_file(rt, GrammarFile { path, bison: false }, errors)? {
+                Ok(_) => Err(io::Error::from(ErrorKind::OutOfMemory)),
+                Err(status) => Ok(status),
+            }
+        }
         Err(GenerateFault::Unopened(text) | GenerateFault::Unwritten(text)) => {
-            refuse_file(asked.prefix, text, errors)
+            let ending = text.ending();
+            writeln!(errors, "ydebug: cannot write {prefix}{ending}")?;
+            Ok(3)
         }
         Err(GenerateFault::NoRoom(_)) => Err(io::Error::from(ErrorKind::OutOfMemory)),
     }

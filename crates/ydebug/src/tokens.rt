@@ -42,27 +42,6 @@ fn put_tokens<W: Write>(
     writeln!(out)
 }
 
-/// Writes the tokens of a text of a language, and gives the exit status.
-fn put_input<F: Files + AllocGlobal, W: Write, E: Write>(
-    rt: &F,
-    language: &Language,
-    grammar: &str,
-    input: Limited<'_>,
-    out: &mut W,
-    errors: &mut E,
-) -> io::Result<u8> {
-    match language.read(rt, input)? {
-        Ok(input) => {
-            if let Some(text) = &input.text {
-                let grammar = grammar_of(&language.opened.tables);
-                put_tokens(out, grammar, &input.tokens.symbols, text)?;
-            }
-            Ok(0)
-        }
-        Err(fault) => fault.put(rt, errors, grammar, &language.opened),
-    }
-}
-
 /// Writes a tokens file of a text that a SPEC cuts, and gives the exit status: 1 where the grammar,
 /// the SPEC or the text is refused, 3 where one can't be read or memory runs out.
 pub fn run_tokens<F: Files + AllocGlobal, W: Write, E: Write>(
@@ -72,8 +51,18 @@ pub fn run_tokens<F: Files + AllocGlobal, W: Write, E: Write>(
     out: &mut W,
     errors: &mut E,
 ) -> io::Result<u8> {
-    match Language::open(rt, files, errors)? {
-        Ok(language) => put_input(rt, &language, files.grammar.path, input, out, errors),
-        Err(status) => Ok(status),
+    let language = match Language::open(rt, files, errors)? {
+        Ok(language) => language,
+        Err(status) => return Ok(status),
+    };
+    let opened = &language.opened;
+    match language.read(rt, input)? {
+        Ok(input) => {
+            if let Some(text) = &input.text {
+                put_tokens(out, grammar_of(&opened.tables), &input.tokens.symbols, text)?;
+            }
+            Ok(0)
+        }
+        Err(fault) => fault.put(rt, errors, files.grammar.path, opened),
     }
 }

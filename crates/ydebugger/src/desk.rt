@@ -1,15 +1,10 @@
 //! The loop over command lines.
 
-use crate::conflicts::put_conflicts;
 use crate::edits::{drop_next, insert, save};
-use crate::expected::put_expected;
 use crate::moves::make_move;
 use crate::reload::reload;
 use crate::text::{put_ahead, put_upcoming};
-use crate::views::{
-    refuse_name, show_derivation, show_history, show_rule, show_state, show_symbol, show_tree,
-    show_why,
-};
+use crate::views::View;
 use std::alloc::{AllocError, Global};
 use std::io::{self, BufReader, ErrorKind, Read, Write};
 use std::rt::Files;
@@ -46,61 +41,57 @@ enum Flow {
 
 /// A session with a person.
 #[derive(Drop)]
-struct Desk<'a, F> {
+struct Desk<'a, F, W> {
     source: &'a Source<'a, F>,
     setting: Setting,
     parse: Parse,
+    page: Page<W>,
     last: Option<Move>,
 }
 
-impl<F: Files + AllocGlobal> Desk<'_, F> {
+impl<F: Files + AllocGlobal, W: Write> Desk<'_, F, W> {
     fn alloc(&self) -> Global {
         self.source.rt.alloc()
     }
 
+    /// The parse to be looked at.
+    fn view(&mut self) -> View<'_, W> {
+        View {
+            alloc: self.source.rt.alloc(),
+            parse: &self.parse,
+            page: &mut self.page,
+        }
+    }
+
     /// Makes a move, which an empty line then repeats.
-    fn go<W: Write>(&mut self, page: &mut Page<W>, wanted: Move) -> Result<(), AllocError> {
+    fn go(&mut self, wanted: Move) -> Result<(), AllocError> {
+        let (alloc, progress) = (self.alloc(), self.setting.terminal);
         self.last = Some(wanted);
-        make_move(
-            self.alloc(),
-            &mut self.parse,
-            page,
-            wanted,
-            self.setting.terminal,
-        )
+        make_move(alloc, &mut self.parse, &mut self.page, wanted, progress)
     }
 
     /// Makes the move that a command means.
-    fn travel<W: Write>(
-        &mut self,
-        page: &mut Page<W>,
-        verb: Verb,
-        text: &str,
-    ) -> Result<(), AllocError> {
+    fn travel(&mut self, verb: Verb, text: &str) -> Result<(), AllocError> {
         match move_of(self.parse.session(), self.parse.tokens(), verb, text) {
-            Ok(wanted) => self.go(page, wanted),
+            Ok(wanted) => self.go(wanted),
             Err(Refusal::NoNumber) => {
-                put_refusal(page, misused(verb));
+                put_refusal(&mut self.page, misused(verb));
                 Ok(())
             }
             Err(refusal) => {
                 let name = name_at_fault(text, refusal);
-                refuse_name(self.alloc(), self.parse.session(), page, name, refusal)
+                self.view().refuse_name(name, refusal)
             }
         }
     }
 
     /// Changes the upcoming tokens, or writes them to a file.
-    fn edit<W: Write>(
-        &mut self,
-        page: &mut Page<W>,
-        verb: Verb,
-        text: &str,
-    ) -> Result<(), AllocError> {
+    fn edit(&mut self, verb: Verb, text: &str) -> Result<(), AllocError> {
+        let (alloc, page) = (self.alloc(), &mut self.page);
         let wants_word = verb != Verb::Drop;
         match verb {
             _ if wants_word == text.is_empty() => put_refusal(page, misused(verb)),
-            Verb::Insert => return insert(self.alloc(), &mut self.parse, page, text),
+            Verb::Insert => return insert(alloc, &mut self.parse, page, text),
             Verb::Drop => drop_next(&mut self.parse, page),
             verb => {
                 let over = verb == Verb::SaveOver;
@@ -110,9 +101,9 @@ impl<F: Files + AllocGlobal> Desk<'_, F> {
         Ok(())
     }
 
-    /// Shows what needs no words behind the command.
-    fn look<W: Write>(&mut self, page: &mut Page<W>, verb: Verb) -> Result<(), AllocError> {
-        let parse = &self.parse;
+    /// Shows what needs no arguments of the command.
+    fn look(&mut self, verb: Verb) -> Result<(), AllocError> {
+        let (parse, page) = (&self.parse, &mut self.page);
         match verb {
             Verb::Where => {
                 put_where(page, parse.session(), parse.tokens());
@@ -120,9 +111,9 @@ impl<F: Files + AllocGlobal> Desk<'_, F> {
             }
             Verb::Stack => put_stack(page, parse.session()),
             Verb::Upcoming => put_upcoming(page, parse),
-            Verb::Expected => return put_expected(self.alloc(), page, parse.session()),
+            Verb::Expected => return self.view().show_expected(),
             Verb::Grammar => put_grammar(page, parse.tables(), parse.lines()),
-            Verb::Conflicts => return put_conflicts(self.alloc(), page, parse),
+            Verb::Conflicts => return self.view().show_conflicts(),
             // These are answered before. Each stands here, so that a new command has its answer
             // or doesn't compile.
             Verb::Step | Verb::Back | Verb::To | Verb::Run | Verb::Quit | Verb::Reload => {}
@@ -133,133 +124,100 @@ impl<F: Files + AllocGlobal> Desk<'_, F> {
         Ok(())
     }
 
-    /// Shows what words behind the command ask for.
-    fn show<W: Write>(
-        &mut self,
-        page: &mut Page<W>,
-        verb: Verb,
-        text: &str,
-    ) -> Result<(), AllocError> {
-        let alloc = self.alloc();
-        let parse = &self.parse;
+    /// Shows what the arguments of the command ask for.
+    fn show(&mut self, verb: Verb, text: &str) -> Result<(), AllocError> {
         match verb {
-            Verb::State => show_state(parse, page, text),
-            Verb::Why => return show_why(alloc, parse, page, text),
-            Verb::Rule => show_rule(parse, page, text),
-            Verb::Symbol => return show_symbol(alloc, parse, page, text),
-            Verb::Tree => return show_tree(alloc, parse, page, text),
-            Verb::Derivation => return show_derivation(alloc, parse, page, text),
-            Verb::History => show_history(parse, page, text),
-            Verb::Help => return show_help(alloc, page, text),
-            verb if text.is_empty() => return self.look(page, verb),
-            verb => put_refusal(page, misused(verb)),
+            Verb::State => self.view().show_state(text),
+            Verb::Why => return self.view().show_why(text),
+            Verb::Rule => self.view().show_rule(text),
+            Verb::Symbol => return self.view().show_symbol(text),
+            Verb::Tree => return self.view().show_tree(text),
+            Verb::Derivation => return self.view().show_derivation(text),
+            Verb::History => self.view().show_history(text),
+            Verb::Help => return show_help(self.source.rt.alloc(), &mut self.page, text),
+            verb if text.is_empty() => return self.look(verb),
+            verb => put_refusal(&mut self.page, misused(verb)),
         }
         Ok(())
     }
 
-    /// Reads both files again.
-    fn renew<W: Write>(&mut self, page: &mut Page<W>, text: &str) -> io::Result<()> {
-        if !text.is_empty() {
-            put_refusal(page, misused(Verb::Reload));
-            return Ok(());
-        }
-        self.last = None;
-        reload(page, &mut self.parse, self.source)
-    }
-
-    /// Does what a command and the words behind it say.
-    fn obey<W: Write>(&mut self, page: &mut Page<W>, verb: Verb, text: &str) -> io::Result<Flow> {
+    /// Does what a command and its arguments say.
+    fn obey(&mut self, verb: Verb, text: &str) -> io::Result<Flow> {
         match verb {
             Verb::Quit if text.is_empty() => return Ok(Flow::Quits),
-            Verb::Step | Verb::Back | Verb::To | Verb::Run => self.travel(page, verb, text)?,
-            Verb::Insert | Verb::Drop | Verb::Save | Verb::SaveOver => {
-                self.edit(page, verb, text)?;
+            Verb::Step | Verb::Back | Verb::To | Verb::Run => self.travel(verb, text)?,
+            Verb::Insert | Verb::Drop | Verb::Save | Verb::SaveOver => self.edit(verb, text)?,
+            Verb::Reload if text.is_empty() => {
+                self.last = None;
+                reload(&mut self.page, &mut self.parse, self.source)?;
             }
-            Verb::Reload => self.renew(page, text)?,
-            verb => self.show(page, verb, text)?,
+            verb => self.show(verb, text)?,
         }
         Ok(Flow::GoesOn)
     }
 
-    /// Repeats the last move, where there was one.
-    fn repeat<W: Write>(&mut self, page: &mut Page<W>) -> Result<(), AllocError> {
-        match self.last {
-            Some(wanted) => self.go(page, wanted),
-            None => Ok(()),
-        }
-    }
-
-    /// Answers a line.
-    fn answer<W: Write>(&mut self, page: &mut Page<W>, line: &str) -> io::Result<Flow> {
+    /// Answers a line; an empty one repeats the last move, where there was one.
+    fn answer(&mut self, line: &str) -> io::Result<Flow> {
         let (word, text) = first_word(line);
-        match verb_of(word) {
-            _ if word.is_empty() => self.repeat(page)?,
-            Found::One(verb) => return self.obey(page, verb, text),
-            Found::Many => put_candidates(page, word),
-            Found::Nothing => put_unknown(self.alloc(), page, word)?,
+        match (verb_of(word), self.last) {
+            (_, Some(wanted)) if word.is_empty() => self.go(wanted)?,
+            (_, None) if word.is_empty() => {}
+            (Found::One(verb), _) => return self.obey(verb, text),
+            (Found::Many, _) => put_candidates(&mut self.page, word),
+            (Found::Nothing, _) => put_unknown(self.source.rt.alloc(), &mut self.page, word)?,
         }
         Ok(Flow::GoesOn)
     }
 
     /// Answers a line, also where there is no memory for what it asks.
-    fn serve<W: Write>(&mut self, page: &mut Page<W>, line: &[u8]) -> io::Result<Flow> {
+    fn serve(&mut self, line: &[u8]) -> io::Result<Flow> {
         let Ok(line) = str::from_utf8(line) else {
-            page.line("That line is no text.");
+            self.page.line("That line is no text.");
             return Ok(Flow::GoesOn);
         };
-        match self.answer(page, line) {
+        match self.answer(line) {
             Err(error) if error.kind() == ErrorKind::OutOfMemory => {
-                if page.column() > 0 {
-                    page.end();
+                if self.page.column() > 0 {
+                    self.page.end();
                 }
-                put_refusal(page, Refusal::Memory);
+                put_refusal(&mut self.page, Refusal::Memory);
                 Ok(Flow::GoesOn)
             }
             answered => answered,
         }
     }
 
-    /// Asks for a line where a person sits at a terminal. The answer is the page's fault.
-    fn prompt<W: Write>(&self, page: &mut Page<W>) -> io::Result<()> {
+    /// Asks for a line where a person sits at a terminal, reads it and answers it.
+    fn turn<R: Read>(&mut self, reader: &mut BufReader<R>, line: &mut Vec<u8>) -> io::Result<Flow> {
         if self.setting.terminal {
-            page.painted(Paint::Strong, "(ydebug) ");
+            self.page.painted(Paint::Strong, "(ydebug) ");
         }
-        page.flush()
-    }
-
-    /// Reads a line and answers it.
-    fn turn<R: Read, W: Write>(
-        &mut self,
-        reader: &mut BufReader<R>,
-        line: &mut Vec<u8>,
-        page: &mut Page<W>,
-    ) -> io::Result<Flow> {
-        self.prompt(page)?;
+        self.page.flush()?;
         let came = next_line(reader, line)?;
         if came != Came::End {
-            page.fresh();
+            self.page.fresh();
         }
         match came {
             Came::End => {
                 if self.setting.terminal {
-                    page.end();
+                    self.page.end();
                 }
                 Ok(Flow::Quits)
             }
             Came::Long => {
-                page.line("That line is too long.");
+                self.page.line("That line is too long.");
                 Ok(Flow::GoesOn)
             }
-            Came::Line => self.serve(page, line),
+            Came::Line => self.serve(line),
         }
     }
 
     /// Greets a person at a terminal.
-    fn greet<W: Write>(&self, page: &mut Page<W>) {
+    fn greet(&mut self) {
         if !self.setting.terminal {
             return;
         }
-        let tables = self.parse.tables();
+        let (tables, page) = (self.parse.tables(), &mut self.page);
         let counts = tables.conflicts();
         let conflicts = counts.shift_reduce.saturating_add(counts.reduce_reduce);
         page.count(last_rule(grammar_of(tables)), "rule, ", "rules, ");
@@ -271,31 +229,20 @@ impl<F: Files + AllocGlobal> Desk<'_, F> {
 }
 
 /// Greets, and answers lines up to `quit` or the end of the input.
-fn turns<F: Files + AllocGlobal, R: Read, W: Write>(
-    desk: &mut Desk<'_, F>,
-    page: &mut Page<W>,
-    reader: &mut BufReader<R>,
-    line: &mut Vec<u8>,
-) -> io::Result<()> {
-    desk.greet(page);
-    for _ in 0..u64::MAX {
-        if desk.turn(reader, line, page)? == Flow::Quits {
-            break;
-        }
-    }
-    page.flush()
-}
-
-/// Makes room for lines, and answers them.
 fn serve_all<F: Files + AllocGlobal, R: Read + Drop, W: Write>(
-    desk: &mut Desk<'_, F>,
-    page: &mut Page<W>,
+    desk: &mut Desk<'_, F, W>,
     reader: R,
 ) -> io::Result<()> {
     let alloc = desk.alloc();
     let mut line = Vec::with_capacity(alloc, LONGEST)?;
     let mut reader = BufReader::new(alloc, reader)?;
-    turns(desk, page, &mut reader, &mut line)
+    desk.greet();
+    for _ in 0..u64::MAX {
+        if desk.turn(&mut reader, &mut line)? == Flow::Quits {
+            break;
+        }
+    }
+    desk.page.flush()
 }
 
 /// A session over a parse: command lines from the reader, what they show to the writer, up to
@@ -309,15 +256,12 @@ pub fn debug<F: Files + AllocGlobal, R: Read + Drop, W: Write + Drop>(
     reader: R,
     writer: W,
 ) -> io::Result<()> {
-    let mut page = Page::new(writer, setting.colour);
     let mut desk = Desk {
         source,
         setting,
         parse,
+        page: Page::new(writer, setting.colour),
         last: None,
     };
-    let ended = serve_all(&mut desk, &mut page, reader);
-    drop(desk);
-    drop(page);
-    ended
+    serve_all(&mut desk, reader)
 }

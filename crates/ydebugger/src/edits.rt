@@ -1,7 +1,7 @@
 //! Edits of the upcoming tokens, and the tokens as a file.
 
 use crate::history::put_tokens;
-use crate::views::refuse_name;
+use crate::views::View;
 use std::alloc::{AllocError, Global};
 use std::io::{self, ErrorKind, Write};
 use std::rt::Files;
@@ -31,7 +31,10 @@ pub fn insert<W: Write>(
 ) -> Result<(), AllocError> {
     match parse.insert(name.as_bytes()) {
         Ok(Some(kind)) => put_edit(page, parse, Ok(kind)),
-        Ok(None) => return refuse_name(alloc, parse.session(), page, name, Refusal::NoInput),
+        Ok(None) => {
+            let parse = &*parse;
+            return View { alloc, parse, page }.refuse_name(name, Refusal::NoInput);
+        }
         Err(fault) => put_edit(page, parse, Err(fault)),
     }
     Ok(())
@@ -43,22 +46,17 @@ pub fn drop_next<W: Write>(parse: &mut Parse, page: &mut Page<W>) {
     put_edit(page, parse, made);
 }
 
-/// The whole input with its edits, as the text of a tokens file.
-fn text_of(alloc: Global, parse: &Parse) -> io::Result<Vec<u8>> {
-    let mut page = Page::new(Vec::new(alloc), false);
-    put_tokens(&mut page, parse);
-    page.checked()?;
-    Ok(page.into_out())
-}
-
-/// Writes the tokens, edits included, to a file. Without `over` there must be no such file.
+/// Writes the tokens, edits included, to a tokens file. Without `over` there must be no such file.
 fn save_tokens<F: Files + AllocGlobal>(
     rt: &F,
     parse: &Parse,
     path: &str,
     over: bool,
 ) -> io::Result<()> {
-    let text = text_of(rt.alloc(), parse)?;
+    let mut page = Page::new(Vec::new(rt.alloc()), false);
+    put_tokens(&mut page, parse);
+    page.checked()?;
+    let text = page.into_out();
     if over {
         write_over(rt, path, &text)
     } else {

@@ -70,13 +70,11 @@ fn put_read<W: Write>(page: &mut Page<W>, parse: &Parse) {
 
 /// The whole input with its edits, in the form of a tokens file.
 pub fn put_tokens<W: Write>(page: &mut Page<W>, parse: &Parse) {
-    let grammar = grammar_of(parse.tables());
+    let (grammar, session) = (grammar_of(parse.tables()), parse.session());
     put_read(page, parse);
-    for index in 0..parse.session().view().rest_len() {
-        page.word(
-            0,
-            name_of(grammar, upcoming_token(parse.session(), index).0),
-        );
+    for index in 0..session.view().rest_len() {
+        let (token, _) = upcoming_token(session, index);
+        page.word(0, name_of(grammar, token));
     }
     page.end();
 }

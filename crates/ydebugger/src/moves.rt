@@ -1,12 +1,11 @@
 //! Moves: steps forward and back, and to where a condition holds.
 
-use crate::tail::Tail;
 use crate::text::put_ahead;
 use std::alloc::{AllocError, Global};
 use std::io::Write;
 use ycommands::condition::{Condition, put_cell};
 use ycommands::refusal::fault_words;
-use ycommands::travel::{LAST, Move, is_to, tells_each, until_of};
+use ycommands::travel::{LAST, Move, tells_each, until_of};
 use yinput::Parse;
 use yparse::machine::{StepFault, StepKind};
 use yview::page::Page;
@@ -14,6 +13,8 @@ use yview::step_line::{StepLine, put_made};
 
 /// More steps than can be made.
 const FARTHEST: usize = LAST + 1;
+/// How many of the lines of a run are kept for its end.
+const KEPT: usize = 10;
 /// After how many steps a long run writes its position.
 const PROGRESS: usize = 50_000;
 
@@ -36,7 +37,8 @@ struct Telling {
     each: bool,
     progress: bool,
     made: usize,
-    tail: Tail,
+    /// The last lines.
+    tail: Vec<StepLine>,
 }
 
 impl Telling {
@@ -46,7 +48,7 @@ impl Telling {
             each,
             progress,
             made: 0,
-            tail: Tail::new(alloc)?,
+            tail: Vec::with_capacity(alloc, KEPT)?,
         })
     }
 
@@ -58,7 +60,10 @@ impl Telling {
             put_made(page, parse.session(), line);
             return;
         }
-        self.tail.add(line);
+        if self.tail.len() >= KEPT {
+            let _ = self.tail.remove(0);
+        }
+        let _ = self.tail.push(line);
         if self.progress && self.made % PROGRESS == 0 {
             page.passing("");
             page.number(line.position);
@@ -66,21 +71,18 @@ impl Telling {
         }
     }
 
-    /// Writes what was kept.
+    /// Writes what was kept, with two dots first where lines are left out.
     fn finish<W: Write>(&self, page: &mut Page<W>, parse: &Parse) {
         if self.progress && self.made >= PROGRESS {
             page.passing("        ");
             page.passing("");
         }
-        self.tail.put(page, parse.session());
-    }
-}
-
-/// Whether a condition is given and met.
-fn is_met(until: Option<Condition>, parse: &Parse, kind: StepKind) -> bool {
-    match until {
-        Some(condition) => condition.is_met(parse.session(), kind),
-        None => false,
+        if !self.each && self.made > KEPT {
+            page.line("   ..");
+        }
+        for line in &self.tail {
+            put_made(page, parse.session(), *line);
+        }
     }
 }
 
@@ -127,7 +129,8 @@ fn go<W: Write>(
             Err(end) => return end,
             Ok(kind) => {
                 telling.tell(page, parse, kind, course.back);
-                if is_met(course.until, parse, kind) {
+                let session = parse.session();
+                if course.until.map_or(false, |it| it.is_met(session, kind)) {
                     return End::Met;
                 }
                 if page.checked().is_err() {
@@ -139,46 +142,39 @@ fn go<W: Write>(
     End::Done
 }
 
-/// That a condition is met.
-fn put_met<W: Write>(page: &mut Page<W>, parse: &Parse, until: Condition) {
-    page.put("stopped: ");
-    match until {
-        Condition::Conflict => put_cell(page, parse.session()),
-        until => until.put(page, parse.session()),
+/// Whether the condition of a move was met.
+fn put_until<W: Write>(page: &mut Page<W>, parse: &Parse, until: Condition, end: End) {
+    match (end, until) {
+        (End::Met, Condition::Conflict) => {
+            page.put("stopped: ");
+            put_cell(page, parse.session());
+        }
+        (End::Met, until) => {
+            page.put("stopped: ");
+            until.put(page, parse.session());
+        }
+        (_, until) => {
+            page.put("No ");
+            until.put(page, parse.session());
+            page.put(" came on the way.");
+        }
     }
     page.end();
 }
 
-/// That a condition was never met.
-fn put_never<W: Write>(page: &mut Page<W>, parse: &Parse, until: Condition) {
-    page.put("No ");
-    until.put(page, parse.session());
-    page.line(" came on the way.");
-}
-
 /// How a move ended, where that isn't plain from its steps.
 fn put_end<W: Write>(page: &mut Page<W>, parse: &Parse, wanted: Move, end: End, made: usize) {
-    match (end, until_of(wanted)) {
-        (End::Met, Some(until)) => put_met(page, parse, until),
-        (_, Some(until)) => put_never(page, parse, until),
-        _ => {}
+    if let Some(until) = until_of(wanted) {
+        put_until(page, parse, until, end);
     }
     match end {
-        End::Refused(StepFault::Halted) if made > 0 && !is_to(wanted) => {}
+        End::Refused(StepFault::Halted) if made > 0 && !matches!(wanted, Move::To(_)) => {}
         End::Refused(fault) => page.line(fault_words(fault, parse.session().view().mode())),
         End::AtStart if made > 0 => {}
         End::AtStart => page.line("The parse is at its start."),
         End::Done if made == 0 => page.line("The parse is at that position already."),
         End::Done | End::Met => {}
     }
-}
-
-/// Makes a move, and tells it so.
-fn make_told<W: Write>(parse: &mut Parse, page: &mut Page<W>, telling: &mut Telling, wanted: Move) {
-    let course = course_of(parse.session().position(), wanted);
-    let end = go(parse, page, telling, course);
-    telling.finish(page, parse);
-    put_end(page, parse, wanted, end, telling.made);
 }
 
 /// Makes a move, and tells it. A long one tells its position on the way where `progress` is set.
@@ -190,7 +186,10 @@ pub fn make_move<W: Write>(
     progress: bool,
 ) -> Result<(), AllocError> {
     let mut telling = Telling::new(alloc, tells_each(wanted), progress)?;
-    make_told(parse, page, &mut telling, wanted);
+    let course = course_of(parse.session().position(), wanted);
+    let end = go(parse, page, &mut telling, course);
+    telling.finish(page, parse);
+    put_end(page, parse, wanted, end, telling.made);
     if !tells_each(wanted) {
         put_ahead(page, parse);
     }

@@ -45,63 +45,26 @@ fn redo(parse: &mut Parse, old: &Parse) -> Result<(), Stopped> {
     Ok(())
 }
 
-/// Where the old parse was, and why the new one isn't.
-fn put_stopped<W: Write>(page: &mut Page<W>, parse: &Parse, wanted: usize, stopped: Stopped) {
-    let _ = writeln!(page, " and not {wanted}.");
-    page.line(match stopped {
-        Stopped::Fault(fault) => fault_words(fault, parse.session().view().mode()),
-        Stopped::NoToken => "The grammar has no longer the token that was inserted.",
-    });
-}
-
-/// Where the new parse came to.
-fn put_reached<W: Write>(
-    page: &mut Page<W>,
-    parse: &Parse,
-    wanted: usize,
-    reached: Result<(), Stopped>,
-) {
-    let position = parse.session().position();
+/// Puts the new parse in the place of the old one, once its steps and edits are made again, and
+/// says where it came to; without memory for them, the old one stays.
+fn replace<W: Write>(page: &mut Page<W>, parse: &mut Parse, fresh: Parse) {
+    let mut fresh = fresh;
+    let why = match redo(&mut fresh, parse) {
+        Err(Stopped::Fault(StepFault::Memory)) => return put_refusal(page, Refusal::Memory),
+        Err(Stopped::Fault(fault)) => Some(fault_words(fault, fresh.session().view().mode())),
+        Err(Stopped::NoToken) => Some("The grammar has no longer the token that was inserted."),
+        Ok(()) => None,
+    };
+    let (wanted, position) = (parse.session().position(), fresh.session().position());
     let _ = write!(
         page,
         "Both files are read again; the position is {position}"
     );
-    match reached {
-        Ok(()) => page.line(", as before."),
-        Err(stopped) => put_stopped(page, parse, wanted, stopped),
-    }
-}
-
-/// Whether a step or an edit was refused since memory ran out.
-fn is_memory(reached: Result<(), Stopped>) -> bool {
-    match reached {
-        Err(Stopped::Fault(fault)) => fault == StepFault::Memory,
-        _ => false,
-    }
-}
-
-/// Where the new parse came to, or that there is no memory for it.
-fn put_outcome<W: Write>(
-    page: &mut Page<W>,
-    parse: &Parse,
-    wanted: usize,
-    reached: Result<(), Stopped>,
-) {
-    if is_memory(reached) {
-        put_refusal(page, Refusal::Memory);
-    } else {
-        put_reached(page, parse, wanted, reached);
-    }
-}
-
-/// Puts the new parse in the place of the old one, once its steps and edits are made again.
-fn replace<W: Write>(page: &mut Page<W>, parse: &mut Parse, fresh: Parse) {
-    let mut fresh = fresh;
-    let reached = redo(&mut fresh, parse);
-    put_outcome(page, &fresh, parse.session().position(), reached);
-    if !is_memory(reached) {
-        mem::swap(parse, &mut fresh);
-    }
+    let _ = match why {
+        Some(why) => writeln!(page, " and not {wanted}.\n{why}"),
+        None => writeln!(page, ", as before."),
+    };
+    mem::swap(parse, &mut fresh);
 }
 
 /// Reads both files again. Where one is refused, that is said, and the old parse stays.

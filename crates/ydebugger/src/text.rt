@@ -9,21 +9,15 @@ use yview::page::Page;
 use yview::place_view::{MANY, put_more};
 use yview::reading::{name_of, upcoming_token};
 
-/// The place of the first upcoming token that wasn't inserted.
-fn place_ahead(parse: &Parse) -> usize {
-    let session = parse.session();
-    (0..session.view().rest_len())
-        .map(|index| upcoming_token(session, index).1)
-        .find(|place| *place > 0)
-        .unwrap_or(0)
-}
-
-/// The line of the token ahead, with a mark under it, where the tokens were read from a text.
+/// The line of the first upcoming token that wasn't inserted, with a mark under it, where the
+/// tokens were read from a text.
 pub fn put_ahead<W: Write>(page: &mut Page<W>, parse: &Parse) {
     let Some(text) = parse.text() else {
         return;
     };
-    let place = text.place(place_ahead(parse));
+    let session = parse.session();
+    let mut numbers = (0..session.view().rest_len()).map(|at| upcoming_token(session, at).1);
+    let place = text.place(numbers.find(|number| *number > 0).unwrap_or(0));
     let (path, (line, column)) = (place.path, place.spot());
     let _ = writeln!(page, "{path}:{line}:{column}");
     // The page remembers a fault.
@@ -69,5 +63,5 @@ pub fn put_upcoming<W: Write>(page: &mut Page<W>, parse: &Parse) {
     for index in 0..count.min(MANY) {
         put_token(page, parse, parse.text(), &mut spots, index);
     }
-    put_more(page, count.saturating_sub(MANY), " tokens behind");
+    put_more(page, count.saturating_sub(MANY), " tokens after");
 }

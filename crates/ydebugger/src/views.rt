@@ -8,37 +8,42 @@ use ycommands::refusal::{Refusal, misused, put_refusal};
 use ycommands::travel::LAST;
 use ycommands::verb::Verb;
 use ycommands::words::first_word;
+use ycounterexample::groups::Conflicts;
 use yexplain::reads::grammar_of;
 use yexplain::sources::sources_of;
 use yexplain::why::{Question, explain};
 use yinput::Parse;
+use yinput::expected::{Wanted, expected};
 use yparse::Session;
 use yparse::machine::Mode;
 use yreasons::Reasons;
+use yreports::kinds::{put_counts, put_named, put_states};
+use ysymbols::{Grammar, Sym};
 use yview::derivation::{SOME_FORMS, put_derivation, size_of_derivation};
 use yview::grammar_view::Rules;
 use yview::page::Page;
-use yview::reading::{last_rule, last_state, token_ahead};
+use yview::reading::{last_rule, last_state, name_of, stack_state, token_ahead};
 use yview::state_view::put_state;
 use yview::symbol_view::put_symbol;
 use yview::tree_text::{SOME_LINES, put_tree, put_trees};
 
-/// Writes a refusal; how the command is used, where a word was no number.
-pub fn put_misuse<W: Write>(page: &mut Page<W>, verb: Verb, refusal: Refusal) {
-    match refusal {
-        Refusal::NoNumber => put_refusal(page, misused(verb)),
-        refusal => put_refusal(page, refusal),
-    }
-}
+/// The most bytes of a derivation that is written whole without a sign that this is meant.
+const LARGE: u64 = 100_000_000;
 
-/// A state, that of the stack where none is named.
-pub fn show_state<W: Write>(parse: &Parse, page: &mut Page<W>, text: &str) {
-    let session = parse.session();
-    match number_in(text, "states", 0, last_state(session.tables())) {
-        _ if text.is_empty() => put_state(page, session.tables(), session.state()),
-        Ok(state) => put_state(page, session.tables(), state),
-        Err(refusal) => put_misuse(page, Verb::State, refusal),
-    }
+/// How many kinds of conflicts are explained, and how many are named at most.
+const EXPLAINED: usize = 20;
+
+const NAMED: usize = 1_000;
+
+/// A parse that is looked at, and the page on which it is shown.
+#[derive(Drop)]
+pub struct View<'a, W> {
+    /// The allocator.
+    pub alloc: Global,
+    /// The parse.
+    pub parse: &'a Parse,
+    /// The page.
+    pub page: &'a mut Page<W>,
 }
 
 /// Why the cell doesn't say the next step, where it doesn't.
@@ -66,86 +71,36 @@ fn put_why<W: Write>(
     Ok(())
 }
 
-/// Why the cell of the state and the token ahead says what it says, or that of another token.
-pub fn show_why<W: Write>(
-    alloc: Global,
-    parse: &Parse,
-    page: &mut Page<W>,
-    text: &str,
-) -> Result<(), AllocError> {
-    let session = parse.session();
-    let asked = Question {
-        tables: session.tables(),
-        lines: parse.lines(),
-        state: session.state(),
-        token: token_ahead(session),
-    };
-    if text.is_empty() {
-        put_why(alloc, page, asked)?;
-        put_mode(page, session.view().mode());
-        return Ok(());
+/// The states of the stack from the bottom, the first state below it.
+fn states_of_stack(alloc: Global, session: &Session) -> Result<Vec<usize>, AllocError> {
+    let mut states = Vec::new(alloc);
+    states.push(0)?;
+    for index in 0..session.view().stack_len() {
+        states.push(stack_state(session, index))?;
     }
-    let Some(token) = token_named(session, text) else {
-        return refuse_name(alloc, session, page, text, Refusal::NoToken);
-    };
-    put_why(alloc, page, Question { token, ..asked })
+    Ok(states)
 }
 
-/// A rule.
-pub fn show_rule<W: Write>(parse: &Parse, page: &mut Page<W>, text: &str) {
-    let grammar = grammar_of(parse.tables());
-    let lines = parse.lines();
-    match number_in(text, "rules", 0, last_rule(grammar)) {
-        Ok(rule) => Rules { grammar, lines }.put_one(page, rule),
-        Err(refusal) => put_misuse(page, Verb::Rule, refusal),
+/// Tokens by name, as a list that ends its last line.
+fn put_names<W: Write>(page: &mut Page<W>, grammar: &Grammar, tokens: &[Sym]) {
+    for token in tokens {
+        page.word(0, name_of(grammar, *token));
     }
+    page.end();
 }
 
-/// The word that is near to the one for which a line was refused.
-fn nearest<'a>(
-    alloc: Global,
-    session: &'a Session,
-    name: &'a str,
-    refusal: Refusal,
-) -> Result<Option<&'a str>, AllocError> {
-    match refusal {
-        Refusal::NoCondition => condition_near(alloc, name),
-        Refusal::NoToken | Refusal::NoInput | Refusal::NoNonterminal | Refusal::NoSymbol => {
-            symbol_near(alloc, grammar_of(session.tables()), name, refusal)
-        }
-        _ => Ok(None),
+/// The tokens that can come, and those that take too many reductions to say.
+fn put_found<W: Write>(page: &mut Page<W>, grammar: &Grammar, found: &Wanted) {
+    if !found.can.is_empty() {
+        put_names(page, grammar, &found.can);
     }
-}
-
-/// Writes a refusal, and the word that is near to the one at fault.
-pub fn refuse_name<W: Write>(
-    alloc: Global,
-    session: &Session,
-    page: &mut Page<W>,
-    name: &str,
-    refusal: Refusal,
-) -> Result<(), AllocError> {
-    let near = nearest(alloc, session, name, refusal)?;
-    put_refusal(page, refusal);
-    if let Some(best) = near {
-        let _ = writeln!(page, "Did you mean {best}?");
+    if !found.unknown.is_empty() {
+        page.put("can't tell, since too many reductions come first:");
+        put_names(page, grammar, &found.unknown);
     }
-    Ok(())
-}
-
-/// A symbol.
-pub fn show_symbol<W: Write>(
-    alloc: Global,
-    parse: &Parse,
-    page: &mut Page<W>,
-    text: &str,
-) -> Result<(), AllocError> {
-    match symbol_named(parse.session(), text) {
-        _ if text.is_empty() => put_refusal(page, misused(Verb::Symbol)),
-        Some(symbol) => put_symbol(page, parse.tables(), parse.lines(), symbol),
-        None => return refuse_name(alloc, parse.session(), page, text, Refusal::NoSymbol),
+    if found.can.is_empty() && found.unknown.is_empty() {
+        page.line("No token can come here.");
     }
-    Ok(())
 }
 
 /// How many lines or forms are wanted: so many, all, or as many as usual.
@@ -157,85 +112,178 @@ fn amount(text: &str, usual: usize) -> Result<usize, Refusal> {
     }
 }
 
-/// The tree of an entry of the stack.
-fn show_entry<W: Write>(
-    alloc: Global,
-    parse: &Parse,
-    page: &mut Page<W>,
-    entry: &str,
-    most: usize,
-) -> Result<(), AllocError> {
-    let session = parse.session();
-    let entries = session.view().stack_len();
-    match number_in(entry, "entries", 1, entries) {
-        _ if entries == 0 => page.line("The stack is empty: there is no tree."),
-        Ok(entry) => return put_tree(alloc, page, session, entry, most),
-        Err(refusal) => put_misuse(page, Verb::Tree, refusal),
-    }
-    Ok(())
-}
-
-/// The trees of the stack, or that of one entry.
-pub fn show_tree<W: Write>(
-    alloc: Global,
-    parse: &Parse,
-    page: &mut Page<W>,
-    text: &str,
-) -> Result<(), AllocError> {
-    match first_word(text) {
-        ("", _) => put_trees(alloc, page, parse.session(), SOME_LINES),
-        ("all", "") => put_trees(alloc, page, parse.session(), usize::MAX),
-        (entry, "") => show_entry(alloc, parse, page, entry, SOME_LINES),
-        (entry, "all") => show_entry(alloc, parse, page, entry, usize::MAX),
-        _ => {
-            put_refusal(page, misused(Verb::Tree));
-            Ok(())
+impl<W: Write> View<'_, W> {
+    /// Writes a refusal; how the command is used, where a word was no number.
+    fn refuse(&mut self, verb: Verb, refusal: Refusal) {
+        match refusal {
+            Refusal::NoNumber => put_refusal(self.page, misused(verb)),
+            refusal => put_refusal(self.page, refusal),
         }
     }
-}
 
-/// The most bytes of a derivation that is written whole without a sign that this is meant.
-const LARGE: u64 = 100_000_000;
-
-/// All forms of the derivation up to here, or how many bytes they would take, where that is much.
-fn show_forms<W: Write>(
-    alloc: Global,
-    parse: &Parse,
-    page: &mut Page<W>,
-) -> Result<(), AllocError> {
-    let size = size_of_derivation(alloc, parse.session())?;
-    if size <= LARGE {
-        return put_derivation(alloc, page, parse.session(), usize::MAX);
+    /// Writes a refusal, and the word that is near to the one at fault.
+    pub fn refuse_name(&mut self, name: &str, refusal: Refusal) -> Result<(), AllocError> {
+        let parse = self.parse;
+        let near = match refusal {
+            Refusal::NoCondition => condition_near(self.alloc, name)?,
+            Refusal::NoToken | Refusal::NoInput | Refusal::NoNonterminal | Refusal::NoSymbol => {
+                symbol_near(self.alloc, grammar_of(parse.tables()), name, refusal)?
+            }
+            _ => None,
+        };
+        put_refusal(self.page, refusal);
+        if let Some(best) = near {
+            let _ = writeln!(self.page, "Did you mean {best}?");
+        }
+        Ok(())
     }
-    let _ = writeln!(
-        page,
-        "That would be {size} bytes; derivation all! writes them."
-    );
-    Ok(())
-}
 
-/// The rightmost derivation up to here.
-pub fn show_derivation<W: Write>(
-    alloc: Global,
-    parse: &Parse,
-    page: &mut Page<W>,
-    text: &str,
-) -> Result<(), AllocError> {
-    match amount(text, SOME_FORMS) {
-        _ if text == "all" => show_forms(alloc, parse, page),
-        _ if text == "all!" => put_derivation(alloc, page, parse.session(), usize::MAX),
-        Ok(most) => put_derivation(alloc, page, parse.session(), most),
-        Err(refusal) => {
-            put_misuse(page, Verb::Derivation, refusal);
-            Ok(())
+    /// A state, that of the stack where none is named.
+    pub fn show_state(&mut self, text: &str) {
+        let parse = self.parse;
+        let (tables, state) = (parse.tables(), parse.session().state());
+        match number_in(text, "states", 0, last_state(tables)) {
+            _ if text.is_empty() => put_state(self.page, tables, state),
+            Ok(state) => put_state(self.page, tables, state),
+            Err(refusal) => self.refuse(Verb::State, refusal),
         }
     }
-}
 
-/// The last steps and edits.
-pub fn show_history<W: Write>(parse: &Parse, page: &mut Page<W>, text: &str) {
-    match amount(text, SOME_STEPS) {
-        Ok(most) => put_history(page, parse, most),
-        Err(refusal) => put_misuse(page, Verb::History, refusal),
+    /// Why the cell of the state and the token ahead says what it says, or that of another token.
+    pub fn show_why(&mut self, text: &str) -> Result<(), AllocError> {
+        let parse = self.parse;
+        let session = parse.session();
+        let asked = Question {
+            tables: session.tables(),
+            lines: parse.lines(),
+            state: session.state(),
+            token: token_ahead(session),
+        };
+        if text.is_empty() {
+            put_why(self.alloc, self.page, asked)?;
+            put_mode(self.page, session.view().mode());
+            return Ok(());
+        }
+        let Some(token) = token_named(session, text) else {
+            return self.refuse_name(text, Refusal::NoToken);
+        };
+        put_why(self.alloc, self.page, Question { token, ..asked })
+    }
+
+    /// The tokens that can come here; none where the parse isn't running.
+    pub fn show_expected(&mut self) -> Result<(), AllocError> {
+        let parse = self.parse;
+        let (session, tables) = (parse.session(), parse.tables());
+        let none = match session.view().mode() {
+            Mode::Running => {
+                let states = states_of_stack(self.alloc, session)?;
+                let found = expected(self.alloc, tables, &states)?;
+                put_found(self.page, grammar_of(tables), &found);
+                return Ok(());
+            }
+            Mode::Popping => " while symbols are popped; go back and ask again.",
+            Mode::Accepted => ": the input is accepted.",
+            Mode::Failed => ": the parse has given up.",
+        };
+        let _ = writeln!(self.page, "No token can come{none}");
+        Ok(())
+    }
+
+    /// The conflicts of the tables by kinds: each with a cell, the first 20 explained.
+    pub fn show_conflicts(&mut self) -> Result<(), AllocError> {
+        let parse = self.parse;
+        let (tables, lines) = (parse.tables(), parse.lines());
+        let found = Conflicts::new(self.alloc, tables)?;
+        if found.cells == 0 {
+            self.page.line("The tables have no conflict.");
+            return Ok(());
+        }
+        put_counts(self.page, tables, &found);
+        for (kind, group) in found.groups.iter().take(EXPLAINED) {
+            // The page remembers a fault.
+            let _ = explain(self.page, kind.cell(*group, tables, lines));
+            put_states(self.page, *group);
+        }
+        put_named(self.page, tables, lines, &found, (EXPLAINED, NAMED));
+        Ok(())
+    }
+
+    /// A rule.
+    pub fn show_rule(&mut self, text: &str) {
+        let parse = self.parse;
+        let (grammar, lines) = (grammar_of(parse.tables()), parse.lines());
+        match number_in(text, "rules", 0, last_rule(grammar)) {
+            Ok(rule) => Rules { grammar, lines }.put_one(self.page, rule),
+            Err(refusal) => self.refuse(Verb::Rule, refusal),
+        }
+    }
+
+    /// A symbol.
+    pub fn show_symbol(&mut self, text: &str) -> Result<(), AllocError> {
+        let parse = self.parse;
+        match symbol_named(parse.session(), text) {
+            _ if text.is_empty() => put_refusal(self.page, misused(Verb::Symbol)),
+            Some(symbol) => put_symbol(self.page, parse.tables(), parse.lines(), symbol),
+            None => return self.refuse_name(text, Refusal::NoSymbol),
+        }
+        Ok(())
+    }
+
+    /// The tree of an entry of the stack.
+    fn show_entry(&mut self, entry: &str, most: usize) -> Result<(), AllocError> {
+        let parse = self.parse;
+        let entries = parse.session().view().stack_len();
+        match number_in(entry, "entries", 1, entries) {
+            _ if entries == 0 => self.page.line("The stack is empty: there is no tree."),
+            Ok(entry) => return put_tree(self.alloc, self.page, parse.session(), entry, most),
+            Err(refusal) => self.refuse(Verb::Tree, refusal),
+        }
+        Ok(())
+    }
+
+    /// The trees of the stack, or that of one entry.
+    pub fn show_tree(&mut self, text: &str) -> Result<(), AllocError> {
+        let parse = self.parse;
+        match first_word(text) {
+            ("", _) => put_trees(self.alloc, self.page, parse.session(), SOME_LINES),
+            ("all", "") => put_trees(self.alloc, self.page, parse.session(), usize::MAX),
+            (entry, "") => self.show_entry(entry, SOME_LINES),
+            (entry, "all") => self.show_entry(entry, usize::MAX),
+            _ => {
+                put_refusal(self.page, misused(Verb::Tree));
+                Ok(())
+            }
+        }
+    }
+
+    /// The rightmost derivation up to here; how many bytes all of it would take, where that is much
+    /// and all of it is wanted.
+    pub fn show_derivation(&mut self, text: &str) -> Result<(), AllocError> {
+        let parse = self.parse;
+        let most = match amount(text, SOME_FORMS) {
+            _ if text == "all!" => usize::MAX,
+            Ok(most) => most,
+            Err(refusal) => {
+                self.refuse(Verb::Derivation, refusal);
+                return Ok(());
+            }
+        };
+        if text == "all" {
+            let size = size_of_derivation(self.alloc, parse.session())?;
+            if size > LARGE {
+                let words = "bytes; derivation all! writes them.";
+                let _ = writeln!(self.page, "That would be {size} {words}");
+                return Ok(());
+            }
+        }
+        put_derivation(self.alloc, self.page, parse.session(), most)
+    }
+
+    /// The last steps and edits.
+    pub fn show_history(&mut self, text: &str) {
+        match amount(text, SOME_STEPS) {
+            Ok(most) => put_history(self.page, self.parse, most),
+            Err(refusal) => self.refuse(Verb::History, refusal),
+        }
     }
 }

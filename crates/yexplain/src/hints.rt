@@ -3,7 +3,7 @@
 
 use crate::lines::is_inner;
 use crate::reads::level_of;
-use crate::rivals::{Kinds, Pair, Rivals, around};
+use crate::rivals::{Kinds, Rivals, around};
 use crate::supposed::{BOTTOM, TOP, place_of};
 use std::io::{self, Write};
 use ycells::Candidate;
@@ -34,90 +34,64 @@ impl Rivals<'_> {
     pub fn put_banned<W: Write>(&self, out: &mut W) -> io::Result<()> {
         let reduces = self.reduces(self.with_word(Associativity::Left));
         let shifts = self.is_done(self.with_word(Associativity::Right), self.shift);
-        match (reduces, shifts) {
-            (true, true) => writeln!(
-                out,
-                "  To choose otherwise, write %left in place of %nonassoc to reduce, %right to \
-                 shift."
-            ),
-            (true, false) => {
-                writeln!(
-                    out,
-                    "  To reduce instead, write %left in place of %nonassoc."
-                )
+        let how = match (reduces, shifts) {
+            (true, true) => {
+                "choose otherwise, write %left in place of %nonassoc to reduce, %right to shift"
             }
-            (false, true) => {
-                writeln!(
-                    out,
-                    "  To shift instead, write %right in place of %nonassoc."
-                )
-            }
-            (false, false) => self.put_general(out),
-        }
+            (true, false) => "reduce instead, write %left in place of %nonassoc",
+            (false, true) => "shift instead, write %right in place of %nonassoc",
+            (false, false) => return self.put_general(out),
+        };
+        writeln!(out, "  To {how}.")
     }
 
     /// Writes how to shift where a rule has won.
     pub fn put_shift<W: Write>(&self, out: &mut W, candidate: Candidate) -> io::Result<()> {
-        let name = self.name();
-        let rule = candidate.rule;
-        let giver = self.lines().giver(self.grammar(), rule);
-        let at = self.place(rule).unwrap_or(BOTTOM);
-        let later = self.kinds_between((at, usize::MAX), self.shift);
-        match (candidate.standing, giver) {
-            (Standing::Level(_), _) => {
-                if self.is_done(self.with_word(Associativity::Right), self.shift) {
-                    let hint = "write %right for the line of";
-                    return writeln!(out, "  To shift instead, {hint} {name}.");
-                }
-                self.put_general(out)
-            }
-            (_, Some(token)) if later.any() => {
-                let token = self.named(token);
-                write!(
-                    out,
-                    "  To shift instead, name {name} on a later line than {token}"
-                )?;
-                self.put_words(out, later)
-            }
-            _ => self.put_general(out),
-        }
-    }
-
-    /// Ends a hint, with the words of the line where not all hold.
-    fn put_words<W: Write>(&self, out: &mut W, kinds: Kinds) -> io::Result<()> {
-        if kinds.left && kinds.right && kinds.nonassoc {
-            writeln!(out, ".")
-        } else {
-            writeln!(out, ", one of {kinds}.")
-        }
+        let at = self.place(candidate.rule).unwrap_or(BOTTOM);
+        let turns = self.is_done(self.with_word(Associativity::Right), self.shift);
+        let kinds = self.kinds_between((at, usize::MAX), self.shift);
+        let words = ("shift", "%right", "a later");
+        self.put_instead(out, candidate, words, (turns, kinds))
     }
 
     /// Writes how to reduce where the token has won against a rule.
     pub fn put_reduce<W: Write>(&self, out: &mut W, candidate: Candidate) -> io::Result<()> {
+        let at = self.place(candidate.rule).unwrap_or(TOP);
+        let turns = self.reduces(self.with_word(Associativity::Left));
+        let kinds = Kinds::by(|kind| self.reduces_above(at, kind));
+        let words = ("reduce", "%left", "an earlier");
+        self.put_instead(out, candidate, words, (turns, kinds))
+    }
+
+    /// Writes how to do otherwise: where rule and token have one level, by another word for its
+    /// line, if that turns the cell, and else by another order of lines of these kinds.
+    fn put_instead<W: Write>(
+        &self,
+        out: &mut W,
+        candidate: Candidate,
+        (deed, word, order): (&str, &str, &str),
+        (turns, kinds): (bool, Kinds),
+    ) -> io::Result<()> {
         let name = self.name();
-        let rule = candidate.rule;
-        let giver = self.lines().giver(self.grammar(), rule);
-        let at = self.place(rule).unwrap_or(TOP);
-        let kinds = Kinds {
-            left: self.reduces_above(at, Associativity::Left),
-            right: self.reduces_above(at, Associativity::Right),
-            nonassoc: self.reduces_above(at, Associativity::Nonassoc),
-        };
+        let giver = self.lines().giver(self.grammar(), candidate.rule);
         match (candidate.standing, giver) {
-            (Standing::Level(_), _) => {
-                if self.reduces(self.with_word(Associativity::Left)) {
-                    let hint = "write %left for the line of";
-                    return writeln!(out, "  To reduce instead, {hint} {name}.");
-                }
-                self.put_general(out)
+            (Standing::Level(_), _) if turns => {
+                writeln!(
+                    out,
+                    "  To {deed} instead, write {word} for the line of {name}."
+                )
             }
+            (Standing::Level(_), _) => self.put_general(out),
             (_, Some(token)) if kinds.any() => {
                 let token = self.named(token);
                 write!(
                     out,
-                    "  To reduce instead, name {name} on an earlier line than {token}"
+                    "  To {deed} instead, name {name} on {order} line than {token}"
                 )?;
-                self.put_words(out, kinds)
+                if kinds.left && kinds.right && kinds.nonassoc {
+                    return writeln!(out, ".");
+                }
+                writeln!(out, ", one of {kinds}.")
             }
             _ => self.put_general(out),
         }
@@ -134,7 +108,11 @@ impl Rivals<'_> {
         }
         match self.lines().giver(self.grammar(), rule) {
             Some(token) if token == self.token() => self.put_both(out, rule),
-            Some(token) => self.put_giver(out, candidate, token),
+            Some(token) => match candidate.standing {
+                Standing::NoToken => self.put_token_line(out, rule, token),
+                Standing::NoRule => self.put_rule_line(out, rule, token),
+                _ => self.put_lines(out, rule, token),
+            },
             None if is_inner(self.grammar(), rule) => writeln!(
                 out,
                 "  The rule of an action inside a body takes no precedence: change the grammar to \
@@ -161,16 +139,6 @@ impl Rivals<'_> {
             ),
             (false, true) => writeln!(out, "  To shift {name}, name it in a line of %right."),
             (false, false) => self.put_general(out),
-        }
-    }
-
-    /// Writes how the token that would give a rule its precedence chooses.
-    fn put_giver<W: Write>(&self, out: &mut W, candidate: Candidate, token: Sym) -> io::Result<()> {
-        let rule = candidate.rule;
-        match candidate.standing {
-            Standing::NoToken => self.put_token_line(out, rule, token),
-            Standing::NoRule => self.put_rule_line(out, rule, token),
-            _ => self.put_lines(out, rule, token),
         }
     }
 
@@ -241,28 +209,8 @@ impl Rivals<'_> {
 
     /// Writes how the lines of two tokens choose.
     fn put_lines<W: Write>(&self, out: &mut W, rule: usize, token: Sym) -> io::Result<()> {
-        let (mine, giver) = (self.token(), token);
-        let shift = Pair {
-            later: mine,
-            earlier: giver,
-        };
-        let reduce = Pair {
-            later: giver,
-            earlier: mine,
-        };
-        let shifts = self.kinds_by(shift, self.shift);
-        let reduces = self.kinds_by(reduce, Action::Reduce(rule));
-        self.put_two(out, rule, token, (shifts, reduces))
-    }
-
-    /// Writes that lines of these words for two tokens choose.
-    fn put_two<W: Write>(
-        &self,
-        out: &mut W,
-        rule: usize,
-        token: Sym,
-        (shifts, reduces): (Kinds, Kinds),
-    ) -> io::Result<()> {
+        let shifts = self.kinds_by((self.token(), token), self.shift);
+        let reduces = self.kinds_by((token, self.token()), Action::Reduce(rule));
         let both = shifts.and(reduces);
         let (name, token) = (self.name(), self.named(token));
         if both.any() {
@@ -295,20 +243,15 @@ impl Rivals<'_> {
 
     /// Writes that a rule can have a name of its own, where that chooses with all of these words.
     fn put_own_name<W: Write>(&self, out: &mut W, rule: usize, kinds: Kinds) -> io::Result<()> {
-        let left = !kinds.left || self.chooses_by(rule, Associativity::Left);
-        let right = !kinds.right || self.chooses_by(rule, Associativity::Right);
-        let nonassoc = !kinds.nonassoc || self.chooses_by(rule, Associativity::Nonassoc);
-        if !left || !right || !nonassoc {
-            return Ok(());
-        }
+        let own = Kinds::by(|kind| self.chooses_by(rule, kind));
         match self.lines().giver(self.grammar(), rule) {
-            Some(token) => writeln!(
+            Some(token) if kinds.and(own) == kinds => writeln!(
                 out,
                 "  In place of {}, rule {rule} can have a name of its own, by %prec NAME at its \
                  end.",
                 self.named(token)
             ),
-            None => Ok(()),
+            _ => Ok(()),
         }
     }
 }

@@ -2,7 +2,6 @@
 //! their file, what a cell could say, and why it says what it says.
 #![tactic(auto)]
 
-pub mod cells;
 mod hints;
 pub mod lines;
 mod question;

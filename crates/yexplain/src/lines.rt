@@ -182,7 +182,7 @@ pub fn is_inner(grammar: &Grammar, rule: usize) -> bool {
 }
 
 /// The last token of a body.
-fn last_token(grammar: &Grammar, body: &[Sym]) -> Option<Sym> {
+pub fn last_token(grammar: &Grammar, body: &[Sym]) -> Option<Sym> {
     body.iter()
         .rev()
         .copied()
@@ -222,11 +222,7 @@ impl Lines {
     /// The line on which a rule begins, counted from 1: that of its name or its bar, or of its
     /// action where it is the rule of an inner one. `None` for rule 0 and for a number of no rule.
     pub fn rule(&self, number: usize) -> Option<usize> {
-        self.rules
-            .get(number)
-            .copied()
-            .flatten()
-            .map(|rule| rule.line)
+        Some(self.rules.get(number).copied().flatten()?.line)
     }
 
     /// The symbol that the `%prec` of a rule names, where it has one.

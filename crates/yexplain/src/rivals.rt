@@ -12,7 +12,7 @@ use ysymbols::{Associativity, Grammar, Precedence, Sym};
 use ytables::{Action, Standing};
 
 /// The words for lines of precedence with which a hint holds.
-#[derive(Clone, Copy, Drop)]
+#[derive(Clone, Copy, Drop, PartialEq, Eq)]
 pub struct Kinds {
     /// `%left`.
     pub left: bool,
@@ -23,6 +23,17 @@ pub struct Kinds {
 }
 
 impl Kinds {
+    /// Those for which this is so.
+    pub fn by<F: Fn(Associativity) -> bool + Drop>(is_so: F) -> Kinds
+        requires { F.IsAlwaysCallable is_so }
+    {
+        Kinds {
+            left: is_so(Associativity::Left),
+            right: is_so(Associativity::Right),
+            nonassoc: is_so(Associativity::Nonassoc),
+        }
+    }
+
     /// Those with which another hint holds too.
     pub fn and(self, other: Kinds) -> Kinds {
         Kinds {
@@ -50,15 +61,6 @@ impl fmt::Display for Kinds {
             (false, false, _) => "%nonassoc",
         })
     }
-}
-
-/// Two tokens of which each is to stand on a line of its own.
-#[derive(Clone, Copy)]
-pub struct Pair {
-    /// The one on the later line.
-    pub later: Sym,
-    /// The one on the earlier line.
-    pub earlier: Sym,
 }
 
 /// A cell with a shift, and its rules.
@@ -118,7 +120,13 @@ impl<'a> Rivals<'a> {
 
     /// The precedences as they are.
     pub fn supposed(&self) -> Supposed<'a> {
-        Supposed::new(self.grammar(), self.lines())
+        Supposed {
+            grammar: self.grammar(),
+            lines: self.lines(),
+            token: None,
+            other: None,
+            rule: None,
+        }
     }
 
     /// What is done in the cell; `None` where it has too many rules to be tried.
@@ -194,33 +202,25 @@ impl<'a> Rivals<'a> {
 
     /// The words with which this is done wherever the line of the token is put between two places.
     pub fn kinds_between(&self, places: (usize, usize), action: Action) -> Kinds {
-        Kinds {
-            left: self.is_done_between(places, Associativity::Left, action),
-            right: self.is_done_between(places, Associativity::Right, action),
-            nonassoc: self.is_done_between(places, Associativity::Nonassoc, action),
-        }
+        Kinds::by(|kind| self.is_done_between(places, kind, action))
     }
 
-    /// Whether this is done where two tokens stand on lines of this word, one below the other,
-    /// above all other lines and below all.
-    fn is_done_by(&self, pair: Pair, kind: Associativity, action: Action) -> bool {
+    /// Whether this is done where two tokens stand on lines of this word, the first one below the
+    /// other, above all other lines and below all.
+    fn is_done_by(&self, pair: (Sym, Sym), kind: Associativity, action: Action) -> bool {
         [TOP, BOTTOM].iter().all(|place| {
             let supposed = Supposed {
-                token: Some((pair.later, line(place.saturating_add(1), kind))),
-                other: Some((pair.earlier, line(*place, kind))),
+                token: Some((pair.0, line(place.saturating_add(1), kind))),
+                other: Some((pair.1, line(*place, kind))),
                 ..self.supposed()
             };
             self.is_done(supposed, action)
         })
     }
 
-    /// The words of lines for two tokens with which this is done.
-    pub fn kinds_by(&self, pair: Pair, action: Action) -> Kinds {
-        Kinds {
-            left: self.is_done_by(pair, Associativity::Left, action),
-            right: self.is_done_by(pair, Associativity::Right, action),
-            nonassoc: self.is_done_by(pair, Associativity::Nonassoc, action),
-        }
+    /// The words of lines for two tokens, the first one below the other, with which this is done.
+    pub fn kinds_by(&self, pair: (Sym, Sym), action: Action) -> Kinds {
+        Kinds::by(|kind| self.is_done_by(pair, kind, action))
     }
 
     /// The precedences where the line of the token has another word.

@@ -48,27 +48,10 @@ fn among(supposed: Option<(usize, Precedence)>, number: usize) -> Option<Precede
     supposed.and_then(|(it, precedence)| (it == number).then_some(precedence))
 }
 
-impl<'a> Supposed<'a> {
-    /// The precedences of a grammar.
-    pub fn new(grammar: &'a Grammar, lines: &'a Lines) -> Supposed<'a> {
-        Supposed {
-            grammar,
-            lines,
-            token: None,
-            other: None,
-            rule: None,
-        }
-    }
-
+impl Supposed<'_> {
     /// What is supposed of a token, where something is.
     fn supposed(self, token: Sym) -> Option<Precedence> {
         among(self.token, token).or(among(self.other, token))
-    }
-
-    /// The precedence of a token.
-    fn of_token(self, token: Sym) -> Option<Precedence> {
-        self.supposed(token)
-            .or(placed(level_of(self.grammar, token)))
     }
 
     /// The precedence that a rule has from a token.
@@ -79,16 +62,12 @@ impl<'a> Supposed<'a> {
             .or(placed(rule_of(self.grammar, rule)?.precedence()))
     }
 
-    /// The precedence of a rule.
-    fn of_rule(self, rule: usize) -> Option<Precedence> {
-        among(self.rule, rule).or(self.given(rule))
-    }
-
     /// A rule in a cell of a token.
     pub fn rival(self, rule: usize, token: Sym) -> Rival {
-        Rival {
-            rule,
-            standing: standing_between(self.of_token(token), self.of_rule(rule)),
-        }
+        let level = placed(level_of(self.grammar, token));
+        let of_token = self.supposed(token).or(level);
+        let of_rule = among(self.rule, rule).or(self.given(rule));
+        let standing = standing_between(of_token, of_rule);
+        Rival { rule, standing }
     }
 }

@@ -24,7 +24,7 @@ impl fmt::Display for Bytes<'_> {
     }
 }
 
-/// Some bytes, those that aren't printed as hexadecimal digits behind `\\x`.
+/// Some bytes, those that aren't printed as hexadecimal digits after `\\x`.
 #[derive(Clone, Copy)]
 pub struct Escaped<'a>(pub &'a [u8]);
 

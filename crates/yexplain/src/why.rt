@@ -1,13 +1,12 @@
 //! Why a cell says what it says: its candidates, what settled it, and how to choose otherwise.
 
-use crate::cells::{Case, case_of};
 pub use crate::question::Question;
 use crate::reads::{action_of, conflict_of, default_of, next_of};
 use crate::rivals::Rivals;
 use crate::text::{ItemText, Name, Numbered, RuleText};
 use std::io::{self, Write};
 use ycells::Candidate;
-use ylalr::END;
+use ylalr::{END, Item};
 use ysymbols::Associativity;
 use ytables::{Action, Class, Standing};
 
@@ -21,10 +20,7 @@ pub fn put_cell<W: Write>(out: &mut W, asked: Question<'_>) -> io::Result<()> {
     write!(out, "state {state} on {name}: ")?;
     match action_of(asked.tables, state, asked.token) {
         Action::Shift(to) => writeln!(out, "shift, to state {to}"),
-        Action::Reduce(rule) => {
-            let rule = Numbered(asked.lines, rule);
-            writeln!(out, "reduce by {rule}")
-        }
+        Action::Reduce(rule) => writeln!(out, "reduce by {}", Numbered(asked.lines, rule)),
         Action::Accept => writeln!(out, "accept"),
         Action::Error => writeln!(out, "error"),
     }
@@ -41,15 +37,19 @@ impl<'a> Question<'a> {
     /// Writes what settled the cell, with its candidates and how to choose otherwise where there
     /// are several.
     pub fn put_reason<W: Write>(self, out: &mut W) -> io::Result<()> {
-        let name = self.name();
-        match case_of(self.tables, self.state, self.token) {
-            Case::Empty => self.put_empty(out),
-            Case::Shift if self.token == END => writeln!(out, "  The input can only end here."),
-            Case::Shift => writeln!(out, "  {name} can only be shifted here."),
-            Case::Reduce => self.put_alone(out),
-            case => {
-                self.put_candidates(out)?;
-                self.put_case(out, case)
+        let shifts = self.shift().is_some();
+        let rules = self.candidates().take(2).count();
+        match (shifts, rules) {
+            (false, 0) => self.put_empty(out),
+            (true, 0) if self.token == END => writeln!(out, "  The input can only end here."),
+            (true, 0) => writeln!(out, "  {} can only be shifted here.", self.name()),
+            (false, 1) => match default_of(self.tables, self.state) {
+                Some(_) => writeln!(out, "  The state reduces by this rule whatever comes."),
+                None => writeln!(out, "  Nothing else can be done here."),
+            },
+            _ => {
+                self.put_candidates(out, shifts)?;
+                self.put_settled(out, shifts)
             }
         }
     }
@@ -61,45 +61,34 @@ impl<'a> Question<'a> {
         match default_of(self.tables, self.state) {
             Some(_) => writeln!(
                 out,
-                ". The state reduces whatever comes, so the error is found behind that."
+                ". The state reduces whatever comes, so the error is found after that."
             ),
             None => writeln!(out, ", so it is an error here."),
         }
     }
 
-    /// Writes that one rule alone can be reduced.
-    fn put_alone<W: Write>(self, out: &mut W) -> io::Result<()> {
-        match default_of(self.tables, self.state) {
-            Some(_) => writeln!(out, "  The state reduces by this rule whatever comes."),
-            None => writeln!(out, "  Nothing else can be done here."),
-        }
-    }
-
     /// Writes the candidates, and how the rules stand to the shift, where there is one.
-    fn put_candidates<W: Write>(self, out: &mut W) -> io::Result<()> {
-        if self.shift().is_none() {
+    fn put_candidates<W: Write>(self, out: &mut W, shifts: bool) -> io::Result<()> {
+        if !shifts {
             return self.put_rules(out);
         }
         self.put_shifts(out)?;
         self.put_rules(out)?;
-        self.put_standings(out)
+        for candidate in self.candidates().take(MOST_SHOWN) {
+            self.put_standing(out, candidate)?;
+        }
+        Ok(())
     }
 
     /// Writes the items that could shift.
     fn put_shifts<W: Write>(self, out: &mut W) -> io::Result<()> {
-        let deed = if self.token == END {
-            "accept"
-        } else {
-            "shift "
-        };
-        let mut left = MOST_SHOWN;
-        for item in self.items() {
-            if left > 0 && next_of(self.grammar(), *item) == Some(self.token) {
-                let number = Numbered(self.lines, item.rule);
-                let text = ItemText(self.grammar(), *item);
-                writeln!(out, "  {deed}  {number}  {text}")?;
-                left -= 1;
-            }
+        let (grammar, token) = (self.grammar(), self.token);
+        let deed = if token == END { "accept" } else { "shift " };
+        let shifts = |item: &&Item| next_of(grammar, **item) == Some(token);
+        for item in self.items().iter().filter(shifts).take(MOST_SHOWN) {
+            let number = Numbered(self.lines, item.rule);
+            let text = ItemText(grammar, *item);
+            writeln!(out, "  {deed}  {number}  {text}")?;
         }
         Ok(())
     }
@@ -114,14 +103,6 @@ impl<'a> Question<'a> {
         let more = self.candidates().skip(MOST_SHOWN).count();
         if more > 0 {
             writeln!(out, "  and {more} rules more")?;
-        }
-        Ok(())
-    }
-
-    /// Writes how the rules stand to the token.
-    fn put_standings<W: Write>(self, out: &mut W) -> io::Result<()> {
-        for candidate in self.candidates().take(MOST_SHOWN) {
-            self.put_standing(out, candidate)?;
         }
         Ok(())
     }
@@ -167,46 +148,43 @@ impl<'a> Question<'a> {
         }
     }
 
-    /// Writes what settled the cell, and how to choose otherwise.
-    fn put_case<W: Write>(self, out: &mut W, case: Case) -> io::Result<()> {
-        match case {
-            Case::Banned => self.put_banned(out),
-            Case::Beaten(rule) => self.put_beaten(out, rule),
-            Case::Kept => self.put_kept(out),
-            Case::Open => self.put_open(out),
-            Case::Least(rule) => self.put_least(out, rule),
-            _ => Ok(()),
+    /// Writes what settled the cell with several candidates, and how to choose otherwise.
+    fn put_settled<W: Write>(self, out: &mut W, shifts: bool) -> io::Result<()> {
+        let is_conflict = conflict_of(self.tables, self.state, self.token).is_some();
+        match action_of(self.tables, self.state, self.token) {
+            Action::Reduce(rule) if shifts => self.put_beaten(out, rule, is_conflict),
+            Action::Reduce(rule) => self.put_least(out, rule),
+            Action::Error => self.put_banned(out),
+            Action::Shift(_) | Action::Accept if is_conflict => self.put_open(out),
+            Action::Shift(_) | Action::Accept => self.put_kept(out),
         }
     }
 
+    /// The shift and a rule have one level that is nonassociative.
     fn put_banned<W: Write>(self, out: &mut W) -> io::Result<()> {
         let name = self.name();
         writeln!(out, "  So {name} can't come here; nothing is counted.")?;
         Rivals::new(self).put_banned(out)
     }
 
-    fn put_beaten<W: Write>(self, out: &mut W, rule: usize) -> io::Result<()> {
+    /// A rule beats the shift, and this is the least rule that doesn't lose.
+    fn put_beaten<W: Write>(self, out: &mut W, rule: usize, more: bool) -> io::Result<()> {
         let name = self.name();
         writeln!(out, "  So rule {rule} is reduced and {name} isn't shifted.")?;
-        if conflict_of(self.tables, self.state, self.token).is_some() {
+        if more {
             writeln!(
                 out,
                 "  Of the rules that don't lose, the first in the file is taken: a conflict."
             )?;
         }
-        match self.last_winner() {
+        let beats = |candidate: &Candidate| candidate.standing.class() == Class::Beat;
+        match self.candidates().filter(beats).last() {
             Some(candidate) => Rivals::new(self).put_shift(out, candidate),
             None => Ok(()),
         }
     }
 
-    /// The last rule that beats the shift.
-    fn last_winner(self) -> Option<Candidate> {
-        self.candidates()
-            .filter(|candidate| candidate.standing.class() == Class::Beat)
-            .last()
-    }
-
+    /// The shift beats all rules.
     fn put_kept<W: Write>(self, out: &mut W) -> io::Result<()> {
         let name = self.name();
         writeln!(out, "  So {name} is shifted; nothing is counted.")?;
@@ -216,6 +194,7 @@ impl<'a> Question<'a> {
         }
     }
 
+    /// The shift is taken since precedences are missing: a conflict.
     fn put_open<W: Write>(self, out: &mut W) -> io::Result<()> {
         let deed = if self.token == END {
             "accepts"
@@ -233,6 +212,7 @@ impl<'a> Question<'a> {
         }
     }
 
+    /// There is no shift, and this is the least of several rules: a conflict.
     fn put_least<W: Write>(self, out: &mut W, rule: usize) -> io::Result<()> {
         writeln!(
             out,

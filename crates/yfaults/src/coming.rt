@@ -4,8 +4,8 @@ use std::fmt;
 use ylexemes::kind::Kind;
 use ysyntax::recogniser::State;
 
-/// The kinds of lexemes that the syntax knows, as they are told, in the order in which they are
-/// listed.
+/// The kinds of lexemes that the syntax knows, as a person reads them, in the order in which they
+/// are listed.
 static KINDS: [(Kind, &str); 19] = [
     (Kind::Mark, "%%"),
     (Kind::CIdentifier, "a name with a colon"),

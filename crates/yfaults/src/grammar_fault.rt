@@ -4,7 +4,7 @@ use crate::coming::Coming;
 use crate::long::long_rule;
 use crate::nearest::Search;
 use crate::shown::{Place, put_whole};
-use crate::words::{Words, grammar_code, words_at_end, words_of};
+use crate::words::{AT_END, grammar_code, words_of};
 use std::alloc::{AllocError, Global};
 use std::io::{self, Write};
 use yexplain::reads::name_of;
@@ -27,45 +27,25 @@ fn name_in(lexeme: Lexeme<'_>) -> Option<&[u8]> {
     }
 }
 
-/// Whether a name with this role is a symbol.
-fn makes_symbol(role: Role) -> bool {
-    match role {
-        Role::Declared | Role::Levelled | Role::Left(_) => true,
-        _ => false,
-    }
-}
-
-/// The nearest to a name of those that are symbols of a file.
+/// The nearest to the name at a place of those that are symbols of a file.
 fn nearest_symbol<'a>(
-    alloc: Global,
-    map: &[Mark<'a>],
-    wanted: &'a [u8],
-) -> Result<Option<&'a [u8]>, AllocError> {
-    let mut search = Search::new(wanted);
-    search.offer(alloc, b"error")?;
-    for mark in map {
-        if let (true, Some(name)) = (makes_symbol(mark.role), name_in(mark.placed.lexeme)) {
-            search.offer(alloc, name)?;
-        }
-    }
-    Ok(search.found())
-}
-
-/// The name that stands at a place.
-fn name_at<'a>(map: &[Mark<'a>], at: usize) -> Option<&'a [u8]> {
-    name_in(map.iter().find(|mark| mark.placed.at == at)?.placed.lexeme)
-}
-
-/// The symbol of a file that the name at a place could mean.
-fn meant_symbol<'a>(
     alloc: Global,
     map: &[Mark<'a>],
     at: usize,
 ) -> Result<Option<&'a [u8]>, AllocError> {
-    match name_at(map, at) {
-        Some(wanted) => nearest_symbol(alloc, map, wanted),
-        None => Ok(None),
+    let here = map.iter().find(|mark| mark.placed.at == at);
+    let Some(wanted) = here.and_then(|mark| name_in(mark.placed.lexeme)) else {
+        return Ok(None);
+    };
+    let mut search = Search::new(wanted);
+    search.offer(alloc, b"error")?;
+    for mark in map {
+        let makes_symbol = matches!(mark.role, Role::Declared | Role::Levelled | Role::Left(_));
+        if let (true, Some(name)) = (makes_symbol, name_in(mark.placed.lexeme)) {
+            search.offer(alloc, name)?;
+        }
     }
+    Ok(search.found())
 }
 
 /// The nearest to a word of the tokens that an input can have.
@@ -97,12 +77,8 @@ fn put_others<W: Write>(out: &mut W, names: &SymbolTable) -> io::Result<()> {
         let name = Bytes(name);
         write!(out, " {name}")?;
     }
-    let more = if names.len() > MOST_NAMED + 1 {
-        " .."
-    } else {
-        ""
-    };
-    writeln!(out, "{more}")
+    let is_cut = names.len() > MOST_NAMED + 1;
+    writeln!(out, "{}", if is_cut { " .." } else { "" })
 }
 
 /// A fault of a grammar file, with the file's source map; that has no marks where the file has no
@@ -148,7 +124,7 @@ fn put_help<W: Write>(
             Some(state) => writeln!(out, "  Here can come: {}", Coming(state)),
             None => Ok(()),
         },
-        GrammarFault::Undefined { .. } => match meant_symbol(alloc, marks, at)? {
+        GrammarFault::Undefined { .. } => match nearest_symbol(alloc, marks, at)? {
             Some(name) => put_question(out, name),
             None => Ok(()),
         },
@@ -164,46 +140,10 @@ fn put_help<W: Write>(
     }
 }
 
-/// Whether a file has no syntax.
-fn is_syntax(fault: GrammarFault) -> bool {
-    match fault {
-        GrammarFault::Syntax { .. } => true,
-        _ => false,
-    }
-}
-
-/// Writes a fault at a place, with a caret but at the end of the file, and what helps.
-fn put_at<W: Write>(
-    out: &mut W,
-    alloc: Global,
-    place: Place<'_>,
-    refusal: &Refusal<'_>,
-    words: Words,
-) -> io::Result<()> {
-    let Place { source, at, .. } = place;
-    let is_end = is_syntax(refusal.placed.fault) && at >= source.len();
-    let words = if is_end { words_at_end() } else { words };
-    place.put(out, words, !is_end)?;
-    put_help(out, alloc, source, refusal)
-}
-
-/// Writes that a grammar is above a limit, at the rule that is too long, where one is.
-fn put_limit<W: Write>(
-    out: &mut W,
-    path: &str,
-    source: &[u8],
-    marks: &[Mark<'_>],
-    words: Words,
-) -> io::Result<()> {
-    match long_rule(marks) {
-        Some(at) => Place { path, source, at }.put(out, words, true),
-        None => put_whole(out, path, words),
-    }
-}
-
 /// Writes a fault of a grammar file of these bytes: the line, what is wrong there, its text with a
-/// caret under its place, how to mend it, and what else helps. Where memory runs out while that is
-/// sought, the error says so.
+/// caret under its place but at the end of the file, how to mend it, and what else helps. A grammar
+/// above a limit has that place at the rule that is too long, where one is. Where memory runs out
+/// while what helps is sought, the error says so.
 pub fn put_grammar_fault<W: Write>(
     out: &mut W,
     alloc: Global,
@@ -211,17 +151,21 @@ pub fn put_grammar_fault<W: Write>(
     source: &[u8],
     refusal: &Refusal<'_>,
 ) -> io::Result<()> {
-    let PlacedFault {
-        fault,
-        at,
-        state: _,
-    } = refusal.placed;
+    let (fault, at) = (refusal.placed.fault, refusal.placed.at);
     let Some(words) = words_of(grammar_code(fault)) else {
         return Ok(());
     };
     match fault {
         GrammarFault::TooLong | GrammarFault::Memory => put_whole(out, path, words),
-        GrammarFault::Limit { .. } => put_limit(out, path, source, &refusal.marks, words),
-        _ => put_at(out, alloc, Place { path, source, at }, refusal, words),
+        GrammarFault::Limit { .. } => match long_rule(&refusal.marks) {
+            Some(at) => Place { path, source, at }.put(out, words, true),
+            None => put_whole(out, path, words),
+        },
+        _ => {
+            let is_end = matches!(fault, GrammarFault::Syntax { .. }) && at >= source.len();
+            let words = if is_end { AT_END } else { words };
+            Place { path, source, at }.put(out, words, !is_end)?;
+            put_help(out, alloc, source, refusal)
+        }
     }
 }

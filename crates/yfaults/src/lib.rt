@@ -6,6 +6,5 @@ mod grammar_fault;
 mod long;
 pub mod nearest;
 pub mod opening;
-mod place;
 pub mod shown;
 mod words;

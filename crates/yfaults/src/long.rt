@@ -5,7 +5,7 @@ use ysymbols::limits::LONGEST_BODY;
 
 /// A rule being counted: where it begins, how many symbols its body has, and whether the last part
 /// is an action, which is a symbol only where more follows.
-#[derive(Clone, Copy)]
+#[derive(Clone, Copy, Default)]
 struct Counted {
     at: usize,
     symbols: usize,
@@ -19,8 +19,7 @@ impl Counted {
             Role::Left(_) | Role::Bar(_) => {
                 *self = Counted {
                     at: mark.placed.at,
-                    symbols: 0,
-                    acted: false,
+                    ..Counted::default()
                 };
             }
             Role::Action(_) => {
@@ -34,19 +33,15 @@ impl Counted {
 
     /// Adds symbols, and the action before them.
     fn add(&mut self, symbols: usize) {
-        let inner = if self.acted { 1 } else { 0 };
-        self.symbols = self.symbols.saturating_add(symbols).saturating_add(inner);
+        let symbols = symbols.saturating_add(usize::from(self.acted));
+        self.symbols = self.symbols.saturating_add(symbols);
         self.acted = false;
     }
 }
 
 /// The first rule with a body above the limit.
 pub fn long_rule(map: &[Mark<'_>]) -> Option<usize> {
-    let mut counted = Counted {
-        at: 0,
-        symbols: 0,
-        acted: false,
-    };
+    let mut counted = Counted::default();
     for mark in map {
         counted.take(*mark);
         if counted.symbols > LONGEST_BODY {

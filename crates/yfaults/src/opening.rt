@@ -2,22 +2,19 @@
 //! refused.
 
 use crate::grammar_fault::{Refusal, nearest_token, put_grammar_fault, put_question};
-use crate::place::word_place;
 use crate::shown::{Place, put_whole};
 use crate::words::{token_code, words_of};
-use std::alloc::{AllocError, Global};
+use std::alloc::Global;
 use std::io::{self, ErrorKind, Write};
 use std::rt::Files;
 use yexplain::lines::Lines;
 use yfiles::reading::first_bytes;
 use ygrammar::{Grammar, GrammarFault, LONGEST_FILE, Mark, PlacedFault};
 use ylalr::BuildFault;
+use ylexemes::bytes::is_blank;
 use ytables::Tables;
 use ytokens::token_words::{Front, front_of};
 use ytokens::tokens::TokenFault;
-
-/// So many bytes of a grammar file show that it is too long.
-const GRAMMAR_BYTES: u64 = LONGEST_FILE as u64 + 1;
 
 /// The tables of a grammar file, and where things stand in it.
 #[derive(Drop)]
@@ -79,7 +76,7 @@ impl<'a> From<BuildFault> for Trouble<'a> {
 
 /// The bytes of a grammar file, one more than it may have at most.
 pub fn grammar_bytes<F: Files + AllocGlobal>(rt: &F, path: &str) -> io::Result<Vec<u8>> {
-    first_bytes(rt, path, GRAMMAR_BYTES)
+    first_bytes(rt, path, (LONGEST_FILE as u64).saturating_add(1))
 }
 
 /// Writes that a file can't be read, or that there is no memory, and gives the exit status.
@@ -109,6 +106,20 @@ pub fn put_trouble<W: Write>(
     }
 }
 
+/// The place of a word of a tokens file, counted from 1.
+fn word_place(source: &[u8], number: usize) -> Option<usize> {
+    let mut rest = source;
+    for _ in 1..number {
+        match front_of(rest) {
+            Front::Word(_, after) | Front::Literal(_, after) => rest = after,
+            Front::Nothing | Front::Broken => return None,
+        }
+    }
+    let blanks = rest.iter().take_while(|b| is_blank(**b)).count();
+    let before = source.len().saturating_sub(rest.len());
+    Some(before.saturating_add(blanks))
+}
+
 /// Writes a fault of a tokens file of these bytes.
 pub fn put_token_fault<W: Write>(
     out: &mut W,
@@ -126,20 +137,6 @@ pub fn put_token_fault<W: Write>(
     }
 }
 
-/// The token that the word at a place of a tokens file could mean.
-fn near_token<'a>(
-    alloc: Global,
-    grammar: &'a Grammar,
-    source: &'a [u8],
-    place: usize,
-) -> Result<Option<&'a [u8]>, AllocError> {
-    let at = word_place(source, place).unwrap_or(source.len());
-    match front_of(source.get(at..).unwrap_or(&[])) {
-        Front::Word(word, _) => nearest_token(alloc, grammar, word),
-        _ => Ok(None),
-    }
-}
-
 /// Asks whether another token was meant, where a tokens file has a name that the grammar hasn't.
 /// Where memory runs out in that search, the error says so.
 pub fn put_near_token<W: Write>(
@@ -152,7 +149,11 @@ pub fn put_near_token<W: Write>(
     let TokenFault::Unknown(place) = fault else {
         return Ok(());
     };
-    match near_token(alloc, grammar, source, place)? {
+    let at = word_place(source, place).unwrap_or(source.len());
+    let Front::Word(word, _) = front_of(source.get(at..).unwrap_or(&[])) else {
+        return Ok(());
+    };
+    match nearest_token(alloc, grammar, word)? {
         Some(name) => put_question(out, name),
         None => Ok(()),
     }

@@ -6,10 +6,8 @@ use std::{fmt, str};
 use unicode_width::UnicodeWidthChar;
 use yexplain::lines::Spots;
 
-/// The most bytes of a line that are shown before a place, and behind it.
-const MOST_BEFORE: usize = 100;
-
-const MOST_BEHIND: usize = 100;
+/// The most bytes of a line that are shown before a place, and after it.
+const MOST_SHOWN: usize = 100;
 
 /// A place of a file: the file's path, its bytes, and how many of them stand before the place.
 #[derive(Clone, Copy)]
@@ -36,17 +34,14 @@ fn shown_byte(byte: u8) -> char {
     }
 }
 
-/// A part of a line as it is shown; its columns alone, where it is blank.
+/// A part of a line as it is shown, and whether it is blank: then its columns alone are.
 #[derive(Clone, Copy)]
-struct Text<'a> {
-    bytes: &'a [u8],
-    blank: bool,
-}
+struct Text<'a>(&'a [u8], bool);
 
 impl Text<'_> {
     /// Writes a character, or as many blanks as it takes columns.
     fn put<W: fmt::Write>(&self, f: &mut fmt::Formatter<W>, c: char) -> fmt::Result {
-        if !self.blank || c == '\t' {
+        if !self.1 || c == '\t' {
             return f.write_char(c);
         }
         for _ in 0..c.width().unwrap_or(1) {
@@ -55,8 +50,9 @@ impl Text<'_> {
         Ok(())
     }
 
+    /// Writes a text that isn't UTF-8.
     fn put_bytes<W: fmt::Write>(&self, f: &mut fmt::Formatter<W>) -> fmt::Result {
-        for byte in self.bytes {
+        for byte in self.0 {
             self.put(f, shown_byte(*byte))?;
         }
         Ok(())
@@ -65,7 +61,7 @@ impl Text<'_> {
 
 impl fmt::Display for Text<'_> {
     fn fmt<W: fmt::Write>(&self, f: &mut fmt::Formatter<W>) -> fmt::Result {
-        let Ok(text) = str::from_utf8(self.bytes) else {
+        let Ok(text) = str::from_utf8(self.0) else {
             return self.put_bytes(f);
         };
         for c in text.chars() {
@@ -75,47 +71,23 @@ impl fmt::Display for Text<'_> {
     }
 }
 
-/// The last bytes of those before a place, and whether there are more.
-fn last_before(before: &[u8]) -> (&[u8], bool) {
-    let start = before.len().saturating_sub(MOST_BEFORE);
-    (before.get(start..).unwrap_or(before), start > 0)
-}
-
-/// The first bytes of those behind a place, and whether there are more.
-fn first_behind(behind: &[u8]) -> (&[u8], bool) {
-    match behind.get(..MOST_BEHIND) {
-        Some(first) => (first, behind.len() > MOST_BEHIND),
-        None => (behind, false),
-    }
-}
-
 impl<'a> Place<'a> {
-    /// The bytes before the place, and those behind it.
-    fn halves(self) -> (&'a [u8], &'a [u8]) {
-        let before = self.source.get(..self.at).unwrap_or(self.source);
-        let behind = self.source.get(self.at..).unwrap_or(&[]);
-        (before, behind)
-    }
-
     /// The line and the column of the place, both counted from 1; columns are bytes.
     pub fn spot(self) -> (usize, usize) {
         Spots::new(self.source).reach(self.at.min(self.source.len()))
     }
 
-    /// The parts of its line before and behind the place.
+    /// The parts of its line before and after the place.
     fn parts(self) -> (&'a [u8], &'a [u8]) {
-        let (before, behind) = self.halves();
-        let start = before
-            .iter()
-            .rposition(|b| *b == b'\n')
-            .map_or(0, |at| at.saturating_add(1));
-        let end = behind
-            .iter()
-            .position(|b| *b == b'\n')
-            .unwrap_or(behind.len());
+        let before = self.source.get(..self.at).unwrap_or(self.source);
+        let after = self.source.get(self.at..).unwrap_or(&[]);
+        let newline = before.iter().rposition(|b| *b == b'\n');
+        let start = newline.map_or(0, |at| at.saturating_add(1));
+        let end = after.iter().position(|b| *b == b'\n');
+        let end = end.unwrap_or(after.len());
         (
             before.get(start..).unwrap_or(&[]),
-            behind.get(..end).unwrap_or(behind),
+            after.get(..end).unwrap_or(after),
         )
     }
 
@@ -125,39 +97,21 @@ impl<'a> Place<'a> {
         write!(out, "{path}:{line}:{column}: ")
     }
 
-    /// Writes the file, the line and what is wrong there.
-    fn put_head<W: Write>(self, out: &mut W, words: Words) -> io::Result<()> {
-        let path = self.path;
-        let line = self.spot().0;
-        let Words { code, what, .. } = words;
-        writeln!(out, "{path}:{line}: {code}: {what}")
-    }
-
     /// Writes the text of the line, and a caret under the place.
     pub fn put_text<W: Write>(self, out: &mut W, caret: bool) -> io::Result<()> {
-        let (before, behind) = self.parts();
-        if before.is_empty() && behind.is_empty() {
+        let (before, after) = self.parts();
+        if before.is_empty() && after.is_empty() {
             return Ok(());
         }
-        let (before, is_cut) = last_before(before);
-        let (behind, goes_on) = first_behind(behind);
-        let dots = if is_cut { ".. " } else { "" };
-        let more = if goes_on { " .." } else { "" };
-        let text = Text {
-            bytes: before,
-            blank: false,
-        };
-        let rest = Text {
-            bytes: behind,
-            blank: false,
-        };
+        let start = before.len().saturating_sub(MOST_SHOWN);
+        let before = before.get(start..).unwrap_or(before);
+        let rest = Text(after.get(..MOST_SHOWN).unwrap_or(after), false);
+        let (text, blank) = (Text(before, false), Text(before, true));
+        let dots = if start > 0 { ".. " } else { "" };
+        let more = if after.len() > MOST_SHOWN { " .." } else { "" };
         writeln!(out, "    {dots}{text}{rest}{more}")?;
         if caret {
-            let dots = if is_cut { "   " } else { "" };
-            let blank = Text {
-                bytes: before,
-                blank: true,
-            };
+            let dots = if start > 0 { "   " } else { "" };
             writeln!(out, "    {dots}{blank}^")?;
         }
         Ok(())
@@ -166,7 +120,8 @@ impl<'a> Place<'a> {
     /// Writes what is wrong at the place, its line with a caret where the place is known, and how
     /// to mend it.
     pub fn put<W: Write>(self, out: &mut W, words: Words, caret: bool) -> io::Result<()> {
-        self.put_head(out, words)?;
+        let (path, line, Words { code, what, .. }) = (self.path, self.spot().0, words);
+        writeln!(out, "{path}:{line}: {code}: {what}")?;
         self.put_text(out, caret)?;
         put_mend(out, words)
     }

@@ -14,130 +14,68 @@ pub struct Words {
     pub mend: &'static str,
 }
 
-/// The codes of grammar files (G), of too large automata (B) and of tokens files (K).
-static TABLE: [Words; 20] = [
-    Words {
-        code: "G1",
-        what: "the file has more than 1,048,576 bytes",
-        mend: "Take actions and tables out of it, or cut it into two grammars.",
-    },
-    Words {
-        code: "G2",
-        what: "what begins here has no end",
-        mend: "Close the comment, the code block, the braces or the quote, or one inside of it.",
-    },
-    Words {
-        code: "G3",
-        what: "no literal begins here",
-        mend: "Write one character between quotes: '+', '\\n', '\\'', '\\101' or '\\x41'.",
-    },
-    Words {
-        code: "G4",
-        what: "no word or sign of a grammar file begins here",
-        mend: "Put a sign in single quotes, as '+', a comment in /* */, or mend the word behind %.",
-    },
-    Words {
-        code: "G5",
-        what: "this can't come here",
-        mend: "Look before it for what is missing, as %%, a colon or a bar; quote a sign, as '<'.",
-    },
-    Words {
-        code: "G6",
-        what: "a token can't be a left side, nor stand behind %type",
-        mend: "Take it off the lines of tokens, or take another name; error is always a token.",
-    },
-    Words {
-        code: "G7",
-        what: "this name is neither a token nor the left side of a rule",
-        mend: "List it by %token, or write a rule for it, or look for a slip in its spelling.",
-    },
-    Words {
-        code: "G8",
-        what: "this token is given a precedence a second time",
-        mend: "Leave it in one line of %left, %right or %nonassoc.",
-    },
-    Words {
-        code: "G9",
-        what: "this number can't be given",
-        mend: "Give a token one number, 1 to 32,767, that no other has; 'a' has 97, error has 256.",
-    },
-    Words {
-        code: "G10",
-        what: "%start names no nonterminal, or stands twice",
-        mend: "Name the left side of a rule, in one %start.",
-    },
-    Words {
-        code: "G11",
-        what: "no list of tokens can be made of this nonterminal",
-        mend: "Give it a rule that doesn't lead back to itself, if only an empty one.",
-    },
-    Words {
-        code: "G12",
-        what: "%prec names a nonterminal",
-        mend: "Name a token behind %prec, one that %left, %right or %nonassoc lists.",
-    },
-    Words {
-        code: "G13",
-        what: "the grammar is above a limit",
-        mend: "There can be 4,096 symbols, 8,192 rules, and 255 symbols in a body.",
-    },
-    Words {
-        code: "G14",
-        what: "no memory",
-        mend: "Give the program more memory.",
-    },
-    Words {
-        code: "B1",
-        what: "the grammar has more than 16,384 states",
-        mend: "Make long bodies shorter, and let rules share what they have in common.",
-    },
-    Words {
-        code: "K1",
-        what: "no symbol of the grammar has this name",
-        mend: "Write a token as the grammar file names it; a literal stands between quotes.",
-    },
-    Words {
-        code: "K2",
-        what: "this is no token that an input can have",
-        mend: "Leave out nonterminals, error and $end: the end comes by itself.",
-    },
-    Words {
-        code: "K3",
-        what: "there are more than 1,000,000 tokens",
-        mend: "Cut the file into several.",
-    },
-    Words {
-        code: "K4",
-        what: "no memory",
-        mend: "Give the program more memory.",
-    },
-    Words {
-        code: "K5",
-        what: "no literal begins here",
-        mend: "Write one character between quotes, as in a grammar file.",
-    },
-];
+/// The codes of grammar files (G), of too large automata (B) and of tokens files (K): for each a
+/// line with it and with what is wrong, and a line that says how to mend it.
+const TABLE: &str = "\
+G1 the file has more than 1,048,576 bytes
+Take actions and tables out of it, or cut it into two grammars.
+G2 what begins here has no end
+Close the comment, the code block, the braces or the quote, or one inside of it.
+G3 no literal begins here
+Write one character between quotes: '+', '\\n', '\\'', '\\101' or '\\x41'.
+G4 no word or sign of a grammar file begins here
+Put a sign in single quotes, as '+', a comment in /* */, or mend the word after %.
+G5 this can't come here
+Look before it for what is missing, as %%, a colon or a bar; quote a sign, as '<'.
+G6 a token can't be a left side, nor stand after %type
+Take it off the lines of tokens, or take another name; error is always a token.
+G7 this name is neither a token nor the left side of a rule
+List it by %token, or write a rule for it, or look for a slip in its spelling.
+G8 this token is given a precedence a second time
+Leave it in one line of %left, %right or %nonassoc.
+G9 this number can't be given
+Give a token one number, 1 to 32,767, that no other has; 'a' has 97, error has 256.
+G10 %start names no nonterminal, or stands twice
+Name the left side of a rule, in one %start.
+G11 no list of tokens can be made of this nonterminal
+Give it a rule that doesn't lead back to itself, if only an empty one.
+G12 %prec names a nonterminal
+Name a token after %prec, one that %left, %right or %nonassoc lists.
+G13 the grammar is above a limit
+There can be 4,096 symbols, 8,192 rules, and 255 symbols in a body.
+G14 no memory
+Give the program more memory.
+B1 the grammar has more than 16,384 states
+Make long bodies shorter, and let rules share what they have in common.
+K1 no symbol of the grammar has this name
+Write a token as the grammar file names it; a literal stands between quotes.
+K2 this is no token that an input can have
+Leave out nonterminals, error and $end: the end comes by itself.
+K3 there are more than 1,000,000 tokens
+Cut the file into several.
+K4 no memory
+Give the program more memory.
+K5 no literal begins here
+Write one character between quotes, as in a grammar file.";
 
 /// What G5 says at the end of a file.
-static AT_END: Words = Words {
+pub const AT_END: Words = Words {
     code: "G5",
     what: "the file ends too early",
     mend: "It needs %% and a rule at least.",
 };
 
-/// What G5 says at the end of a file.
-pub fn words_at_end() -> Words {
-    AT_END
-}
-
-/// All that the codes say, in their order.
-pub fn table() -> &'static [Words] {
-    &TABLE
-}
-
 /// What a code says, where it is one.
-pub fn words_of(code: &str) -> Option<Words> {
-    TABLE.iter().find(|words| words.code == code).copied()
+pub fn words_of(wanted: &str) -> Option<Words> {
+    let mut lines = TABLE.split('\n');
+    for _ in 0..TABLE.len() {
+        let (code, what) = lines.next()?.split_once(' ')?;
+        let mend = lines.next()?;
+        if code == wanted {
+            return Some(Words { code, what, mend });
+        }
+    }
+    None
 }
 
 /// The code of a fault of a grammar file.

@@ -44,15 +44,6 @@ pub fn all_bytes<R: Read>(alloc: Global, reader: &mut R, most: u64) -> io::Resul
     Ok(within(bytes, most))
 }
 
-/// How many bytes a plain file has, where they are more than so many; `None` for a pipe, a device,
-/// or where that can't be told.
-fn size_above<F: Files>(rt: &F, path: &str, most: u64) -> Option<u64> {
-    match fs::metadata(rt, path) {
-        Ok(there) if there.is_file() && there.len() > most => Some(there.len()),
-        _ => None,
-    }
-}
-
 impl Limited<'_> {
     /// All bytes of the file, or `None` where it has more than may be taken; one more is read at
     /// most.
@@ -61,13 +52,16 @@ impl Limited<'_> {
         Ok(within(bytes, self.most))
     }
 
-    /// Writes that the file has more bytes than may be taken, and how many it has, where that is
-    /// known.
+    /// Writes that the file has more bytes than may be taken, and how many it has, where that can be
+    /// told, as it can't of a pipe or a device.
     pub fn put_long<F: Files, W: Write>(self, rt: &F, out: &mut W) -> io::Result<()> {
         let Limited { path, most } = self;
-        match size_above(rt, path, most) {
-            Some(size) => writeln!(out, "{path}: it has {size} bytes; {most} are the limit"),
-            None => writeln!(out, "{path}: it has more than {most} bytes, the limit"),
+        match fs::metadata(rt, path) {
+            Ok(there) if there.is_file() && there.len() > most => {
+                let size = there.len();
+                writeln!(out, "{path}: it has {size} bytes; {most} are the limit")
+            }
+            _ => writeln!(out, "{path}: it has more than {most} bytes, the limit"),
         }
     }
 

@@ -2,7 +2,7 @@
 //! which gets its name once it is complete.
 
 use std::alloc::Global;
-use std::fs::{self, File, Metadata, OpenFile, OpenOptions, Permissions};
+use std::fs::{self, File, OpenFile, OpenOptions, Permissions};
 use std::io::{self, ErrorKind, Write};
 use std::os::unix::fs::MetadataExt;
 use std::rt::Files;
@@ -72,33 +72,16 @@ fn replace<F: Files + AllocGlobal>(
     written
 }
 
-/// Writes a text into what has the path.
-fn write_in_place<F: Files>(rt: &F, path: &str, text: &[u8]) -> io::Result<()> {
-    fill(&mut fs::create(rt, path)?, text)
-}
-
-/// Whether a new file may take the place of this: it is a plain file under one name.
-fn is_plain(there: &Metadata) -> bool {
-    there.is_file() && there.nlink() < 2
-}
-
-/// Writes a text in place of a plain file that may be written.
-fn write_instead<F: Files + AllocGlobal>(
-    rt: &F,
-    path: &str,
-    text: &[u8],
-    there: &Metadata,
-) -> io::Result<()> {
-    OpenOptions::new().write(true).open(rt, path)?;
-    replace(rt, path, text, Some(there.permissions()))
-}
-
-/// Writes a text to the file of a path. A plain file, or none, is replaced by a complete one;
+/// Writes a text to the file of a path. A plain one under one name, which may be written, or none
+/// is replaced by a complete one;
 /// links, pipes and devices are written in place. Where it fails, a plain file is as it was.
 pub fn write_over<F: Files + AllocGlobal>(rt: &F, path: &str, text: &[u8]) -> io::Result<()> {
     match fs::symlink_metadata(rt, path) {
-        Ok(there) if is_plain(&there) => write_instead(rt, path, text, &there),
-        Ok(_) => write_in_place(rt, path, text),
+        Ok(there) if there.is_file() && there.nlink() < 2 => {
+            OpenOptions::new().write(true).open(rt, path)?;
+            replace(rt, path, text, Some(there.permissions()))
+        }
+        Ok(_) => fill(&mut fs::create(rt, path)?, text),
         Err(error) if error.kind() == ErrorKind::NotFound => replace(rt, path, text, None),
         Err(error) => Err(error),
     }
@@ -116,26 +99,8 @@ pub fn write_new<F: Files + AllocGlobal>(rt: &F, path: &str, text: &[u8]) -> io:
     written
 }
 
-/// Writes a text to the file of a path, and says so where that can't be done. The exit status is
-/// the answer; only no memory stays an error.
-fn put_file<F: Files + AllocGlobal, E: Write>(
-    rt: &F,
-    errors: &mut E,
-    path: &str,
-    text: &[u8],
-) -> io::Result<u8> {
-    match write_over(rt, path, text) {
-        Ok(()) => Ok(0),
-        Err(error) if error.kind() == ErrorKind::OutOfMemory => Err(error),
-        Err(_) => {
-            writeln!(errors, "ydebug: cannot write {path}")?;
-            Ok(3)
-        }
-    }
-}
-
-/// Writes a text to the file of a path, or to `out` where no path is given. The exit status is the
-/// answer.
+/// Writes a text to the file of a path, or to `out` where no path is given, and says so where the
+/// file can't be written. The exit status is the answer; only no memory stays an error.
 pub fn put_output<F: Files + AllocGlobal, W: Write, E: Write>(
     rt: &F,
     path: Option<&str>,
@@ -143,8 +108,15 @@ pub fn put_output<F: Files + AllocGlobal, W: Write, E: Write>(
     out: &mut W,
     errors: &mut E,
 ) -> io::Result<u8> {
-    match path {
-        Some(path) => put_file(rt, errors, path, text),
-        None => out.write_all(text).map(|()| 0),
+    let Some(path) = path else {
+        return out.write_all(text).map(|()| 0);
+    };
+    match write_over(rt, path, text) {
+        Ok(()) => Ok(0),
+        Err(error) if error.kind() == ErrorKind::OutOfMemory => Err(error),
+        Err(_) => {
+            writeln!(errors, "ydebug: cannot write {path}")?;
+            Ok(3)
+        }
     }
 }

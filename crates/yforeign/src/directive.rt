@@ -3,42 +3,30 @@
 use crate::lexeme::Kind;
 use crate::runs::percent_length;
 
-/// A directive, by what is done with it.
+/// A directive, by what is done with it; each of the first has the word that names it.
 #[derive(Clone, Copy, Drop, PartialEq, Eq)]
 pub enum Directive {
-    /// `%token`.
     Token,
     /// `%term`, another word for `%token`.
     Term,
-    /// `%left`.
     Left,
-    /// `%right`.
     Right,
-    /// `%nonassoc`.
     Nonassoc,
     /// `%binary`, another word for `%nonassoc`.
     Binary,
     /// `%precedence`: a level without a direction.
     Precedence,
-    /// `%type`.
     Type,
-    /// `%nterm`.
     Nterm,
-    /// `%start`.
     Start,
-    /// `%union`.
     Union,
-    /// `%prec`.
     Prec,
-    /// `%empty`.
     Empty,
     /// `%expect`: how many shift/reduce conflicts there should be.
     Expect,
     /// `%expect-rr`: how many reduce/reduce conflicts there should be.
     ExpectReduce,
-    /// `%define`.
     Define,
-    /// `%skeleton`.
     Skeleton,
     /// Taken out.
     Aside(Shape),
@@ -50,7 +38,7 @@ pub enum Directive {
     Unknown,
 }
 
-/// What may stand behind a directive that is taken out.
+/// What may stand after a directive that is taken out.
 #[derive(Clone, Copy, Drop, PartialEq, Eq)]
 pub enum Shape {
     /// Nothing.
@@ -65,77 +53,56 @@ pub enum Shape {
     BracesAndSymbols,
 }
 
-/// The directives, each by its word, with dashes.
-const WORDS: [(&str, Directive); 53] = [
-    ("token", Directive::Token),
-    ("term", Directive::Term),
-    ("left", Directive::Left),
-    ("right", Directive::Right),
-    ("nonassoc", Directive::Nonassoc),
-    ("binary", Directive::Binary),
-    ("0", Directive::Token),
-    ("<", Directive::Left),
-    (">", Directive::Right),
-    ("2", Directive::Binary),
-    ("precedence", Directive::Precedence),
-    ("type", Directive::Type),
-    ("nterm", Directive::Nterm),
-    ("start", Directive::Start),
-    ("union", Directive::Union),
-    ("prec", Directive::Prec),
-    ("empty", Directive::Empty),
-    ("expect", Directive::Expect),
-    ("expect-rr", Directive::ExpectReduce),
-    ("define", Directive::Define),
-    ("code", Directive::Aside(Shape::NamedBraces)),
-    ("initial-action", Directive::Aside(Shape::Braces)),
-    ("parse-param", Directive::Aside(Shape::Braces)),
-    ("lex-param", Directive::Aside(Shape::Braces)),
-    ("param", Directive::Aside(Shape::Braces)),
-    ("destructor", Directive::Aside(Shape::BracesAndSymbols)),
-    ("printer", Directive::Aside(Shape::BracesAndSymbols)),
-    ("skeleton", Directive::Skeleton),
-    ("no-default-prec", Directive::NoDefault),
-    ("glr-parser", Directive::OtherParser),
-    ("nondeterministic-parser", Directive::OtherParser),
-    ("dprec", Directive::OtherParser),
-    ("merge", Directive::OtherParser),
-    ("semantic-parser", Directive::OtherParser),
-    ("require", Directive::Aside(Shape::Text)),
-    ("name-prefix", Directive::Aside(Shape::Text)),
-    ("file-prefix", Directive::Aside(Shape::Text)),
-    ("output", Directive::Aside(Shape::Text)),
-    ("language", Directive::Aside(Shape::Text)),
-    ("defines", Directive::Aside(Shape::Text)),
-    ("header", Directive::Aside(Shape::Text)),
-    ("ident", Directive::Aside(Shape::Text)),
-    ("pure-parser", Directive::Aside(Shape::Alone)),
-    ("locations", Directive::Aside(Shape::Alone)),
-    ("error-verbose", Directive::Aside(Shape::Alone)),
-    ("verbose", Directive::Aside(Shape::Alone)),
-    ("debug", Directive::Aside(Shape::Alone)),
-    ("token-table", Directive::Aside(Shape::Alone)),
-    ("no-lines", Directive::Aside(Shape::Alone)),
-    ("yacc", Directive::Aside(Shape::Alone)),
-    ("fixed-output-files", Directive::Aside(Shape::Alone)),
-    ("default-prec", Directive::Aside(Shape::Alone)),
-    ("raw", Directive::Aside(Shape::Alone)),
+/// The directives, each with its words, which have dashes.
+const WORDS: [(Directive, &str); 25] = [
+    (Directive::Token, "token 0"),
+    (Directive::Term, "term"),
+    (Directive::Left, "left <"),
+    (Directive::Right, "right >"),
+    (Directive::Nonassoc, "nonassoc"),
+    (Directive::Binary, "binary 2"),
+    (Directive::Precedence, "precedence"),
+    (Directive::Type, "type"),
+    (Directive::Nterm, "nterm"),
+    (Directive::Start, "start"),
+    (Directive::Union, "union"),
+    (Directive::Prec, "prec"),
+    (Directive::Empty, "empty"),
+    (Directive::Expect, "expect"),
+    (Directive::ExpectReduce, "expect-rr"),
+    (Directive::Define, "define"),
+    (Directive::Skeleton, "skeleton"),
+    (Directive::NoDefault, "no-default-prec"),
+    (Directive::OtherParser, "glr-parser dprec merge"),
+    (
+        Directive::OtherParser,
+        "nondeterministic-parser semantic-parser",
+    ),
+    (Directive::Aside(Shape::NamedBraces), "code"),
+    (Directive::Aside(Shape::Braces), BEFORE_BRACES),
+    (
+        Directive::Aside(Shape::BracesAndSymbols),
+        "destructor printer",
+    ),
+    (Directive::Aside(Shape::Text), BEFORE_TEXTS),
+    (Directive::Aside(Shape::Alone), ALONE),
 ];
 
-/// Whether a byte of a word stands for this one: capitals count as small letters, as they do to
-/// byacc, and a line below as a dash.
-fn stands_for(b: u8, wanted: u8) -> bool {
-    b.to_ascii_lowercase() == wanted || (b == b'_' && wanted == b'-')
-}
+const BEFORE_BRACES: &str = "initial-action parse-param lex-param param";
 
-/// Whether a word is this one, up to capitals, and to lines below in place of dashes.
+const BEFORE_TEXTS: &str = "require name-prefix file-prefix output language defines header ident";
+
+const ALONE: &str = "pure-parser locations error-verbose verbose debug token-table no-lines yacc \
+    fixed-output-files default-prec raw";
+
+/// Whether a word is this one: capitals count as small letters, as they do to byacc, and a line
+/// below as a dash.
 pub fn is_word(word: &[u8], name: &str) -> bool {
     let name = name.as_bytes();
     word.len() == name.len()
-        && word
-            .iter()
-            .zip(name)
-            .all(|(b, wanted)| stands_for(*b, *wanted))
+        && word.iter().zip(name).all(|(b, wanted)| {
+            b.to_ascii_lowercase() == *wanted || (*b == b'_' && *wanted == b'-')
+        })
 }
 
 /// The directive of a word with its percent sign.
@@ -143,8 +110,8 @@ pub fn directive_of(text: &[u8]) -> Directive {
     let word = text.get(1..).unwrap_or(&[]);
     WORDS
         .iter()
-        .find(|(name, _)| is_word(word, name))
-        .map_or(Directive::Unknown, |(_, directive)| *directive)
+        .find(|(_, names)| names.split(' ').any(|name| is_word(word, name)))
+        .map_or(Directive::Unknown, |(directive, _)| *directive)
 }
 
 /// Whether a directive or a string that an import takes stands at the front.
@@ -160,7 +127,7 @@ pub fn is_imported(bytes: &[u8]) -> bool {
 }
 
 impl Directive {
-    /// Whether tokens are listed behind it.
+    /// Whether tokens are listed after it.
     pub fn lists_tokens(self) -> bool {
         self.names_tokens() || self.is_level()
     }
@@ -190,7 +157,7 @@ impl Directive {
         )
     }
 
-    /// Whether a lexeme of this kind may stand behind it, where it is taken out.
+    /// Whether a lexeme of this kind may stand after it, where it is taken out.
     pub fn takes(self, kind: Kind) -> bool {
         match self {
             Directive::Expect | Directive::ExpectReduce => kind == Kind::Number,
@@ -211,14 +178,11 @@ impl Shape {
             Shape::Text => matches!(kind, Kind::Text | Kind::Equals),
             Shape::Braces => kind == Kind::Braced,
             Shape::NamedBraces => matches!(kind, Kind::Name | Kind::Braced),
-            Shape::BracesAndSymbols => is_symbol_or_tag(kind) || kind == Kind::Braced,
+            Shape::BracesAndSymbols => {
+                is_symbol(kind) || matches!(kind, Kind::Tag | Kind::Comma | Kind::Braced)
+            }
         }
     }
-}
-
-/// Whether a lexeme is a symbol or a tag.
-fn is_symbol_or_tag(kind: Kind) -> bool {
-    is_symbol(kind) || kind == Kind::Tag || kind == Kind::Comma
 }
 
 /// Whether a lexeme of this kind is a symbol where one can stand.

@@ -28,37 +28,30 @@ pub struct Group<'a> {
     pub head: Head,
     /// Its lexemes, that of its head first.
     pub lexemes: &'a [Lexeme],
-    /// Whether it stands behind the first mark.
+    /// Whether it stands after the first mark.
     pub in_rules: bool,
 }
 
-/// Whether a lexeme is the left side of a rule, with what stands behind it.
-fn is_left(kind: Kind, behind: &[Lexeme]) -> bool {
-    if kind != Kind::Name {
-        return false;
-    }
-    match behind {
+/// Whether a name is the left side of a rule, with what stands after it.
+fn is_left(after: &[Lexeme]) -> bool {
+    match after {
         [next, ..] if next.kind == Kind::Colon => true,
         [next, colon, ..] => next.kind == Kind::Reference && colon.kind == Kind::Colon,
         _ => false,
     }
 }
 
-/// How a lexeme begins a group, where it does, with what stands behind it.
-fn head_of(source: &[u8], lexeme: &Lexeme, behind: &[Lexeme], in_rules: bool) -> Option<Head> {
+/// How a lexeme begins a group, where it does, with what stands after it.
+fn head_of(source: &[u8], lexeme: &Lexeme, after: &[Lexeme], in_rules: bool) -> Option<Head> {
     match lexeme.kind {
         Kind::Mark => Some(Head::Mark),
         Kind::Code => Some(Head::Code),
         Kind::Bar if in_rules => Some(Head::Bar),
-        Kind::Name if in_rules && is_left(lexeme.kind, behind) => Some(Head::Left),
-        Kind::Word => {
-            let directive = directive_of(lexeme.text(source));
-            if in_rules && directive.is_in_body() {
-                None
-            } else {
-                Some(Head::Word(directive))
-            }
-        }
+        Kind::Name if in_rules && is_left(after) => Some(Head::Left),
+        Kind::Word => match directive_of(lexeme.text(source)) {
+            directive if in_rules && directive.is_in_body() => None,
+            directive => Some(Head::Word(directive)),
+        },
         _ => None,
     }
 }
@@ -76,8 +69,8 @@ fn starts_of(alloc: Global, source: &[u8], lexemes: &[Lexeme]) -> Result<Vec<Sta
     let mut starts = Vec::new(alloc);
     let mut in_rules = false;
     for (at, lexeme) in lexemes.iter().enumerate() {
-        let behind = lexemes.get(at.saturating_add(1)..).unwrap_or(&[]);
-        let head = match head_of(source, lexeme, behind, in_rules) {
+        let after = lexemes.get(at.saturating_add(1)..).unwrap_or(&[]);
+        let head = match head_of(source, lexeme, after, in_rules) {
             None if at == 0 => Some(Head::Stray),
             head => head,
         };

@@ -7,7 +7,7 @@ use std::alloc::{AllocError, AllocFailed};
 pub enum Kind {
     /// A name, in which dashes may stand.
     Name,
-    /// Digits, or hexadecimal ones behind `0x`.
+    /// Digits, or hexadecimal ones after `0x`.
     Number,
     /// A literal that `yacc` reads.
     Literal,

@@ -63,8 +63,7 @@ impl Walk {
                 Ok(true)
             }
             Err(flaw) => {
-                let (line, from) = (self.line, self.at);
-                let to = from;
+                let (line, from, to) = (self.line, self.at, self.at);
                 Err(Uncut::Flaw(flaw, Span { line, from, to }))
             }
         }

@@ -6,21 +6,12 @@ pub const MOST: usize = 32_767;
 /// The number of `error`.
 pub const ERROR: usize = 256;
 
-/// The value of a digit.
-fn digit(b: u8) -> usize {
-    match b {
-        b'0'..=b'9' => usize::from(b - b'0'),
-        b'a'..=b'f' => usize::from(b - b'a').saturating_add(10),
-        b'A'..=b'F' => usize::from(b - b'A').saturating_add(10),
-        _ => 0,
-    }
-}
-
 /// The number of digits of a base, or a large one.
 fn value_of(digits: &[u8], base: usize) -> usize {
     let mut value: usize = 0;
     for b in digits {
-        value = value.saturating_mul(base).saturating_add(digit(*b));
+        let digit = char::from(*b).to_digit(16).unwrap_or(0) as usize;
+        value = value.saturating_mul(base).saturating_add(digit);
     }
     value
 }

@@ -4,8 +4,8 @@ use crate::lexeme::{Flaw, Kind};
 use ylexemes::bytes::{is_blank, is_name_byte, is_name_start};
 use ylexemes::literal::literal_at;
 
-/// How many bytes stand up to the closing quote, with both quotes. A backslash and the byte behind
-/// it belong together; so byacc reads on behind a newline with a backslash before it, and any other
+/// How many bytes stand up to the closing quote, with both quotes. A backslash and the byte after
+/// it belong together; so byacc reads on after a newline with a backslash before it, and any other
 /// newline ends the search.
 fn quoted_length(bytes: &[u8], quote: u8) -> Result<usize, Flaw> {
     let mut escaped = false;
@@ -21,19 +21,12 @@ fn quoted_length(bytes: &[u8], quote: u8) -> Result<usize, Flaw> {
     Err(Flaw::Unfinished)
 }
 
-/// What stands between the quotes of a text of this length.
-fn inside(bytes: &[u8], length: usize) -> &[u8] {
-    bytes.get(1..length.saturating_sub(1)).unwrap_or(&[])
-}
-
 /// A quote that begins no literal of `yacc`: one byte, or several characters without an escape.
 fn odd_quote(bytes: &[u8]) -> Result<(Kind, usize), Flaw> {
     let length = quoted_length(bytes, b'\'')?;
-    let text = inside(bytes, length);
-    match text {
-        [] => Err(Flaw::BadLiteral),
+    match bytes.get(1..length.saturating_sub(1)).unwrap_or(&[]) {
         [_] => Ok((Kind::ByteLiteral, length)),
-        [b'\\', ..] => Err(Flaw::BadLiteral),
+        [] | [b'\\', ..] => Err(Flaw::BadLiteral),
         _ => Ok((Kind::Text, length)),
     }
 }
@@ -83,11 +76,6 @@ pub fn tag_at(bytes: &[u8]) -> Result<(Kind, usize), Flaw> {
     Err(Flaw::Unfinished)
 }
 
-/// Whether a byte can stand in square brackets.
-fn is_reference_byte(b: u8) -> bool {
-    is_name_byte(b) || b == b'-' || is_blank(b)
-}
-
 /// The name in square brackets.
 pub fn reference_at(bytes: &[u8]) -> Result<(Kind, usize), Flaw> {
     let Some(end) = bytes.iter().position(|b| *b == b']') else {
@@ -95,7 +83,11 @@ pub fn reference_at(bytes: &[u8]) -> Result<(Kind, usize), Flaw> {
     };
     let inner = bytes.get(1..end).unwrap_or(&[]);
     let has_name = inner.iter().any(|b| is_name_start(*b));
-    if has_name && inner.iter().all(|b| is_reference_byte(*b)) {
+    if has_name
+        && inner
+            .iter()
+            .all(|b| is_name_byte(*b) || *b == b'-' || is_blank(*b))
+    {
         Ok((Kind::Reference, end.saturating_add(1)))
     } else {
         Err(Flaw::BadReference)

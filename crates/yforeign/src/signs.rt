@@ -32,15 +32,6 @@ fn shared_at(bytes: &[u8], piece: Piece) -> Result<(Piece, usize), Flaw> {
     }
 }
 
-/// What a slash begins.
-fn slash_at(bytes: &[u8]) -> Result<(Piece, usize), Flaw> {
-    if bytes.starts_with(b"//") {
-        Ok((Piece::Remark, line_length(bytes)))
-    } else {
-        shared_at(bytes, Piece::Comment)
-    }
-}
-
 /// Whether these are the digits of a number.
 fn is_number(digits: &[u8]) -> bool {
     match digits {
@@ -59,14 +50,6 @@ fn number_at(bytes: &[u8]) -> Result<(Piece, usize), Flaw> {
     } else {
         Err(Flaw::BadNumber)
     }
-}
-
-/// The name at the front, or a string to be translated.
-fn name_at(bytes: &[u8]) -> Result<(Piece, usize), Flaw> {
-    if bytes.starts_with(b"_(\"") {
-        return lexeme(translated_at(bytes));
-    }
-    Ok((Piece::Lexeme(Kind::Name), word_length(bytes)))
 }
 
 /// What a percent sign begins.
@@ -88,15 +71,6 @@ fn lexeme(found: Result<(Kind, usize), Flaw>) -> Result<(Piece, usize), Flaw> {
     Ok((Piece::Lexeme(kind), length))
 }
 
-/// The mark of a line that a `#` begins.
-fn line_mark_at(bytes: &[u8]) -> Result<(Piece, usize), Flaw> {
-    if bytes.starts_with(b"#line ") {
-        Ok((Piece::Lexeme(Kind::LineMark), line_length(bytes)))
-    } else {
-        Err(Flaw::Foreign)
-    }
-}
-
 /// The lexeme that one byte is by itself.
 fn sign(b: u8) -> Option<Kind> {
     match b {
@@ -109,7 +83,7 @@ fn sign(b: u8) -> Option<Kind> {
     }
 }
 
-/// What begins by a sign that has something behind it.
+/// What begins by a sign that has something after it.
 fn opened_at(bytes: &[u8], first: u8) -> Result<(Piece, usize), Flaw> {
     match first {
         b'%' => percent_at(bytes),
@@ -119,7 +93,11 @@ fn opened_at(bytes: &[u8], first: u8) -> Result<(Piece, usize), Flaw> {
         b'<' => lexeme(tag_at(bytes)),
         b'[' => lexeme(reference_at(bytes)),
         b'(' => lexeme(arguments_at(bytes)),
-        b'#' => line_mark_at(bytes),
+        b'/' if bytes.starts_with(b"//") => Ok((Piece::Remark, line_length(bytes))),
+        b'/' => shared_at(bytes, Piece::Comment),
+        b'#' if bytes.starts_with(b"#line ") => {
+            Ok((Piece::Lexeme(Kind::LineMark), line_length(bytes)))
+        }
         _ => Err(Flaw::Foreign),
     }
 }
@@ -128,12 +106,12 @@ fn opened_at(bytes: &[u8], first: u8) -> Result<(Piece, usize), Flaw> {
 pub fn piece_at(bytes: &[u8], first: u8) -> Result<(Piece, usize), Flaw> {
     if is_blank(first) {
         Ok((Piece::Blank, 1))
-    } else if first == b'/' {
-        slash_at(bytes)
     } else if is_digit(first) {
         number_at(bytes)
+    } else if bytes.starts_with(b"_(\"") {
+        lexeme(translated_at(bytes))
     } else if is_name_start(first) {
-        name_at(bytes)
+        Ok((Piece::Lexeme(Kind::Name), word_length(bytes)))
     } else if let Some(kind) = sign(first) {
         Ok((Piece::Lexeme(kind), 1))
     } else {

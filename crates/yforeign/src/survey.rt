@@ -53,12 +53,11 @@ impl Drop for Survey {
 /// What stands between the quotes of a string.
 pub fn inside<'a>(source: &'a [u8], lexeme: &Lexeme) -> &'a [u8] {
     let text = lexeme.text(source);
-    let (before, behind) = if lexeme.kind == Kind::Translated {
-        (3, 2)
-    } else {
-        (1, 1)
+    let (before, after) = match lexeme.kind {
+        Kind::Translated => (3, 2),
+        _ => (1, 1),
     };
-    text.get(before..text.len().saturating_sub(behind))
+    text.get(before..text.len().saturating_sub(after))
         .unwrap_or(&[])
 }
 
@@ -146,9 +145,7 @@ impl Survey {
         let Some((left, body)) = lexemes.split_first() else {
             return Ok(());
         };
-        if self.first.is_none() {
-            self.first = Some(*left);
-        }
+        self.first = self.first.or(Some(*left));
         intern(alloc, &mut self.lefts, left.text(source))?;
         intern_names(alloc, &mut self.used, source, body)
     }
@@ -161,13 +158,16 @@ impl Survey {
         directive: Directive,
         lexemes: &[Lexeme],
     ) -> Result<(), AllocError> {
-        let mut last = None;
+        let mut last: Option<Lexeme> = None;
         for (at, lexeme) in lexemes.iter().enumerate().skip(1) {
             match (lexeme.kind, last) {
-                (Kind::Arguments, _) => {}
-                (Kind::Number, Some(token)) => self.take_number(alloc, source, token, lexeme)?,
+                (Kind::Number, Some(token)) if number_of(lexeme.text(source)) == 0 => {
+                    intern(alloc, &mut self.ends, token.text(source))?;
+                }
+                (Kind::Number, Some(_)) | (Kind::Arguments, _) => {}
                 (Kind::Text | Kind::Translated, Some(token)) if directive.names_tokens() => {
-                    self.take_alias(alloc, source, token, lexeme)?;
+                    let key = Vec::from_slice(alloc, inside(source, lexeme))?;
+                    self.aliases.insert(key, token)?;
                     last = None;
                 }
                 (kind, _) if is_symbol(kind) && !is_macro(lexemes, at) => {
@@ -181,33 +181,6 @@ impl Survey {
         Ok(())
     }
 
-    /// Takes in the number of a token.
-    fn take_number(
-        &mut self,
-        alloc: Global,
-        source: &[u8],
-        token: Lexeme,
-        number: &Lexeme,
-    ) -> Result<(), AllocError> {
-        if number_of(number.text(source)) == 0 {
-            intern(alloc, &mut self.ends, token.text(source))?;
-        }
-        Ok(())
-    }
-
-    /// Takes in a string that stands for a token.
-    fn take_alias(
-        &mut self,
-        alloc: Global,
-        source: &[u8],
-        token: Lexeme,
-        text: &Lexeme,
-    ) -> Result<(), AllocError> {
-        let key = Vec::from_slice(alloc, inside(source, text))?;
-        self.aliases.insert(key, token)?;
-        Ok(())
-    }
-
     /// The token that a string stands for.
     pub fn alias(&self, source: &[u8], text: &Lexeme) -> Option<Lexeme> {
         self.aliases.get(inside(source, text)).copied()
@@ -215,14 +188,11 @@ impl Survey {
 
     /// Whether a symbol is the end.
     pub fn is_end(&self, source: &[u8], lexeme: &Lexeme) -> bool {
-        if is_text(lexeme.kind) {
-            match self.alias(source, lexeme) {
-                Some(token) => is_among(&self.ends, token.text(source)),
-                None => false,
-            }
-        } else {
-            is_among(&self.ends, lexeme.text(source))
+        if !is_text(lexeme.kind) {
+            return is_among(&self.ends, lexeme.text(source));
         }
+        let token = self.alias(source, lexeme);
+        token.map_or(false, |token| is_among(&self.ends, token.text(source)))
     }
 
     /// The name of the start symbol.
@@ -235,7 +205,6 @@ impl Survey {
 
     /// Whether the start symbol stands in a body.
     pub fn uses_start(&self, source: &[u8]) -> bool {
-        let name = self.start_name(source);
-        is_among(&self.used, name)
+        is_among(&self.used, self.start_name(source))
     }
 }

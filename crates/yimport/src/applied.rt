@@ -1,8 +1,7 @@
 //! A file with its changes made.
 
-use crate::edits::{Edit, Edits};
+use crate::edits::{Edit, Edits, FirstTrouble};
 use crate::refusal::Trouble;
-use crate::trouble::FirstTrouble;
 use std::alloc::Global;
 use yforeign::runs::newlines;
 use ylexemes::bytes::{is_blank, is_name_byte};
@@ -49,18 +48,13 @@ impl<'a> Page<'a> {
             part
         };
         if self.passing && matches!(kept, [b'\n', ..] | [b'\r', b'\n', ..]) {
-            self.drop_spaces();
+            let end = self.out.iter().rposition(|b| !is_space(*b));
+            self.out.truncate(end.map_or(0, |at| at.saturating_add(1)));
         }
         self.trouble.append(&mut self.out, kept);
         if !part.is_empty() {
             self.passing = false;
         }
-    }
-
-    /// Takes the spaces at the end of the text away.
-    fn drop_spaces(&mut self) {
-        let kept = self.out.iter().rposition(|b| !is_space(*b));
-        self.out.truncate(kept.map_or(0, |at| at.saturating_add(1)));
     }
 
     /// Writes the newlines of a part that is left out, so that lines keep their numbers.
@@ -99,26 +93,19 @@ impl<'a> Page<'a> {
 
 /// A file with its changes made.
 pub fn applied(alloc: Global, changes: &mut Edits<'_>) -> Result<Vec<u8>, Trouble> {
-    let Edits {
-        source,
-        edits,
-        texts,
-        ..
-    } = changes;
-    edits.sort_by_key(|edit| edit.from)?;
+    let source = changes.source;
+    changes.edits.sort_by_key(|edit| edit.from)?;
     let mut page = Page {
-        source: *source,
+        source,
         out: Vec::with_capacity(alloc, source.len())?,
         at: 0,
         passing: false,
         trouble: FirstTrouble { first: None },
     };
-    for edit in edits.iter() {
-        page.make(edit, texts);
+    for edit in &changes.edits {
+        page.make(edit, &changes.texts);
     }
     page.copy_to(source.len());
-    match page.trouble.checked() {
-        Ok(()) => Ok(page.out),
-        Err(trouble) => Err(trouble),
-    }
+    page.trouble.checked()?;
+    Ok(page.out)
 }

@@ -23,21 +23,10 @@ fn counts(lexemes: &[Lexeme]) -> (usize, usize) {
     (symbols, actions)
 }
 
-/// Whether `%prec` with a symbol, and this behind it, has to go to the end of the body.
-fn has_to_move(behind: &[Lexeme]) -> bool {
-    let (symbols, actions) = counts(behind);
-    symbols > 0 || actions > 1
-}
-
-/// Whether a lexeme of this kind stands for something in a body. What `%prec` names doesn't.
-fn fills(before: Option<Kind>, kind: Kind) -> bool {
-    kind == Kind::Braced || (is_symbol(kind) && before != Some(Kind::Word))
-}
-
 /// Where a body stands.
-#[derive(Clone, Copy)]
+#[derive(Clone, Copy, Default)]
 struct Place {
-    /// The symbol behind `%prec`.
+    /// The symbol after `%prec`.
     prec: Option<Lexeme>,
     /// Whether `%prec` goes to the end.
     moves: bool,
@@ -54,70 +43,46 @@ struct Place {
 struct Around<'a> {
     before: Option<Kind>,
     lexeme: &'a Lexeme,
-    behind: &'a [Lexeme],
+    after: &'a [Lexeme],
 }
 
 impl Around<'_> {
     /// Whether a lexeme of this kind comes next.
     fn is_before(self, kind: Kind) -> bool {
-        match self.behind {
-            [next, ..] => next.kind == kind,
-            [] => false,
-        }
+        self.after.first().map_or(false, |next| next.kind == kind)
     }
 }
 
 impl Work<'_> {
-    /// Whether the rule is one of the start symbol.
-    fn is_of_start(&self) -> bool {
-        let start = self.survey.start_name(self.source);
-        match self.left {
-            Some(left) => left.text(self.source) == start,
-            None => false,
-        }
-    }
-
     /// Takes the end out of a body of the start symbol.
     fn take_end(&mut self, around: Around<'_>) {
-        let lexeme = around.lexeme;
-        let (symbols, actions) = counts(around.behind);
-        if symbols > 0 || !self.is_of_start() {
+        let (lexeme, source) = (around.lexeme, self.source);
+        let (symbols, actions) = counts(around.after);
+        let start = self.survey.start_name(source);
+        if symbols > 0 || self.left.map_or(true, |left| left.text(source) != start) {
             self.edits.refuse(Refusal::EndElsewhere, lexeme);
-        } else if self.survey.uses_start(self.source) {
+        } else if self.survey.uses_start(source) {
             self.edits.refuse(Refusal::EndAndStart, lexeme);
         } else if around.before == Some(Kind::Braced) && actions == 0 {
-            self.edits.refuse(Refusal::EndBehindAction, lexeme);
+            self.edits.refuse(Refusal::EndAfterAction, lexeme);
         } else {
             self.edits.take_out(lexeme, Reason::EndInBody);
-            self.note_end(lexeme);
+            let (body, span) = (self.bodies, lexeme.span);
+            let ended = Ended { body, span };
+            self.edits.trouble.push(&mut self.ended, ended);
         }
     }
 
-    /// Notes that the end was taken out of the body.
-    fn note_end(&mut self, lexeme: &Lexeme) {
-        let ended = Ended {
-            body: self.bodies,
-            span: lexeme.span,
-        };
-        self.edits.trouble.push(&mut self.ended, ended);
-    }
-
-    /// Takes in what `%prec` names.
-    fn import_prec_symbol(&mut self, place: &Place, lexeme: &Lexeme) {
-        if self.is_end(lexeme) {
-            self.edits.refuse(Refusal::EndElsewhere, lexeme);
-        } else if place.moves {
-            self.edits.remove(lexeme);
-        } else {
-            self.keep_symbol(lexeme);
-        }
-    }
-
-    /// Takes in a symbol of a body.
+    /// Takes in a symbol of a body, or what `%prec` names.
     fn import_symbol(&mut self, place: &Place, around: Around<'_>) {
         let lexeme = around.lexeme;
-        if around.before == Some(Kind::Word) && is_same(place.prec, lexeme) {
-            self.import_prec_symbol(place, lexeme);
+        let at = lexeme.span.from;
+        let is_named = around.before == Some(Kind::Word)
+            && place.prec.map_or(false, |prec| prec.span.from == at);
+        if is_named && self.is_end(lexeme) {
+            self.edits.refuse(Refusal::EndElsewhere, lexeme);
+        } else if is_named && place.moves {
+            self.edits.remove(lexeme);
         } else if self.is_end(lexeme) {
             self.take_end(around);
         } else {
@@ -128,15 +93,16 @@ impl Work<'_> {
     /// Takes in `%prec`.
     fn import_prec(&mut self, place: &mut Place, around: Around<'_>) {
         let lexeme = around.lexeme;
-        let (symbol, behind) = match around.behind {
-            [symbol, behind @ ..] if is_symbol(symbol.kind) => (symbol, behind),
+        let (symbol, after) = match around.after {
+            [symbol, after @ ..] if is_symbol(symbol.kind) => (symbol, after),
             _ => return self.edits.refuse(Refusal::Misplaced, lexeme),
         };
         if place.prec.is_some() {
             return self.edits.refuse(Refusal::SecondPrec, lexeme);
         }
         place.prec = Some(*symbol);
-        place.moves = has_to_move(behind);
+        let (symbols, actions) = counts(after);
+        place.moves = symbols > 0 || actions > 1;
         if place.moves {
             self.edits.remove(lexeme);
             self.edits.note(lexeme.span, How::ToEnd, Reason::PrecInside);
@@ -147,7 +113,7 @@ impl Work<'_> {
 
     /// Takes in `%empty`, after which one action may come.
     fn import_empty(&mut self, place: &Place, around: Around<'_>) {
-        let (symbols, actions) = counts(around.behind);
+        let (symbols, actions) = counts(around.after);
         if place.filled || symbols > 0 || actions > 1 {
             self.edits.refuse(Refusal::NotEmpty, around.lexeme);
         } else {
@@ -210,28 +176,27 @@ impl Work<'_> {
     /// Takes in a body with what ends it.
     pub fn import_body(&mut self, body: &[Lexeme]) {
         self.bodies = self.bodies.saturating_add(1);
-        let mut place = Place {
-            prec: None,
-            moves: false,
-            filled: false,
-            closed: false,
-            end: 0,
-        };
+        let mut place = Place::default();
         let mut before = None;
         for (at, lexeme) in body.iter().enumerate() {
             if self.edits.trouble.first.is_some() {
                 return;
             }
-            let behind = body.get(at.saturating_add(1)..).unwrap_or(&[]);
-            let around = Around {
-                before,
-                lexeme,
-                behind,
-            };
-            self.import_part(&mut place, around);
-            place.filled = place.filled || fills(before, lexeme.kind);
-            before = Some(lexeme.kind);
-            if lexeme.kind != Kind::Semicolon {
+            let after = body.get(at.saturating_add(1)..).unwrap_or(&[]);
+            let kind = lexeme.kind;
+            self.import_part(
+                &mut place,
+                Around {
+                    before,
+                    lexeme,
+                    after,
+                },
+            );
+            // what `%prec` names fills no body
+            let is_body = is_symbol(kind) && before != Some(Kind::Word);
+            place.filled = place.filled || is_body || kind == Kind::Braced;
+            before = Some(kind);
+            if kind != Kind::Semicolon {
                 place.end = lexeme.span.to;
             }
         }
@@ -240,12 +205,12 @@ impl Work<'_> {
 
     /// Takes in a rule from its left side to the end of its first body.
     pub fn import_rule(&mut self, lexemes: &[Lexeme]) {
-        let Some((left, behind)) = lexemes.split_first() else {
+        let Some((left, after)) = lexemes.split_first() else {
             return;
         };
         self.left = Some(*left);
         self.keep_symbol(left);
-        match behind {
+        match after {
             [reference, _, body @ ..] if reference.kind == Kind::Reference => {
                 self.edits.take_out(reference, Reason::Reference);
                 self.import_body(body);
@@ -253,13 +218,5 @@ impl Work<'_> {
             [_, body @ ..] => self.import_body(body),
             [] => {}
         }
-    }
-}
-
-/// Whether two lexemes stand at one place.
-fn is_same(first: Option<Lexeme>, second: &Lexeme) -> bool {
-    match first {
-        Some(first) => first.span.from == second.span.from,
-        None => false,
     }
 }

@@ -135,7 +135,7 @@ impl Work<'_> {
         self.edits.moving = false;
     }
 
-    /// Takes in code before the rules, and what stands behind it, or what begins the file.
+    /// Takes in code before the rules, and what stands after it, or what begins the file.
     pub fn import_loose(&mut self, lexemes: &[Lexeme]) {
         for lexeme in lexemes {
             match lexeme.kind {

@@ -2,9 +2,50 @@
 
 use crate::note::{How, Note, Reason};
 use crate::refusal::{Refusal, Refused, Trouble};
-use crate::trouble::FirstTrouble;
 use std::alloc::Global;
 use yforeign::lexeme::{Lexeme, Span};
+
+/// Remembers the first trouble, so that it need not be asked for after each step.
+///
+/// A step that memory runs out in makes nothing, or less than it would have. The work may go on
+/// after it, since `checked` tells of the trouble before anything of it is used.
+#[derive(Clone, Copy, Drop)]
+pub struct FirstTrouble {
+    /// It; `None` as long as there is none.
+    pub first: Option<Trouble>,
+}
+
+impl FirstTrouble {
+    /// The first trouble, where there was one.
+    pub fn checked(&self) -> Result<(), Trouble> {
+        self.first.map_or(Ok(()), Err)
+    }
+
+    /// Remembers a trouble, unless there was one before.
+    pub fn remember(&mut self, trouble: Trouble) {
+        self.first = self.first.or(Some(trouble));
+    }
+
+    /// Puts an item at the end of a list.
+    pub fn push<T: Drop>(&mut self, list: &mut Vec<T>, item: T) {
+        if list.push(item).is_err() {
+            self.remember(Trouble::Memory);
+        }
+    }
+
+    /// Writes a text after another one.
+    pub fn append(&mut self, text: &mut Vec<u8>, more: &[u8]) {
+        if text.extend_from_slice(more).is_err() {
+            self.remember(Trouble::Memory);
+        }
+    }
+
+    /// Writes a word and a space after a text.
+    pub fn append_word(&mut self, text: &mut Vec<u8>, word: &[u8]) {
+        self.append(text, word);
+        self.append(text, b" ");
+    }
+}
 
 /// A part of a file that is replaced by one of the texts written.
 #[derive(Clone, Copy, Drop)]
@@ -24,7 +65,7 @@ pub struct Edits<'a> {
     pub source: &'a [u8],
     /// The changes, in the order of the file.
     pub edits: Vec<Edit>,
-    /// The texts written, one behind the other.
+    /// The texts written, one after the other.
     pub texts: Vec<u8>,
     /// What is said of each change.
     pub notes: Vec<Note>,
@@ -36,7 +77,7 @@ pub struct Edits<'a> {
     pub made: Vec<u8>,
     /// Whether what is kept goes there.
     pub moving: bool,
-    /// The first trouble: behind it, none of the changes is used.
+    /// The first trouble: after it, none of the changes is used.
     pub trouble: FirstTrouble,
 }
 
@@ -96,8 +137,7 @@ impl<'a> Edits<'a> {
     pub fn keep(&mut self, lexeme: &Lexeme) {
         if self.moving {
             let text = lexeme.text(self.source);
-            self.trouble.append(&mut self.moved, text);
-            self.trouble.append(&mut self.moved, b" ");
+            self.trouble.append_word(&mut self.moved, text);
             self.remove(lexeme);
         }
     }
@@ -110,18 +150,16 @@ impl<'a> Edits<'a> {
             return self.edit(lexeme.span.from, lexeme.span.to, start);
         }
         let text = self.texts.get(start..).unwrap_or(&[]);
-        self.trouble.append(&mut self.moved, text);
-        self.trouble.append(&mut self.moved, b" ");
+        self.trouble.append_word(&mut self.moved, text);
         self.remove(lexeme);
     }
 
     /// Lists a name that was made.
     pub fn list_made(&mut self, name: &[u8]) {
         if self.made.is_empty() {
-            self.trouble.append(&mut self.made, b"%token ");
+            self.trouble.append_word(&mut self.made, b"%token");
         }
-        self.trouble.append(&mut self.made, name);
-        self.trouble.append(&mut self.made, b" ");
+        self.trouble.append_word(&mut self.made, name);
     }
 
     /// Puts what goes in front of the first mark there.

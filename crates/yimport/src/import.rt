@@ -9,7 +9,7 @@ use indexmap::IndexMap;
 use std::alloc::Global;
 use std::mem;
 use yforeign::groups::{Group, Head, groups_of};
-use yforeign::lexeme::{Lexeme, Span};
+use yforeign::lexeme::Lexeme;
 use yforeign::lexer::{Lexemes, lexemes_of};
 use yforeign::survey::Survey;
 
@@ -75,38 +75,28 @@ impl Work<'_> {
         }
     }
 
-    /// Takes in all groups of a file, and its comments.
-    fn import_all(&mut self, remarks: &[Span], groups: &[Group<'_>]) {
-        if self.survey.fill(self.alloc, self.source, groups).is_err() {
-            return self.edits.trouble.remember(Trouble::Memory);
-        }
-        for remark in remarks {
-            self.edits.close_remark(*remark);
-        }
-        self.import_groups(groups);
-        self.edits.insert_moved();
-    }
-
-    /// Takes in all groups.
-    fn import_groups(&mut self, groups: &[Group<'_>]) {
-        for group in groups {
+    /// Takes in all groups of a file.
+    fn import_groups(&mut self, lexemes: &[Lexeme]) -> Result<(), Trouble> {
+        let groups = groups_of(self.alloc, self.source, lexemes)?;
+        self.survey.fill(self.alloc, self.source, &groups)?;
+        for group in &groups {
             self.import_group(group);
         }
+        Ok(())
     }
 
-    /// Makes the changes, unless there was a trouble.
-    fn make_changes(&mut self) -> Result<(), Trouble> {
+    /// Takes in the file, which has these lexemes, and makes the changes, unless there was a
+    /// trouble.
+    fn run(&mut self, lexemes: &Lexemes) -> Result<(), Trouble> {
+        for remark in &lexemes.remarks {
+            self.edits.close_remark(*remark);
+        }
+        self.import_groups(&lexemes.all)?;
+        self.edits.insert_moved();
         self.edits.trouble.checked()?;
         self.text = applied(self.alloc, &mut self.edits)?;
         self.edits.notes.sort_by_key(|note| note.span.line)?;
         Ok(())
-    }
-
-    /// Takes in the file, which has these lexemes.
-    fn run(&mut self, lexemes: &Lexemes) -> Result<(), Trouble> {
-        let groups = groups_of(self.alloc, self.source, &lexemes.all)?;
-        self.import_all(&lexemes.remarks, &groups);
-        self.make_changes()
     }
 
     /// The import, once all is taken in; nothing of it stays in the work.

@@ -11,5 +11,4 @@ pub mod note;
 pub mod refusal;
 pub mod spelling;
 pub mod symbols;
-mod trouble;
 mod typed;

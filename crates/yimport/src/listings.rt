@@ -87,12 +87,6 @@ impl Work<'_> {
         self.edits.replace(word, start, reason);
     }
 
-    /// Whether a token is `error`.
-    fn is_error(&self, token: &Lexeme) -> bool {
-        let name = token.text(self.source);
-        name == b"error".as_slice() || name == b"YYerror".as_slice()
-    }
-
     /// Keeps the number of a token, where `yacc` can have it.
     fn keep_number(&mut self, place: &Place, lexeme: &Lexeme) {
         let Some(token) = place.token else {
@@ -100,11 +94,12 @@ impl Work<'_> {
         };
         let text = lexeme.text(self.source);
         let number = number_of(text);
+        let is_error = matches!(token.text(self.source), b"error" | b"YYerror");
         if self.is_end(&token) {
             self.edits.remove(lexeme);
         } else if number > MOST {
             self.edits.take_out(lexeme, Reason::LargeNumber);
-        } else if number == ERROR && !self.is_error(&token) {
+        } else if number == ERROR && !is_error {
             self.edits.take_out(lexeme, Reason::ErrorNumber);
         } else if is_hexadecimal(text) {
             let start = self.edits.texts.len();
@@ -141,15 +136,6 @@ impl Work<'_> {
         }
     }
 
-    /// Takes out a macro that stands for a number.
-    fn take_macro(&mut self, place: &Place, lexeme: &Lexeme) {
-        if place.token.is_some() {
-            self.edits.take_out(lexeme, Reason::MacroNumber);
-        } else {
-            self.edits.refuse(Refusal::Misplaced, lexeme);
-        }
-    }
-
     /// Takes in one lexeme of a list.
     fn import_listed(&mut self, place: &mut Place, rest: &[Lexeme], at: usize, lexeme: &Lexeme) {
         match lexeme.kind {
@@ -170,7 +156,10 @@ impl Work<'_> {
             }
             Kind::Number => self.keep_number(place, lexeme),
             Kind::Arguments if is_macro(rest, at.saturating_sub(1)) => self.edits.remove(lexeme),
-            Kind::Name if is_macro(rest, at) => self.take_macro(place, lexeme),
+            Kind::Name if is_macro(rest, at) && place.token.is_some() => {
+                self.edits.take_out(lexeme, Reason::MacroNumber);
+            }
+            Kind::Name if is_macro(rest, at) => self.edits.refuse(Refusal::Misplaced, lexeme),
             kind if is_text(kind) && place.directive.names_tokens() => {
                 self.take_alias(place, lexeme);
             }

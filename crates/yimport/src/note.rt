@@ -26,74 +26,41 @@ impl Effect {
     }
 }
 
-/// Why something is changed.
+/// Why something is changed: what each says is its `text`.
 #[derive(Clone, Copy, Drop)]
 pub enum Reason {
-    /// A directive for the parser that bison or byacc writes.
     ForItsParser,
-    /// A number of expected conflicts.
     Expected,
-    /// A directive that asks for other tables.
     TablesAsked,
-    /// Another word for one of yacc's directives.
     OldWord,
-    /// `%precedence`.
     Precedence,
-    /// A `%type` list without a tag, or without a nonterminal.
     NoType,
-    /// A token in a `%type` list.
     TypedToken,
-    /// A name in a `%type` list that no rule has as its left side.
     TypedUnknown,
-    /// A string that is listed with its token.
     Alias,
-    /// Such a string in another place.
     AliasUsed,
-    /// A string that no token has.
     MadeName,
-    /// A string of one character that no token has.
     MadeSign,
-    /// The end in a list of tokens.
     EndListed,
-    /// The end in a body.
     EndInBody,
-    /// The number of a token in a macro.
     MacroNumber,
-    /// A number above 32,767.
     LargeNumber,
-    /// The number 256.
     ErrorNumber,
-    /// A hexadecimal number.
     HexNumber,
-    /// `%empty`.
     EmptyWord,
-    /// A name in square brackets.
     Reference,
-    /// A comment from two slashes.
     Remark,
-    /// A comma or a semicolon in a declaration.
     Separator,
-    /// A tag that is no name.
     OddTag,
-    /// A second tag in a list.
     SecondTag,
-    /// A declaration between rules.
     Between,
-    /// A byte between quotes that `yacc` doesn't read so.
     ByteLiteral,
-    /// The type of an inner action.
     InnerType,
-    /// `=` before an action.
     Equals,
-    /// The name of a union.
     UnionName,
-    /// `#line`.
     LineMark,
-    /// `%prec` inside a body.
     PrecInside,
-    /// A name with dashes.
     Dash,
-    /// `YYerror`.
     ErrorName,
 }
 

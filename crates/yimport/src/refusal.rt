@@ -3,36 +3,22 @@
 use std::alloc::AllocError;
 use yforeign::lexeme::{Flaw, Span, Uncut};
 
-/// What a file has that can't be imported.
+/// What a file has that can't be imported: what each says is its `text`.
 #[derive(Clone, Copy, Drop)]
 pub enum Refusal {
-    /// No lexeme begins at a place.
     Flaw(Flaw),
-    /// A directive that isn't known.
     UnknownWord,
-    /// A directive that asks for another kind of parser.
     OtherParser,
-    /// `%no-default-prec`.
     NoDefault,
-    /// A second start symbol.
     SeveralStarts,
-    /// A lexeme that can't stand where it does.
     Misplaced,
-    /// A directive whose list is empty.
     NothingListed,
-    /// A code block between rules.
     CodeBetween,
-    /// The end where `yacc` can't put it.
     EndElsewhere,
-    /// The end, where the start symbol stands in a body.
     EndAndStart,
-    /// The end behind an action that would become the last of its rule.
-    EndBehindAction,
-    /// A second `%prec` in a rule.
+    EndAfterAction,
     SecondPrec,
-    /// `%empty` in a body that isn't.
     NotEmpty,
-    /// A name with dashes that would become one that is there.
     NameTaken,
 }
 
@@ -54,22 +40,17 @@ pub enum Trouble {
     Memory,
 }
 
-/// What is said of a flaw.
-fn flaw_text(flaw: Flaw) -> &'static str {
-    match flaw {
-        Flaw::Unfinished => "what begins here has no end",
-        Flaw::BadLiteral => "no literal of one character from 1 to 255, and no string, begins here",
-        Flaw::BadNumber => "no number begins here",
-        Flaw::BadReference => "no name stands in these brackets",
-        Flaw::Foreign => "neither bison nor byacc has a lexeme that begins here",
-    }
-}
-
 impl Refusal {
     /// What is said of it.
     pub fn text(self) -> &'static str {
         match self {
-            Refusal::Flaw(flaw) => flaw_text(flaw),
+            Refusal::Flaw(Flaw::Unfinished) => "what begins here has no end",
+            Refusal::Flaw(Flaw::BadLiteral) => {
+                "no literal of one character from 1 to 255, and no string, begins here"
+            }
+            Refusal::Flaw(Flaw::BadNumber) => "no number begins here",
+            Refusal::Flaw(Flaw::BadReference) => "no name stands in these brackets",
+            Refusal::Flaw(Flaw::Foreign) => "neither bison nor byacc has a lexeme that begins here",
             Refusal::UnknownWord => "an unknown directive",
             Refusal::OtherParser => "it asks for another kind of parser",
             Refusal::NoDefault => "rules of yacc have a precedence without %prec",
@@ -82,7 +63,7 @@ impl Refusal {
                  the start symbol"
             }
             Refusal::EndAndStart => "it is the end, and the start symbol stands in a body too",
-            Refusal::EndBehindAction => {
+            Refusal::EndAfterAction => {
                 "it is the end, and without it the action before it would be the rule's last"
             }
             Refusal::SecondPrec => "a rule has one %prec",

@@ -6,7 +6,7 @@ use crate::refusal::{Refusal, Trouble};
 use crate::spelling::{made_name, other_name, unbroken};
 use indexmap::IndexMap;
 use std::alloc::{AllocError, Global};
-use yforeign::lexeme::{Kind, Lexeme, Span};
+use yforeign::lexeme::{Lexeme, Span};
 use yforeign::survey::{Survey, inside, is_text};
 use ysymbols::names::is_among;
 
@@ -109,13 +109,6 @@ impl<'a> Work<'a> {
         }
     }
 
-    /// A text of its own.
-    fn copied(&mut self, text: &[u8]) -> Vec<u8> {
-        let mut copy = Vec::new(self.alloc);
-        self.edits.trouble.append(&mut copy, text);
-        copy
-    }
-
     /// What was made, empty where memory ran out, which is remembered.
     fn made_or_trouble(&mut self, made: Result<Vec<u8>, AllocError>) -> Vec<u8> {
         match made {
@@ -138,10 +131,8 @@ impl<'a> Work<'a> {
 
     /// Whether another name than this one was renamed so.
     fn is_other(&self, name: &[u8], lexeme: &Lexeme) -> bool {
-        match self.renamed.get(name) {
-            Some(before) => before.text(self.source) != lexeme.text(self.source),
-            None => false,
-        }
+        let (source, before) = (self.source, self.renamed.get(name));
+        before.map_or(false, |before| before.text(source) != lexeme.text(source))
     }
 
     /// Writes a symbol that is no string, where its spelling is another one, and gives the reason.
@@ -166,7 +157,7 @@ impl<'a> Work<'a> {
         self.made_or_trouble(name)
     }
 
-    /// The first number behind the last one that makes a name which isn't taken.
+    /// The first number after the last one that makes a name which isn't taken.
     fn free_number(&mut self) -> usize {
         let first = self.last_made.saturating_add(1);
         let most = first.saturating_add(self.survey.names.len());
@@ -185,7 +176,8 @@ impl<'a> Work<'a> {
         self.last_made = number;
         let name = self.made_name(number);
         self.edits.list_made(&name);
-        let key = self.copied(key);
+        let key = Vec::from_slice(self.alloc, key);
+        let key = self.made_or_trouble(key);
         if self.made.insert(key, number).is_err() {
             self.edits.trouble.remember(Trouble::Memory);
         }

@@ -7,14 +7,6 @@ use yforeign::directive::{Directive, is_symbol};
 use yforeign::lexeme::{Kind, Lexeme};
 use ysymbols::names::is_among;
 
-/// Whether a lexeme can stand in a list of nonterminals.
-fn is_listed(kind: Kind) -> bool {
-    match kind {
-        Kind::Tag | Kind::Comma | Kind::Semicolon | Kind::LineMark => true,
-        _ => is_symbol(kind),
-    }
-}
-
 impl Work<'_> {
     /// Why a symbol can't stand in such a list, where it can't.
     fn reason_against(&self, lexeme: &Lexeme) -> Option<Reason> {
@@ -30,16 +22,11 @@ impl Work<'_> {
 
     /// Whether a nonterminal with a tag is listed.
     fn has_nonterminal(&self, rest: &[Lexeme]) -> bool {
-        let listed = match rest {
-            [tag, listed @ ..] if tag.kind == Kind::Tag => listed,
-            _ => return false,
-        };
-        for lexeme in listed {
-            if is_symbol(lexeme.kind) && self.reason_against(lexeme).is_none() {
-                return true;
-            }
+        match rest {
+            [tag, listed @ ..] if tag.kind == Kind::Tag => listed.iter().any(|it| is_symbol(it.kind)
+                && self.reason_against(it).is_none()),
+            _ => false,
         }
-        false
     }
 
     /// Takes in one lexeme of a list that stays.
@@ -63,13 +50,15 @@ impl Work<'_> {
         }
     }
 
-    /// Refuses what stands in a declaration where it can't, or behind its semicolon.
+    /// Refuses what stands in a declaration where it can't, or after its semicolon.
     pub fn refuse_others(&mut self, rest: &[Lexeme], directive: Directive) {
         let mut closed = false;
         for lexeme in rest {
             let is_end = matches!(lexeme.kind, Kind::Semicolon | Kind::LineMark);
             let fits = match directive {
-                Directive::Type | Directive::Nterm => is_listed(lexeme.kind),
+                Directive::Type | Directive::Nterm => {
+                    is_symbol(lexeme.kind) || matches!(lexeme.kind, Kind::Tag | Kind::Comma)
+                }
                 _ => directive.takes(lexeme.kind),
             };
             if !is_end && (closed || !fits) {

@@ -13,17 +13,6 @@ const MOST_OF_ALL: usize = 10_000_000;
 /// The most steps of a parse that goes on to a shift, which are those of a verdict.
 const MOST_STEPS: usize = 1_000_000;
 
-/// Whether a token can come.
-#[derive(Clone, Copy, Drop, PartialEq, Eq)]
-pub enum Answer {
-    /// It can come.
-    Can,
-    /// It can't come.
-    Cannot,
-    /// It takes too many reductions to tell.
-    Unknown,
-}
-
 /// The tokens that can come, and those of which it takes too many reductions to tell: more than
 /// 100,000 for one token, or 10,000,000 for all that were tried up to it.
 pub struct Wanted {
@@ -41,19 +30,12 @@ impl Drop for Wanted {
 }
 
 impl Wanted {
-    fn new(alloc: Global) -> Wanted {
-        Wanted {
-            can: Vec::new(alloc),
-            unknown: Vec::new(alloc),
-        }
-    }
-
     /// Puts a token where its answer belongs.
-    fn note(&mut self, token: Sym, answer: Answer) -> Result<(), AllocError> {
+    fn note(&mut self, token: Sym, answer: Option<bool>) -> Result<(), AllocError> {
         match answer {
-            Answer::Can => self.can.push(token)?,
-            Answer::Unknown => self.unknown.push(token)?,
-            Answer::Cannot => {}
+            Some(true) => self.can.push(token)?,
+            Some(false) => {}
+            None => self.unknown.push(token)?,
         }
         Ok(())
     }
@@ -92,46 +74,40 @@ impl<'a> Trial<'a> {
         self.below = self.below.get(..left).unwrap_or(&[]);
     }
 
-    /// Takes the body of a rule off, and gives the state where its left side leads.
-    fn leave(&mut self, rule: usize) -> Option<usize> {
+    /// Replaces the body of a rule by its left side. Where that leads nowhere, the token can't
+    /// come.
+    fn reduce(&mut self, rule: usize) -> Result<Option<bool>, AllocError> {
         let grammar = grammar_of(self.tables);
         self.left = self.left.saturating_sub(1);
         self.take(body_of(grammar, rule).len());
         let left = left_of(grammar, rule).unwrap_or(END);
-        goto_of(self.tables.automaton(), self.top(), left)
+        let Some(state) = goto_of(self.tables.automaton(), self.top(), left) else {
+            return Ok(Some(false));
+        };
+        self.above.push(state)?;
+        Ok(None)
     }
 
-    /// Replaces the body of a rule by its left side. Where that leads nowhere, the token can't
-    /// come.
-    fn reduce(&mut self, rule: usize) -> Result<Option<Answer>, AllocError> {
-        match self.leave(rule) {
-            Some(state) => {
-                self.above.push(state)?;
-                Ok(None)
-            }
-            None => Ok(Some(Answer::Cannot)),
-        }
-    }
-
-    /// What the cell on top says of a token; `None` where it reduces, which is then done.
-    fn ask(&mut self, token: Sym) -> Result<Option<Answer>, AllocError> {
+    /// Whether a token can come, as the cell on top says; `None` where it reduces, which is done.
+    fn ask(&mut self, token: Sym) -> Result<Option<bool>, AllocError> {
         match action_of(self.tables, self.top(), token) {
-            Action::Shift(_) | Action::Accept => Ok(Some(Answer::Can)),
-            Action::Error => Ok(Some(Answer::Cannot)),
+            Action::Shift(_) | Action::Accept => Ok(Some(true)),
+            Action::Error => Ok(Some(false)),
             Action::Reduce(rule) => self.reduce(rule),
         }
     }
 
-    /// Whether a token can come over these states.
-    fn answer(&mut self, states: &'a [usize], token: Sym) -> Result<Answer, AllocError> {
+    /// Whether a token can come over these states; `None` where that takes too many reductions.
+    fn answer(&mut self, states: &'a [usize], token: Sym) -> Result<Option<bool>, AllocError> {
         self.below = states;
         self.above.clear();
         for _ in 0..=MOST_REDUCTIONS.min(self.left) {
-            if let Some(answer) = self.ask(token)? {
+            let answer = self.ask(token)?;
+            if answer.is_some() {
                 return Ok(answer);
             }
         }
-        Ok(Answer::Unknown)
+        Ok(None)
     }
 
     /// Goes on until a token is shifted, and says whether it is.
@@ -152,7 +128,8 @@ impl<'a> Trial<'a> {
 /// The tokens that can come over these states, the first state of all at the bottom; `error` is
 /// not among them.
 pub fn expected(alloc: Global, tables: &Tables, states: &[usize]) -> Result<Wanted, AllocError> {
-    let mut wanted = Wanted::new(alloc);
+    let (can, unknown) = (Vec::new(alloc), Vec::new(alloc));
+    let mut wanted = Wanted { can, unknown };
     let mut trial = Trial::new(alloc, tables, MOST_OF_ALL);
     for token in 0..token_count(grammar_of(tables)) {
         if token != ERROR {

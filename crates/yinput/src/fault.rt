@@ -45,23 +45,6 @@ pub struct Fault {
     what: What,
 }
 
-/// The bytes after a place, up to the end of its line; a newline where the line ends there.
-fn shown_at(source: &[u8], at: usize) -> &[u8] {
-    let rest = source.get(at..).unwrap_or(&[]);
-    let behind = rest.iter().skip(1).position(|b| *b == b'\n');
-    let end = behind.map_or(rest.len(), |count| count.saturating_add(1));
-    rest.get(..end).unwrap_or(rest)
-}
-
-/// Writes the bytes at the front.
-fn put_bytes<W: Write>(out: &mut W, bytes: &[u8]) -> io::Result<()> {
-    let (shown, more) = match bytes.get(..MOST_BYTES) {
-        Some(front) if bytes.len() > MOST_BYTES => (Escaped(front), ".."),
-        _ => (Escaped(bytes), ""),
-    };
-    writeln!(out, "{shown}{more}")
-}
-
 /// Writes that no line of a SPEC gives a token, with its line in the grammar file.
 fn put_ungiven<W: Write>(
     out: &mut W,
@@ -132,11 +115,16 @@ impl Fault {
         }
     }
 
-    /// Writes the place, and what nothing matches there.
+    /// Writes the place, and what nothing matches there: the first bytes up to the end of its line;
+    /// a newline where the line ends there.
     fn put_unmatched<W: Write>(&self, out: &mut W, at: usize, what: &str) -> io::Result<()> {
+        let rest = self.bytes.get(at..).unwrap_or(&[]);
+        let newline = rest.iter().skip(1).position(|b| *b == b'\n');
+        let end = newline.map_or(rest.len(), |count| count.saturating_add(1));
+        let shown = Escaped(rest.get(..end.min(MOST_BYTES)).unwrap_or(rest));
+        let more = if end > MOST_BYTES { ".." } else { "" };
         self.place(at).put_front(out)?;
-        write!(out, "{what}: ")?;
-        put_bytes(out, shown_at(&self.bytes, at))?;
+        writeln!(out, "{what}: {shown}{more}")?;
         self.place(at).put_text(out, true)
     }
 

@@ -2,8 +2,9 @@
 
 use std::alloc::{AllocError, Global};
 use std::io::{self, Write};
+use std::mem;
 use std::rt::Files;
-use ybison::import::open_foreign;
+use ybison::import::{Foreign, open_foreign};
 use ybison::opening::open_text;
 use yexplain::reads::{body_of, set};
 use yfaults::opening::{Opened, grammar_bytes, put_unread};
@@ -18,17 +19,59 @@ pub struct GrammarFile<'a> {
     pub bison: bool,
 }
 
-/// Opens a grammar file. Where it is refused, that is written, and the exit status is the answer.
+/// A grammar file that is open: the text that `yacc` reads, and what that comes to.
+#[derive(Drop)]
+pub struct GrammarText {
+    /// The bytes; of a file of bison, those that it becomes.
+    pub bytes: Vec<u8>,
+    /// The tables, and where things stand in the text.
+    pub opened: Opened,
+}
+
+/// Opens a grammar file with its text. Where it is refused, that is written, and the exit status is
+/// the answer.
+pub fn open_with_text<F: Files + AllocGlobal, E: Write>(
+    rt: &F,
+    file: GrammarFile<'_>,
+    errors: &mut E,
+) -> io::Result<Result<GrammarText, u8>> {
+    let (alloc, path) = (rt.alloc(), file.path);
+    let bytes = match grammar_bytes(rt, path) {
+        Ok(bytes) => bytes,
+        Err(error) => return put_unread(errors, path, &error).map(Err),
+    };
+    if !file.bison {
+        return match open_text(alloc, path, &bytes, errors)? {
+            Ok(opened) => Ok(Ok(GrammarText { bytes, opened })),
+            Err(status) => Ok(Err(status)),
+        };
+    }
+    match open_foreign(alloc, errors, path, &bytes)? {
+        Ok(foreign) => {
+            let Foreign {
+                mut imported,
+                opened,
+                ..
+            } = foreign;
+            let bytes = mem::replace(&mut imported.text, Vec::new(alloc));
+            Ok(Ok(GrammarText { bytes, opened }))
+        }
+        Err(status) => Ok(Err(status)),
+    }
+}
+
+/// Opens a grammar file likewise, without its text.
 pub fn open_file<F: Files + AllocGlobal, E: Write>(
     rt: &F,
     file: GrammarFile<'_>,
     errors: &mut E,
 ) -> io::Result<Result<Opened, u8>> {
-    let path = file.path;
-    match grammar_bytes(rt, path) {
-        Ok(bytes) if file.bison => open_foreign(rt.alloc(), errors, path, &bytes),
-        Ok(bytes) => open_text(rt.alloc(), path, &bytes, errors),
-        Err(error) => put_unread(errors, path, &error).map(Err),
+    match open_with_text(rt, file, errors)? {
+        Ok(text) => {
+            let GrammarText { opened, .. } = text;
+            Ok(Ok(opened))
+        }
+        Err(status) => Ok(Err(status)),
     }
 }
 

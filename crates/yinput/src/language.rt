@@ -101,30 +101,19 @@ impl Language {
         files: LanguageFiles<'_>,
         errors: &mut E,
     ) -> io::Result<Result<Language, u8>> {
-        match open_file(rt, files.grammar, errors)? {
-            Ok(opened) => Language::over(rt, opened, files, errors),
-            Err(status) => Ok(Err(status)),
-        }
-    }
-
-    /// Opens the SPEC for a grammar that is open.
-    fn over<F: Files + AllocGlobal, E: Write>(
-        rt: &F,
-        opened: Opened,
-        files: LanguageFiles<'_>,
-        errors: &mut E,
-    ) -> io::Result<Result<Language, u8>> {
+        let opened = match open_file(rt, files.grammar, errors)? {
+            Ok(opened) => opened,
+            Err(status) => return Ok(Err(status)),
+        };
         let Some(spec) = files.spec else {
-            return Ok(Ok(Language {
-                opened,
-                lexer: None,
-            }));
+            let lexer = None;
+            return Ok(Ok(Language { opened, lexer }));
         };
         match read_lexer(rt, &opened.tables, spec)? {
-            Ok(lexer) => Ok(Ok(Language {
-                opened,
-                lexer: Some(lexer),
-            })),
+            Ok(lexer) => {
+                let lexer = Some(lexer);
+                Ok(Ok(Language { opened, lexer }))
+            }
             Err(fault) => fault.put(rt, errors, files.grammar.path, &opened).map(Err),
         }
     }

@@ -1,4 +1,4 @@
-//! A session with what a person is told of its files.
+//! A session with what is known of its files.
 
 use crate::language::{Input, Language};
 use crate::text::Text;

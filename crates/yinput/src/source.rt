@@ -19,26 +19,17 @@ pub struct Source<'a, F> {
 }
 
 impl<F: Files + AllocGlobal> Source<'_, F> {
-    /// A parse of the input, by a language that is open.
-    fn open_input<E: Write>(
-        &self,
-        language: Language,
-        errors: &mut E,
-    ) -> io::Result<Result<Parse, u8>> {
-        match language.read(self.rt, self.input)? {
-            Ok(input) => Parse::new(self.rt.alloc(), language, input).map(Ok),
-            Err(fault) => fault
-                .put(self.rt, errors, self.files.grammar.path, &language.opened)
-                .map(Err),
-        }
-    }
-
     /// A parse at its start. Where a file is refused, that is written, and the exit status is the
     /// answer: 1 for a fault of a file, 3 for too many states, and for a file that can't be read.
     pub fn open<E: Write>(&self, errors: &mut E) -> io::Result<Result<Parse, u8>> {
-        match Language::open(self.rt, self.files, errors)? {
-            Ok(language) => self.open_input(language, errors),
-            Err(status) => Ok(Err(status)),
+        let language = match Language::open(self.rt, self.files, errors)? {
+            Ok(language) => language,
+            Err(status) => return Ok(Err(status)),
+        };
+        let (rt, path) = (self.rt, self.files.grammar.path);
+        match language.read(rt, self.input)? {
+            Ok(input) => Parse::new(rt.alloc(), language, input).map(Ok),
+            Err(fault) => fault.put(rt, errors, path, &language.opened).map(Err),
         }
     }
 

@@ -2,7 +2,6 @@
 
 use crate::expected::Wanted;
 use crate::language::Input;
-use crate::text::Text;
 use crate::verdict::{Rejection, Verdict};
 use std::io::{self, Write};
 use yexplain::text::Name;
@@ -31,10 +30,7 @@ impl Verdict {
     ) -> io::Result<u8> {
         let written = match self {
             Verdict::Accepted(steps) => writeln!(out, "{path}: accepted after {steps} steps"),
-            Verdict::Rejected(rejection) => match &input.text {
-                Some(text) => rejection.put_in_text(out, grammar, text),
-                None => rejection.put_in_tokens(out, grammar, path, &input.tokens.symbols),
-            },
+            Verdict::Rejected(rejection) => rejection.put(out, grammar, path, input),
             Verdict::Undecided => writeln!(out, "{path}: undecided after 1,000,000 steps"),
         };
         written?;
@@ -118,23 +114,22 @@ impl Rejection {
         put_wanted(out, grammar, &self.wanted)
     }
 
-    /// Writes so at its place in a text, with the line there.
-    fn put_in_text<W: Write>(&self, out: &mut W, grammar: &Grammar, text: &Text) -> io::Result<()> {
-        let place = text.place(self.number);
-        place.put_front(out)?;
-        self.put_token(out, grammar)?;
-        place.put_text(out, true)
-    }
-
-    /// Writes so of a tokens file, with the tokens before it.
-    fn put_in_tokens<W: Write>(
+    /// Writes so at its place in a text, with the line there, or of a tokens file with the tokens
+    /// before it.
+    fn put<W: Write>(
         &self,
         out: &mut W,
         grammar: &Grammar,
         path: &str,
-        tokens: &[Sym],
+        input: &Input,
     ) -> io::Result<()> {
-        let number = self.number;
+        if let Some(text) = &input.text {
+            let place = text.place(self.number);
+            place.put_front(out)?;
+            self.put_token(out, grammar)?;
+            return place.put_text(out, true);
+        }
+        let (number, tokens) = (self.number, &input.tokens.symbols);
         write!(out, "{path}: rejected at token {number}: ")?;
         self.put_token(out, grammar)?;
         put_before(out, grammar, tokens.get(..self.before()).unwrap_or(tokens))
@@ -153,10 +148,6 @@ pub fn put_choice<W: Write>(out: &mut W, path: &str, tables: &Tables) -> io::Res
 
 /// Writes so as a plain line.
 pub fn put_plain_choice<W: Write>(out: &mut W, path: &str, tables: &Tables) -> io::Result<()> {
-    let word = if tables.choice_free() {
-        "no choices"
-    } else {
-        "choices"
-    };
-    writeln!(out, "{path}: {word}")
+    let no = if tables.choice_free() { "no " } else { "" };
+    writeln!(out, "{path}: {no}choices")
 }

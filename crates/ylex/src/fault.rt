@@ -2,22 +2,15 @@
 
 use std::alloc::AllocError;
 
-/// What is wrong with a SPEC.
+/// What is wrong with a SPEC: what each says is its `text`.
 #[derive(Clone, Copy, Drop, PartialEq, Eq)]
 pub enum Wrong {
-    /// The line is no text in UTF-8.
     NoText,
-    /// No directive has this name.
     Directive,
-    /// Nothing stands behind the name.
     Missing,
-    /// No symbol of the grammar has this name.
     Unknown,
-    /// The symbol is none that an input can have.
     NoInput,
-    /// The expression doesn't compile, with the reason.
     Expression(&'static str),
-    /// The expression matches the empty text.
     Empty,
 }
 
@@ -39,9 +32,9 @@ impl From<AllocError> for SpecFault {
 /// Why a text isn't cut into tokens.
 #[derive(Clone, Copy, Drop, PartialEq, Eq)]
 pub enum TextFault {
-    /// Nothing matches behind so many bytes.
+    /// Nothing matches after so many bytes.
     Unmatched(usize),
-    /// A further token begins behind so many bytes.
+    /// A further token begins after so many bytes.
     TooMany(usize),
     /// Memory ran out.
     Memory,
@@ -59,7 +52,7 @@ impl Wrong {
         match self {
             Wrong::NoText => "this line is no text in UTF-8",
             Wrong::Directive => "no directive of a SPEC; there are %skip, %keywords and %none",
-            Wrong::Missing => "nothing stands behind the name",
+            Wrong::Missing => "nothing stands after the name",
             Wrong::Unknown => "no token of the grammar has this name",
             Wrong::NoInput => "an input has tokens alone, and neither error nor $end",
             Wrong::Expression(reason) => reason,

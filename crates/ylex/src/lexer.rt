@@ -61,7 +61,7 @@ struct Cutting<'a> {
     matchers: Vec<Matcher<'a>>,
 }
 
-/// What is wrong with an expression that begins behind so many bytes.
+/// What is wrong with an expression that begins after so many bytes.
 fn wrong_at(error: Error, at: usize) -> SpecFault {
     match error {
         Error::Syntax(error) => {
@@ -73,10 +73,10 @@ fn wrong_at(error: Error, at: usize) -> SpecFault {
     }
 }
 
-/// The expression of a line, with this behind it, which matches at the front alone.
-fn anchored(alloc: Global, rule: Rule<'_>, behind: &str) -> Result<Regex, SpecFault> {
+/// The expression of a line, with this after it, which matches at the front alone.
+fn anchored(alloc: Global, rule: Rule<'_>, after: &str) -> Result<Regex, SpecFault> {
     let expression = rule.expression;
-    let text = format!(in alloc; "^(?:{expression}{behind})")?;
+    let text = format!(in alloc; "^(?:{expression}{after})")?;
     match Regex::new(alloc, &text) {
         Ok(regex) => Ok(regex),
         Err(Error::OutOfMemory) => Err(SpecFault::Memory),
@@ -124,15 +124,6 @@ fn compile(alloc: Global, rules: &[Rule<'_>]) -> Result<Vec<Regex>, SpecFault> {
     Ok(all)
 }
 
-/// The tokens of the lines with expressions.
-fn tokens_of(alloc: Global, rules: &[Rule<'_>]) -> Result<Vec<Option<Sym>>, AllocError> {
-    let mut tokens = Vec::with_capacity(alloc, rules.len())?;
-    for rule in rules {
-        tokens.push(rule.token)?;
-    }
-    Ok(tokens)
-}
-
 /// The literal of each byte, but for those that no text has.
 fn literals_of(
     alloc: Global,
@@ -176,7 +167,7 @@ impl Lexer {
             absent,
         } = spec;
         let literals = literals_of(alloc, grammar, &absent)?;
-        let tokens = tokens_of(alloc, &rules)?;
+        let tokens = rules.iter().map(|rule| rule.token).collect(alloc)?;
         let regexes = compile(alloc, &rules)?;
         Ok(Lexer {
             words,
@@ -241,16 +232,15 @@ impl Cutting<'_> {
         found
     }
 
-    /// Takes what stands behind so many bytes, and says behind how many it ends.
+    /// Takes what stands after so many bytes, and says after how many it ends.
     fn take(&mut self, lexed: &mut Lexed, bytes: &[u8], at: usize) -> Result<usize, TextFault> {
         let found = self.front(bytes.get(at..).unwrap_or(&[]));
         if found.length == 0 {
             return Err(TextFault::Unmatched(at));
         }
         let end = at.saturating_add(found.length);
-        match found.token {
-            Some(token) => lexed.push(token, at, end)?,
-            None => {}
+        if let Some(token) = found.token {
+            lexed.push(token, at, end)?;
         }
         Ok(end)
     }

@@ -10,23 +10,14 @@ use ysymbols::{Grammar, Sym};
 const SOME_WORDS: usize = 8;
 
 /// Expressions for tokens by their names.
-const GUESSES: [(&str, &str); 22] = [
-    ("INT", "[0-9]+"),
-    ("INTEGER", "[0-9]+"),
-    ("NUM", "[0-9]+(\\.[0-9]+)?"),
-    ("NUMBER", "[0-9]+(\\.[0-9]+)?"),
+const GUESSES: [(&str, &str); 13] = [
+    ("INT INTEGER", "[0-9]+"),
+    ("NUM NUMBER", "[0-9]+(\\.[0-9]+)?"),
     ("FLOAT", "[0-9]+\\.[0-9]+"),
-    ("ID", "[A-Za-z_][A-Za-z_0-9]*"),
-    ("IDENT", "[A-Za-z_][A-Za-z_0-9]*"),
-    ("IDENTIFIER", "[A-Za-z_][A-Za-z_0-9]*"),
-    ("NAME", "[A-Za-z_][A-Za-z_0-9]*"),
-    ("WORD", "[A-Za-z_][A-Za-z_0-9]*"),
-    ("VAR", "[A-Za-z_][A-Za-z_0-9]*"),
-    ("STRING", "\"([^\"\\\\\\n]|\\\\.)*\""),
-    ("STR", "\"([^\"\\\\\\n]|\\\\.)*\""),
-    ("TEXT", "\"([^\"\\\\\\n]|\\\\.)*\""),
-    ("NEWLINE", "\\n+"),
-    ("NL", "\\n+"),
+    ("ID IDENT IDENTIFIER", "[A-Za-z_][A-Za-z_0-9]*"),
+    ("NAME WORD VAR", "[A-Za-z_][A-Za-z_0-9]*"),
+    ("STRING STR TEXT", "\"([^\"\\\\\\n]|\\\\.)*\""),
+    ("NEWLINE NL", "\\n+"),
     ("LE", "<="),
     ("GE", ">="),
     ("EQ", "=="),
@@ -39,13 +30,10 @@ const GUESSES: [(&str, &str); 22] = [
 fn guess(name: &[u8]) -> Option<&'static str> {
     GUESSES
         .iter()
-        .find(|(word, _)| word.as_bytes().eq_ignore_ascii_case(name))
+        .find(|(words, _)| words
+            .split(' ')
+            .any(|word| word.as_bytes().eq_ignore_ascii_case(name)))
         .map(|(_, expression)| *expression)
-}
-
-/// Whether a name is one in capitals, as those of keywords are.
-fn is_keyword(name: &[u8]) -> bool {
-    name.iter().all(|b| b.is_ascii_uppercase() || b.is_ascii_digit() || *b == b'_')
 }
 
 /// Which tokens stand in a line of their own kind.
@@ -57,9 +45,10 @@ enum Kind {
 }
 
 fn kind_of(name: &[u8]) -> Kind {
+    let is_capital = |b: u8| b.is_ascii_uppercase() || b.is_ascii_digit() || b == b'_';
     if guess(name).is_some() {
         Kind::Guessed
-    } else if is_keyword(name) {
+    } else if name.iter().all(|b| is_capital(*b)) {
         Kind::Keyword
     } else {
         Kind::Open
@@ -91,24 +80,21 @@ fn put_keywords<W: Write>(out: &mut W, grammar: &Grammar, used: &[bool]) -> io::
     if count > 0 { writeln!(out) } else { Ok(()) }
 }
 
-/// Writes a line for each token of which an expression is guessed.
-fn put_guessed<W: Write>(out: &mut W, grammar: &Grammar, used: &[bool]) -> io::Result<()> {
+/// Writes a line for each token of a kind: with the expression that is guessed, or else as a place
+/// to fill in.
+fn put_lines<W: Write>(
+    out: &mut W,
+    grammar: &Grammar,
+    used: &[bool],
+    kind: Kind,
+) -> io::Result<()> {
     for token in 0..grammar.symbols() {
-        if is_of(grammar, used, token, Kind::Guessed) {
+        if is_of(grammar, used, token, kind) {
             let name = Name(grammar, token);
-            let expression = guess(name_of(grammar, token)).unwrap_or("");
-            writeln!(out, "{name}  {expression}")?;
-        }
-    }
-    Ok(())
-}
-
-/// Writes a place to fill in for each other token.
-fn put_open<W: Write>(out: &mut W, grammar: &Grammar, used: &[bool]) -> io::Result<()> {
-    for token in 0..grammar.symbols() {
-        if is_of(grammar, used, token, Kind::Open) {
-            let name = Name(grammar, token);
-            writeln!(out, "# fill in: {name}  EXPRESSION")?;
+            match guess(name_of(grammar, token)) {
+                Some(expression) => writeln!(out, "{name}  {expression}")?,
+                None => writeln!(out, "# fill in: {name}  EXPRESSION")?,
+            }
         }
     }
     Ok(())
@@ -120,12 +106,10 @@ fn put_literals<W: Write>(out: &mut W, grammar: &Grammar) -> io::Result<()> {
     for value in 0..=255u8 {
         if let Some(token) = grammar.find_literal(value) {
             let name = Name(grammar, token);
-            let front = if some {
-                ""
-            } else {
-                "# These stand for themselves:"
-            };
-            write!(out, "{front} {name}")?;
+            if !some {
+                write!(out, "# These stand for themselves:")?;
+            }
+            write!(out, " {name}")?;
             some = true;
         }
     }
@@ -143,6 +127,6 @@ pub fn put_sketch<W: Write>(out: &mut W, grammar: &Grammar, used: &[bool]) -> io
     };
     writeln!(out, "%skip {blanks}")?;
     put_keywords(out, grammar, used)?;
-    put_guessed(out, grammar, used)?;
-    put_open(out, grammar, used)
+    put_lines(out, grammar, used, Kind::Guessed)?;
+    put_lines(out, grammar, used, Kind::Open)
 }

@@ -42,7 +42,7 @@ pub struct Spec<'a> {
     pub absent: Vec<bool>,
 }
 
-/// What names behind a directive are.
+/// What names after a directive are.
 #[derive(Clone, Copy, PartialEq, Eq)]
 enum Listed {
     Words,
@@ -59,13 +59,10 @@ struct Piece<'a> {
 }
 
 impl<'a> Piece<'a> {
-    /// What is left behind so many bytes, and behind the blanks there.
-    fn behind(self, count: usize) -> Piece<'a> {
+    /// What is left after so many bytes, and after the blanks there.
+    fn after(self, count: usize) -> Piece<'a> {
         let rest = self.bytes.get(count..).unwrap_or(&[]);
-        let blanks = rest
-            .iter()
-            .position(|b| !is_blank(*b))
-            .unwrap_or(rest.len());
+        let blanks = rest.iter().take_while(|b| is_blank(**b)).count();
         Piece {
             bytes: rest.get(blanks..).unwrap_or(&[]),
             at: self.at.saturating_add(count).saturating_add(blanks),
@@ -74,24 +71,18 @@ impl<'a> Piece<'a> {
 
     /// The piece without blanks at its end.
     fn trimmed(self) -> Piece<'a> {
-        let end = self
-            .bytes
-            .iter()
-            .rposition(|b| !is_blank(*b))
-            .map_or(0, |at| at.saturating_add(1));
-        Piece {
-            bytes: self.bytes.get(..end).unwrap_or(&[]),
-            at: self.at,
-        }
+        let last = self.bytes.iter().rposition(|b| !is_blank(*b));
+        let end = last.map_or(0, |at| at.saturating_add(1));
+        let bytes = self.bytes.get(..end).unwrap_or(&[]);
+        Piece { bytes, ..self }
     }
 
     /// How many bytes the first word has.
     fn word(self) -> usize {
-        let rest = match front_of(self.bytes) {
-            Front::Literal(_, rest) => rest,
-            _ => return self.plain_word(),
-        };
-        self.bytes.len().saturating_sub(rest.len())
+        match front_of(self.bytes) {
+            Front::Literal(_, rest) => self.bytes.len().saturating_sub(rest.len()),
+            _ => self.plain_word(),
+        }
     }
 
     /// How many bytes stand before the first blank.
@@ -133,39 +124,17 @@ impl<'a> Spec<'a> {
         let Ok(expression) = str::from_utf8(rest.bytes) else {
             return Err(SpecFault::At(rest.at, Wrong::NoText));
         };
+        let at = rest.at;
         let rule = Rule {
             token,
             expression,
-            at: rest.at,
+            at,
         };
         self.rules.push(rule).map_err(AllocError::from)?;
         Ok(())
     }
 
-    /// Adds the name at the front of a piece. A literal stands for itself without it.
-    fn add_name(
-        &mut self,
-        grammar: &Grammar,
-        piece: Piece<'_>,
-        listed: Listed,
-    ) -> Result<(), SpecFault> {
-        let token = token_of(grammar, piece)?;
-        set(&mut self.named, token, true);
-        if listed == Listed::Absent {
-            set(&mut self.absent, token, true);
-        }
-        if listed == Listed::Absent || is_literal(grammar, token) {
-            return Ok(());
-        }
-        let word = Word {
-            token,
-            folded: listed == Listed::FoldedWords,
-        };
-        self.words.push(word).map_err(AllocError::from)?;
-        Ok(())
-    }
-
-    /// Adds the names that a piece lists.
+    /// Adds the names that a piece lists. A literal stands for itself without it.
     fn add_names(
         &mut self,
         grammar: &Grammar,
@@ -180,8 +149,16 @@ impl<'a> Spec<'a> {
             if left.bytes.is_empty() {
                 break;
             }
-            self.add_name(grammar, left, listed)?;
-            left = left.behind(left.word());
+            let token = token_of(grammar, left)?;
+            set(&mut self.named, token, true);
+            if listed == Listed::Absent {
+                set(&mut self.absent, token, true);
+            } else if !is_literal(grammar, token) {
+                let folded = listed == Listed::FoldedWords;
+                let word = Word { token, folded };
+                self.words.push(word).map_err(AllocError::from)?;
+            }
+            left = left.after(left.word());
         }
         Ok(())
     }
@@ -189,11 +166,11 @@ impl<'a> Spec<'a> {
     /// Adds a line with a directive.
     fn add_directive(&mut self, grammar: &Grammar, line: Piece<'a>) -> Result<(), SpecFault> {
         let length = line.plain_word();
-        let rest = line.behind(length);
+        let rest = line.after(length);
         match line.first(length) {
             b"%skip" => self.add_rule(None, rest),
             b"%keywords" if rest.first(rest.plain_word()) == b"-i".as_slice() => {
-                self.add_names(grammar, rest.behind(2), Listed::FoldedWords)
+                self.add_names(grammar, rest.after(2), Listed::FoldedWords)
             }
             b"%keywords" => self.add_names(grammar, rest, Listed::Words),
             b"%none" => self.add_names(grammar, rest, Listed::Absent),
@@ -209,7 +186,7 @@ impl<'a> Spec<'a> {
             Some(_) => {
                 let token = token_of(grammar, line)?;
                 set(&mut self.named, token, true);
-                self.add_rule(Some(token), line.behind(line.word()))
+                self.add_rule(Some(token), line.after(line.word()))
             }
         }
     }
@@ -219,21 +196,11 @@ impl<'a> Spec<'a> {
         let mut at: usize = 0;
         for bytes in source.split(|b| *b == b'\n') {
             let line = Piece { bytes, at };
-            self.add_line(grammar, line.behind(0).trimmed())?;
+            self.add_line(grammar, line.after(0).trimmed())?;
             at = at.saturating_add(bytes.len()).saturating_add(1);
         }
         Ok(())
     }
-}
-
-/// A SPEC that says nothing yet.
-fn empty_spec<'a>(alloc: Global, grammar: &Grammar) -> Result<Spec<'a>, AllocError> {
-    Ok(Spec {
-        rules: Vec::new(alloc),
-        words: Vec::new(alloc),
-        named: vec![in alloc; false; grammar.symbols()]?,
-        absent: vec![in alloc; false; grammar.symbols()]?,
-    })
 }
 
 /// What a SPEC says, or the first line that is wrong.
@@ -242,11 +209,14 @@ pub fn read_spec<'a>(
     grammar: &Grammar,
     source: &'a [u8],
 ) -> Result<Spec<'a>, SpecFault> {
-    let mut spec = empty_spec(alloc, grammar)?;
-    match spec.add_lines(grammar, source) {
-        Ok(()) => Ok(spec),
-        Err(fault) => Err(fault),
-    }
+    let mut spec = Spec {
+        rules: Vec::new(alloc),
+        words: Vec::new(alloc),
+        named: vec![in alloc; false; grammar.symbols()]?,
+        absent: vec![in alloc; false; grammar.symbols()]?,
+    };
+    spec.add_lines(grammar, source)?;
+    Ok(spec)
 }
 
 /// Whether a token of a body needs a line: it is an input token and no literal.

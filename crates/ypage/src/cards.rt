@@ -113,10 +113,8 @@ impl Maker<'_> {
 
     fn card(self, finding: &Finding) -> io::Result<Card> {
         let rules = Vec::from_slice(self.alloc, self.kind.rules())?;
-        let all = self
-            .kind
-            .rivals
-            .saturating_add(if self.kind.shift { 0 } else { 1 });
+        let taken = usize::from(!self.kind.shift);
+        let all = self.kind.rivals.saturating_add(taken);
         let cell = self.kind.cell(self.group, self.tables, self.lines);
         Ok(Card {
             state: cell.state,
@@ -132,41 +130,7 @@ impl Maker<'_> {
     }
 }
 
-/// Adds the card of a kind of conflict.
-fn add_card(
-    alloc: Global,
-    cards: &mut Cards,
-    seeker: &mut Seeker<'_>,
-    lines: &Lines,
-    (kind, group): (&Kind, Group),
-) -> io::Result<()> {
-    let finding = seeker.find(kind, group)?;
-    let maker = Maker {
-        alloc,
-        tables: seeker.session.tables(),
-        lines,
-        kind,
-        group,
-    };
-    let card = maker.card(&finding)?;
-    Ok(cards.kinds.push(card).map_err(AllocError::from)?)
-}
-
-/// Adds the cards of conflicts.
-fn add_cards(
-    alloc: Global,
-    cards: &mut Cards,
-    seeker: &mut Seeker<'_>,
-    lines: &Lines,
-    found: &Conflicts,
-) -> io::Result<()> {
-    for (kind, group) in found.groups.iter().take(MOST_CARDS) {
-        add_card(alloc, cards, seeker, lines, (kind, *group))?;
-    }
-    Ok(())
-}
-
-/// The cards of conflicts.
+/// The cards of conflicts, sought in a session without tokens.
 fn cards_of(
     alloc: Global,
     session: &mut Session,
@@ -178,10 +142,19 @@ fn cards_of(
         kinds: Vec::new(alloc),
         more: found.groups.len().saturating_sub(MOST_CARDS),
     };
-    match add_cards(alloc, &mut cards, &mut seeker, lines, found) {
-        Ok(()) => Ok(cards),
-        Err(error) => Err(error),
+    for (kind, group) in found.groups.iter().take(MOST_CARDS) {
+        let finding = seeker.find(kind, *group)?;
+        let maker = Maker {
+            alloc,
+            tables: seeker.session.tables(),
+            lines,
+            kind,
+            group: *group,
+        };
+        let card = maker.card(&finding)?;
+        cards.kinds.push(card).map_err(AllocError::from)?;
     }
+    Ok(cards)
 }
 
 /// The cards of a grammar, over a session without tokens.

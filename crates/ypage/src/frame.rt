@@ -80,5 +80,5 @@ pub const BODY: &str = r##"</head>
   arrows move and fold. The address ends with the position, as in #12.</p>
 <script type="application/json" id="data">"##;
 
-/// The end of the page, behind the data.
+/// The end of the page, after the data.
 pub const END: &str = "</script>\n</body>\n</html>\n";

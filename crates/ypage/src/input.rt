@@ -13,7 +13,7 @@ use yview::reading::upcoming_token;
 /// How many tokens before the first position are shown.
 const BEFORE: usize = 100;
 /// How many upcoming tokens are shown at the last one.
-const BEHIND: usize = 1_000;
+const AFTER: usize = 1_000;
 
 /// Some tokens of the input.
 #[derive(Drop, Serialize)]
@@ -29,17 +29,12 @@ pub struct Input {
     places: Vec<(usize, usize)>,
 }
 
-/// The token that a step takes.
-fn taken_by(kind: StepKind) -> Option<Sym> {
-    match kind {
-        StepKind::Shift(token) | StepKind::Discard(token) => Some(token),
-        _ => None,
-    }
-}
-
 /// The token that a step which stands takes, the first step at 0.
 fn taken_at(session: &Session, index: usize) -> Option<Sym> {
-    session.kind_at(index).and_then(taken_by)
+    match session.kind_at(index) {
+        Some(StepKind::Shift(token) | StepKind::Discard(token)) => Some(token),
+        _ => None,
+    }
 }
 
 /// How many tokens the steps up to a position take.
@@ -85,7 +80,7 @@ impl Input {
         let skipped = taken.saturating_sub(BEFORE);
         let mut symbols = Vec::new(alloc);
         push_taken(&mut symbols, session, skipped)?;
-        for index in 0..session.view().rest_len().min(BEHIND) {
+        for index in 0..session.view().rest_len().min(AFTER) {
             symbols.push(upcoming_token(session, index).0)?;
         }
         Ok(Input {

@@ -75,20 +75,15 @@ fn mode_word(mode: Mode) -> &'static str {
     }
 }
 
-/// The entries of a stack from the bottom: each symbol, and the state after it.
-fn stack_of(alloc: Global, session: &Session) -> Result<Vec<(Sym, usize)>, AllocError> {
-    (0..session.view().stack_len())
-        .map(|index| (stack_symbol(session, index), stack_state(session, index)))
-        .collect(alloc)
-}
-
 impl Start {
     /// Where a session stands.
     pub fn of(alloc: Global, session: &Session) -> Result<Start, AllocError> {
         Ok(Start {
             position: session.position(),
             mode: mode_word(session.view().mode()),
-            stack: stack_of(alloc, session)?,
+            stack: (0..session.view().stack_len())
+                .map(|index| (stack_symbol(session, index), stack_state(session, index)))
+                .collect(alloc)?,
             counter: session.view().counter(),
             errors: session.view().errors(),
         })

@@ -1,6 +1,6 @@
 //! The script of the page.
 
-/// It stands in the head of the page. What it is given comes behind it, as JSON.
+/// It stands in the head of the page. What it is given comes after it, as JSON.
 pub const SCRIPT: &str = r##"<script>
 "use strict";
 /* The heights of a row and of all that is in sight of the trees, how many rows are drawn; tokens
@@ -43,7 +43,7 @@ function itemText([rule, dot]) {
     ` ${names(body.slice(dot))}`];
 }
 
-/* The token at a place, counted from 0; behind the last one the end. */
+/* The token at a place, counted from 0; after the last one the end. */
 function tokenAt(place) {
   const { count, skipped, symbols } = data.input;
   return place < count ? symbols[place - skipped] : 0;
@@ -64,7 +64,7 @@ function reduce(position, rule) {
   return node;
 }
 
-/* The kinds of steps: how each is told, what it makes of a position, and why it is taken. */
+/* The kinds of steps: how each is written, what it makes of a position, and why it is taken. */
 const KINDS = {
   s: {
     text: (step) => `shift ${name(step.token)}`,
@@ -166,10 +166,10 @@ function isAbout([rule, dot], step) {
 }
 
 function itemRow(item) {
-  const [before, behind] = itemText(item), next = following();
+  const [before, after] = itemText(item), next = following();
   const dot = make("span", { class: "dot", role: "img", "aria-label": "dot" }, "\u2022");
   const hot = next && isAbout(item, next.step) ? "hot" : "";
-  return make("li", { class: hot }, before, dot, behind, faint(` ${ruleName(item[0])}`));
+  return make("li", { class: hot }, before, dot, after, faint(` ${ruleName(item[0])}`));
 }
 
 function showState() {
@@ -213,7 +213,7 @@ function entryRow(number, label, note, kind) {
   return make("li", { class: kind }, faint(number), make("span", {}, label), faint(note));
 }
 
-/* What was popped since the error, above what is left, until the step behind error's shift. */
+/* What was popped since the error, above what is left, until the step after error's shift. */
 function poppedHere() {
   const { step, mode } = here();
   if (mode !== "popping" && !(step && "xf".includes(step.kind))) return [];

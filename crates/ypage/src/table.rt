@@ -40,19 +40,7 @@ impl Drop for Table<'_> {
     }
 }
 
-/// The items of a state that have begun, and those of rule 0.
-fn kernel_of(
-    alloc: Global,
-    automaton: &Automaton,
-    state: usize,
-) -> Result<Vec<(usize, usize)>, AllocError> {
-    items_of(automaton, state)
-        .iter()
-        .filter(|item| item.dot > 0 || item.rule == 0)
-        .map(|item| (item.rule, item.dot))
-        .collect(alloc)
-}
-
+/// States, with the items of each that have begun, and those of rule 0.
 fn states_of(
     alloc: Global,
     automaton: &Automaton,
@@ -60,7 +48,12 @@ fn states_of(
 ) -> Result<Vec<State>, AllocError> {
     let mut states = Vec::new(alloc);
     for number in numbers {
-        states.push((*number, kernel_of(alloc, automaton, *number)?))?;
+        let items = items_of(automaton, *number)
+            .iter()
+            .filter(|item| item.dot > 0 || item.rule == 0)
+            .map(|item| (item.rule, item.dot))
+            .collect(alloc)?;
+        states.push((*number, items))?;
     }
     Ok(states)
 }

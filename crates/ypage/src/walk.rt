@@ -98,20 +98,15 @@ impl Walk<'_> {
         Ok(true)
     }
 
-    /// Makes so many steps at most, and says whether there are more.
+    /// Notes the first cell, makes so many steps at most, and says whether there are more.
     fn go(&mut self, most: usize) -> io::Result<bool> {
+        self.note_cell()?;
         for _ in 0..MOST_STEPS.min(most) {
             if !self.step()? {
                 return Ok(false);
             }
         }
         Ok(most > MOST_STEPS && step(self.parse)?.is_some())
-    }
-
-    /// Notes the first cell, makes so many steps at most, and says whether there are more.
-    fn run(&mut self, most: usize) -> io::Result<bool> {
-        self.note_cell()?;
-        self.go(most)
     }
 }
 
@@ -126,10 +121,10 @@ fn walk_on(alloc: Global, parse: &mut Parse, most: usize) -> io::Result<Walked> 
         parse,
         trail: &mut trail,
     };
-    match walk.run(most) {
-        Ok(false) => Ok(Walked::Done(trail)),
-        Ok(true) => Ok(Walked::Long),
-        Err(error) => Err(error),
+    if walk.go(most)? {
+        Ok(Walked::Long)
+    } else {
+        Ok(Walked::Done(trail))
     }
 }
 

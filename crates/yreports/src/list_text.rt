@@ -99,7 +99,7 @@ impl<'a> ListText<'a> {
         });
     }
 
-    /// Writes the tokens of a list, a period, and the token behind them.
+    /// Writes the tokens of a list, a period, and the token after them.
     fn put_tokens<W: Write>(self, page: &mut Page<W>, tokens: &[Sym]) {
         let (names, name) = (Names(grammar_of(self.tables), tokens), self.name());
         let _ = writeln!(page, "  tokens {names} . {name}");

@@ -122,16 +122,15 @@ impl<W: Write, F: Files + AllocGlobal + Clone + Drop> Report<'_, W, F> {
         for (part, list) in finding.lists.iter().enumerate() {
             text.put_list(self.page, list);
             if let Some((tokens, last)) = file_tokens(list, kind.token) {
-                let name = (number, part);
-                self.folder
-                    .keep(self.page, grammar_of(tables), name, tokens, last)?;
+                let (name, grammar) = ((number, part), grammar_of(tables));
+                self.folder.keep(self.page, grammar, name, tokens, last)?;
             }
         }
         put_unfound(self.page, finding);
         self.page.checked()
     }
 
-    /// Names the kinds for which no lists are made: those behind so many.
+    /// Names the kinds for which no lists are made: those after so many.
     fn put_rest(&mut self, tables: &Tables, found: &Conflicts, first: usize) {
         let rest = found.groups.len().saturating_sub(first);
         if rest > 0 {
@@ -145,34 +144,6 @@ impl<W: Write, F: Files + AllocGlobal + Clone + Drop> Report<'_, W, F> {
             let named = (first, first.saturating_add(MOST_NAMED));
             put_named(self.page, tables, self.lines, found, named);
         }
-    }
-}
-
-/// Writes the conflicts, with lists of tokens.
-fn put_found<W: Write, F: Files + AllocGlobal + Clone + Drop>(
-    report: &mut Report<'_, W, F>,
-    session: &mut Session,
-    found: &Conflicts,
-) -> io::Result<()> {
-    report.page.checked()?;
-    report.folder.clear()?;
-    if found.cells == 0 {
-        return Ok(());
-    }
-    report.folder.make()?;
-    let first = report.put_groups(session, found)?;
-    report.put_rest(session.tables(), found, first);
-    Ok(())
-}
-
-/// Writes what couldn't be written, where there is something, and gives the exit status.
-fn put_failed<E: Write>(errors: &mut E, failed: Option<&String>, status: u8) -> io::Result<u8> {
-    match failed {
-        Some(path) => {
-            writeln!(errors, "ydebug: cannot write {path}")?;
-            Ok(3)
-        }
-        None => Ok(status),
     }
 }
 
@@ -204,13 +175,20 @@ fn put_lists<'a, W: Write, F: Files + AllocGlobal + Clone + Drop>(
         report.page.put(": ");
         put_counts(report.page, session.tables(), found);
     }
-    put_found(&mut report, session, found)?;
+    report.page.checked()?;
+    report.folder.clear()?;
+    if found.cells > 0 {
+        report.folder.make()?;
+        let first = report.put_groups(session, found)?;
+        report.put_rest(session.tables(), found, first);
+    }
     let Report { folder, .. } = report;
     let Folder { failed, .. } = folder;
     Ok(failed)
 }
 
-/// Writes these conflicts and the warnings of a session's grammar, and gives the exit status.
+/// Writes these conflicts and the warnings of a session's grammar, and what couldn't be written,
+/// where there is something, and gives the exit status.
 fn put_both<W: Write, E: Write, F: Files + AllocGlobal + Clone + Drop>(
     rt: &F,
     asked: Asked<'_>,
@@ -223,9 +201,12 @@ fn put_both<W: Write, E: Write, F: Files + AllocGlobal + Clone + Drop>(
     let failed = put_lists(rt, &mut *page, asked, session, lines, found)?;
     let warnings = put_warnings(&mut *page, rt.alloc(), session.tables(), lines)?;
     page.checked()?;
+    if let Some(path) = failed {
+        writeln!(errors, "ydebug: cannot write {path}")?;
+        return Ok(3);
+    }
     let is_bad = found.cells > 0 || warnings > 0;
-    let status = if asked.strict && is_bad { 1 } else { 0 };
-    put_failed(errors, failed.as_ref(), status)
+    Ok(if asked.strict && is_bad { 1 } else { 0 })
 }
 
 /// Writes the conflicts and the warnings of a grammar that is open, and gives the exit status: 0;

@@ -19,11 +19,11 @@ pub struct Folder<'a, F> {
     pub path: Option<&'a str>,
     /// The path of the grammar file, which is neither removed nor written over.
     pub grammar: &'a str,
-    /// What couldn't be written; nothing is kept behind that.
+    /// What couldn't be written; nothing is kept after that.
     pub failed: Option<String>,
 }
 
-/// Writes a line with tokens behind a space each, and one more where there is one.
+/// Writes a line with tokens after a space each, and one more where there is one.
 fn put_tokens<W: Write>(
     out: &mut W,
     grammar: &Grammar,
@@ -34,14 +34,6 @@ fn put_tokens<W: Write>(
     match last.map(|last| Name(grammar, last)) {
         Some(name) => writeln!(out, "{names} {name}"),
         None => writeln!(out, "{names}"),
-    }
-}
-
-/// A text without a space at its beginning.
-fn unspaced(text: &[u8]) -> &[u8] {
-    match text {
-        [b' ', rest @ ..] => rest,
-        _ => text,
     }
 }
 
@@ -159,26 +151,15 @@ impl<F: Files + AllocGlobal + Clone + Drop> Folder<'_, F> {
         };
         page.checked()?;
         let path = path_of(self.rt.alloc(), folder, name)?;
-        if !self.write(&path, grammar, tokens, last)? {
+        let mut text = Vec::new(self.rt.alloc());
+        put_tokens(&mut text, grammar, tokens, last)?;
+        let written = write_over(self.rt, &path, text.strip_prefix(b" ").unwrap_or(&text));
+        if !is_written(written)? {
             self.failed = Some(path);
             return Ok(());
         }
         page.put("  saved   ");
         page.line(&path);
         Ok(())
-    }
-
-    /// Writes tokens to a file, and says whether that was done.
-    fn write(
-        &self,
-        path: &str,
-        grammar: &Grammar,
-        tokens: &[Sym],
-        last: Option<Sym>,
-    ) -> io::Result<bool> {
-        let alloc: Global = self.rt.alloc();
-        let mut text = Vec::new(alloc);
-        put_tokens(&mut text, grammar, tokens, last)?;
-        is_written(write_over(self.rt, path, unspaced(&text)))
     }
 }

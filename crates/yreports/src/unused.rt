@@ -3,7 +3,7 @@
 use std::alloc::{AllocError, Global};
 use std::mem;
 use ycells::{Rival, settle};
-use yexplain::lines::Lines;
+use yexplain::lines::{Lines, last_token};
 use yexplain::reads::{
     action_of, body_of, candidate_of, default_of, grammar_of, items_of, level_of, next_of,
     ready_of, rule_of, set, shift_of,
@@ -52,16 +52,10 @@ impl Done {
             steps: MOST_STEPS,
             ready: Vec::new(alloc),
         };
-        done.look_at_all(tables, lines)?;
-        Ok(done)
-    }
-
-    /// Notes what is done in the cells of all states.
-    fn look_at_all(&mut self, tables: &Tables, lines: &Lines) -> Result<(), AllocError> {
         for state in 0..tables.automaton().states() {
-            self.look_at(tables, lines, state)?;
+            done.look_at(tables, lines, state)?;
         }
-        Ok(())
+        Ok(done)
     }
 
     /// Notes what is done in the cells of a state.
@@ -112,10 +106,8 @@ impl Done {
         self.rivals.clear();
         for index in &self.ready {
             if let Some(candidate) = candidate_of(tables, state, token, *index) {
-                self.rivals.push(Rival {
-                    rule: candidate.rule,
-                    standing: candidate.standing,
-                })?;
+                let (rule, standing) = (candidate.rule, candidate.standing);
+                self.rivals.push(Rival { rule, standing })?;
             }
         }
         Ok(())
@@ -160,15 +152,12 @@ impl Done {
         place: usize,
     ) -> Option<Rival> {
         let rule = self.rivals.get(place)?.rule;
-        let is_marked = self.by_rule.get(rule).copied().unwrap_or(true);
-        if is_marked {
+        if self.by_rule.get(rule).copied().unwrap_or(true) {
             return None;
         }
-        let hidden = hidden_of(grammar, lines, rule)?;
-        Some(Rival {
-            rule,
-            standing: standing_between(level_of(grammar, token), Some(hidden)),
-        })
+        let hidden = Some(hidden_of(grammar, lines, rule)?);
+        let standing = standing_between(level_of(grammar, token), hidden);
+        Some(Rival { rule, standing })
     }
 
     /// Notes the tokens that gave a precedence to rules that settled a cell.
@@ -194,9 +183,7 @@ fn hidden_of(grammar: &Grammar, lines: &Lines, rule: usize) -> Option<Precedence
     if lines.prec(rule).is_none() || rule_of(grammar, rule)?.precedence().is_some() {
         return None;
     }
-    let body = body_of(grammar, rule);
-    let last = body.iter().rev().find(|symbol| grammar.is_token(**symbol));
-    level_of(grammar, *last?)
+    level_of(grammar, last_token(grammar, body_of(grammar, rule))?)
 }
 
 /// Whether a cell does something else, or counts other conflicts, where one of its rules stands

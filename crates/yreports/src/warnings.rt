@@ -60,23 +60,12 @@ impl Named {
         }
     }
 
-    /// Whether a symbol is a left side or stands in a body.
-    fn is_in_rules(&self, grammar: &Grammar, symbol: Sym) -> bool {
-        let is_in_body = self.in_body.get(symbol).copied().unwrap_or(false);
-        is_in_body || !grammar.is_token(symbol)
-    }
-
     fn is_used(&self, symbol: Sym) -> bool {
-        self.used.get(symbol).copied().unwrap_or(false)
+        self.used.get(symbol) == Some(&true)
     }
 
     fn line(&self, symbol: Sym) -> Option<usize> {
         self.first.get(symbol).copied().flatten()
-    }
-
-    /// The line that gives a token its precedence.
-    fn level_line(&self, symbol: Sym) -> Option<usize> {
-        self.levelled.get(symbol).copied().flatten()
     }
 }
 
@@ -88,7 +77,7 @@ fn note_line(lines: &mut [Option<usize>], mention: Mention) {
 }
 
 impl<W: Write> Warner<'_, W> {
-    /// Begins a warning, behind an empty line where it is the first, with the line of the file
+    /// Begins a warning, after an empty line where it is the first, with the line of the file
     /// where there is one.
     fn begin(&mut self, line: Option<usize>) {
         if self.count == 0 {
@@ -102,10 +91,10 @@ impl<W: Write> Warner<'_, W> {
     }
 
     /// Writes a warning about a symbol between two texts.
-    fn warn(&mut self, line: Option<usize>, before: &str, symbol: Sym, behind: &str) {
+    fn warn(&mut self, line: Option<usize>, before: &str, symbol: Sym, after: &str) {
         self.begin(line);
         let name = Name(self.grammar, symbol);
-        let _ = writeln!(self.page, "{before}{name}{behind}");
+        let _ = writeln!(self.page, "{before}{name}{after}");
     }
 
     /// Rules of symbols that can be reached, which are never reduced.
@@ -134,24 +123,24 @@ impl<W: Write> Warner<'_, W> {
             let settles = done.by_token.get(token).copied().unwrap_or(true);
             let is_meant = named.is_used(token) && level_of(self.grammar, token).is_some();
             if is_meant && !settles {
-                let line = named.level_line(token);
+                let line = named.levelled.get(token).copied().flatten();
                 self.warn(line, "the precedence of ", token, " settles nothing");
             }
         }
     }
 
-    /// Precedences behind `%prec` that settled no cell.
+    /// Precedences by `%prec` that settled no cell.
     fn put_idle_rules(&mut self, done: &Done) {
         for rule in 1..self.grammar.rules() {
             let settles = done.by_rule.get(rule).copied().unwrap_or(true);
             if !settles && self.lines.prec(rule).is_some() && self.is_live(rule) {
                 self.begin(self.lines.rule(rule));
-                let settles = if done.all_tried {
+                let may = if done.all_tried {
                     "settles"
                 } else {
                     "may settle"
                 };
-                let _ = writeln!(self.page, "the %prec of rule {rule} {settles} nothing");
+                let _ = writeln!(self.page, "the %prec of rule {rule} {may} nothing");
             }
         }
     }
@@ -170,24 +159,15 @@ impl<W: Write> Warner<'_, W> {
     /// Symbols that are used, but can't be reached.
     fn put_unreachable(&mut self, named: &Named) {
         for symbol in 0..self.grammar.symbols() {
-            let is_meant = named.is_in_rules(self.grammar, symbol) && named.line(symbol).is_some();
+            let is_left = !self.grammar.is_token(symbol);
+            let is_in_rules = is_left || named.in_body.get(symbol) == Some(&true);
+            let is_meant = is_in_rules && named.line(symbol).is_some();
             if is_meant && symbol != ERROR && !is_reachable(self.grammar, symbol) {
                 let line = named.line(symbol);
                 self.warn(line, "", symbol, " can't be reached from the start");
             }
         }
     }
-}
-
-/// Writes a line for each warning by what is done and how symbols are named, and says how many
-/// there are.
-fn put_each<W: Write>(warner: &mut Warner<'_, W>, done: &Done, named: &Named) -> usize {
-    warner.put_lost(done);
-    warner.put_idle_tokens(done, named);
-    warner.put_idle_rules(done);
-    warner.put_unused(named);
-    warner.put_unreachable(named);
-    warner.count
 }
 
 /// Writes a line for each warning, and says how many there are. It fails only when memory runs
@@ -208,5 +188,10 @@ pub fn put_warnings<W: Write>(
         lines,
         count: 0,
     };
-    Ok(put_each(&mut warner, &done, &named))
+    warner.put_lost(&done);
+    warner.put_idle_tokens(&done, &named);
+    warner.put_idle_rules(&done);
+    warner.put_unused(&named);
+    warner.put_unreachable(&named);
+    Ok(warner.count)
 }

@@ -1,7 +1,7 @@
 //! Names for the rules of a grammar, for programs that parse by its table.
 //!
-//! `opening` opens a file with its text. `comments` finds the comments among its rules, `given` the
-//! names that they give, `stems` has what each alternative is called, `names` the names of all
+//! `opening` finds the lexemes of an open file. `comments` finds the comments among its rules, `given`
+//! the names that they give, `stems` has what each alternative is called, `names` the names of all
 //! rules, and `refusal` why there are none. `digest` makes the digest of a table. `list`, `header`
 //! and `python` write a `sheet` of all of it, and `run` is the command.
 #![tactic(auto)]

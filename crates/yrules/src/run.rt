@@ -6,7 +6,7 @@ use crate::given::given_in;
 use crate::header::put_header;
 use crate::list::put_list;
 use crate::names::{Names, names_of};
-use crate::opening::{Text, marks_of, open};
+use crate::opening::marks_of;
 use crate::python::put_module;
 use crate::refusal::Trouble;
 use crate::sheet::{Sheet, tokens_of};
@@ -19,7 +19,7 @@ use yfaults::opening::Opened;
 use yfiles::same::{is_same_file, refused_output};
 use yfiles::writing::put_output;
 use ygrammar::Mark;
-use yinput::grammars::GrammarFile;
+use yinput::grammars::{GrammarFile, GrammarText, open_with_text};
 use ysymbols::Grammar;
 
 /// What is asked for: the names of the rules of a grammar file, in a header, in a module, or where
@@ -108,11 +108,11 @@ fn put_named<F: Files + AllocGlobal, W: Write, E: Write>(
 fn put_open<F: Files + AllocGlobal, W: Write, E: Write>(
     rt: &F,
     asked: Asked<'_>,
-    text: &Text,
+    text: &GrammarText,
     out: &mut W,
     errors: &mut E,
 ) -> io::Result<u8> {
-    let Text { bytes, opened } = text;
+    let GrammarText { bytes, opened } = text;
     let marks = marks_of(rt.alloc(), bytes)?;
     match named(rt.alloc(), bytes, &marks, grammar_of(&opened.tables)) {
         Ok(names) => put_named(rt, asked, opened, &names, out, errors),
@@ -160,7 +160,7 @@ pub fn run_rules<F: Files + AllocGlobal, W: Write, E: Write>(
     if let Some(status) = refused_outputs(rt, asked, errors)? {
         return Ok(status);
     }
-    match open(rt, asked.grammar, errors)? {
+    match open_with_text(rt, asked.grammar, errors)? {
         Ok(text) => put_open(rt, asked, &text, out, errors),
         Err(status) => Ok(status),
     }

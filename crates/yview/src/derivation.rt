@@ -1,16 +1,13 @@
 //! The rightmost derivation that a parse has made up to here, read off its trees.
 
 use crate::page::Page;
-use crate::reading::{child_of, name_of, tree_at, upcoming_token};
+use crate::reading::{MOST_NODES, child_of, name_of, tree_at, upcoming_token};
 use std::alloc::{AllocError, Global};
 use std::io::Write;
 use yexplain::reads::{grammar_of, left_of};
 use ylalr::{END, ERROR};
 use yparse::{Session, TreeNode, TreeView};
 use ysymbols::{Grammar, Sym};
-
-/// How many nodes a parse has at most: no step makes more than one.
-const MOST_NODES: usize = 1_000_000;
 
 /// What is written for a form without a symbol.
 const EMPTY: &str = " (empty)";
@@ -70,7 +67,7 @@ impl<'a> Form<'a> {
     }
 
     /// Takes the last tree: a rule is replaced by its body, which makes another form, and anything
-    /// else moves behind. `None` where there are no more trees.
+    /// else moves to the tokens. `None` where there are no more trees.
     fn expand(&mut self, grammar: &Grammar) -> Result<Option<bool>, AllocError> {
         let Some(tree) = self.trees.pop() else {
             return Ok(None);
@@ -106,13 +103,13 @@ impl<'a> Form<'a> {
             page.line(EMPTY);
             return;
         }
-        for tree in &self.trees {
+        let roots = self
+            .trees
+            .iter()
+            .map(|tree| symbol_of(grammar, tree.node()));
+        for symbol in roots.chain(self.tokens.iter().rev().copied()) {
             page.put(" ");
-            page.put(name_of(grammar, symbol_of(grammar, tree.node())));
-        }
-        for token in self.tokens.iter().rev() {
-            page.put(" ");
-            page.put(name_of(grammar, *token));
+            page.put(name_of(grammar, symbol));
         }
         page.end();
     }
@@ -142,9 +139,11 @@ fn line_of(width: u64) -> u64 {
     }
 }
 
-/// How many bytes all forms take, from one that takes so many on.
-fn size_of_forms(grammar: &Grammar, form: &mut Form<'_>, first: u64) -> Result<u64, AllocError> {
-    let mut width = first;
+/// How many bytes all forms take.
+pub fn size_of_derivation(alloc: Global, session: &Session) -> Result<u64, AllocError> {
+    let grammar = grammar_of(session.tables());
+    let mut form = Form::now(alloc, session)?;
+    let mut width = form.width(grammar);
     let mut size = line_of(width);
     for _ in 0..=MOST_NODES {
         let Some(tree) = form.trees.pop() else {
@@ -159,14 +158,6 @@ fn size_of_forms(grammar: &Grammar, form: &mut Form<'_>, first: u64) -> Result<u
         }
     }
     Ok(size)
-}
-
-/// How many bytes all forms take.
-pub fn size_of_derivation(alloc: Global, session: &Session) -> Result<u64, AllocError> {
-    let grammar = grammar_of(session.tables());
-    let mut form = Form::now(alloc, session)?;
-    let width = form.width(grammar);
-    size_of_forms(grammar, &mut form, width)
 }
 
 /// The further forms, at most so many, up to a fault of the page.

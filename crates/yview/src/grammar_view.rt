@@ -9,22 +9,17 @@ use yexplain::text::{Numbered, RuleText};
 use ysymbols::{Associativity, Grammar, Precedence};
 use ytables::Tables;
 
-/// The word of an associativity.
-pub fn associativity_word(kind: Associativity) -> &'static str {
-    match kind {
-        Associativity::Left => "%left",
-        Associativity::Right => "%right",
-        Associativity::Nonassoc => "%nonassoc",
-    }
-}
-
 /// A precedence, where there is one.
 pub fn put_precedence<W: Write>(page: &mut Page<W>, precedence: Option<Precedence>) {
     let Some(Precedence { level, kind }) = precedence else {
         page.put(", no precedence");
         return;
     };
-    let word = associativity_word(kind);
+    let word = match kind {
+        Associativity::Left => "%left",
+        Associativity::Right => "%right",
+        Associativity::Nonassoc => "%nonassoc",
+    };
     let _ = write!(page, ", precedence {level} by {word}");
 }
 
@@ -57,13 +52,9 @@ impl Rules<'_> {
         page.show(Numbered(self.lines, rule));
         put_precedence(page, precedence);
         if let (Some(_), Some(token)) = (precedence, self.lines.giver(grammar, rule)) {
-            page.put(" from ");
-            page.put(name_of(grammar, token));
+            let _ = write!(page, " from {}", name_of(grammar, token));
         }
-        page.end();
-        page.put("   ");
-        page.show(RuleText(grammar, rule));
-        page.end();
+        let _ = writeln!(page, "\n   {}", RuleText(grammar, rule));
     }
 }
 

@@ -40,7 +40,7 @@ impl Paint {
 
 /// Text on its way to a writer.
 ///
-/// The page remembers the first fault of its writer, and text behind it goes nowhere. `checked`
+/// The page remembers the first fault of its writer, and text after it goes nowhere. `checked`
 /// and `flush` answer that fault, so it need not be asked for after each piece.
 #[derive(Drop)]
 pub struct Page<W> {
@@ -147,8 +147,8 @@ impl<W: Write> Page<W> {
         self.end();
     }
 
-    /// Writes a word of a list behind a space. Where the line is full, the word begins another
-    /// one, behind so many spaces.
+    /// Writes a word of a list after a space. Where the line is full, the word begins another
+    /// one, after so many spaces.
     pub fn word(&mut self, indent: usize, word: &str) {
         if self.column > indent && self.column.saturating_add(word.len()) >= WIDTH {
             self.end();

@@ -13,45 +13,24 @@ const SOME: usize = 14;
 /// How many lines or tokens are shown at most.
 pub const MANY: usize = 1_000;
 
-/// The word of a mode.
-fn mode_word(mode: Mode) -> &'static str {
+/// How a mode looks, and the words for it.
+fn mode_words(mode: Mode) -> (Paint, &'static str) {
     match mode {
-        Mode::Running => "running",
-        Mode::Popping => "popping, to a state that can shift error",
-        Mode::Accepted => "accepted",
-        Mode::Failed => "given up",
-    }
-}
-
-/// How a mode looks.
-fn mode_paint(mode: Mode) -> Paint {
-    match mode {
-        Mode::Running => Paint::Strong,
-        Mode::Accepted => Paint::Good,
-        Mode::Popping | Mode::Failed => Paint::Bad,
-    }
-}
-
-/// How many errors were reported.
-fn put_errors<W: Write>(page: &mut Page<W>, session: &Session) {
-    match session.view().errors() {
-        0 => page.put(", no errors"),
-        errors => {
-            page.put(", ");
-            page.count(errors, "error", "errors");
-        }
+        Mode::Running => (Paint::Strong, "running"),
+        Mode::Popping => (Paint::Bad, "popping, to a state that can shift error"),
+        Mode::Accepted => (Paint::Good, "accepted"),
+        Mode::Failed => (Paint::Bad, "given up"),
     }
 }
 
 /// How many tokens must be shifted until an error is reported again, where any must.
 fn put_counter<W: Write>(page: &mut Page<W>, session: &Session) {
     let counter = session.view().counter();
-    if counter == 0 {
-        return;
+    if counter > 0 {
+        page.put("recovery  errors are reported again after ");
+        page.count(counter, "more shift", "more shifts");
+        page.end();
     }
-    page.put("recovery  errors are reported again after ");
-    page.count(counter, "more shift", "more shifts");
-    page.end();
 }
 
 /// Which token is ahead.
@@ -69,11 +48,15 @@ fn put_ahead<W: Write>(page: &mut Page<W>, session: &Session, tokens: usize) {
 
 /// The position, the mode, the errors, and the token ahead; `tokens` were read from the file.
 pub fn put_head<W: Write>(page: &mut Page<W>, session: &Session, tokens: usize) {
-    let mode = session.view().mode();
+    let (paint, words) = mode_words(session.view().mode());
     page.number_to(7, session.position());
     page.put("  ");
-    page.painted(mode_paint(mode), mode_word(mode));
-    put_errors(page, session);
+    page.painted(paint, words);
+    page.put(", ");
+    match session.view().errors() {
+        0 => page.put("no errors"),
+        errors => page.count(errors, "error", "errors"),
+    }
     put_ahead(page, session, tokens);
     page.end();
     put_counter(page, session);
@@ -116,13 +99,9 @@ pub fn put_where<W: Write>(page: &mut Page<W>, session: &Session, tokens: usize)
     put_head(page, session, tokens);
     put_top(page, session);
     put_next(page, session);
-    let _ = writeln!(page, "state {}", session.state());
-    put_kernel(
-        page,
-        session.tables(),
-        session.state(),
-        token_ahead(session),
-    );
+    let (tables, state) = (session.tables(), session.state());
+    let _ = writeln!(page, "state {state}");
+    put_kernel(page, tables, state, token_ahead(session));
 }
 
 /// Writes how many of what was asked for are left out, where some are.

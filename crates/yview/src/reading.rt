@@ -8,6 +8,9 @@ use yparse::{Session, TreeView};
 use ysymbols::{Grammar, Precedence, Sym};
 use ytables::Tables;
 
+/// How many nodes a parse has at most: no step makes more than one.
+pub const MOST_NODES: usize = 1_000_000;
+
 /// The printed name of a symbol; empty for a number that is no symbol.
 pub fn name_of(grammar: &Grammar, symbol: Sym) -> &str {
     str::from_utf8(reads::name_of(grammar, symbol)).unwrap_or("?")
@@ -57,7 +60,7 @@ pub fn stack_state(session: &Session, index: usize) -> usize {
     }
 }
 
-/// An upcoming token and its place; `$end` behind the last.
+/// An upcoming token and its place; `$end` after the last.
 pub fn upcoming_token(session: &Session, index: usize) -> (Sym, usize) {
     let view = session.view();
     if index < view.rest_len() {
@@ -67,7 +70,7 @@ pub fn upcoming_token(session: &Session, index: usize) -> (Sym, usize) {
     }
 }
 
-/// The token ahead; `$end` behind the last token.
+/// The token ahead; `$end` after the last token.
 pub fn token_ahead(session: &Session) -> Sym {
     upcoming_token(session, 0).0
 }

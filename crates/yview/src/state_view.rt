@@ -103,22 +103,19 @@ impl<'a> Shown<'a> {
         let column = width.saturating_add(5);
         page.put("   ");
         page.show(ItemText(grammar, item));
-        match next_of(grammar, item) {
-            None => {
-                page.tab(column);
-                page.put("reduce on");
-                self.put_looks(page, item, most);
+        let next = next_of(grammar, item);
+        if next.map_or(true, |symbol| grammar.is_token(symbol)) {
+            page.tab(column);
+            match next {
+                None => {
+                    page.put("reduce on");
+                    self.put_looks(page, item, most);
+                }
+                Some(END) => page.put("accept"),
+                Some(token) => {
+                    let _ = write!(page, "shift {}", name_of(grammar, token));
+                }
             }
-            Some(END) => {
-                page.tab(column);
-                page.put("accept");
-            }
-            Some(token) if grammar.is_token(token) => {
-                page.tab(column);
-                page.put("shift ");
-                page.put(name_of(grammar, token));
-            }
-            Some(_) => {}
         }
         page.end();
     }
@@ -192,9 +189,7 @@ impl<'a> Shown<'a> {
             if action == reduction && !self.is_apart(token, reduction) {
                 if !begun {
                     begun = true;
-                    page.put("   ");
-                    put_action(page, reduction);
-                    page.put(" on");
+                    let _ = write!(page, "   reduce by rule {rule} on");
                 }
                 page.word(6, name_of(self.grammar(), token));
             }
@@ -208,9 +203,7 @@ impl<'a> Shown<'a> {
     /// where the state reduces at every token.
     fn put_actions<W: Write>(self, page: &mut Page<W>) {
         if let Some(rule) = default_of(self.tables, self.state) {
-            page.put("   any token         ");
-            put_action(page, Action::Reduce(rule));
-            page.end();
+            let _ = writeln!(page, "   any token         reduce by rule {rule}");
             return;
         }
         self.put_cells(page);

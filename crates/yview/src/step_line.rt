@@ -78,8 +78,7 @@ pub fn put_subject<W: Write>(page: &mut Page<W>, grammar: &Grammar, kind: StepKi
         StepKind::Reduce(rule) => page.show(RuleText(grammar, rule)),
         StepKind::ShiftError => page.put("error"),
         StepKind::Detect => {
-            page.put(name_of(grammar, ahead));
-            page.put(" can't come here");
+            let _ = write!(page, "{} can't come here", name_of(grammar, ahead));
         }
         StepKind::Accept | StepKind::Fail => {}
     }
@@ -89,8 +88,7 @@ pub fn put_subject<W: Write>(page: &mut Page<W>, grammar: &Grammar, kind: StepKi
 pub fn put_rule_number<W: Write>(page: &mut Page<W>, kind: StepKind) {
     if let StepKind::Reduce(rule) = kind {
         page.tab(RULES);
-        page.put("rule ");
-        page.number(rule);
+        let _ = write!(page, "rule {rule}");
     }
 }
 
@@ -103,7 +101,5 @@ pub fn put_made<W: Write>(page: &mut Page<W>, session: &Session, line: StepLine)
     put_subject(page, grammar_of(session.tables()), line.kind, line.ahead);
     put_rule_number(page, line.kind);
     page.tab(STATES);
-    page.put("state ");
-    page.number(line.state);
-    page.end();
+    let _ = writeln!(page, "state {}", line.state);
 }

@@ -55,11 +55,12 @@ fn put_first<W: Write>(page: &mut Page<W>, tables: &Tables, symbol: Sym) {
         }
     }
     page.line(if none { " no token" } else { "" });
-    page.line(if vanishes(tables.automaton(), symbol) {
-        "can be empty"
+    let can = if vanishes(tables.automaton(), symbol) {
+        "can"
     } else {
-        "can't be empty"
-    })
+        "can't"
+    };
+    let _ = writeln!(page, "{can} be empty");
 }
 
 /// How a symbol is named outside of the rules, or by `%prec`.

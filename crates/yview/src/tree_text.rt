@@ -1,7 +1,7 @@
 //! Trees as indented text.
 
 use crate::page::Page;
-use crate::reading::{child_of, name_of, tree_at};
+use crate::reading::{MOST_NODES, child_of, name_of, tree_at};
 use std::alloc::{AllocError, Global};
 use std::io::Write;
 use yexplain::reads::{grammar_of, left_of};
@@ -11,8 +11,7 @@ use ysymbols::Grammar;
 
 /// How deep a line is indented at most, in levels.
 const DEEPEST: usize = 40;
-/// How many nodes a parse has at most: no step makes more than one.
-const MOST_NODES: usize = 1_000_000;
+
 /// How many lines are written unless all are asked for.
 pub const SOME_LINES: usize = 1_000;
 
@@ -22,50 +21,26 @@ type Open<'a> = (usize, TreeView<'a>);
 /// What stands at the root of a tree: a token with its place, or as one that was inserted;
 /// `error`; or a left side with its rule.
 fn put_root<W: Write>(page: &mut Page<W>, grammar: &Grammar, node: TreeNode) {
-    match node {
-        TreeNode::Leaf(token, 0) => {
-            page.put(name_of(grammar, token));
-            page.put("  (inserted)");
-        }
-        TreeNode::Leaf(token, place) => {
-            page.put(name_of(grammar, token));
-            page.put("  @");
-            page.number(place);
-        }
-        TreeNode::ErrorLeaf => page.put("error"),
+    let _ = match node {
+        TreeNode::Leaf(token, 0) => write!(page, "{}  (inserted)", name_of(grammar, token)),
+        TreeNode::Leaf(token, place) => write!(page, "{}  @{place}", name_of(grammar, token)),
+        TreeNode::ErrorLeaf => write!(page, "error"),
         TreeNode::Rule(rule) => {
-            page.put(name_of(grammar, left_of(grammar, rule).unwrap_or(END)));
-            page.put("  rule ");
-            page.number(rule);
+            let left = left_of(grammar, rule).unwrap_or(END);
+            write!(page, "{}  rule {rule}", name_of(grammar, left))
         }
-    }
+    };
 }
 
 /// The indentation of a level, with its number where it is deep.
 fn put_indent<W: Write>(page: &mut Page<W>, level: usize) {
     page.spaces(level.min(DEEPEST).saturating_mul(2));
     if level > DEEPEST {
-        page.put("(");
-        page.number(level);
-        page.put(") ");
+        let _ = write!(page, "({level}) ");
     }
 }
 
-/// The children of a tree are to be written next, the leftmost first.
-fn open_children<'a>(
-    open: &mut Vec<Open<'a>>,
-    level: usize,
-    tree: &TreeView<'a>,
-) -> Result<(), AllocError> {
-    for index in (0..tree.children()).rev() {
-        if let Some(child) = child_of(tree, index) {
-            open.push((level.saturating_add(1), child))?;
-        }
-    }
-    Ok(())
-}
-
-/// The line of a tree's root; its children are to be written next.
+/// The line of a tree's root; its children are to be written next, the leftmost first.
 fn put_line<'a, W: Write>(
     page: &mut Page<W>,
     grammar: &Grammar,
@@ -76,7 +51,12 @@ fn put_line<'a, W: Write>(
     put_indent(page, level);
     put_root(page, grammar, tree.node());
     page.end();
-    open_children(open, level, &tree)
+    for index in (0..tree.children()).rev() {
+        if let Some(child) = child_of(&tree, index) {
+            open.push((level.saturating_add(1), child))?;
+        }
+    }
+    Ok(())
 }
 
 /// The open trees, at most so many lines.
@@ -126,11 +106,8 @@ pub fn put_tree<W: Write>(
     entry: usize,
     most: usize,
 ) -> Result<(), AllocError> {
-    let tree = match entry.checked_sub(1) {
-        Some(index) => tree_at(session, index),
-        None => None,
-    };
-    let Some(tree) = tree else {
+    let index = entry.checked_sub(1);
+    let Some(tree) = index.and_then(|index| tree_at(session, index)) else {
         let entries = session.view().stack_len();
         let _ = writeln!(page, "There is no such entry: the stack has {entries}.");
         return Ok(());
