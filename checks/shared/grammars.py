@@ -14,6 +14,8 @@ class Rule:
     body: list
     # (level, associativity), or None
     precedence: object
+    # the token that gives it one, or would
+    giver: object = None
 
 
 @dataclass
@@ -98,7 +100,7 @@ class Draw:
                 self.inner += 1
                 body.append(f"$${self.inner}")
                 words.append("{ }")
-                self.rules.append((body[-1], [], None))
+                self.rules.append((body[-1], [], None, None))
             part = self.part()
             body.append(part)
             words.append(part)
@@ -109,7 +111,7 @@ class Draw:
             last = self.rng.choice([*self.inputs, "error"])
             words += ["%prec", last]
             self.see(last)
-        self.rules.append((left, body, self.precedences.get(last)))
+        self.rules.append((left, body, self.precedences.get(last), last))
         return " ".join(words)
 
     def numbers(self):
@@ -126,15 +128,18 @@ class Draw:
         for left in self.lefts:
             rules = [self.rule(left) for _ in range(self.rng.randint(1, 3))]
             self.lines.append(f"{left} : {' | '.join(rules)} ;")
-        rules = [("$accept", [self.start, "$end"], None), *self.rules]
-        names = ["$end", "error", *self.seen, *dict.fromkeys(left for left, _, _ in rules)]
+        rules = [("$accept", [self.start, "$end"], None, None), *self.rules]
+        names = ["$end", "error", *self.seen, *dict.fromkeys(left for left, *_ in rules)]
         at = {name: index for index, name in enumerate(names)}
         return Grammar(
             text="\n".join(self.lines) + "\n",
             names=names,
             tokens=2 + len(self.seen),
             numbers=self.numbers(),
-            rules=[Rule(at[left], [at[it] for it in body], level) for left, body, level in rules],
+            rules=[
+                Rule(at[left], [at[it] for it in body], level, at.get(giver))
+                for left, body, level, giver in rules
+            ],
             precedences={at[token]: level for token, level in self.precedences.items()},
         )
 

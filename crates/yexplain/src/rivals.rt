@@ -126,6 +126,8 @@ impl<'a> Rivals<'a> {
             token: None,
             other: None,
             rule: None,
+            tokens: &[],
+            rules: &[],
         }
     }
 

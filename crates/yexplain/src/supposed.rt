@@ -41,6 +41,10 @@ pub struct Supposed<'a> {
     pub other: Option<(Sym, Precedence)>,
     /// A rule with another precedence.
     pub rule: Option<(usize, Precedence)>,
+    /// Marks of tokens that are all named on one line of `%left` after all others.
+    pub tokens: &'a [bool],
+    /// Marks of rules that have a name of their own on that line.
+    pub rules: &'a [bool],
 }
 
 /// The precedence that is supposed of a token or a rule, where one is.
@@ -48,10 +52,18 @@ fn among(supposed: Option<(usize, Precedence)>, number: usize) -> Option<Precede
     supposed.and_then(|(it, precedence)| (it == number).then_some(precedence))
 }
 
+/// The precedence by the line after all others, where a number is marked.
+fn marked(marks: &[bool], number: usize) -> Option<Precedence> {
+    let is_marked = marks.get(number).copied().unwrap_or(false);
+    is_marked.then_some(line(BOTTOM, Associativity::Left))
+}
+
 impl Supposed<'_> {
     /// What is supposed of a token, where something is.
     fn supposed(self, token: Sym) -> Option<Precedence> {
-        among(self.token, token).or(among(self.other, token))
+        among(self.token, token)
+            .or(among(self.other, token))
+            .or(marked(self.tokens, token))
     }
 
     /// The precedence that a rule has from a token.
@@ -66,7 +78,8 @@ impl Supposed<'_> {
     pub fn rival(self, rule: usize, token: Sym) -> Rival {
         let level = placed(level_of(self.grammar, token));
         let of_token = self.supposed(token).or(level);
-        let of_rule = among(self.rule, rule).or(self.given(rule));
+        let own = among(self.rule, rule).or(marked(self.rules, rule));
+        let of_rule = own.or(self.given(rule));
         let standing = standing_between(of_token, of_rule);
         Rival { rule, standing }
     }

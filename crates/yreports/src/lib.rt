@@ -1,11 +1,15 @@
 //! The report on the conflicts of a grammar, with what else deserves a warning.
 //!
-//! `kinds` has the conflicts in short, and `list_text` a list of tokens that gets to one.
+//! `kinds` has the conflicts in short, `causes` what many have in common, found by changes that are
+//! tried on all cells (`tried`), and `list_text` a list of tokens that gets to one.
 #![tactic(auto)]
 
+mod cause_text;
+mod causes;
 pub mod kinds;
 pub mod list_text;
 pub mod report;
 mod saving;
+mod tried;
 mod unused;
 mod warnings;

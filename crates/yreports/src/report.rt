@@ -1,6 +1,8 @@
 //! `ydebug conflicts`: each kind of conflict with its rivals, what settled it, and lists of tokens
 //! that get there; then the warnings.
 
+use crate::cause_text::CauseText;
+use crate::causes::causes_of;
 use crate::kinds::{put_counts, put_named, put_states};
 use crate::list_text::{ListText, put_unfound};
 use crate::saving::Folder;
@@ -83,6 +85,18 @@ impl<W: Write, F: Files + AllocGlobal + Clone + Drop> Report<'_, W, F> {
             self.put_finding(tables, number, kind, *group, &finding)?;
         }
         Ok(number)
+    }
+
+    /// Writes what the conflicts come from, where there are several kinds.
+    fn put_causes(&mut self, tables: &Tables, found: &Conflicts) -> io::Result<()> {
+        let text = CauseText {
+            grammar: grammar_of(tables),
+            lines: self.lines,
+        };
+        match causes_of(self.alloc, tables, self.lines, found)? {
+            Some(causes) => text.put(self.page, &causes),
+            None => Ok(()),
+        }
     }
 
     /// Writes a kind of conflict, why it is settled so, and where its token comes from.
@@ -174,6 +188,7 @@ fn put_lists<'a, W: Write, F: Files + AllocGlobal + Clone + Drop>(
     } else {
         report.page.put(": ");
         put_counts(report.page, session.tables(), found);
+        report.put_causes(session.tables(), found)?;
     }
     report.page.checked()?;
     report.folder.clear()?;

@@ -1,0 +1,85 @@
+"""What many conflicts come from, as a report says it, tried on tables of the changed grammar."""
+import re
+from collections import Counter
+from dataclasses import replace
+
+from checks.shared.tables import Tables
+
+CHANGE = re.compile(r"  (\d+) (?:of (\d+) conflicts go|more) when (.*)")
+LINES = re.compile(r"(.*) (?:get precedence lines|gets a precedence line)")
+OWN = re.compile(r"rule (\d+) (?:\(line \d+\) )?a name of its own by %prec")
+PAIR = re.compile(
+    r"  (\d+) of (\d+) conflicts stand between rule (\d+)[^,]*, which is taken, and rule (\d+)"
+)
+MOST_PAIRS = 5
+
+
+def counted(tables):
+    """How many conflicts tables count."""
+    return tables.shift_reduce + tables.reduce_reduce
+
+
+def told_change(text, names):
+    """The tokens and the rules that a change gives precedences to."""
+    tokens, rules = [], []
+    for part in text.split(", and "):
+        if own := OWN.fullmatch(part):
+            rules.append(int(own[1]))
+        elif lines := LINES.fullmatch(part):
+            tokens += [names.index(it) for it in re.split(", | and ", lines[1])]
+    return tokens, rules
+
+
+def changed(grammar, tokens, rules):
+    """The grammar where these tokens stand on one more line of %left, and these rules with them."""
+    levels = [level for level, _ in grammar.precedences.values()]
+    line = (max(levels, default=0) + 1, "left")
+    made = [
+        replace(rule, precedence=line) if at in rules or rule.giver in tokens else rule
+        for at, rule in enumerate(grammar.rules)
+    ]
+    return replace(grammar, rules=made, precedences=grammar.precedences | dict.fromkeys(tokens, line))
+
+
+def wrong_changes(grammar, lines, total):
+    """What is wrong with the changes that were told, each tried with those before it."""
+    tokens, rules, left = [], [], total
+    for settles, all_told, text in lines:
+        more, own = told_change(text, grammar.names)
+        if not more and not own:
+            return f"no change: {text}"
+        tokens, rules = tokens + more, rules + own
+        left -= int(settles)
+        now = counted(Tables(changed(grammar, tokens, rules)))
+        if now != left or int(all_told or total) != total:
+            return f"{left} of {total} conflicts left, told of {text}, for {now}"
+    return None
+
+
+def pairs_in(checked):
+    """How many cells have a conflict between each two rules, the one that is reduced first."""
+    pairs = Counter()
+    for taken, left in checked.cells.values():
+        pairs.update((left[0], it) for it in ([] if taken else left[1:10]))
+    return pairs
+
+
+def wrong_pairs(checked, lines, total):
+    """What is wrong with the pairs of rules that were told."""
+    pairs = pairs_in(checked)
+    if len(lines) != min(len(pairs), MOST_PAIRS):
+        return f"{len(lines)} pairs for {len(pairs)}"
+    for count, all_told, taken, other in (map(int, it) for it in lines):
+        if pairs[taken, other] != count or all_told != total:
+            return f"rules {taken} and {other}: {count} for {pairs[taken, other]}"
+    return None
+
+
+def wrong_causes(checked, text):
+    """What is wrong with what was told of several kinds of conflicts together."""
+    head = text.split("\n\n")[0]
+    changes, pairs = CHANGE.findall(head), PAIR.findall(head)
+    total = counted(checked.tables)
+    if "kinds\n" not in head + "\n":
+        return "causes of one kind" if changes or pairs else None
+    return wrong_changes(checked.grammar, changes, total) or wrong_pairs(checked, pairs, total)

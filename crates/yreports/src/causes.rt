@@ -1,0 +1,274 @@
+//! What many conflicts have in common: tokens that have no precedence, and rules that two conflicts
+//! are between. Each change that is named was tried on all cells.
+
+use crate::tried::{Marks, Tried, counted, tried_of};
+use indexmap::IndexMap;
+use std::alloc::{AllocError, Global};
+use ycounterexample::groups::Conflicts;
+use yexplain::lines::{Lines, is_inner};
+use yexplain::reads::{grammar_of, level_of, set};
+use ylalr::END;
+use ysymbols::{Grammar, Sym};
+use ytables::Tables;
+
+/// The most kinds of conflicts among which causes are sought.
+const MOST_KINDS: usize = 2_000;
+
+/// The most changes that are tried, and the most that are named.
+const MOST_CHANGES: usize = 60;
+
+const MOST_CAUSES: usize = 8;
+
+/// A change that settles conflicts: these tokens get precedence lines, and this rule a name of its
+/// own.
+#[derive(Drop)]
+pub struct Change {
+    /// The tokens.
+    pub tokens: Vec<Sym>,
+    /// The rule, where no token can give it a precedence.
+    pub rule: Option<usize>,
+    /// How many conflicts it settles beside those that changes before it do.
+    pub settles: usize,
+}
+
+/// What the conflicts come from.
+#[derive(Drop)]
+pub struct Causes {
+    /// How many conflicts there are.
+    pub all: usize,
+    /// Changes that settle some, each with those before it.
+    pub changes: Vec<Change>,
+    /// How many conflicts are between each two rules, whatever precedences they have.
+    pub pairs: IndexMap<(usize, usize), usize>,
+}
+
+/// Tokens in classes: those that a conflict needs to have precedences are in one.
+#[derive(Drop)]
+struct Classes {
+    /// The number of the class of each token, by its first member.
+    of: Vec<usize>,
+    /// The tokens that some conflict needs to have precedences.
+    needed: Vec<bool>,
+}
+
+impl Classes {
+    fn new(alloc: Global, tokens: usize) -> Result<Classes, AllocError> {
+        let mut of = Vec::with_capacity(alloc, tokens)?;
+        for token in 0..tokens {
+            of.push(token)?;
+        }
+        Ok(Classes {
+            of,
+            needed: vec![in alloc; false; tokens]?,
+        })
+    }
+
+    /// The class of a token.
+    fn class(&self, token: Sym) -> usize {
+        self.of.get(token).copied().unwrap_or(token)
+    }
+
+    /// Puts two tokens into one class.
+    fn join(&mut self, one: Sym, other: Sym) {
+        let (from, to) = (self.class(one), self.class(other));
+        let (from, to) = (from.max(to), from.min(to));
+        if from == to {
+            return;
+        }
+        for class in &mut self.of {
+            if *class == from {
+                *class = to;
+            }
+        }
+    }
+
+    /// Notes that a rule could win or lose against the token of a cell if these had precedences.
+    fn note(&mut self, grammar: &Grammar, token: Sym, giver: Sym) {
+        for it in [token, giver] {
+            if level_of(grammar, it).is_none() {
+                set(&mut self.needed, it, true);
+            }
+        }
+        if level_of(grammar, token).is_none() && level_of(grammar, giver).is_none() {
+            self.join(token, giver);
+        }
+    }
+
+    /// The tokens of a class that need precedences.
+    fn members(&self, alloc: Global, class: usize) -> Result<Vec<Sym>, AllocError> {
+        let mut tokens = Vec::new(alloc);
+        for (token, needed) in self.needed.iter().enumerate() {
+            if *needed && self.class(token) == class {
+                tokens.push(token)?;
+            }
+        }
+        Ok(tokens)
+    }
+}
+
+/// What seeks causes.
+#[derive(Drop)]
+struct Seeker<'a> {
+    alloc: Global,
+    grammar: &'a Grammar,
+    lines: &'a Lines,
+    cells: &'a [Tried],
+    marks: Marks,
+}
+
+/// The changes that the cells suggest.
+fn changes_of(
+    alloc: Global,
+    grammar: &Grammar,
+    lines: &Lines,
+    cells: &[Tried],
+) -> Result<Vec<Change>, AllocError> {
+    let mut classes = Classes::new(alloc, grammar.symbols())?;
+    let mut changes = Vec::new(alloc);
+    for cell in cells.iter().filter(|cell| cell.shift.is_some() && cell.token != END) {
+        for rule in cell.rules() {
+            match lines.giver(grammar, *rule) {
+                Some(giver) => classes.note(grammar, cell.token, giver),
+                None => push_own(alloc, grammar, &mut changes, *rule, cell.token)?,
+            }
+        }
+    }
+    for class in 0..grammar.symbols() {
+        let tokens = classes.members(alloc, class)?;
+        if classes.class(class) == class && !tokens.is_empty() && changes.len() < MOST_CHANGES {
+            changes.push(Change {
+                tokens,
+                rule: None,
+                settles: 0,
+            })?;
+        }
+    }
+    Ok(changes)
+}
+
+/// Adds a change for a rule without a token: a name of its own, and a line for the cell's token.
+fn push_own(
+    alloc: Global,
+    grammar: &Grammar,
+    changes: &mut Vec<Change>,
+    rule: usize,
+    token: Sym,
+) -> Result<(), AllocError> {
+    let is_there = changes.iter().any(|it| it.rule == Some(rule));
+    if is_there || is_inner(grammar, rule) || changes.len() >= MOST_CHANGES {
+        return Ok(());
+    }
+    let mut tokens = Vec::new(alloc);
+    if level_of(grammar, token).is_none() {
+        tokens.push(token)?;
+    }
+    changes.push(Change {
+        tokens,
+        rule: Some(rule),
+        settles: 0,
+    })?;
+    Ok(())
+}
+
+impl Seeker<'_> {
+    /// Marks what a change gives precedences to, or takes these marks back.
+    fn mark(&mut self, change: &Change, is_set: bool) {
+        for token in &change.tokens {
+            set(&mut self.marks.tokens, *token, is_set);
+        }
+        if let Some(rule) = change.rule {
+            set(&mut self.marks.rules, rule, is_set);
+        }
+    }
+
+    /// How many conflicts are left with what is marked and this change.
+    fn left_with(&mut self, change: &Change) -> usize {
+        self.mark(change, true);
+        let left = counted(self.grammar, self.lines, &self.marks, self.cells);
+        self.mark(change, false);
+        left
+    }
+
+    /// The change that leaves the fewest conflicts, and how many; the first of several.
+    fn best(&mut self, changes: &[Change]) -> Option<(usize, usize)> {
+        let mut best: Option<(usize, usize)> = None;
+        for (place, change) in changes.iter().enumerate() {
+            let left = self.left_with(change);
+            if best.is_none_or(|(_, least)| left < least) {
+                best = Some((place, left));
+            }
+        }
+        best
+    }
+
+    /// The changes that settle the most, one after another.
+    fn choose(&mut self, changes: Vec<Change>, all: usize) -> Result<Vec<Change>, AllocError> {
+        let mut changes = changes;
+        let mut chosen = Vec::new(self.alloc);
+        let mut left = all;
+        for _ in 0..MOST_CAUSES {
+            let Some((place, less)) = self.best(&changes) else {
+                break;
+            };
+            if less >= left || place >= changes.len() {
+                break;
+            }
+            let mut change = changes.remove(place);
+            change.settles = left.saturating_sub(less);
+            self.mark(&change, true);
+            left = less;
+            chosen.push(change)?;
+        }
+        Ok(chosen)
+    }
+}
+
+/// How many conflicts are between each two rules in cells that can't be shifted.
+fn pairs_of(
+    alloc: Global,
+    found: &Conflicts,
+) -> Result<IndexMap<(usize, usize), usize>, AllocError> {
+    let mut pairs: IndexMap<(usize, usize), usize> = IndexMap::new(alloc);
+    for (kind, group) in &found.groups {
+        let Some(taken) = kind.taken() else {
+            continue;
+        };
+        for rule in kind.others() {
+            let before = pairs.get(&(taken, *rule)).copied().unwrap_or(0);
+            pairs.insert((taken, *rule), before.saturating_add(group.states))?;
+        }
+    }
+    Ok(pairs)
+}
+
+/// What these conflicts come from; `None` where they are of one kind, or of too many.
+pub fn causes_of(
+    alloc: Global,
+    tables: &Tables,
+    lines: &Lines,
+    found: &Conflicts,
+) -> Result<Option<Causes>, AllocError> {
+    let kinds = found.groups.len();
+    if kinds < 2 || kinds > MOST_KINDS || found.others > 0 {
+        return Ok(None);
+    }
+    let grammar = grammar_of(tables);
+    let cells = tried_of(alloc, tables, lines, found)?;
+    let all = cells.iter().fold(0usize, |sum, cell| sum.saturating_add(cell.weight()));
+    let changes = changes_of(alloc, grammar, lines, &cells)?;
+    let marks = Marks::new(alloc, grammar)?;
+    let mut seeker = Seeker {
+        alloc,
+        grammar,
+        lines,
+        cells: cells.as_slice(),
+        marks,
+    };
+    let changes = seeker.choose(changes, all)?;
+    let pairs = pairs_of(alloc, found)?;
+    Ok(Some(Causes {
+        all,
+        changes,
+        pairs,
+    }))
+}
