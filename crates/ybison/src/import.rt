@@ -5,11 +5,11 @@ use crate::compared::{Compared, Counts, Other};
 use crate::notes::{Source, Telling, put_expected, put_notes, put_span};
 use crate::opening::open_bytes;
 use crate::peer::Peer;
-use std::alloc::{AllocError, Global};
+use std::alloc::Global;
 use std::io::{self, Write};
 use std::rt::Files;
 use yexplain::lines::is_inner;
-use yexplain::reads::grammar_of;
+use yexplain::reads::{Made, grammar_of};
 use yfaults::opening::{Opened, Trouble, grammar_bytes, put_trouble, put_unread};
 use yfiles::same::refused_output;
 use yfiles::writing::put_output;
@@ -45,11 +45,7 @@ struct Looked<'a> {
 
 /// For each rule, which of the ends that were taken out of bodies stood in its own. The bodies of a
 /// file are the rules but those of inner actions, in their order.
-fn ended_rules(
-    alloc: Global,
-    grammar: &Grammar,
-    ends: &[Ended],
-) -> Result<Vec<Option<usize>>, AllocError> {
+fn ended_rules(alloc: Global, grammar: &Grammar, ends: &[Ended]) -> Made<Vec<Option<usize>>> {
     let mut ended = Vec::with_capacity(alloc, grammar.rules())?;
     let mut body: usize = 0;
     for rule in 0..grammar.rules() {

@@ -2,8 +2,9 @@
 
 use crate::verb::{VERBS, Verb};
 use crate::words::{Found, begins, find, near_in};
-use std::alloc::{AllocError, Global};
+use std::alloc::Global;
 use std::io::Write;
+use yexplain::reads::Made;
 use yexplain::text::Escaped;
 use yview::{Page, Paint};
 
@@ -31,11 +32,7 @@ pub fn put_candidates<W: Write>(page: &mut Page<W>, word: &str) {
 }
 
 /// That a word is no command, and which one is near it.
-pub fn put_unknown<W: Write>(
-    alloc: Global,
-    page: &mut Page<W>,
-    word: &str,
-) -> Result<(), AllocError> {
+pub fn put_unknown<W: Write>(alloc: Global, page: &mut Page<W>, word: &str) -> Made<()> {
     let near = near_in(alloc, &VERBS, word)?;
     page.paint(Paint::Bad);
     page.show(Escaped(word.as_bytes()));
@@ -66,11 +63,7 @@ fn put_commands<W: Write>(page: &mut Page<W>) {
 }
 
 /// Help on all commands, or on one.
-pub fn show_help<W: Write>(
-    alloc: Global,
-    page: &mut Page<W>,
-    text: &str,
-) -> Result<(), AllocError> {
+pub fn show_help<W: Write>(alloc: Global, page: &mut Page<W>, text: &str) -> Made<()> {
     match verb_of(text) {
         _ if text.is_empty() => put_commands(page),
         Found::One(verb) => {

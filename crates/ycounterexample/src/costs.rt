@@ -2,8 +2,8 @@
 
 use crate::lists::Lists;
 use crate::queue::Queue;
-use std::alloc::{AllocError, Global};
-use yexplain::reads::{body_of, left_of, set};
+use std::alloc::Global;
+use yexplain::reads::{Made, body_of, left_of, set};
 use ylalr::{ERROR, Item};
 use ysymbols::{Grammar, Sym};
 
@@ -62,7 +62,7 @@ impl Digest {
 }
 
 /// Where each symbol stands in bodies: the items with their dot before it.
-pub fn occurrences(alloc: Global, grammar: &Grammar) -> Result<Lists<Item>, AllocError> {
+pub fn occurrences(alloc: Global, grammar: &Grammar) -> Made<Lists<Item>> {
     let mut places = Lists::new(alloc, grammar.symbols())?;
     for rule in 0..grammar.rules() {
         push_places(&mut places, rule, body_of(grammar, rule))?;
@@ -71,7 +71,7 @@ pub fn occurrences(alloc: Global, grammar: &Grammar) -> Result<Lists<Item>, Allo
 }
 
 /// Adds the items of a rule that have their dot before a symbol.
-fn push_places(places: &mut Lists<Item>, rule: usize, body: &[Sym]) -> Result<(), AllocError> {
+fn push_places(places: &mut Lists<Item>, rule: usize, body: &[Sym]) -> Made<()> {
     for (dot, symbol) in body.iter().enumerate() {
         places.push(*symbol, Item { rule, dot })?;
     }
@@ -96,7 +96,7 @@ struct Making {
 
 impl Making {
     /// The length of a symbol is known: so is more of each body in which it stands.
-    fn spread(&mut self, places: &[Item], length: u64) -> Result<(), AllocError> {
+    fn spread(&mut self, places: &[Item], length: u64) -> Made<()> {
         for item in places {
             if let Some(part) = self.parts.get_mut(item.rule) {
                 part.missing = part.missing.saturating_sub(1);
@@ -122,11 +122,7 @@ impl Making {
 }
 
 /// What is known before any length: how many symbols each body has.
-fn first_parts(
-    alloc: Global,
-    grammar: &Grammar,
-    queue: &mut Queue,
-) -> Result<Vec<Part>, AllocError> {
+fn first_parts(alloc: Global, grammar: &Grammar, queue: &mut Queue) -> Made<Vec<Part>> {
     let mut parts = Vec::new(alloc);
     for rule in 0..grammar.rules() {
         let missing = body_of(grammar, rule).len();
@@ -140,11 +136,7 @@ fn first_parts(
 
 impl Shortest {
     /// The shortest sentences of a grammar, where this is where each symbol stands.
-    pub fn new(
-        alloc: Global,
-        grammar: &Grammar,
-        places: &Lists<Item>,
-    ) -> Result<Shortest, AllocError> {
+    pub fn new(alloc: Global, grammar: &Grammar, places: &Lists<Item>) -> Made<Shortest> {
         let symbols = grammar.symbols();
         let mut queue = Queue::new(alloc);
         let mut making = Making {
@@ -186,7 +178,7 @@ impl Shortest {
         alloc: Global,
         grammar: &Grammar,
         form: &[Sym],
-    ) -> Result<Option<Vec<Sym>>, AllocError> {
+    ) -> Made<Option<Vec<Sym>>> {
         let mut tokens = Vec::new(alloc);
         let mut open = Vec::new(alloc);
         push_back(&mut open, form)?;
@@ -206,7 +198,7 @@ impl Shortest {
 }
 
 /// Adds symbols, the first of them last.
-fn push_back(open: &mut Vec<Sym>, form: &[Sym]) -> Result<(), AllocError> {
+fn push_back(open: &mut Vec<Sym>, form: &[Sym]) -> Made<()> {
     for symbol in form.iter().rev() {
         open.push(*symbol)?;
     }
@@ -215,7 +207,7 @@ fn push_back(open: &mut Vec<Sym>, form: &[Sym]) -> Result<(), AllocError> {
 
 impl Making {
     /// The lengths of the tokens.
-    fn settle_tokens(&mut self, grammar: &Grammar, places: &Lists<Item>) -> Result<(), AllocError> {
+    fn settle_tokens(&mut self, grammar: &Grammar, places: &Lists<Item>) -> Made<()> {
         for token in 0..grammar.symbols() {
             let length = if token == ERROR { ERROR_LENGTH } else { 1 };
             if grammar.is_token(token) && self.note(token, length, Digest::of(token), 0) {
@@ -226,7 +218,7 @@ impl Making {
     }
 
     /// The lengths of the nonterminals, the shortest first. Each rule waits at most once.
-    fn settle_rules(&mut self, grammar: &Grammar, places: &Lists<Item>) -> Result<(), AllocError> {
+    fn settle_rules(&mut self, grammar: &Grammar, places: &Lists<Item>) -> Made<()> {
         for _ in 0..grammar.rules() {
             let Some((length, rule)) = self.queue.take() else {
                 break;

@@ -3,8 +3,8 @@
 use crate::costs::Shortest;
 use crate::lists::Lists;
 use crate::queue::Queue;
-use std::alloc::{AllocError, Global};
-use yexplain::reads::{goto_of, items_of, next_of, set};
+use std::alloc::Global;
+use yexplain::reads::{Made, goto_of, items_of, next_of, set};
 use ylalr::Automaton;
 use ysymbols::Sym;
 
@@ -41,7 +41,7 @@ fn short(state: usize) -> u32 {
 
 impl Gathering {
     /// Notes the way from a state over a symbol, where it isn't noted.
-    fn note(&mut self, automaton: &Automaton, state: usize, symbol: Sym) -> Result<(), AllocError> {
+    fn note(&mut self, automaton: &Automaton, state: usize, symbol: Sym) -> Made<()> {
         let stamp = state.saturating_add(1);
         if self.seen.get(symbol).map_or(true, |seen| *seen == stamp) {
             return Ok(());
@@ -56,7 +56,7 @@ impl Gathering {
     }
 
     /// Notes the ways from a state.
-    fn note_all(&mut self, automaton: &Automaton, state: usize) -> Result<(), AllocError> {
+    fn note_all(&mut self, automaton: &Automaton, state: usize) -> Made<()> {
         for item in items_of(automaton, state) {
             if let Some(symbol) = next_of(automaton.grammar(), *item) {
                 self.note(automaton, state, symbol)?;
@@ -67,7 +67,7 @@ impl Gathering {
 }
 
 /// The ways of all states.
-fn gather(alloc: Global, automaton: &Automaton) -> Result<Gathering, AllocError> {
+fn gather(alloc: Global, automaton: &Automaton) -> Made<Gathering> {
     let states = automaton.states();
     let mut gathering = Gathering {
         symbols: vec![in alloc; 0usize; states]?,
@@ -83,11 +83,7 @@ fn gather(alloc: Global, automaton: &Automaton) -> Result<Gathering, AllocError>
 
 impl Moves {
     /// The ways of an automaton, by the shortest sentences of its symbols.
-    pub fn new(
-        alloc: Global,
-        automaton: &Automaton,
-        shortest: &Shortest,
-    ) -> Result<Moves, AllocError> {
+    pub fn new(alloc: Global, automaton: &Automaton, shortest: &Shortest) -> Made<Moves> {
         let states = automaton.states();
         let Gathering {
             symbols,
@@ -106,12 +102,7 @@ impl Moves {
     }
 
     /// Finds the shortest way to each state, the nearest first.
-    fn measure(
-        &mut self,
-        alloc: Global,
-        shortest: &Shortest,
-        after: &Lists<u32>,
-    ) -> Result<(), AllocError> {
+    fn measure(&mut self, alloc: Global, shortest: &Shortest, after: &Lists<u32>) -> Made<()> {
         let mut queue = Queue::new(alloc);
         self.shorten(&mut queue, 0, 0, 0)?;
         // ends: each way makes a state wait once at most
@@ -133,7 +124,7 @@ impl Moves {
         shortest: &Shortest,
         after: &[u32],
         state: usize,
-    ) -> Result<(), AllocError> {
+    ) -> Made<()> {
         for to in after {
             let to = *to as usize;
             let step = shortest.length(self.symbol(to)).unwrap_or(FAR);
@@ -144,13 +135,7 @@ impl Moves {
     }
 
     /// Notes a way to a state, where it is shorter than what was found.
-    fn shorten(
-        &mut self,
-        queue: &mut Queue,
-        state: usize,
-        length: u64,
-        from: usize,
-    ) -> Result<(), AllocError> {
+    fn shorten(&mut self, queue: &mut Queue, state: usize, length: u64, from: usize) -> Made<()> {
         if length >= self.length(state) {
             return Ok(());
         }
@@ -181,7 +166,7 @@ impl Moves {
     }
 
     /// Adds the symbols of the shortest way to a state, the last one first.
-    pub fn push_way(&self, symbols: &mut Vec<Sym>, state: usize) -> Result<(), AllocError> {
+    pub fn push_way(&self, symbols: &mut Vec<Sym>, state: usize) -> Made<()> {
         let mut at = state;
         for _ in 0..self.from.len() {
             if at == 0 {

@@ -2,8 +2,8 @@
 //! have that token as its lookahead, by one of the ways that canonical LR(1) items know.
 
 use crate::lists::Lists;
-use std::alloc::{AllocError, Global};
-use yexplain::reads::{begins_with, body_of, has_item, left_of, looks_at, set, vanishes};
+use std::alloc::Global;
+use yexplain::reads::{Made, begins_with, body_of, has_item, left_of, looks_at, set, vanishes};
 use ylalr::{Automaton, Item};
 use ysymbols::Sym;
 
@@ -75,7 +75,7 @@ fn form_after(automaton: &Automaton, item: Item, token: Sym) -> After {
 
 impl Needs {
     /// Nothing met.
-    pub fn new(alloc: Global, symbols: usize) -> Result<Needs, AllocError> {
+    pub fn new(alloc: Global, symbols: usize) -> Made<Needs> {
         Ok(Needs {
             met: vec![in alloc; 0usize; symbols]?,
             round: 0,
@@ -90,7 +90,7 @@ impl Needs {
     }
 
     /// Adds the left side of a rule, where it wasn't met in this round.
-    fn meet(&mut self, left: Sym) -> Result<(), AllocError> {
+    fn meet(&mut self, left: Sym) -> Made<()> {
         let (round, met) = (self.round, self.met.get(left));
         if met.map_or(false, |met| *met != round) {
             set(&mut self.met, left, self.round);
@@ -107,7 +107,7 @@ impl Needs {
         items: &[Item],
         token: Sym,
         found: &mut Vec<Need>,
-    ) -> Result<bool, AllocError> {
+    ) -> Made<bool> {
         self.looked = self.looked.saturating_add(items.len());
         for item in items {
             let left = left_of(automaton.grammar(), item.rule);
@@ -132,7 +132,7 @@ impl Needs {
         state: usize,
         item: Item,
         token: Sym,
-    ) -> Result<Vec<Need>, AllocError> {
+    ) -> Made<Vec<Need>> {
         let mut found = Vec::new(alloc);
         self.looked = 0;
         if item.dot > 0 {
@@ -154,7 +154,7 @@ impl Needs {
     }
 
     /// Begins a round with the left side of an item.
-    fn begin(&mut self, automaton: &Automaton, item: Item) -> Result<(), AllocError> {
+    fn begin(&mut self, automaton: &Automaton, item: Item) -> Made<()> {
         self.round = self.round.saturating_add(1);
         self.lefts.clear();
         match left_of(automaton.grammar(), item.rule) {

@@ -2,7 +2,8 @@
 
 use crate::search::{Finder, Found, Search, Target};
 use crate::sentences::Sentences;
-use std::alloc::{AllocError, Global};
+use std::alloc::Global;
+use yexplain::reads::Made;
 use ylalr::Automaton;
 use ysymbols::Sym;
 
@@ -32,7 +33,7 @@ impl Others {
         automaton: &Automaton,
         target: Target,
         forms: usize,
-    ) -> Result<Others, AllocError> {
+    ) -> Made<Others> {
         Ok(Others {
             alloc,
             search: finder.search(automaton, target, MOST_WAYS)?,
@@ -43,11 +44,7 @@ impl Others {
     }
 
     /// The next list; the finder's steps are spent on it.
-    pub fn next(
-        &mut self,
-        finder: &mut Finder,
-        automaton: &Automaton,
-    ) -> Result<Option<Vec<Sym>>, AllocError> {
+    pub fn next(&mut self, finder: &mut Finder, automaton: &Automaton) -> Made<Option<Vec<Sym>>> {
         let before = self.sentences.symbols();
         let found = self.next_sentence(finder, automaton);
         finder.spend(self.sentences.symbols().saturating_sub(before));
@@ -59,7 +56,7 @@ impl Others {
         &mut self,
         finder: &mut Finder,
         automaton: &Automaton,
-    ) -> Result<Option<Vec<Sym>>, AllocError> {
+    ) -> Made<Option<Vec<Sym>>> {
         for _ in 0..MOST_FORMS {
             self.seek(finder, automaton)?;
             if self.is_way_next(finder) {
@@ -80,7 +77,7 @@ impl Others {
     }
 
     /// Seeks the next way, where none is there.
-    fn seek(&mut self, finder: &mut Finder, automaton: &Automaton) -> Result<(), AllocError> {
+    fn seek(&mut self, finder: &mut Finder, automaton: &Automaton) -> Made<()> {
         if self.way.is_some() || self.done {
             return Ok(());
         }

@@ -8,8 +8,8 @@ use crate::moves::Moves;
 use crate::needs::{Need, Needs};
 use crate::queue::Queue;
 use indexmap::{IndexMap, IndexSet};
-use std::alloc::{AllocError, Global};
-use yexplain::reads::{body_of, left_of};
+use std::alloc::Global;
+use yexplain::reads::{Made, body_of, left_of};
 use ylalr::{Automaton, Item};
 use ysymbols::{Grammar, Sym};
 
@@ -129,7 +129,7 @@ fn complete(grammar: &Grammar, rule: Option<usize>) -> Need {
 }
 
 /// The rules of each left side.
-fn rules_by_left(alloc: Global, grammar: &Grammar) -> Result<Lists<usize>, AllocError> {
+fn rules_by_left(alloc: Global, grammar: &Grammar) -> Made<Lists<usize>> {
     let mut rules = Lists::new(alloc, grammar.symbols())?;
     for rule in 0..grammar.rules() {
         if let Some(left) = left_of(grammar, rule) {
@@ -140,7 +140,7 @@ fn rules_by_left(alloc: Global, grammar: &Grammar) -> Result<Lists<usize>, Alloc
 }
 
 impl Search {
-    fn new(alloc: Global, token: Sym, tries: usize, left: Allowance) -> Result<Search, AllocError> {
+    fn new(alloc: Global, token: Sym, tries: usize, left: Allowance) -> Made<Search> {
         let mut needs = Vec::new(alloc);
         needs.push(Need::Free)?;
         Ok(Search {
@@ -157,7 +157,7 @@ impl Search {
     }
 
     /// A spot waits, where at best a way of this length goes over it.
-    fn put(&mut self, node: Node, best: u64) -> Result<(), AllocError> {
+    fn put(&mut self, node: Node, best: u64) -> Made<()> {
         self.left.spots = self.left.spots.saturating_sub(1);
         let number = self.nodes.len();
         self.nodes.push(node)?;
@@ -165,7 +165,7 @@ impl Search {
     }
 
     /// The next spot that may be left.
-    fn take(&mut self) -> Result<Option<(usize, Node)>, AllocError> {
+    fn take(&mut self) -> Made<Option<(usize, Node)>> {
         for _ in 0..self.nodes.len() {
             let Some((_, number)) = self.queue.take() else {
                 return Ok(None);
@@ -180,7 +180,7 @@ impl Search {
     }
 
     /// Notes that a spot is left, and says whether it may be.
-    fn may_leave(&mut self, node: Node) -> Result<bool, AllocError> {
+    fn may_leave(&mut self, node: Node) -> Made<bool> {
         let times = self.met.get(&node.spot).copied().unwrap_or(0);
         if times >= self.tries {
             return Ok(false);
@@ -206,7 +206,7 @@ impl Search {
     }
 
     /// Keeps needs side by side.
-    fn keep(&mut self, needs: &[Need]) -> Result<(usize, usize), AllocError> {
+    fn keep(&mut self, needs: &[Need]) -> Made<(usize, usize)> {
         let start = self.needs.len();
         self.needs.extend_from_slice(needs)?;
         Ok((start, self.needs.len()))
@@ -215,7 +215,7 @@ impl Search {
 
 impl Finder {
     /// What searches in this automaton share.
-    pub fn new(alloc: Global, automaton: &Automaton) -> Result<Finder, AllocError> {
+    pub fn new(alloc: Global, automaton: &Automaton) -> Made<Finder> {
         let grammar = automaton.grammar();
         let places = occurrences(alloc, grammar)?;
         let shortest = Shortest::new(alloc, grammar, &places)?;
@@ -254,27 +254,18 @@ impl Finder {
     }
 
     /// The shortest sentence of a way, or none where it is too long to be written out.
-    pub fn sentence(
-        &self,
-        automaton: &Automaton,
-        way: &[Sym],
-    ) -> Result<Option<Vec<Sym>>, AllocError> {
+    pub fn sentence(&self, automaton: &Automaton, way: &[Sym]) -> Made<Option<Vec<Sym>>> {
         self.shortest.sentence(self.alloc, automaton.grammar(), way)
     }
 
     /// The shortest way to a cell on which its rules are possible.
-    pub fn shortest(&mut self, automaton: &Automaton, target: Target) -> Result<Found, AllocError> {
+    pub fn shortest(&mut self, automaton: &Automaton, target: Target) -> Made<Found> {
         let mut search = self.search(automaton, target, 1)?;
         self.next(automaton, &mut search)
     }
 
     /// A search for so many ways, of which no two have the same tokens.
-    pub fn search(
-        &mut self,
-        automaton: &Automaton,
-        target: Target,
-        ways: usize,
-    ) -> Result<Search, AllocError> {
+    pub fn search(&mut self, automaton: &Automaton, target: Target, ways: usize) -> Made<Search> {
         let left = self.budget.allowance(ways);
         let mut search = Search::new(self.alloc, target.token, ways, left)?;
         let grammar = automaton.grammar();
@@ -293,11 +284,7 @@ impl Finder {
     }
 
     /// The next way of a search, none of them shorter than those before.
-    pub fn next(
-        &mut self,
-        automaton: &Automaton,
-        search: &mut Search,
-    ) -> Result<Found, AllocError> {
+    pub fn next(&mut self, automaton: &Automaton, search: &mut Search) -> Made<Found> {
         for _ in 0..MOST_SPOTS {
             if search.left.spots == 0 || !self.budget.has_more_than(search.left.end) {
                 break;
@@ -318,7 +305,7 @@ impl Finder {
     }
 
     /// A spot waits.
-    fn put(&mut self, search: &mut Search, node: Node) -> Result<(), AllocError> {
+    fn put(&mut self, search: &mut Search, node: Node) -> Made<()> {
         let best = node
             .length
             .saturating_add(self.moves.length(node.spot.state));
@@ -333,7 +320,7 @@ impl Finder {
         search: &mut Search,
         state: usize,
         need: Need,
-    ) -> Result<(usize, usize), AllocError> {
+    ) -> Made<(usize, usize)> {
         let Need::Item(item) = need else {
             return Ok((0, 1));
         };
@@ -356,12 +343,7 @@ impl Finder {
     }
 
     /// Goes on from a spot with an item with its dot at 0 to what has to hold in the state itself.
-    fn open(
-        &mut self,
-        automaton: &Automaton,
-        search: &mut Search,
-        node: Node,
-    ) -> Result<(), AllocError> {
+    fn open(&mut self, automaton: &Automaton, search: &mut Search, node: Node) -> Made<()> {
         let state = node.spot.state;
         let firsts = self.opened(automaton, search, state, node.spot.first)?;
         let seconds = self.opened(automaton, search, state, node.spot.second)?;
@@ -381,7 +363,7 @@ impl Finder {
         node: Node,
         first: Need,
         seconds: (usize, usize),
-    ) -> Result<(), AllocError> {
+    ) -> Made<()> {
         for place in seconds.0..seconds.1 {
             let spot = Spot {
                 state: node.spot.state,
@@ -400,7 +382,7 @@ impl Finder {
         search: &mut Search,
         number: usize,
         node: Node,
-    ) -> Result<(), AllocError> {
+    ) -> Made<()> {
         let (spot, state) = (node.spot, node.spot.state);
         let symbol = self.moves.symbol(state);
         let length = node
@@ -431,7 +413,7 @@ impl Finder {
     }
 
     /// The symbols of a way: the shortest to the spot, and then those of the spots after it.
-    fn way(&self, search: &Search, number: usize, node: Node) -> Result<Vec<Sym>, AllocError> {
+    fn way(&self, search: &Search, number: usize, node: Node) -> Made<Vec<Sym>> {
         let mut symbols = Vec::new(self.alloc);
         self.moves.push_way(&mut symbols, node.spot.state)?;
         symbols.reverse();

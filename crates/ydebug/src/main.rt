@@ -20,7 +20,7 @@ mod tokens;
 
 use crate::check::run_check;
 use crate::forms::{FORMS, Form, USAGE, command_of, form_of};
-use crate::near::{put_near_form, put_near_words};
+use crate::near::{put_near_arguments, put_near_form};
 use crate::sketch::run_sketch;
 use crate::table::run_table;
 use crate::tokens::run_tokens;
@@ -47,8 +47,8 @@ const ENDED_BY_PIPE: u8 = 141;
 /// Why nothing was done.
 #[derive(Clone, Copy)]
 enum Refused {
-    /// The words are not those of the program.
-    Words,
+    /// The arguments are not those of the program.
+    Arguments,
     /// Help or the version was asked for, and is written.
     Helped,
     /// Memory ran out.
@@ -86,18 +86,18 @@ fn put_help(rt: &HostRuntime, help: &clap::Error) -> Refused {
     }
 }
 
-/// Why words are refused. Help or the version that they ask for is written.
+/// Why arguments are refused. Help or the version that they ask for is written.
 fn refused_for(rt: &HostRuntime, error: &clap::Error) -> Refused {
     match error.kind() {
         ErrorKind::DisplayHelp | ErrorKind::DisplayVersion => put_help(rt, error),
         ErrorKind::OutOfMemory => Refused::Memory,
-        _ => Refused::Words,
+        _ => Refused::Arguments,
     }
 }
 
-/// The number that a word is.
+/// The number that an argument is.
 fn number_in(word: &str) -> Result<usize, Refused> {
-    word.parse::<usize>().map_err(|_| Refused::Words)
+    word.parse::<usize>().map_err(|_| Refused::Arguments)
 }
 
 /// What stands after each `--from` of a page: `bison`, and a first position, each once at most.
@@ -107,7 +107,7 @@ fn page_from(words: &[&str]) -> Result<(bool, usize), Refused> {
         [word] if *word == "bison" => Ok((true, 0)),
         [word] => Ok((false, number_in(word)?)),
         [word, number] | [number, word] if *word == "bison" => Ok((true, number_in(number)?)),
-        _ => Err(Refused::Words),
+        _ => Err(Refused::Arguments),
     }
 }
 
@@ -136,7 +136,7 @@ struct Given<'a, 'b> {
 impl<'a> Given<'a, '_> {
     /// The value of an argument that is required.
     fn value(self, name: &str) -> Result<&'a str, Refused> {
-        self.matches.get_str(name).ok_or(Refused::Words)
+        self.matches.get_str(name).ok_or(Refused::Arguments)
     }
 
     /// Whether a flag is given.
@@ -150,7 +150,7 @@ impl<'a> Given<'a, '_> {
         match self.matches.get_str("from") {
             None => Ok(GrammarFile { path, bison: false }),
             Some("bison") => Ok(GrammarFile { path, bison: true }),
-            Some(_) => Err(Refused::Words),
+            Some(_) => Err(Refused::Arguments),
         }
     }
 
@@ -334,7 +334,7 @@ fn named<'a>(alloc: Global, name: &'a str, words: &[&'a str]) -> Result<Vec<&'a 
     Ok(named)
 }
 
-/// Finds the form, and does what the words after it ask for.
+/// Finds the form, and does what the arguments after it ask for.
 fn obey_given(rt: &HostRuntime, given: &[&str]) -> Result<u8, Refused> {
     let form = form_of(given.get(1));
     let first = if matches!(form, Form::Debug) { 1 } else { 2 };
@@ -345,13 +345,13 @@ fn obey_given(rt: &HostRuntime, given: &[&str]) -> Result<u8, Refused> {
     let given = given.get(first..).unwrap_or(&[]);
     let words = named(rt.alloc(), &name, given)?;
     let obeyed = obey_words(rt, form, &words);
-    if let Err(Refused::Words) = obeyed {
-        put_near_words(rt, &mut rt.stderr(), form, given)?;
+    if let Err(Refused::Arguments) = obeyed {
+        put_near_arguments(rt, &mut rt.stderr(), form, given)?;
     }
     obeyed
 }
 
-/// Reads the words and does what they ask for.
+/// Reads the arguments and does what they ask for.
 fn run(rt: &HostRuntime) -> Result<u8, Refused> {
     let given: Vec<String> = env::args(rt)?.collect(rt.alloc())?;
     let mut words = Vec::with_capacity(rt.alloc(), given.len())?;
@@ -365,14 +365,14 @@ fn run(rt: &HostRuntime) -> Result<u8, Refused> {
 fn refuse(rt: &HostRuntime, refused: Refused) -> u8 {
     let (text, status) = match refused {
         Refused::Helped => ("", 0),
-        Refused::Words => (USAGE, 2),
+        Refused::Arguments => (USAGE, 2),
         Refused::Memory => ("ydebug: no memory\n", 3),
         Refused::Unread => ("", ENDED_BY_PIPE),
         Refused::Outside => ("ydebug: cannot read or write\n", 3),
     };
     let mut errors = rt.stderr();
     let _ = errors.write_all(text.as_bytes());
-    if let Refused::Words = refused {
+    if let Refused::Arguments = refused {
         let _ = errors.write_all(FORMS.as_bytes());
     }
     status

@@ -1,19 +1,16 @@
-//! What could be meant by words that are no command and no option.
+//! What could be meant by arguments that are no command and no option.
 
 use crate::forms::{BY_WORD, Form, arguments_of, option_of};
-use std::alloc::{AllocError, Global};
+use std::alloc::Global;
 use std::fs;
 use std::io::{self, Write};
 use std::rt::Files;
 use ycommands::words::near_in;
+use yexplain::reads::Made;
 use yfaults::nearest::Search;
 
 /// The option of a form that is near to a name, where that isn't one itself.
-fn near_option<'a>(
-    alloc: Global,
-    form: Form,
-    name: &'a str,
-) -> Result<Option<&'a str>, AllocError> {
+fn near_option<'a>(alloc: Global, form: Form, name: &'a str) -> Made<Option<&'a str>> {
     let mut search = Search::new(name.as_bytes());
     for option in arguments_of(form).iter().filter_map(|it| option_of(*it)) {
         if option == name {
@@ -24,7 +21,7 @@ fn near_option<'a>(
     Ok(search.text())
 }
 
-/// Asks whether another option was meant by a word, where it begins as one.
+/// Asks whether another option was meant by an argument, where it begins as one.
 fn put_near_option<W: Write>(alloc: Global, out: &mut W, form: Form, word: &str) -> io::Result<()> {
     let name = word.strip_prefix("--").unwrap_or("");
     let name = name.split('=').next().unwrap_or(name);
@@ -39,7 +36,7 @@ fn put_near_option<W: Write>(alloc: Global, out: &mut W, form: Form, word: &str)
     }
 }
 
-/// Asks whether a command was meant by the first word of a session, where that is no file, and no
+/// Asks whether a command was meant by the first argument of a session, where that is no file, and no
 /// path either.
 pub fn put_near_form<F: Files + AllocGlobal, W: Write>(
     rt: &F,
@@ -57,8 +54,8 @@ pub fn put_near_form<F: Files + AllocGlobal, W: Write>(
     }
 }
 
-/// Asks whether other words were meant by those of a form, which are refused.
-pub fn put_near_words<F: Files + AllocGlobal, W: Write>(
+/// Asks whether other arguments were meant by those of a form, which are refused.
+pub fn put_near_arguments<F: Files + AllocGlobal, W: Write>(
     rt: &F,
     out: &mut W,
     form: Form,

@@ -1,8 +1,8 @@
 //! Where things stand in a grammar file: the line on which each rule begins, and every line on
 //! which a symbol is named.
 
-use crate::reads::{body_of, left_of, name_of};
-use std::alloc::{AllocError, Global};
+use crate::reads::{Made, body_of, left_of, name_of};
+use std::alloc::Global;
 use ylexemes::part::Lexeme;
 use ysourcemap::{Mark, Role};
 use ysymbols::{Grammar, Sym};
@@ -128,7 +128,7 @@ impl Places {
     }
 
     /// Notes that a symbol is named.
-    fn mention(&mut self, symbol: Sym, line: usize, role: Role) -> Result<(), AllocError> {
+    fn mention(&mut self, symbol: Sym, line: usize, role: Role) -> Made<()> {
         if let (Role::PrecName(_), Some(rule)) = (role, self.rules.last_mut()) {
             rule.prec = Some(symbol);
         }
@@ -137,7 +137,7 @@ impl Places {
     }
 
     /// Takes a lexeme on a line in.
-    fn take(&mut self, grammar: &Grammar, mark: Mark<'_>, line: usize) -> Result<(), AllocError> {
+    fn take(&mut self, grammar: &Grammar, mark: Mark<'_>, line: usize) -> Made<()> {
         let Mark { placed, role } = mark;
         if let (true, Some(symbol)) = (names_symbol(role), symbol_of(grammar, placed.lexeme)) {
             self.mention(symbol, line, role)?;
@@ -152,11 +152,7 @@ impl Places {
 
     /// The rules of the grammar by number. The rules of inner actions stand before the rule that
     /// they stand in, in the order of its actions.
-    fn by_number(
-        &self,
-        alloc: Global,
-        grammar: &Grammar,
-    ) -> Result<Vec<Option<Begun>>, AllocError> {
+    fn by_number(&self, alloc: Global, grammar: &Grammar) -> Made<Vec<Option<Begun>>> {
         let mut found = Vec::with_capacity(alloc, grammar.rules())?;
         let mut actions = self.actions.iter();
         let mut rule: usize = 0;
@@ -190,12 +186,7 @@ pub fn last_token(grammar: &Grammar, body: &[Sym]) -> Option<Sym> {
 }
 
 /// What stands in a file.
-fn places_of(
-    alloc: Global,
-    source: &[u8],
-    marks: &[Mark<'_>],
-    grammar: &Grammar,
-) -> Result<Places, AllocError> {
+fn places_of(alloc: Global, source: &[u8], marks: &[Mark<'_>], grammar: &Grammar) -> Made<Places> {
     let mut places = Places::new(alloc);
     let mut spots = Spots::new(source);
     for mark in marks {
@@ -207,12 +198,7 @@ fn places_of(
 impl Lines {
     /// Where the rules and symbols of a grammar stand in the file that it was read from, by its
     /// source map. It fails only when memory runs out.
-    pub fn new(
-        alloc: Global,
-        source: &[u8],
-        marks: &[Mark<'_>],
-        grammar: &Grammar,
-    ) -> Result<Lines, AllocError> {
+    pub fn new(alloc: Global, source: &[u8], marks: &[Mark<'_>], grammar: &Grammar) -> Made<Lines> {
         let places = places_of(alloc, source, marks, grammar)?;
         let rules = places.by_number(alloc, grammar)?;
         let Places { mentions, .. } = places;

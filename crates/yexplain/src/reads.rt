@@ -9,6 +9,9 @@ use yreasons::{Place, Reason, Reasons};
 use ysymbols::{Grammar, Precedence, Rule, Sym};
 use ytables::{Action, Conflict, Tables, is_ready, next_symbol};
 
+/// What is made, unless memory runs out.
+pub type Made<T> = Result<T, AllocError>;
+
 /// Sets an entry, where there is one.
 pub fn set<T: Copy>(entries: &mut [T], place: usize, value: T) {
     if let Some(entry) = entries.get_mut(place) {
@@ -97,11 +100,7 @@ pub fn is_complete(grammar: &Grammar, item: Item) -> bool {
 }
 
 /// Where the complete items of a state stand among its items.
-pub fn ready_of(
-    alloc: Global,
-    automaton: &Automaton,
-    state: usize,
-) -> Result<Vec<usize>, AllocError> {
+pub fn ready_of(alloc: Global, automaton: &Automaton, state: usize) -> Made<Vec<usize>> {
     let items = items_of(automaton, state).iter().enumerate();
     items
         .filter(|(_, item)| is_complete(automaton.grammar(), **item))

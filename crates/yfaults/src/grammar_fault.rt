@@ -5,9 +5,9 @@ use crate::long::long_rule;
 use crate::nearest::Search;
 use crate::shown::{Place, put_whole};
 use crate::words::{AT_END, grammar_code, words_of};
-use std::alloc::{AllocError, Global};
+use std::alloc::Global;
 use std::io::{self, Write};
-use yexplain::reads::name_of;
+use yexplain::reads::{Made, name_of};
 use yexplain::text::Bytes;
 use yforeign::directive::is_imported;
 use ygrammar::{Grammar, GrammarFault, PlacedFault};
@@ -28,11 +28,7 @@ fn name_in(lexeme: Lexeme<'_>) -> Option<&[u8]> {
 }
 
 /// The nearest to the name at a place of those that are symbols of a file.
-fn nearest_symbol<'a>(
-    alloc: Global,
-    map: &[Mark<'a>],
-    at: usize,
-) -> Result<Option<&'a [u8]>, AllocError> {
+fn nearest_symbol<'a>(alloc: Global, map: &[Mark<'a>], at: usize) -> Made<Option<&'a [u8]>> {
     let here = map.iter().find(|mark| mark.placed.at == at);
     let Some(wanted) = here.and_then(|mark| name_in(mark.placed.lexeme)) else {
         return Ok(None);
@@ -53,7 +49,7 @@ pub fn nearest_token<'a>(
     alloc: Global,
     grammar: &'a Grammar,
     word: &'a [u8],
-) -> Result<Option<&'a [u8]>, AllocError> {
+) -> Made<Option<&'a [u8]>> {
     let mut search = Search::new(word);
     for token in 2..token_count(grammar) {
         search.offer(alloc, name_of(grammar, token))?;
@@ -96,7 +92,7 @@ pub struct Refusal<'a> {
 
 impl Refusal<'_> {
     /// The nonterminals of which no list of tokens can be made.
-    fn barren_names(&self, alloc: Global) -> Result<SymbolTable, AllocError> {
+    fn barren_names(&self, alloc: Global) -> Made<SymbolTable> {
         let mut names = SymbolTable::new(alloc);
         for mark in &self.marks {
             if self.barren.binary_search(&mark.placed.at).is_ok() {

@@ -3,7 +3,7 @@
 use crate::lexeme::Kind;
 use crate::runs::percent_length;
 
-/// A directive, by what is done with it; each of the first has the word that names it.
+/// A directive, by what is done with it; where nothing else is said, its word is its name.
 #[derive(Clone, Copy, Drop, PartialEq, Eq)]
 pub enum Directive {
     Token,

@@ -1,7 +1,7 @@
 //! The tokens that can come, each tried over the states of a stack without a change to them.
 
-use std::alloc::{AllocError, Global};
-use yexplain::reads::{action_of, body_of, goto_of, grammar_of, left_of};
+use std::alloc::Global;
+use yexplain::reads::{Made, action_of, body_of, goto_of, grammar_of, left_of};
 use ylalr::{END, ERROR, token_count};
 use ysymbols::Sym;
 use ytables::{Action, Tables};
@@ -31,7 +31,7 @@ impl Drop for Wanted {
 
 impl Wanted {
     /// Puts a token where its answer belongs.
-    fn note(&mut self, token: Sym, answer: Option<bool>) -> Result<(), AllocError> {
+    fn note(&mut self, token: Sym, answer: Option<bool>) -> Made<()> {
         match answer {
             Some(true) => self.can.push(token)?,
             Some(false) => {}
@@ -76,7 +76,7 @@ impl<'a> Trial<'a> {
 
     /// Replaces the body of a rule by its left side. Where that leads nowhere, the token can't
     /// come.
-    fn reduce(&mut self, rule: usize) -> Result<Option<bool>, AllocError> {
+    fn reduce(&mut self, rule: usize) -> Made<Option<bool>> {
         let grammar = grammar_of(self.tables);
         self.left = self.left.saturating_sub(1);
         self.take(body_of(grammar, rule).len());
@@ -89,7 +89,7 @@ impl<'a> Trial<'a> {
     }
 
     /// Whether a token can come, as the cell on top says; `None` where it reduces, which is done.
-    fn ask(&mut self, token: Sym) -> Result<Option<bool>, AllocError> {
+    fn ask(&mut self, token: Sym) -> Made<Option<bool>> {
         match action_of(self.tables, self.top(), token) {
             Action::Shift(_) | Action::Accept => Ok(Some(true)),
             Action::Error => Ok(Some(false)),
@@ -98,7 +98,7 @@ impl<'a> Trial<'a> {
     }
 
     /// Whether a token can come over these states; `None` where that takes too many reductions.
-    fn answer(&mut self, states: &'a [usize], token: Sym) -> Result<Option<bool>, AllocError> {
+    fn answer(&mut self, states: &'a [usize], token: Sym) -> Made<Option<bool>> {
         self.below = states;
         self.above.clear();
         for _ in 0..=MOST_REDUCTIONS.min(self.left) {
@@ -111,7 +111,7 @@ impl<'a> Trial<'a> {
     }
 
     /// Goes on until a token is shifted, and says whether it is.
-    fn shift(&mut self, token: Sym) -> Result<bool, AllocError> {
+    fn shift(&mut self, token: Sym) -> Made<bool> {
         for _ in 0..MOST_STEPS {
             if let Action::Shift(state) = action_of(self.tables, self.top(), token) {
                 self.above.push(state)?;
@@ -127,7 +127,7 @@ impl<'a> Trial<'a> {
 
 /// The tokens that can come over these states, the first state of all at the bottom; `error` is
 /// not among them.
-pub fn expected(alloc: Global, tables: &Tables, states: &[usize]) -> Result<Wanted, AllocError> {
+pub fn expected(alloc: Global, tables: &Tables, states: &[usize]) -> Made<Wanted> {
     let (can, unknown) = (Vec::new(alloc), Vec::new(alloc));
     let mut wanted = Wanted { can, unknown };
     let mut trial = Trial::new(alloc, tables, MOST_OF_ALL);
@@ -141,11 +141,7 @@ pub fn expected(alloc: Global, tables: &Tables, states: &[usize]) -> Result<Want
 
 /// The states of a parse once these tokens are shifted, before anything is reduced with the next
 /// token ahead; where the parse doesn't get there, the states to which it has come.
-pub fn states_after(
-    alloc: Global,
-    tables: &Tables,
-    tokens: &[Sym],
-) -> Result<Vec<usize>, AllocError> {
+pub fn states_after(alloc: Global, tables: &Tables, tokens: &[Sym]) -> Made<Vec<usize>> {
     let mut trial = Trial::new(alloc, tables, usize::MAX);
     trial.above.push(0)?;
     for token in tokens {

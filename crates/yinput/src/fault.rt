@@ -1,9 +1,9 @@
 //! Why an input, or the SPEC by which inputs are cut, isn't taken.
 
-use std::alloc::{AllocError, Global};
+use std::alloc::Global;
 use std::io::{self, ErrorKind, Write};
 use std::rt::Files;
-use yexplain::reads::grammar_of;
+use yexplain::reads::{Made, grammar_of};
 use yexplain::text::{Escaped, Name};
 use yfaults::opening::{Opened, put_near_token, put_token_fault};
 use yfaults::shown::Place;
@@ -66,12 +66,7 @@ fn put_ungiven<W: Write>(
 
 impl Fault {
     /// What is wrong with a file of these bytes.
-    pub fn new(
-        alloc: Global,
-        file: Limited<'_>,
-        bytes: Vec<u8>,
-        what: What,
-    ) -> Result<Fault, AllocError> {
+    pub fn new(alloc: Global, file: Limited<'_>, bytes: Vec<u8>, what: What) -> Made<Fault> {
         let Limited { path, most } = file;
         let path = format!(in alloc; "{path}")?;
         Ok(Fault {

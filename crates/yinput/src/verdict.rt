@@ -2,8 +2,9 @@
 
 use crate::expected::{Wanted, expected, states_after};
 use crate::language::Input;
-use std::alloc::{AllocError, Global};
+use std::alloc::Global;
 use std::io::{self, ErrorKind};
+use yexplain::reads::Made;
 use ylalr::END;
 use yparse::{Verdict as Judged, judge};
 use ysymbols::Sym;
@@ -38,12 +39,7 @@ impl Rejection {
     }
 
     /// That of the token of a number, of these tokens.
-    fn new(
-        alloc: Global,
-        tables: &Tables,
-        tokens: &[Sym],
-        number: usize,
-    ) -> Result<Rejection, AllocError> {
+    fn new(alloc: Global, tables: &Tables, tokens: &[Sym], number: usize) -> Made<Rejection> {
         let taken = number.saturating_sub(1);
         let before = tokens.get(..taken).unwrap_or(tokens);
         let states = states_after(alloc, tables, before)?;

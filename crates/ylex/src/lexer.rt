@@ -6,7 +6,7 @@ use crate::spec::{Rule, Spec, Word};
 use regex::Error;
 use regex::bytes::{Matcher, Regex};
 use std::alloc::{AllocError, Global};
-use yexplain::reads::name_of;
+use yexplain::reads::{Made, name_of};
 use ysymbols::{Grammar, Sym};
 use ytokens::tokens::Tokens;
 
@@ -97,7 +97,7 @@ fn in_group(alloc: Global, rule: Rule<'_>) -> Result<Regex, SpecFault> {
 }
 
 /// Whether an expression matches the empty text.
-fn is_empty(alloc: Global, regex: &Regex) -> Result<bool, AllocError> {
+fn is_empty(alloc: Global, regex: &Regex) -> Made<bool> {
     let mut matcher = regex.matcher(alloc)?;
     Ok(matcher.is_match(b""))
 }
@@ -125,11 +125,7 @@ fn compile(alloc: Global, rules: &[Rule<'_>]) -> Result<Vec<Regex>, SpecFault> {
 }
 
 /// The literal of each byte, but for those that no text has.
-fn literals_of(
-    alloc: Global,
-    grammar: &Grammar,
-    absent: &[bool],
-) -> Result<Vec<Option<Sym>>, AllocError> {
+fn literals_of(alloc: Global, grammar: &Grammar, absent: &[bool]) -> Made<Vec<Option<Sym>>> {
     let mut literals = Vec::new(alloc);
     for value in 0..=255u8 {
         let literal = grammar.find_literal(value);
@@ -139,7 +135,7 @@ fn literals_of(
 }
 
 /// What searches for each expression.
-fn matchers_of(alloc: Global, regexes: &[Regex]) -> Result<Vec<Matcher<'_>>, AllocError> {
+fn matchers_of(alloc: Global, regexes: &[Regex]) -> Made<Vec<Matcher<'_>>> {
     let mut matchers = Vec::with_capacity(alloc, regexes.len())?;
     for regex in regexes {
         let matcher = regex.matcher(alloc)?;

@@ -82,12 +82,7 @@ fn put_keywords<W: Write>(out: &mut W, grammar: &Grammar, used: &[bool]) -> io::
 
 /// Writes a line for each token of a kind: with the expression that is guessed, or else as a place
 /// to fill in.
-fn put_lines<W: Write>(
-    out: &mut W,
-    grammar: &Grammar,
-    used: &[bool],
-    kind: Kind,
-) -> io::Result<()> {
+fn put_kind<W: Write>(out: &mut W, grammar: &Grammar, used: &[bool], kind: Kind) -> io::Result<()> {
     for token in 0..grammar.symbols() {
         if is_of(grammar, used, token, kind) {
             let name = Name(grammar, token);
@@ -127,6 +122,6 @@ pub fn put_sketch<W: Write>(out: &mut W, grammar: &Grammar, used: &[bool]) -> io
     };
     writeln!(out, "%skip {blanks}")?;
     put_keywords(out, grammar, used)?;
-    put_lines(out, grammar, used, Kind::Guessed)?;
-    put_lines(out, grammar, used, Kind::Open)
+    put_kind(out, grammar, used, Kind::Guessed)?;
+    put_kind(out, grammar, used, Kind::Open)
 }

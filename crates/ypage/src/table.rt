@@ -1,9 +1,9 @@
 //! The grammar and the states as the page has them, all by number.
 
 use serde::Serialize;
-use std::alloc::{AllocError, Global};
+use std::alloc::Global;
 use yexplain::lines::Lines;
-use yexplain::reads::{body_of, grammar_of, items_of, left_of};
+use yexplain::reads::{Made, body_of, grammar_of, items_of, left_of};
 use ylalr::{Automaton, END, token_count};
 use ysymbols::Sym;
 use ytables::Tables;
@@ -41,11 +41,7 @@ impl Drop for Table<'_> {
 }
 
 /// States, with the items of each that have begun, and those of rule 0.
-fn states_of(
-    alloc: Global,
-    automaton: &Automaton,
-    numbers: &[usize],
-) -> Result<Vec<State>, AllocError> {
+fn states_of(alloc: Global, automaton: &Automaton, numbers: &[usize]) -> Made<Vec<State>> {
     let mut states = Vec::new(alloc);
     for number in numbers {
         let items = items_of(automaton, *number)
@@ -65,7 +61,7 @@ impl<'a> Table<'a> {
         tables: &'a Tables,
         lines: &Lines,
         states: &[usize],
-    ) -> Result<Table<'a>, AllocError> {
+    ) -> Made<Table<'a>> {
         let grammar = grammar_of(tables);
         Ok(Table {
             names: (0..grammar.symbols())

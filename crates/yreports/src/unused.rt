@@ -1,11 +1,11 @@
 //! What a grammar doesn't use: rules that are never reduced, precedences that settle nothing.
 
-use std::alloc::{AllocError, Global};
+use std::alloc::Global;
 use std::mem;
 use ycells::{Rival, settle};
 use yexplain::lines::{Lines, last_token};
 use yexplain::reads::{
-    action_of, body_of, candidate_of, default_of, grammar_of, items_of, level_of, next_of,
+    Made, action_of, body_of, candidate_of, default_of, grammar_of, items_of, level_of, next_of,
     ready_of, rule_of, set, shift_of,
 };
 use ylalr::token_count;
@@ -40,7 +40,7 @@ pub struct Done {
 
 impl Done {
     /// What is done in the cells of tables.
-    pub fn new(alloc: Global, tables: &Tables, lines: &Lines) -> Result<Done, AllocError> {
+    pub fn new(alloc: Global, tables: &Tables, lines: &Lines) -> Made<Done> {
         let grammar = grammar_of(tables);
         let mut done = Done {
             alloc,
@@ -59,7 +59,7 @@ impl Done {
     }
 
     /// Notes what is done in the cells of a state.
-    fn look_at(&mut self, tables: &Tables, lines: &Lines, state: usize) -> Result<(), AllocError> {
+    fn look_at(&mut self, tables: &Tables, lines: &Lines, state: usize) -> Made<()> {
         if let Some(rule) = default_of(tables, state) {
             set(&mut self.reduced, rule, true);
             return Ok(());
@@ -82,12 +82,7 @@ impl Done {
     }
 
     /// Notes which precedences are compared in the cells with a shift.
-    fn look_at_shifts(
-        &mut self,
-        tables: &Tables,
-        lines: &Lines,
-        state: usize,
-    ) -> Result<(), AllocError> {
+    fn look_at_shifts(&mut self, tables: &Tables, lines: &Lines, state: usize) -> Made<()> {
         let grammar = grammar_of(tables);
         for item in items_of(tables.automaton(), state) {
             if let Some(token) = next_of(grammar, *item) {
@@ -102,7 +97,7 @@ impl Done {
     }
 
     /// Takes in the rules of a cell.
-    fn gather(&mut self, tables: &Tables, state: usize, token: Sym) -> Result<(), AllocError> {
+    fn gather(&mut self, tables: &Tables, state: usize, token: Sym) -> Made<()> {
         self.rivals.clear();
         for index in &self.ready {
             if let Some(candidate) = candidate_of(tables, state, token, *index) {
