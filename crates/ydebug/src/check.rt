@@ -27,7 +27,7 @@ pub struct Asked<'a> {
 
 /// All bytes of a file, or of standard input where the path is a dash; `None` where there are
 /// more than it may have.
-fn bytes_of<F: Files + AllocGlobal, R: Read>(
+pub fn bytes_of<F: Files + AllocGlobal, R: Read>(
     rt: &F,
     input: &mut R,
     file: Limited<'_>,

@@ -10,6 +10,9 @@ pub const USAGE: &str = "usage: ydebug grammar tokens [--lex SPEC]\n";
 pub const FORMS: &str = "Other forms:\n\
     \x20 ydebug conflicts grammar [--save FOLDER] [--strict]\n\
     \x20 ydebug check grammar tokens.. [--lex SPEC] [--choice] [--plain]\n\
+    \x20 ydebug sentences grammar [--cover KIND] [--near] [--save FOLDER] [--strict]\n\
+    \x20 ydebug sentences grammar --random N [--length L] [--seed S] [--near] [--save FOLDER]\n\
+    \x20 ydebug cover grammar tokens.. [--lex SPEC] [--strict]\n\
     \x20 ydebug page grammar tokens [--lex SPEC] [-o FILE] [--from K] [--to K] [--conflicts]\n\
     \x20 ydebug tokens grammar --lex SPEC input\n\
     \x20 ydebug lex-spec grammar\n\
@@ -31,6 +34,10 @@ pub enum Form {
     Conflicts,
     /// Verdicts.
     Check,
+    /// Sentences.
+    Sentences,
+    /// What inputs use.
+    Cover,
     /// A page.
     Page,
     /// An import.
@@ -46,9 +53,11 @@ pub enum Form {
 }
 
 /// Each form but the first by its word.
-pub const BY_WORD: [(&str, Form); 8] = [
+pub const BY_WORD: [(&str, Form); 10] = [
     ("conflicts", Form::Conflicts),
     ("check", Form::Check),
+    ("sentences", Form::Sentences),
+    ("cover", Form::Cover),
     ("page", Form::Page),
     ("import", Form::Import),
     ("tokens", Form::Tokens),
@@ -73,6 +82,8 @@ pub fn name_of(form: Form) -> &'static str {
         Form::Debug => "ydebug",
         Form::Conflicts => "ydebug conflicts",
         Form::Check => "ydebug check",
+        Form::Sentences => "ydebug sentences",
+        Form::Cover => "ydebug cover",
         Form::Page => "ydebug page",
         Form::Import => "ydebug import",
         Form::Tokens => "ydebug tokens",
@@ -154,13 +165,15 @@ const CONFLICTS: &[Word] = &[
     ),
 ];
 
+const INPUTS: Word = Word(
+    "tokens",
+    Given::Files,
+    "The tokens files, or with --lex texts; - is standard input",
+);
+
 const CHECK: &[Word] = &[
     GRAMMAR,
-    Word(
-        "tokens",
-        Given::Files,
-        "The tokens files, or with --lex texts; - is standard input",
-    ),
+    INPUTS,
     LEX,
     LIMIT,
     FROM,
@@ -173,6 +186,59 @@ const CHECK: &[Word] = &[
         "plain",
         Given::Flag,
         "Writes a plain line for the grammar and for each input",
+    ),
+];
+
+const SENTENCES: &[Word] = &[
+    GRAMMAR,
+    Word(
+        "cover",
+        Given::Value("KIND"),
+        "What they use: rules, states or actions; without it, rules",
+    ),
+    Word(
+        "random",
+        Given::Value("N"),
+        "Draws so many sentences at random instead",
+    ),
+    Word(
+        "length",
+        Given::Value("L"),
+        "The most tokens of each that is drawn; without it, 20",
+    ),
+    Word(
+        "seed",
+        Given::Value("S"),
+        "What they are drawn by; without it, 1",
+    ),
+    Word(
+        "near",
+        Given::Flag,
+        "Writes lists that are near to each too, with their verdicts",
+    ),
+    Word(
+        "save",
+        Given::Value("FOLDER"),
+        "Writes each list to a file of this folder",
+    ),
+    FROM,
+    Word(
+        "strict",
+        Given::Flag,
+        "Ends with 1 where something isn't found, or a random sentence is refused",
+    ),
+];
+
+const COVER: &[Word] = &[
+    GRAMMAR,
+    INPUTS,
+    LEX,
+    LIMIT,
+    FROM,
+    Word(
+        "strict",
+        Given::Flag,
+        "Ends with 1 where something isn't used",
     ),
 ];
 
@@ -269,6 +335,8 @@ fn about(form: Form) -> &'static str {
         Form::Debug => "Steps a parse forward and back for a person at a terminal",
         Form::Conflicts => "Explains the conflicts of a grammar, and warns of what it has in vain",
         Form::Check => "Says of each input whether it is a sentence of a grammar",
+        Form::Sentences => "Writes short sentences of a grammar that use all of it",
+        Form::Cover => "Says what inputs use of a grammar, and what none of them uses",
         Form::Page => "Makes a page in HTML of a parse, to be looked at in a browser",
         Form::Import => "Makes a grammar file of bison or byacc one that yacc reads",
         Form::Tokens => "Writes the tokens of a text as a tokens file",
@@ -293,6 +361,8 @@ pub fn words_of(form: Form) -> &'static [Word] {
         Form::Debug => DEBUG,
         Form::Conflicts => CONFLICTS,
         Form::Check => CHECK,
+        Form::Sentences => SENTENCES,
+        Form::Cover => COVER,
         Form::Page => PAGE,
         Form::Import => IMPORT,
         Form::Tokens => TOKENS,

@@ -1,17 +1,19 @@
 //! `ydebug grammar tokens`: a debugger of parses for people. `ydebug conflicts grammar` explains
 //! the conflicts of a grammar, `ydebug check grammar tokens..` says what its sentences are, and
-//! `ydebug page grammar tokens` makes a page of a parse. `ydebug import file` makes a grammar file
-//! that `yacc` reads out of one for bison. With `--lex SPEC` a text stands in place of a tokens
-//! file; `ydebug tokens` writes the tokens of one, and `ydebug lex-spec` sketches a SPEC. `ydebug
-//! rules grammar` names the rules of a grammar for programs that read its table, and `ydebug table`
-//! writes that as `yacc` does.
+//! `ydebug page grammar tokens` makes a page of a parse. `ydebug sentences grammar` writes
+//! sentences that use all of a grammar, and `ydebug cover grammar tokens..` says what inputs use of
+//! it. `ydebug import file` makes a grammar file that `yacc` reads out of one for bison. With `--lex
+//! SPEC` a text stands in place of a tokens file; `ydebug tokens` writes the tokens of one, and
+//! `ydebug lex-spec` sketches a SPEC. `ydebug rules grammar` names the rules of a grammar for
+//! programs that read its table, and `ydebug table` writes that as `yacc` does.
 //!
 //! `forms` has the arguments of the forms, and `near` what could be meant by others. `check`,
-//! `tokens`, `sketch` and `table` are forms; the others have a crate each. What the forms are given
-//! is opened by `yinput`.
+//! `cover`, `tokens`, `sketch` and `table` are forms; the others have a crate each. What the forms
+//! are given is opened by `yinput`.
 #![tactic(auto)]
 
 mod check;
+mod cover;
 mod forms;
 mod near;
 mod sketch;
@@ -19,6 +21,7 @@ mod table;
 mod tokens;
 
 use crate::check::run_check;
+use crate::cover::run_cover;
 use crate::forms::{FORMS, Form, USAGE, command_of, form_of, name_of};
 use crate::near::{put_near_form, put_near_words};
 use crate::sketch::run_sketch;
@@ -31,6 +34,7 @@ use std::env;
 use std::io::{self, BufWriter, IsTerminal, Write};
 use std::process::ExitCode;
 use ybison::import::{Asked as Import, run_import};
+use ycover::parts::Kind;
 use ydebugger::{Setting, debug};
 use yfiles::reading::{LONGEST_INPUT, Limited};
 use yinput::grammars::{GrammarFile, open_file};
@@ -40,6 +44,7 @@ use ypage::page::{self, run_page};
 use ypage::walk::Part;
 use yreports::report::{Asked, put_conflicts};
 use yrules::run::{Asked as Rules, run_rules};
+use ysentences::run::{Asked as Sentences, Drawn, run_sentences};
 
 /// The exit status of a program that a signal ends since its pipe has no reader any more.
 const ENDED_BY_PIPE: u8 = 141;
@@ -173,6 +178,13 @@ fn page_from(words: &[&str]) -> Result<(bool, usize), Refused> {
     }
 }
 
+/// Writes that `--save` needs a name, and gives the exit status.
+fn refuse_save(rt: &HostRuntime) -> Result<u8, Refused> {
+    rt.stderr()
+        .write_all(b"ydebug: --save wants the name of a folder\n")?;
+    Ok(2)
+}
+
 /// A report on conflicts.
 fn report<W: Write>(
     rt: &HostRuntime,
@@ -186,9 +198,7 @@ fn report<W: Write>(
         strict: is_given(matches, "strict"),
     };
     if asked.save == Some("") {
-        rt.stderr()
-            .write_all(b"ydebug: --save wants the name of a folder\n")?;
-        return Ok(2);
+        return refuse_save(rt);
     }
     match open_file(rt, file, &mut rt.stderr())? {
         Ok(opened) => Ok(put_conflicts(rt, out, &mut rt.stderr(), asked, opened)?),
@@ -210,6 +220,68 @@ fn check_files<W: Write>(
         most: most_of(matches)?,
     };
     Ok(run_check(rt, asked, &mut rt.stdin(), out, &mut rt.stderr())?)
+}
+
+/// What inputs use.
+fn cover_files<W: Write>(
+    rt: &HostRuntime,
+    matches: &ArgMatches<'_>,
+    out: &mut W,
+) -> Result<u8, Refused> {
+    let asked = cover::Asked {
+        files: language_in(matches)?,
+        inputs: matches.get_strs("tokens").unwrap_or(&[]),
+        most: most_of(matches)?,
+        strict: is_given(matches, "strict"),
+    };
+    Ok(run_cover(rt, asked, &mut rt.stdin(), out, &mut rt.stderr())?)
+}
+
+/// What sentences are to use; without a word for it, rules.
+fn kind_in(matches: &ArgMatches<'_>) -> Result<Kind, Refused> {
+    match matches.get_str("cover") {
+        None | Some("rules") => Ok(Kind::Rules),
+        Some("states") => Ok(Kind::States),
+        Some("actions") => Ok(Kind::Cells),
+        Some(_) => Err(Refused::Words),
+    }
+}
+
+/// How sentences are drawn, where that is asked for; words for one way alone stand without those
+/// for the other.
+fn drawn_in(matches: &ArgMatches<'_>) -> Result<Option<Drawn>, Refused> {
+    let length = number_of(matches, "length")?;
+    let seed = number_of(matches, "seed")?;
+    let is_cover = matches.get_str("cover").is_some();
+    match number_of(matches, "random")? {
+        Some(count) if !is_cover => Ok(Some(Drawn {
+            count,
+            length: length.unwrap_or(20) as u64,
+            seed: seed.unwrap_or(1) as u64,
+        })),
+        None if length.is_none() && seed.is_none() => Ok(None),
+        _ => Err(Refused::Words),
+    }
+}
+
+/// Sentences of a grammar.
+fn put_sentences<W: Write>(
+    rt: &HostRuntime,
+    matches: &ArgMatches<'_>,
+    out: &mut W,
+) -> Result<u8, Refused> {
+    let asked = Sentences {
+        grammar: grammar_in(matches)?,
+        kind: kind_in(matches)?,
+        drawn: drawn_in(matches)?,
+        near: is_given(matches, "near"),
+        save: matches.get_str("save"),
+        strict: is_given(matches, "strict"),
+    };
+    if asked.save == Some("") {
+        return refuse_save(rt);
+    }
+    Ok(run_sentences(rt, asked, out, &mut rt.stderr())?)
 }
 
 /// A page of a parse.
@@ -350,6 +422,8 @@ fn obey<W: Write>(
         Form::Debug => debug_files(rt, matches, out),
         Form::Conflicts => report(rt, matches, out),
         Form::Check => check_files(rt, matches, out),
+        Form::Sentences => put_sentences(rt, matches, out),
+        Form::Cover => cover_files(rt, matches, out),
         Form::Page => page(rt, matches, out),
         Form::Import => import(rt, matches, out),
         Form::Tokens => cut_file(rt, matches, out),

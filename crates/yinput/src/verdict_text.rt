@@ -29,16 +29,27 @@ impl Verdict {
         path: &str,
         input: &Input,
     ) -> io::Result<u8> {
-        let written = match self {
-            Verdict::Accepted(steps) => writeln!(out, "{path}: accepted after {steps} steps"),
-            Verdict::Rejected(rejection) => match &input.text {
-                Some(text) => rejection.put_in_text(out, grammar, text),
-                None => rejection.put_in_tokens(out, grammar, path, &input.tokens.symbols),
-            },
-            Verdict::Undecided => writeln!(out, "{path}: undecided after 1,000,000 steps"),
+        let written = match (self, &input.text) {
+            (Verdict::Rejected(rejection), Some(text)) => rejection.put_in_text(out, grammar, text),
+            (Verdict::Rejected(rejection), None) => {
+                rejection.put_in_tokens(out, grammar, path, &input.tokens.symbols)
+            }
+            _ => {
+                write!(out, "{path}: ")?;
+                self.put_words(out, grammar)
+            }
         };
         written?;
         Ok(self.status())
+    }
+
+    /// Writes it in one line for people, without a path.
+    pub fn put_words<W: Write>(&self, out: &mut W, grammar: &Grammar) -> io::Result<()> {
+        match self {
+            Verdict::Accepted(steps) => writeln!(out, "accepted after {steps} steps"),
+            Verdict::Rejected(rejection) => rejection.put_words(out, grammar),
+            Verdict::Undecided => writeln!(out, "undecided after 1,000,000 steps"),
+        }
     }
 
     /// Writes it as a plain line, and gives the exit status.
@@ -118,6 +129,13 @@ impl Rejection {
         put_wanted(out, grammar, &self.wanted)
     }
 
+    /// Writes so with the number of the token.
+    fn put_words<W: Write>(&self, out: &mut W, grammar: &Grammar) -> io::Result<()> {
+        let number = self.number;
+        write!(out, "rejected at token {number}: ")?;
+        self.put_token(out, grammar)
+    }
+
     /// Writes so at its place in a text, with the line there.
     fn put_in_text<W: Write>(&self, out: &mut W, grammar: &Grammar, text: &Text) -> io::Result<()> {
         let place = text.place(self.number);
@@ -134,9 +152,8 @@ impl Rejection {
         path: &str,
         tokens: &[Sym],
     ) -> io::Result<()> {
-        let number = self.number;
-        write!(out, "{path}: rejected at token {number}: ")?;
-        self.put_token(out, grammar)?;
+        write!(out, "{path}: ")?;
+        self.put_words(out, grammar)?;
         put_before(out, grammar, tokens.get(..self.before()).unwrap_or(tokens))
     }
 }

@@ -136,7 +136,7 @@ fn put_found<W: Write, F: Files + AllocGlobal + Clone + Drop>(
 }
 
 /// Writes what couldn't be written, where there is something, and gives the exit status.
-fn put_failed<E: Write>(errors: &mut E, failed: Option<&String>, status: u8) -> io::Result<u8> {
+pub fn put_failed<E: Write>(errors: &mut E, failed: Option<&String>, status: u8) -> io::Result<u8> {
     match failed {
         Some(path) => {
             writeln!(errors, "ydebug: cannot write {path}")?;
@@ -164,6 +164,7 @@ fn put_lists<'a, W: Write, F: Files + AllocGlobal + Clone + Drop>(
             rt,
             path: asked.save,
             grammar: asked.grammar,
+            name: ("conflict-", ""),
             failed: None,
         },
     };
