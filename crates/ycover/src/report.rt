@@ -1,6 +1,6 @@
 //! What was used of tables, and what never was.
 
-use crate::parts::{Kind, Parts};
+use crate::elements::{Kind, Elements};
 use crate::uses::{Uses, marked};
 use std::io::{self, Write};
 
@@ -23,10 +23,10 @@ fn put_counts<W: Write>(out: &mut W, uses: &Uses) -> io::Result<()> {
     writeln!(out)
 }
 
-/// Writes a line for each part of a kind that was never used, and says how many these are.
+/// Writes a line for each element of a kind that was never used, and says how many these are.
 fn put_unused<W: Write>(
     out: &mut W,
-    parts: Parts<'_>,
+    elements: Elements<'_>,
     uses: &Uses,
     kind: Kind,
 ) -> io::Result<usize> {
@@ -35,18 +35,18 @@ fn put_unused<W: Write>(
         if !*mark {
             count = count.saturating_add(1);
             write!(out, "not used: ")?;
-            parts.put_line(out, kind, number)?;
+            elements.put_line(out, kind, number)?;
         }
     }
     Ok(count)
 }
 
 /// Writes what was used and what never was, and says whether all was.
-pub fn put_report<W: Write>(out: &mut W, parts: Parts<'_>, uses: &Uses) -> io::Result<bool> {
+pub fn put_report<W: Write>(out: &mut W, elements: Elements<'_>, uses: &Uses) -> io::Result<bool> {
     put_counts(out, uses)?;
     let mut is_all = true;
     for kind in &KINDS {
-        is_all = put_unused(out, parts, uses, *kind)? == 0 && is_all;
+        is_all = put_unused(out, elements, uses, *kind)? == 0 && is_all;
     }
     Ok(is_all)
 }

@@ -1,7 +1,7 @@
 //! What was used.
 
 use crate::cells::Cells;
-use crate::parts::Kind;
+use crate::elements::Kind;
 use crate::steps::Made;
 use std::alloc::{AllocError, Global};
 use yexplain::reads::{grammar_of, set};

@@ -4,7 +4,7 @@ use crate::check::bytes_of;
 use std::alloc::{AllocError, Global};
 use std::io::{self, Read, Write};
 use std::rt::Files;
-use ycover::parts::Parts;
+use ycover::elements::Elements;
 use ycover::report::put_report;
 use ycover::walk::{Walked, Walker};
 use yexplain::lines::Lines;
@@ -120,12 +120,12 @@ fn put_uses<W: Write>(
     inputs: &[Input],
 ) -> io::Result<bool> {
     let (walked, lines) = walk_all(alloc, opened, inputs)?;
-    let parts = Parts {
+    let elements = Elements {
         tables: &walked.tables,
         lines: &lines,
         cells: &walked.cells,
     };
-    put_report(out, parts, &walked.uses)
+    put_report(out, elements, &walked.uses)
 }
 
 /// Writes what is asked for, and gives the exit status: 0; 1 where the grammar, the SPEC or an

@@ -1,10 +1,10 @@
 //! `ydebug grammar tokens`: a debugger of parses for people. `ydebug conflicts grammar` explains
 //! the conflicts of a grammar, `ydebug check grammar tokens..` says what its sentences are, and
 //! `ydebug page grammar tokens` makes a page of a parse. `ydebug sentences grammar` writes
-//! sentences that use all of a grammar, and `ydebug cover grammar tokens..` says what inputs use of
-//! it. `ydebug import file` makes a grammar file that `yacc` reads out of one for bison. With `--lex
-//! SPEC` a text stands in place of a tokens file; `ydebug tokens` writes the tokens of one, and
-//! `ydebug lex-spec` sketches a SPEC. `ydebug rules grammar` names the rules of a grammar for
+//! sentences that use all of a grammar, and `ydebug cover grammar tokens..` says what inputs use
+//! of it. `ydebug import file` makes a grammar file that `yacc` reads out of one for bison. With
+//! `--lex SPEC` a text stands in place of a tokens file; `ydebug tokens` writes the tokens of one,
+//! and `ydebug lex-spec` sketches a SPEC. `ydebug rules grammar` names the rules of a grammar for
 //! programs that read its table, and `ydebug table` writes that as `yacc` does.
 //!
 //! `forms` has the arguments of the forms, and `near` what could be meant by others. `check`,
@@ -34,7 +34,7 @@ use std::env;
 use std::io::{self, BufWriter, IsTerminal, Write};
 use std::process::ExitCode;
 use ybison::import::{Asked as Import, run_import};
-use ycover::parts::Kind;
+use ycover::elements::Kind;
 use ydebugger::{Setting, debug};
 use yfiles::reading::{LONGEST_INPUT, Limited};
 use yinput::grammars::{GrammarFile, open_file};

@@ -7,13 +7,13 @@ use std::alloc::{AllocError, Global};
 use std::io;
 use ycounterexample::lists::Lists;
 use ycounterexample::others::Others;
-use ycover::parts::Kind;
+use ycover::elements::Kind;
 use yexplain::reads::{action_of, default_of, grammar_of, is_reachable, left_of, set};
 use yparse::Session;
 use ysymbols::Sym;
 use ytables::{Action, Tables};
 
-/// How many further lists are tried for a part that the first one misses.
+/// How many further lists are tried for an element that the first one misses.
 const MOST_OTHERS: usize = 20;
 
 /// How many cells of a rule are sought that its own sentence misses.
@@ -30,7 +30,7 @@ pub struct Sentence {
     pub kept: bool,
 }
 
-/// Why a part isn't used by a sentence.
+/// Why an element isn't used by a sentence.
 #[derive(Clone, Copy, Drop, PartialEq, Eq)]
 pub enum Missing {
     /// Nothing was found in as many steps as are made.
@@ -62,7 +62,7 @@ pub struct Chooser<'a> {
 pub struct Chosen {
     /// All that were taken, also those that aren't kept.
     pub sentences: Vec<Sentence>,
-    /// For each part of the kind, whether one uses it.
+    /// For each element of the kind, whether one uses it.
     pub used: Vec<bool>,
     /// Why the others aren't used.
     pub missing: Vec<Missing>,
@@ -77,18 +77,18 @@ impl Chosen {
         })
     }
 
-    /// Whether a sentence uses a part.
-    fn is_used(&self, part: usize) -> bool {
-        self.used.get(part).copied().unwrap_or(true)
+    /// Whether a sentence uses an element.
+    fn is_used(&self, element: usize) -> bool {
+        self.used.get(element).copied().unwrap_or(true)
     }
 
     /// Takes a sentence, where it uses something new.
     fn take(&mut self, tokens: Vec<Sym>, uses: Vec<usize>) -> Result<(), AllocError> {
-        if uses.iter().all(|part| self.is_used(*part)) {
+        if uses.iter().all(|element| self.is_used(*element)) {
             return Ok(());
         }
-        for part in &uses {
-            set(&mut self.used, *part, true);
+        for element in &uses {
+            set(&mut self.used, *element, true);
         }
         let mut uses = uses;
         uses.sort()?;
@@ -100,7 +100,7 @@ impl Chosen {
         Ok(())
     }
 
-    /// How many sentences use each part.
+    /// How many sentences use each element.
     fn counts(&self, alloc: Global) -> Result<Vec<usize>, AllocError> {
         let mut counts = vec![in alloc; 0usize; self.used.len()]?;
         for sentence in &self.sentences {
@@ -109,7 +109,7 @@ impl Chosen {
         Ok(counts)
     }
 
-    /// Drops each sentence whose parts are all used by others, the longest first.
+    /// Drops each sentence whose elements are all used by others, the longest first.
     fn thin(&mut self, alloc: Global) -> Result<(), AllocError> {
         let mut counts = self.counts(alloc)?;
         let order = self.order(alloc)?;
@@ -136,23 +136,23 @@ impl Chosen {
     }
 }
 
-/// Counts each of some parts once more.
-fn count_in(counts: &mut [usize], parts: &[usize]) {
-    for part in parts {
-        if let Some(count) = counts.get_mut(*part) {
+/// Counts each of some elements once more.
+fn count_in(counts: &mut [usize], elements: &[usize]) {
+    for element in elements {
+        if let Some(count) = counts.get_mut(*element) {
             *count = count.saturating_add(1);
         }
     }
 }
 
-/// Whether all of some parts are used by more than one sentence; then each counts once less.
-fn is_spared(counts: &mut [usize], parts: &[usize]) -> bool {
-    let is_spared = parts
+/// Whether all of some elements are used by more than one sentence; then each counts once less.
+fn is_spared(counts: &mut [usize], elements: &[usize]) -> bool {
+    let is_spared = elements
         .iter()
-        .all(|part| counts.get(*part).copied().unwrap_or(0) > 1);
+        .all(|element| counts.get(*element).copied().unwrap_or(0) > 1);
     if is_spared {
-        for part in parts {
-            if let Some(count) = counts.get_mut(*part) {
+        for element in elements {
+            if let Some(count) = counts.get_mut(*element) {
                 *count = count.saturating_sub(1);
             }
         }
@@ -186,13 +186,13 @@ impl<'a> Chooser<'a> {
         let used = self.trier.uses(&tokens)?;
         let steps = self.trier.steps().saturating_sub(before);
         self.seeker.finder.spend(steps.saturating_add(tokens.len()));
-        let Some(Used { parts, rules }) = used else {
+        let Some(Used { elements, rules }) = used else {
             return Ok(());
         };
         for rule in &rules {
             set(&mut self.rules, *rule, true);
         }
-        self.chosen.take(tokens, parts)?;
+        self.chosen.take(tokens, elements)?;
         Ok(())
     }
 
@@ -238,30 +238,30 @@ impl<'a> Chooser<'a> {
         self.seeker.sentence(tables, &form)
     }
 
-    /// Notes why a part of a kind isn't used, where that is the kind that is wanted.
-    fn miss(&mut self, kind: Kind, part: usize, missing: Missing) {
+    /// Notes why an element of a kind isn't used, where that is the kind that is wanted.
+    fn miss(&mut self, kind: Kind, element: usize, missing: Missing) {
         if self.kind == kind {
-            set(&mut self.chosen.missing, part, missing);
+            set(&mut self.chosen.missing, element, missing);
         }
     }
 
-    /// Seeks sentences for all parts that none uses yet.
+    /// Seeks sentences for all elements that none uses yet.
     fn seek_all(&mut self) -> io::Result<()> {
         if self.kind == Kind::Rules {
             return self.seek_rules();
         }
-        for part in 0..self.trier.count() {
-            let goal = match self.trier.cells.at(part) {
+        for element in 0..self.trier.count() {
+            let goal = match self.trier.cells.at(element) {
                 Some(cell) if self.kind == Kind::Cells => Goal {
                     state: cell.state,
                     token: cell.token(),
                 },
                 _ => Goal {
-                    state: part,
+                    state: element,
                     token: None,
                 },
             };
-            self.seek(goal, part)?;
+            self.seek(goal, element)?;
         }
         Ok(())
     }
@@ -311,35 +311,35 @@ impl<'a> Chooser<'a> {
         Ok(goals)
     }
 
-    /// Seeks a sentence that comes to a goal and so uses a part, unless one uses it.
-    fn seek(&mut self, goal: Goal, part: usize) -> io::Result<()> {
-        if self.chosen.is_used(part) || !self.seeker.finder.has_steps() {
+    /// Seeks a sentence that comes to a goal and so uses an element, unless one uses it.
+    fn seek(&mut self, goal: Goal, element: usize) -> io::Result<()> {
+        if self.chosen.is_used(element) || !self.seeker.finder.has_steps() {
             return Ok(());
         }
         match self.seeker.shortest(&mut self.trier, goal)? {
             Sought::Sentence(tokens) => {
                 self.offer(tokens)?;
-                self.seek_others(goal, part)
+                self.seek_others(goal, element)
             }
-            Sought::Astray => self.seek_others(goal, part),
+            Sought::Astray => self.seek_others(goal, element),
             Sought::Long => {
-                self.miss(self.kind, part, Missing::Long);
+                self.miss(self.kind, element, Missing::Long);
                 Ok(())
             }
             Sought::Late => Ok(()),
         }
     }
 
-    /// Tries further lists for a goal, unless a sentence uses the part.
-    fn seek_others(&mut self, goal: Goal, part: usize) -> io::Result<()> {
-        if self.chosen.is_used(part) {
+    /// Tries further lists for a goal, unless a sentence uses the element.
+    fn seek_others(&mut self, goal: Goal, element: usize) -> io::Result<()> {
+        if self.chosen.is_used(element) {
             return Ok(());
         }
-        self.miss(self.kind, part, Missing::Astray);
+        self.miss(self.kind, element, Missing::Astray);
         let tables = self.trier.session.tables();
         let mut others = self.seeker.others(tables, goal)?;
         for _ in 0..MOST_OTHERS {
-            if self.chosen.is_used(part) || !self.try_next(&mut others, goal)? {
+            if self.chosen.is_used(element) || !self.try_next(&mut others, goal)? {
                 break;
             }
         }
@@ -371,7 +371,7 @@ fn rule_in(tables: &Tables, state: usize, token: Option<Sym>) -> Option<usize> {
     }
 }
 
-/// Sentences that use all parts of a kind which are found, in a session without tokens.
+/// Sentences that use all elements of a kind which are found, in a session without tokens.
 pub fn choose(alloc: Global, session: &mut Session, kind: Kind) -> io::Result<Chosen> {
     let mut chooser = Chooser::new(alloc, session, kind)?;
     chooser.offer_rules()?;

@@ -12,7 +12,7 @@ use std::rt::Files;
 use ycounterexample::search::Finder;
 use ycounterexample::trial::empty_session;
 use ycover::cells::Cells;
-use ycover::parts::{Kind, Parts};
+use ycover::elements::{Kind, Elements};
 use yexplain::reads::{grammar_of, set};
 use yfaults::opening::Opened;
 use yinput::grammars::{GrammarFile, open_file};
@@ -44,7 +44,7 @@ pub struct Asked<'a> {
     pub near: bool,
     /// The folder in which each list becomes a tokens file.
     pub save: Option<&'a str>,
-    /// Whether a part that isn't found, or a sentence that is refused, makes the status 1.
+    /// Whether an element that isn't found, or a sentence that is refused, makes the status 1.
     pub strict: bool,
 }
 
@@ -101,29 +101,29 @@ fn put_kept<W: Write, F: Files + AllocGlobal + Clone + Drop>(
     Ok(number)
 }
 
-/// The parts that aren't marked yet, which become so.
-fn new_in(alloc: Global, seen: &mut [bool], parts: &[usize]) -> Result<Vec<usize>, AllocError> {
+/// The elements that aren't marked yet, which become so.
+fn new_in(alloc: Global, seen: &mut [bool], elements: &[usize]) -> Result<Vec<usize>, AllocError> {
     let mut new = Vec::new(alloc);
-    for part in parts {
-        if !seen.get(*part).copied().unwrap_or(true) {
-            set(seen, *part, true);
-            new.push(*part)?;
+    for element in elements {
+        if !seen.get(*element).copied().unwrap_or(true) {
+            set(seen, *element, true);
+            new.push(*element)?;
         }
     }
     Ok(new)
 }
 
-/// Writes the parts that no sentence uses, and says how many these are.
+/// Writes the elements that no sentence uses, and says how many these are.
 fn put_unused<W: Write, F: Files + AllocGlobal + Clone + Drop>(
     sheet: &mut Sheet<'_, W, F>,
     chosen: &Chosen,
     kind: Kind,
 ) -> io::Result<usize> {
     let mut count: usize = 0;
-    for (part, used) in chosen.used.iter().enumerate().skip(kind.first()) {
+    for (element, used) in chosen.used.iter().enumerate().skip(kind.first()) {
         if !*used {
-            let missing = chosen.missing.get(part).copied().unwrap_or(Missing::Late);
-            sheet.put_unused(kind, part, missing)?;
+            let missing = chosen.missing.get(element).copied().unwrap_or(Missing::Late);
+            sheet.put_unused(kind, element, missing)?;
             count = count.saturating_add(1);
         }
     }
@@ -160,8 +160,8 @@ fn put_each_drawn<W: Write, F: Files + AllocGlobal + Clone + Drop>(
     sheet: &mut Sheet<'_, W, F>,
     drawn: Drawn,
 ) -> io::Result<Option<usize>> {
-    let (alloc, parts) = (sheet.alloc, sheet.parts);
-    let automaton = parts.tables.automaton();
+    let (alloc, elements) = (sheet.alloc, sheet.elements);
+    let automaton = elements.tables.automaton();
     let finder = Finder::new(alloc, automaton)?;
     let mut numbers = Numbers::new(drawn.seed);
     let mut accepted: usize = 0;
@@ -202,7 +202,7 @@ fn put_drawn<W: Write, F: Files + AllocGlobal + Clone + Drop>(
 fn put_sheet<'a, W: Write, E: Write, F: Files + AllocGlobal + Clone + Drop>(
     rt: &'a F,
     asked: Asked<'a>,
-    parts: Parts<'a>,
+    elements: Elements<'a>,
     out: &'a mut W,
     errors: &mut E,
     chosen: Option<&Chosen>,
@@ -210,10 +210,10 @@ fn put_sheet<'a, W: Write, E: Write, F: Files + AllocGlobal + Clone + Drop>(
     let mut sheet = Sheet {
         alloc: rt.alloc(),
         out,
-        parts,
+        elements,
         folder: folder_of(rt, asked, asked.front()),
         near_folder: folder_of(rt, asked, "near-"),
-        near: asked.near_in(rt.alloc(), parts.tables)?,
+        near: asked.near_in(rt.alloc(), elements.tables)?,
         changed: 0,
         accepted: 0,
     };
@@ -247,12 +247,12 @@ fn put_open<F: Files + AllocGlobal + Clone + Drop, W: Write, E: Write>(
         None => Some(choose(rt.alloc(), &mut session, asked.kind)?),
     };
     let cells = Cells::new(rt.alloc(), session.tables())?;
-    let parts = Parts {
+    let elements = Elements {
         tables: session.tables(),
         lines: &lines,
         cells: &cells,
     };
-    put_sheet(rt, asked, parts, &mut *out, errors, chosen.as_ref())
+    put_sheet(rt, asked, elements, &mut *out, errors, chosen.as_ref())
 }
 
 /// Writes what is asked for, and gives the exit status: 0; 1 where the grammar is refused, or where

@@ -8,7 +8,7 @@ use std::alloc::Global;
 use std::io::{self, Write};
 use std::rt::Files;
 use ycounterexample::budget::ALL_STEPS;
-use ycover::parts::{Kind, Parts};
+use ycover::elements::{Kind, Elements};
 use yexplain::reads::grammar_of;
 use yexplain::text::Name;
 use yinput::language::Input;
@@ -17,7 +17,7 @@ use yparse::Tokens;
 use yreports::saving::Folder;
 use ysymbols::{Grammar, Sym};
 
-/// The most parts that are named which a sentence is the first to use.
+/// The most elements that are named which a sentence is the first to use.
 const MOST_NAMED: usize = 20;
 
 /// What sentences are written with.
@@ -27,8 +27,8 @@ pub struct Sheet<'a, W, F> {
     pub alloc: Global,
     /// Where they go.
     pub out: &'a mut W,
-    /// The parts of the tables.
-    pub parts: Parts<'a>,
+    /// The elements of the tables.
+    pub elements: Elements<'a>,
     /// The folder for sentences.
     pub folder: Folder<'a, F>,
     /// The folder for lists that are near to them.
@@ -86,7 +86,7 @@ fn put_change<W: Write>(
     }
 }
 
-/// Writes why a part wasn't found.
+/// Writes why an element wasn't found.
 fn put_missing<W: Write>(out: &mut W, missing: Missing) -> io::Result<()> {
     match missing {
         Missing::Late => write!(out, "# not found within {ALL_STEPS} steps: "),
@@ -103,17 +103,17 @@ fn put_missing<W: Write>(out: &mut W, missing: Missing) -> io::Result<()> {
     }
 }
 
-/// Writes parts that a sentence is the first to use, as the end of a line.
+/// Writes elements that a sentence is the first to use, as the end of a line.
 fn put_first<W: Write>(
     out: &mut W,
-    parts: Parts<'_>,
+    elements: Elements<'_>,
     kind: Kind,
     new: &[usize],
 ) -> io::Result<()> {
-    for (index, part) in new.iter().take(MOST_NAMED).enumerate() {
+    for (index, element) in new.iter().take(MOST_NAMED).enumerate() {
         let front = if index > 0 { ", " } else { " " };
         write!(out, "{front}")?;
-        parts.put_short(out, kind, *part)?;
+        elements.put_short(out, kind, *element)?;
     }
     match new.len().saturating_sub(MOST_NAMED) {
         0 => writeln!(out),
@@ -139,7 +139,7 @@ impl<W: Write, F: Files + AllocGlobal + Clone + Drop> Sheet<'_, W, F> {
     ) -> io::Result<()> {
         let word = kind.word(new.len());
         write!(self.out, "# sentence {number}, the first to use {word}")?;
-        put_first(self.out, self.parts, kind, new)?;
+        put_first(self.out, self.elements, kind, new)?;
         self.put_list(number, tokens)
     }
 
@@ -152,9 +152,9 @@ impl<W: Write, F: Files + AllocGlobal + Clone + Drop> Sheet<'_, W, F> {
         } else {
             ", one of the grammar that the tables refuse"
         };
-        let parts = self.parts;
+        let elements = self.elements;
         write!(self.out, "# random sentence {number}{words}: ")?;
-        verdict.put_words(self.out, grammar_of(parts.tables))?;
+        verdict.put_words(self.out, grammar_of(elements.tables))?;
         self.put_list(number, tokens)?;
         Ok(is_accepted)
     }
@@ -167,13 +167,13 @@ impl<W: Write, F: Files + AllocGlobal + Clone + Drop> Sheet<'_, W, F> {
             tokens: Tokens { symbols },
             text: None,
         };
-        verdict_on(self.alloc, self.parts.tables, &input)
+        verdict_on(self.alloc, self.elements.tables, &input)
     }
 
     /// Writes a sentence, and the lists that are near to it, where they are wanted.
     fn put_list(&mut self, number: usize, tokens: &[Sym]) -> io::Result<()> {
-        let parts = self.parts;
-        let grammar = grammar_of(parts.tables);
+        let elements = self.elements;
+        let grammar = grammar_of(elements.tables);
         let path = self.folder.store(grammar, (number, 0), tokens, None)?;
         put_saved(self.out, path.as_ref())?;
         put_tokens(self.out, grammar, tokens)?;
@@ -185,17 +185,17 @@ impl<W: Write, F: Files + AllocGlobal + Clone + Drop> Sheet<'_, W, F> {
 
     /// Writes the lists that are near to a sentence.
     fn put_near(&mut self, near: Near, number: usize, tokens: &[Sym]) -> io::Result<()> {
-        let (mut near, parts) = (near, self.parts);
-        let mut part: usize = 0;
+        let (mut near, elements) = (near, self.elements);
+        let mut place: usize = 0;
         near.meet(tokens)?;
         let changes = near.changes(tokens)?;
         for change in &changes {
             let list = change.made(self.alloc, tokens)?;
             if near.meet(&list)? {
-                let grammar = grammar_of(parts.tables);
+                let grammar = grammar_of(elements.tables);
                 put_change(self.out, grammar, tokens.len(), *change)?;
-                self.put_changed((number, part), &list)?;
-                part = part.saturating_add(1);
+                self.put_changed((number, place), &list)?;
+                place = place.saturating_add(1);
             }
         }
         self.near = Some(near);
@@ -204,8 +204,8 @@ impl<W: Write, F: Files + AllocGlobal + Clone + Drop> Sheet<'_, W, F> {
 
     /// Writes the verdict on a list that is near to a sentence, and the list.
     fn put_changed(&mut self, numbers: (usize, usize), list: &[Sym]) -> io::Result<()> {
-        let parts = self.parts;
-        let grammar = grammar_of(parts.tables);
+        let elements = self.elements;
+        let grammar = grammar_of(elements.tables);
         let verdict = self.verdict(list)?;
         self.changed = self.changed.saturating_add(1);
         if let Verdict::Accepted(_) = verdict {
@@ -217,10 +217,10 @@ impl<W: Write, F: Files + AllocGlobal + Clone + Drop> Sheet<'_, W, F> {
         put_tokens(self.out, grammar, list)
     }
 
-    /// Writes a part that no sentence uses, and why.
-    pub fn put_unused(&mut self, kind: Kind, part: usize, missing: Missing) -> io::Result<()> {
+    /// Writes an element that no sentence uses, and why.
+    pub fn put_unused(&mut self, kind: Kind, element: usize, missing: Missing) -> io::Result<()> {
         put_missing(self.out, missing)?;
-        self.parts.put_line(self.out, kind, part)
+        self.elements.put_line(self.out, kind, element)
     }
 
     /// Writes how many lists that are near are accepted, as the end of a line.

@@ -5,24 +5,48 @@ use std::alloc::{AllocError, Global};
 use std::io::{self, ErrorKind};
 use ycounterexample::trial::{go_back, put_all};
 use ycover::cells::Cells;
-use ycover::parts::Kind;
+use ycover::elements::Kind;
 use ycover::steps::{Made, step};
 use yexplain::reads::grammar_of;
 use yparse::Session;
-use yparse::machine::{Mode, StepFault, StepKind};
+use yparse::machine::{StepFault, StepKind};
 use ysymbols::Sym;
 use yview::reading::stack_state;
 
-/// The most steps of a parse over a list.
+/// The most steps of a parse over a list, and the most of them without a shift in a row.
 const MOST_STEPS: usize = 100_000;
 
-/// What a list uses: each part once, in the order of its steps.
+const MOST_IN_A_ROW: usize = 10_000;
+
+/// What a list uses: each element once, in the order of its steps.
 #[derive(Drop)]
 pub struct Used {
-    /// Parts of the kind that is wanted.
-    pub parts: Vec<usize>,
+    /// Elements of the kind that is wanted.
+    pub elements: Vec<usize>,
     /// Rules.
     pub rules: Vec<usize>,
+}
+
+/// Steps without a shift in a row.
+#[derive(Clone, Copy)]
+struct Row {
+    count: usize,
+}
+
+impl Row {
+    /// None yet.
+    fn new() -> Row {
+        Row { count: 0 }
+    }
+
+    /// Counts a step, and says whether there aren't too many.
+    fn is_short(&mut self, kind: StepKind) -> bool {
+        self.count = match kind {
+            StepKind::Shift(_) => 0,
+            _ => self.count.saturating_add(1),
+        };
+        self.count < MOST_IN_A_ROW
+    }
 }
 
 /// For each number, the trial in which it was met last.
@@ -60,14 +84,14 @@ pub struct Trier<'a> {
     /// The filled cells of its tables.
     pub cells: Cells,
     kind: Kind,
-    parts: Met,
+    elements: Met,
     rules: Met,
     round: usize,
     /// How many steps were made.
     steps: usize,
 }
 
-/// How many parts of a kind there are.
+/// How many elements of a kind there are.
 fn count_of(session: &Session, cells: &Cells, kind: Kind) -> usize {
     match kind {
         Kind::Rules => grammar_of(session.tables()).rules(),
@@ -76,8 +100,8 @@ fn count_of(session: &Session, cells: &Cells, kind: Kind) -> usize {
     }
 }
 
-/// The part of a kind that a step uses, where it uses one.
-fn part_of(kind: Kind, made: Made) -> Option<usize> {
+/// The element of a kind that a step uses, where it uses one.
+fn element_of(kind: Kind, made: Made) -> Option<usize> {
     match (kind, made.kind) {
         (Kind::Rules, StepKind::Reduce(rule)) => Some(rule),
         (Kind::Rules, _) => None,
@@ -87,30 +111,30 @@ fn part_of(kind: Kind, made: Made) -> Option<usize> {
 }
 
 impl<'a> Trier<'a> {
-    /// What tries lists for parts of this kind.
+    /// What tries lists for elements of this kind.
     pub fn new(
         alloc: Global,
         session: &'a mut Session,
         kind: Kind,
     ) -> Result<Trier<'a>, AllocError> {
         let cells = Cells::new(alloc, session.tables())?;
-        let parts = count_of(session, &cells, kind);
+        let elements = count_of(session, &cells, kind);
         let rules = grammar_of(session.tables()).rules();
         Ok(Trier {
             alloc,
             session,
             cells,
             kind,
-            parts: Met::new(alloc, parts)?,
+            elements: Met::new(alloc, elements)?,
             rules: Met::new(alloc, rules)?,
             round: 0,
             steps: 0,
         })
     }
 
-    /// How many parts of the kind there are.
+    /// How many elements of the kind there are.
     pub fn count(&self) -> usize {
-        self.parts.rounds.len()
+        self.elements.rounds.len()
     }
 
     /// How many steps were made.
@@ -121,7 +145,7 @@ impl<'a> Trier<'a> {
     /// What a list uses, where it is accepted. The session is left at its start.
     pub fn uses(&mut self, tokens: &[Sym]) -> io::Result<Option<Used>> {
         let mut used = Used {
-            parts: Vec::new(self.alloc),
+            elements: Vec::new(self.alloc),
             rules: Vec::new(self.alloc),
         };
         self.round = self.round.saturating_add(1);
@@ -138,11 +162,12 @@ impl<'a> Trier<'a> {
         if self.kind == Kind::States {
             self.add(0, used)?;
         }
+        let mut row = Row::new();
         for _ in 0..MOST_STEPS {
             match self.go(used)? {
                 Some(StepKind::Accept) => return Ok(true),
-                Some(StepKind::Detect) | None => return Ok(false),
-                Some(_) => {}
+                Some(kind) if kind != StepKind::Detect && row.is_short(kind) => {}
+                _ => break,
             }
         }
         Ok(false)
@@ -167,16 +192,16 @@ impl<'a> Trier<'a> {
                 used.rules.push(rule)?;
             }
         }
-        match part_of(self.kind, made) {
-            Some(part) => self.add(part, used),
+        match element_of(self.kind, made) {
+            Some(element) => self.add(element, used),
             None => Ok(()),
         }
     }
 
-    /// Adds a part, where it is new.
-    fn add(&mut self, part: usize, used: &mut Used) -> Result<(), AllocError> {
-        if self.parts.is_new(part, self.round) {
-            used.parts.push(part)?;
+    /// Adds an element, where it is new.
+    fn add(&mut self, element: usize, used: &mut Used) -> Result<(), AllocError> {
+        if self.elements.is_new(element, self.round) {
+            used.elements.push(element)?;
         }
         Ok(())
     }
@@ -195,22 +220,24 @@ impl<'a> Trier<'a> {
         if !put_all(self.session, tokens)? {
             return Ok(None);
         }
+        let mut row = Row::new();
         for _ in 0..MOST_STEPS {
             if self.session.view().rest_len() == 0 {
                 return Ok(Some(states_of(self.alloc, self.session)?));
             }
-            if !self.goes_on()? {
+            if !self.goes_on(&mut row)? {
                 break;
             }
         }
         Ok(None)
     }
 
-    /// Makes a step, and says whether one could be made that detects no error.
-    fn goes_on(&mut self) -> io::Result<bool> {
+    /// Makes a step, and says whether one could be made that detects no error, and not too many
+    /// without a shift.
+    fn goes_on(&mut self, row: &mut Row) -> io::Result<bool> {
         self.steps = self.steps.saturating_add(1);
         match self.session.step() {
-            Ok(_) => Ok(self.session.view().mode() == Mode::Running),
+            Ok(kind) => Ok(kind != StepKind::Detect && row.is_short(kind)),
             Err(StepFault::Memory) => Err(io::Error::from(ErrorKind::OutOfMemory)),
             Err(_) => Ok(false),
         }

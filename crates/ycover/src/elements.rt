@@ -48,9 +48,9 @@ impl Kind {
     }
 }
 
-/// The parts of tables, as they are written.
+/// The elements of tables, as they are written.
 #[derive(Clone, Copy)]
-pub struct Parts<'a> {
+pub struct Elements<'a> {
     /// The tables.
     pub tables: &'a Tables,
     /// Where rules stand in the grammar's file.
@@ -59,8 +59,9 @@ pub struct Parts<'a> {
     pub cells: &'a Cells,
 }
 
-impl Parts<'_> {
-    /// Writes a part as one of a list of its kind: its number; of a cell the state and the token.
+impl Elements<'_> {
+    /// Writes an element as one of a list of its kind: its number, or the state and the token of a
+    /// cell.
     pub fn put_short<W: Write>(self, out: &mut W, kind: Kind, number: usize) -> io::Result<()> {
         match self.cells.at(number) {
             Some(cell) if kind == Kind::Cells => self.put_place(out, cell),
@@ -80,7 +81,7 @@ impl Parts<'_> {
         }
     }
 
-    /// Writes a part with what it is, up to the end of a line.
+    /// Writes an element with what it is, up to the end of a line.
     pub fn put_line<W: Write>(self, out: &mut W, kind: Kind, number: usize) -> io::Result<()> {
         match (kind, self.cells.at(number)) {
             (Kind::Rules, _) => self.put_rule(out, number),
@@ -97,9 +98,10 @@ impl Parts<'_> {
         writeln!(out, "{numbered}  {text}")
     }
 
-    /// Writes a state with its first item.
+    /// Writes a state with its first item that has begun, or else its first one.
     fn put_state<W: Write>(self, out: &mut W, state: usize) -> io::Result<()> {
-        match items_of(self.tables.automaton(), state).first() {
+        let items = items_of(self.tables.automaton(), state);
+        match items.iter().find(|item| item.dot > 0).or(items.first()) {
             Some(item) => {
                 let text = ItemText(grammar_of(self.tables), *item);
                 writeln!(out, "state {state}  {text}")
@@ -111,7 +113,7 @@ impl Parts<'_> {
     /// Writes a cell with what it says.
     fn put_cell_line<W: Write>(self, out: &mut W, cell: Cell) -> io::Result<()> {
         let state = cell.state;
-        let Parts { tables, lines, .. } = self;
+        let Elements { tables, lines, .. } = self;
         match (cell.token(), default_of(tables, state)) {
             (Some(token), _) => put_cell(
                 out,
