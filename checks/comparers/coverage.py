@@ -3,12 +3,12 @@
     coverage [ydebug=PATH] [--seconds N] [--seed N]
 
 Each sentence must be derived by the grammar, as Earley's algorithm says, and accepted by tables of
-canonical LR(1) sets that are joined; what it is the first to use, what none uses and the counts must
-be those of its steps there, and each sentence must use something that no other does. What is said of
-lists that are near to sentences, and of sentences drawn at random, must be what the tables say. Where
-no cell has a choice, all must be found that needs no `error`; elsewhere, what is said not to be
-possible must not be met by a search over stacks. Of all these lists `cover` must say what they use.
-The first difference ends the run. The last line is `N passed, M failed`: grammars.
+canonical LR(1) sets that are joined; what it is the first to use, what none uses and the counts
+must be those of its steps there, and each sentence must use something that no other does. What is
+said of lists that are near to sentences, and of sentences drawn at random, must be what the tables
+say. Where no cell has a choice, all must be found that needs no `error`; elsewhere, what is said
+not to be possible must not be met by a search over stacks. Of all these lists `cover` must say what
+they use. The first difference ends the run. The last line is `N passed, M failed`: grammars.
 """
 import random
 import re
@@ -21,10 +21,11 @@ from checks.shared.arguments import asked
 from checks.shared.earley import derives
 from checks.shared.grammars import END, ERROR, productive
 from checks.shared.running import ran, turns
+from checks.shared.sentences import reached
 from checks.shared.tally import Tally
 
 KINDS = {"rules": "rules", "states": "states", "actions": "cells"}
-MOST_STEPS, MOST_STACKS, MOST_TOKENS, MOST_NAMED = 100_000, 2_000, 7, 20
+MOST_STEPS, MOST_STACKS, MOST_TOKENS, MOST_NAMED = 20_000, 2_000, 7, 20
 
 
 class Uses:
@@ -60,8 +61,14 @@ class Machine:
             return list(range(1, len(self.grammar.rules)))
         if kind == "states":
             return list(self.tables.states)
-        cells = ((it, token) for it in self.tables.states for token in self.tables.cells[it])
+        rows = ((state, self.tables.cells[state]) for state in self.tables.states)
+        cells = ((state, it) for state, row in rows for it in row if self.is_used(state, it))
         return sorted({self.cell(*it) for it in cells})
+
+    def is_used(self, state, token):
+        """Whether a parse can look up a cell: `error` is never ahead, and is only shifted."""
+        action = self.tables.action(state, token)
+        return token != ERROR or state in self.tables.defaults or action[0] == "s"
 
     def turn(self, stack, token, uses):
         """Makes the step of a parse that runs, and says which; none at an error."""
@@ -115,6 +122,7 @@ class Machine:
     def found(self):
         """What sentences use that a search over stacks meets, the shortest first."""
         found, waiting, met = Uses(), [((0,), Uses(), 0)], 0
+        found.states.clear()
         while waiting and met < MOST_STACKS:
             stack, uses, count = waiting.pop(0)
             met += 1
@@ -141,6 +149,21 @@ class Machine:
                 if len(rules) + (token in before) > 1:
                     return True
         return False
+
+    def is_endless(self):
+        """Whether a parse may go on without an end: where a nonterminal derives itself alone, or
+        begins with itself behind something that vanishes."""
+        nullable, alone, first, hidden = self.checked.canonical.nullable, {}, {}, []
+        for left, body in ((rule.left, rule.body) for rule in self.grammar.rules[1:]):
+            for at, symbol in enumerate(body):
+                if nullable.issuperset(body[:at]):
+                    first.setdefault(left, set()).add(symbol)
+                    hidden += [(left, symbol)] if at else []
+                if nullable.issuperset(body[:at] + body[at + 1 :]):
+                    alone.setdefault(left, set()).add(symbol)
+        alone, first = reached(alone), reached(first)
+        loops = any(left in found for left, found in alone.items())
+        return loops or any(left in first.get(it, ()) for left, it in hidden)
 
     def names(self, tokens):
         """Tokens as they are written."""
@@ -333,8 +356,9 @@ def wrong_random(machine, text, length):
         verdict = verdict_on(machine, tokens)
         is_good = verdict.startswith("accepted")
         accepted += is_good
-        if not before.startswith(f"# random sentence {number}{'' if is_good else REFUSED}: {verdict}"):
-            return f"{verdict} for {before}"
+        words = f"# random sentence {number}{'' if is_good else REFUSED}: {verdict}"
+        if not before.startswith(words):
+            return f"{words} for {before}"
         if not derives(machine.grammar, tokens) or len(tokens) > max(length, least):
             return f"no sentence: {machine.names(tokens)}"
     end = f"# {accepted} of {len(sentences)} random sentences accepted"
@@ -376,13 +400,15 @@ def wrong_cover(machine, lists, text):
     return f"more lines: {rest}" if rest else None
 
 
-def commands(rng):
-    """The words of `ydebug sentences` for each form, and what looks at what it writes."""
+def commands(rng, is_endless):
+    """The words of `ydebug sentences` for each form, and what looks at what it writes. Where parses
+    have no end, there are few of them, since each takes a while."""
     for word, kind in KINDS.items():
-        near = ["--near"] if rng.random() < 0.5 else []
+        near = ["--near"] if rng.random() < 0.5 and not is_endless else []
         yield ["--cover", word, *near], lambda it, text, kind=kind: differences(it, kind, text)
     length, seed = rng.choice([1, 5, 20, 60]), rng.randint(0, 10**9)
-    words = ["--random", "10", "--length", str(length), "--seed", str(seed), "--near"]
+    count, near = ("2", []) if is_endless else ("10", ["--near"])
+    words = ["--random", count, "--length", str(length), "--seed", str(seed), *near]
     yield words, lambda it, text: wrong_random(it, text, length)
 
 
@@ -391,17 +417,17 @@ def compared(ydebug, room, rng, counts):
     grammar, lists = productive(rng), []
     machine = Machine(grammar)
     (Path(room) / "grammar.y").write_text(grammar.text)
-    for words, look in commands(rng):
+    for words, look in commands(rng, machine.is_endless()):
         made = ran([ydebug, "sentences", "grammar.y", *words], room)
         wrong = look(machine, made.stdout) if made.stdout else "nothing is written"
         if wrong or made.returncode:
             return [f"{grammar.text}{words}: {wrong}\n{made.stderr}"]
         counts.update(counts_of(made.stdout))
         lists += [tokens for _, tokens in Said(machine, made.stdout).lists]
-    lists = rng.sample(lists, min(len(lists), 8))
+    lists = rng.sample(lists, min(len(lists), 8)) or [[]]
     for at, tokens in enumerate(lists):
         (Path(room) / f"{at}").write_text(machine.names(tokens) + "\n")
-    files = [str(at) for at in range(len(lists))] or ["/dev/null"]
+    files = [str(at) for at in range(len(lists))]
     made = ran([ydebug, "cover", "grammar.y", *files], room)
     wrong = wrong_cover(machine, lists, made.stdout)
     return [f"{grammar.text}cover: {wrong}\n{made.stderr}"] if wrong or made.returncode else []

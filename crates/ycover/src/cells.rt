@@ -2,14 +2,15 @@
 
 use std::alloc::{AllocError, Global};
 use yexplain::reads::{action_of, default_of, grammar_of};
-use ylalr::token_count;
+use ylalr::{ERROR, token_count};
 use ysymbols::Sym;
 use ytables::{Action, Tables};
 
 /// Stands for every token, in a state with a default rule.
 const EVERY: Sym = usize::MAX;
 
-/// A filled cell, which is a line `a` or `d` of a table: a state and a token.
+/// A filled cell, which is a line `a` or `d` of a table, unless it reduces at `error`: a state and a
+/// token.
 #[derive(Clone, Copy, Drop, PartialEq, Eq)]
 pub struct Cell {
     /// The state.
@@ -35,6 +36,16 @@ pub struct Cells {
     cells: Vec<Cell>,
     /// How many cells stand before those of each state, and how many there are.
     starts: Vec<usize>,
+}
+
+/// Whether something is done in the cell of a token. No parse has `error` ahead, which is only
+/// shifted.
+fn is_filled(token: Sym, action: Action) -> bool {
+    match action {
+        Action::Shift(_) => true,
+        Action::Reduce(_) | Action::Accept => token != ERROR,
+        Action::Error => false,
+    }
 }
 
 impl Cells {
@@ -67,7 +78,7 @@ impl Cells {
             return Ok(());
         }
         for token in 0..token_count(grammar_of(tables)) {
-            if !matches!(action_of(tables, state, token), Action::Error) {
+            if is_filled(token, action_of(tables, state, token)) {
                 self.cells.push(Cell { state, token })?;
             }
         }

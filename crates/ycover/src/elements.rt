@@ -6,6 +6,7 @@ use yexplain::lines::Lines;
 use yexplain::reads::{default_of, grammar_of, items_of};
 use yexplain::text::{ItemText, Name, Numbered, RuleText};
 use yexplain::why::{Question, put_cell};
+use ylalr::Item;
 use ytables::Tables;
 
 /// A kind of what tables have.
@@ -59,6 +60,17 @@ pub struct Elements<'a> {
     pub cells: &'a Cells,
 }
 
+/// The first of the items that have the most symbols before their dots.
+fn furthest(items: &[Item]) -> Option<Item> {
+    let mut found: Option<Item> = None;
+    for item in items {
+        if found.map_or(true, |other| other.dot < item.dot) {
+            found = Some(*item);
+        }
+    }
+    found
+}
+
 impl Elements<'_> {
     /// Writes an element as one of a list of its kind: its number, or the state and the token of a
     /// cell.
@@ -98,12 +110,11 @@ impl Elements<'_> {
         writeln!(out, "{numbered}  {text}")
     }
 
-    /// Writes a state with its first item that has begun, or else its first one.
+    /// Writes a state with one of its items.
     fn put_state<W: Write>(self, out: &mut W, state: usize) -> io::Result<()> {
-        let items = items_of(self.tables.automaton(), state);
-        match items.iter().find(|item| item.dot > 0).or(items.first()) {
+        match furthest(items_of(self.tables.automaton(), state)) {
             Some(item) => {
-                let text = ItemText(grammar_of(self.tables), *item);
+                let text = ItemText(grammar_of(self.tables), item);
                 writeln!(out, "state {state}  {text}")
             }
             None => writeln!(out, "state {state}"),

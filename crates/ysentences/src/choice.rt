@@ -128,11 +128,7 @@ impl Chosen {
             lengths.push((sentence.tokens.len(), place))?;
         }
         lengths.sort_by_key(|length| *length)?;
-        let mut order = Vec::new(alloc);
-        for (_, place) in &lengths {
-            order.push(*place)?;
-        }
-        Ok(order)
+        lengths.iter().map(|(_, place)| *place).collect(alloc)
     }
 }
 
@@ -270,11 +266,17 @@ impl<'a> Chooser<'a> {
     fn seek_rules(&mut self) -> io::Result<()> {
         let goals = self.goals_of_rules()?;
         for rule in 1..self.trier.count() {
-            for goal in goals.of(rule) {
-                self.seek(*goal, rule)?;
-            }
-            self.judge(rule, goals.of(rule).is_empty());
+            self.seek_rule(rule, goals.of(rule))?;
         }
+        Ok(())
+    }
+
+    /// Seeks a sentence that comes to one of these cells, which reduce by a rule.
+    fn seek_rule(&mut self, rule: usize, goals: &[Goal]) -> io::Result<()> {
+        for goal in goals {
+            self.seek(*goal, rule)?;
+        }
+        self.judge(rule, goals.is_empty());
         Ok(())
     }
 

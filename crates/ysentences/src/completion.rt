@@ -190,8 +190,8 @@ impl Completer {
         Ok(())
     }
 
-    /// The symbols of all rests up to a node, the end left out.
-    fn end_by(&self, grammar: &Grammar, number: usize) -> Result<Vec<Sym>, AllocError> {
+    /// The rests up to a node, the last one first.
+    fn rests(&self, number: usize) -> Result<Vec<Item>, AllocError> {
         let (mut rests, mut at) = (Vec::new(self.alloc), Some(number));
         for _ in 0..self.nodes.len() {
             let Some(node) = at.and_then(|number| self.nodes.get(number)) else {
@@ -200,7 +200,12 @@ impl Completer {
             rests.push(node.rest)?;
             at = node.before;
         }
-        let mut symbols = Vec::new(self.alloc);
+        Ok(rests)
+    }
+
+    /// The symbols of all rests up to a node, the end left out.
+    fn end_by(&self, grammar: &Grammar, number: usize) -> Result<Vec<Sym>, AllocError> {
+        let (rests, mut symbols) = (self.rests(number)?, Vec::new(self.alloc));
         for rest in rests.iter().rev() {
             symbols.extend_from_slice(rest_of(grammar, *rest))?;
         }

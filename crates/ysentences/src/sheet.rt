@@ -140,22 +140,27 @@ impl<W: Write, F: Files + AllocGlobal + Clone + Drop> Sheet<'_, W, F> {
         let word = kind.word(new.len());
         write!(self.out, "# sentence {number}, the first to use {word}")?;
         put_first(self.out, self.elements, kind, new)?;
-        self.put_list(number, tokens)
+        self.put_list(number, tokens)?;
+        self.put_near(number, tokens)
     }
 
-    /// Writes a sentence that was drawn, with its verdict, and says whether it is accepted.
+    /// Writes a sentence that was drawn, with its verdict, and says whether it is accepted. Without a
+    /// verdict there are no lists near to it.
     pub fn put_drawn(&mut self, number: usize, tokens: &[Sym]) -> io::Result<bool> {
-        let verdict = self.verdict(tokens)?;
+        let (verdict, elements) = (self.verdict(tokens)?, self.elements);
         let is_accepted = matches!(verdict, Verdict::Accepted(_));
         let words = if is_accepted {
             ""
         } else {
             ", one of the grammar that the tables refuse"
         };
-        let elements = self.elements;
         write!(self.out, "# random sentence {number}{words}: ")?;
         verdict.put_words(self.out, grammar_of(elements.tables))?;
         self.put_list(number, tokens)?;
+        match verdict {
+            Verdict::Undecided => {}
+            _ => self.put_near(number, tokens)?,
+        }
         Ok(is_accepted)
     }
 
@@ -170,21 +175,25 @@ impl<W: Write, F: Files + AllocGlobal + Clone + Drop> Sheet<'_, W, F> {
         verdict_on(self.alloc, self.elements.tables, &input)
     }
 
-    /// Writes a sentence, and the lists that are near to it, where they are wanted.
+    /// Writes a sentence, and where it is kept.
     fn put_list(&mut self, number: usize, tokens: &[Sym]) -> io::Result<()> {
         let elements = self.elements;
         let grammar = grammar_of(elements.tables);
         let path = self.folder.store(grammar, (number, 0), tokens, None)?;
         put_saved(self.out, path.as_ref())?;
-        put_tokens(self.out, grammar, tokens)?;
+        put_tokens(self.out, grammar, tokens)
+    }
+
+    /// Writes the lists that are near to a sentence, where they are wanted.
+    fn put_near(&mut self, number: usize, tokens: &[Sym]) -> io::Result<()> {
         match self.near.take() {
-            Some(near) => self.put_near(near, number, tokens),
+            Some(near) => self.put_changes(near, number, tokens),
             None => Ok(()),
         }
     }
 
     /// Writes the lists that are near to a sentence.
-    fn put_near(&mut self, near: Near, number: usize, tokens: &[Sym]) -> io::Result<()> {
+    fn put_changes(&mut self, near: Near, number: usize, tokens: &[Sym]) -> io::Result<()> {
         let (mut near, elements) = (near, self.elements);
         let mut place: usize = 0;
         near.meet(tokens)?;

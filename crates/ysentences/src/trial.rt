@@ -13,10 +13,13 @@ use yparse::machine::{StepFault, StepKind};
 use ysymbols::Sym;
 use yview::reading::stack_state;
 
-/// The most steps of a parse over a list, and the most of them without a shift in a row.
+/// The most steps of a parse over a list.
 const MOST_STEPS: usize = 100_000;
 
-const MOST_IN_A_ROW: usize = 10_000;
+/// The most of them without a shift in a row: so many for each token, one for each rule, and these.
+const MOST_FOR_A_TOKEN: usize = 20;
+
+const MOST_IN_A_ROW: usize = 1_000;
 
 /// What a list uses: each element once, in the order of its steps.
 #[derive(Drop)]
@@ -27,16 +30,21 @@ pub struct Used {
     pub rules: Vec<usize>,
 }
 
-/// Steps without a shift in a row.
+/// How many steps without a shift in a row were made, and how many may be.
 #[derive(Clone, Copy)]
 struct Row {
     count: usize,
+    most: usize,
 }
 
 impl Row {
-    /// None yet.
-    fn new() -> Row {
-        Row { count: 0 }
+    /// None yet, in a parse over so many tokens by so many rules.
+    fn new(tokens: usize, rules: usize) -> Row {
+        let most = tokens.saturating_mul(MOST_FOR_A_TOKEN);
+        Row {
+            count: 0,
+            most: most.saturating_add(rules).saturating_add(MOST_IN_A_ROW),
+        }
     }
 
     /// Counts a step, and says whether there aren't too many.
@@ -45,7 +53,7 @@ impl Row {
             StepKind::Shift(_) => 0,
             _ => self.count.saturating_add(1),
         };
-        self.count < MOST_IN_A_ROW
+        self.count < self.most
     }
 }
 
@@ -162,7 +170,7 @@ impl<'a> Trier<'a> {
         if self.kind == Kind::States {
             self.add(0, used)?;
         }
-        let mut row = Row::new();
+        let mut row = Row::new(tokens.len(), self.rules.rounds.len());
         for _ in 0..MOST_STEPS {
             match self.go(used)? {
                 Some(StepKind::Accept) => return Ok(true),
@@ -220,7 +228,7 @@ impl<'a> Trier<'a> {
         if !put_all(self.session, tokens)? {
             return Ok(None);
         }
-        let mut row = Row::new();
+        let mut row = Row::new(tokens.len(), self.rules.rounds.len());
         for _ in 0..MOST_STEPS {
             if self.session.view().rest_len() == 0 {
                 return Ok(Some(states_of(self.alloc, self.session)?));
