@@ -17,7 +17,7 @@ const ALL_FOR_SEVERAL: usize = 1_000_000;
 
 /// How many steps of all kinds a run may take: spots that are met, states and items that are looked
 /// at for them, symbols of forms, steps of trials.
-const ALL_STEPS: usize = 16_000_000;
+pub const ALL_STEPS: usize = 16_000_000;
 
 /// With so few steps left no further search is begun.
 const TOO_FEW_STEPS: usize = 1_000_000;

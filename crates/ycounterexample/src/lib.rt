@@ -2,18 +2,20 @@
 //! each is tried in a session.
 //!
 //! `groups` has the conflicts by their kinds, `search` the search for a list, `trial` a list in a
-//! session, and `finding` the lists that pass.
+//! session, `others` further lists for one cell, and `finding` the lists that pass. `costs` has the
+//! shortest sentences of symbols, `lists` lists by number, `queue` what waits with its length, and
+//! `budget` how many steps all searches of a run may take.
 #![tactic(auto)]
 
-mod budget;
-mod costs;
+pub mod budget;
+pub mod costs;
 pub mod finding;
 pub mod groups;
-mod lists;
+pub mod lists;
 mod moves;
 mod needs;
-mod others;
-mod queue;
+pub mod others;
+pub mod queue;
 pub mod search;
 pub mod sentences;
 pub mod trial;

@@ -84,7 +84,7 @@ fn put(session: &mut Session, token: Sym) -> io::Result<bool> {
 }
 
 /// Puts tokens before the upcoming ones, and says whether an input can have them.
-fn put_all(session: &mut Session, tokens: &[Sym]) -> io::Result<bool> {
+pub fn put_all(session: &mut Session, tokens: &[Sym]) -> io::Result<bool> {
     for token in tokens.iter().rev() {
         if *token == ERROR || !put(session, *token)? {
             return Ok(false);
@@ -124,7 +124,7 @@ fn go(session: &mut Session, goal: Goal) -> io::Result<Trial> {
 }
 
 /// All the way back.
-fn go_back(session: &mut Session) {
+pub fn go_back(session: &mut Session) {
     for _ in 0..session.position() {
         let _ = session.back();
     }

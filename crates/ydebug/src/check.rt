@@ -23,6 +23,19 @@ pub struct Asked<'a> {
     pub most: u64,
 }
 
+/// All bytes of a file, or of standard input where the path is a dash; `None` where there are
+/// more than it may have.
+pub fn bytes_of<F: Files + AllocGlobal, R: Read>(
+    rt: &F,
+    input: &mut R,
+    file: Limited<'_>,
+) -> io::Result<Option<Vec<u8>>> {
+    match file.path {
+        "-" => all_bytes(rt.alloc(), input, file.most),
+        _ => file.bytes(rt),
+    }
+}
+
 impl Asked<'_> {
     /// Writes whether the grammar has choices, where that is wanted.
     fn put_choice<W: Write>(self, out: &mut W, language: &Language) -> io::Result<()> {
@@ -48,11 +61,7 @@ impl Asked<'_> {
     ) -> io::Result<u8> {
         let most = self.most;
         let file = Limited { path, most };
-        let read = match path {
-            "-" => all_bytes(rt.alloc(), stdin, most),
-            _ => file.bytes(rt),
-        };
-        match language.input_of(rt.alloc(), file, read)? {
+        match language.input_of(rt.alloc(), file, bytes_of(rt, stdin, file))? {
             Ok(input) => {
                 let tables = &language.opened.tables;
                 let verdict = verdict_on(rt.alloc(), tables, &input)?;

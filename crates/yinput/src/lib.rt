@@ -18,4 +18,4 @@ pub mod text;
 pub mod verdict;
 pub mod verdict_text;
 
-pub use parse::Parse;
+pub use parse::{Parse, session_of};

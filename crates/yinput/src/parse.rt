@@ -32,7 +32,7 @@ impl Drop for Parse {
 }
 
 /// A session over tokens; `None` where one of them is no token of the tables.
-fn session_of(alloc: Global, tables: Tables, tokens: Tokens) -> Option<Session> {
+pub fn session_of(alloc: Global, tables: Tables, tokens: Tokens) -> Option<Session> {
     if tokens.fits(&tables) {
         Some(Session::new(alloc, tables, tokens))
     } else {

@@ -29,12 +29,23 @@ impl Verdict {
         input: &Input,
     ) -> io::Result<u8> {
         let written = match self {
-            Verdict::Accepted(steps) => writeln!(out, "{path}: accepted after {steps} steps"),
             Verdict::Rejected(rejection) => rejection.put(out, grammar, path, input),
-            Verdict::Undecided => writeln!(out, "{path}: undecided after 1,000,000 steps"),
+            _ => {
+                write!(out, "{path}: ")?;
+                self.put_words(out, grammar)
+            }
         };
         written?;
         Ok(self.status())
+    }
+
+    /// Writes it in one line for people, without a path.
+    pub fn put_words<W: Write>(&self, out: &mut W, grammar: &Grammar) -> io::Result<()> {
+        match self {
+            Verdict::Accepted(steps) => writeln!(out, "accepted after {steps} steps"),
+            Verdict::Rejected(rejection) => rejection.put_words(out, grammar),
+            Verdict::Undecided => writeln!(out, "undecided after 1,000,000 steps"),
+        }
     }
 
     /// Writes it as a plain line, and gives the exit status.
@@ -114,6 +125,13 @@ impl Rejection {
         put_wanted(out, grammar, &self.wanted)
     }
 
+    /// Writes so with the number of the token.
+    fn put_words<W: Write>(&self, out: &mut W, grammar: &Grammar) -> io::Result<()> {
+        let number = self.number;
+        write!(out, "rejected at token {number}: ")?;
+        self.put_token(out, grammar)
+    }
+
     /// Writes so at its place in a text, with the line there, or of a tokens file with the tokens
     /// before it.
     fn put<W: Write>(
@@ -129,9 +147,9 @@ impl Rejection {
             self.put_token(out, grammar)?;
             return place.put_text(out, true);
         }
-        let (number, tokens) = (self.number, &input.tokens.symbols);
-        write!(out, "{path}: rejected at token {number}: ")?;
-        self.put_token(out, grammar)?;
+        let tokens = &input.tokens.symbols;
+        write!(out, "{path}: ")?;
+        self.put_words(out, grammar)?;
         put_before(out, grammar, tokens.get(..self.before()).unwrap_or(tokens))
     }
 }

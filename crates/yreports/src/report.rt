@@ -161,6 +161,17 @@ impl<W: Write, F: Files + AllocGlobal + Clone + Drop> Report<'_, W, F> {
     }
 }
 
+/// Writes what couldn't be written, where there is something, and gives the exit status.
+pub fn put_failed<E: Write>(errors: &mut E, failed: Option<&String>, status: u8) -> io::Result<u8> {
+    match failed {
+        Some(path) => {
+            writeln!(errors, "ydebug: cannot write {path}")?;
+            Ok(3)
+        }
+        None => Ok(status),
+    }
+}
+
 /// Writes the conflicts of a grammar, with lists of tokens, and says which file couldn't be
 /// written, if one couldn't.
 fn put_lists<'a, W: Write, F: Files + AllocGlobal + Clone + Drop>(
@@ -179,6 +190,7 @@ fn put_lists<'a, W: Write, F: Files + AllocGlobal + Clone + Drop>(
             rt,
             path: asked.save,
             grammar: asked.grammar,
+            name: ("conflict-", ""),
             failed: None,
         },
     };
@@ -216,12 +228,8 @@ fn put_both<W: Write, E: Write, F: Files + AllocGlobal + Clone + Drop>(
     let failed = put_lists(rt, &mut *page, asked, session, lines, found)?;
     let warnings = put_warnings(&mut *page, rt.alloc(), session.tables(), lines)?;
     page.checked()?;
-    if let Some(path) = failed {
-        writeln!(errors, "ydebug: cannot write {path}")?;
-        return Ok(3);
-    }
     let is_bad = found.cells > 0 || warnings > 0;
-    Ok(if asked.strict && is_bad { 1 } else { 0 })
+    put_failed(errors, failed.as_ref(), if asked.strict && is_bad { 1 } else { 0 })
 }
 
 /// Writes the conflicts and the warnings of a grammar that is open, and gives the exit status: 0;

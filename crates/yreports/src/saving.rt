@@ -19,6 +19,8 @@ pub struct Folder<'a, F> {
     pub path: Option<&'a str>,
     /// The path of the grammar file, which is neither removed nor written over.
     pub grammar: &'a str,
+    /// What stands before and after the numbers in the names of the files.
+    pub name: (&'a str, &'a str),
     /// What couldn't be written; nothing is kept after that.
     pub failed: Option<String>,
 }
@@ -46,14 +48,18 @@ fn is_written(written: io::Result<()>) -> io::Result<bool> {
     }
 }
 
-/// The path of a list of a conflict in a folder.
-fn path_of(alloc: Global, folder: &str, name: (usize, usize)) -> io::Result<String> {
-    let (number, part) = name;
+/// The path of a list in a folder, by what stands before and after the numbers in its name.
+fn path_of(
+    alloc: Global,
+    folder: &str,
+    (front, end): (&str, &str),
+    (number, part): (usize, usize),
+) -> io::Result<String> {
     let path = if part == 0 {
-        format!(in alloc; "{folder}/conflict-{number}")?
+        format!(in alloc; "{folder}/{front}{number}{end}")?
     } else {
         let part = part.saturating_add(1);
-        format!(in alloc; "{folder}/conflict-{number}-{part}")?
+        format!(in alloc; "{folder}/{front}{number}-{part}{end}")?
     };
     Ok(path)
 }
@@ -64,8 +70,9 @@ fn is_number(text: &str) -> bool {
 }
 
 /// Whether a file's name is one that `path_of` gives.
-fn is_of_list(name: &str) -> bool {
-    let numbers = name.strip_prefix("conflict-").unwrap_or("");
+fn is_of_list((front, end): (&str, &str), name: &str) -> bool {
+    let numbers = name.strip_prefix(front).unwrap_or("");
+    let numbers = numbers.strip_suffix(end).unwrap_or("");
     match numbers.split_once('-') {
         Some((number, part)) => is_number(number) && is_number(part) && part != "1",
         None => is_number(numbers),
@@ -77,10 +84,11 @@ fn is_of_list(name: &str) -> bool {
 fn is_cleared<F: Files + Drop>(
     rt: &F,
     grammar: &str,
+    name: (&str, &str),
     entry: io::Result<DirEntry<F, Global>>,
 ) -> io::Result<bool> {
     match entry {
-        Ok(entry) if is_of_list(entry.file_name()) => {
+        Ok(entry) if is_of_list(name, entry.file_name()) => {
             let path = entry.path();
             let is_free = !is_same_file(rt, path.as_str(), grammar);
             Ok(is_free && is_written(fs::remove_file(rt, path))?)
@@ -95,6 +103,7 @@ fn is_cleared<F: Files + Drop>(
 fn are_cleared<F: Files + AllocGlobal + Clone + Drop>(
     rt: &F,
     grammar: &str,
+    name: (&str, &str),
     path: &str,
 ) -> io::Result<bool> {
     let entries = match fs::read_dir(rt, path) {
@@ -107,7 +116,7 @@ fn are_cleared<F: Files + AllocGlobal + Clone + Drop>(
     };
     let mut are_cleared = true;
     for entry in entries {
-        are_cleared = is_cleared(rt, grammar, entry)? && are_cleared;
+        are_cleared = is_cleared(rt, grammar, name, entry)? && are_cleared;
     }
     Ok(are_cleared)
 }
@@ -119,7 +128,7 @@ impl<F: Files + AllocGlobal + Clone + Drop> Folder<'_, F> {
         let Some(path) = self.path else {
             return Ok(());
         };
-        if !are_cleared(self.rt, self.grammar, path)? {
+        if !are_cleared(self.rt, self.grammar, self.name, path)? {
             self.failed = Some(String::from_str(self.rt.alloc(), path)?);
         }
         Ok(())
@@ -142,24 +151,54 @@ impl<F: Files + AllocGlobal + Clone + Drop> Folder<'_, F> {
         &mut self,
         page: &mut Page<W>,
         grammar: &Grammar,
-        name: (usize, usize),
+        numbers: (usize, usize),
         tokens: &[Sym],
         last: Option<Sym>,
     ) -> io::Result<()> {
-        let (Some(folder), None) = (self.path, &self.failed) else {
-            return Ok(());
-        };
         page.checked()?;
-        let path = path_of(self.rt.alloc(), folder, name)?;
-        let mut text = Vec::new(self.rt.alloc());
-        put_tokens(&mut text, grammar, tokens, last)?;
-        let written = write_over(self.rt, &path, text.strip_prefix(b" ").unwrap_or(&text));
-        if !is_written(written)? {
-            self.failed = Some(path);
-            return Ok(());
+        if let Some(path) = self.store(grammar, numbers, tokens, last)? {
+            page.put("  saved   ");
+            page.line(&path);
         }
-        page.put("  saved   ");
-        page.line(&path);
         Ok(())
+    }
+
+    /// Keeps tokens, and one more where there is one, under a name with these numbers, the second
+    /// one counted from 0, and gives the file's path. Where no folder is wanted, or a file couldn't
+    /// be written, nothing is kept.
+    pub fn store(
+        &mut self,
+        grammar: &Grammar,
+        numbers: (usize, usize),
+        tokens: &[Sym],
+        last: Option<Sym>,
+    ) -> io::Result<Option<String>> {
+        let (Some(folder), None) = (self.path, &self.failed) else {
+            return Ok(None);
+        };
+        let path = path_of(self.rt.alloc(), folder, self.name, numbers)?;
+        if self.write(&path, grammar, tokens, last)? {
+            return Ok(Some(path));
+        }
+        self.failed = Some(path);
+        Ok(None)
+    }
+
+    /// Writes tokens to a file, and says whether that was done.
+    fn write(
+        &self,
+        path: &str,
+        grammar: &Grammar,
+        tokens: &[Sym],
+        last: Option<Sym>,
+    ) -> io::Result<bool> {
+        let alloc: Global = self.rt.alloc();
+        let mut text = Vec::new(alloc);
+        put_tokens(&mut text, grammar, tokens, last)?;
+        is_written(write_over(
+            self.rt,
+            path,
+            text.strip_prefix(b" ").unwrap_or(&text),
+        ))
     }
 }
