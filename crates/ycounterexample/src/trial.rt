@@ -89,7 +89,7 @@ fn put(session: &mut Session, token: Sym) -> io::Result<bool> {
 }
 
 /// Puts tokens before the upcoming ones, and says whether an input can have them.
-fn put_all(session: &mut Session, tokens: &[Sym]) -> io::Result<bool> {
+pub fn put_all(session: &mut Session, tokens: &[Sym]) -> io::Result<bool> {
     for token in tokens.iter().rev() {
         if *token == ERROR || !put(session, *token)? {
             return Ok(false);
@@ -99,7 +99,7 @@ fn put_all(session: &mut Session, tokens: &[Sym]) -> io::Result<bool> {
 }
 
 /// Makes a step, and says which; `None` where the parse can't go on.
-fn step(session: &mut Session) -> io::Result<Option<StepKind>> {
+pub fn step(session: &mut Session) -> io::Result<Option<StepKind>> {
     match session.step() {
         Ok(kind) => Ok(Some(kind)),
         Err(StepFault::Memory) => Err(fault_of(StepFault::Memory)),
@@ -129,7 +129,7 @@ fn go(session: &mut Session, goal: Goal) -> io::Result<Trial> {
 }
 
 /// All the way back.
-fn go_back(session: &mut Session) {
+pub fn go_back(session: &mut Session) {
     for _ in 0..session.position() {
         let _ = session.back();
     }

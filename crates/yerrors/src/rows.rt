@@ -1,0 +1,257 @@
+//! What is found, in rows: the tokens that can be ahead after a spot, by how many tokens that takes.
+
+use crate::sets::{Sets, Source};
+use indexmap::{IndexMap, IndexSet};
+use std::alloc::{AllocError, Global};
+use ycounterexample::queue::Queue;
+use ylalr::Item;
+use ysymbols::Sym;
+
+/// The most steps of a search: words of sets that are made, and rows that are looked at.
+pub const MOST_STEPS: usize = 200_000_000;
+
+/// The most words of all sets, and the most rows.
+const MOST_WORDS: usize = 64_000_000;
+
+/// What tokens are ahead after.
+#[derive(Clone, Copy, Drop, PartialEq, Eq, Hash)]
+pub enum Spot {
+    /// The stack has this state on top.
+    State(usize),
+    /// The nonterminal of this number of `Ways` has come on the stack in its state.
+    Goto(usize),
+    /// What is after the dot of an item has come on the stack, with this state before it, and the
+    /// rule of the item is reduced next.
+    Rest(usize, Item),
+}
+
+/// A row: a spot, and the token that was ahead before it, where that matters.
+#[derive(Clone, Copy, Drop)]
+pub struct Key {
+    /// The spot.
+    pub spot: Spot,
+    /// The token that was ahead; none for a state, and for a rest after a token.
+    pub first: Option<Sym>,
+}
+
+/// The tokens that come to be ahead in a row after the same number of tokens.
+#[derive(Clone, Copy, Drop)]
+pub struct Level {
+    /// How many tokens are taken before.
+    pub cost: u64,
+    /// The set of the tokens ahead.
+    pub at: usize,
+    /// How many levels of all rows were found before.
+    pub order: usize,
+}
+
+/// A row.
+#[derive(Drop)]
+struct Row {
+    key: Key,
+    /// The set of the tokens that its levels have.
+    known: usize,
+    levels: Vec<Level>,
+}
+
+/// Tokens that wait to come into a row.
+#[derive(Clone, Copy, Drop)]
+struct Waiting {
+    row: usize,
+    cost: u64,
+    at: usize,
+}
+
+/// All rows, and what waits.
+pub struct Rows {
+    alloc: Global,
+    /// All sets.
+    pub sets: Sets,
+    spots: IndexSet<Spot>,
+    /// The rows of each spot.
+    of_spots: Vec<Vec<usize>>,
+    /// The row of a spot and of the token before it; where none matters, of the greatest number.
+    numbers: IndexMap<(usize, usize), usize>,
+    rows: Vec<Row>,
+    waiting: Vec<Waiting>,
+    queue: Queue,
+    settled: usize,
+    steps: usize,
+    words: usize,
+}
+
+impl Drop for Rows {
+    // A call in each owner, which keeps their proofs short.
+    fn drop(self) {
+        let Rows {
+            alloc: _,
+            sets: _,
+            spots,
+            of_spots: _,
+            numbers,
+            rows: _,
+            waiting: _,
+            queue: _,
+            settled: _,
+            steps: _,
+            words: _,
+        } = self;
+        drop(spots);
+        drop(numbers);
+    }
+}
+
+/// The number that stands for a token, or for none.
+fn number_of(first: Option<Sym>) -> usize {
+    first.unwrap_or(usize::MAX)
+}
+
+impl Rows {
+    /// No rows, over sets of so many tokens.
+    pub fn new(alloc: Global, tokens: usize) -> Rows {
+        Rows {
+            alloc,
+            sets: Sets::new(alloc, tokens),
+            spots: IndexSet::new(alloc),
+            of_spots: Vec::new(alloc),
+            numbers: IndexMap::new(alloc),
+            rows: Vec::new(alloc),
+            waiting: Vec::new(alloc),
+            queue: Queue::new(alloc),
+            settled: 0,
+            steps: MOST_STEPS,
+            words: MOST_WORDS,
+        }
+    }
+
+    /// Takes steps from those that are left.
+    pub fn spend(&mut self, steps: usize) {
+        self.steps = self.steps.saturating_sub(steps);
+    }
+
+    /// Whether there are steps and words left.
+    pub fn has_steps(&self) -> bool {
+        self.steps > 0 && self.words > 0
+    }
+
+    /// Makes an empty set.
+    pub fn make_set(&mut self) -> Result<usize, AllocError> {
+        let width = self.sets.width();
+        self.spend(width);
+        self.words = self.words.saturating_sub(width);
+        self.sets.make()
+    }
+
+    /// The rows of a spot.
+    pub fn of(&self, spot: Spot) -> &[usize] {
+        match self.spots.get_index_of(&spot) {
+            Some(place) => self.of_spots.get(place).map_or(&[], |rows| rows.as_slice()),
+            None => &[],
+        }
+    }
+
+    /// A row of a spot by its index, with the token before it.
+    pub fn row_at(&self, spot: Spot, index: usize) -> Option<(usize, Key)> {
+        let row = self.of(spot).get(index).copied()?;
+        Some((row, self.rows.get(row)?.key))
+    }
+
+    /// The row of a key, where there is one.
+    pub fn find(&self, key: Key) -> Option<usize> {
+        let place = self.spots.get_index_of(&key.spot)?;
+        self.numbers.get(&(place, number_of(key.first))).copied()
+    }
+
+    /// What a row is of.
+    pub fn key(&self, row: usize) -> Option<Key> {
+        self.rows.get(row).map(|row| row.key)
+    }
+
+    /// The levels of a row.
+    pub fn levels(&self, row: usize) -> &[Level] {
+        self.rows.get(row).map_or(&[], |row| row.levels.as_slice())
+    }
+
+    /// The level of a row that has a token.
+    pub fn level(&self, row: usize, token: Sym) -> Option<Level> {
+        let mut levels = self.levels(row).iter();
+        levels.find(|level| self.sets.has(level.at, token)).copied()
+    }
+
+    /// The place of a spot.
+    fn place(&mut self, spot: Spot) -> Result<usize, AllocError> {
+        let (place, is_new) = self.spots.insert_full(spot)?;
+        if is_new {
+            self.of_spots.push(Vec::new(self.alloc))?;
+        }
+        Ok(place)
+    }
+
+    /// Makes a row.
+    fn make(&mut self, key: Key, place: usize) -> Result<usize, AllocError> {
+        let known = self.make_set()?;
+        let row = self.rows.len();
+        let levels = Vec::new(self.alloc);
+        self.rows.push(Row { key, known, levels })?;
+        if let Some(rows) = self.of_spots.get_mut(place) {
+            rows.push(row)?;
+        }
+        self.numbers.insert((place, number_of(key.first)), row)?;
+        Ok(row)
+    }
+
+    /// The row of a key, which is made where there is none.
+    fn number(&mut self, key: Key) -> Result<usize, AllocError> {
+        match self.find(key) {
+            Some(row) => Ok(row),
+            None => {
+                let place = self.place(key.spot)?;
+                self.make(key, place)
+            }
+        }
+    }
+
+    /// Tokens wait to come into a row after so many tokens, but for those that it has.
+    pub fn put(&mut self, key: Key, cost: u64, source: Source) -> Result<(), AllocError> {
+        let row = self.number(key)?;
+        let width = self.sets.width();
+        self.spend(width);
+        let known = self.rows.get(row).map_or(0, |row| row.known);
+        if let Some(at) = self.sets.make_of(source, known)? {
+            self.words = self.words.saturating_sub(width);
+            self.queue.put(cost, self.waiting.len())?;
+            self.waiting.push(Waiting { row, cost, at })?;
+        }
+        Ok(())
+    }
+
+    /// What waits comes into its row, but for the tokens that the row has; none where it has all.
+    fn settle(&mut self, number: usize) -> Result<Option<(usize, Level)>, AllocError> {
+        let Some(Waiting { row, cost, at }) = self.waiting.get(number).copied() else {
+            return Ok(None);
+        };
+        let order = self.settled;
+        let level = Level { cost, at, order };
+        if let Some(found) = self.rows.get_mut(row) {
+            if self.sets.settle(at, found.known) {
+                found.levels.push(level)?;
+                self.settled = order.saturating_add(1);
+                return Ok(Some((row, level)));
+            }
+        }
+        Ok(None)
+    }
+
+    /// The next tokens that come into a row, after the fewest tokens: the row and its new level.
+    pub fn take(&mut self) -> Result<Option<(usize, Level)>, AllocError> {
+        for _ in 0..self.waiting.len() {
+            let Some((_, number)) = self.queue.take() else {
+                return Ok(None);
+            };
+            if let Some(found) = self.settle(number)? {
+                return Ok(Some(found));
+            }
+        }
+        Ok(None)
+    }
+}
