@@ -9,7 +9,8 @@ pub const USAGE: &str = "usage: ydebug grammar tokens [--lex SPEC]\n";
 /// The other forms, and what holds of all, as help and usage have them.
 pub const FORMS: &str = "Other forms:\n\
     \x20 ydebug conflicts grammar [--save FOLDER] [--strict]\n\
-    \x20 ydebug check grammar tokens.. [--lex SPEC] [--choice] [--plain]\n\
+    \x20 ydebug check grammar tokens.. [--lex SPEC] [--messages FILE] [--choice] [--plain]\n\
+    \x20 ydebug errors grammar [--messages FILE [--complete] [--update]]\n\
     \x20 ydebug page grammar tokens [--lex SPEC] [-o FILE] [--from K] [--to K] [--conflicts]\n\
     \x20 ydebug tokens grammar --lex SPEC input\n\
     \x20 ydebug lex-spec grammar\n\
@@ -31,6 +32,8 @@ pub enum Form {
     Conflicts,
     /// Verdicts.
     Check,
+    /// Errors by example.
+    Errors,
     /// A page.
     Page,
     /// An import.
@@ -46,9 +49,10 @@ pub enum Form {
 }
 
 /// Each form but the first by its word.
-pub const BY_WORD: [(&str, Form); 8] = [
+pub const BY_WORD: [(&str, Form); 9] = [
     ("conflicts", Form::Conflicts),
     ("check", Form::Check),
+    ("errors", Form::Errors),
     ("page", Form::Page),
     ("import", Form::Import),
     ("tokens", Form::Tokens),
@@ -73,6 +77,7 @@ pub fn name_of(form: Form) -> &'static str {
         Form::Debug => "ydebug",
         Form::Conflicts => "ydebug conflicts",
         Form::Check => "ydebug check",
+        Form::Errors => "ydebug errors",
         Form::Page => "ydebug page",
         Form::Import => "ydebug import",
         Form::Tokens => "ydebug tokens",
@@ -131,6 +136,8 @@ const LIMIT: Word = Word("limit", Given::Value("N"), HOW_LONG);
 
 const FROM: Word = Word("from", Given::Value("FORM"), FROM_BISON);
 
+const MESSAGES: Word = Word("messages", Given::Value("FILE"), "A file of messages");
+
 const HOW_TOKENS_LOOK: &str = "The file that says how the tokens of a text look";
 
 const HOW_LONG: &str = "The most bytes of an input; without it, 16777216";
@@ -164,6 +171,7 @@ const CHECK: &[Word] = &[
     LEX,
     LIMIT,
     FROM,
+    MESSAGES,
     Word(
         "choice",
         Given::Flag,
@@ -174,6 +182,23 @@ const CHECK: &[Word] = &[
         Given::Flag,
         "Writes a plain line for the grammar and for each input",
     ),
+];
+
+const ERRORS: &[Word] = &[
+    GRAMMAR,
+    MESSAGES,
+    Word(
+        "complete",
+        Given::Flag,
+        "Wants a message for each state in which an error is detected",
+    ),
+    Word(
+        "update",
+        Given::Flag,
+        "Writes the file anew: its comments, and the states that are new",
+    ),
+    LIMIT,
+    FROM,
 ];
 
 const PAGE: &[Word] = &[
@@ -269,6 +294,7 @@ fn about(form: Form) -> &'static str {
         Form::Debug => "Steps a parse forward and back for a person at a terminal",
         Form::Conflicts => "Explains the conflicts of a grammar, and warns of what it has in vain",
         Form::Check => "Says of each input whether it is a sentence of a grammar",
+        Form::Errors => "Lists the errors of a grammar, each with a shortest wrong input",
         Form::Page => "Makes a page in HTML of a parse, to be looked at in a browser",
         Form::Import => "Makes a grammar file of bison or byacc one that yacc reads",
         Form::Tokens => "Writes the tokens of a text as a tokens file",
@@ -293,6 +319,7 @@ pub fn words_of(form: Form) -> &'static [Word] {
         Form::Debug => DEBUG,
         Form::Conflicts => CONFLICTS,
         Form::Check => CHECK,
+        Form::Errors => ERRORS,
         Form::Page => PAGE,
         Form::Import => IMPORT,
         Form::Tokens => TOKENS,

@@ -1,6 +1,6 @@
 //! `ydebug grammar tokens`: a debugger of parses for people. `ydebug conflicts grammar` explains
-//! the conflicts of a grammar, `ydebug check grammar tokens..` says what its sentences are, and
-//! `ydebug page grammar tokens` makes a page of a parse. `ydebug import file` makes a grammar file
+//! the conflicts of a grammar, `ydebug check grammar tokens..` says what its sentences are, `ydebug
+//! errors grammar` lists its errors, and `ydebug page grammar tokens` makes a page of a parse. `ydebug import file` makes a grammar file
 //! that `yacc` reads out of one for bison. With `--lex SPEC` a text stands in place of a tokens
 //! file; `ydebug tokens` writes the tokens of one, and `ydebug lex-spec` sketches a SPEC. `ydebug
 //! rules grammar` names the rules of a grammar for programs that read its table, and `ydebug table`
@@ -36,6 +36,7 @@ use yfiles::reading::{LONGEST_INPUT, Limited};
 use yinput::grammars::{GrammarFile, open_file};
 use yinput::language::LanguageFiles;
 use yinput::source::Source;
+use ymessages::run::{Asked as Errors, run_errors};
 use ypage::page::{self, run_page};
 use ypage::walk::Part;
 use yreports::report::{Asked, put_conflicts};
@@ -205,11 +206,40 @@ fn check_files<W: Write>(
     let asked = check::Asked {
         files: language_in(matches)?,
         inputs: matches.get_strs("tokens").unwrap_or(&[]),
+        messages: matches.get_str("messages"),
         choice: is_given(matches, "choice"),
         plain: is_given(matches, "plain"),
         most: most_of(matches)?,
     };
     Ok(run_check(rt, asked, &mut rt.stdin(), out, &mut rt.stderr())?)
+}
+
+/// The file of messages, where one is given.
+fn messages_in<'a>(matches: &ArgMatches<'a>) -> Result<Option<Limited<'a>>, Refused> {
+    match matches.get_str("messages") {
+        Some(path) => input_of(matches, path).map(Some),
+        None => Ok(None),
+    }
+}
+
+/// Errors by example.
+fn list_errors<W: Write>(
+    rt: &HostRuntime,
+    matches: &ArgMatches<'_>,
+    out: &mut W,
+) -> Result<u8, Refused> {
+    let asked = Errors {
+        grammar: grammar_in(matches)?,
+        messages: messages_in(matches)?,
+        complete: is_given(matches, "complete"),
+        update: is_given(matches, "update"),
+    };
+    if asked.messages.is_none() && (asked.complete || asked.update) {
+        rt.stderr()
+            .write_all(b"ydebug: --complete and --update want --messages FILE\n")?;
+        return Ok(2);
+    }
+    Ok(run_errors(rt, asked, out, &mut rt.stderr())?)
 }
 
 /// A page of a parse.
@@ -350,6 +380,7 @@ fn obey<W: Write>(
         Form::Debug => debug_files(rt, matches, out),
         Form::Conflicts => report(rt, matches, out),
         Form::Check => check_files(rt, matches, out),
+        Form::Errors => list_errors(rt, matches, out),
         Form::Page => page(rt, matches, out),
         Form::Import => import(rt, matches, out),
         Form::Tokens => cut_file(rt, matches, out),

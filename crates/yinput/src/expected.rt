@@ -1,4 +1,5 @@
-//! The tokens that can come, each tried over the states of a stack without a change to them.
+//! The tokens that can come, each tried over the states of a stack without a change to them; and
+//! the stack at which one that can't is detected.
 
 use std::alloc::{AllocError, Global};
 use yexplain::reads::{action_of, body_of, goto_of, grammar_of, left_of};
@@ -59,13 +60,24 @@ impl Wanted {
     }
 }
 
-/// A stack of states that is tried: some of those given, and others above them; and how many more
-/// reductions may be made.
+/// An entry of a stack: the state after it, and how many tokens were shifted before its first one.
+/// The first state of all counts as an entry.
+#[derive(Clone, Copy, Drop, PartialEq, Eq)]
+pub struct Entry {
+    /// The state.
+    pub state: usize,
+    /// How many tokens were shifted before it.
+    pub start: usize,
+}
+
+/// A stack of states that is tried: some of those given, and others above them; how many tokens
+/// were shifted; and how many more reductions may be made.
 #[derive(Drop)]
 struct Trial<'a> {
     tables: &'a Tables,
     below: &'a [usize],
-    above: Vec<usize>,
+    above: Vec<Entry>,
+    shifted: usize,
     left: usize,
 }
 
@@ -75,13 +87,22 @@ impl<'a> Trial<'a> {
             tables,
             below: &[],
             above: Vec::new(alloc),
+            shifted: 0,
             left,
         }
     }
 
     fn top(&self) -> usize {
         let below = self.below.last().copied().unwrap_or(0);
-        self.above.last().copied().unwrap_or(below)
+        self.above.last().map_or(below, |entry| entry.state)
+    }
+
+    /// How many tokens were shifted before the first of so many entries; before the token ahead
+    /// where these are none, or not all known.
+    fn start_of(&self, count: usize) -> usize {
+        let place = self.above.len().saturating_sub(count);
+        let first = self.above.get(place);
+        first.map_or(self.shifted, |entry| entry.start)
     }
 
     /// Takes so many states off.
@@ -92,21 +113,24 @@ impl<'a> Trial<'a> {
         self.below = self.below.get(..left).unwrap_or(&[]);
     }
 
-    /// Takes the body of a rule off, and gives the state where its left side leads.
-    fn leave(&mut self, rule: usize) -> Option<usize> {
+    /// Takes the body of a rule off, and gives the entry of its left side.
+    fn leave(&mut self, rule: usize) -> Option<Entry> {
         let grammar = grammar_of(self.tables);
         self.left = self.left.saturating_sub(1);
-        self.take(body_of(grammar, rule).len());
+        let count = body_of(grammar, rule).len();
+        let start = self.start_of(count);
+        self.take(count);
         let left = left_of(grammar, rule).unwrap_or(END);
-        goto_of(self.tables.automaton(), self.top(), left)
+        let state = goto_of(self.tables.automaton(), self.top(), left)?;
+        Some(Entry { state, start })
     }
 
     /// Replaces the body of a rule by its left side. Where that leads nowhere, the token can't
     /// come.
     fn reduce(&mut self, rule: usize) -> Result<Option<Answer>, AllocError> {
         match self.leave(rule) {
-            Some(state) => {
-                self.above.push(state)?;
+            Some(entry) => {
+                self.above.push(entry)?;
                 Ok(None)
             }
             None => Ok(Some(Answer::Cannot)),
@@ -138,7 +162,9 @@ impl<'a> Trial<'a> {
     fn shift(&mut self, token: Sym) -> Result<bool, AllocError> {
         for _ in 0..MOST_STEPS {
             if let Action::Shift(state) = action_of(self.tables, self.top(), token) {
-                self.above.push(state)?;
+                let start = self.shifted;
+                self.above.push(Entry { state, start })?;
+                self.shifted = start.saturating_add(1);
                 return Ok(true);
             }
             if self.ask(token)?.is_some() {
@@ -162,6 +188,35 @@ pub fn expected(alloc: Global, tables: &Tables, states: &[usize]) -> Result<Want
     Ok(wanted)
 }
 
+impl Trial<'_> {
+    /// Shifts tokens, as far as they can be.
+    fn shift_all(&mut self, tokens: &[Sym]) -> Result<(), AllocError> {
+        for token in tokens {
+            if !self.shift(*token)? {
+                break;
+            }
+        }
+        Ok(())
+    }
+
+    /// Reduces with a token ahead, until it can be shifted or can't come.
+    fn reduce_all(&mut self, token: Sym) -> Result<(), AllocError> {
+        for _ in 0..MOST_STEPS {
+            if self.ask(token)?.is_some() {
+                break;
+            }
+        }
+        Ok(())
+    }
+}
+
+/// A parse with the first state alone on its stack.
+fn start(alloc: Global, tables: &Tables) -> Result<Trial<'_>, AllocError> {
+    let mut trial = Trial::new(alloc, tables, usize::MAX);
+    trial.above.push(Entry { state: 0, start: 0 })?;
+    Ok(trial)
+}
+
 /// The states of a parse once these tokens are shifted, before anything is reduced with the next
 /// token ahead; where the parse doesn't get there, the states to which it has come.
 pub fn states_after(
@@ -169,13 +224,24 @@ pub fn states_after(
     tables: &Tables,
     tokens: &[Sym],
 ) -> Result<Vec<usize>, AllocError> {
-    let mut trial = Trial::new(alloc, tables, usize::MAX);
-    trial.above.push(0)?;
-    for token in tokens {
-        if !trial.shift(*token)? {
-            break;
-        }
-    }
+    let mut trial = start(alloc, tables)?;
+    trial.shift_all(tokens)?;
+    let states = trial.above.iter().map(|entry| entry.state);
+    let states: Vec<usize> = states.collect(alloc)?;
+    Ok(states)
+}
+
+/// The stack at which a token that can't come after these is detected, the first state of all at
+/// the bottom.
+pub fn stack_at(
+    alloc: Global,
+    tables: &Tables,
+    tokens: &[Sym],
+    token: Sym,
+) -> Result<Vec<Entry>, AllocError> {
+    let mut trial = start(alloc, tables)?;
+    trial.shift_all(tokens)?;
+    trial.reduce_all(token)?;
     let Trial { above, .. } = trial;
     Ok(above)
 }

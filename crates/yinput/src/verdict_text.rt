@@ -21,20 +21,19 @@ impl Verdict {
         }
     }
 
-    /// Writes it for people, and gives the exit status.
+    /// Writes it for people, and gives the exit status. Of a rejection it says this message, where
+    /// there is one, and else which token can't come and which can.
     pub fn put<W: Write>(
         &self,
         out: &mut W,
         grammar: &Grammar,
         path: &str,
         input: &Input,
+        message: Option<&[u8]>,
     ) -> io::Result<u8> {
         let written = match self {
             Verdict::Accepted(steps) => writeln!(out, "{path}: accepted after {steps} steps"),
-            Verdict::Rejected(rejection) => match &input.text {
-                Some(text) => rejection.put_in_text(out, grammar, text),
-                None => rejection.put_in_tokens(out, grammar, path, &input.tokens.symbols),
-            },
+            Verdict::Rejected(rejection) => { rejection.put(out, grammar, path, input, message) }
             Verdict::Undecided => writeln!(out, "{path}: undecided after 1,000,000 steps"),
         };
         written?;
@@ -67,7 +66,7 @@ fn between(index: usize, count: usize) -> &'static str {
 }
 
 /// Writes the first of some tokens as a list, and dots where there are more.
-fn put_list<W: Write>(out: &mut W, grammar: &Grammar, tokens: &[Sym]) -> io::Result<()> {
+pub fn put_list<W: Write>(out: &mut W, grammar: &Grammar, tokens: &[Sym]) -> io::Result<()> {
     for (index, token) in tokens.iter().take(MOST_NAMED).enumerate() {
         let (front, name) = (between(index, tokens.len()), Name(grammar, *token));
         write!(out, "{front}{name}")?;
@@ -111,18 +110,33 @@ fn put_before<W: Write>(out: &mut W, grammar: &Grammar, before: &[Sym]) -> io::R
 }
 
 impl Rejection {
-    /// Writes that the token can't come, and which can.
-    fn put_token<W: Write>(&self, out: &mut W, grammar: &Grammar) -> io::Result<()> {
+    /// Writes a message, where there is one, or that the token can't come, and which can.
+    fn put_token<W: Write>(
+        &self,
+        out: &mut W,
+        grammar: &Grammar,
+        message: Option<&[u8]>,
+    ) -> io::Result<()> {
+        if let Some(message) = message {
+            out.write_all(message)?;
+            return out.write_all(b"\n");
+        }
         let name = Name(grammar, self.token);
         write!(out, "unexpected {name}")?;
         put_wanted(out, grammar, &self.wanted)
     }
 
     /// Writes so at its place in a text, with the line there.
-    fn put_in_text<W: Write>(&self, out: &mut W, grammar: &Grammar, text: &Text) -> io::Result<()> {
+    fn put_in_text<W: Write>(
+        &self,
+        out: &mut W,
+        grammar: &Grammar,
+        text: &Text,
+        message: Option<&[u8]>,
+    ) -> io::Result<()> {
         let place = text.place(self.number);
         place.put_front(out)?;
-        self.put_token(out, grammar)?;
+        self.put_token(out, grammar, message)?;
         place.put_text(out, true)
     }
 
@@ -133,11 +147,27 @@ impl Rejection {
         grammar: &Grammar,
         path: &str,
         tokens: &[Sym],
+        message: Option<&[u8]>,
     ) -> io::Result<()> {
         let number = self.number;
         write!(out, "{path}: rejected at token {number}: ")?;
-        self.put_token(out, grammar)?;
+        self.put_token(out, grammar, message)?;
         put_before(out, grammar, tokens.get(..self.before()).unwrap_or(tokens))
+    }
+
+    /// Writes so of an input.
+    fn put<W: Write>(
+        &self,
+        out: &mut W,
+        grammar: &Grammar,
+        path: &str,
+        input: &Input,
+        message: Option<&[u8]>,
+    ) -> io::Result<()> {
+        match &input.text {
+            Some(text) => self.put_in_text(out, grammar, text, message),
+            None => self.put_in_tokens(out, grammar, path, &input.tokens.symbols, message),
+        }
     }
 }
 
