@@ -5,7 +5,8 @@
 Each list of tokens must be an error at its last token and in the state that is told, with the stack
 and the tokens that could come, by the machine in Python; one of each grammar is also put into a
 session. It must be as short as the first list that a search over all stacks, the shortest lists
-first, comes to; no state that this search finds may be without a list. Wrong inputs at random must
+first, comes to, with a last token of no higher number; no state that this search finds may be
+without a list. Wrong inputs at random must
 be detected in states with a list. A file of messages that is made so must be taken as complete, and
 must stay as it is when it is written anew. The first difference ends the run. The last line is
 `N passed, M failed`: grammars.
@@ -74,9 +75,14 @@ class Machine:
         return [it for it in self.inputs() if self.move(stack, it)[0] in ("s", "acc")]
 
 
+def rank(tokens, last):
+    """What comes first of lists: fewer tokens, and a lower number of the last one, the end last."""
+    return tokens, last == END, last
+
+
 def shortest(machine):
-    """For each state the length of a shortest list whose last token it detects, up to a length up
-    to which all lists were tried; and that length."""
+    """For each state the rank of a shortest list whose last token it detects, up to a length up to
+    which all lists were tried; and that length."""
     found, seen, stacks = {}, {()}, [()]
     for length in range(1, MOST_LENGTH + 1):
         after = []
@@ -84,7 +90,8 @@ def shortest(machine):
             for token in machine.inputs():
                 kind, to = machine.move(stack, token)
                 if kind == "error":
-                    found.setdefault(to[-1] if to else 0, length)
+                    state, ours = to[-1] if to else 0, rank(length, token)
+                    found[state] = min(found.get(state, ours), ours)
                 if kind == "s" and to not in seen:
                     seen.add(to)
                     after.append(to)
@@ -100,13 +107,15 @@ class Told:
     def __init__(self, text, names):
         text = re.sub(r"\n##  {8,}", " ", text)
         self.head = [int(it) for it in HEAD.match(text).groups()]
-        self.lists = {}
+        self.lists, self.states = {}, []
         for words, state, comments in BLOCK.findall(text):
             tokens = [names.index(it) for it in names_of(words.encode())]
             self.lists[int(state)] = tokens, comments
+            self.states.append(int(state))
         self.without = {}
         for reason, numbers in TAIL.findall(text):
             self.without |= {int(it): reason for it in numbers.split()}
+            self.states += map(int, numbers.split())
 
     def listed(self, state, title, names):
         """The symbols that are listed after a title in the comments of a list."""
@@ -134,17 +143,17 @@ def wrong_list(machine, told, state):
 
 def wrong_states(machine, told):
     """What is wrong with which states have a list, and with the lengths of lists."""
-    states = set(machine.tables.states)
-    if told.lists.keys() | told.without.keys() != states or told.lists.keys() & told.without:
+    states = machine.tables.states
+    if sorted(told.states) != list(states):
         return "not each state is told once"
     if told.head != [len(told.lists), len(states)]:
         return "the counts"
     found, tried = shortest(machine)
-    lengths = {state: len(tokens) for state, (tokens, _) in told.lists.items()}
+    ranks = {state: rank(len(it), it[-1]) for state, (it, _) in told.lists.items()}
     for state in states:
-        ours, theirs = found.get(state), lengths.get(state)
-        if ours != theirs and (ours is not None or theirs <= tried):
-            return f"state {state}: length {theirs} for {ours}"
+        ours, theirs = found.get(state), ranks.get(state)
+        if ours != theirs and (ours is not None or theirs[0] <= tried):
+            return f"state {state}: {theirs} for {ours}"
     return None
 
 

@@ -36,6 +36,7 @@ RUNNERS = (
     ["hints", SECONDS],
     ["texts", SECONDS],
     ["verdicts"],
+    ["errors", SECONDS],
     ["faults", "--count=50"],
     ["cells", SECONDS],
     ["pages"],

@@ -1,9 +1,10 @@
 //! The errors of all states.
 
 use crate::confirm::{Confirmed, confirm};
+use crate::detected::Detected;
 use crate::lists::MOST_TOKENS;
 pub use crate::rows::MOST_STEPS;
-use crate::search::{Detected, Search};
+use crate::search::Search;
 use crate::ways::Ways;
 use std::alloc::{AllocError, Global};
 use std::io;

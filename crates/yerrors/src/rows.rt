@@ -1,4 +1,4 @@
-//! What is found, in rows: the tokens that can be ahead after a spot, by how many tokens that takes.
+//! What is found, in rows: the tokens that can be ahead after a spot, by how many tokens it takes.
 
 use crate::sets::{Sets, Source};
 use indexmap::{IndexMap, IndexSet};
@@ -10,8 +10,8 @@ use ysymbols::Sym;
 /// The most steps of a search: words of sets that are made, and rows that are looked at.
 pub const MOST_STEPS: usize = 200_000_000;
 
-/// The most words of all sets, and the most rows.
-const MOST_WORDS: usize = 64_000_000;
+/// The most words of all sets.
+const MOST_WORDS: usize = 32_000_000;
 
 /// What tokens are ahead after.
 #[derive(Clone, Copy, Drop, PartialEq, Eq, Hash)]

@@ -2,45 +2,20 @@
 //!
 //! A row of a rest is known from those of the rest after its next symbol: where that is a token, it
 //! has to be ahead, and is shifted; where it is a nonterminal, the rows of its goto say which token
-//! is ahead once it has come. The rows of a goto are those of the bodies of its nonterminal. And the
-//! rows of states go from the first state over tokens and gotos. All of them are found together, the
+//! is ahead once it has come. The rows of a goto are those of the bodies of its nonterminal. The rows
+//! of states go from the first state over tokens and gotos. All of them are found together, the
 //! fewest tokens first, so each is found with as few tokens as there can be.
 
+use crate::detected::Detected;
 use crate::rows::{Key, Level, Rows, Spot};
 use crate::sets::Source;
 use crate::ways::{Ways, before_dot, moved_back, moved_on};
 use indexmap::IndexMap;
 use std::alloc::{AllocError, Global};
 use yexplain::reads::{action_of, is_complete, items_of, left_of, set};
-use ylalr::{END, ERROR, Item, token_count};
+use ylalr::{ERROR, Item, token_count};
 use ysymbols::Sym;
 use ytables::Action;
-
-/// The token at which an error is detected in a state first, and how many are taken before.
-#[derive(Clone, Copy, Drop)]
-pub struct Detected {
-    /// How many tokens are taken before.
-    pub cost: u64,
-    /// The token.
-    pub token: Sym,
-}
-
-impl Detected {
-    /// Whether it is noted in place of another one: fewer tokens are before it, or as many, and its
-    /// token has a lower number, the end the highest of all.
-    fn is_before(self, other: Detected) -> bool {
-        if self.cost == other.cost {
-            rank(self.token) < rank(other.token)
-        } else {
-            self.cost < other.cost
-        }
-    }
-}
-
-/// The number of a token, the end as the highest of all.
-fn rank(token: Sym) -> usize {
-    if token == END { usize::MAX } else { token }
-}
 
 /// A search in tables.
 pub struct Search<'a> {

@@ -80,7 +80,7 @@ impl Sets {
         }
     }
 
-    /// Makes a set of what is taken of another and isn't in a known one; none where that is nothing.
+    /// Makes a set of what is taken of another and isn't in a known one; none for nothing.
     pub fn make_of(&mut self, source: Source, known: usize) -> Result<Option<usize>, AllocError> {
         let is_known = (0..self.width).all(|index| self.fresh(source, known, index) == 0);
         if is_known {
