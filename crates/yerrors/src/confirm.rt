@@ -3,15 +3,41 @@
 use std::alloc::{AllocError, Global};
 use std::io;
 use ycounterexample::trial::{go_back, put_all, step};
-use yinput::expected::{Wanted, expected, states_after};
+use yinput::expected::{Wanted, expected_within, states_after};
 use ylalr::END;
 use yparse::Session;
 use yparse::machine::StepKind;
 use ysymbols::Sym;
+use ytables::Tables;
 use yview::reading::{stack_symbol, token_ahead};
 
 /// The most steps of a session over a list.
 const MOST_STEPS: usize = 200_000;
+
+/// The most reductions of all trials of a run that tell which tokens could come, beside those that
+/// each list may take in any case.
+const MOST_REDUCTIONS: usize = 20_000_000;
+
+/// The most reductions for one list: one part in so many of those that are left, or so many.
+const PARTS: usize = 4;
+
+const LEAST_REDUCTIONS: usize = 10_000;
+
+/// How many reductions may still be made.
+#[derive(Clone, Copy, Drop)]
+pub struct Left(usize);
+
+impl Left {
+    /// All reductions of a run.
+    pub fn all() -> Left {
+        Left(MOST_REDUCTIONS)
+    }
+
+    /// Those of one list.
+    fn part(self) -> usize {
+        (self.0 / PARTS).max(LEAST_REDUCTIONS)
+    }
+}
 
 /// A list of tokens whose last one is an error, as a session has it.
 pub struct Confirmed {
@@ -70,14 +96,29 @@ fn stack_of(alloc: Global, session: &Session) -> Result<Vec<Sym>, AllocError> {
     Ok(stack)
 }
 
+/// The tokens that could come after some tokens.
+fn wanted_after(
+    alloc: Global,
+    tables: &Tables,
+    tokens: &[Sym],
+    left: &mut Left,
+) -> Result<Wanted, AllocError> {
+    let states = states_after(alloc, tables, tokens)?;
+    let most = left.part();
+    let mut rest = most;
+    let wanted = expected_within(alloc, tables, &states, &mut rest)?;
+    left.0 = left.0.saturating_sub(most.saturating_sub(rest));
+    Ok(wanted)
+}
+
 /// Puts a list into a session at its start, which is left there. Gives what comes of it, where the
 /// first error is detected in this state with the last token ahead.
 pub fn confirm(
     alloc: Global,
     session: &mut Session,
-    tokens: Vec<Sym>,
-    last: Sym,
+    (tokens, last): (Vec<Sym>, Sym),
     state: usize,
+    left: &mut Left,
 ) -> io::Result<Option<Confirmed>> {
     let detected = detects_in(session, &tokens, last, state);
     let stack = stack_of(alloc, session);
@@ -85,8 +126,7 @@ pub fn confirm(
     if !detected? {
         return Ok(None);
     }
-    let states = states_after(alloc, session.tables(), &tokens)?;
-    let wanted = expected(alloc, session.tables(), &states)?;
+    let wanted = wanted_after(alloc, session.tables(), &tokens, left)?;
     let stack = stack?;
     Ok(Some(Confirmed {
         tokens,

@@ -1,6 +1,6 @@
 //! The errors of all states.
 
-use crate::confirm::{Confirmed, confirm};
+use crate::confirm::{Confirmed, Left, confirm};
 use crate::detected::Detected;
 use crate::lists::MOST_TOKENS;
 pub use crate::rows::MOST_STEPS;
@@ -94,7 +94,7 @@ fn reason_of(search: &Search<'_>, state: usize, is_done: bool) -> Reason {
         Reason::TakesAll
     } else if !is_done {
         Reason::Late
-    } else if search.is_met(state) {
+    } else if search.row(state).is_some() {
         Reason::Before
     } else {
         Reason::After
@@ -138,10 +138,11 @@ fn outcome_of(
     session: &mut Session,
     state: usize,
     sought: Sought,
+    left: &mut Left,
 ) -> io::Result<Outcome> {
     match sought {
         Sought::Without(reason) => Ok(Outcome::Without(reason)),
-        Sought::List(tokens, last) => match confirm(alloc, session, tokens, last, state)? {
+        Sought::List(tokens, last) => match confirm(alloc, session, (tokens, last), state, left)? {
             Some(confirmed) => Ok(Outcome::List(confirmed)),
             None => Ok(Outcome::Without(Reason::Late)),
         },
@@ -153,10 +154,11 @@ impl Errors {
     /// tokens, and is left there.
     pub fn new(alloc: Global, session: &mut Session) -> io::Result<Errors> {
         let mut outcomes = Vec::new(alloc);
+        let mut left = Left::all();
         let mut found = seek(alloc, session.tables())?;
         for state in 0..found.len() {
             if let Some(sought) = found.pop() {
-                let outcome = outcome_of(alloc, session, state, sought)?;
+                let outcome = outcome_of(alloc, session, state, sought, &mut left)?;
                 outcomes.push(outcome).map_err(AllocError::from)?;
             }
         }

@@ -10,8 +10,13 @@ use ysymbols::Sym;
 /// The most steps of a search: words of sets that are made, and rows that are looked at.
 pub const MOST_STEPS: usize = 200_000_000;
 
-/// The most words of all sets.
-const MOST_WORDS: usize = 32_000_000;
+/// The most words of all that is kept.
+const MOST_WORDS: usize = 40_000_000;
+
+/// About how many words a row takes beside its set, and what waits beside its own.
+const WORDS_OF_ROW: usize = 30;
+
+const WORDS_OF_WAITING: usize = 12;
 
 /// What tokens are ahead after.
 #[derive(Clone, Copy, Drop, PartialEq, Eq, Hash)]
@@ -34,15 +39,47 @@ pub struct Key {
     pub first: Option<Sym>,
 }
 
-/// The tokens that come to be ahead in a row after the same number of tokens.
+/// A part of what is taken before.
+#[derive(Clone, Copy, Drop, PartialEq, Eq)]
+pub enum Part {
+    /// Nothing.
+    Nothing,
+    /// A token.
+    Token(Sym),
+    /// What a row takes to have this token ahead.
+    Row(usize, Sym),
+    /// What a row takes to have the token ahead that the whole has.
+    Last(usize),
+}
+
+/// What is taken before: two parts, the first one first.
+#[derive(Clone, Copy, Drop)]
+pub struct Taken {
+    /// The first part.
+    pub first: Part,
+    /// The second one.
+    pub second: Part,
+}
+
+impl Taken {
+    /// Nothing is taken.
+    pub fn nothing() -> Taken {
+        Taken {
+            first: Part::Nothing,
+            second: Part::Nothing,
+        }
+    }
+}
+
+/// The tokens that come to be ahead in a row by one way, after the same number of tokens.
 #[derive(Clone, Copy, Drop)]
 pub struct Level {
     /// How many tokens are taken before.
     pub cost: u64,
     /// The set of the tokens ahead.
     pub at: usize,
-    /// How many levels of all rows were found before.
-    pub order: usize,
+    /// What is taken; its rows had these tokens before this one.
+    pub taken: Taken,
 }
 
 /// A row.
@@ -54,12 +91,11 @@ struct Row {
     levels: Vec<Level>,
 }
 
-/// Tokens that wait to come into a row.
+/// What waits to come into a row.
 #[derive(Clone, Copy, Drop)]
 struct Waiting {
     row: usize,
-    cost: u64,
-    at: usize,
+    level: Level,
 }
 
 /// All rows, and what waits.
@@ -75,7 +111,6 @@ pub struct Rows {
     rows: Vec<Row>,
     waiting: Vec<Waiting>,
     queue: Queue,
-    settled: usize,
     steps: usize,
     words: usize,
 }
@@ -92,7 +127,6 @@ impl Drop for Rows {
             rows: _,
             waiting: _,
             queue: _,
-            settled: _,
             steps: _,
             words: _,
         } = self;
@@ -118,7 +152,6 @@ impl Rows {
             rows: Vec::new(alloc),
             waiting: Vec::new(alloc),
             queue: Queue::new(alloc),
-            settled: 0,
             steps: MOST_STEPS,
             words: MOST_WORDS,
         }
@@ -134,26 +167,33 @@ impl Rows {
         self.steps > 0 && self.words > 0
     }
 
+    /// Takes words from those that are left, and as many steps.
+    fn keep(&mut self, words: usize) {
+        self.spend(words);
+        self.words = self.words.saturating_sub(words);
+    }
+
     /// Makes an empty set.
     pub fn make_set(&mut self) -> Result<usize, AllocError> {
         let width = self.sets.width();
-        self.spend(width);
-        self.words = self.words.saturating_sub(width);
+        self.keep(width);
         self.sets.make()
     }
 
-    /// The rows of a spot.
-    pub fn of(&self, spot: Spot) -> &[usize] {
-        match self.spots.get_index_of(&spot) {
-            Some(place) => self.of_spots.get(place).map_or(&[], |rows| rows.as_slice()),
-            None => &[],
-        }
+    /// The number of a spot that has rows.
+    pub fn spot(&self, spot: Spot) -> Option<usize> {
+        self.spots.get_index_of(&spot)
     }
 
-    /// A row of a spot by its index, with the token before it.
-    pub fn row_at(&self, spot: Spot, index: usize) -> Option<(usize, Key)> {
-        let row = self.of(spot).get(index).copied()?;
-        Some((row, self.rows.get(row)?.key))
+    /// How many rows the spot of a number has.
+    pub fn count(&self, spot: usize) -> usize {
+        self.of_spots.get(spot).map_or(0, |rows| rows.len())
+    }
+
+    /// A row of the spot of a number by its index, with the token before it, where that matters.
+    pub fn row_at(&self, spot: usize, index: usize) -> Option<(usize, Option<Sym>)> {
+        let row = self.of_spots.get(spot)?.get(index).copied()?;
+        Some((row, self.rows.get(row)?.key.first))
     }
 
     /// The row of a key, where there is one.
@@ -190,6 +230,7 @@ impl Rows {
     /// Makes a row.
     fn make(&mut self, key: Key, place: usize) -> Result<usize, AllocError> {
         let known = self.make_set()?;
+        self.keep(WORDS_OF_ROW);
         let row = self.rows.len();
         let levels = Vec::new(self.alloc);
         self.rows.push(Row { key, known, levels })?;
@@ -211,31 +252,36 @@ impl Rows {
         }
     }
 
-    /// Tokens wait to come into a row after so many tokens, but for those that it has.
-    pub fn put(&mut self, key: Key, cost: u64, source: Source) -> Result<(), AllocError> {
+    /// Tokens wait to come into a row after so many others, which these parts are, but for those that
+    /// it has.
+    pub fn put(
+        &mut self,
+        key: Key,
+        cost: u64,
+        source: Source,
+        taken: Taken,
+    ) -> Result<(), AllocError> {
         let row = self.number(key)?;
         let width = self.sets.width();
         self.spend(width);
         let known = self.rows.get(row).map_or(0, |row| row.known);
         if let Some(at) = self.sets.make_of(source, known)? {
-            self.words = self.words.saturating_sub(width);
+            let level = Level { cost, at, taken };
+            self.keep(width.saturating_add(WORDS_OF_WAITING));
             self.queue.put(cost, self.waiting.len())?;
-            self.waiting.push(Waiting { row, cost, at })?;
+            self.waiting.push(Waiting { row, level })?;
         }
         Ok(())
     }
 
     /// What waits comes into its row, but for the tokens that the row has; none where it has all.
     fn settle(&mut self, number: usize) -> Result<Option<(usize, Level)>, AllocError> {
-        let Some(Waiting { row, cost, at }) = self.waiting.get(number).copied() else {
+        let Some(Waiting { row, level }) = self.waiting.get(number).copied() else {
             return Ok(None);
         };
-        let order = self.settled;
-        let level = Level { cost, at, order };
         if let Some(found) = self.rows.get_mut(row) {
-            if self.sets.settle(at, found.known) {
+            if self.sets.settle(level.at, found.known) {
                 found.levels.push(level)?;
-                self.settled = order.saturating_add(1);
                 return Ok(Some((row, level)));
             }
         }

@@ -175,17 +175,30 @@ impl<'a> Trial<'a> {
     }
 }
 
-/// The tokens that can come over these states, the first state of all at the bottom; `error` is
-/// not among them.
-pub fn expected(alloc: Global, tables: &Tables, states: &[usize]) -> Result<Wanted, AllocError> {
+/// The tokens that can come over these states, the first state of all at the bottom, `error` not
+/// among them. The trials make so many reductions at most, and those that they make are taken from
+/// that number.
+pub fn expected_within(
+    alloc: Global,
+    tables: &Tables,
+    states: &[usize],
+    left: &mut usize,
+) -> Result<Wanted, AllocError> {
     let mut wanted = Wanted::new(alloc);
-    let mut trial = Trial::new(alloc, tables, MOST_OF_ALL);
+    let mut trial = Trial::new(alloc, tables, *left);
     for token in 0..token_count(grammar_of(tables)) {
         if token != ERROR {
             wanted.note(token, trial.answer(states, token)?)?;
         }
     }
+    *left = trial.left;
     Ok(wanted)
+}
+
+/// The same, with at most 10,000,000 reductions.
+pub fn expected(alloc: Global, tables: &Tables, states: &[usize]) -> Result<Wanted, AllocError> {
+    let mut left = MOST_OF_ALL;
+    expected_within(alloc, tables, states, &mut left)
 }
 
 impl Trial<'_> {

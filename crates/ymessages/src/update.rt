@@ -8,7 +8,7 @@ use crate::refusal::put_came;
 use crate::sheet::{put_head, put_input, put_state, put_tail};
 use std::alloc::{AllocError, Global};
 use std::io::{self, Write};
-use yerrors::confirm::{Confirmed, confirm};
+use yerrors::confirm::{Confirmed, Left, confirm};
 use yerrors::errors::Errors;
 use yexplain::reads::grammar_of;
 use yparse::Session;
@@ -46,11 +46,13 @@ fn confirmed_of(
     alloc: Global,
     session: &mut Session,
     claim: &Claim,
+    left: &mut Left,
 ) -> io::Result<Option<Confirmed>> {
     match claim.state() {
         Some(state) => {
             let (tokens, last) = claim.list();
-            confirm(alloc, session, copied(alloc, tokens)?, last, state)
+            let list = (copied(alloc, tokens)?, last);
+            confirm(alloc, session, list, state, left)
         }
         None => Ok(None),
     }
@@ -63,8 +65,9 @@ pub fn confirm_all(
     messages: &Messages,
 ) -> io::Result<Vec<Option<Confirmed>>> {
     let mut all = Vec::new(alloc);
+    let mut left = Left::all();
     for claim in &messages.claims.all {
-        let confirmed = confirmed_of(alloc, session, claim)?;
+        let confirmed = confirmed_of(alloc, session, claim, &mut left)?;
         all.push(confirmed).map_err(AllocError::from)?;
     }
     Ok(all)
