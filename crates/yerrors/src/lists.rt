@@ -31,9 +31,8 @@ fn with_token(part: Part, token: Sym) -> Part {
 impl Writing {
     /// Puts the parts of a row with a token ahead after it, and says whether it has them.
     fn open(&mut self, rows: &Rows, row: usize, token: Sym) -> Result<bool, AllocError> {
-        match rows.level(row, token) {
-            Some(level) => {
-                let Taken { first, second } = level.taken;
+        match rows.taken(row, token) {
+            Some(Taken { first, second }) => {
                 self.parts.push(with_token(second, token))?;
                 self.parts.push(with_token(first, token))?;
                 Ok(true)

@@ -1,6 +1,6 @@
 //! What is found, in rows: the tokens that can be ahead after a spot, by how many tokens it takes.
 
-use crate::sets::{Sets, Source};
+use crate::sets::{Known, Sets, Source};
 use indexmap::{IndexMap, IndexSet};
 use std::alloc::{AllocError, Global};
 use ycounterexample::queue::Queue;
@@ -13,10 +13,10 @@ pub const MOST_STEPS: usize = 200_000_000;
 /// The most words of all that is kept.
 const MOST_WORDS: usize = 40_000_000;
 
-/// About how many words a row takes beside its set, and what waits beside its own.
-const WORDS_OF_ROW: usize = 30;
+/// About how many words a row takes beside its sets, and an origin beside its own.
+const WORDS_OF_ROW: usize = 40;
 
-const WORDS_OF_WAITING: usize = 12;
+const WORDS_OF_ORIGIN: usize = 12;
 
 /// What tokens are ahead after.
 #[derive(Clone, Copy, Drop, PartialEq, Eq, Hash)]
@@ -71,15 +71,28 @@ impl Taken {
     }
 }
 
-/// The tokens that come to be ahead in a row by one way, after the same number of tokens.
+/// The tokens that come to be ahead in a row after the same number of tokens.
 #[derive(Clone, Copy, Drop)]
 pub struct Level {
     /// How many tokens are taken before.
     pub cost: u64,
     /// The set of the tokens ahead.
     pub at: usize,
-    /// What is taken; its rows had these tokens before this one.
-    pub taken: Taken,
+}
+
+/// By which way tokens come to be ahead in a row.
+#[derive(Clone, Copy, Drop)]
+struct Origin {
+    level: Level,
+    /// What is taken; its rows had these tokens before.
+    taken: Taken,
+}
+
+/// What waits to come into a row, or has waited.
+#[derive(Clone, Copy, Drop)]
+struct Waiting {
+    level: Level,
+    waits: bool,
 }
 
 /// A row.
@@ -89,16 +102,30 @@ struct Row {
     /// The set of the tokens that its levels have.
     known: usize,
     levels: Vec<Level>,
+    /// What waits, once for each number of tokens before it.
+    waiting: Vec<Waiting>,
+    origins: Vec<Origin>,
 }
 
-/// What waits to come into a row.
-#[derive(Clone, Copy, Drop)]
-struct Waiting {
-    row: usize,
-    level: Level,
+impl Row {
+    /// The set that waits with so many tokens before it.
+    fn set_that_waits(&self, cost: u64) -> Option<usize> {
+        let mut waiting = self.waiting.iter();
+        let found = waiting.find(|it| it.waits && it.level.cost == cost);
+        found.map(|it| it.level.at)
+    }
+
+    /// What waits with so many tokens before it waits no more.
+    fn end_waiting(&mut self, cost: u64) {
+        for it in self.waiting.iter_mut() {
+            if it.level.cost == cost {
+                it.waits = false;
+            }
+        }
+    }
 }
 
-/// All rows, and what waits.
+/// All rows, and in which order what waits is taken.
 pub struct Rows {
     alloc: Global,
     /// All sets.
@@ -109,7 +136,8 @@ pub struct Rows {
     /// The row of a spot and of the token before it; where none matters, of the greatest number.
     numbers: IndexMap<(usize, usize), usize>,
     rows: Vec<Row>,
-    waiting: Vec<Waiting>,
+    /// The row in which something waits, and with how many tokens before it.
+    waiting: Vec<(usize, u64)>,
     queue: Queue,
     steps: usize,
     words: usize,
@@ -214,8 +242,19 @@ impl Rows {
 
     /// The level of a row that has a token.
     pub fn level(&self, row: usize, token: Sym) -> Option<Level> {
+        if !self.sets.has(self.rows.get(row)?.known, token) {
+            return None;
+        }
         let mut levels = self.levels(row).iter();
         levels.find(|level| self.sets.has(level.at, token)).copied()
+    }
+
+    /// What is taken before a token is ahead in a row, where it is.
+    pub fn taken(&self, row: usize, token: Sym) -> Option<Taken> {
+        let cost = self.level(row, token)?.cost;
+        let mut origins = self.rows.get(row)?.origins.iter();
+        let found = origins.find(|it| it.level.cost == cost && self.sets.has(it.level.at, token));
+        found.map(|it| it.taken)
     }
 
     /// The place of a spot.
@@ -232,8 +271,13 @@ impl Rows {
         let known = self.make_set()?;
         self.keep(WORDS_OF_ROW);
         let row = self.rows.len();
-        let levels = Vec::new(self.alloc);
-        self.rows.push(Row { key, known, levels })?;
+        self.rows.push(Row {
+            key,
+            known,
+            levels: Vec::new(self.alloc),
+            waiting: Vec::new(self.alloc),
+            origins: Vec::new(self.alloc),
+        })?;
         if let Some(rows) = self.of_spots.get_mut(place) {
             rows.push(row)?;
         }
@@ -252,8 +296,43 @@ impl Rows {
         }
     }
 
+    /// Makes a set wait to come into a row.
+    fn wait(&mut self, row: usize, level: Level) -> Result<(), AllocError> {
+        let at = self.sets.copy(Source::all(level.at))?;
+        let level = Level { at, ..level };
+        // the first to wait is taken first: the queue takes the greatest number
+        let number = usize::MAX.saturating_sub(self.waiting.len());
+        self.queue.put(level.cost, number)?;
+        self.waiting.push((row, level.cost))?;
+        if let Some(found) = self.rows.get_mut(row) {
+            found.waiting.push(Waiting { level, waits: true })?;
+        }
+        Ok(())
+    }
+
+    /// Keeps by which way tokens come to be ahead in a row, and makes them wait.
+    fn keep_origin(
+        &mut self,
+        row: usize,
+        origin: Origin,
+        waits: Option<usize>,
+    ) -> Result<(), AllocError> {
+        let width = self.sets.width();
+        self.keep(width.saturating_add(WORDS_OF_ORIGIN));
+        if let Some(found) = self.rows.get_mut(row) {
+            found.origins.push(origin)?;
+        }
+        match waits {
+            Some(at) => {
+                self.sets.join(origin.level.at, at);
+                Ok(())
+            }
+            None => self.wait(row, origin.level),
+        }
+    }
+
     /// Tokens wait to come into a row after so many others, which these parts are, but for those that
-    /// it has.
+    /// it has, and those that wait already.
     pub fn put(
         &mut self,
         key: Key,
@@ -264,28 +343,51 @@ impl Rows {
         let row = self.number(key)?;
         let width = self.sets.width();
         self.spend(width);
-        let known = self.rows.get(row).map_or(0, |row| row.known);
+        let Some(found) = self.rows.get(row) else {
+            return Ok(());
+        };
+        let waits = found.set_that_waits(cost);
+        let known = Known {
+            at: found.known,
+            other: waits,
+        };
         if let Some(at) = self.sets.make_of(source, known)? {
-            let level = Level { cost, at, taken };
-            self.keep(width.saturating_add(WORDS_OF_WAITING));
-            self.queue.put(cost, self.waiting.len())?;
-            self.waiting.push(Waiting { row, level })?;
+            let level = Level { cost, at };
+            self.keep_origin(row, Origin { level, taken }, waits)?;
         }
         Ok(())
     }
 
-    /// What waits comes into its row, but for the tokens that the row has; none where it has all.
-    fn settle(&mut self, number: usize) -> Result<Option<(usize, Level)>, AllocError> {
-        let Some(Waiting { row, level }) = self.waiting.get(number).copied() else {
+    /// What waits in a row with so many tokens before it comes into it, but for what it has; none
+    /// where it has all.
+    fn settle(&mut self, row: usize, cost: u64) -> Result<Option<Level>, AllocError> {
+        let Some(found) = self.rows.get_mut(row) else {
             return Ok(None);
         };
-        if let Some(found) = self.rows.get_mut(row) {
-            if self.sets.settle(level.at, found.known) {
-                found.levels.push(level)?;
-                return Ok(Some((row, level)));
-            }
+        let Some(at) = found.set_that_waits(cost) else {
+            return Ok(None);
+        };
+        found.end_waiting(cost);
+        let is_new = self.sets.take_out(at, found.known);
+        self.sets.join(at, found.known);
+        if !is_new {
+            return Ok(None);
         }
-        Ok(None)
+        let level = Level { cost, at };
+        found.levels.push(level)?;
+        Ok(Some(level))
+    }
+
+    /// What waits by its number in the queue comes into its row.
+    fn settle_number(&mut self, number: usize) -> Result<Option<(usize, Level)>, AllocError> {
+        let place = usize::MAX.saturating_sub(number);
+        match self.waiting.get(place).copied() {
+            Some((row, cost)) => {
+                let level = self.settle(row, cost)?;
+                Ok(level.map(|level| (row, level)))
+            }
+            None => Ok(None),
+        }
     }
 
     /// The next tokens that come into a row, after the fewest tokens: the row and its new level.
@@ -294,7 +396,7 @@ impl Rows {
             let Some((_, number)) = self.queue.take() else {
                 return Ok(None);
             };
-            if let Some(found) = self.settle(number)? {
+            if let Some(found) = self.settle_number(number)? {
                 return Ok(Some(found));
             }
         }

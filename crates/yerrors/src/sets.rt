@@ -24,6 +24,15 @@ pub struct Source {
     pub mask: Option<usize>,
 }
 
+/// What is known: the tokens of a set, and of another one, where one is named.
+#[derive(Clone, Copy, Drop)]
+pub struct Known {
+    /// The set.
+    pub at: usize,
+    /// The other one.
+    pub other: Option<usize>,
+}
+
 impl Source {
     /// All of a set.
     pub fn all(at: usize) -> Source {
@@ -45,15 +54,6 @@ impl Sets {
         self.width
     }
 
-    /// Makes an empty set.
-    pub fn make(&mut self) -> Result<usize, AllocError> {
-        let at = self.words.len();
-        for _ in 0..self.width {
-            self.words.push(0)?;
-        }
-        Ok(at)
-    }
-
     /// A word of a set.
     fn word(&self, at: usize, index: usize) -> u64 {
         let place = at.saturating_add(index);
@@ -71,17 +71,50 @@ impl Sets {
         set(&mut self.words, at.saturating_add(token / BITS), word);
     }
 
-    /// A word of what is taken of a set and isn't in a known one.
-    fn fresh(&self, source: Source, known: usize, index: usize) -> u64 {
-        let word = self.word(source.at, index) & !self.word(known, index);
+    /// A word of what is taken of a set.
+    fn taken(&self, source: Source, index: usize) -> u64 {
+        let word = self.word(source.at, index);
         match source.mask {
             Some(mask) => word & self.word(mask, index),
             None => word,
         }
     }
 
-    /// Makes a set of what is taken of another and isn't in a known one; none for nothing.
-    pub fn make_of(&mut self, source: Source, known: usize) -> Result<Option<usize>, AllocError> {
+    /// A word of what is known.
+    fn known(&self, known: Known, index: usize) -> u64 {
+        let word = self.word(known.at, index);
+        match known.other {
+            Some(other) => word | self.word(other, index),
+            None => word,
+        }
+    }
+
+    /// A word of what is taken of a set and isn't known.
+    fn fresh(&self, source: Source, known: Known, index: usize) -> u64 {
+        self.taken(source, index) & !self.known(known, index)
+    }
+
+    /// Makes an empty set.
+    pub fn make(&mut self) -> Result<usize, AllocError> {
+        let at = self.words.len();
+        for _ in 0..self.width {
+            self.words.push(0)?;
+        }
+        Ok(at)
+    }
+
+    /// Makes a set of what is taken of another.
+    pub fn copy(&mut self, source: Source) -> Result<usize, AllocError> {
+        let at = self.words.len();
+        for index in 0..self.width {
+            let word = self.taken(source, index);
+            self.words.push(word)?;
+        }
+        Ok(at)
+    }
+
+    /// Makes a set of what is taken of another and isn't known; none for nothing.
+    pub fn make_of(&mut self, source: Source, known: Known) -> Result<Option<usize>, AllocError> {
         let is_known = (0..self.width).all(|index| self.fresh(source, known, index) == 0);
         if is_known {
             return Ok(None);
@@ -94,30 +127,22 @@ impl Sets {
         Ok(Some(at))
     }
 
-    /// Takes out of a set what is in a known one, and says whether something is left.
-    fn take_out(&mut self, at: usize, known: usize) -> bool {
+    /// Adds a set to another.
+    pub fn join(&mut self, at: usize, to: usize) {
+        for index in 0..self.width {
+            let word = self.word(at, index) | self.word(to, index);
+            set(&mut self.words, to.saturating_add(index), word);
+        }
+    }
+
+    /// Takes out of a set what another has, and says whether something is left.
+    pub fn take_out(&mut self, at: usize, other: usize) -> bool {
         let mut all = 0;
         for index in 0..self.width {
-            let word = self.fresh(Source::all(at), known, index);
+            let word = self.word(at, index) & !self.word(other, index);
             set(&mut self.words, at.saturating_add(index), word);
             all |= word;
         }
         all != 0
-    }
-
-    /// Adds a set to a known one.
-    fn join(&mut self, at: usize, known: usize) {
-        for index in 0..self.width {
-            let word = self.word(at, index) | self.word(known, index);
-            set(&mut self.words, known.saturating_add(index), word);
-        }
-    }
-
-    /// What is new in a set becomes known, and nothing else stays in it; says whether there is
-    /// something.
-    pub fn settle(&mut self, at: usize, known: usize) -> bool {
-        let is_new = self.take_out(at, known);
-        self.join(at, known);
-        is_new
     }
 }

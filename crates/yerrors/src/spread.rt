@@ -109,30 +109,29 @@ impl Search<'_> {
         };
         for index in 0..self.rows.count(spot) {
             if let Some((over, Some(ahead))) = self.rows.row_at(spot, index) {
-                let key = self.key_of(before, item, ahead);
-                self.join(key, (over, first), (row, level))?;
+                if let Some((cost, taken)) = self.joined((over, first), (row, level)) {
+                    let key = self.key_of(before, item, ahead);
+                    self.give(key, cost, Source::all(level.at), taken)?;
+                }
             }
         }
         Ok(())
     }
 
-    /// Joins a row of a goto that leaves a token ahead and the level of a rest with it ahead.
-    fn join(
+    /// A row that leaves a token ahead before the level of another that has it ahead: how many
+    /// tokens both take, and what; none where the row leaves another one ahead.
+    fn joined(
         &mut self,
-        key: Option<Key>,
         (over, first): (usize, Sym),
         (row, level): (usize, Level),
-    ) -> Result<(), AllocError> {
+    ) -> Option<(u64, Taken)> {
         self.rows.spend(1);
-        let Some(found) = self.rows.level(over, first) else {
-            return Ok(());
-        };
+        let found = self.rows.level(over, first)?;
         let taken = Taken {
             first: Part::Row(over, first),
             second: Part::Last(row),
         };
-        let cost = found.cost.saturating_add(level.cost);
-        self.give(key, cost, Source::all(level.at), taken)
+        Some((found.cost.saturating_add(level.cost), taken))
     }
 }
 
@@ -233,8 +232,11 @@ impl Search<'_> {
         first: Sym,
         level: Level,
     ) -> Result<(), AllocError> {
-        match self.rows.find(state_key(state)) {
-            Some(way) => self.join(Some(state_key(to)), (way, first), (row, level)),
+        let Some(way) = self.rows.find(state_key(state)) else {
+            return Ok(());
+        };
+        match self.joined((way, first), (row, level)) {
+            Some((cost, taken)) => self.put_state(to, cost, level.at, taken),
             None => Ok(()),
         }
     }

@@ -39,10 +39,20 @@ fn number_in(digits: &[u8]) -> usize {
     })
 }
 
+/// The first bytes of those of an entry, up to the end of a character of UTF-8.
+fn first_bytes(bytes: &[u8]) -> &[u8] {
+    let mut end = MOST_BYTES;
+    for _ in 0..3 {
+        if bytes.get(end).map_or(false, |b| *b & 0xc0 == 0x80) {
+            end = end.saturating_sub(1);
+        }
+    }
+    bytes.get(..end).unwrap_or(bytes)
+}
+
 /// Writes some bytes of a text in one line, and dots where there are more.
 fn put_bytes<W: Write>(out: &mut W, bytes: &[u8]) -> io::Result<()> {
-    let bytes = bytes.trim_ascii();
-    let shown = bytes.get(..MOST_BYTES).unwrap_or(bytes);
+    let shown = first_bytes(bytes);
     for byte in shown {
         let shown = if *byte < b' ' { b' ' } else { *byte };
         out.write_all(&[shown])?;
@@ -67,14 +77,24 @@ fn put_tokens<W: Write>(out: &mut W, grammar: &Grammar, tokens: &[Sym]) -> io::R
 }
 
 impl<'a> Filling<'a> {
-    /// Writes the tokens of the input from one place to another, in a text as they stand there.
+    /// What stands in the text for the tokens from one place to another; nothing without a text.
+    fn bytes(self, start: usize, end: usize) -> &'a [u8] {
+        let input = self.input;
+        match &input.text {
+            Some(text) if start < end => text_between(text, start, end).trim_ascii(),
+            _ => &[],
+        }
+    }
+
+    /// Writes the tokens of the input from one place to another: as they stand in a text, unless
+    /// these are blanks alone, or by their names.
     fn put_part<W: Write>(self, out: &mut W, start: usize, end: usize) -> io::Result<()> {
-        match &self.input.text {
-            Some(text) if start < end => put_bytes(out, text_between(text, start, end)),
-            _ => {
-                let tokens = self.input.tokens.symbols.get(start..end);
-                put_tokens(out, self.grammar, tokens.unwrap_or(&[]))
-            }
+        let bytes = self.bytes(start, end);
+        if bytes.is_empty() {
+            let tokens = self.input.tokens.symbols.get(start..end);
+            put_tokens(out, self.grammar, tokens.unwrap_or(&[]))
+        } else {
+            put_bytes(out, bytes)
         }
     }
 
