@@ -17,6 +17,7 @@ GROUPS = {
         "texts": "comparers.texts",
         "verdicts": "comparers.verdicts",
         "coverage": "comparers.coverage",
+        "errors": "comparers.errors",
         "faults": "comparers.faults",
         "reader": "shared.reader",
     },

@@ -61,6 +61,10 @@ COMMANDS = {
     "header": (HERE / "rules", "rules grammar.y --header sums.h --python sums.py"),
     "name": (HERE / "rules/name-twice", "rules names.y"),
     "bison rules": (HERE / "rules/from-bison", "rules bison.y --from bison"),
+    "errors": (HERE / "errors", "errors sums.y"),
+    "complete": (HERE / "errors", "errors sums.y --messages incomplete/own --complete"),
+    "update": (HERE / "errors", "errors sums.y --messages update/own --update"),
+    "messages": (HERE / "check/messages", "check sums.y one two --messages sums.messages"),
 }
 MARK = "#" * 50
 # What a move is, and where a parse stands.

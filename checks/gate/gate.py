@@ -37,6 +37,7 @@ RUNNERS = (
     ["coverage", SECONDS],
     ["texts", SECONDS],
     ["verdicts"],
+    ["errors", SECONDS],
     ["faults", "--count=50"],
     ["cells", SECONDS],
     ["pages"],

@@ -70,6 +70,9 @@ def disks(programs):
         for form in ("--header", "--python"):
             words, inputs = ["ydebug", "rules", "far.y", form, "out"], {"far.y": FAR}
             yield partial(on_a_full_disk, words, inputs | old, programs, **refused)
+    words = ["ydebug", "errors", "far.y", "--messages", "out", "--update"]
+    for old in ({}, {"out": b"'+'\n\nNothing begins so.\n"}):
+        yield partial(on_a_full_disk, words, {"far.y": FAR} | old, programs, **refused)
     words, inputs = ["ydebug", "list.y", "tokens"], {"list.y": LIST, "tokens": TOKENS, "old": OLD}
     lines = b"save! old\nsave new\nsave! new\nsave! tokens\n"
     replies = b"".join(b"%s can't be written.\n" % it for it in (b"old", b"new", b"new", b"tokens"))
@@ -101,10 +104,12 @@ def pipes(programs):
     forms += [
         "rules list.y", "conflicts --help", "check list.y --lex a.lex text", "check list.y none"
     ]
+    forms += ["errors list.y"]
     for form in forms:
         it = scenario(["ydebug", *form.split()], inputs, b"run\ngrammar\n")
         yield partial(unread, it, "stdout", programs)
-    for form in ("bad.y tokens", "conflicts bad.y", "list.y none", "import bad.y", "rules bad.y"):
+    refused = ["bad.y tokens", "conflicts bad.y", "list.y none", "import bad.y", "rules bad.y"]
+    for form in [*refused, "errors bad.y"]:
         it = scenario(["ydebug", *form.split()], inputs)
         yield partial(unread, it, "stderr", programs)
 

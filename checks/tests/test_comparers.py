@@ -3,7 +3,7 @@ import random
 from collections import Counter
 from unittest import mock
 
-from checks.comparers import conflicts, coverage, faults, hints, programs, texts, verdicts
+from checks.comparers import conflicts, coverage, errors, faults, hints, programs, texts, verdicts
 from checks.shared.grammars import grammar_of
 from checks.shared.machine import replies_of
 from checks.shared.places import SCENARIOS
@@ -249,6 +249,79 @@ class Verdicts(Planted):
         self.assertEqual(self.counted_with("tokens: accepted at 4", accepted), (0, 1))
         self.assertEqual(self.counted_with("tokens: rejected at token 2", lines=0), (0, 1))
         self.assertEqual(self.counted_with("tokens: rejected at token 2", lines=2), (1, 1))
+
+
+class Errors(Planted):
+    """Lists of wrong inputs that are others."""
+
+    def look(self, name):
+        """What a scenario lists, and what is wrong with another list."""
+        folder = SCENARIOS / "ydebug/errors" / name
+        grammar = grammar_in(next(iter(folder.glob("*.y"))).read_bytes())
+        text = (folder / "stdout").read_text()
+        return text, lambda it: errors.differences(grammar, it, random.Random(1))
+
+    def test_each_change(self):
+        """A longer list, another last token, a state, a stack, what could come, a count, a reason,
+        a list too few, a state that is told twice or not at all."""
+        report, look = self.look("reasons")
+        pairs = [("A A\n## state 2", "A A A\n## state 2"), ("A A\n", "A C\n")]
+        pairs += [("A A\n", "A $end A\n"), ("## state 3", "## state 4")]
+        pairs += [("stack    A", "stack    B"), ("stack    (nothing)", "stack    A")]
+        pairs += [("expected B C", "expected B"), ("expected $end", "expected $end A")]
+        pairs += [("in 3 of 8", "in 4 of 8"), ("always: 5 6 7", "always: 5 6 7 4")]
+        pairs += [("always: 5 6 7", "always: 5 6"), ("before them: 4", "before them: 5")]
+        pairs += [("since it is detected before them", "since each token has an action")]
+        start, end = report.index("A A\n"), report.index("A B A\n")
+        gone = report[:start] + report[end:]
+        fewer = gone.replace("in 3 of 8", "in 2 of 8")
+        hidden = fewer.replace("before them: 4", "before them: 2 4")
+        self.each_caught(look, report, *changed(report, *pairs), gone, fewer, hidden)
+
+    def test_longer(self):
+        """A list that is an error at its last token, but not a shortest one."""
+        report, look = self.look("at-the-end")
+        longer = report.replace("'a' $end\n## state 1", "'a' 'a' $end\n## state 1")
+        self.each_caught(look, report, longer)
+
+    def test_longer_in_a_state(self):
+        """A longer list that is detected in the same state, with the same stack."""
+        folder = SCENARIOS / "ydebug/errors"
+        grammar = grammar_in((folder / "sums.y").read_bytes())
+        report = (folder / "list/stdout").read_text()
+        longer = report.replace("NUM NUM\n## state 3", "NUM '+' NUM NUM\n## state 3")
+        self.each_caught(
+            lambda it: errors.differences(grammar, it, random.Random(1)), report, longer)
+
+    def test_session(self):
+        """A session that detects the error before or after the last token, or not at all."""
+        grammar = grammar_in((SCENARIOS / "ydebug/errors/sums.y").read_bytes())
+        tokens = [grammar.names.index(it) for it in ("NUM", "'+'", "'+'")]
+        right = "1 shift NUM\n2 reduce 1\n3 shift '+'\n4 detect\n5 fail\n"
+        late = right.replace("4 detect", "4 shift '+'\n5 detect")
+        wrong = right.replace("3 shift '+'\n", ""), late
+
+        def look(replies):
+            run = mock.Mock(return_value=ended(replies))
+            with mock.patch.object(errors, "ran", run):
+                return errors.wrong_session("ystep", self.room, grammar, tokens)
+
+        self.each_caught(look, right, *wrong, right.replace("detect", "accept"))
+
+    def test_file(self):
+        """A file of messages that isn't complete, and one that an update changes."""
+        for said, status, left, fits in (
+            (", complete\n", 0, "", True), ("\n", 0, "", False), (", complete\n", 1, "", False),
+            (", complete\n", 0, "## more\n", False),
+        ):
+            def run(words, room, said=said, status=status, left=left):
+                file = room / "messages"
+                if "--update" in words:
+                    file.write_text(file.read_text() + left)
+                return ended(said, "", status if "--complete" in words else 0)
+
+            with mock.patch.object(errors, "ran", run):
+                self.assertEqual(not errors.wrong_file("ydebug", self.room, "text\n"), fits)
 
 
 class Faults(Planted):

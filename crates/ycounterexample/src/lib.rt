@@ -12,7 +12,7 @@ pub mod costs;
 pub mod finding;
 pub mod groups;
 pub mod lists;
-mod moves;
+pub mod moves;
 mod needs;
 pub mod others;
 pub mod queue;

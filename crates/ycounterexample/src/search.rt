@@ -241,6 +241,11 @@ impl Finder {
         self.budget.spend(steps);
     }
 
+    /// The ways between states.
+    pub fn moves(&self) -> &Moves {
+        &self.moves
+    }
+
     /// The rules of a left side.
     pub fn rules(&self, left: Sym) -> &[usize] {
         self.rules.of(left)

@@ -94,7 +94,7 @@ pub fn put_all(session: &mut Session, tokens: &[Sym]) -> io::Result<bool> {
 }
 
 /// Makes a step, and says which; `None` where the parse can't go on.
-fn step(session: &mut Session) -> io::Result<Option<StepKind>> {
+pub fn step(session: &mut Session) -> io::Result<Option<StepKind>> {
     match session.step() {
         Ok(kind) => Ok(Some(kind)),
         Err(StepFault::Memory) => Err(fault_of(StepFault::Memory)),

@@ -1,12 +1,16 @@
 //! `ydebug check`: the verdict on each input, by tables that are made once.
 
+use std::alloc::Global;
 use std::io::{self, ErrorKind, Read, Write};
 use std::rt::Files;
 use yexplain::reads::grammar_of;
 use yfiles::reading::{Limited, all_bytes};
-use yinput::language::{Language, LanguageFiles};
-use yinput::verdict::verdict_on;
+use yinput::fault::Fault;
+use yinput::language::{Input, Language, LanguageFiles};
+use yinput::verdict::{Verdict, verdict_on};
 use yinput::verdict_text::{put_choice, put_plain_choice};
+use ymessages::filling::filled;
+use ymessages::messages::Messages;
 
 /// What is asked for: verdicts on inputs.
 #[derive(Clone, Copy)]
@@ -15,6 +19,8 @@ pub struct Asked<'a> {
     pub files: LanguageFiles<'a>,
     /// The paths of the inputs; `-` is standard input.
     pub inputs: &'a [&'a str],
+    /// The path of the file of messages, where one is given.
+    pub messages: Option<&'a str>,
     /// Whether to say if the grammar is free of choices.
     pub choice: bool,
     /// Whether to write plain lines.
@@ -36,6 +42,48 @@ pub fn bytes_of<F: Files + AllocGlobal, R: Read>(
     }
 }
 
+/// A language, and the messages for its errors, where there are some.
+#[derive(Drop)]
+struct Told {
+    language: Language,
+    messages: Option<Messages>,
+}
+
+impl Told {
+    /// The message about an input of the language that is rejected, where there is one.
+    fn message(
+        &self,
+        alloc: Global,
+        input: &Input,
+        verdict: &Verdict,
+    ) -> io::Result<Option<Vec<u8>>> {
+        let (Some(messages), Verdict::Rejected(rejection)) = (&self.messages, verdict) else {
+            return Ok(None);
+        };
+        let grammar = grammar_of(&self.language.opened.tables);
+        match messages.of(rejection.state()) {
+            Some(message) => filled(alloc, grammar, message, input, rejection).map(Some),
+            None => Ok(None),
+        }
+    }
+
+    /// Writes the verdict on an input for people, and gives its exit status.
+    fn put<W: Write>(
+        &self,
+        alloc: Global,
+        out: &mut W,
+        path: &str,
+        input: &Input,
+        verdict: &Verdict,
+    ) -> io::Result<u8> {
+        let grammar = grammar_of(&self.language.opened.tables);
+        match self.message(alloc, input, verdict)? {
+            Some(message) => verdict.put(out, grammar, path, input, Some(message.as_slice())),
+            None => verdict.put(out, grammar, path, input, None),
+        }
+    }
+}
+
 impl Asked<'_> {
     /// Writes whether the grammar has choices, where that is wanted.
     fn put_choice<W: Write>(self, out: &mut W, language: &Language) -> io::Result<()> {
@@ -49,29 +97,53 @@ impl Asked<'_> {
         }
     }
 
-    /// Writes what comes of an input, which is standard input where its path is a dash, and gives
-    /// its exit status.
+    /// Writes the verdict on an input, and gives its exit status.
+    fn put_verdict<W: Write>(
+        self,
+        alloc: Global,
+        out: &mut W,
+        told: &Told,
+        path: &str,
+        input: &Input,
+    ) -> io::Result<u8> {
+        let verdict = verdict_on(alloc, &told.language.opened.tables, &input.tokens)?;
+        if self.plain {
+            verdict.put_plain(out, path)
+        } else {
+            told.put(alloc, out, path, input, &verdict)
+        }
+    }
+
+    /// Writes why an input has no verdict, and gives its exit status.
+    fn put_fault<F: Files + AllocGlobal, W: Write>(
+        self,
+        rt: &F,
+        out: &mut W,
+        language: &Language,
+        fault: &Fault,
+    ) -> io::Result<u8> {
+        if self.plain {
+            fault.put_plain(out)
+        } else {
+            fault.put(rt, out, self.files.grammar.path, &language.opened)
+        }
+    }
+
+    /// Writes what comes of an input, and gives its exit status.
     fn put_input<F: Files + AllocGlobal, R: Read, W: Write>(
         self,
         rt: &F,
         stdin: &mut R,
         out: &mut W,
-        language: &Language,
+        told: &Told,
         path: &str,
     ) -> io::Result<u8> {
         let most = self.most;
         let file = Limited { path, most };
+        let language = &told.language;
         match language.input_of(rt.alloc(), file, bytes_of(rt, stdin, file))? {
-            Ok(input) => {
-                let tables = &language.opened.tables;
-                let verdict = verdict_on(rt.alloc(), tables, &input)?;
-                if self.plain {
-                    return verdict.put_plain(out, path);
-                }
-                verdict.put(out, grammar_of(tables), path, &input)
-            }
-            Err(fault) if self.plain => fault.put_plain(out),
-            Err(fault) => fault.put(rt, out, self.files.grammar.path, &language.opened),
+            Ok(input) => self.put_verdict(rt.alloc(), out, told, path, &input),
+            Err(fault) => self.put_fault(rt, out, language, &fault),
         }
     }
 
@@ -81,11 +153,11 @@ impl Asked<'_> {
         rt: &F,
         stdin: &mut R,
         out: &mut W,
-        language: &Language,
+        told: &Told,
     ) -> io::Result<u8> {
         let mut status = 0;
         for path in self.inputs {
-            let ended = match self.put_input(rt, stdin, out, language, path) {
+            let ended = match self.put_input(rt, stdin, out, told, path) {
                 Err(error) if error.kind() == ErrorKind::OutOfMemory => {
                     writeln!(out, "{path}: no memory")?;
                     3
@@ -98,9 +170,36 @@ impl Asked<'_> {
     }
 }
 
+impl Asked<'_> {
+    /// A language with the messages that are asked for. Where the file of messages is refused, that
+    /// is written, and the exit status is the answer.
+    fn with_messages<F: Files + AllocGlobal, E: Write>(
+        self,
+        rt: &F,
+        language: Language,
+        errors: &mut E,
+    ) -> io::Result<Result<Told, u8>> {
+        let Some(path) = self.messages else {
+            return Ok(Ok(Told {
+                language,
+                messages: None,
+            }));
+        };
+        let most = self.most;
+        match Messages::open(rt, &language.opened.tables, Limited { path, most }, errors)? {
+            Ok(messages) => Ok(Ok(Told {
+                language,
+                messages: Some(messages),
+            })),
+            Err(status) => Ok(Err(status)),
+        }
+    }
+}
+
 /// Writes what is asked for, and gives the exit status: 0 where all inputs are accepted, 1 where
-/// the grammar, the SPEC or an input is refused or one isn't accepted, 3 where one can't be read,
-/// or memory runs out. Faults of the grammar and of the SPEC go to `errors`.
+/// the grammar, the SPEC, the file of messages or an input is refused or one isn't accepted, 3 where
+/// one can't be read, or memory runs out. Faults of the grammar, the SPEC and the file of messages
+/// go to `errors`.
 pub fn run_check<F: Files + AllocGlobal, R: Read, W: Write, E: Write>(
     rt: &F,
     asked: Asked<'_>,
@@ -108,10 +207,14 @@ pub fn run_check<F: Files + AllocGlobal, R: Read, W: Write, E: Write>(
     out: &mut W,
     errors: &mut E,
 ) -> io::Result<u8> {
-    match Language::open(rt, asked.files, errors)? {
-        Ok(language) => {
-            asked.put_choice(out, &language)?;
-            asked.put_all(rt, stdin, out, &language)
+    let language = match Language::open(rt, asked.files, errors)? {
+        Ok(language) => language,
+        Err(status) => return Ok(status),
+    };
+    match asked.with_messages(rt, language, errors)? {
+        Ok(told) => {
+            asked.put_choice(out, &told.language)?;
+            asked.put_all(rt, stdin, out, &told)
         }
         Err(status) => Ok(status),
     }

@@ -45,10 +45,10 @@ impl Asked<'_> {
         input: &Input,
     ) -> io::Result<()> {
         let tables = &language.opened.tables;
-        match verdict_on(alloc, tables, input)? {
+        match verdict_on(alloc, tables, &input.tokens)? {
             Verdict::Accepted(_) => Ok(()),
             verdict => verdict
-                .put(out, grammar_of(tables), path, input)
+                .put(out, grammar_of(tables), path, input, None)
                 .map(|_| ()),
         }
     }

@@ -9,7 +9,8 @@ pub const USAGE: &str = "usage: ydebug grammar tokens [--lex SPEC]\n";
 /// The other forms, and what holds of all, as help and usage have them.
 pub const FORMS: &str = "Other forms:\n\
     \x20 ydebug conflicts grammar [--save FOLDER] [--strict]\n\
-    \x20 ydebug check grammar tokens.. [--lex SPEC] [--choice] [--plain]\n\
+    \x20 ydebug check grammar tokens.. [--lex SPEC] [--messages FILE] [--choice] [--plain]\n\
+    \x20 ydebug errors grammar [--messages FILE [--complete] [--update]]\n\
     \x20 ydebug sentences grammar [--cover KIND] [--near] [--save FOLDER] [--strict]\n\
     \x20 ydebug sentences grammar --random N [--length L] [--seed S] [--near] [--save FOLDER]\n\
     \x20 ydebug cover grammar tokens.. [--lex SPEC] [--strict]\n\
@@ -31,6 +32,7 @@ pub enum Form {
     Debug,
     Conflicts,
     Check,
+    Errors,
     Sentences,
     Cover,
     Page,
@@ -42,9 +44,10 @@ pub enum Form {
 }
 
 /// Each form but the first by its word.
-pub const BY_WORD: [(&str, Form); 10] = [
+pub const BY_WORD: [(&str, Form); 11] = [
     ("conflicts", Form::Conflicts),
     ("check", Form::Check),
+    ("errors", Form::Errors),
     ("sentences", Form::Sentences),
     ("cover", Form::Cover),
     ("page", Form::Page),
@@ -84,6 +87,8 @@ const CONFLICTS: &[&str] = &[
     "--strict: Ends with 1 where there is a conflict or a warning",
 ];
 
+const MESSAGES: &str = "--messages FILE: A file of messages";
+
 const INPUTS: &str = "tokens..: The tokens files, or with --lex texts; - is standard input";
 
 const CHECK: &[&str] = &[
@@ -92,8 +97,18 @@ const CHECK: &[&str] = &[
     LEX,
     LIMIT,
     FROM,
+    MESSAGES,
     "--choice: Says whether the grammar is free of choices",
     "--plain: Writes a plain line for the grammar and for each input",
+];
+
+const ERRORS: &[&str] = &[
+    GRAMMAR,
+    MESSAGES,
+    "--complete: Wants a message for each state in which an error is detected",
+    "--update: Writes the file anew: its comments, and the states that are new",
+    LIMIT,
+    FROM,
 ];
 
 const SENTENCES: &[&str] = &[
@@ -213,6 +228,7 @@ fn about(form: Form) -> &'static str {
         Form::Debug => "Steps a parse forward and back for a person at a terminal",
         Form::Conflicts => "Explains the conflicts of a grammar, and warns of what it doesn't use",
         Form::Check => "Says of each input whether it is a sentence of a grammar",
+        Form::Errors => "Lists the errors of a grammar, each with a shortest wrong input",
         Form::Sentences => "Writes short sentences of a grammar that use all of it",
         Form::Cover => "Says what inputs use of a grammar, and what none of them uses",
         Form::Page => "Makes a page in HTML of a parse, to be looked at in a browser",
@@ -230,6 +246,7 @@ pub fn arguments_of(form: Form) -> &'static [&'static str] {
         Form::Debug => DEBUG,
         Form::Conflicts => CONFLICTS,
         Form::Check => CHECK,
+        Form::Errors => ERRORS,
         Form::Sentences => SENTENCES,
         Form::Cover => COVER,
         Form::Page => PAGE,

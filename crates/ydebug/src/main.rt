@@ -1,11 +1,12 @@
 //! `ydebug grammar tokens`: a debugger of parses for people. `ydebug conflicts grammar` explains
-//! the conflicts of a grammar, `ydebug check grammar tokens..` says what its sentences are, and
-//! `ydebug page grammar tokens` makes a page of a parse. `ydebug sentences grammar` writes
-//! sentences that use all of a grammar, and `ydebug cover grammar tokens..` says what inputs use
-//! of it. `ydebug import file` makes a grammar file that `yacc` reads out of one for bison. With
-//! `--lex SPEC` a text stands in place of a tokens file; `ydebug tokens` writes the tokens of one,
-//! and `ydebug lex-spec` sketches a SPEC. `ydebug rules grammar` names the rules of a grammar for
-//! programs that read its table, and `ydebug table` writes that as `yacc` does.
+//! the conflicts of a grammar, `ydebug check grammar tokens..` says what its sentences are, `ydebug
+//! errors grammar` lists its errors, and `ydebug page grammar tokens` makes a page of a parse.
+//! `ydebug sentences grammar` writes sentences that use all of a grammar, and `ydebug cover grammar
+//! tokens..` says what inputs use of it. `ydebug import file` makes a grammar file that `yacc`
+//! reads out of one for bison. With `--lex SPEC` a text stands in place of a tokens file; `ydebug
+//! tokens` writes the tokens of one, and `ydebug lex-spec` sketches a SPEC. `ydebug rules grammar`
+//! names the rules of a grammar for programs that read its table, and `ydebug table` writes that
+//! as `yacc` does.
 //!
 //! `forms` has the arguments of the forms, and `near` what could be meant by others. `check`,
 //! `cover`, `tokens`, `sketch` and `table` are forms; the others have a crate each. What the forms
@@ -40,6 +41,7 @@ use yfiles::reading::{LONGEST_INPUT, Limited};
 use yinput::grammars::{GrammarFile, open_file};
 use yinput::language::LanguageFiles;
 use yinput::source::Source;
+use ymessages::run::{Asked as Errors, run_errors};
 use ypage::page::{self, run_page};
 use ypage::walk::Part;
 use yreports::report::{Asked, put_conflicts};
@@ -220,11 +222,36 @@ impl<'a> Given<'a, '_> {
         let asked = check::Asked {
             files: self.language()?,
             inputs: self.matches.get_strs("tokens").unwrap_or(&[]),
+            messages: self.matches.get_str("messages"),
             choice: self.has("choice"),
             plain: self.has("plain"),
             most: self.most()?,
         };
         Ok(run_check(rt, asked, &mut rt.stdin(), out, &mut rt.stderr())?)
+    }
+
+    /// The file of messages, where one is given.
+    fn messages(self) -> Result<Option<Limited<'a>>, Refused> {
+        let most = self.most()?;
+        let path = self.matches.get_str("messages");
+        Ok(path.map(|path| Limited { path, most }))
+    }
+
+    /// Errors by example.
+    fn errors<W: Write>(self, out: &mut W) -> Result<u8, Refused> {
+        let rt = self.rt;
+        let asked = Errors {
+            grammar: self.grammar()?,
+            messages: self.messages()?,
+            complete: self.has("complete"),
+            update: self.has("update"),
+        };
+        if asked.messages.is_none() && (asked.complete || asked.update) {
+            rt.stderr()
+                .write_all(b"ydebug: --complete and --update want --messages FILE\n")?;
+            return Ok(2);
+        }
+        Ok(run_errors(rt, asked, out, &mut rt.stderr())?)
     }
 
     /// What inputs use.
@@ -359,6 +386,7 @@ impl<'a> Given<'a, '_> {
             Form::Debug => self.debug(out),
             Form::Conflicts => self.report(out),
             Form::Check => self.check(out),
+            Form::Errors => self.errors(out),
             Form::Sentences => self.sentences(out),
             Form::Cover => self.cover(out),
             Form::Page => self.page(out),

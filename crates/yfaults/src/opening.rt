@@ -158,3 +158,23 @@ pub fn put_near_token<W: Write>(
         None => Ok(()),
     }
 }
+
+/// Writes a fault of tokens that are a part of another file, which begins at a place, and asks
+/// whether another token was meant.
+pub fn put_part_fault<W: Write>(
+    out: &mut W,
+    alloc: Global,
+    grammar: &Grammar,
+    place: Place<'_>,
+    part: &[u8],
+    fault: TokenFault,
+) -> io::Result<()> {
+    let (code, number) = token_code(fault);
+    let Some(words) = words_of(code) else {
+        return Ok(());
+    };
+    let before = number.and_then(|number| word_place(part, number));
+    let at = place.at.saturating_add(before.unwrap_or(0));
+    Place { at, ..place }.put(out, words, true)?;
+    put_near_token(out, alloc, grammar, part, fault)
+}

@@ -1,12 +1,11 @@
 //! The verdict on an input.
 
-use crate::expected::{Wanted, expected, states_after};
-use crate::language::Input;
+use crate::expected::{Entry, Wanted, expected, stack_at, states_after};
 use std::alloc::Global;
 use std::io::{self, ErrorKind};
 use yexplain::reads::Made;
 use ylalr::END;
-use yparse::{Verdict as Judged, judge};
+use yparse::{Tokens, Verdict as Judged, judge};
 use ysymbols::Sym;
 use ytables::Tables;
 
@@ -30,6 +29,8 @@ pub struct Rejection {
     pub token: Sym,
     /// The tokens that can come in its place.
     pub wanted: Wanted,
+    /// The stack at which it is detected, the first state of all at the bottom.
+    pub stack: Vec<Entry>,
 }
 
 impl Rejection {
@@ -42,24 +43,31 @@ impl Rejection {
     fn new(alloc: Global, tables: &Tables, tokens: &[Sym], number: usize) -> Made<Rejection> {
         let taken = number.saturating_sub(1);
         let before = tokens.get(..taken).unwrap_or(tokens);
+        let token = tokens.get(taken).copied().unwrap_or(END);
         let states = states_after(alloc, tables, before)?;
         Ok(Rejection {
             number,
-            token: tokens.get(taken).copied().unwrap_or(END),
+            token,
             wanted: expected(alloc, tables, &states)?,
+            stack: stack_at(alloc, tables, before, token)?,
         })
+    }
+
+    /// The state in which it is detected.
+    pub fn state(&self) -> usize {
+        self.stack.last().map_or(0, |entry| entry.state)
     }
 }
 
-/// The verdict on an input of a language with these tables.
-pub fn verdict_on(alloc: Global, tables: &Tables, input: &Input) -> io::Result<Verdict> {
-    if !input.tokens.fits(tables) {
+/// The verdict on the tokens of an input of a language with these tables.
+pub fn verdict_on(alloc: Global, tables: &Tables, tokens: &Tokens) -> io::Result<Verdict> {
+    if !tokens.fits(tables) {
         return Err(io::Error::from(ErrorKind::Other));
     }
-    match judge(alloc, tables, &input.tokens) {
+    match judge(alloc, tables, tokens) {
         Ok(Judged::Accepted(steps)) => Ok(Verdict::Accepted(steps)),
         Ok(Judged::Rejected(number)) => {
-            let rejection = Rejection::new(alloc, tables, &input.tokens.symbols, number)?;
+            let rejection = Rejection::new(alloc, tables, &tokens.symbols, number)?;
             Ok(Verdict::Rejected(rejection))
         }
         Ok(Judged::Limit) => Ok(Verdict::Undecided),

@@ -20,16 +20,18 @@ impl Verdict {
         }
     }
 
-    /// Writes it for people, and gives the exit status.
+    /// Writes it for people, and gives the exit status. Of a rejection it says this message, where
+    /// there is one, and else which token can't come and which can.
     pub fn put<W: Write>(
         &self,
         out: &mut W,
         grammar: &Grammar,
         path: &str,
         input: &Input,
+        message: Option<&[u8]>,
     ) -> io::Result<u8> {
         let written = match self {
-            Verdict::Rejected(rejection) => rejection.put(out, grammar, path, input),
+            Verdict::Rejected(rejection) => rejection.put(out, grammar, path, input, message),
             _ => {
                 write!(out, "{path}: ")?;
                 self.put_words(out, grammar)
@@ -43,7 +45,7 @@ impl Verdict {
     pub fn put_words<W: Write>(&self, out: &mut W, grammar: &Grammar) -> io::Result<()> {
         match self {
             Verdict::Accepted(steps) => writeln!(out, "accepted after {steps} steps"),
-            Verdict::Rejected(rejection) => rejection.put_words(out, grammar),
+            Verdict::Rejected(rejection) => rejection.put_words(out, grammar, None),
             Verdict::Undecided => writeln!(out, "undecided after 1,000,000 steps"),
         }
     }
@@ -74,7 +76,7 @@ fn between(index: usize, count: usize) -> &'static str {
 }
 
 /// Writes the first of some tokens as a list, and dots where there are more.
-fn put_list<W: Write>(out: &mut W, grammar: &Grammar, tokens: &[Sym]) -> io::Result<()> {
+pub fn put_list<W: Write>(out: &mut W, grammar: &Grammar, tokens: &[Sym]) -> io::Result<()> {
     for (index, token) in tokens.iter().take(MOST_NAMED).enumerate() {
         let (front, name) = (between(index, tokens.len()), Name(grammar, *token));
         write!(out, "{front}{name}")?;
@@ -118,18 +120,32 @@ fn put_before<W: Write>(out: &mut W, grammar: &Grammar, before: &[Sym]) -> io::R
 }
 
 impl Rejection {
-    /// Writes that the token can't come, and which can.
-    fn put_token<W: Write>(&self, out: &mut W, grammar: &Grammar) -> io::Result<()> {
+    /// Writes a message, where there is one, or that the token can't come, and which can.
+    fn put_token<W: Write>(
+        &self,
+        out: &mut W,
+        grammar: &Grammar,
+        message: Option<&[u8]>,
+    ) -> io::Result<()> {
+        if let Some(message) = message {
+            out.write_all(message)?;
+            return out.write_all(b"\n");
+        }
         let name = Name(grammar, self.token);
         write!(out, "unexpected {name}")?;
         put_wanted(out, grammar, &self.wanted)
     }
 
     /// Writes so with the number of the token.
-    fn put_words<W: Write>(&self, out: &mut W, grammar: &Grammar) -> io::Result<()> {
+    fn put_words<W: Write>(
+        &self,
+        out: &mut W,
+        grammar: &Grammar,
+        message: Option<&[u8]>,
+    ) -> io::Result<()> {
         let number = self.number;
         write!(out, "rejected at token {number}: ")?;
-        self.put_token(out, grammar)
+        self.put_token(out, grammar, message)
     }
 
     /// Writes so at its place in a text, with the line there, or of a tokens file with the tokens
@@ -140,16 +156,17 @@ impl Rejection {
         grammar: &Grammar,
         path: &str,
         input: &Input,
+        message: Option<&[u8]>,
     ) -> io::Result<()> {
         if let Some(text) = &input.text {
             let place = text.place(self.number);
             place.put_front(out)?;
-            self.put_token(out, grammar)?;
+            self.put_token(out, grammar, message)?;
             return place.put_text(out, true);
         }
         let tokens = &input.tokens.symbols;
         write!(out, "{path}: ")?;
-        self.put_words(out, grammar)?;
+        self.put_words(out, grammar, message)?;
         put_before(out, grammar, tokens.get(..self.before()).unwrap_or(tokens))
     }
 }

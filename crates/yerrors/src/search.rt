@@ -1,0 +1,226 @@
+//! What a search in tables has found, and what it knows from the start: where empty rules leave the
+//! token ahead, and where a rest that is nothing lets its rule be reduced.
+
+use crate::detected::Detected;
+use crate::rows::{Key, Rows, Spot, Taken};
+use crate::sets::Source;
+use crate::ways::{Ways, before_dot};
+use indexmap::IndexMap;
+use std::alloc::{AllocError, Global};
+use yexplain::reads::{is_complete, items_of, left_of, set};
+use ylalr::{ERROR, Item, token_count};
+use ysymbols::Sym;
+
+/// A search in tables.
+pub struct Search<'a> {
+    /// The tables.
+    pub ways: Ways<'a>,
+    /// What is found.
+    pub rows: Rows,
+    /// For each state, and each rule that it reduces, the set of the tokens at which it does.
+    masks: IndexMap<(usize, usize), usize>,
+    /// The set of all tokens that an input can have.
+    pub inputs: usize,
+    /// The set of each alone.
+    alone: Vec<usize>,
+    detected: Vec<Option<Detected>>,
+}
+
+impl Drop for Search<'_> {
+    // A call in each owner, which keeps their proofs short.
+    fn drop(self) {
+        let Search {
+            ways: _,
+            rows: _,
+            masks,
+            inputs: _,
+            alone: _,
+            detected: _,
+        } = self;
+        drop(masks);
+    }
+}
+
+/// The row of a state.
+pub fn state_key(state: usize) -> Key {
+    Key {
+        spot: Spot::State(state),
+        first: None,
+    }
+}
+
+impl<'a> Search<'a> {
+    /// A search in tables, which is still to be run.
+    pub fn new(alloc: Global, ways: Ways<'a>) -> Result<Search<'a>, AllocError> {
+        let tokens = token_count(ways.grammar());
+        let states = ways.automaton().states();
+        let mut rows = Rows::new(alloc, tokens);
+        let inputs = rows.make_set()?;
+        Ok(Search {
+            ways,
+            rows,
+            masks: IndexMap::new(alloc),
+            inputs,
+            alone: Vec::new(alloc),
+            detected: vec![in alloc; None; states]?,
+        })
+    }
+
+    /// The error that a state detects first, where one was found.
+    pub fn detected(&self, state: usize) -> Option<Detected> {
+        self.detected.get(state).copied().flatten()
+    }
+
+    /// The row of a state, where a parse comes to that before any error.
+    pub fn row(&self, state: usize) -> Option<usize> {
+        let row = self.rows.find(state_key(state))?;
+        if self.rows.levels(row).is_empty() {
+            None
+        } else {
+            Some(row)
+        }
+    }
+
+    /// The set of the tokens at which a state reduces a rule.
+    pub fn mask(&self, state: usize, rule: usize) -> Option<usize> {
+        self.masks.get(&(state, rule)).copied()
+    }
+
+    /// Makes the sets of the tokens of an input.
+    fn make_inputs(&mut self) -> Result<(), AllocError> {
+        for token in 0..token_count(self.ways.grammar()) {
+            let alone = self.rows.make_set()?;
+            self.alone.push(alone)?;
+            if token != ERROR {
+                let inputs = self.inputs;
+                self.rows.sets.add(alone, token);
+                self.rows.sets.add(inputs, token);
+            }
+        }
+        Ok(())
+    }
+
+    /// Makes the set of the tokens at which a state reduces a rule.
+    fn make_mask(&mut self, state: usize, rule: usize) -> Result<usize, AllocError> {
+        let mask = self.rows.make_set()?;
+        let tokens = token_count(self.ways.grammar());
+        self.rows.spend(tokens);
+        for token in 0..tokens {
+            if self.ways.reduces(state, rule, token) {
+                self.rows.sets.add(mask, token);
+            }
+        }
+        self.masks.insert((state, rule), mask)?;
+        Ok(mask)
+    }
+
+    /// Puts what an empty rule says of the goto of a state: the token ahead stays.
+    fn put_empty(&mut self, state: usize, item: Item, mask: usize) -> Result<(), AllocError> {
+        for token in 0..self.alone.len() {
+            if self.rows.sets.has(mask, token) {
+                let alone = self.alone.get(token).copied().unwrap_or(mask);
+                let key = self.key_of(state, item, token);
+                self.give(key, 0, Source::all(alone), Taken::nothing())?;
+            }
+        }
+        Ok(())
+    }
+
+    /// Puts what an item of a state says, where it is complete.
+    fn put_item(&mut self, state: usize, item: Item) -> Result<(), AllocError> {
+        let grammar = self.ways.grammar();
+        if !is_complete(grammar, item) {
+            return Ok(());
+        }
+        let mask = self.make_mask(state, item.rule)?;
+        match before_dot(grammar, item) {
+            None => self.put_empty(state, item, mask),
+            Some(symbol) if grammar.is_token(symbol) => {
+                let spot = Spot::Rest(state, item);
+                let key = Key { spot, first: None };
+                self.rows.put(key, 0, Source::all(mask), Taken::nothing())
+            }
+            Some(_) => Ok(()),
+        }
+    }
+
+    /// Puts what the items of a state say.
+    fn put_items(&mut self, state: usize) -> Result<(), AllocError> {
+        for item in items_of(self.ways.automaton(), state) {
+            self.put_item(state, *item)?;
+        }
+        Ok(())
+    }
+
+    /// Puts what is known from the start.
+    pub fn begin(&mut self) -> Result<(), AllocError> {
+        self.make_inputs()?;
+        for state in 0..self.ways.automaton().states() {
+            if self.rows.has_steps() {
+                self.put_items(state)?;
+            }
+        }
+        let inputs = self.inputs;
+        self.put_state(0, 0, inputs, Taken::nothing())
+    }
+
+    /// Tokens can be ahead in a state after so many.
+    pub fn put_state(
+        &mut self,
+        state: usize,
+        cost: u64,
+        at: usize,
+        taken: Taken,
+    ) -> Result<(), AllocError> {
+        self.rows
+            .put(state_key(state), cost, Source::all(at), taken)
+    }
+
+    /// Tokens are ahead in a row, where there is one, after so many.
+    pub fn give(
+        &mut self,
+        key: Option<Key>,
+        cost: u64,
+        source: Source,
+        taken: Taken,
+    ) -> Result<(), AllocError> {
+        match key {
+            Some(key) => self.rows.put(key, cost, source, taken),
+            None => Ok(()),
+        }
+    }
+
+    /// The row of what is after the dot of an item, with a token ahead before; of an item with its
+    /// dot at 0 that of the goto of its left side.
+    pub fn key_of(&self, state: usize, item: Item, first: Sym) -> Option<Key> {
+        let grammar = self.ways.grammar();
+        match before_dot(grammar, item) {
+            None => {
+                let left = left_of(grammar, item.rule)?;
+                Some(Key {
+                    spot: Spot::Goto(self.ways.gotos.number(state, left)?),
+                    first: Some(first),
+                })
+            }
+            Some(symbol) => Some(Key {
+                spot: Spot::Rest(state, item),
+                first: if grammar.is_token(symbol) {
+                    None
+                } else {
+                    Some(first)
+                },
+            }),
+        }
+    }
+
+    /// Notes an error, where it comes before the one that is noted.
+    pub fn note(&mut self, state: usize, detected: Detected) {
+        let is_first = match self.detected(state) {
+            Some(found) => detected.is_before(found),
+            None => true,
+        };
+        if is_first {
+            set(&mut self.detected, state, Some(detected));
+        }
+    }
+}

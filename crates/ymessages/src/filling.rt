@@ -1,0 +1,205 @@
+//! Messages with what stands for their `$0`, `$1` and so on, and `$expected`.
+
+use std::alloc::Global;
+use std::io::{self, Write};
+use yexplain::text::{Name, Names};
+use yinput::expected::Entry;
+use yinput::language::Input;
+use yinput::text::Text;
+use yinput::verdict::Rejection;
+use yinput::verdict_text::put_list;
+use ylalr::END;
+use ysymbols::{Grammar, Sym};
+
+/// The most bytes, and the most tokens, of one entry of the stack.
+const MOST_BYTES: usize = 80;
+
+const MOST_TOKENS: usize = 20;
+
+/// What a message is filled with: a rejection of an input.
+#[derive(Clone, Copy)]
+struct Filling<'a> {
+    alloc: Global,
+    grammar: &'a Grammar,
+    input: &'a Input,
+    rejection: &'a Rejection,
+}
+
+/// How many digits are at the front, two at most.
+fn digits_in(piece: &[u8]) -> usize {
+    let digits = piece.iter().take(2);
+    digits.take_while(|b| b.is_ascii_digit()).count()
+}
+
+/// The number of some digits.
+fn number_in(digits: &[u8]) -> usize {
+    digits.iter().fold(0, |number: usize, digit| {
+        let digit = digit.saturating_sub(b'0') as usize;
+        number.saturating_mul(10).saturating_add(digit)
+    })
+}
+
+/// The first bytes of those of an entry, up to the end of a character of UTF-8.
+fn first_bytes(bytes: &[u8]) -> &[u8] {
+    let mut end = MOST_BYTES;
+    for _ in 0..3 {
+        if bytes.get(end).map_or(false, |b| *b & 0xc0 == 0x80) {
+            end = end.saturating_sub(1);
+        }
+    }
+    bytes.get(..end).unwrap_or(bytes)
+}
+
+/// Writes some bytes of a text in one line, and dots where there are more.
+fn put_bytes<W: Write>(out: &mut W, bytes: &[u8]) -> io::Result<()> {
+    let shown = first_bytes(bytes);
+    for byte in shown {
+        let shown = if *byte < b' ' { b' ' } else { *byte };
+        out.write_all(&[shown])?;
+    }
+    if shown.len() < bytes.len() {
+        write!(out, " ..")?;
+    }
+    Ok(())
+}
+
+/// Writes some tokens, and dots where there are more.
+fn put_tokens<W: Write>(out: &mut W, grammar: &Grammar, tokens: &[Sym]) -> io::Result<()> {
+    let shown = tokens.get(..MOST_TOKENS).unwrap_or(tokens);
+    if let Some((first, rest)) = shown.split_first() {
+        let (name, names) = (Name(grammar, *first), Names(grammar, rest));
+        write!(out, "{name}{names}")?;
+    }
+    if shown.len() < tokens.len() {
+        write!(out, " ..")?;
+    }
+    Ok(())
+}
+
+impl<'a> Filling<'a> {
+    /// What stands in the text for the tokens from one place to another; nothing without a text.
+    fn bytes(self, start: usize, end: usize) -> &'a [u8] {
+        let input = self.input;
+        match &input.text {
+            Some(text) if start < end => text_between(text, start, end).trim_ascii(),
+            _ => &[],
+        }
+    }
+
+    /// Writes the tokens of the input from one place to another: as they stand in a text, unless
+    /// these are blanks alone, or by their names.
+    fn put_part<W: Write>(self, out: &mut W, start: usize, end: usize) -> io::Result<()> {
+        let bytes = self.bytes(start, end);
+        if bytes.is_empty() {
+            let tokens = self.input.tokens.symbols.get(start..end);
+            put_tokens(out, self.grammar, tokens.unwrap_or(&[]))
+        } else {
+            put_bytes(out, bytes)
+        }
+    }
+
+    /// Writes the token that can't come.
+    fn put_token<W: Write>(self, out: &mut W) -> io::Result<()> {
+        let Rejection { number, token, .. } = self.rejection;
+        if *token == END {
+            let name = Name(self.grammar, *token);
+            return write!(out, "{name}");
+        }
+        self.put_part(out, self.rejection.before(), *number)
+    }
+
+    /// Where the tokens of an entry begin, counted from the bottom; before the token that can't
+    /// come, where there is no such entry.
+    fn start(self, index: usize) -> usize {
+        let rejection = self.rejection;
+        let entry: Option<&Entry> = rejection.stack.get(index);
+        entry.map_or(rejection.before(), |entry| entry.start)
+    }
+
+    /// Writes an entry of the stack, counted from 1 at the top; nothing where there is none.
+    fn put_entry<W: Write>(self, out: &mut W, number: usize) -> io::Result<()> {
+        let rejection = self.rejection;
+        match rejection.stack.len().checked_sub(number) {
+            Some(index) if index > 0 => {
+                let end = self.start(index.saturating_add(1));
+                self.put_part(out, self.start(index), end)
+            }
+            _ => Ok(()),
+        }
+    }
+
+    /// Writes what a number stands for.
+    fn put_number<W: Write>(self, out: &mut W, number: usize) -> io::Result<()> {
+        match number {
+            0 => self.put_token(out),
+            _ => self.put_entry(out, number),
+        }
+    }
+
+    /// Writes the tokens that could come.
+    fn put_expected<W: Write>(self, out: &mut W) -> io::Result<()> {
+        let mut list = Vec::new(self.alloc);
+        put_list(&mut list, self.grammar, &self.rejection.wanted.can)?;
+        out.write_all(list.as_slice().trim_ascii_start())
+    }
+
+    /// Writes what follows a dollar sign.
+    fn put_piece<W: Write>(self, out: &mut W, piece: &[u8]) -> io::Result<()> {
+        if let Some(rest) = piece.strip_prefix(b"expected") {
+            self.put_expected(out)?;
+            return out.write_all(rest);
+        }
+        let count = digits_in(piece);
+        let digits = piece.get(..count).unwrap_or(&[]);
+        let rest = piece.get(count..).unwrap_or(&[]);
+        if digits.is_empty() {
+            write!(out, "$")?;
+        } else {
+            self.put_number(out, number_in(digits))?;
+        }
+        out.write_all(rest)
+    }
+
+    /// Writes a message. Two dollar signs are one.
+    fn put<W: Write>(self, out: &mut W, message: &[u8]) -> io::Result<()> {
+        let mut is_plain = true;
+        for piece in message.split(|b| *b == b'$') {
+            if is_plain {
+                out.write_all(piece)?;
+                is_plain = false;
+            } else if piece.is_empty() {
+                write!(out, "$")?;
+                is_plain = true;
+            } else {
+                self.put_piece(out, piece)?;
+            }
+        }
+        Ok(())
+    }
+}
+
+/// The bytes of a text from a token to another, both counted from 0.
+fn text_between(text: &Text, start: usize, end: usize) -> &[u8] {
+    let from = text.at(start.saturating_add(1));
+    let to = text.at(end.saturating_add(1));
+    text.bytes.get(from..to).unwrap_or(&[])
+}
+
+/// A message about a rejection of an input.
+pub fn filled(
+    alloc: Global,
+    grammar: &Grammar,
+    message: &[u8],
+    input: &Input,
+    rejection: &Rejection,
+) -> io::Result<Vec<u8>> {
+    let mut text = Vec::new(alloc);
+    let filling = Filling {
+        alloc,
+        grammar,
+        input,
+        rejection,
+    };
+    filling.put(&mut text, message)?;
+    Ok(text)
+}

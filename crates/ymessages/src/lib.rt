@@ -1,0 +1,17 @@
+//! Files of messages: blocks of wrong inputs, each with a message for the states in which their
+//! errors are detected.
+//!
+//! `file` cuts a file into its parts, `claims` reads the inputs and says which state each claims,
+//! and `messages` is a file whose inputs are read. `refusal` says what is wrong with one. `filling`
+//! writes a message with what stands for its `$0`, `$1` and `$expected`, `sheet` what is written of
+//! a state, and `update` a whole file. `run` is `ydebug errors`.
+#![tactic(auto)]
+
+mod claims;
+mod file;
+pub mod filling;
+pub mod messages;
+mod refusal;
+pub mod run;
+mod sheet;
+mod update;

@@ -1,0 +1,150 @@
+//! A file of messages whose inputs are read.
+
+use crate::claims::Claims;
+use crate::file::{Cut, Part, parts_of};
+use crate::refusal::Source;
+use std::alloc::Global;
+use std::io::{self, ErrorKind, Write};
+use std::rt::Files;
+use yexplain::reads::grammar_of;
+use yfiles::reading::Limited;
+use ytables::Tables;
+
+/// A file of messages: its bytes, its parts, and what its inputs claim.
+#[derive(Drop)]
+pub struct Messages {
+    /// The bytes.
+    pub bytes: Vec<u8>,
+    /// The parts.
+    pub(crate) parts: Vec<Part>,
+    /// The inputs.
+    pub(crate) claims: Claims,
+}
+
+/// The parts of a file, or the line after which a message is missing.
+fn read_parts<E: Write>(
+    alloc: Global,
+    source: Source<'_>,
+    errors: &mut E,
+) -> io::Result<Result<Vec<Part>, u8>> {
+    match parts_of(alloc, source.bytes) {
+        Ok(parts) => Ok(Ok(parts)),
+        Err(Cut::NoMessage(line)) => {
+            source.put_no_message(errors, line)?;
+            Ok(Err(1))
+        }
+        Err(Cut::Memory) => Err(io::Error::from(ErrorKind::OutOfMemory)),
+    }
+}
+
+/// The inputs of a file with these parts, or what is wrong with the first that isn't read.
+fn claims_of<E: Write>(
+    alloc: Global,
+    tables: &Tables,
+    source: Source<'_>,
+    parts: &[Part],
+    errors: &mut E,
+) -> io::Result<Result<Claims, u8>> {
+    match Claims::new(alloc, tables, source.bytes, parts)? {
+        Ok(claims) => Ok(Ok(claims)),
+        Err(unread) => {
+            source.put_unread(errors, alloc, grammar_of(tables), unread)?;
+            Ok(Err(1))
+        }
+    }
+}
+
+/// The bytes of a file, or the exit status where it isn't read, which is then said.
+pub(crate) fn bytes_of<F: Files + AllocGlobal, E: Write>(
+    rt: &F,
+    file: Limited<'_>,
+    errors: &mut E,
+) -> io::Result<Result<Vec<u8>, u8>> {
+    match file.bytes(rt) {
+        Ok(Some(bytes)) => Ok(Ok(bytes)),
+        Ok(None) => {
+            file.put_long_input(rt, errors)?;
+            Ok(Err(1))
+        }
+        Err(error) if error.kind() == ErrorKind::OutOfMemory => Err(error),
+        Err(_) => {
+            let path = file.path;
+            writeln!(errors, "ydebug: cannot read {path}")?;
+            Ok(Err(3))
+        }
+    }
+}
+
+impl Messages {
+    /// A file of these bytes, for these tables. Where it can't be read, what is wrong is written,
+    /// and the exit status is the answer. Inputs that aren't errors at their last token are read
+    /// too.
+    pub(crate) fn read<E: Write>(
+        alloc: Global,
+        tables: &Tables,
+        path: &str,
+        bytes: Vec<u8>,
+        errors: &mut E,
+    ) -> io::Result<Result<Messages, u8>> {
+        let source = Source {
+            path,
+            bytes: &bytes,
+        };
+        let parts = match read_parts(alloc, source, errors)? {
+            Ok(parts) => parts,
+            Err(status) => return Ok(Err(status)),
+        };
+        let claims = match claims_of(alloc, tables, source, &parts, errors)? {
+            Ok(claims) => claims,
+            Err(status) => return Ok(Err(status)),
+        };
+        Ok(Ok(Messages {
+            bytes,
+            parts,
+            claims,
+        }))
+    }
+
+    /// Writes what is wrong with the inputs, and says how many are wrong.
+    pub(crate) fn put_wrong<E: Write>(
+        &self,
+        tables: &Tables,
+        path: &str,
+        errors: &mut E,
+    ) -> io::Result<usize> {
+        let source = Source {
+            path,
+            bytes: &self.bytes,
+        };
+        source.put_claims(errors, grammar_of(tables), &self.claims)
+    }
+
+    /// Opens a file, for these tables. Where something is wrong with it, that is written, and the
+    /// exit status is the answer.
+    pub fn open<F: Files + AllocGlobal, E: Write>(
+        rt: &F,
+        tables: &Tables,
+        file: Limited<'_>,
+        errors: &mut E,
+    ) -> io::Result<Result<Messages, u8>> {
+        let bytes = match bytes_of(rt, file, errors)? {
+            Ok(bytes) => bytes,
+            Err(status) => return Ok(Err(status)),
+        };
+        let messages = match Messages::read(rt.alloc(), tables, file.path, bytes, errors)? {
+            Ok(messages) => messages,
+            Err(status) => return Ok(Err(status)),
+        };
+        match messages.put_wrong(tables, file.path, errors)? {
+            0 => Ok(Ok(messages)),
+            _ => Ok(Err(1)),
+        }
+    }
+
+    /// The message of a state, where it has one.
+    pub fn of(&self, state: usize) -> Option<&[u8]> {
+        let claim = self.claims.all.get(self.claims.owner(state)?)?;
+        let span = self.parts.get(claim.part)?.message?;
+        Some(span.of(&self.bytes))
+    }
+}

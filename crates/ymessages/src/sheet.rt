@@ -1,0 +1,161 @@
+//! What is written of an input and of the state that detects its error, and of states without one.
+
+use std::io::Write;
+use yerrors::confirm::Confirmed;
+use yerrors::errors::{Errors, MOST_STEPS, Reason};
+use yexplain::reads::{grammar_of, items_of};
+use yexplain::text::ItemText;
+use ylalr::Item;
+use ysymbols::{Grammar, Sym};
+use ytables::Tables;
+use yview::page::Page;
+use yview::reading::{name_of, states_of};
+
+/// How long a line of words is.
+const WIDTH: usize = 78;
+
+/// The most items of a state that are shown.
+const MOST_ITEMS: usize = 12;
+
+/// The reasons for which a state has no input, in the order in which they are told.
+const REASONS: [Reason; 6] = [
+    Reason::Reduces,
+    Reason::TakesAll,
+    Reason::Before,
+    Reason::After,
+    Reason::Long,
+    Reason::Late,
+];
+
+/// Writes a word of a list, on another line where this one is full.
+fn put_word<W: Write>(page: &mut Page<W>, word: &str) {
+    if page.column().saturating_add(word.len()) >= WIDTH {
+        page.end();
+        page.put("##         ");
+    }
+    page.put(" ");
+    page.put(word);
+}
+
+/// Writes symbols as a list after its title.
+fn put_symbols<W: Write>(page: &mut Page<W>, grammar: &Grammar, title: &str, symbols: &[Sym]) {
+    page.put(title);
+    for symbol in symbols {
+        put_word(page, name_of(grammar, *symbol));
+    }
+    if symbols.is_empty() {
+        page.put(" (nothing)");
+    }
+    page.end();
+}
+
+/// Writes an input: its tokens, the last one too.
+pub fn put_input<W: Write>(page: &mut Page<W>, grammar: &Grammar, tokens: &[Sym], last: Sym) {
+    for token in tokens {
+        page.put(name_of(grammar, *token));
+        page.put(" ");
+    }
+    page.put(name_of(grammar, last));
+    page.end();
+}
+
+/// Whether an item has begun.
+fn has_begun(item: Item) -> bool {
+    item.dot > 0 || item.rule == 0
+}
+
+/// Writes the items of a state that have begun.
+fn put_items<W: Write>(page: &mut Page<W>, tables: &Tables, state: usize) {
+    let mut count: usize = 0;
+    for item in items_of(tables.automaton(), state) {
+        if has_begun(*item) {
+            count = count.saturating_add(1);
+            if count <= MOST_ITEMS {
+                page.put("##   ");
+                page.show(ItemText(grammar_of(tables), *item));
+                page.end();
+            }
+        }
+    }
+    if count > MOST_ITEMS {
+        let more = count.saturating_sub(MOST_ITEMS);
+        let _ = writeln!(page, "##   .. {more} more");
+    }
+}
+
+/// Writes the state of an input, its items, the stack, and the tokens that could come.
+pub fn put_state<W: Write>(
+    page: &mut Page<W>,
+    tables: &Tables,
+    state: usize,
+    confirmed: &Confirmed,
+) {
+    let grammar = grammar_of(tables);
+    let _ = writeln!(page, "## state {state}");
+    put_items(page, tables, state);
+    put_symbols(page, grammar, "## stack   ", &confirmed.stack);
+    put_symbols(page, grammar, "## expected", &confirmed.wanted.can);
+    if !confirmed.wanted.unknown.is_empty() {
+        put_symbols(page, grammar, "## unknown ", &confirmed.wanted.unknown);
+    }
+}
+
+/// Writes what a file of messages begins with.
+pub fn put_head<W: Write>(page: &mut Page<W>, path: &str, tables: &Tables, errors: &Errors) {
+    let (count, states) = (errors.count(), states_of(tables));
+    let _ = writeln!(
+        page,
+        "## {path}: an error can be detected in {count} of {states} states."
+    );
+    page.line("## A block has inputs whose last token is the error, an empty line, a message.");
+    page.line("## In a message $0 is that token, $1, $2 .. are the entries of the stack from the");
+    page.line("## top, $expected the tokens that could come. Lines with ## are written anew.");
+    page.end();
+}
+
+/// What is said of states for a reason.
+fn put_reason<W: Write>(page: &mut Page<W>, reason: Reason) {
+    let steps = MOST_STEPS;
+    let _ = match reason {
+        Reason::Reduces => write!(page, "## no error, since they reduce by one rule always:"),
+        Reason::TakesAll => write!(page, "## no error, since each token has an action:"),
+        Reason::Before => write!(page, "## no error, since it is detected before them:"),
+        Reason::After => write!(page, "## no error, since no parse comes there without one:"),
+        Reason::Long => write!(page, "## inputs of more than 1,000 tokens:"),
+        Reason::Late => write!(page, "## not found within {steps} steps:"),
+    };
+}
+
+/// Writes the states that have no input for a reason, where there are some.
+fn put_states<W: Write>(page: &mut Page<W>, errors: &Errors, reason: Reason) {
+    let mut is_begun = false;
+    for (state, outcome) in errors.outcomes.iter().enumerate() {
+        if outcome.reason() == Some(reason) {
+            if !is_begun {
+                put_reason(page, reason);
+            }
+            is_begun = true;
+            put_number(page, state);
+        }
+    }
+    if is_begun {
+        page.end();
+    }
+}
+
+/// Writes the number of a state as a word of a list.
+fn put_number<W: Write>(page: &mut Page<W>, state: usize) {
+    if page.column().saturating_add(5) >= WIDTH {
+        page.end();
+        page.put("##         ");
+    }
+    page.put(" ");
+    page.number(state);
+}
+
+/// Writes the states that have no input.
+pub fn put_tail<W: Write>(page: &mut Page<W>, errors: &Errors) {
+    for reason in &REASONS {
+        put_states(page, errors, *reason);
+    }
+}

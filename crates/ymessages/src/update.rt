@@ -1,0 +1,181 @@
+//! A file of messages, written anew: its parts in their order, with comments that are made again,
+//! and then the states that are new.
+
+use crate::claims::Claim;
+use crate::file::{Part, Span, is_comment};
+use crate::messages::Messages;
+use crate::refusal::put_came;
+use crate::sheet::{put_head, put_input, put_state, put_tail};
+use std::alloc::{AllocError, Global};
+use std::io::{self, Write};
+use yerrors::confirm::{Confirmed, Left, confirm};
+use yerrors::errors::Errors;
+use yexplain::reads::grammar_of;
+use yparse::Session;
+use ysymbols::Sym;
+use ytables::Tables;
+use yview::page::Page;
+
+/// The message of a state that is new.
+const FIRST: &[u8] = b"unexpected $0, expected $expected";
+
+/// What a file is written anew from.
+#[derive(Clone, Copy)]
+pub struct Update<'a> {
+    /// The path of the grammar file.
+    pub path: &'a str,
+    /// The tables.
+    pub tables: &'a Tables,
+    /// The errors of their states.
+    pub errors: &'a Errors,
+    /// The file.
+    pub messages: &'a Messages,
+    /// What sessions have of its inputs.
+    pub confirmed: &'a [Option<Confirmed>],
+}
+
+/// A copy of some tokens.
+fn copied(alloc: Global, tokens: &[Sym]) -> Result<Vec<Sym>, AllocError> {
+    let mut copy = Vec::with_capacity(alloc, tokens.len())?;
+    copy.extend_from_slice(tokens)?;
+    Ok(copy)
+}
+
+/// What a session has of an input; nothing where its last token is no error.
+fn confirmed_of(
+    alloc: Global,
+    session: &mut Session,
+    claim: &Claim,
+    left: &mut Left,
+) -> io::Result<Option<Confirmed>> {
+    match claim.state() {
+        Some(state) => {
+            let (tokens, last) = claim.list();
+            let list = (copied(alloc, tokens)?, last);
+            confirm(alloc, session, list, state, left)
+        }
+        None => Ok(None),
+    }
+}
+
+/// What a session at its start, which is left there, has of the inputs of a file.
+pub fn confirm_all(
+    alloc: Global,
+    session: &mut Session,
+    messages: &Messages,
+) -> io::Result<Vec<Option<Confirmed>>> {
+    let mut all = Vec::new(alloc);
+    let mut left = Left::all();
+    for claim in &messages.claims.all {
+        let confirmed = confirmed_of(alloc, session, claim, &mut left)?;
+        all.push(confirmed).map_err(AllocError::from)?;
+    }
+    Ok(all)
+}
+
+impl<'a> Update<'a> {
+    /// Writes bytes of the file as a line.
+    fn put_line<W: Write>(self, page: &mut Page<W>, line: Span) {
+        let _ = page.write_all(line.of(&self.messages.bytes));
+        page.end();
+    }
+
+    /// Writes the comments of the input of a number.
+    fn put_claim<W: Write>(self, page: &mut Page<W>, number: usize, claim: &Claim) {
+        let confirmed = self.confirmed.get(number);
+        match (claim.state(), confirmed) {
+            (Some(state), Some(Some(confirmed))) => {
+                put_state(page, self.tables, state, confirmed);
+            }
+            _ => {
+                page.put("## wrong: ");
+                let _ = put_came(page, grammar_of(self.tables), claim);
+                page.end();
+            }
+        }
+        if self.messages.claims.rival(claim).is_some() {
+            page.line("## wrong: an input above has this state, with another message");
+        }
+    }
+
+    /// Writes a line of a part, and the comments of an input after it.
+    fn put_part_line<W: Write>(self, page: &mut Page<W>, line: Span) {
+        self.put_line(page, line);
+        if is_comment(line.of(&self.messages.bytes)) {
+            return;
+        }
+        let claims = self.messages.claims.all.as_slice();
+        let place = claims.binary_search_by_key(&line.start, |claim| claim.line.start);
+        if let Ok(number) = place {
+            if let Some(claim) = claims.get(number) {
+                self.put_claim(page, number, claim);
+            }
+        }
+    }
+
+    /// Writes a message after the inputs of its block, and whether it is still the first one.
+    fn put_message<W: Write>(self, page: &mut Page<W>, message: &[u8]) {
+        if message == FIRST {
+            page.line("## new");
+        }
+        page.end();
+        let _ = page.write_all(message);
+        page.end();
+    }
+
+    /// Writes a part of the file.
+    fn put_part<W: Write>(self, page: &mut Page<W>, part: &Part) {
+        for line in &part.lines {
+            self.put_part_line(page, *line);
+        }
+        if let Some(span) = part.message {
+            self.put_message(page, span.of(&self.messages.bytes));
+        }
+        page.end();
+    }
+
+    /// Writes the parts of the file.
+    fn put_parts<W: Write>(self, page: &mut Page<W>) {
+        for part in &self.messages.parts {
+            self.put_part(page, part);
+        }
+    }
+
+    /// The list of a state that is new: no input of the file claims it.
+    pub fn new_list(self, state: usize) -> Option<&'a Confirmed> {
+        let (errors, messages) = (self.errors, self.messages);
+        if messages.claims.owner(state).is_some() {
+            return None;
+        }
+        errors.outcomes.get(state)?.list()
+    }
+
+    /// Writes a block for each state that is new.
+    fn put_new<W: Write>(self, page: &mut Page<W>) {
+        for state in 0..self.errors.outcomes.len() {
+            if let Some(confirmed) = self.new_list(state) {
+                let grammar = grammar_of(self.tables);
+                put_input(page, grammar, &confirmed.tokens, confirmed.last);
+                put_state(page, self.tables, state, confirmed);
+                self.put_message(page, FIRST);
+                page.end();
+            }
+        }
+    }
+
+    /// How many states are new.
+    pub fn count_new(self) -> usize {
+        let states = 0..self.errors.outcomes.len();
+        states
+            .filter(|state| self.new_list(*state).is_some())
+            .count()
+    }
+
+    /// Writes the file.
+    pub fn put<W: Write>(self, page: &mut Page<W>) {
+        put_head(page, self.path, self.tables, self.errors);
+        self.put_parts(page);
+        self.put_new(page);
+        put_tail(page, self.errors);
+    }
+}

@@ -1,0 +1,3 @@
+%token NUM "number"
+%%
+sum : "number" | sum '+' "number" ;

@@ -1,0 +1,6 @@
+%token NUM
+%nonassoc '<'
+%%
+e : e '<' e
+  | NUM
+  ;

@@ -1,0 +1,3 @@
+%token A B
+%%
+list : | list A | list B ;

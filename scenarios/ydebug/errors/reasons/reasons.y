@@ -1,0 +1,8 @@
+%token A B C
+%%
+s : a B
+  | A C
+  | error B
+  ;
+a : A
+  ;
