@@ -5,11 +5,11 @@ from dataclasses import replace
 
 from checks.shared.tables import Tables
 
-CHANGE = re.compile(r"  (\d+) (?:of (\d+) conflicts go|more) when (.*)")
+CHANGE = re.compile(r"  (\d+) (?:of (\d+) conflicts goe?s?|more) when (.*)")
 LINES = re.compile(r"(.*) (?:get precedence lines|gets a precedence line)")
 OWN = re.compile(r"rule (\d+) (?:\(line \d+\) )?a name of its own by %prec")
 PAIR = re.compile(
-    r"  (\d+) of (\d+) conflicts stand between rule (\d+)[^,]*, which is taken, and rule (\d+)"
+    r"  (\d+) of (\d+) conflicts stands? between rule (\d+)[^,]*, which is taken, and rule (\d+)"
 )
 MOST_PAIRS = 5
 

@@ -13,8 +13,8 @@ use crate::trail::Trail;
 use std::alloc::{AllocError, Global};
 use std::marker::Model;
 use ylalr::{Automaton, Item};
-use ysymbols::Sym;
 use yspread::links::Links;
+use ysymbols::Sym;
 
 /// An automaton, and for each of its states those that lead to it.
 #[derive(Drop)]

@@ -17,8 +17,8 @@ use crate::reason::{Cause, Place};
 use crate::trail::{Entry, Trail};
 use std::alloc::AllocError;
 use ylalr::{Automaton, END, Item};
-use ysymbols::Sym;
 use yspread::links::Links;
+use ysymbols::Sym;
 
 /// An entry of a trail whose place has a token of itself, and why.
 #[derive(Clone, Copy, Drop)]

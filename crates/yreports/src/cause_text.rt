@@ -45,11 +45,19 @@ impl CauseText<'_> {
         if !change.tokens.is_empty() {
             self.put_tokens(out, &change.tokens)?;
             let many = change.tokens.len() > 1;
-            out.write_all(if many { b" get precedence lines" } else { b" gets a precedence line" })?;
+            out.write_all(if many {
+                b" get precedence lines"
+            } else {
+                b" gets a precedence line"
+            })?;
         }
         match change.rule {
             Some(rule) => {
-                let front = if change.tokens.is_empty() { "" } else { ", and " };
+                let front = if change.tokens.is_empty() {
+                    ""
+                } else {
+                    ", and "
+                };
                 let rule = Numbered(self.lines, rule);
                 writeln!(out, "{front}{rule} a name of its own by %prec")
             }
@@ -61,10 +69,10 @@ impl CauseText<'_> {
     fn put_pairs<W: Write>(self, out: &mut W, causes: &Causes) -> io::Result<()> {
         for ((taken, other), count) in causes.pairs.iter().take(MOST_PAIRS) {
             let (taken, other) = (Numbered(self.lines, *taken), Numbered(self.lines, *other));
-            let all = causes.all;
+            let (all, stand) = (causes.all, if *count == 1 { "stands" } else { "stand" });
             writeln!(
                 out,
-                "  {count} of {all} conflicts stand between {taken}, which is taken, and {other}"
+                "  {count} of {all} conflicts {stand} between {taken}, which is taken, and {other}"
             )?;
         }
         let more = causes.pairs.len().saturating_sub(MOST_PAIRS);
@@ -80,6 +88,7 @@ impl CauseText<'_> {
         for (place, change) in causes.changes.iter().enumerate() {
             let settles = change.settles;
             match place {
+                0 if settles == 1 => write!(out, "  1 of {all} conflicts goes when ")?,
                 0 => write!(out, "  {settles} of {all} conflicts go when ")?,
                 _ => write!(out, "  {settles} more when ")?,
             }

@@ -125,7 +125,10 @@ fn changes_of(
 ) -> Result<Vec<Change>, AllocError> {
     let mut classes = Classes::new(alloc, grammar.symbols())?;
     let mut changes = Vec::new(alloc);
-    for cell in cells.iter().filter(|cell| cell.shift.is_some() && cell.token != END) {
+    for cell in cells
+        .iter()
+        .filter(|cell| cell.shift.is_some() && cell.token != END)
+    {
         for rule in cell.rules() {
             match lines.giver(grammar, *rule) {
                 Some(giver) => classes.note(grammar, cell.token, giver),
@@ -254,7 +257,9 @@ pub fn causes_of(
     }
     let grammar = grammar_of(tables);
     let cells = tried_of(alloc, tables, lines, found)?;
-    let all = cells.iter().fold(0usize, |sum, cell| sum.saturating_add(cell.weight()));
+    let all = cells
+        .iter()
+        .fold(0usize, |sum, cell| sum.saturating_add(cell.weight()));
     let changes = changes_of(alloc, grammar, lines, &cells)?;
     let marks = Marks::new(alloc, grammar)?;
     let mut seeker = Seeker {

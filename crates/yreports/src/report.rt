@@ -229,7 +229,11 @@ fn put_both<W: Write, E: Write, F: Files + AllocGlobal + Clone + Drop>(
     let warnings = put_warnings(&mut *page, rt.alloc(), session.tables(), lines)?;
     page.checked()?;
     let is_bad = found.cells > 0 || warnings > 0;
-    put_failed(errors, failed.as_ref(), if asked.strict && is_bad { 1 } else { 0 })
+    put_failed(
+        errors,
+        failed.as_ref(),
+        if asked.strict && is_bad { 1 } else { 0 },
+    )
 }
 
 /// Writes the conflicts and the warnings of a grammar that is open, and gives the exit status: 0;

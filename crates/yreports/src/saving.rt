@@ -195,10 +195,6 @@ impl<F: Files + AllocGlobal + Clone + Drop> Folder<'_, F> {
         let alloc: Global = self.rt.alloc();
         let mut text = Vec::new(alloc);
         put_tokens(&mut text, grammar, tokens, last)?;
-        is_written(write_over(
-            self.rt,
-            path,
-            text.strip_prefix(b" ").unwrap_or(&text),
-        ))
+        is_written(write_over(self.rt, path, text.strip_prefix(b" ").unwrap_or(&text)))
     }
 }

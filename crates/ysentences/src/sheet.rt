@@ -8,10 +8,9 @@ use std::alloc::Global;
 use std::io::{self, Write};
 use std::rt::Files;
 use ycounterexample::budget::ALL_STEPS;
-use ycover::elements::{Kind, Elements};
+use ycover::elements::{Elements, Kind};
 use yexplain::reads::grammar_of;
 use yexplain::text::Name;
-use yinput::language::Input;
 use yinput::verdict::{Verdict, verdict_on};
 use yparse::Tokens;
 use yreports::saving::Folder;
@@ -168,11 +167,7 @@ impl<W: Write, F: Files + AllocGlobal + Clone + Drop> Sheet<'_, W, F> {
     fn verdict(&self, tokens: &[Sym]) -> io::Result<Verdict> {
         let mut symbols = Vec::with_capacity(self.alloc, tokens.len())?;
         symbols.extend_from_slice(tokens)?;
-        let input = Input {
-            tokens: Tokens { symbols },
-            text: None,
-        };
-        verdict_on(self.alloc, self.elements.tables, &input)
+        verdict_on(self.alloc, self.elements.tables, &Tokens { symbols })
     }
 
     /// Writes a sentence, and where it is kept.

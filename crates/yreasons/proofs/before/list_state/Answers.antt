@@ -63,13 +63,13 @@ loop-item-preserved c =
                 ];
           })
       | in_default w ↦ rw w.before-is record {
-          links = inv.links;
-          kept = inv.kept;
-          every = λ k n x i y l g d t. elim (last_or_before k c.loop-item.item-index l)
-              as (λ z. Link old n q) [
-                | inl a ↦ inv.every k n x i y a g d t
-                | inr a ↦ (let f = found here k n x i y a g d t in let o = w.in_default.is in
-                    let p : None ≡ Some n = sym o ∙ f in absurd (cc))
-              ];
-        }
+        links = inv.links;
+        kept = inv.kept;
+        every = λ k n x i y l g d t. elim (last_or_before k c.loop-item.item-index l)
+            as (λ z. Link old n q) [
+              | inl a ↦ inv.every k n x i y a g d t
+              | inr a ↦ (let f = found here k n x i y a g d t in let o = w.in_default.is in
+                  let p : None ≡ Some n = sym o ∙ f in absurd (cc))
+            ];
+      }
     ]
