@@ -1,9 +1,7 @@
 -- The states that lead to a state: where a goto leads, and one more state listed.
-use Rattle.std.proofs.Common.{ℕ, ◌≡◌, ◌<◌, ◌+◌, ◌⊎◌, List, [], ◌∷◌, length, arith, Option, Some, None}
-use Rattle.std.proofs.Common.{MatchOption, inl, inr}
-use Rattle.ylalr.specs.declared.items.Item.{Item}
-use Rattle.ylalr.specs.Items.{InCore, IsCore}
-use Rattle.ylalr.specs.Collection.{Collection, HasStates, IsGoto, bare_of, state_of}
+use Rattle.std.proofs.Common.{ℕ, ◌≡◌, ◌<◌, ◌+◌, ◌⊎◌, length, arith, Option, Some, None}
+use Rattle.std.proofs.Common.{MatchOption}
+use Rattle.ylalr.specs.Collection.{Collection, HasStates, IsGoto}
 
 -- a goto leads to a state
 pub goto_within : (m : Collection) (q x : ℕ) (o : Option ℕ) → HasStates m → q < length m.states →

@@ -3,7 +3,7 @@ use Rattle.std.proofs.Common.{ℕ, zero, suc, ◌≡◌, ◌+◌, ◌<◌, List,
 use Rattle.std.proofs.Common.{refl, sym, ◌∙◌, subst, inl, inr, ◌⊎◌, arith, ap}
 use Rattle.std.proofs.Math.Seq.{drop-cons}
 use Rattle.std.proofs.lemmas.List.{take_more}
-use Rattle.ysymbols.specs.Grammar.{ContextFree, IsToken}
+use Rattle.ysymbols.specs.Grammar.{ContextFree}
 use Rattle.ysymbols.specs.Forms.{Nullable, First}
 use Rattle.ylalr.proofs.Vanish.{Vanishes, vanishes_append, vanishes_left, vanishes_right}
 use Rattle.ylalr.proofs.Vanish.{vanishes_from_nullable, nullable_from_vanishes}

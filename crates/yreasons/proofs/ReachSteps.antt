@@ -1,6 +1,6 @@
 -- What gives an item its lookaheads: the place before a goto, and no lookahead without a place that
 -- has it of itself.
-use Rattle.std.proofs.Common.{ℕ, suc, ◌≡◌, ◌≢◌, ◌<◌, ◌⊎◌, List, [], ◌∷◌, ◌++◌, length, drop, refl}
+use Rattle.std.proofs.Common.{ℕ, suc, ◌≡◌, ◌≢◌, ◌<◌, List, [], ◌∷◌, length, drop, refl}
 use Rattle.std.proofs.Common.{sym, ◌∙◌, subst, inl, inr, arith, Option, Some, None, MatchOption}
 use Rattle.std.specs.List.{All, Contains}
 use Rattle.std.proofs.lemmas.List.Elements.{All-head, All-drop}
@@ -9,7 +9,7 @@ use Rattle.ysymbols.specs.Forms.{First}
 use Rattle.ysymbols.specs.WellFormed.{WellFormed}
 use Rattle.ylalr.specs.declared.items.Item.{Item}
 use Rattle.ylalr.specs.Items.{Valid, start, closure, move, InCore, IsCore, Lookahead}
-use Rattle.ylalr.specs.Collection.{Collection, HasStates, IsGoto, bare_of, state_of, goto_in}
+use Rattle.ylalr.specs.Collection.{Collection, HasStates, bare_of, state_of, goto_in}
 use Rattle.ylalr.proofs.Vanish.{more, nullable_from_vanishes}
 use Rattle.ylalr.proofs.Begins.{Begins as BeginsForm, here, over, into, begins_split, begins_from_first, first_is}
 use Rattle.ylalr.proofs.Fruitful.{valid_rule, valid_token}

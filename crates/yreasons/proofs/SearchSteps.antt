@@ -1,5 +1,5 @@
 -- One step of a search back along a trail.
-use Rattle.std.proofs.Common.{ℕ, zero, suc, ◌≡◌, ◌≢◌, ◌<◌, ◌≤◌, ◌+◌, ◌-◌, ◌⊎◌, List, [], ◌∷◌, ◌++◌}
+use Rattle.std.proofs.Common.{ℕ, suc, ◌≡◌, ◌≢◌, ◌<◌, ◌≤◌, ◌-◌, ◌⊎◌, List, [], ◌∷◌}
 use Rattle.std.proofs.Common.{length, drop, get_or, refl, sym, ◌∙◌, ap, subst, inl, inr, arith, Some, None}
 use Rattle.std.proofs.Common.{Option, true, eqb}
 use Rattle.std.specs.List.{All, Contains}
@@ -14,16 +14,15 @@ use Rattle.ylalr.specs.declared.items.Item.{Item}
 use Rattle.ylalr.specs.Items.{Lookahead}
 use Rattle.ylalr.specs.Collection.{Collection, HasStates, bare_of, state_of, goto_in}
 use Rattle.ylalr.specs.Sets.{IsWithin}
-use Rattle.yspread.specs.Links.{Link, links_of}
 use Rattle.yreasons.specs.declared.reason.Place.{Place}
 use Rattle.yreasons.specs.declared.reason.Cause.{Cause}
 use Rattle.yreasons.specs.declared.reason.Cause.TheVariants.{Starts, Begins, Passes, Moves}
 use Rattle.yreasons.specs.declared.trail.Entry.{Entry}
 use Rattle.yreasons.specs.Reasons.{Opens, Has, starts, begins, Gives, passes, moves, place_of}
-use Rattle.yreasons.specs.Trail.{blank_entry, entry_at, places_of, Puts, Extends, IsPlace, IsTrail, IsTried}
-use Rattle.yreasons.specs.Trail.{IsVisited, AreBefore}
+use Rattle.yreasons.specs.Trail.{blank_entry, entry_at, places_of, Puts, IsPlace, IsTrail, IsTried}
+use Rattle.yreasons.specs.Trail.{IsVisited}
 use Rattle.yreasons.proofs.ReachSteps.{came, no_lookahead}
-use Rattle.yreasons.proofs.TrailSteps.{puts_trail, puts_there}
+use Rattle.yreasons.proofs.TrailSteps.{puts_trail}
 
 -- an element of a list is like all
 pub of_all : {A : Type 0} (P : A → Type 0) (xs : List A) (x : A) → All P xs → Contains xs x → P x

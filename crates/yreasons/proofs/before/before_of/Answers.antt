@@ -1,4 +1,4 @@
-use Rattle.std.proofs.Common.{ℕ, ◌≡◌, ◌<◌, ◌⊎◌, inl, inr, sym, subst, arith}
+use Rattle.std.proofs.Common.{inl, inr, sym, subst}
 use Rattle.yreasons.specs.Trail.{IsListed}
 use Rattle.yreasons.proofs.BeforeSteps.{last_or_before}
 use Rattle.yreasons.proofs.before.before_of.Goals as goal

@@ -1,6 +1,5 @@
-use Rattle.std.proofs.Common.{◌≡◌, ◌<◌, ◌++◌, ◌∷◌, [], ◌∙◌, ap, List, length, arith, sym, subst}
+use Rattle.std.proofs.Common.{◌<◌, ◌++◌, ◌∷◌, [], ◌∙◌, ap, List, arith}
 use Rattle.yreasons.specs.declared.reason.Reason.{Reason}
-use Rattle.yreasons.specs.declared.trail.Entry.{Entry}
 use Rattle.yreasons.specs.Trail.{entry_at}
 use Rattle.yreasons.proofs.ClimbSteps.{climb_first, climb_next, reason_of}
 use Rattle.yreasons.proofs.climb.climb.Goals as goal

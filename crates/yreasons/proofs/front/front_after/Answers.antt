@@ -1,4 +1,4 @@
-use Rattle.std.proofs.Common.{◌≡◌, ◌<◌, ◌+◌, ◌∙◌, ◌∷◌, List, ℕ, length, drop, get_or, inr, ap, subst, sym, arith}
+use Rattle.std.proofs.Common.{◌≡◌, ◌<◌, ◌+◌, ◌∙◌, ◌∷◌, List, ℕ, length, drop, get_or, inr, ap, subst, arith}
 use Rattle.ysymbols.specs.Grammar.{GrammarValue, Production, left_of, body_of}
 use Rattle.ylalr.specs.Collection.{bare_of}
 use Rattle.yreasons.proofs.FrontSteps.{after_there}

@@ -1,4 +1,4 @@
-use Rattle.std.proofs.Common.{ℕ, suc, ◌≡◌, ◌<◌, ◌-◌, ◌∙◌, ◌∷◌, drop, sym, ap, subst, arith, Some}
+use Rattle.std.proofs.Common.{suc, ◌≡◌, ◌<◌, ◌-◌, ◌∙◌, ◌∷◌, drop, sym, ap, subst, arith, Some}
 use Rattle.std.specs.List.{Contains}
 use Rattle.ysymbols.specs.Grammar.{body_of}
 use Rattle.ylalr.specs.Collection.{bare_of, goto_in}

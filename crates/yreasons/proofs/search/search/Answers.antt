@@ -1,4 +1,4 @@
-use Rattle.std.proofs.Common.{ℕ, ◌≡◌, ◌<◌, List, Option, MatchOption, length, sym, subst, inl, inr, arith}
+use Rattle.std.proofs.Common.{ℕ, ◌<◌, List, Option, MatchOption, length, sym, subst, inl, inr, arith}
 use Rattle.ysymbols.specs.Grammar.{GrammarValue}
 use Rattle.ysymbols.specs.WellFormed.{WellFormed}
 use Rattle.ylalr.specs.Items.{Lookahead}

@@ -1,13 +1,12 @@
-use Rattle.std.proofs.Common.{ℕ, ◌≡◌, ◌⊎◌, ◌∷◌, List, drop, sym, subst, inl, inr}
+use Rattle.std.proofs.Common.{ℕ, ◌≡◌, ◌∷◌, List, drop, sym, subst, inl, inr}
 use Rattle.std.specs.List.{Contains}
 use Rattle.ysymbols.specs.Grammar.{left_of, body_of}
 use Rattle.ylalr.specs.Collection.{bare_of, state_of}
-use Rattle.yreasons.specs.declared.front.Front.{Front}
 use Rattle.yreasons.specs.declared.front.Front.TheVariants.{Neither}
 use Rattle.yreasons.specs.declared.reason.Cause.TheVariants.{Begins, Passes}
 use Rattle.yreasons.specs.declared.trail.Entry.{Entry}
 use Rattle.yreasons.specs.Reasons.{Has}
-use Rattle.yreasons.specs.Trail.{IsPlace, IsTrail, IsTried}
+use Rattle.yreasons.specs.Trail.{IsPlace, IsTried}
 use Rattle.yreasons.proofs.SearchSteps.{has_begun, open_trail}
 use Rattle.yreasons.proofs.TrailSteps.{puts_there}
 use Rattle.yreasons.proofs.search.try_item.Goals.{After-front_after}

@@ -1,4 +1,4 @@
-use Rattle.std.proofs.Common.{◌≡◌, ◌<◌, Option, MatchOption, refl, sym, subst, arith}
+use Rattle.std.proofs.Common.{◌≡◌, Option, MatchOption, refl, sym, subst, arith}
 use Rattle.std.specs.List.{Contains}
 use Rattle.ylalr.specs.declared.items.Item.{Item}
 use Rattle.ylalr.specs.Collection.{state_of}
@@ -7,7 +7,7 @@ use Rattle.yreasons.specs.declared.trail.Entry.{Entry}
 use Rattle.yreasons.specs.Reasons.{Has}
 use Rattle.yreasons.specs.Trail.{entry_at, IsTried, IsVisited}
 use Rattle.yreasons.specs.declared.reason.Cause.TheVariants.{Starts}
-use Rattle.yreasons.proofs.SearchSteps.{has_starts, starts_here, visited_back, visited_open}
+use Rattle.yreasons.proofs.SearchSteps.{has_starts, starts_here, visited_open}
 use Rattle.yreasons.proofs.search.visit.Goals as goal
 
 pub returns-then-is_start-clause-found : goal.returns-then-is_start-clause-found

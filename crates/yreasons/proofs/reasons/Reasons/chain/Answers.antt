@@ -1,4 +1,4 @@
-use Rattle.std.proofs.Common.{◌<◌, List, length, sym, ap, subst}
+use Rattle.std.proofs.Common.{◌<◌, length, sym, subst}
 use Rattle.ylalr.specs.Collection.{Collection}
 use Rattle.yreasons.specs.declared.reason.Cause.TheVariants.{Starts}
 use Rattle.yreasons.specs.declared.trail.Entry.{Entry}
