@@ -39,7 +39,9 @@ def grammar_in(text):
     at = {name: index for index, name in enumerate(names)}
     rules = [Rule(at["$accept"], [at[spelled(lefts[0])], 0], None)]
     for rule in file.rules:
-        rules.append(Rule(at[spelled(rule.left)], [at[spelled(it)] for it in rule.symbols()], None))
+        body = [at[spelled(it)] for it in rule.symbols()]
+        giver = next((it for it in reversed(body) if it < 2 + len(tokens)), None)
+        rules.append(Rule(at[spelled(rule.left)], body, None, giver))
     values = [it if isinstance(it, int) else 257 + tokens.index(it) for it in tokens]
     numbers = {0: 0, 1: 256} | dict(enumerate(values, 2))
     return Grammar(text.decode(), names, 2 + len(tokens), numbers, rules, {})

@@ -111,6 +111,10 @@ class Conflicts(Planted):
         pairs += [("2 kinds", "1 kinds"), ("state 4 on E", "state 4 on B")]
         pairs += [("rule 10 is never reduced", "rule 9 is never reduced"), ("warning: ", "")]
         pairs = [it for it in pairs if it[0] != "warning: "]
+        pairs += [("state 1  rule 3", "state 2  rule 3"), ("state 2  rule 6", "state 2  rule 7")]
+        pairs += [("    state 2  rule 7 (line 11)  q: . y B\n", ""), ("after rule 10", "after rule 9")]
+        pairs += [("1 of 3 conflicts goes", "2 of 3 conflicts go"), ("A and B get", "A and E get")]
+        pairs += [("between rule 9", "between rule 11"), ("1 of 3 conflicts st", "2 of 3 conflicts st")]
         gone = report[: report.index("\nwarning")], report.replace("conflict 2", "conflict two")
         lists = report.replace("  for rule 10 (line 15):\n  tokens  D A . B\n", "")
         self.each_caught(look, report, *changed(report, *pairs), *gone, lists, "")
