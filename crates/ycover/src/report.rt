@@ -1,6 +1,6 @@
 //! What was used of tables, and what never was.
 
-use crate::elements::{Kind, Elements};
+use crate::elements::{Elements, Kind};
 use crate::uses::{Uses, marked};
 use std::io::{self, Write};
 

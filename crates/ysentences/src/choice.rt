@@ -157,11 +157,7 @@ fn is_spared(counts: &mut [usize], elements: &[usize]) -> bool {
 }
 
 impl<'a> Chooser<'a> {
-    fn new(
-        alloc: Global,
-        session: &'a mut Session,
-        kind: Kind,
-    ) -> Result<Chooser<'a>, AllocError> {
+    fn new(alloc: Global, session: &'a mut Session, kind: Kind) -> Result<Chooser<'a>, AllocError> {
         let seeker = Seeker::new(alloc, session.tables())?;
         let rules = grammar_of(session.tables()).rules();
         let trier = Trier::new(alloc, session, kind)?;

@@ -84,10 +84,8 @@ impl Completer {
         (item, rest): (Item, Item),
         (length, before): (u64, Option<usize>),
     ) -> Result<(), AllocError> {
-        let (Some(below), Some(left)) = (
-            entries.checked_sub(item.dot),
-            left_of(grammar, item.rule),
-        ) else {
+        let (Some(below), Some(left)) = (entries.checked_sub(item.dot), left_of(grammar, item.rule))
+        else {
             return Ok(());
         };
         let length = length.saturating_add(finder.length(rest_of(grammar, rest)));

@@ -135,12 +135,7 @@ impl Contexts {
     }
 
     /// The items on the way to a symbol, the nearest first.
-    fn way(
-        &self,
-        alloc: Global,
-        grammar: &Grammar,
-        symbol: Sym,
-    ) -> Result<Vec<Item>, AllocError> {
+    fn way(&self, alloc: Global, grammar: &Grammar, symbol: Sym) -> Result<Vec<Item>, AllocError> {
         let (mut way, mut at, root) = (Vec::new(alloc), symbol, root(grammar));
         for _ in 0..grammar.symbols() {
             if at == root {

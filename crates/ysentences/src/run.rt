@@ -12,7 +12,7 @@ use std::rt::Files;
 use ycounterexample::search::Finder;
 use ycounterexample::trial::empty_session;
 use ycover::cells::Cells;
-use ycover::elements::{Kind, Elements};
+use ycover::elements::{Elements, Kind};
 use yexplain::reads::{grammar_of, set};
 use yfaults::opening::Opened;
 use yinput::grammars::{GrammarFile, open_file};
@@ -122,7 +122,11 @@ fn put_unused<W: Write, F: Files + AllocGlobal + Clone + Drop>(
     let mut count: usize = 0;
     for (element, used) in chosen.used.iter().enumerate().skip(kind.first()) {
         if !*used {
-            let missing = chosen.missing.get(element).copied().unwrap_or(Missing::Late);
+            let missing = chosen
+                .missing
+                .get(element)
+                .copied()
+                .unwrap_or(Missing::Late);
             sheet.put_unused(kind, element, missing)?;
             count = count.saturating_add(1);
         }
@@ -184,7 +188,10 @@ fn put_drawn<W: Write, F: Files + AllocGlobal + Clone + Drop>(
     let count = drawn.count;
     match put_each_drawn(sheet, drawn)? {
         Some(accepted) => {
-            write!(sheet.out, "# {accepted} of {count} random sentences accepted")?;
+            write!(
+                sheet.out,
+                "# {accepted} of {count} random sentences accepted"
+            )?;
             sheet.put_end()?;
             Ok(accepted == count)
         }
@@ -225,11 +232,7 @@ fn put_sheet<'a, W: Write, E: Write, F: Files + AllocGlobal + Clone + Drop>(
     };
     let status = if asked.strict && !is_all { 1 } else { 0 };
     let failed = sheet.folder.failed.as_ref();
-    put_failed(
-        errors,
-        failed.or(sheet.near_folder.failed.as_ref()),
-        status,
-    )
+    put_failed(errors, failed.or(sheet.near_folder.failed.as_ref()), status)
 }
 
 /// Writes sentences of a grammar that is open, and gives the exit status.

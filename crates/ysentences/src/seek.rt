@@ -144,7 +144,10 @@ impl Seeker {
 
     /// The symbols of a shortest way to a goal, unless the search takes too long.
     fn way(&mut self, tables: &Tables, goal: Goal) -> Result<Option<Vec<Sym>>, AllocError> {
-        match self.finder.shortest(tables.automaton(), goal.target(tables))? {
+        match self
+            .finder
+            .shortest(tables.automaton(), goal.target(tables))?
+        {
             Found::Way(way) => Ok(Some(way)),
             Found::Nothing | Found::Late => Ok(None),
         }

@@ -8,7 +8,7 @@ use std::alloc::Global;
 use std::io::{self, Write};
 use std::rt::Files;
 use ycounterexample::budget::ALL_STEPS;
-use ycover::elements::{Kind, Elements};
+use ycover::elements::{Elements, Kind};
 use yexplain::reads::grammar_of;
 use yexplain::text::Name;
 use yinput::language::Input;
