@@ -280,8 +280,8 @@ impl<'a> Chooser<'a> {
 
     /// The rules that a cell reduces by at `error`, which no parse looks up.
     fn at_error(&self) -> Result<Vec<bool>, AllocError> {
-        let tables = self.trier.session.tables();
-        let mut marks = vec![in self.alloc; false; self.trier.count()]?;
+        let (alloc, tables) = (self.alloc, self.trier.session.tables());
+        let mut marks = vec![in alloc; false; self.trier.count()]?;
         for state in 0..tables.automaton().states() {
             if let Action::Reduce(rule) = action_of(tables, state, ERROR) {
                 set(&mut marks, rule, true);
