@@ -407,7 +407,8 @@ def commands(rng, is_endless):
         near = ["--near"] if rng.random() < 0.5 and not is_endless else []
         yield ["--cover", word, *near], lambda it, text, kind=kind: differences(it, kind, text)
     length, seed = rng.choice([1, 5, 20, 60]), rng.randint(0, 10**9)
-    count, near = ("2", []) if is_endless else ("10", ["--near"])
+    length = min(length, 5) if is_endless else length
+    count, near = ("1", []) if is_endless else ("10", ["--near"])
     words = ["--random", count, "--length", str(length), "--seed", str(seed), *near]
     yield words, lambda it, text: wrong_random(it, text, length)
 
@@ -424,7 +425,7 @@ def compared(ydebug, room, rng, counts):
             return [f"{grammar.text}{words}: {wrong}\n{made.stderr}"]
         counts.update(counts_of(made.stdout))
         lists += [tokens for _, tokens in Said(machine, made.stdout).lists]
-    lists = rng.sample(lists, min(len(lists), 8)) or [[]]
+    lists = rng.sample(lists, min(len(lists), 1 if machine.is_endless() else 8)) or [[]]
     for at, tokens in enumerate(lists):
         (Path(room) / f"{at}").write_text(machine.names(tokens) + "\n")
     files = [str(at) for at in range(len(lists))]

@@ -10,5 +10,5 @@ pub mod cells;
 pub mod elements;
 pub mod report;
 pub mod steps;
-pub mod uses;
+mod uses;
 pub mod walk;

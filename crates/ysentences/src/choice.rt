@@ -9,6 +9,7 @@ use ycounterexample::lists::Lists;
 use ycounterexample::others::Others;
 use ycover::elements::Kind;
 use yexplain::reads::{action_of, default_of, grammar_of, is_reachable, left_of, set};
+use ylalr::ERROR;
 use yparse::Session;
 use ysymbols::Sym;
 use ytables::{Action, Tables};
@@ -260,9 +261,11 @@ impl<'a> Chooser<'a> {
 
     /// Seeks sentences for the rules that none uses yet, by cells that reduce by them.
     fn seek_rules(&mut self) -> io::Result<()> {
-        let goals = self.goals_of_rules()?;
+        let (goals, marks) = (self.goals_of_rules()?, self.at_error()?);
         for rule in 1..self.trier.count() {
+            let is_marked = marks.get(rule).copied().unwrap_or(false);
             self.seek_rule(rule, goals.of(rule))?;
+            self.judge(rule, goals.of(rule).is_empty() && !is_marked);
         }
         Ok(())
     }
@@ -272,8 +275,19 @@ impl<'a> Chooser<'a> {
         for goal in goals {
             self.seek(*goal, rule)?;
         }
-        self.judge(rule, goals.is_empty());
         Ok(())
+    }
+
+    /// The rules that a cell reduces by at `error`, which no parse looks up.
+    fn at_error(&self) -> Result<Vec<bool>, AllocError> {
+        let (alloc, tables) = (self.alloc, self.trier.session.tables());
+        let mut marks = vec![in alloc; false; self.trier.count()]?;
+        for state in 0..tables.automaton().states() {
+            if let Action::Reduce(rule) = action_of(tables, state, ERROR) {
+                set(&mut marks, rule, true);
+            }
+        }
+        Ok(marks)
     }
 
     /// Notes why a rule isn't used that can't be.
