@@ -273,12 +273,12 @@ class Errors(Planted):
         pairs += [("A A\n", "A $end A\n"), ("## state 3", "## state 4")]
         pairs += [("stack    A", "stack    B"), ("stack    (nothing)", "stack    A")]
         pairs += [("expected B C", "expected B"), ("expected $end", "expected $end A")]
-        pairs += [("in 3 of 8", "in 4 of 8"), ("always: 5 6 7", "always: 5 6 7 4")]
-        pairs += [("always: 5 6 7", "always: 5 6"), ("before them: 4", "before them: 5")]
+        pairs += [("in 4 of 9", "in 5 of 9"), ("always: 5 7 8", "always: 5 7 8 4")]
+        pairs += [("always: 5 7 8", "always: 5 7"), ("before them: 4", "before them: 5")]
         pairs += [("since it is detected before them", "since each token has an action")]
         start, end = report.index("A A\n"), report.index("A B A\n")
         gone = report[:start] + report[end:]
-        fewer = gone.replace("in 3 of 8", "in 2 of 8")
+        fewer = gone.replace("in 4 of 9", "in 3 of 9")
         hidden = fewer.replace("before them: 4", "before them: 2 4")
         self.each_caught(look, report, *changed(report, *pairs), gone, fewer, hidden)
 

@@ -16,7 +16,7 @@ const MOST_STEPS: usize = 200_000;
 
 /// The most reductions of all trials of a run that tell which tokens could come, beside those that
 /// each list may take in any case.
-const MOST_REDUCTIONS: usize = 20_000_000;
+const MOST_REDUCTIONS: usize = 8_000_000;
 
 /// The most reductions for one list: one part in so many of those that are left, or so many.
 const PARTS: usize = 4;

@@ -8,7 +8,7 @@ use ylalr::Item;
 use ysymbols::Sym;
 
 /// The most steps of a search: words of sets that are made, and rows that are looked at.
-pub const MOST_STEPS: usize = 200_000_000;
+pub const MOST_STEPS: usize = 100_000_000;
 
 /// The most words of all that is kept.
 const MOST_WORDS: usize = 40_000_000;

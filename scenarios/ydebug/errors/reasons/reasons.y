@@ -1,7 +1,7 @@
 %token A B C
 %%
 s : a B
-  | A C
+  | A C C
   | error B
   ;
 a : A
