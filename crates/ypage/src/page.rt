@@ -1,8 +1,7 @@
 //! `ydebug page`: the page of a parse, written to a file or to standard output.
 
 use crate::cards::{Cards, cards_by};
-use crate::cells::cells_of;
-use crate::data::{Data, table_of};
+use crate::data::Shown;
 use crate::frame::{BODY, END, FRONT};
 use crate::input::Input;
 use crate::script::SCRIPT;
@@ -51,6 +50,16 @@ fn push_page(page: &mut Vec<u8>, json: &[u8]) -> Result<(), AllocError> {
     Ok(())
 }
 
+/// The whole page.
+fn page_of(alloc: Global, shown: Shown<'_>) -> io::Result<Vec<u8>> {
+    let json = shown.json(alloc)?;
+    let mut page = Vec::new(alloc);
+    match push_page(&mut page, &json) {
+        Ok(()) => Ok(page),
+        Err(error) => Err(io::Error::from(error)),
+    }
+}
+
 /// The cards of a grammar where they are wanted, and the grammar again.
 fn cards_of(alloc: Global, opened: Opened, wanted: bool) -> io::Result<(Opened, Option<Cards>)> {
     if wanted {
@@ -61,31 +70,36 @@ fn cards_of(alloc: Global, opened: Opened, wanted: bool) -> io::Result<(Opened, 
     }
 }
 
-/// The whole page of the steps of a trail, by a grammar that is open.
-fn page_of(
-    alloc: Global,
-    files: (&str, &str),
-    opened: &Opened,
-    input: &Input,
-    trail: &Trail,
-    conflicts: Option<&Cards>,
-) -> io::Result<Vec<u8>> {
-    let Opened { tables, lines } = opened;
-    let (record, asked) = (&trail.record, trail.cells.as_slice());
-    let table = table_of(alloc, opened, record, conflicts)?;
-    let cells = cells_of(alloc, tables, lines, asked)?;
-    let data = Data {
-        files,
-        table: &table,
-        input,
-        record,
-        cells: &cells,
-        conflicts,
-    };
-    let json = data.json(alloc)?;
-    let mut page = Vec::new(alloc);
-    push_page(&mut page, &json)?;
-    Ok(page)
+/// Writes that there are more steps than a page shows.
+fn refuse_long<E: Write>(errors: &mut E, from: usize) -> io::Result<u8> {
+    let to = from.saturating_add(MOST_STEPS);
+    writeln!(
+        errors,
+        "ydebug: there are more than {MOST_STEPS} steps, the most that one page shows; choose a \
+         part with --from and --to, such as --from {from} --to {to}"
+    )?;
+    Ok(1)
+}
+
+/// Writes that the parse ends before the part.
+fn refuse_short<E: Write>(errors: &mut E, from: usize, end: usize) -> io::Result<u8> {
+    writeln!(
+        errors,
+        "ydebug: the parse ends at position {end}, before --from {from}"
+    )?;
+    Ok(1)
+}
+
+/// Writes the page of what is shown, and gives the exit status.
+fn put_shown<F: Files + AllocGlobal, W: Write, E: Write>(
+    rt: &F,
+    file: Option<&str>,
+    shown: Shown<'_>,
+    out: &mut W,
+    errors: &mut E,
+) -> io::Result<u8> {
+    let page = page_of(rt.alloc(), shown)?;
+    put_output(rt, file, &page, out, errors)
 }
 
 /// Writes the page of the steps that a parse has made, and gives the exit status.
@@ -98,11 +112,17 @@ fn put_steps<F: Files + AllocGlobal, W: Write, E: Write>(
     errors: &mut E,
 ) -> io::Result<u8> {
     let alloc = source.rt.alloc();
-    let files = (source.files.grammar.path, source.input.path);
     let input = Input::new(alloc, &parse, &trail.record)?;
     let (opened, cards) = cards_of(alloc, parse.into_opened(), asked.conflicts)?;
-    let page = page_of(alloc, files, &opened, &input, trail, cards.as_ref())?;
-    put_output(source.rt, asked.file, &page, out, errors)
+    let shown = Shown {
+        files: (source.files.grammar.path, source.input.path),
+        opened: &opened,
+        input: &input,
+        record: &trail.record,
+        asked: trail.cells.as_slice(),
+        conflicts: cards.as_ref(),
+    };
+    put_shown(source.rt, asked.file, shown, out, errors)
 }
 
 /// Writes the page of a parse at its start, and gives the exit status.
@@ -114,23 +134,24 @@ fn put_parse<F: Files + AllocGlobal, W: Write, E: Write>(
     errors: &mut E,
 ) -> io::Result<u8> {
     let mut parse = parse;
-    let from = asked.part.from;
     match walk_part(source.rt.alloc(), &mut parse, asked.part)? {
-        Walked::Done(trail) => return put_steps(source, asked, parse, &trail, out, errors),
-        Walked::Long => {
-            let to = from.saturating_add(MOST_STEPS);
-            writeln!(
-                errors,
-                "ydebug: there are more than {MOST_STEPS} steps, the most that one page shows; \
-                 choose a part with --from and --to, such as --from {from} --to {to}"
-            )?;
-        }
-        Walked::Short(end) => writeln!(
-            errors,
-            "ydebug: the parse ends at position {end}, before --from {from}"
-        )?,
+        Walked::Done(trail) => put_steps(source, asked, parse, &trail, out, errors),
+        Walked::Long => refuse_long(errors, asked.part.from),
+        Walked::Short(end) => refuse_short(errors, asked.part.from, end),
     }
-    Ok(1)
+}
+
+/// Opens a parse and writes its page, and gives the exit status.
+fn open_parse<F: Files + AllocGlobal, W: Write, E: Write>(
+    source: &Source<'_, F>,
+    asked: Asked<'_>,
+    out: &mut W,
+    errors: &mut E,
+) -> io::Result<u8> {
+    match source.open(errors)? {
+        Ok(parse) => put_parse(source, asked, parse, out, errors),
+        Err(status) => Ok(status),
+    }
 }
 
 /// Writes the page that is asked for, and gives the exit status: 0; 1 where a file is refused,
@@ -158,9 +179,6 @@ pub fn run_page<F: Files + AllocGlobal, W: Write, E: Write>(
             writeln!(errors, "ydebug: --to {to} stands before --from {from}")?;
             Ok(2)
         }
-        _ => match source.open(errors)? {
-            Ok(parse) => put_parse(source, asked, parse, out, errors),
-            Err(status) => Ok(status),
-        },
+        _ => open_parse(source, asked, out, errors),
     }
 }
