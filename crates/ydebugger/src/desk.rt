@@ -156,15 +156,22 @@ impl<F: Files + AllocGlobal, W: Write> Desk<'_, F, W> {
         Ok(Flow::GoesOn)
     }
 
-    /// Answers a line; an empty one repeats the last move, where there was one.
+    /// Makes the last move again, where there was one.
+    fn repeat(&mut self) -> io::Result<()> {
+        if let Some(wanted) = self.last {
+            self.go(wanted)?;
+        }
+        Ok(())
+    }
+
+    /// Answers a line.
     fn answer(&mut self, line: &str) -> io::Result<Flow> {
         let (word, text) = first_word(line);
-        match (verb_of(word), self.last) {
-            (_, Some(wanted)) if word.is_empty() => self.go(wanted)?,
-            (_, None) if word.is_empty() => {}
-            (Found::One(verb), _) => return self.obey(verb, text),
-            (Found::Many, _) => put_candidates(&mut self.page, word),
-            (Found::Nothing, _) => put_unknown(self.source.rt.alloc(), &mut self.page, word)?,
+        match verb_of(word) {
+            _ if word.is_empty() => self.repeat()?,
+            Found::One(verb) => return self.obey(verb, text),
+            Found::Many => put_candidates(&mut self.page, word),
+            Found::Nothing => put_unknown(self.source.rt.alloc(), &mut self.page, word)?,
         }
         Ok(Flow::GoesOn)
     }
