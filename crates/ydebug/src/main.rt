@@ -1,20 +1,17 @@
 //! `ydebug grammar tokens`: a debugger of parses for people. `ydebug conflicts grammar` explains
 //! the conflicts of a grammar, `ydebug check grammar tokens..` says what its sentences are, `ydebug
 //! errors grammar` lists its errors, and `ydebug page grammar tokens` makes a page of a parse.
-//! `ydebug sentences grammar` writes sentences that use all of a grammar, and `ydebug cover grammar
-//! tokens..` says what inputs use of it. `ydebug import file` makes a grammar file that `yacc`
-//! reads out of one for bison. With `--lex SPEC` a text stands in place of a tokens file; `ydebug
-//! tokens` writes the tokens of one, and `ydebug lex-spec` sketches a SPEC. `ydebug rules grammar`
-//! names the rules of a grammar for programs that read its table, and `ydebug table` writes that
-//! as `yacc` does.
+//! `ydebug import file` makes a grammar file that `yacc` reads out of one for bison. With `--lex
+//! SPEC` a text stands in place of a tokens file; `ydebug tokens` writes the tokens of one, and
+//! `ydebug lex-spec` sketches a SPEC. `ydebug rules grammar` names the rules of a grammar for
+//! programs that read its table, and `ydebug table` writes that as `yacc` does.
 //!
 //! `forms` has the arguments of the forms, and `near` what could be meant by others. `check`,
-//! `cover`, `tokens`, `sketch` and `table` are forms; the others have a crate each. What the forms
-//! are given is opened by `yinput`.
+//! `tokens`, `sketch` and `table` are forms; the others have a crate each. What the forms are given
+//! is opened by `yinput`.
 #![tactic(auto)]
 
 mod check;
-mod cover;
 mod forms;
 mod near;
 mod sketch;
@@ -22,7 +19,6 @@ mod table;
 mod tokens;
 
 use crate::check::run_check;
-use crate::cover::run_cover;
 use crate::forms::{FORMS, Form, USAGE, command_of, form_of};
 use crate::near::{put_near_arguments, put_near_form};
 use crate::sketch::run_sketch;
@@ -35,7 +31,6 @@ use std::env;
 use std::io::{self, BufWriter, IsTerminal, Write};
 use std::process::ExitCode;
 use ybison::import::{Asked as Import, run_import};
-use ycover::elements::Kind;
 use ydebugger::{Setting, debug};
 use yfiles::reading::{LONGEST_INPUT, Limited};
 use yinput::grammars::{GrammarFile, open_file};
@@ -46,7 +41,6 @@ use ypage::page::{self, run_page};
 use ypage::walk::Part;
 use yreports::report::{Asked, put_conflicts};
 use yrules::run::{Asked as Rules, run_rules};
-use ysentences::run::{Asked as Sentences, Drawn, run_sentences};
 
 /// The exit status of a program that a signal ends since its pipe has no reader any more.
 const ENDED_BY_PIPE: u8 = 141;
@@ -254,61 +248,6 @@ impl<'a> Given<'a, '_> {
         Ok(run_errors(rt, asked, out, &mut rt.stderr())?)
     }
 
-    /// What inputs use.
-    fn cover<W: Write>(self, out: &mut W) -> Result<u8, Refused> {
-        let rt = self.rt;
-        let asked = cover::Asked {
-            files: self.language()?,
-            inputs: self.matches.get_strs("tokens").unwrap_or(&[]),
-            most: self.most()?,
-            strict: self.has("strict"),
-        };
-        Ok(run_cover(rt, asked, &mut rt.stdin(), out, &mut rt.stderr())?)
-    }
-
-    /// What sentences are to use; rules where nothing is said.
-    fn kind(self) -> Result<Kind, Refused> {
-        match self.matches.get_str("cover") {
-            None | Some("rules") => Ok(Kind::Rules),
-            Some("states") => Ok(Kind::States),
-            Some("actions") => Ok(Kind::Cells),
-            Some(_) => Err(Refused::Arguments),
-        }
-    }
-
-    /// How sentences are drawn, where that is asked for; options for one way alone stand without
-    /// those for the other.
-    fn drawn(self) -> Result<Option<Drawn>, Refused> {
-        let (length, seed) = (self.number("length")?, self.number("seed")?);
-        let is_cover = self.matches.get_str("cover").is_some();
-        match self.number("random")? {
-            Some(count) if !is_cover => Ok(Some(Drawn {
-                count,
-                length: length.unwrap_or(20) as u64,
-                seed: seed.unwrap_or(1) as u64,
-            })),
-            None if length.is_none() && seed.is_none() => Ok(None),
-            _ => Err(Refused::Arguments),
-        }
-    }
-
-    /// Sentences of a grammar.
-    fn sentences<W: Write>(self, out: &mut W) -> Result<u8, Refused> {
-        let rt = self.rt;
-        let asked = Sentences {
-            grammar: self.grammar()?,
-            kind: self.kind()?,
-            drawn: self.drawn()?,
-            near: self.has("near"),
-            save: self.matches.get_str("save"),
-            strict: self.has("strict"),
-        };
-        if asked.save == Some("") {
-            return refuse_save(rt);
-        }
-        Ok(run_sentences(rt, asked, out, &mut rt.stderr())?)
-    }
-
     /// A page of a parse.
     fn page<W: Write>(self, out: &mut W) -> Result<u8, Refused> {
         let (bison, from) = page_from(self.matches.get_strs("from").unwrap_or(&[]))?;
@@ -387,8 +326,6 @@ impl<'a> Given<'a, '_> {
             Form::Conflicts => self.report(out),
             Form::Check => self.check(out),
             Form::Errors => self.errors(out),
-            Form::Sentences => self.sentences(out),
-            Form::Cover => self.cover(out),
             Form::Page => self.page(out),
             Form::Import => self.import(out),
             Form::Tokens => {
