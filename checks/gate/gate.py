@@ -34,7 +34,6 @@ RUNNERS = (
     ["compare", SECONDS],
     ["conflicts", SECONDS],
     ["hints", SECONDS],
-    ["coverage", SECONDS],
     ["texts", SECONDS],
     ["verdicts"],
     ["errors", SECONDS],

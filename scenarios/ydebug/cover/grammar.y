@@ -1,9 +1,0 @@
-%token NAME NUM
-%%
-list : set
-     | list ';' set
-     ;
-set : NAME '=' sum ;
-sum : NUM
-    | sum '+' NUM
-    ;

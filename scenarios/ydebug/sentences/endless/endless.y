@@ -1,7 +1,0 @@
-%token NUM
-%%
-s : e t e ;
-e : NUM t NUM
-  | e
-  ;
-t : ;

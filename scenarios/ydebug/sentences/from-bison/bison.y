@@ -1,3 +1,0 @@
-%token LE "<="
-%%
-s: %empty | s "<=" 'x';
