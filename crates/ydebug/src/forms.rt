@@ -61,6 +61,22 @@ pub fn form_of(word: Option<&&str>) -> Form {
     Form::Debug
 }
 
+/// The whole name of the program with the word for a form.
+pub fn name_of(form: Form) -> &'static str {
+    match form {
+        Form::Debug => "ydebug",
+        Form::Conflicts => "ydebug conflicts",
+        Form::Check => "ydebug check",
+        Form::Errors => "ydebug errors",
+        Form::Page => "ydebug page",
+        Form::Import => "ydebug import",
+        Form::Tokens => "ydebug tokens",
+        Form::Sketch => "ydebug lex-spec",
+        Form::Rules => "ydebug rules",
+        Form::Table => "ydebug table",
+    }
+}
+
 const GRAMMAR: &str = "grammar: The grammar file";
 
 const INPUT: &str = "tokens: The tokens file; with --lex, a text";

@@ -19,13 +19,13 @@ mod table;
 mod tokens;
 
 use crate::check::run_check;
-use crate::forms::{FORMS, Form, USAGE, command_of, form_of};
+use crate::forms::{FORMS, Form, USAGE, command_of, form_of, name_of};
 use crate::near::{put_near_arguments, put_near_form};
 use crate::sketch::run_sketch;
 use crate::table::run_table;
 use crate::tokens::run_tokens;
-use clap::ArgMatches;
 use clap::error::ErrorKind;
+use clap::{ArgMatches, Command};
 use std::alloc::{AllocError, Global};
 use std::env;
 use std::io::{self, BufWriter, IsTerminal, Write};
@@ -48,7 +48,7 @@ const ENDED_BY_PIPE: u8 = 141;
 /// Why nothing was done.
 #[derive(Clone, Copy)]
 enum Refused {
-    /// The arguments are not those of the program.
+    /// The words are not those of the program.
     Arguments,
     /// Help or the version was asked for, and is written.
     Helped,
@@ -87,7 +87,7 @@ fn put_help(rt: &HostRuntime, help: &clap::Error) -> Refused {
     }
 }
 
-/// Why arguments are refused. Help or the version that they ask for is written.
+/// Why words are refused. Help or the version that they ask for is written.
 fn refused_for(rt: &HostRuntime, error: &clap::Error) -> Refused {
     match error.kind() {
         ErrorKind::DisplayHelp | ErrorKind::DisplayVersion => put_help(rt, error),
@@ -96,9 +96,71 @@ fn refused_for(rt: &HostRuntime, error: &clap::Error) -> Refused {
     }
 }
 
-/// The number that an argument is.
+/// What a command line makes of words.
+fn matches_by<'a>(
+    rt: &HostRuntime,
+    command: Command<'a>,
+    words: &'a [&'a str],
+) -> Result<ArgMatches<'a>, Refused> {
+    match command.try_get_matches_from(words) {
+        Ok(matches) => Ok(matches),
+        Err(error) => Err(refused_for(rt, &error)),
+    }
+}
+
+/// The value of an argument that is required.
+fn value_of<'a>(matches: &ArgMatches<'a>, name: &str) -> Result<&'a str, Refused> {
+    matches.get_str(name).ok_or(Refused::Arguments)
+}
+
+/// Whether a flag is given.
+fn is_given(matches: &ArgMatches<'_>, name: &str) -> bool {
+    matches.get_str(name) == Some("true")
+}
+
+/// The grammar file, and whether it is one of bison.
+fn grammar_in<'a>(matches: &ArgMatches<'a>) -> Result<GrammarFile<'a>, Refused> {
+    let path = value_of(matches, "grammar")?;
+    match matches.get_str("from") {
+        None => Ok(GrammarFile { path, bison: false }),
+        Some("bison") => Ok(GrammarFile { path, bison: true }),
+        Some(_) => Err(Refused::Arguments),
+    }
+}
+
+/// The files of a language.
+fn language_in<'a>(matches: &ArgMatches<'a>) -> Result<LanguageFiles<'a>, Refused> {
+    Ok(LanguageFiles {
+        grammar: grammar_in(matches)?,
+        spec: matches.get_str("lex"),
+    })
+}
+
+/// The number that a word is.
 fn number_in(word: &str) -> Result<usize, Refused> {
     word.parse::<usize>().map_err(|_| Refused::Arguments)
+}
+
+/// The number that an option gives, where it is given.
+fn number_of(matches: &ArgMatches<'_>, name: &str) -> Result<Option<usize>, Refused> {
+    match matches.get_str(name) {
+        Some(word) => number_in(word).map(Some),
+        None => Ok(None),
+    }
+}
+
+/// An input, and how long it may be.
+fn input_of<'a>(matches: &ArgMatches<'a>, path: &'a str) -> Result<Limited<'a>, Refused> {
+    let most = most_of(matches)?;
+    Ok(Limited { path, most })
+}
+
+/// How many bytes an input may have.
+fn most_of(matches: &ArgMatches<'_>) -> Result<u64, Refused> {
+    match number_of(matches, "limit")? {
+        Some(most) => Ok(most as u64),
+        None => Ok(LONGEST_INPUT),
+    }
 }
 
 /// What stands after each `--from` of a page: `bison`, and a first position, each once at most.
@@ -112,253 +174,233 @@ fn page_from(words: &[&str]) -> Result<(bool, usize), Refused> {
     }
 }
 
-/// Writes that `--save` needs a name, and gives the exit status.
-fn refuse_save(rt: &HostRuntime) -> Result<u8, Refused> {
-    rt.stderr()
-        .write_all(b"ydebug: --save wants the name of a folder\n")?;
-    Ok(2)
+/// A report on conflicts.
+fn report<W: Write>(
+    rt: &HostRuntime,
+    matches: &ArgMatches<'_>,
+    out: &mut W,
+) -> Result<u8, Refused> {
+    let file = grammar_in(matches)?;
+    let asked = Asked {
+        grammar: file.path,
+        save: matches.get_str("save"),
+        strict: is_given(matches, "strict"),
+    };
+    if asked.save == Some("") {
+        rt.stderr()
+            .write_all(b"ydebug: --save wants the name of a folder\n")?;
+        return Ok(2);
+    }
+    match open_file(rt, file, &mut rt.stderr())? {
+        Ok(opened) => Ok(put_conflicts(rt, out, &mut rt.stderr(), asked, opened)?),
+        Err(status) => Ok(status),
+    }
+}
+
+/// Verdicts on inputs.
+fn check_files<W: Write>(
+    rt: &HostRuntime,
+    matches: &ArgMatches<'_>,
+    out: &mut W,
+) -> Result<u8, Refused> {
+    let asked = check::Asked {
+        files: language_in(matches)?,
+        inputs: matches.get_strs("tokens").unwrap_or(&[]),
+        messages: matches.get_str("messages"),
+        choice: is_given(matches, "choice"),
+        plain: is_given(matches, "plain"),
+        most: most_of(matches)?,
+    };
+    Ok(run_check(rt, asked, &mut rt.stdin(), out, &mut rt.stderr())?)
+}
+
+/// The file of messages, where one is given.
+fn messages_in<'a>(matches: &ArgMatches<'a>) -> Result<Option<Limited<'a>>, Refused> {
+    match matches.get_str("messages") {
+        Some(path) => input_of(matches, path).map(Some),
+        None => Ok(None),
+    }
+}
+
+/// Errors by example.
+fn list_errors<W: Write>(
+    rt: &HostRuntime,
+    matches: &ArgMatches<'_>,
+    out: &mut W,
+) -> Result<u8, Refused> {
+    let asked = Errors {
+        grammar: grammar_in(matches)?,
+        messages: messages_in(matches)?,
+        complete: is_given(matches, "complete"),
+        update: is_given(matches, "update"),
+    };
+    if asked.messages.is_none() && (asked.complete || asked.update) {
+        rt.stderr()
+            .write_all(b"ydebug: --complete and --update want --messages FILE\n")?;
+        return Ok(2);
+    }
+    Ok(run_errors(rt, asked, out, &mut rt.stderr())?)
+}
+
+/// A page of a parse.
+fn page<W: Write>(rt: &HostRuntime, matches: &ArgMatches<'_>, out: &mut W) -> Result<u8, Refused> {
+    let (bison, from) = page_from(matches.get_strs("from").unwrap_or(&[]))?;
+    let path = value_of(matches, "grammar")?;
+    let grammar = GrammarFile { path, bison };
+    let spec = matches.get_str("lex");
+    let source = Source {
+        rt,
+        files: LanguageFiles { grammar, spec },
+        input: input_of(matches, value_of(matches, "tokens")?)?,
+    };
+    let to = number_of(matches, "to")?;
+    let asked = page::Asked {
+        file: matches.get_str("file"),
+        part: Part { from, to },
+        conflicts: is_given(matches, "conflicts"),
+    };
+    Ok(run_page(&source, asked, out, &mut rt.stderr())?)
+}
+
+/// An import.
+fn import<W: Write>(
+    rt: &HostRuntime,
+    matches: &ArgMatches<'_>,
+    out: &mut W,
+) -> Result<u8, Refused> {
+    let asked = Import {
+        file: value_of(matches, "file")?,
+        output: matches.get_str("output"),
+    };
+    Ok(run_import(rt, asked, out, &mut rt.stderr())?)
+}
+
+/// The tokens of a text.
+fn cut_file<W: Write>(
+    rt: &HostRuntime,
+    matches: &ArgMatches<'_>,
+    out: &mut W,
+) -> Result<u8, Refused> {
+    let files = language_in(matches)?;
+    let input = input_of(matches, value_of(matches, "tokens")?)?;
+    Ok(run_tokens(rt, files, input, out, &mut rt.stderr())?)
+}
+
+/// A sketch of how tokens look.
+fn sketch_file<W: Write>(
+    rt: &HostRuntime,
+    matches: &ArgMatches<'_>,
+    out: &mut W,
+) -> Result<u8, Refused> {
+    let file = grammar_in(matches)?;
+    Ok(run_sketch(rt, file, out, &mut rt.stderr())?)
+}
+
+/// Names for rules.
+fn name_rules<W: Write>(
+    rt: &HostRuntime,
+    matches: &ArgMatches<'_>,
+    out: &mut W,
+) -> Result<u8, Refused> {
+    let asked = Rules {
+        grammar: grammar_in(matches)?,
+        header: matches.get_str("header"),
+        python: matches.get_str("python"),
+    };
+    Ok(run_rules(rt, asked, out, &mut rt.stderr())?)
+}
+
+/// The files that `yacc` writes.
+fn write_table(rt: &HostRuntime, matches: &ArgMatches<'_>) -> Result<u8, Refused> {
+    let asked = table::Asked {
+        grammar: value_of(matches, "grammar")?,
+        prefix: matches.get_str("prefix").unwrap_or("y"),
+        report: is_given(matches, "v"),
+    };
+    Ok(run_table(rt, asked, &mut rt.stderr())?)
+}
+
+/// Whether an environment variable is set to something that counts.
+fn is_set(rt: &HostRuntime, name: &str) -> bool {
+    match env::var(rt, name) {
+        Ok(value) => !value.is_empty(),
+        Err(_) => false,
+    }
+}
+
+/// Whether the terminal is one without colour.
+fn is_dumb(rt: &HostRuntime) -> bool {
+    match env::var(rt, "TERM") {
+        Ok(value) => value.as_str() == "dumb",
+        Err(_) => false,
+    }
 }
 
 /// Where a session takes place.
 fn setting_of(rt: &HostRuntime) -> Setting {
     let shown = rt.stdout().is_terminal();
-    let is_plain = env::var(rt, "NO_COLOR")
-        .ok()
-        .map_or(false, |value| !value.is_empty());
-    let is_dumb = env::var(rt, "TERM")
-        .ok()
-        .map_or(false, |value| value.as_str() == "dumb");
     Setting {
         terminal: shown && rt.stdin().is_terminal(),
-        colour: shown && !is_plain && !is_dumb,
+        colour: shown && !is_set(rt, "NO_COLOR") && !is_dumb(rt),
     }
 }
 
-/// What a form is given.
-#[derive(Clone, Copy)]
-struct Given<'a, 'b> {
-    rt: &'b HostRuntime,
-    matches: &'b ArgMatches<'a>,
-}
-
-impl<'a> Given<'a, '_> {
-    /// The value of an argument that is required.
-    fn value(self, name: &str) -> Result<&'a str, Refused> {
-        self.matches.get_str(name).ok_or(Refused::Arguments)
-    }
-
-    /// Whether a flag is given.
-    fn has(self, name: &str) -> bool {
-        self.matches.get_str(name) == Some("true")
-    }
-
-    /// The grammar file, and whether it is one of bison.
-    fn grammar(self) -> Result<GrammarFile<'a>, Refused> {
-        let path = self.value("grammar")?;
-        match self.matches.get_str("from") {
-            None => Ok(GrammarFile { path, bison: false }),
-            Some("bison") => Ok(GrammarFile { path, bison: true }),
-            Some(_) => Err(Refused::Arguments),
+/// A session with the standard streams.
+fn debug_files<W: Write>(
+    rt: &HostRuntime,
+    matches: &ArgMatches<'_>,
+    out: &mut W,
+) -> Result<u8, Refused> {
+    let source = Source {
+        rt,
+        files: language_in(matches)?,
+        input: input_of(matches, value_of(matches, "tokens")?)?,
+    };
+    match source.open(&mut rt.stderr())? {
+        Ok(parse) => {
+            let ended = debug(&source, setting_of(rt), parse, rt.stdin(), out);
+            ended.map(|()| 0).map_err(Refused::from)
         }
-    }
-
-    /// The files of a language.
-    fn language(self) -> Result<LanguageFiles<'a>, Refused> {
-        Ok(LanguageFiles {
-            grammar: self.grammar()?,
-            spec: self.matches.get_str("lex"),
-        })
-    }
-
-    /// The number that an option gives, where it is given.
-    fn number(self, name: &str) -> Result<Option<usize>, Refused> {
-        match self.matches.get_str(name) {
-            Some(word) => number_in(word).map(Some),
-            None => Ok(None),
-        }
-    }
-
-    /// How many bytes an input may have.
-    fn most(self) -> Result<u64, Refused> {
-        Ok(
-            self.number("limit")?
-                .map_or(LONGEST_INPUT, |most| most as u64),
-        )
-    }
-
-    /// An input, and how long it may be.
-    fn input(self) -> Result<Limited<'a>, Refused> {
-        let path = self.value("tokens")?;
-        let most = self.most()?;
-        Ok(Limited { path, most })
-    }
-
-    /// A report on conflicts.
-    fn report<W: Write>(self, out: &mut W) -> Result<u8, Refused> {
-        let (rt, file) = (self.rt, self.grammar()?);
-        let asked = Asked {
-            grammar: file.path,
-            save: self.matches.get_str("save"),
-            strict: self.has("strict"),
-        };
-        if asked.save == Some("") {
-            return refuse_save(rt);
-        }
-        match open_file(rt, file, &mut rt.stderr())? {
-            Ok(opened) => Ok(put_conflicts(rt, out, &mut rt.stderr(), asked, opened)?),
-            Err(status) => Ok(status),
-        }
-    }
-
-    /// Verdicts on inputs.
-    fn check<W: Write>(self, out: &mut W) -> Result<u8, Refused> {
-        let rt = self.rt;
-        let asked = check::Asked {
-            files: self.language()?,
-            inputs: self.matches.get_strs("tokens").unwrap_or(&[]),
-            messages: self.matches.get_str("messages"),
-            choice: self.has("choice"),
-            plain: self.has("plain"),
-            most: self.most()?,
-        };
-        Ok(run_check(rt, asked, &mut rt.stdin(), out, &mut rt.stderr())?)
-    }
-
-    /// The file of messages, where one is given.
-    fn messages(self) -> Result<Option<Limited<'a>>, Refused> {
-        let most = self.most()?;
-        let path = self.matches.get_str("messages");
-        Ok(path.map(|path| Limited { path, most }))
-    }
-
-    /// Errors by example.
-    fn errors<W: Write>(self, out: &mut W) -> Result<u8, Refused> {
-        let rt = self.rt;
-        let asked = Errors {
-            grammar: self.grammar()?,
-            messages: self.messages()?,
-            complete: self.has("complete"),
-            update: self.has("update"),
-        };
-        if asked.messages.is_none() && (asked.complete || asked.update) {
-            rt.stderr()
-                .write_all(b"ydebug: --complete and --update want --messages FILE\n")?;
-            return Ok(2);
-        }
-        Ok(run_errors(rt, asked, out, &mut rt.stderr())?)
-    }
-
-    /// A page of a parse.
-    fn page<W: Write>(self, out: &mut W) -> Result<u8, Refused> {
-        let (bison, from) = page_from(self.matches.get_strs("from").unwrap_or(&[]))?;
-        let path = self.value("grammar")?;
-        let grammar = GrammarFile { path, bison };
-        let spec = self.matches.get_str("lex");
-        let source = Source {
-            rt: self.rt,
-            files: LanguageFiles { grammar, spec },
-            input: self.input()?,
-        };
-        let to = self.number("to")?;
-        let asked = page::Asked {
-            file: self.matches.get_str("file"),
-            part: Part { from, to },
-            conflicts: self.has("conflicts"),
-        };
-        Ok(run_page(&source, asked, out, &mut self.rt.stderr())?)
-    }
-
-    /// An import.
-    fn import<W: Write>(self, out: &mut W) -> Result<u8, Refused> {
-        let asked = Import {
-            file: self.value("file")?,
-            output: self.matches.get_str("output"),
-        };
-        Ok(run_import(self.rt, asked, out, &mut self.rt.stderr())?)
-    }
-
-    /// Names for rules.
-    fn rules<W: Write>(self, out: &mut W) -> Result<u8, Refused> {
-        let asked = Rules {
-            grammar: self.grammar()?,
-            header: self.matches.get_str("header"),
-            python: self.matches.get_str("python"),
-        };
-        Ok(run_rules(self.rt, asked, out, &mut self.rt.stderr())?)
-    }
-
-    /// The files that `yacc` writes.
-    fn table(self) -> Result<u8, Refused> {
-        let asked = table::Asked {
-            grammar: self.value("grammar")?,
-            prefix: self.matches.get_str("prefix").unwrap_or("y"),
-            report: self.has("v"),
-        };
-        Ok(run_table(self.rt, asked, &mut self.rt.stderr())?)
-    }
-
-    /// A session with the standard streams.
-    fn debug<W: Write>(self, out: &mut W) -> Result<u8, Refused> {
-        let rt = self.rt;
-        let source = Source {
-            rt,
-            files: self.language()?,
-            input: self.input()?,
-        };
-        match source.open(&mut rt.stderr())? {
-            Ok(parse) => {
-                let ended = debug(&source, setting_of(rt), parse, rt.stdin(), out);
-                ended.map(|()| 0).map_err(Refused::from)
-            }
-            Err(status) => {
-                // Why there is no session is said; memory may have run out, and a hint is no more.
-                let _ = put_near_form(rt, &mut rt.stderr(), source.files.grammar.path);
-                Ok(status)
-            }
-        }
-    }
-
-    /// Does what is asked for, and gives the exit status.
-    fn obey<W: Write>(self, form: Form, out: &mut W) -> Result<u8, Refused> {
-        let rt = self.rt;
-        match form {
-            Form::Debug => self.debug(out),
-            Form::Conflicts => self.report(out),
-            Form::Check => self.check(out),
-            Form::Errors => self.errors(out),
-            Form::Page => self.page(out),
-            Form::Import => self.import(out),
-            Form::Tokens => {
-                let (files, input) = (self.language()?, self.input()?);
-                Ok(run_tokens(rt, files, input, out, &mut rt.stderr())?)
-            }
-            Form::Sketch => Ok(run_sketch(rt, self.grammar()?, out, &mut rt.stderr())?),
-            Form::Rules => self.rules(out),
-            Form::Table => self.table(),
+        Err(status) => {
+            // Why there is no session is said; memory may have run out, and a hint is no more.
+            let _ = put_near_form(rt, &mut rt.stderr(), source.files.grammar.path);
+            Ok(status)
         }
     }
 }
 
-/// Does what arguments ask for, and gives the exit status. The first one is the name of the program
-/// with the form.
+/// Does what a form and what stands after it ask for, and gives the exit status.
+fn obey<W: Write>(
+    rt: &HostRuntime,
+    form: Form,
+    matches: &ArgMatches<'_>,
+    out: &mut W,
+) -> Result<u8, Refused> {
+    match form {
+        Form::Debug => debug_files(rt, matches, out),
+        Form::Conflicts => report(rt, matches, out),
+        Form::Check => check_files(rt, matches, out),
+        Form::Errors => list_errors(rt, matches, out),
+        Form::Page => page(rt, matches, out),
+        Form::Import => import(rt, matches, out),
+        Form::Tokens => cut_file(rt, matches, out),
+        Form::Sketch => sketch_file(rt, matches, out),
+        Form::Rules => name_rules(rt, matches, out),
+        Form::Table => write_table(rt, matches),
+    }
+}
+
+/// Does what words ask for, and gives the exit status. The first one is the name of the program.
 fn obey_words(rt: &HostRuntime, form: Form, words: &[&str]) -> Result<u8, Refused> {
     let alloc = rt.alloc();
-    let name = words.first().copied().unwrap_or("");
-    let matches = match command_of(alloc, name, form)?.try_get_matches_from(words) {
-        Ok(matches) => matches,
-        Err(error) => return Err(refused_for(rt, &error)),
-    };
+    let matches = matches_by(rt, command_of(alloc, form)?, words)?;
     let mut out = BufWriter::new(alloc, rt.stdout())?;
-    let status = Given {
-        rt,
-        matches: &matches,
-    }
-    .obey(form, &mut out)?;
+    let status = obey(rt, form, &matches, &mut out)?;
     out.flush()?;
     Ok(status)
 }
 
-/// The arguments of a form after the name of the program with it, for the help text.
+/// The words of a form after the name of the program with it, for the help text.
 fn named<'a>(alloc: Global, name: &'a str, words: &[&'a str]) -> Result<Vec<&'a str>, AllocError> {
     let mut named = Vec::with_capacity(alloc, words.len())?;
     named.push(name)?;
@@ -366,16 +408,12 @@ fn named<'a>(alloc: Global, name: &'a str, words: &[&'a str]) -> Result<Vec<&'a 
     Ok(named)
 }
 
-/// Finds the form, and does what the arguments after it ask for.
-fn obey_given(rt: &HostRuntime, given: &[&str]) -> Result<u8, Refused> {
-    let form = form_of(given.get(1));
+/// Finds the form, and does what the words after it ask for.
+fn obey_given(rt: &HostRuntime, words: &[&str]) -> Result<u8, Refused> {
+    let form = form_of(words.get(1));
     let first = if matches!(form, Form::Debug) { 1 } else { 2 };
-    let name = match (form, given.get(1)) {
-        (Form::Debug, _) | (_, None) => format!(in rt.alloc(); "ydebug")?,
-        (_, Some(word)) => format!(in rt.alloc(); "ydebug {word}")?,
-    };
-    let given = given.get(first..).unwrap_or(&[]);
-    let words = named(rt.alloc(), &name, given)?;
+    let given = words.get(first..).unwrap_or(&[]);
+    let words = named(rt.alloc(), name_of(form), given)?;
     let obeyed = obey_words(rt, form, &words);
     if let Err(Refused::Arguments) = obeyed {
         put_near_arguments(rt, &mut rt.stderr(), form, given)?;
@@ -383,7 +421,7 @@ fn obey_given(rt: &HostRuntime, given: &[&str]) -> Result<u8, Refused> {
     obeyed
 }
 
-/// Reads the arguments and does what they ask for.
+/// Reads the words and does what they ask for.
 fn run(rt: &HostRuntime) -> Result<u8, Refused> {
     let given: Vec<String> = env::args(rt)?.collect(rt.alloc())?;
     let mut words = Vec::with_capacity(rt.alloc(), given.len())?;
