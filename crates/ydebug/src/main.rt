@@ -393,7 +393,7 @@ fn obey<W: Write>(
 /// Does what words ask for, and gives the exit status. The first one is the name of the program.
 fn obey_words(rt: &HostRuntime, form: Form, words: &[&str]) -> Result<u8, Refused> {
     let alloc = rt.alloc();
-    let matches = matches_by(rt, command_of(alloc, form)?, words)?;
+    let matches = matches_by(rt, command_of(alloc, name_of(form), form)?, words)?;
     let mut out = BufWriter::new(alloc, rt.stdout())?;
     let status = obey(rt, form, &matches, &mut out)?;
     out.flush()?;
