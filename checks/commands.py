@@ -16,6 +16,7 @@ GROUPS = {
         "hints": "comparers.hints",
         "texts": "comparers.texts",
         "verdicts": "comparers.verdicts",
+        "coverage": "comparers.coverage",
         "errors": "comparers.errors",
         "faults": "comparers.faults",
         "reader": "shared.reader",

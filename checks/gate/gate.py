@@ -34,6 +34,7 @@ RUNNERS = (
     ["compare", SECONDS],
     ["conflicts", SECONDS],
     ["hints", SECONDS],
+    ["coverage", SECONDS],
     ["texts", SECONDS],
     ["verdicts"],
     ["errors", SECONDS],

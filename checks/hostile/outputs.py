@@ -46,16 +46,17 @@ def on_a_full_disk(words, inputs, programs, stdin=b"", **back):
     yield f"{' '.join(words)}: a full disk", told(it, programs, {}, preexec_fn=full_disk)
 
 
-def unsaved(programs):
-    """A report that can't keep its lists is that of a run that keeps none."""
-    words = ["ydebug", "conflicts", "far.y"]
+def unsaved(programs, form, first):
+    """A run that can't keep its lists says what one says that keeps none."""
+    words = ["ydebug", form, "far.y"]
     inputs = {"far.y": FAR, "lists/other": OLD}
     text = run(scenario(words, inputs), programs)["stdout"]
-    differs = [] if b"conflict 1:" in text else ["there is no conflict\n"]
-    back = {"message": b"ydebug: cannot write lists/conflict-1\n", "status": b"3\n", "stdout": text}
+    differs = [] if b" 1" in text.splitlines()[0] else ["there is no list\n"]
+    message = f"ydebug: cannot write lists/{first}\n".encode()
+    back = {"message": message, "status": b"3\n", "stdout": text}
     it = scenario([*words, "--save", "lists"], inputs, **back)
     differs += told(it, programs, {}, preexec_fn=full_disk)
-    yield "ydebug conflicts --save: a full disk", differs
+    yield f"ydebug {form} --save: a full disk", differs
 
 
 def disks(programs):
@@ -77,7 +78,8 @@ def disks(programs):
     lines = b"save! old\nsave new\nsave! new\nsave! tokens\n"
     replies = b"".join(b"%s can't be written.\n" % it for it in (b"old", b"new", b"new", b"tokens"))
     yield partial(on_a_full_disk, words, inputs, programs, lines, stdout=replies)
-    yield partial(unsaved, programs)
+    yield partial(unsaved, programs, "conflicts", "conflict-1")
+    yield partial(unsaved, programs, "sentences", "rules-1.tokens")
 
 
 # A pipe that nobody reads

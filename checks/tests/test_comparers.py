@@ -3,7 +3,7 @@ import random
 from collections import Counter
 from unittest import mock
 
-from checks.comparers import conflicts, errors, faults, hints, programs, texts, verdicts
+from checks.comparers import conflicts, coverage, errors, faults, hints, programs, texts, verdicts
 from checks.shared.grammars import grammar_of
 from checks.shared.machine import replies_of
 from checks.shared.places import SCENARIOS
@@ -344,3 +344,58 @@ class Faults(Planted):
         for wrong in (("ystep: G3 at line 2\n",), ("ystep: G2 at line 1\n",), ("", 0),
                       ("ystep: G2 at line 2\n", 3), ("ystep: G2 at line 2\n", 1, "more")):
             self.assertEqual(self.counted_with(*wrong), (0, 1), wrong)
+
+
+class Coverage(Planted):
+    """Sentences that are none, or that use something else."""
+
+    def answer(self, name, grammar="grammar.y"):
+        """What a scenario's run writes, and the machine of its grammar."""
+        below = SCENARIOS / "ydebug" / name
+        file = below / grammar if (below / grammar).is_file() else below.parent / grammar
+        machine = coverage.Machine(grammar_in(file.read_bytes()))
+        return (below / "stdout").read_text(), machine
+
+    def test_rules(self):
+        """No sentence, a spare one, other rules, other counts, a rule that isn't found."""
+        text, machine = self.answer("sentences/rules")
+        pairs = [("NUM '+' NUM", "NUM NUM"), ("rules 1, 3", "rules 1, 2"), ("all 5", "all 6")]
+        pairs += [("2 sentences", "3 sentences"), ("sentence 2, the first", "sentence 3, the first")]
+        spare = f"# sentence 1, the first to use rules 1, 3, 4\nNAME '=' NUM\n{text}"
+        lost = f"# not found, as no cell reduces by it: rule 2 (line 4)  list: list ';' set\n{text}"
+        look = lambda it: coverage.differences(machine, "rules", it)
+        self.each_caught(look, text, *changed(text, *pairs), spare, lost)
+
+    def test_not_found(self):
+        """Rules for another reason, and one that is found."""
+        text, machine = self.answer("sentences/not-found", "odd.y")
+        pairs = [("as no cell reduces by it", "as its left side can't be reached")]
+        pairs += [("rule 9", "rule 8"), ("5 of 9", "6 of 9")]
+        look = lambda it: coverage.differences(machine, "rules", it)
+        self.each_caught(look, text, *changed(text, *pairs))
+
+    def test_near(self):
+        """Another verdict, another place, a list that is made otherwise."""
+        text, machine = self.answer("sentences/near")
+        pairs = [("rejected at token 1", "rejected at token 2"), (": accepted", ": rejected")]
+        pairs += [("token 1 left out", "token 2 left out"), ("near ones", "lists")]
+        look = lambda it: coverage.differences(machine, "rules", it)
+        self.each_caught(look, text, *changed(text, *pairs[:1], *pairs[2:]))
+
+    def test_random(self):
+        """A sentence that isn't one, one that is refused, one with too many tokens."""
+        text, machine = self.answer("sentences/random")
+        pairs = [("sentence 1: accepted after", "sentence 1: rejected at"), ("4 of 4", "3 of 4")]
+        look = lambda it: coverage.wrong_random(machine, it, 9)
+        self.each_caught(look, text, *changed(text, *pairs))
+        self.assertTrue(coverage.wrong_random(machine, text, 3))
+
+    def test_cover(self):
+        """Other counts, a part too few, another part."""
+        text, machine = self.answer("cover/some")
+        pairs = [("rules 3", "rules 2"), ("not used: rule 2", "not used: rule 3")]
+        pairs += [("not used: state 8  ", "not used: state 1  ")]
+        tokens = [machine.grammar.names.index(it) for it in ("NAME", "'='", "NUM")]
+        look = lambda it: coverage.wrong_cover(machine, [tokens], it)
+        fewer = "".join(text.splitlines(keepends=True)[:-1])
+        self.each_caught(look, text, *changed(text, *pairs), fewer)

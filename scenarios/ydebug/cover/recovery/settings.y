@@ -1,0 +1,9 @@
+/* Settings, one behind another; a line that is spoiled is passed over up to its semicolon. */
+%token NAME NUMBER
+%%
+settings : /* nothing */
+         | settings setting
+         | settings error ';'
+         ;
+setting  : NAME '=' NUMBER ';'
+         ;

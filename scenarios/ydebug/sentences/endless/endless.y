@@ -1,0 +1,7 @@
+%token NUM
+%%
+s : e t e ;
+e : NUM t NUM
+  | e
+  ;
+t : ;

@@ -1,0 +1,3 @@
+%token LE "<="
+%%
+s: %empty | s "<=" 'x';
