@@ -11,6 +11,9 @@ pub const FORMS: &str = "Other forms:\n\
     \x20 ydebug conflicts grammar [--save FOLDER] [--strict]\n\
     \x20 ydebug check grammar tokens.. [--lex SPEC] [--messages FILE] [--choice] [--plain]\n\
     \x20 ydebug errors grammar [--messages FILE [--complete] [--update]]\n\
+    \x20 ydebug sentences grammar [--cover KIND] [--near] [--save FOLDER] [--strict]\n\
+    \x20 ydebug sentences grammar --random N [--length L] [--seed S] [--near] [--save FOLDER]\n\
+    \x20 ydebug cover grammar tokens.. [--lex SPEC] [--strict]\n\
     \x20 ydebug page grammar tokens [--lex SPEC] [-o FILE] [--from K] [--to K] [--conflicts]\n\
     \x20 ydebug tokens grammar --lex SPEC input\n\
     \x20 ydebug lex-spec grammar\n\
@@ -30,6 +33,8 @@ pub enum Form {
     Conflicts,
     Check,
     Errors,
+    Sentences,
+    Cover,
     Page,
     Import,
     Tokens,
@@ -39,10 +44,12 @@ pub enum Form {
 }
 
 /// Each form but the first by its word.
-pub const BY_WORD: [(&str, Form); 9] = [
+pub const BY_WORD: [(&str, Form); 11] = [
     ("conflicts", Form::Conflicts),
     ("check", Form::Check),
     ("errors", Form::Errors),
+    ("sentences", Form::Sentences),
+    ("cover", Form::Cover),
     ("page", Form::Page),
     ("import", Form::Import),
     ("tokens", Form::Tokens),
@@ -68,6 +75,8 @@ pub fn name_of(form: Form) -> &'static str {
         Form::Conflicts => "ydebug conflicts",
         Form::Check => "ydebug check",
         Form::Errors => "ydebug errors",
+        Form::Sentences => "ydebug sentences",
+        Form::Cover => "ydebug cover",
         Form::Page => "ydebug page",
         Form::Import => "ydebug import",
         Form::Tokens => "ydebug tokens",
@@ -118,6 +127,27 @@ const ERRORS: &[&str] = &[
     "--update: Writes the file anew: its comments, and the states that are new",
     LIMIT,
     FROM,
+];
+
+const SENTENCES: &[&str] = &[
+    GRAMMAR,
+    "--cover KIND: What they use: rules, states or actions; without it, rules",
+    "--random N: Draws so many sentences at random instead",
+    "--length L: The most tokens of each that is drawn; without it, 20",
+    "--seed S: What they are drawn by; without it, 1",
+    "--near: Writes lists that are near to each too, with their verdicts",
+    "--save FOLDER: Writes each list to a file of this folder",
+    FROM,
+    "--strict: Ends with 1 where something isn't found, or a random sentence is refused",
+];
+
+const COVER: &[&str] = &[
+    GRAMMAR,
+    INPUTS,
+    LEX,
+    LIMIT,
+    FROM,
+    "--strict: Ends with 1 where something isn't used",
 ];
 
 const PAGE: &[&str] = &[
@@ -217,6 +247,8 @@ fn about(form: Form) -> &'static str {
         Form::Conflicts => "Explains the conflicts of a grammar, and warns of what it doesn't use",
         Form::Check => "Says of each input whether it is a sentence of a grammar",
         Form::Errors => "Lists the errors of a grammar, each with a shortest wrong input",
+        Form::Sentences => "Writes short sentences of a grammar that use all of it",
+        Form::Cover => "Says what inputs use of a grammar, and what none of them uses",
         Form::Page => "Makes a page in HTML of a parse, to be looked at in a browser",
         Form::Import => "Makes a grammar file of bison or byacc one that yacc reads",
         Form::Tokens => "Writes the tokens of a text as a tokens file",
@@ -233,6 +265,8 @@ pub fn arguments_of(form: Form) -> &'static [&'static str] {
         Form::Conflicts => CONFLICTS,
         Form::Check => CHECK,
         Form::Errors => ERRORS,
+        Form::Sentences => SENTENCES,
+        Form::Cover => COVER,
         Form::Page => PAGE,
         Form::Import => IMPORT,
         Form::Tokens => TOKENS,

@@ -1,25 +1,33 @@
 //! `ydebug grammar tokens`: a debugger of parses for people. `ydebug conflicts grammar` explains
 //! the conflicts of a grammar, `ydebug check grammar tokens..` says what its sentences are, `ydebug
 //! errors grammar` lists its errors, and `ydebug page grammar tokens` makes a page of a parse.
-//! `ydebug import file` makes a grammar file that `yacc` reads out of one for bison. With `--lex
+//! `ydebug sentences grammar` writes sentences that use all of a grammar, and `ydebug cover grammar
+//! tokens..` says what inputs use of it. `ydebug import file` makes a grammar file that `yacc` reads out of one for bison. With `--lex
 //! SPEC` a text stands in place of a tokens file; `ydebug tokens` writes the tokens of one, and
 //! `ydebug lex-spec` sketches a SPEC. `ydebug rules grammar` names the rules of a grammar for
 //! programs that read its table, and `ydebug table` writes that as `yacc` does.
 //!
-//! `forms` has the arguments of the forms, and `near` what could be meant by others. `check`,
-//! `tokens`, `sketch` and `table` are forms; the others have a crate each. What the forms are given
-//! is opened by `yinput`.
+//! `forms` has the arguments of the forms, `given` reads what they say, and `near` has what could be
+//! meant by others. `check`, `cover`, `tokens`, `sketch` and `table` are forms; the others have a
+//! crate each. What the forms are given is opened by `yinput`.
 #![tactic(auto)]
 
 mod check;
+mod cover;
 mod forms;
+mod given;
 mod near;
 mod sketch;
 mod table;
 mod tokens;
 
 use crate::check::run_check;
+use crate::cover::run_cover;
 use crate::forms::{FORMS, Form, USAGE, command_of, form_of, name_of};
+use crate::given::{
+    Refused, drawn_in, grammar_in, input_of, is_given, kind_in, language_in, messages_in, most_of,
+    number_of, page_from, value_of,
+};
 use crate::near::{put_near_arguments, put_near_form};
 use crate::sketch::run_sketch;
 use crate::table::run_table;
@@ -32,7 +40,6 @@ use std::io::{self, BufWriter, IsTerminal, Write};
 use std::process::ExitCode;
 use ybison::import::{Asked as Import, run_import};
 use ydebugger::{Setting, debug};
-use yfiles::reading::{LONGEST_INPUT, Limited};
 use yinput::grammars::{GrammarFile, open_file};
 use yinput::language::LanguageFiles;
 use yinput::source::Source;
@@ -41,40 +48,10 @@ use ypage::page::{self, run_page};
 use ypage::walk::Part;
 use yreports::report::{Asked, put_conflicts};
 use yrules::run::{Asked as Rules, run_rules};
+use ysentences::run::{Asked as Sentences, run_sentences};
 
 /// The exit status of a program that a signal ends since its pipe has no reader any more.
 const ENDED_BY_PIPE: u8 = 141;
-
-/// Why nothing was done.
-#[derive(Clone, Copy)]
-enum Refused {
-    /// The words are not those of the program.
-    Arguments,
-    /// Help or the version was asked for, and is written.
-    Helped,
-    /// Memory ran out.
-    Memory,
-    /// Nobody reads what is written any more.
-    Unread,
-    /// The standard streams fail.
-    Outside,
-}
-
-impl From<AllocError> for Refused {
-    fn from(_refused: AllocError) -> Refused {
-        Refused::Memory
-    }
-}
-
-impl From<io::Error> for Refused {
-    fn from(error: io::Error) -> Refused {
-        match error.kind() {
-            io::ErrorKind::OutOfMemory => Refused::Memory,
-            io::ErrorKind::BrokenPipe => Refused::Unread,
-            _ => Refused::Outside,
-        }
-    }
-}
 
 /// Writes the help or the version that was asked for.
 fn put_help(rt: &HostRuntime, help: &clap::Error) -> Refused {
@@ -108,70 +85,11 @@ fn matches_by<'a>(
     }
 }
 
-/// The value of an argument that is required.
-fn value_of<'a>(matches: &ArgMatches<'a>, name: &str) -> Result<&'a str, Refused> {
-    matches.get_str(name).ok_or(Refused::Arguments)
-}
-
-/// Whether a flag is given.
-fn is_given(matches: &ArgMatches<'_>, name: &str) -> bool {
-    matches.get_str(name) == Some("true")
-}
-
-/// The grammar file, and whether it is one of bison.
-fn grammar_in<'a>(matches: &ArgMatches<'a>) -> Result<GrammarFile<'a>, Refused> {
-    let path = value_of(matches, "grammar")?;
-    match matches.get_str("from") {
-        None => Ok(GrammarFile { path, bison: false }),
-        Some("bison") => Ok(GrammarFile { path, bison: true }),
-        Some(_) => Err(Refused::Arguments),
-    }
-}
-
-/// The files of a language.
-fn language_in<'a>(matches: &ArgMatches<'a>) -> Result<LanguageFiles<'a>, Refused> {
-    Ok(LanguageFiles {
-        grammar: grammar_in(matches)?,
-        spec: matches.get_str("lex"),
-    })
-}
-
-/// The number that a word is.
-fn number_in(word: &str) -> Result<usize, Refused> {
-    word.parse::<usize>().map_err(|_| Refused::Arguments)
-}
-
-/// The number that an option gives, where it is given.
-fn number_of(matches: &ArgMatches<'_>, name: &str) -> Result<Option<usize>, Refused> {
-    match matches.get_str(name) {
-        Some(word) => number_in(word).map(Some),
-        None => Ok(None),
-    }
-}
-
-/// An input, and how long it may be.
-fn input_of<'a>(matches: &ArgMatches<'a>, path: &'a str) -> Result<Limited<'a>, Refused> {
-    let most = most_of(matches)?;
-    Ok(Limited { path, most })
-}
-
-/// How many bytes an input may have.
-fn most_of(matches: &ArgMatches<'_>) -> Result<u64, Refused> {
-    match number_of(matches, "limit")? {
-        Some(most) => Ok(most as u64),
-        None => Ok(LONGEST_INPUT),
-    }
-}
-
-/// What stands after each `--from` of a page: `bison`, and a first position, each once at most.
-fn page_from(words: &[&str]) -> Result<(bool, usize), Refused> {
-    match words {
-        [] => Ok((false, 0)),
-        [word] if *word == "bison" => Ok((true, 0)),
-        [word] => Ok((false, number_in(word)?)),
-        [word, number] | [number, word] if *word == "bison" => Ok((true, number_in(number)?)),
-        _ => Err(Refused::Arguments),
-    }
+/// Says that an option wants a name.
+fn refuse_save(rt: &HostRuntime) -> Result<u8, Refused> {
+    rt.stderr()
+        .write_all(b"ydebug: --save wants the name of a folder\n")?;
+    Ok(2)
 }
 
 /// A report on conflicts.
@@ -187,9 +105,7 @@ fn report<W: Write>(
         strict: is_given(matches, "strict"),
     };
     if asked.save == Some("") {
-        rt.stderr()
-            .write_all(b"ydebug: --save wants the name of a folder\n")?;
-        return Ok(2);
+        return refuse_save(rt);
     }
     match open_file(rt, file, &mut rt.stderr())? {
         Ok(opened) => Ok(put_conflicts(rt, out, &mut rt.stderr(), asked, opened)?),
@@ -214,14 +130,6 @@ fn check_files<W: Write>(
     Ok(run_check(rt, asked, &mut rt.stdin(), out, &mut rt.stderr())?)
 }
 
-/// The file of messages, where one is given.
-fn messages_in<'a>(matches: &ArgMatches<'a>) -> Result<Option<Limited<'a>>, Refused> {
-    match matches.get_str("messages") {
-        Some(path) => input_of(matches, path).map(Some),
-        None => Ok(None),
-    }
-}
-
 /// Errors by example.
 fn list_errors<W: Write>(
     rt: &HostRuntime,
@@ -240,6 +148,41 @@ fn list_errors<W: Write>(
         return Ok(2);
     }
     Ok(run_errors(rt, asked, out, &mut rt.stderr())?)
+}
+
+/// Sentences of a grammar.
+fn write_sentences<W: Write>(
+    rt: &HostRuntime,
+    matches: &ArgMatches<'_>,
+    out: &mut W,
+) -> Result<u8, Refused> {
+    let asked = Sentences {
+        grammar: grammar_in(matches)?,
+        kind: kind_in(matches)?,
+        drawn: drawn_in(matches)?,
+        near: is_given(matches, "near"),
+        save: matches.get_str("save"),
+        strict: is_given(matches, "strict"),
+    };
+    if asked.save == Some("") {
+        return refuse_save(rt);
+    }
+    Ok(run_sentences(rt, asked, out, &mut rt.stderr())?)
+}
+
+/// What inputs use.
+fn cover_files<W: Write>(
+    rt: &HostRuntime,
+    matches: &ArgMatches<'_>,
+    out: &mut W,
+) -> Result<u8, Refused> {
+    let asked = cover::Asked {
+        files: language_in(matches)?,
+        inputs: matches.get_strs("tokens").unwrap_or(&[]),
+        most: most_of(matches)?,
+        strict: is_given(matches, "strict"),
+    };
+    Ok(run_cover(rt, asked, &mut rt.stdin(), out, &mut rt.stderr())?)
 }
 
 /// A page of a parse.
@@ -381,6 +324,8 @@ fn obey<W: Write>(
         Form::Conflicts => report(rt, matches, out),
         Form::Check => check_files(rt, matches, out),
         Form::Errors => list_errors(rt, matches, out),
+        Form::Sentences => write_sentences(rt, matches, out),
+        Form::Cover => cover_files(rt, matches, out),
         Form::Page => page(rt, matches, out),
         Form::Import => import(rt, matches, out),
         Form::Tokens => cut_file(rt, matches, out),

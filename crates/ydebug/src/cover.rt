@@ -1,0 +1,148 @@
+//! `ydebug cover`: what inputs use of the tables of a grammar, and what none of them uses.
+
+use crate::check::bytes_of;
+use std::alloc::{AllocError, Global};
+use std::io::{self, Read, Write};
+use std::rt::Files;
+use ycover::elements::Elements;
+use ycover::report::put_report;
+use ycover::walk::{Walked, Walker};
+use yexplain::lines::Lines;
+use yexplain::reads::grammar_of;
+use yfaults::opening::Opened;
+use yfiles::reading::Limited;
+use yinput::language::{Input, Language, LanguageFiles};
+use yinput::verdict::{Verdict, verdict_on};
+
+/// What is asked for: what inputs use.
+#[derive(Clone, Copy)]
+pub struct Asked<'a> {
+    /// The files of their language.
+    pub files: LanguageFiles<'a>,
+    /// The paths of the inputs; `-` is standard input.
+    pub inputs: &'a [&'a str],
+    /// The most bytes of an input.
+    pub most: u64,
+    /// Whether what isn't used makes the status 1.
+    pub strict: bool,
+}
+
+/// The inputs that were read, and the exit status that the others give.
+#[derive(Drop)]
+struct Inputs {
+    read: Vec<Input>,
+    status: u8,
+}
+
+impl Asked<'_> {
+    /// Writes the verdict on an input, where it isn't accepted.
+    fn put_verdict<W: Write>(
+        self,
+        alloc: Global,
+        out: &mut W,
+        language: &Language,
+        path: &str,
+        input: &Input,
+    ) -> io::Result<()> {
+        let tables = &language.opened.tables;
+        match verdict_on(alloc, tables, &input.tokens)? {
+            Verdict::Accepted(_) => Ok(()),
+            verdict => verdict
+                .put(out, grammar_of(tables), path, input, None)
+                .map(|_| ()),
+        }
+    }
+
+    /// Reads an input. Where there is none, or it isn't accepted, that is written.
+    fn read_input<F: Files + AllocGlobal, R: Read, W: Write>(
+        self,
+        rt: &F,
+        stdin: &mut R,
+        out: &mut W,
+        language: &Language,
+        path: &str,
+    ) -> io::Result<Result<Input, u8>> {
+        let most = self.most;
+        let file = Limited { path, most };
+        match language.input_of(rt.alloc(), file, bytes_of(rt, stdin, file))? {
+            Ok(input) => {
+                self.put_verdict(rt.alloc(), out, language, path, &input)?;
+                Ok(Ok(input))
+            }
+            Err(fault) => fault
+                .put(rt, out, self.files.grammar.path, &language.opened)
+                .map(Err),
+        }
+    }
+
+    /// Reads all inputs.
+    fn read_all<F: Files + AllocGlobal, R: Read, W: Write>(
+        self,
+        rt: &F,
+        stdin: &mut R,
+        out: &mut W,
+        language: &Language,
+    ) -> io::Result<Inputs> {
+        let mut inputs = Inputs {
+            read: Vec::new(rt.alloc()),
+            status: 0,
+        };
+        for path in self.inputs {
+            match self.read_input(rt, stdin, out, language, path)? {
+                Ok(input) => inputs.read.push(input).map_err(AllocError::from)?,
+                Err(status) => inputs.status = status.max(inputs.status),
+            }
+        }
+        Ok(inputs)
+    }
+
+    /// The exit status where all was used, or not.
+    fn status(self, is_all: bool) -> u8 {
+        if self.strict && !is_all { 1 } else { 0 }
+    }
+}
+
+/// What parses over inputs use.
+fn walk_all(alloc: Global, opened: Opened, inputs: &[Input]) -> io::Result<(Walked, Lines)> {
+    let Opened { tables, lines } = opened;
+    let mut walker = Walker::new(alloc, tables)?;
+    for input in inputs {
+        walker.walk(&input.tokens.symbols)?;
+    }
+    Ok((walker.finish()?, lines))
+}
+
+/// Writes what parses over inputs use, and says whether that is all.
+fn put_uses<W: Write>(
+    alloc: Global,
+    out: &mut W,
+    opened: Opened,
+    inputs: &[Input],
+) -> io::Result<bool> {
+    let (walked, lines) = walk_all(alloc, opened, inputs)?;
+    let elements = Elements {
+        tables: &walked.tables,
+        lines: &lines,
+        cells: &walked.cells,
+    };
+    put_report(out, elements, &walked.uses)
+}
+
+/// Writes what is asked for, and gives the exit status: 0; 1 where the grammar, the SPEC or an
+/// input is refused, or where something isn't used and that is to count; 3 where a file can't be
+/// read, or memory runs out. Faults of the grammar and of the SPEC go to `errors`.
+pub fn run_cover<F: Files + AllocGlobal, R: Read, W: Write, E: Write>(
+    rt: &F,
+    asked: Asked<'_>,
+    stdin: &mut R,
+    out: &mut W,
+    errors: &mut E,
+) -> io::Result<u8> {
+    let language = match Language::open(rt, asked.files, errors)? {
+        Ok(language) => language,
+        Err(status) => return Ok(status),
+    };
+    let Inputs { read, status } = asked.read_all(rt, stdin, out, &language)?;
+    let is_all = put_uses(rt.alloc(), out, language.into_opened(), &read)?;
+    Ok(asked.status(is_all).max(status))
+}

@@ -1,0 +1,141 @@
+//! What the arguments of a form say: files, numbers, flags; and why nothing is done.
+
+use clap::ArgMatches;
+use std::alloc::AllocError;
+use std::io;
+use ycover::elements::Kind;
+use yfiles::reading::{LONGEST_INPUT, Limited};
+use yinput::grammars::GrammarFile;
+use yinput::language::LanguageFiles;
+use ysentences::run::Drawn;
+
+/// Why nothing was done.
+#[derive(Clone, Copy)]
+pub enum Refused {
+    /// The words are not those of the program.
+    Arguments,
+    /// Help or the version was asked for, and is written.
+    Helped,
+    /// Memory ran out.
+    Memory,
+    /// Nobody reads what is written any more.
+    Unread,
+    /// The standard streams fail.
+    Outside,
+}
+
+impl From<AllocError> for Refused {
+    fn from(_refused: AllocError) -> Refused {
+        Refused::Memory
+    }
+}
+
+impl From<io::Error> for Refused {
+    fn from(error: io::Error) -> Refused {
+        match error.kind() {
+            io::ErrorKind::OutOfMemory => Refused::Memory,
+            io::ErrorKind::BrokenPipe => Refused::Unread,
+            _ => Refused::Outside,
+        }
+    }
+}
+
+/// The value of an argument that is required.
+pub fn value_of<'a>(matches: &ArgMatches<'a>, name: &str) -> Result<&'a str, Refused> {
+    matches.get_str(name).ok_or(Refused::Arguments)
+}
+
+/// Whether a flag is given.
+pub fn is_given(matches: &ArgMatches<'_>, name: &str) -> bool {
+    matches.get_str(name) == Some("true")
+}
+
+/// The grammar file, and whether it is one of bison.
+pub fn grammar_in<'a>(matches: &ArgMatches<'a>) -> Result<GrammarFile<'a>, Refused> {
+    let path = value_of(matches, "grammar")?;
+    match matches.get_str("from") {
+        None => Ok(GrammarFile { path, bison: false }),
+        Some("bison") => Ok(GrammarFile { path, bison: true }),
+        Some(_) => Err(Refused::Arguments),
+    }
+}
+
+/// The files of a language.
+pub fn language_in<'a>(matches: &ArgMatches<'a>) -> Result<LanguageFiles<'a>, Refused> {
+    Ok(LanguageFiles {
+        grammar: grammar_in(matches)?,
+        spec: matches.get_str("lex"),
+    })
+}
+
+/// The number that a word is.
+fn number_in(word: &str) -> Result<usize, Refused> {
+    word.parse::<usize>().map_err(|_| Refused::Arguments)
+}
+
+/// The number that an option gives, where it is given.
+pub fn number_of(matches: &ArgMatches<'_>, name: &str) -> Result<Option<usize>, Refused> {
+    match matches.get_str(name) {
+        Some(word) => number_in(word).map(Some),
+        None => Ok(None),
+    }
+}
+
+/// An input, and how long it may be.
+pub fn input_of<'a>(matches: &ArgMatches<'a>, path: &'a str) -> Result<Limited<'a>, Refused> {
+    let most = most_of(matches)?;
+    Ok(Limited { path, most })
+}
+
+/// How many bytes an input may have.
+pub fn most_of(matches: &ArgMatches<'_>) -> Result<u64, Refused> {
+    match number_of(matches, "limit")? {
+        Some(most) => Ok(most as u64),
+        None => Ok(LONGEST_INPUT),
+    }
+}
+
+/// What stands after each `--from` of a page: `bison`, and a first position, each once at most.
+pub fn page_from(words: &[&str]) -> Result<(bool, usize), Refused> {
+    match words {
+        [] => Ok((false, 0)),
+        [word] if *word == "bison" => Ok((true, 0)),
+        [word] => Ok((false, number_in(word)?)),
+        [word, number] | [number, word] if *word == "bison" => Ok((true, number_in(number)?)),
+        _ => Err(Refused::Arguments),
+    }
+}
+
+/// The file of messages, where one is given.
+pub fn messages_in<'a>(matches: &ArgMatches<'a>) -> Result<Option<Limited<'a>>, Refused> {
+    match matches.get_str("messages") {
+        Some(path) => input_of(matches, path).map(Some),
+        None => Ok(None),
+    }
+}
+
+/// What sentences are to use; rules where nothing is said.
+pub fn kind_in(matches: &ArgMatches<'_>) -> Result<Kind, Refused> {
+    match matches.get_str("cover") {
+        None | Some("rules") => Ok(Kind::Rules),
+        Some("states") => Ok(Kind::States),
+        Some("actions") => Ok(Kind::Cells),
+        Some(_) => Err(Refused::Arguments),
+    }
+}
+
+/// How sentences are drawn, where that is asked for; options for one way alone stand without those
+/// for the other.
+pub fn drawn_in(matches: &ArgMatches<'_>) -> Result<Option<Drawn>, Refused> {
+    let (length, seed) = (number_of(matches, "length")?, number_of(matches, "seed")?);
+    let is_cover = matches.get_str("cover").is_some();
+    match number_of(matches, "random")? {
+        Some(count) if !is_cover => Ok(Some(Drawn {
+            count,
+            length: length.unwrap_or(20) as u64,
+            seed: seed.unwrap_or(1) as u64,
+        })),
+        None if length.is_none() && seed.is_none() => Ok(None),
+        _ => Err(Refused::Arguments),
+    }
+}

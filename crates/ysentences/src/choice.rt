@@ -1,0 +1,395 @@
+//! The sentences that are kept: each uses something that no other one does.
+
+use crate::contexts::{Contexts, Place};
+use crate::seek::{Goal, MOST_TOKENS, Seeker, Sought};
+use crate::trial::{Trier, Used};
+use std::alloc::{AllocError, Global};
+use std::io;
+use ycounterexample::lists::Lists;
+use ycounterexample::others::Others;
+use ycover::elements::Kind;
+use yexplain::reads::{action_of, default_of, grammar_of, is_reachable, left_of, set};
+use ylalr::ERROR;
+use yparse::Session;
+use ysymbols::Sym;
+use ytables::{Action, Tables};
+
+/// How many further lists are tried for an element that the first one misses.
+const MOST_OTHERS: usize = 20;
+
+/// How many cells of a rule are sought that its own sentence misses.
+const MOST_CELLS: usize = 10;
+
+/// A sentence: its tokens, what it uses of the kind that is wanted, and whether it is kept.
+#[derive(Drop)]
+pub struct Sentence {
+    /// Its tokens.
+    pub tokens: Vec<Sym>,
+    /// The numbers of what it uses, in their order.
+    pub uses: Vec<usize>,
+    /// Whether it uses something that no other one does.
+    pub kept: bool,
+}
+
+/// Why an element isn't used by a sentence.
+#[derive(Clone, Copy, Drop, PartialEq, Eq)]
+pub enum Missing {
+    /// Nothing was found in as many steps as are made.
+    Late,
+    /// The parse over each list that was tried went another way.
+    Astray,
+    /// The shortest sentence with it has `error`, or too many tokens.
+    Long,
+    /// The left side of the rule can't be reached.
+    Unreachable,
+    /// No cell reduces by the rule.
+    Lost,
+}
+
+/// What chooses sentences.
+#[derive(Drop)]
+pub struct Chooser<'a> {
+    alloc: Global,
+    kind: Kind,
+    trier: Trier<'a>,
+    seeker: Seeker,
+    chosen: Chosen,
+    /// The rules that a sentence uses.
+    rules: Vec<bool>,
+}
+
+/// The sentences that were chosen.
+#[derive(Drop)]
+pub struct Chosen {
+    /// All that were taken, also those that aren't kept.
+    pub sentences: Vec<Sentence>,
+    /// For each element of the kind, whether one uses it.
+    pub used: Vec<bool>,
+    /// Why the others aren't used.
+    pub missing: Vec<Missing>,
+}
+
+impl Chosen {
+    fn new(alloc: Global, count: usize) -> Result<Chosen, AllocError> {
+        Ok(Chosen {
+            sentences: Vec::new(alloc),
+            used: vec![in alloc; false; count]?,
+            missing: vec![in alloc; Missing::Late; count]?,
+        })
+    }
+
+    /// Whether a sentence uses an element.
+    fn is_used(&self, element: usize) -> bool {
+        self.used.get(element).copied().unwrap_or(true)
+    }
+
+    /// Takes a sentence, where it uses something new.
+    fn take(&mut self, tokens: Vec<Sym>, uses: Vec<usize>) -> Result<(), AllocError> {
+        if uses.iter().all(|element| self.is_used(*element)) {
+            return Ok(());
+        }
+        for element in &uses {
+            set(&mut self.used, *element, true);
+        }
+        let mut uses = uses;
+        uses.sort()?;
+        self.sentences.push(Sentence {
+            tokens,
+            uses,
+            kept: true,
+        })?;
+        Ok(())
+    }
+
+    /// How many sentences use each element.
+    fn counts(&self, alloc: Global) -> Result<Vec<usize>, AllocError> {
+        let mut counts = vec![in alloc; 0usize; self.used.len()]?;
+        for sentence in &self.sentences {
+            count_in(&mut counts, &sentence.uses);
+        }
+        Ok(counts)
+    }
+
+    /// Drops each sentence whose elements are all used by others, the longest first.
+    fn thin(&mut self, alloc: Global) -> Result<(), AllocError> {
+        let mut counts = self.counts(alloc)?;
+        let order = self.order(alloc)?;
+        for place in order.iter().rev() {
+            if let Some(sentence) = self.sentences.get_mut(*place) {
+                sentence.kept = !is_spared(&mut counts, &sentence.uses);
+            }
+        }
+        Ok(())
+    }
+
+    /// The places of the sentences, the shortest first.
+    pub fn order(&self, alloc: Global) -> Result<Vec<usize>, AllocError> {
+        let mut lengths = Vec::new(alloc);
+        for (place, sentence) in self.sentences.iter().enumerate() {
+            lengths.push((sentence.tokens.len(), place))?;
+        }
+        lengths.sort_by_key(|length| *length)?;
+        lengths.iter().map(|(_, place)| *place).collect(alloc)
+    }
+}
+
+/// Counts each of some elements once more.
+fn count_in(counts: &mut [usize], elements: &[usize]) {
+    for element in elements {
+        if let Some(count) = counts.get_mut(*element) {
+            *count = count.saturating_add(1);
+        }
+    }
+}
+
+/// Whether all of some elements are used by more than one sentence; then each counts once less.
+fn is_spared(counts: &mut [usize], elements: &[usize]) -> bool {
+    let is_spared = elements
+        .iter()
+        .all(|element| counts.get(*element).copied().unwrap_or(0) > 1);
+    if is_spared {
+        for element in elements {
+            if let Some(count) = counts.get_mut(*element) {
+                *count = count.saturating_sub(1);
+            }
+        }
+    }
+    is_spared
+}
+
+impl<'a> Chooser<'a> {
+    fn new(alloc: Global, session: &'a mut Session, kind: Kind) -> Result<Chooser<'a>, AllocError> {
+        let seeker = Seeker::new(alloc, session.tables())?;
+        let rules = grammar_of(session.tables()).rules();
+        let trier = Trier::new(alloc, session, kind)?;
+        let chosen = Chosen::new(alloc, trier.count())?;
+        Ok(Chooser {
+            alloc,
+            kind,
+            trier,
+            seeker,
+            chosen,
+            rules: vec![in alloc; false; rules]?,
+        })
+    }
+
+    /// Tries a sentence, and takes it where it is accepted and uses something new.
+    fn offer(&mut self, tokens: Vec<Sym>) -> io::Result<()> {
+        let before = self.trier.steps();
+        let used = self.trier.uses(&tokens)?;
+        let steps = self.trier.steps().saturating_sub(before);
+        self.seeker.finder.spend(steps.saturating_add(tokens.len()));
+        let Some(Used { elements, rules }) = used else {
+            return Ok(());
+        };
+        for rule in &rules {
+            set(&mut self.rules, *rule, true);
+        }
+        self.chosen.take(tokens, elements)?;
+        Ok(())
+    }
+
+    /// Offers the shortest sentence of each rule that no one uses yet, the longest first.
+    fn offer_rules(&mut self) -> io::Result<()> {
+        let (contexts, order) = self.contexts()?;
+        for place in &order {
+            let is_done = self.rules.get(place.rule).copied().unwrap_or(true);
+            if !is_done && self.seeker.finder.has_steps() {
+                self.offer_rule(&contexts, *place)?;
+            }
+        }
+        Ok(())
+    }
+
+    /// The shortest ways to rules, and the rules, the one with the longest sentence first.
+    fn contexts(&self) -> Result<(Contexts, Vec<Place>), AllocError> {
+        let (grammar, finder) = (grammar_of(self.trier.session.tables()), &self.seeker.finder);
+        let contexts = Contexts::new(self.alloc, grammar, finder)?;
+        let order = contexts.order(self.alloc, grammar, finder)?;
+        Ok((contexts, order))
+    }
+
+    /// Offers the shortest sentence of a rule.
+    fn offer_rule(&mut self, contexts: &Contexts, place: Place) -> io::Result<()> {
+        match self.rule_sentence(contexts, place)? {
+            Sought::Sentence(tokens) => self.offer(tokens),
+            _ => {
+                self.miss(Kind::Rules, place.rule, Missing::Long);
+                Ok(())
+            }
+        }
+    }
+
+    /// The shortest sentence of a rule.
+    fn rule_sentence(&self, contexts: &Contexts, place: Place) -> Result<Sought, AllocError> {
+        // the end counts for one token
+        if place.length > MOST_TOKENS.saturating_add(1) {
+            return Ok(Sought::Long);
+        }
+        let tables = self.trier.session.tables();
+        let form = contexts.form(self.alloc, grammar_of(tables), place.rule)?;
+        self.seeker.sentence(tables, &form)
+    }
+
+    /// Notes why an element of a kind isn't used, where that is the kind that is wanted.
+    fn miss(&mut self, kind: Kind, element: usize, missing: Missing) {
+        if self.kind == kind {
+            set(&mut self.chosen.missing, element, missing);
+        }
+    }
+
+    /// Seeks sentences for all elements that none uses yet.
+    fn seek_all(&mut self) -> io::Result<()> {
+        if self.kind == Kind::Rules {
+            return self.seek_rules();
+        }
+        for element in 0..self.trier.count() {
+            let goal = match self.trier.cells.at(element) {
+                Some(cell) if self.kind == Kind::Cells => Goal {
+                    state: cell.state,
+                    token: cell.token(),
+                },
+                _ => Goal {
+                    state: element,
+                    token: None,
+                },
+            };
+            self.seek(goal, element)?;
+        }
+        Ok(())
+    }
+
+    /// Seeks sentences for the rules that none uses yet, by cells that reduce by them.
+    fn seek_rules(&mut self) -> io::Result<()> {
+        let (goals, marks) = (self.goals_of_rules()?, self.at_error()?);
+        for rule in 1..self.trier.count() {
+            let is_marked = marks.get(rule).copied().unwrap_or(false);
+            self.seek_rule(rule, goals.of(rule))?;
+            self.judge(rule, goals.of(rule).is_empty() && !is_marked);
+        }
+        Ok(())
+    }
+
+    /// Seeks a sentence that comes to one of these cells, which reduce by a rule.
+    fn seek_rule(&mut self, rule: usize, goals: &[Goal]) -> io::Result<()> {
+        for goal in goals {
+            self.seek(*goal, rule)?;
+        }
+        Ok(())
+    }
+
+    /// The rules that a cell reduces by at `error`, which no parse looks up.
+    fn at_error(&self) -> Result<Vec<bool>, AllocError> {
+        let (alloc, tables) = (self.alloc, self.trier.session.tables());
+        let mut marks = vec![in alloc; false; self.trier.count()]?;
+        for state in 0..tables.automaton().states() {
+            if let Action::Reduce(rule) = action_of(tables, state, ERROR) {
+                set(&mut marks, rule, true);
+            }
+        }
+        Ok(marks)
+    }
+
+    /// Notes why a rule isn't used that can't be.
+    fn judge(&mut self, rule: usize, is_lost: bool) {
+        let grammar = grammar_of(self.trier.session.tables());
+        let is_live = left_of(grammar, rule).map_or(false, |left| is_reachable(grammar, left));
+        if !is_live {
+            self.miss(Kind::Rules, rule, Missing::Unreachable);
+        } else if is_lost {
+            self.miss(Kind::Rules, rule, Missing::Lost);
+        }
+    }
+
+    /// The first cells that reduce by each rule that no sentence uses.
+    fn goals_of_rules(&self) -> Result<Lists<Goal>, AllocError> {
+        let mut goals = Lists::new(self.alloc, self.trier.count())?;
+        if self.chosen.used.iter().skip(1).all(|used| *used) {
+            return Ok(goals);
+        }
+        let tables = self.trier.session.tables();
+        for number in 0..self.trier.cells.count() {
+            let Some(cell) = self.trier.cells.at(number) else {
+                break;
+            };
+            let (state, token) = (cell.state, cell.token());
+            match rule_in(tables, state, token) {
+                Some(rule) if !self.chosen.is_used(rule) && goals.of(rule).len() < MOST_CELLS => {
+                    goals.push(rule, Goal { state, token })?;
+                }
+                _ => {}
+            }
+        }
+        Ok(goals)
+    }
+
+    /// Seeks a sentence that comes to a goal and so uses an element, unless one uses it.
+    fn seek(&mut self, goal: Goal, element: usize) -> io::Result<()> {
+        if self.chosen.is_used(element) || !self.seeker.finder.has_steps() {
+            return Ok(());
+        }
+        match self.seeker.shortest(&mut self.trier, goal)? {
+            Sought::Sentence(tokens) => {
+                self.offer(tokens)?;
+                self.seek_others(goal, element)
+            }
+            Sought::Astray => self.seek_others(goal, element),
+            Sought::Long => {
+                self.miss(self.kind, element, Missing::Long);
+                Ok(())
+            }
+            Sought::Late => Ok(()),
+        }
+    }
+
+    /// Tries further lists for a goal, unless a sentence uses the element.
+    fn seek_others(&mut self, goal: Goal, element: usize) -> io::Result<()> {
+        if self.chosen.is_used(element) {
+            return Ok(());
+        }
+        self.miss(self.kind, element, Missing::Astray);
+        let tables = self.trier.session.tables();
+        let mut others = self.seeker.others(tables, goal)?;
+        for _ in 0..MOST_OTHERS {
+            if self.chosen.is_used(element) || !self.try_next(&mut others, goal)? {
+                break;
+            }
+        }
+        Ok(())
+    }
+
+    /// Tries the next list, and says whether there was one.
+    fn try_next(&mut self, others: &mut Others, goal: Goal) -> io::Result<bool> {
+        if !self.seeker.finder.has_steps() {
+            return Ok(false);
+        }
+        match self.seeker.next(&mut self.trier, others, goal)? {
+            Some(Sought::Sentence(tokens)) => {
+                self.offer(tokens)?;
+                Ok(true)
+            }
+            Some(_) => Ok(true),
+            None => Ok(false),
+        }
+    }
+}
+
+/// The rule that a filled cell reduces by, where it does.
+fn rule_in(tables: &Tables, state: usize, token: Option<Sym>) -> Option<usize> {
+    match token.map(|token| action_of(tables, state, token)) {
+        Some(Action::Reduce(rule)) => Some(rule),
+        Some(_) => None,
+        None => default_of(tables, state),
+    }
+}
+
+/// Sentences that use all elements of a kind which are found, in a session without tokens.
+pub fn choose(alloc: Global, session: &mut Session, kind: Kind) -> io::Result<Chosen> {
+    let mut chooser = Chooser::new(alloc, session, kind)?;
+    chooser.offer_rules()?;
+    chooser.seek_all()?;
+    let Chooser { chosen, .. } = chooser;
+    let mut chosen = chosen;
+    chosen.thin(alloc)?;
+    Ok(chosen)
+}

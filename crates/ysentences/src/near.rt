@@ -1,0 +1,143 @@
+//! Lists of tokens that are near to sentences: one token is left out, changed or put in.
+
+use indexmap::IndexSet;
+use std::alloc::{AllocError, Global};
+use yinput::grammars::used_in;
+use ylalr::ERROR;
+use ysymbols::{Grammar, Sym};
+
+/// The most places at which a sentence is changed in one way.
+const MOST_PLACES: usize = 3;
+
+/// A change of a sentence, after so many of its tokens.
+#[derive(Clone, Copy, Drop, PartialEq, Eq)]
+pub enum Change {
+    /// The next token is left out.
+    LeaveOut(usize),
+    /// The next token becomes this one.
+    Replace(usize, Sym),
+    /// This token is put in.
+    PutIn(usize, Sym),
+}
+
+/// What changes sentences.
+#[derive(Drop)]
+pub struct Near {
+    alloc: Global,
+    /// The tokens of the grammar's rules, but for `error`.
+    inputs: Vec<Sym>,
+    /// How many of them were taken, one after the other, over and over.
+    turn: usize,
+    /// All lists that were met.
+    met: IndexSet<Vec<Sym>>,
+}
+
+/// The place of a part of so many places, the first one and the last one among them.
+fn place_in(count: usize, part: usize) -> Option<usize> {
+    let parts = count.min(MOST_PLACES);
+    if part >= parts {
+        return None;
+    }
+    let last = count.saturating_sub(1);
+    let steps = parts.saturating_sub(1);
+    Some(part.saturating_mul(last).checked_div(steps).unwrap_or(0))
+}
+
+impl Near {
+    /// What changes sentences of a grammar.
+    pub fn new(alloc: Global, grammar: &Grammar) -> Result<Near, AllocError> {
+        let (mut inputs, marks) = (Vec::new(alloc), used_in(alloc, grammar)?);
+        for (symbol, used) in marks.iter().enumerate() {
+            if *used && grammar.is_token(symbol) && symbol > ERROR {
+                inputs.push(symbol)?;
+            }
+        }
+        Ok(Near {
+            alloc,
+            inputs,
+            turn: 0,
+            met: IndexSet::new(alloc),
+        })
+    }
+
+    /// Notes a list, and says whether it is met for the first time.
+    pub fn meet(&mut self, tokens: &[Sym]) -> Result<bool, AllocError> {
+        let mut list = Vec::new(self.alloc);
+        list.extend_from_slice(tokens)?;
+        Ok(self.met.insert(list)?)
+    }
+
+    /// The next token, other than this one; `None` where there is no other.
+    fn other(&mut self, token: Option<Sym>) -> Option<Sym> {
+        for _ in 0..2 {
+            let place = self.turn.checked_rem(self.inputs.len())?;
+            self.turn = self.turn.wrapping_add(1);
+            let other = self.inputs.get(place).copied();
+            if other != token {
+                return other;
+            }
+        }
+        None
+    }
+
+    /// The changes of a sentence.
+    pub fn changes(&mut self, tokens: &[Sym]) -> Result<Vec<Change>, AllocError> {
+        let mut changes = Vec::new(self.alloc);
+        let count = tokens.len();
+        for part in 0..MOST_PLACES {
+            if let Some(place) = place_in(count, part) {
+                changes.push(Change::LeaveOut(place))?;
+            }
+        }
+        self.push_replaced(&mut changes, tokens)?;
+        self.push_put_in(&mut changes, count.saturating_add(1))?;
+        Ok(changes)
+    }
+
+    /// Adds the changes in which a token becomes another.
+    fn push_replaced(
+        &mut self,
+        changes: &mut Vec<Change>,
+        tokens: &[Sym],
+    ) -> Result<(), AllocError> {
+        for part in 0..MOST_PLACES {
+            if let Some(place) = place_in(tokens.len(), part) {
+                if let Some(other) = self.other(tokens.get(place).copied()) {
+                    changes.push(Change::Replace(place, other))?;
+                }
+            }
+        }
+        Ok(())
+    }
+
+    /// Adds the changes in which a token is put in at one of so many places.
+    fn push_put_in(&mut self, changes: &mut Vec<Change>, count: usize) -> Result<(), AllocError> {
+        for part in 0..MOST_PLACES {
+            if let Some(place) = place_in(count, part) {
+                if let Some(other) = self.other(None) {
+                    changes.push(Change::PutIn(place, other))?;
+                }
+            }
+        }
+        Ok(())
+    }
+}
+
+impl Change {
+    /// What becomes of a sentence.
+    pub fn made(self, alloc: Global, tokens: &[Sym]) -> Result<Vec<Sym>, AllocError> {
+        let (place, token, taken) = match self {
+            Change::LeaveOut(place) => (place, None, 1),
+            Change::Replace(place, token) => (place, Some(token), 1),
+            Change::PutIn(place, token) => (place, Some(token), 0),
+        };
+        let mut list = Vec::new(alloc);
+        list.extend_from_slice(tokens.get(..place).unwrap_or(tokens))?;
+        if let Some(token) = token {
+            list.push(token)?;
+        }
+        let rest = tokens.get(place.saturating_add(taken)..).unwrap_or(&[]);
+        list.extend_from_slice(rest)?;
+        Ok(list)
+    }
+}

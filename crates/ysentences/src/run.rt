@@ -1,0 +1,279 @@
+//! `ydebug sentences`.
+
+use crate::choice::{Chosen, Missing, choose};
+use crate::draw::draw;
+use crate::near::Near;
+use crate::numbers::Numbers;
+use crate::seek::MOST_TOKENS;
+use crate::sheet::Sheet;
+use std::alloc::{AllocError, Global};
+use std::io::{self, Write};
+use std::rt::Files;
+use ycounterexample::search::Finder;
+use ycounterexample::trial::empty_session;
+use ycover::cells::Cells;
+use ycover::elements::{Elements, Kind};
+use yexplain::reads::{grammar_of, set};
+use yfaults::opening::Opened;
+use yinput::grammars::{GrammarFile, open_file};
+use yreports::report::put_failed;
+use yreports::saving::Folder;
+use ytables::Tables;
+
+/// Sentences that are drawn.
+#[derive(Clone, Copy)]
+pub struct Drawn {
+    /// How many.
+    pub count: usize,
+    /// How many tokens each has at most.
+    pub length: u64,
+    /// What they are drawn by.
+    pub seed: u64,
+}
+
+/// What is asked for: sentences of a grammar.
+#[derive(Clone, Copy)]
+pub struct Asked<'a> {
+    /// The grammar file.
+    pub grammar: GrammarFile<'a>,
+    /// What they are to use.
+    pub kind: Kind,
+    /// Those that are drawn, where these are wanted instead.
+    pub drawn: Option<Drawn>,
+    /// Whether lists that are near to them are wanted too.
+    pub near: bool,
+    /// The folder in which each list becomes a tokens file.
+    pub save: Option<&'a str>,
+    /// Whether an element that isn't found, or a sentence that is refused, makes the status 1.
+    pub strict: bool,
+}
+
+impl Asked<'_> {
+    /// What the names of the files of sentences begin with.
+    fn front(self) -> &'static str {
+        match (self.drawn, self.kind) {
+            (Some(_), _) => "random-",
+            (None, Kind::Rules) => "rules-",
+            (None, Kind::States) => "states-",
+            (None, Kind::Cells) => "actions-",
+        }
+    }
+
+    /// What changes sentences, where that is wanted.
+    fn near_in(self, alloc: Global, tables: &Tables) -> Result<Option<Near>, AllocError> {
+        if self.near {
+            Near::new(alloc, grammar_of(tables)).map(Some)
+        } else {
+            Ok(None)
+        }
+    }
+}
+
+/// A folder for tokens files whose names begin so.
+fn folder_of<'a, F>(rt: &'a F, asked: Asked<'a>, front: &'a str) -> Folder<'a, F> {
+    Folder {
+        rt,
+        path: asked.save,
+        grammar: asked.grammar.path,
+        name: (front, ".tokens"),
+        failed: None,
+    }
+}
+
+/// Writes the sentences that are kept, the shortest first, and says how many these are.
+fn put_kept<W: Write, F: Files + AllocGlobal + Clone + Drop>(
+    sheet: &mut Sheet<'_, W, F>,
+    chosen: &Chosen,
+    kind: Kind,
+) -> io::Result<usize> {
+    let (alloc, mut number): (Global, usize) = (sheet.alloc, 0);
+    let mut seen = vec![in alloc; false; chosen.used.len()]?;
+    let order = chosen.order(alloc)?;
+    for place in &order {
+        if let Some(sentence) = chosen.sentences.get(*place) {
+            if sentence.kept {
+                number = number.saturating_add(1);
+                let new = new_in(alloc, &mut seen, &sentence.uses)?;
+                sheet.put_chosen(kind, number, &sentence.tokens, &new)?;
+            }
+        }
+    }
+    Ok(number)
+}
+
+/// The elements that aren't marked yet, which become so.
+fn new_in(alloc: Global, seen: &mut [bool], elements: &[usize]) -> Result<Vec<usize>, AllocError> {
+    let mut new = Vec::new(alloc);
+    for element in elements {
+        if !seen.get(*element).copied().unwrap_or(true) {
+            set(seen, *element, true);
+            new.push(*element)?;
+        }
+    }
+    Ok(new)
+}
+
+/// Writes the elements that no sentence uses, and says how many these are.
+fn put_unused<W: Write, F: Files + AllocGlobal + Clone + Drop>(
+    sheet: &mut Sheet<'_, W, F>,
+    chosen: &Chosen,
+    kind: Kind,
+) -> io::Result<usize> {
+    let mut count: usize = 0;
+    for (element, used) in chosen.used.iter().enumerate().skip(kind.first()) {
+        if !*used {
+            let missing = chosen
+                .missing
+                .get(element)
+                .copied()
+                .unwrap_or(Missing::Late);
+            sheet.put_unused(kind, element, missing)?;
+            count = count.saturating_add(1);
+        }
+    }
+    Ok(count)
+}
+
+/// Writes the sentences that were chosen and what none uses, and says whether all is used.
+fn put_chosen<W: Write, F: Files + AllocGlobal + Clone + Drop>(
+    sheet: &mut Sheet<'_, W, F>,
+    chosen: &Chosen,
+    kind: Kind,
+) -> io::Result<bool> {
+    let sentences = put_kept(sheet, chosen, kind)?;
+    let unused = put_unused(sheet, chosen, kind)?;
+    let all = chosen.used.len().saturating_sub(kind.first());
+    let (words, verb) = if sentences == 1 {
+        ("sentence", "uses")
+    } else {
+        ("sentences", "use")
+    };
+    write!(sheet.out, "# {sentences} {words} {verb} ")?;
+    let (used, word) = (all.saturating_sub(unused), kind.word(all));
+    match unused {
+        0 => write!(sheet.out, "all {all} {word}")?,
+        _ => write!(sheet.out, "{used} of {all} {word}")?,
+    }
+    sheet.put_end()?;
+    Ok(unused == 0)
+}
+
+/// Draws sentences and writes them, and says how many of them are accepted; `None` where there are
+/// none.
+fn put_each_drawn<W: Write, F: Files + AllocGlobal + Clone + Drop>(
+    sheet: &mut Sheet<'_, W, F>,
+    drawn: Drawn,
+) -> io::Result<Option<usize>> {
+    let (alloc, elements) = (sheet.alloc, sheet.elements);
+    let automaton = elements.tables.automaton();
+    let finder = Finder::new(alloc, automaton)?;
+    let mut numbers = Numbers::new(drawn.seed);
+    let mut accepted: usize = 0;
+    for index in 0..drawn.count {
+        let Some(tokens) = draw(alloc, &finder, automaton, &mut numbers, drawn.length)? else {
+            return Ok(None);
+        };
+        if sheet.put_drawn(index.saturating_add(1), &tokens)? {
+            accepted = accepted.saturating_add(1);
+        }
+    }
+    Ok(Some(accepted))
+}
+
+/// Writes sentences that are drawn, and says whether all are accepted.
+fn put_drawn<W: Write, F: Files + AllocGlobal + Clone + Drop>(
+    sheet: &mut Sheet<'_, W, F>,
+    drawn: Drawn,
+) -> io::Result<bool> {
+    let count = drawn.count;
+    match put_each_drawn(sheet, drawn)? {
+        Some(accepted) => {
+            write!(
+                sheet.out,
+                "# {accepted} of {count} random sentences accepted"
+            )?;
+            sheet.put_end()?;
+            Ok(accepted == count)
+        }
+        None => {
+            writeln!(
+                sheet.out,
+                "# no sentence can be drawn: the shortest one has error, or too many tokens"
+            )?;
+            Ok(false)
+        }
+    }
+}
+
+/// Writes what is asked for, and gives the exit status.
+fn put_sheet<'a, W: Write, E: Write, F: Files + AllocGlobal + Clone + Drop>(
+    rt: &'a F,
+    asked: Asked<'a>,
+    elements: Elements<'a>,
+    out: &'a mut W,
+    errors: &mut E,
+    chosen: Option<&Chosen>,
+) -> io::Result<u8> {
+    let mut sheet = Sheet {
+        alloc: rt.alloc(),
+        out,
+        elements,
+        folder: folder_of(rt, asked, asked.front()),
+        near_folder: folder_of(rt, asked, "near-"),
+        near: asked.near_in(rt.alloc(), elements.tables)?,
+        changed: 0,
+        accepted: 0,
+    };
+    sheet.begin()?;
+    let is_all = match (asked.drawn, chosen) {
+        (Some(drawn), _) => put_drawn(&mut sheet, drawn)?,
+        (None, Some(chosen)) => put_chosen(&mut sheet, chosen, asked.kind)?,
+        (None, None) => true,
+    };
+    let status = if asked.strict && !is_all { 1 } else { 0 };
+    let failed = sheet.folder.failed.as_ref();
+    put_failed(errors, failed.or(sheet.near_folder.failed.as_ref()), status)
+}
+
+/// Writes sentences of a grammar that is open, and gives the exit status.
+fn put_open<F: Files + AllocGlobal + Clone + Drop, W: Write, E: Write>(
+    rt: &F,
+    asked: Asked<'_>,
+    opened: Opened,
+    out: &mut W,
+    errors: &mut E,
+) -> io::Result<u8> {
+    let Opened { tables, lines } = opened;
+    let mut session = empty_session(rt.alloc(), tables);
+    let chosen = match asked.drawn {
+        Some(_) => None,
+        None => Some(choose(rt.alloc(), &mut session, asked.kind)?),
+    };
+    let cells = Cells::new(rt.alloc(), session.tables())?;
+    let elements = Elements {
+        tables: session.tables(),
+        lines: &lines,
+        cells: &cells,
+    };
+    put_sheet(rt, asked, elements, &mut *out, errors, chosen.as_ref())
+}
+
+/// Writes what is asked for, and gives the exit status: 0; 1 where the grammar is refused, or where
+/// something isn't found or accepted and that is to count; 2 where longer sentences are asked for
+/// than are drawn; 3 where a file can't be read or written, memory runs out, or there are too many
+/// states.
+pub fn run_sentences<F: Files + AllocGlobal + Clone + Drop, W: Write, E: Write>(
+    rt: &F,
+    asked: Asked<'_>,
+    out: &mut W,
+    errors: &mut E,
+) -> io::Result<u8> {
+    if asked.drawn.map_or(0, |drawn| drawn.length) > MOST_TOKENS {
+        writeln!(errors, "ydebug: --length goes up to {MOST_TOKENS}")?;
+        return Ok(2);
+    }
+    match open_file(rt, asked.grammar, errors)? {
+        Ok(opened) => put_open(rt, asked, opened, out, errors),
+        Err(status) => Ok(status),
+    }
+}

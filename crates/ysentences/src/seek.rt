@@ -1,0 +1,233 @@
+//! Sentences that come to a state with a token ahead.
+
+use crate::completion::Completer;
+use crate::trial::Trier;
+use std::alloc::{AllocError, Global};
+use std::io;
+use ycounterexample::others::Others;
+use ycounterexample::search::{Finder, Found, Target};
+use yexplain::reads::{action_of, goto_of};
+use ylalr::{Automaton, END};
+use ysymbols::Sym;
+use ytables::{Action, Tables};
+
+/// The most tokens of a sentence.
+pub const MOST_TOKENS: u64 = 5_000;
+
+/// The most forms that are looked at for further lists.
+const MOST_FORMS: usize = 2_000;
+
+/// What a sentence is to come to: a state, with a token ahead where that matters.
+#[derive(Clone, Copy, Drop)]
+pub struct Goal {
+    /// The state.
+    pub state: usize,
+    /// The token.
+    pub token: Option<Sym>,
+}
+
+/// A sentence that was found, or why there is none.
+#[derive(Drop)]
+pub enum Sought {
+    /// A sentence of the grammar, unless what the tables choose leads elsewhere.
+    Sentence(Vec<Sym>),
+    /// The parse over the tokens that were found goes another way.
+    Astray,
+    /// The shortest one has `error`, or too many tokens.
+    Long,
+    /// The search took too long.
+    Late,
+}
+
+/// What seeks sentences.
+#[derive(Drop)]
+pub struct Seeker {
+    alloc: Global,
+    /// What searches for the ways to a state.
+    pub finder: Finder,
+    completer: Completer,
+}
+
+impl Goal {
+    /// What is done there: nothing where no token matters.
+    fn action(self, tables: &Tables) -> Action {
+        match self.token {
+            Some(token) => action_of(tables, self.state, token),
+            None => Action::Error,
+        }
+    }
+
+    /// The cell to which a way is sought: its rule has to be possible, where it reduces.
+    fn target(self, tables: &Tables) -> Target {
+        let first = match self.action(tables) {
+            Action::Reduce(rule) => Some(rule),
+            _ => None,
+        };
+        Target {
+            state: self.state,
+            token: self.token.unwrap_or(END),
+            first,
+            second: None,
+        }
+    }
+}
+
+/// The states over the symbols of a way, the first state of all at the bottom.
+fn states_over(
+    alloc: Global,
+    automaton: &Automaton,
+    way: &[Sym],
+) -> Result<Vec<usize>, AllocError> {
+    let (mut states, mut state) = (Vec::new(alloc), 0);
+    states.push(state)?;
+    for symbol in way {
+        state = goto_of(automaton, state, *symbol).unwrap_or(0);
+        states.push(state)?;
+    }
+    Ok(states)
+}
+
+impl Seeker {
+    /// What seeks sentences by these tables.
+    pub fn new(alloc: Global, tables: &Tables) -> Result<Seeker, AllocError> {
+        let automaton = tables.automaton();
+        Ok(Seeker {
+            alloc,
+            finder: Finder::new(alloc, automaton)?,
+            completer: Completer::new(alloc, automaton.grammar())?,
+        })
+    }
+
+    /// The shortest sentence of a form.
+    pub fn sentence(&self, tables: &Tables, form: &[Sym]) -> Result<Sought, AllocError> {
+        if self.finder.length(form) > MOST_TOKENS {
+            return Ok(Sought::Long);
+        }
+        match self.finder.sentence(tables.automaton(), form)? {
+            Some(tokens) => Ok(Sought::Sentence(tokens)),
+            None => Ok(Sought::Long),
+        }
+    }
+
+    /// The sentence with what stands on a stack, by the form that leads to its states.
+    fn completed(
+        &mut self,
+        tables: &Tables,
+        form: Vec<Sym>,
+        states: &[usize],
+    ) -> Result<Sought, AllocError> {
+        let (mut form, automaton) = (form, tables.automaton());
+        let end = self.completer.complete(&self.finder, automaton, states)?;
+        self.finder.spend(self.completer.looked());
+        match end {
+            Some(end) => {
+                form.extend_from_slice(&end)?;
+                self.sentence(tables, &form)
+            }
+            None => Ok(Sought::Late),
+        }
+    }
+
+    /// A shortest sentence that comes to a goal.
+    pub fn shortest(&mut self, trier: &mut Trier<'_>, goal: Goal) -> io::Result<Sought> {
+        let Some(way) = self.way(trier.session.tables(), goal)? else {
+            return Ok(Sought::Late);
+        };
+        match (goal.action(trier.session.tables()), goal.token) {
+            (Action::Shift(_), Some(token)) => {
+                Ok(self.by_shift(trier.session.tables(), way, token)?)
+            }
+            (Action::Reduce(_), Some(token)) => self.by_reduction(trier, &way, token),
+            _ => Ok(self.by_state(trier.session.tables(), way)?),
+        }
+    }
+
+    /// The symbols of a shortest way to a goal, unless the search takes too long.
+    fn way(&mut self, tables: &Tables, goal: Goal) -> Result<Option<Vec<Sym>>, AllocError> {
+        match self
+            .finder
+            .shortest(tables.automaton(), goal.target(tables))?
+        {
+            Found::Way(way) => Ok(Some(way)),
+            Found::Nothing | Found::Late => Ok(None),
+        }
+    }
+
+    /// The sentence over a way, whatever comes after it.
+    fn by_state(&mut self, tables: &Tables, way: Vec<Sym>) -> Result<Sought, AllocError> {
+        let states = states_over(self.alloc, tables.automaton(), &way)?;
+        self.completed(tables, way, &states)
+    }
+
+    /// The sentence over a way and a token that is shifted after it.
+    fn by_shift(
+        &mut self,
+        tables: &Tables,
+        way: Vec<Sym>,
+        token: Sym,
+    ) -> Result<Sought, AllocError> {
+        let mut way = way;
+        way.push(token)?;
+        self.by_state(tables, way)
+    }
+
+    /// The sentence over a way and a token at which it is reduced.
+    fn by_reduction(
+        &mut self,
+        trier: &mut Trier<'_>,
+        way: &[Sym],
+        token: Sym,
+    ) -> io::Result<Sought> {
+        match self.sentence(trier.session.tables(), way)? {
+            Sought::Sentence(tokens) => self.after(trier, tokens, Some(token)),
+            sought => Ok(sought),
+        }
+    }
+
+    /// The sentence that begins with a list and a token, by the stack of a parse over both.
+    fn after(
+        &mut self,
+        trier: &mut Trier<'_>,
+        tokens: Vec<Sym>,
+        token: Option<Sym>,
+    ) -> io::Result<Sought> {
+        let mut tokens = tokens;
+        if token == Some(END) {
+            return Ok(Sought::Sentence(tokens));
+        }
+        if let Some(token) = token {
+            tokens.push(token).map_err(AllocError::from)?;
+        }
+        let before = trier.steps();
+        let found = trier.stack_after(&tokens)?;
+        self.finder.spend(trier.steps().saturating_sub(before));
+        match found {
+            Some(states) => {
+                let tables = trier.session.tables();
+                Ok(self.completed(tables, tokens, &states)?)
+            }
+            None => Ok(Sought::Astray),
+        }
+    }
+
+    /// Further lists for a goal.
+    pub fn others(&mut self, tables: &Tables, goal: Goal) -> Result<Others, AllocError> {
+        let target = goal.target(tables);
+        let (alloc, automaton) = (self.alloc, tables.automaton());
+        Others::new(alloc, &mut self.finder, automaton, target, MOST_FORMS)
+    }
+
+    /// The sentence that begins with the next of these lists; `None` where there is no other.
+    pub fn next(
+        &mut self,
+        trier: &mut Trier<'_>,
+        others: &mut Others,
+        goal: Goal,
+    ) -> io::Result<Option<Sought>> {
+        let automaton = trier.session.tables().automaton();
+        match others.next(&mut self.finder, automaton)? {
+            Some(tokens) => self.after(trier, tokens, goal.token).map(Some),
+            None => Ok(None),
+        }
+    }
+}

@@ -1,0 +1,238 @@
+//! Sentences as they are written: each stands in a line of its own, as a tokens file has it, and
+//! all other lines begin with `#`.
+
+use crate::choice::Missing;
+use crate::near::{Change, Near};
+use crate::seek::MOST_TOKENS;
+use std::alloc::Global;
+use std::io::{self, Write};
+use std::rt::Files;
+use ycounterexample::budget::ALL_STEPS;
+use ycover::elements::{Elements, Kind};
+use yexplain::reads::grammar_of;
+use yexplain::text::Name;
+use yinput::verdict::{Verdict, verdict_on};
+use yparse::Tokens;
+use yreports::saving::Folder;
+use ysymbols::{Grammar, Sym};
+
+/// The most elements that are named which a sentence is the first to use.
+const MOST_NAMED: usize = 20;
+
+/// What sentences are written with.
+#[derive(Drop)]
+pub struct Sheet<'a, W, F> {
+    /// What allocates.
+    pub alloc: Global,
+    /// Where they go.
+    pub out: &'a mut W,
+    /// The elements of the tables.
+    pub elements: Elements<'a>,
+    /// The folder for sentences.
+    pub folder: Folder<'a, F>,
+    /// The folder for lists that are near to them.
+    pub near_folder: Folder<'a, F>,
+    /// What changes sentences, where that is wanted.
+    pub near: Option<Near>,
+    /// How many lists that are near were written.
+    pub changed: usize,
+    /// How many of them are accepted.
+    pub accepted: usize,
+}
+
+/// Writes tokens in a line.
+fn put_tokens<W: Write>(out: &mut W, grammar: &Grammar, tokens: &[Sym]) -> io::Result<()> {
+    for (index, token) in tokens.iter().enumerate() {
+        let front = if index > 0 { " " } else { "" };
+        let name = Name(grammar, *token);
+        write!(out, "{front}{name}")?;
+    }
+    writeln!(out)
+}
+
+/// Writes where a list is kept, where it is.
+fn put_saved<W: Write>(out: &mut W, path: Option<&String>) -> io::Result<()> {
+    match path {
+        Some(path) => writeln!(out, "# saved in {path}"),
+        None => Ok(()),
+    }
+}
+
+/// Writes how a sentence is changed, as the beginning of a line.
+fn put_change<W: Write>(
+    out: &mut W,
+    grammar: &Grammar,
+    count: usize,
+    change: Change,
+) -> io::Result<()> {
+    match change {
+        Change::LeaveOut(before) => {
+            let number = before.saturating_add(1);
+            write!(out, "# token {number} left out: ")
+        }
+        Change::Replace(before, token) => {
+            let (number, name) = (before.saturating_add(1), Name(grammar, token));
+            write!(out, "# token {number} changed to {name}: ")
+        }
+        Change::PutIn(before, token) if before < count => {
+            let (number, name) = (before.saturating_add(1), Name(grammar, token));
+            write!(out, "# {name} put in before token {number}: ")
+        }
+        Change::PutIn(_, token) => {
+            let name = Name(grammar, token);
+            write!(out, "# {name} put in at the end: ")
+        }
+    }
+}
+
+/// Writes why an element wasn't found.
+fn put_missing<W: Write>(out: &mut W, missing: Missing) -> io::Result<()> {
+    match missing {
+        Missing::Late => write!(out, "# not found within {ALL_STEPS} steps: "),
+        Missing::Astray => write!(
+            out,
+            "# not found, as the parse over each list that was tried goes another way: "
+        ),
+        Missing::Long => write!(
+            out,
+            "# not found, as the shortest sentence has error, or more than {MOST_TOKENS} tokens: "
+        ),
+        Missing::Unreachable => write!(out, "# not found, as its left side can't be reached: "),
+        Missing::Lost => write!(out, "# not found, as no cell reduces by it: "),
+    }
+}
+
+/// Writes elements that a sentence is the first to use, as the end of a line.
+fn put_first<W: Write>(
+    out: &mut W,
+    elements: Elements<'_>,
+    kind: Kind,
+    new: &[usize],
+) -> io::Result<()> {
+    for (index, element) in new.iter().take(MOST_NAMED).enumerate() {
+        let front = if index > 0 { ", " } else { " " };
+        write!(out, "{front}")?;
+        elements.put_short(out, kind, *element)?;
+    }
+    match new.len().saturating_sub(MOST_NAMED) {
+        0 => writeln!(out),
+        more => writeln!(out, ", and {more} more"),
+    }
+}
+
+impl<W: Write, F: Files + AllocGlobal + Clone + Drop> Sheet<'_, W, F> {
+    /// Removes the lists of an earlier run, and makes the folder, where one is wanted.
+    pub fn begin(&mut self) -> io::Result<()> {
+        self.folder.clear()?;
+        self.near_folder.clear()?;
+        self.folder.make()
+    }
+
+    /// Writes a sentence that was chosen, with what it is the first to use.
+    pub fn put_chosen(
+        &mut self,
+        kind: Kind,
+        number: usize,
+        tokens: &[Sym],
+        new: &[usize],
+    ) -> io::Result<()> {
+        let word = kind.word(new.len());
+        write!(self.out, "# sentence {number}, the first to use {word}")?;
+        put_first(self.out, self.elements, kind, new)?;
+        self.put_list(number, tokens)?;
+        self.put_near(number, tokens)
+    }
+
+    /// Writes a sentence that was drawn, with its verdict, and says whether it is accepted. Without a
+    /// verdict there are no lists near to it.
+    pub fn put_drawn(&mut self, number: usize, tokens: &[Sym]) -> io::Result<bool> {
+        let (verdict, elements) = (self.verdict(tokens)?, self.elements);
+        let is_accepted = matches!(verdict, Verdict::Accepted(_));
+        let words = if is_accepted {
+            ""
+        } else {
+            ", one of the grammar that the tables refuse"
+        };
+        write!(self.out, "# random sentence {number}{words}: ")?;
+        verdict.put_words(self.out, grammar_of(elements.tables))?;
+        self.put_list(number, tokens)?;
+        match verdict {
+            Verdict::Undecided => {}
+            _ => self.put_near(number, tokens)?,
+        }
+        Ok(is_accepted)
+    }
+
+    /// The verdict on a list.
+    fn verdict(&self, tokens: &[Sym]) -> io::Result<Verdict> {
+        let mut symbols = Vec::with_capacity(self.alloc, tokens.len())?;
+        symbols.extend_from_slice(tokens)?;
+        verdict_on(self.alloc, self.elements.tables, &Tokens { symbols })
+    }
+
+    /// Writes a sentence, and where it is kept.
+    fn put_list(&mut self, number: usize, tokens: &[Sym]) -> io::Result<()> {
+        let elements = self.elements;
+        let grammar = grammar_of(elements.tables);
+        let path = self.folder.store(grammar, (number, 0), tokens, None)?;
+        put_saved(self.out, path.as_ref())?;
+        put_tokens(self.out, grammar, tokens)
+    }
+
+    /// Writes the lists that are near to a sentence, where they are wanted.
+    fn put_near(&mut self, number: usize, tokens: &[Sym]) -> io::Result<()> {
+        match self.near.take() {
+            Some(near) => self.put_changes(near, number, tokens),
+            None => Ok(()),
+        }
+    }
+
+    /// Writes the lists that are near to a sentence.
+    fn put_changes(&mut self, near: Near, number: usize, tokens: &[Sym]) -> io::Result<()> {
+        let (mut near, elements) = (near, self.elements);
+        let mut place: usize = 0;
+        near.meet(tokens)?;
+        let changes = near.changes(tokens)?;
+        for change in &changes {
+            let list = change.made(self.alloc, tokens)?;
+            if near.meet(&list)? {
+                let grammar = grammar_of(elements.tables);
+                put_change(self.out, grammar, tokens.len(), *change)?;
+                self.put_changed((number, place), &list)?;
+                place = place.saturating_add(1);
+            }
+        }
+        self.near = Some(near);
+        Ok(())
+    }
+
+    /// Writes the verdict on a list that is near to a sentence, and the list.
+    fn put_changed(&mut self, numbers: (usize, usize), list: &[Sym]) -> io::Result<()> {
+        let elements = self.elements;
+        let grammar = grammar_of(elements.tables);
+        let verdict = self.verdict(list)?;
+        self.changed = self.changed.saturating_add(1);
+        if let Verdict::Accepted(_) = verdict {
+            self.accepted = self.accepted.saturating_add(1);
+        }
+        verdict.put_words(self.out, grammar)?;
+        let path = self.near_folder.store(grammar, numbers, list, None)?;
+        put_saved(self.out, path.as_ref())?;
+        put_tokens(self.out, grammar, list)
+    }
+
+    /// Writes an element that no sentence uses, and why.
+    pub fn put_unused(&mut self, kind: Kind, element: usize, missing: Missing) -> io::Result<()> {
+        put_missing(self.out, missing)?;
+        self.elements.put_line(self.out, kind, element)
+    }
+
+    /// Writes how many lists that are near are accepted, as the end of a line.
+    pub fn put_end(&mut self) -> io::Result<()> {
+        let (changed, accepted) = (self.changed, self.accepted);
+        match changed {
+            0 => writeln!(self.out),
+            _ => writeln!(self.out, "; {accepted} of {changed} near ones are accepted"),
+        }
+    }
+}
