@@ -290,11 +290,18 @@ impl<'a> Chooser<'a> {
         Ok(marks)
     }
 
+    /// Whether the left side of a rule can be reached.
+    fn is_live(&self, rule: usize) -> bool {
+        let grammar = grammar_of(self.trier.session.tables());
+        match left_of(grammar, rule) {
+            Some(left) => is_reachable(grammar, left),
+            None => false,
+        }
+    }
+
     /// Notes why a rule isn't used that can't be.
     fn judge(&mut self, rule: usize, is_lost: bool) {
-        let grammar = grammar_of(self.trier.session.tables());
-        let is_live = left_of(grammar, rule).map_or(false, |left| is_reachable(grammar, left));
-        if !is_live {
+        if !self.is_live(rule) {
             self.miss(Kind::Rules, rule, Missing::Unreachable);
         } else if is_lost {
             self.miss(Kind::Rules, rule, Missing::Lost);
@@ -348,8 +355,7 @@ impl<'a> Chooser<'a> {
             return Ok(());
         }
         self.miss(self.kind, element, Missing::Astray);
-        let tables = self.trier.session.tables();
-        let mut others = self.seeker.others(tables, goal)?;
+        let mut others = self.seeker.others(&self.trier, goal)?;
         for _ in 0..MOST_OTHERS {
             if self.chosen.is_used(element) || !self.try_next(&mut others, goal)? {
                 break;

@@ -211,7 +211,8 @@ impl Seeker {
     }
 
     /// Further lists for a goal.
-    pub fn others(&mut self, tables: &Tables, goal: Goal) -> Result<Others, AllocError> {
+    pub fn others(&mut self, trier: &Trier<'_>, goal: Goal) -> Result<Others, AllocError> {
+        let tables = trier.session.tables();
         let target = goal.target(tables);
         let (alloc, automaton) = (self.alloc, tables.automaton());
         Others::new(alloc, &mut self.finder, automaton, target, MOST_FORMS)
