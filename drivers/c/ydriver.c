@@ -129,7 +129,7 @@ static int take_name(reader *from, content *found, uint32_t symbol) {
 
 static int take_token_number(reader *from, content *found, uint32_t symbol) {
   uint32_t number;
-  if (found->tokens < symbol) return refuse(from, "a token stands behind a nonterminal");
+  if (found->tokens < symbol) return refuse(from, "a token stands after a nonterminal");
   if (!take(from, "t ") || !take_number(from, 0, NUMBERS, &number)) return 0;
   found->tokens = symbol + 1;
   if (found->table) found->table->number[symbol] = (int32_t)number;
@@ -256,7 +256,7 @@ static int take_table(reader *from, content *found) {
     if (!take_rule(from, found, at)) return 0;
   if (!take_count(from, "states ", 1, STATES, &found->states)) return 0;
   if (!take_states(from, found) || !take(from, "end") || !take_newline(from)) return 0;
-  return from->text == from->end ? 1 : refuse(from, "there is more behind the end");
+  return from->text == from->end ? 1 : refuse(from, "there is more after the end");
 }
 
 /* A table without content, of this size, in one block. */
@@ -356,17 +356,33 @@ static uint16_t action_of(const yd_parser *parser, int token) {
 
 static int is_full(const yd_parser *parser) { return parser->top == parser->last; }
 
+/* The entries and, after them, as many states stand in one block. */
 static int grow(yd_parser *parser) {
   size_t used = parser->stack ? (size_t)(parser->last - parser->stack) + 1 : 0;
   size_t room = used ? used * 2 : 64;
-  if (room > SIZE_MAX / sizeof(yd_entry)) return 0;
-  yd_entry *stack = realloc(parser->stack, room * sizeof *stack);
+  if (room > SIZE_MAX / (sizeof(yd_entry) + sizeof(int))) return 0;
+  yd_entry *stack = realloc(parser->stack, room * (sizeof *stack + sizeof(int)));
   if (!stack) return 0;
   if (!used) memset(stack, 0, sizeof *stack);
+  parser->lost_states = (int *)(stack + room);
+  memmove(parser->lost_states, stack + used, parser->lost * sizeof(int));
   parser->top = stack + (used ? parser->top - parser->stack : 0);
   parser->stack = stack;
   parser->last = stack + room - 1;
   return 1;
+}
+
+/* The stack is what it is after a token. */
+static void keep_all(yd_parser *parser) {
+  parser->kept = (size_t)(parser->top - parser->stack);
+  parser->lost = 0;
+}
+
+/* Before a reduction takes entries off: keeps the states that were there when the token came. */
+static void keep_states(yd_parser *parser, size_t count) {
+  size_t left = (size_t)(parser->top - parser->stack) - count;
+  for (; parser->kept > left; parser->kept--)
+    parser->lost_states[parser->lost++] = parser->stack[parser->kept].state;
 }
 
 static void tell(yd_parser *parser, yd_kind kind, int number) {
@@ -408,6 +424,7 @@ static outcome reduce(yd_parser *parser, int number) {
   uint16_t says = cell_of(table, &table->gotos[(parser->top - with.length)->state], with.left);
   if (says == NOTHING) return BROKEN;
   if (!with.length && is_full(parser) && !grow(parser)) return NO_MEMORY;
+  keep_states(parser, with.length);
   yd_entry *first = parser->top - with.length + 1;
   yd_value value = value_of(&parser->calls, number, with, first);
   *first = (yd_entry){state_of(says), with.left, value, span_of(first, with.length)};
@@ -420,7 +437,7 @@ static outcome detect(yd_parser *parser, const ahead *next) {
   const yd_calls *calls = &parser->calls;
   if (!parser->counter) {
     parser->errors++;
-    if (calls->error) calls->error(calls->context, next->token, next->span);
+    if (calls->error) calls->error(calls->context, parser, next->token, next->span);
   }
   parser->counter = 3;
   parser->mode = YD_POPPING;
@@ -457,6 +474,7 @@ static outcome pop(yd_parser *parser, const ahead *next) {
   if (is_to(says)) return shift_error(parser, next, state_of(says));
   if (parser->top == parser->stack) return end_as(parser, YD_GIVEN_UP, YD_FAIL, next);
   yd_entry top = *parser->top--;
+  keep_all(parser);
   parser->lost_begin = top.span.begin;
   drop(parser, top.symbol, top.value, top.span);
   tell(parser, YD_POP, top.symbol);
@@ -501,6 +519,7 @@ static yd_result push(yd_parser *parser, const ahead *next) {
   if (made != TAKEN) return result_of(parser, made);
   parser->spent = 0;
   settle(parser);
+  keep_all(parser);
   return YD_MORE;
 }
 
@@ -527,4 +546,91 @@ void yd_stop(yd_parser *parser) {
     drop(parser, parser->top->symbol, parser->top->value, parser->top->span);
   free(parser->stack);
   parser->stack = parser->top = parser->last = NULL;
+  parser->kept = parser->lost = 0;
+}
+
+/* ---- Tokens that can come ---- */
+
+enum { FOR_A_TOKEN = 100000, FOR_ALL = 10000000 };
+
+/* A stack of states that is tried: some of those that were there, and others above them. */
+typedef struct {
+  const yd_parser *parser;
+  size_t below; /* the place of the last of those that were there */
+  int *above;
+  size_t count, room;
+  uint32_t left; /* how many more reductions may be made */
+} trial;
+
+/* What becomes of a token that is tried. */
+typedef enum { CANNOT, CAN, REDUCED, OUT_OF_MEMORY } answer;
+
+/* The state at a place, as it was when the token ahead came. */
+static int state_at(const yd_parser *parser, size_t place) {
+  if (!parser->stack) return 0;
+  if (place <= parser->kept) return parser->stack[place].state;
+  return parser->lost_states[parser->lost - (place - parser->kept)];
+}
+
+static int state_of_trial(const trial *of) {
+  return of->count ? of->above[of->count - 1] : state_at(of->parser, of->below);
+}
+
+/* Takes so many states off; 0 where there are fewer. */
+static int take_off(trial *of, size_t count) {
+  size_t deeper = count > of->count ? count - of->count : 0;
+  if (deeper > of->below) return 0;
+  of->count -= count - deeper;
+  of->below -= deeper;
+  return 1;
+}
+
+static int has_room(trial *of) {
+  if (of->count < of->room) return 1;
+  size_t room = of->room ? of->room * 2 : 64;
+  int *above = realloc(of->above, room * sizeof *above);
+  if (!above) return 0;
+  of->above = above;
+  of->room = room;
+  return 1;
+}
+
+static answer reduce_trial(trial *of, int number) {
+  const yd_table *table = of->parser->table;
+  rule with = table->rule[number];
+  if (!of->left || !take_off(of, with.length)) return CANNOT;
+  uint16_t says = cell_of(table, &table->gotos[state_of_trial(of)], with.left);
+  if (says == NOTHING) return CANNOT;
+  if (!has_room(of)) return OUT_OF_MEMORY;
+  of->left--;
+  of->above[of->count++] = state_of(says);
+  return REDUCED;
+}
+
+static answer ask(trial *of, int token) {
+  const yd_table *table = of->parser->table;
+  uint16_t says = cell_of(table, &table->actions[state_of_trial(of)], token);
+  if (is_by(says)) return reduce_trial(of, rule_of(says));
+  return says == NOTHING ? CANNOT : CAN;
+}
+
+/* Tries a token from the stack as it was. */
+static answer try_token(trial *of, int token) {
+  answer found = REDUCED;
+  of->below = of->parser->kept + of->parser->lost;
+  of->count = 0;
+  for (int made = 0; found == REDUCED && made <= FOR_A_TOKEN; made++) found = ask(of, token);
+  return found == REDUCED ? CANNOT : found;
+}
+
+size_t yd_expected(const yd_parser *parser, int *tokens, size_t room) {
+  trial of = {parser, 0, NULL, 0, 0, FOR_ALL};
+  size_t count = 0;
+  answer found = CANNOT;
+  for (int token = 0; (uint32_t)token < parser->table->tokens && found != OUT_OF_MEMORY; token++) {
+    found = token == ERROR ? CANNOT : try_token(&of, token);
+    if (found == CAN && count++ < room) tokens[count - 1] = token;
+  }
+  free(of.above);
+  return found == OUT_OF_MEMORY ? YD_UNKNOWN : count;
 }

@@ -61,6 +61,8 @@ typedef enum {
   YD_BROKEN     /* the table has no state for what it says itself */
 } yd_result;
 
+typedef struct yd_parser yd_parser;
+
 /* What a caller wants to be told. Each call may be left out (NULL). */
 typedef struct {
   void *context;
@@ -69,8 +71,8 @@ typedef struct {
   /* A rule replaces `count` entries by its left side; with this value. Left out: with the value of
      the first entry. */
   yd_value (*reduce)(void *context, int rule, int left, const yd_entry *entries, size_t count);
-  /* An error is reported: this token cannot come. */
-  void (*error)(void *context, int token, yd_span span);
+  /* An error is reported: this token cannot come. Here yd_expected says which tokens could. */
+  void (*error)(void *context, const yd_parser *parser, int token, yd_span span);
   /* An entry or a token is given up, and its value with it. */
   void (*drop)(void *context, int symbol, yd_value value, yd_span span);
   /* A step was made. */
@@ -80,18 +82,22 @@ typedef struct {
 typedef enum { YD_RUNNING, YD_POPPING, YD_DONE, YD_GIVEN_UP } yd_mode;
 
 /* A parse. Its fields are for reading, apart from `limit`, which may be set at any time. */
-typedef struct {
+struct yd_parser {
   const yd_table *table;
   yd_calls calls;
   /* NULL before the first token. stack[0] is the bottom, with state 0; entries go up to `top`. */
   yd_entry *stack, *top, *last;
   yd_mode mode;
-  int counter;       /* 3 behind an error, and one less for each token that is shifted */
+  int counter;       /* 3 after an error, and one less for each token that is shifted */
   size_t errors;     /* the errors that were reported */
   size_t spent;      /* the steps since the last token was taken */
   size_t limit;      /* the most of them; 1,000,000 unless set */
   size_t lost_begin; /* where what recovery took begins */
-} yd_parser;
+  /* The stack as it was when the token ahead came: its entries up to stack[kept] are there still,
+     and above them these states were, the last one lowest. */
+  size_t kept, lost;
+  int *lost_states;
+};
 
 /* Reads a table. NULL where it is refused; `fault`, unless it is NULL, then says why. */
 yd_table *yd_read(const char *text, size_t length, yd_fault *fault);
@@ -116,6 +122,13 @@ void yd_start(yd_parser *parser, const yd_table *table, yd_calls calls);
 yd_result yd_push(yd_parser *parser, int token, yd_value value, yd_span span);
 /* Ends the input. The value of an accepted one is that of parser->stack[1]. */
 yd_result yd_finish(yd_parser *parser, yd_span span);
+/* Writes the tokens that can come, by number and at most `room`, and says how many there are: each is
+   tried on the stack as it was after the last token that was taken, so none is listed that would be
+   an error, also where the reductions that a wrong token allowed are made already. It is for the
+   call of an error, and for the time between two tokens. A token that takes over 100,000 reductions
+   counts as one that cannot come. YD_UNKNOWN where memory runs out. */
+#define YD_UNKNOWN ((size_t)-1)
+size_t yd_expected(const yd_parser *parser, int *tokens, size_t room);
 /* Drops what is on the stack, and gives its memory back. */
 void yd_stop(yd_parser *parser);
 

@@ -19,6 +19,8 @@ from typing import Any, Callable, Dict, List, Optional, Tuple, Union
 END, ERROR = 0, 1
 # The limits of a grammar, and so of its table.
 SYMBOLS, NUMBERS, RULES, LENGTH, STATES = 4096, 32767, 8192, 255, 16384
+# The most reductions that the trial of a token makes, and those of all tokens together.
+FOR_A_TOKEN, FOR_ALL = 100_000, 10_000_000
 NUMBER = re.compile(rb"0|[1-9][0-9]{0,6}")
 NAME = re.compile(rb"[ -~]+")
 
@@ -144,7 +146,7 @@ class _Reader:
         self.take(b" ")
         if symbol <= ERROR or self.sees(b"t"):
             if len(self.table.numbers) < symbol:
-                raise _Refused("a token stands behind a nonterminal")
+                raise _Refused("a token stands after a nonterminal")
             self.take(b"t ")
             self.table.numbers.append(self.take_number(0, NUMBERS))
         else:
@@ -181,7 +183,7 @@ class _Reader:
         return "s", self.take_number(0, self.table.states - 1)
 
     def take_cell(self, state: int, letter: bytes) -> int:
-        """Reads the symbol of a line, and what stands behind it."""
+        """Reads the symbol of a line, and what stands after it."""
         table, tokens = self.table, len(self.table.numbers)
         self.take(b" ")
         if letter == b"d":
@@ -197,14 +199,14 @@ class _Reader:
         return symbol
 
     def take_line(self, last: Tuple[int, bytes, int]) -> Tuple[int, bytes, int]:
-        """Reads a line of a state, which comes behind another one."""
+        """Reads a line of a state, which comes after another one."""
         letter = self.text[self.at : self.at + 1]
         if letter not in (b"a", b"d", b"g"):
             raise _Refused("a line of a state, or the end, is wanted here")
         self.take(letter + b" ")
         state = self.take_number(0, self.table.states - 1)
         read = state, letter, self.take_cell(state, letter)
-        if not _is_behind(last, read):
+        if not _is_after(last, read):
             raise _Refused("this line is out of order")
         self.take_newline()
         return read
@@ -226,10 +228,10 @@ class _Reader:
         self.take(b"end")
         self.take_newline()
         if self.at < len(self.text):
-            raise _Refused("there is more behind the end")
+            raise _Refused("there is more after the end")
 
 
-def _is_behind(last: Tuple[int, bytes, int], read: Tuple[int, bytes, int]) -> bool:
+def _is_after(last: Tuple[int, bytes, int], read: Tuple[int, bytes, int]) -> bool:
     """Lines go by states; in one, `d` alone or `a` by symbols, and then `g` by symbols."""
     if read[0] != last[0] or not last[1]:
         return read[0] >= last[0]
@@ -279,6 +281,34 @@ class _Ahead:
 
 
 @dataclass
+class _Trial:
+    """Tokens that are tried over a stack of states."""
+
+    table: Table
+    states: List[int]
+    # how many more reductions may be made
+    left: int = FOR_ALL
+
+    def takes(self, token: int) -> bool:
+        """Whether a token can come."""
+        below, above = len(self.states), []  # type: int, List[int]
+        for _ in range(min(FOR_A_TOKEN, self.left) + 1):
+            action = self.table.action(above[-1] if above else self.states[below - 1], token)
+            if action is None or action[0] != "r":
+                return action is not None
+            self.left -= 1
+            left, length = self.table.rules[action[1]]
+            below -= max(length - len(above), 0)
+            del above[max(len(above) - length, 0) :]
+            state = above[-1] if above else self.states[below - 1] if below > 0 else -1
+            goto = self.table.gotos.get((state, left))
+            if goto is None:
+                return False
+            above.append(goto)
+        return False
+
+
+@dataclass
 class Parser:
     """A parse. What a caller wants to be told are calls, each of which may be left out; where one
     of them raises, its step is not made."""
@@ -288,7 +318,7 @@ class Parser:
     shift: Optional[Callable[[int, Value, Place], Value]] = None
     # (rule, left side, entries): the value of the left side that replaces the entries
     reduce: Optional[Callable[[int, int, List[Entry]], Value]] = None
-    # (token, place): an error is reported, this token cannot come
+    # (token, place): an error is reported, this token cannot come; `expected` says which can
     error: Optional[Callable[[int, Place], None]] = None
     # (symbol, value, place): an entry or a token is given up, and its value with it
     drop: Optional[Callable[[int, Value, Place], None]] = None
@@ -299,7 +329,7 @@ class Parser:
     # the bottom has state 0
     stack: List[Entry] = field(default_factory=lambda: [Entry(0, END)])
     mode: Mode = Mode.RUNNING
-    # 3 behind an error, and one less for each token that is shifted
+    # 3 after an error, and one less for each token that is shifted
     counter: int = 0
     # the errors that were reported
     errors: int = 0
@@ -307,6 +337,10 @@ class Parser:
     spent: int = 0
     # where what recovery took begins
     lost: Place = None
+    # the stack as it was when the token ahead came: so many entries are there still, and above them
+    # these states were, the last one lowest
+    kept: int = 1
+    lost_states: List[int] = field(default_factory=list)
 
     @property
     def value(self) -> Value:
@@ -325,6 +359,16 @@ class Parser:
         """Ends the input."""
         return self._push(_Ahead(END, None, place))
 
+    def expected(self) -> List[int]:
+        """The tokens that can come, by number: each is tried on the stack as it was after the last
+        token that was taken, so none is listed that would be an error, also where the reductions
+        that a wrong token allowed are made already. It is for the call of an error, and for the
+        time between two tokens. A token that takes over 100,000 reductions counts as one that
+        cannot come."""
+        states = [entry.state for entry in self.stack[: self.kept]] + self.lost_states[::-1]
+        trial = _Trial(self.table, states)
+        return [it for it in range(len(self.table.numbers)) if it != ERROR and trial.takes(it)]
+
     def _push(self, ahead: _Ahead) -> Result:
         result: Optional[Result] = self._ended()
         while result is None and self.spent < self.limit:
@@ -332,6 +376,7 @@ class Parser:
         if result is Result.MORE:
             self.spent = 0
             self._settle()
+            self._keep_all()
         return Result.LIMIT if result is None else result
 
     def _ended(self) -> Optional[Result]:
@@ -344,6 +389,18 @@ class Parser:
         while result is None and self.spent < self.limit:
             rule = self.table.defaults.get(self.stack[-1].state)
             result = Result.MORE if rule is None else self._reduce(rule)
+
+    def _keep_all(self) -> None:
+        """The stack is what it is after a token."""
+        self.kept = len(self.stack)
+        self.lost_states.clear()
+
+    def _keep_states(self, below: int) -> None:
+        """Before a reduction takes entries off: keeps the states that were there when the token
+        came."""
+        if below < self.kept:
+            self.lost_states += [it.state for it in reversed(self.stack[below : self.kept])]
+            self.kept = below
 
     def _tell(self, kind: Kind, number: int) -> None:
         self.spent += 1
@@ -376,6 +433,7 @@ class Parser:
         state = self.table.gotos.get((self.stack[below - 1].state, left)) if below > 0 else None
         if state is None:
             return Result.BROKEN
+        self._keep_states(below)
         entries = self.stack[below:]
         value = entries[0].value if entries else None
         if self.reduce:
@@ -423,6 +481,7 @@ class Parser:
         if len(self.stack) == 1:
             return self._fail()
         top = self.stack.pop()
+        self._keep_all()
         self.lost = self.lost if top.first is None else top.first
         self._drop(top.symbol, top.value, top.first)
         self._tell(Kind.POP, top.symbol)

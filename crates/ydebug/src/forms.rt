@@ -10,7 +10,7 @@ pub const USAGE: &str = "usage: ydebug grammar tokens [--lex SPEC]\n";
 pub const FORMS: &str = "Other forms:\n\
     \x20 ydebug conflicts grammar [--save FOLDER] [--strict]\n\
     \x20 ydebug check grammar tokens.. [--lex SPEC] [--messages FILE] [--choice] [--plain]\n\
-    \x20 ydebug errors grammar [--messages FILE [--complete] [--update]]\n\
+    \x20 ydebug errors grammar [--messages FILE [--complete] [--update | --table OUT]]\n\
     \x20 ydebug sentences grammar [--cover KIND] [--near] [--save FOLDER] [--strict]\n\
     \x20 ydebug sentences grammar --random N [--length L] [--seed S] [--near] [--save FOLDER]\n\
     \x20 ydebug cover grammar tokens.. [--lex SPEC] [--strict]\n\
@@ -125,6 +125,7 @@ const ERRORS: &[&str] = &[
     MESSAGES,
     "--complete: Wants a message for each state in which an error is detected",
     "--update: Writes the file anew: its comments, and the states that are new",
+    "--table OUT: Writes the messages as data for drivers to this file",
     LIMIT,
     FROM,
 ];

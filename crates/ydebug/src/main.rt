@@ -130,6 +130,20 @@ fn check_files<W: Write>(
     Ok(run_check(rt, asked, &mut rt.stdin(), out, &mut rt.stderr())?)
 }
 
+/// Why options for errors don't go together, where they don't.
+fn refusal_of(asked: Errors<'_>) -> Option<&'static [u8]> {
+    let is_more = asked.complete || asked.update || asked.table.is_some();
+    if asked.messages.is_none() && is_more {
+        Some(b"ydebug: --complete, --update and --table want --messages FILE\n")
+    } else if asked.update && asked.table.is_some() {
+        Some(b"ydebug: --update and --table don't go together\n")
+    } else if asked.table == Some("") {
+        Some(b"ydebug: --table wants the name of a file\n")
+    } else {
+        None
+    }
+}
+
 /// Errors by example.
 fn list_errors<W: Write>(
     rt: &HostRuntime,
@@ -141,10 +155,10 @@ fn list_errors<W: Write>(
         messages: messages_in(matches)?,
         complete: is_given(matches, "complete"),
         update: is_given(matches, "update"),
+        table: matches.get_str("table"),
     };
-    if asked.messages.is_none() && (asked.complete || asked.update) {
-        rt.stderr()
-            .write_all(b"ydebug: --complete and --update want --messages FILE\n")?;
+    if let Some(refusal) = refusal_of(asked) {
+        rt.stderr().write_all(refusal)?;
         return Ok(2);
     }
     Ok(run_errors(rt, asked, out, &mut rt.stderr())?)

@@ -1,5 +1,6 @@
 //! Messages with what stands for their `$0`, `$1` and so on, and `$expected`.
 
+use crate::slots::{Slot, slots_of};
 use std::alloc::Global;
 use std::io::{self, Write};
 use yexplain::text::{Name, Names};
@@ -23,20 +24,6 @@ struct Filling<'a> {
     grammar: &'a Grammar,
     input: &'a Input,
     rejection: &'a Rejection,
-}
-
-/// How many digits are at the front, two at most.
-fn digits_in(piece: &[u8]) -> usize {
-    let digits = piece.iter().take(2);
-    digits.take_while(|b| b.is_ascii_digit()).count()
-}
-
-/// The number of some digits.
-fn number_in(digits: &[u8]) -> usize {
-    digits.iter().fold(0, |number: usize, digit| {
-        let digit = digit.saturating_sub(b'0') as usize;
-        number.saturating_mul(10).saturating_add(digit)
-    })
 }
 
 /// The first bytes of those of an entry, up to the end of a character of UTF-8.
@@ -128,14 +115,6 @@ impl<'a> Filling<'a> {
         }
     }
 
-    /// Writes what a number stands for.
-    fn put_number<W: Write>(self, out: &mut W, number: usize) -> io::Result<()> {
-        match number {
-            0 => self.put_token(out),
-            _ => self.put_entry(out, number),
-        }
-    }
-
     /// Writes the tokens that could come.
     fn put_expected<W: Write>(self, out: &mut W) -> io::Result<()> {
         let mut list = Vec::new(self.alloc);
@@ -143,38 +122,14 @@ impl<'a> Filling<'a> {
         out.write_all(list.as_slice().trim_ascii_start())
     }
 
-    /// Writes what follows a dollar sign.
-    fn put_piece<W: Write>(self, out: &mut W, piece: &[u8]) -> io::Result<()> {
-        if let Some(rest) = piece.strip_prefix(b"expected") {
-            self.put_expected(out)?;
-            return out.write_all(rest);
+    /// Writes a piece of a message.
+    fn put<W: Write>(self, out: &mut W, slot: Slot<'_>) -> io::Result<()> {
+        match slot {
+            Slot::Text(bytes) => out.write_all(bytes),
+            Slot::Value(0) => self.put_token(out),
+            Slot::Value(number) => self.put_entry(out, number),
+            Slot::Expected => self.put_expected(out),
         }
-        let count = digits_in(piece);
-        let digits = piece.get(..count).unwrap_or(&[]);
-        let rest = piece.get(count..).unwrap_or(&[]);
-        if digits.is_empty() {
-            write!(out, "$")?;
-        } else {
-            self.put_number(out, number_in(digits))?;
-        }
-        out.write_all(rest)
-    }
-
-    /// Writes a message. Two dollar signs are one.
-    fn put<W: Write>(self, out: &mut W, message: &[u8]) -> io::Result<()> {
-        let mut is_plain = true;
-        for piece in message.split(|b| *b == b'$') {
-            if is_plain {
-                out.write_all(piece)?;
-                is_plain = false;
-            } else if piece.is_empty() {
-                write!(out, "$")?;
-                is_plain = true;
-            } else {
-                self.put_piece(out, piece)?;
-            }
-        }
-        Ok(())
     }
 }
 
@@ -200,6 +155,8 @@ pub fn filled(
         input,
         rejection,
     };
-    filling.put(&mut text, message)?;
+    for slot in &slots_of(alloc, message)? {
+        filling.put(&mut text, *slot)?;
+    }
     Ok(text)
 }

@@ -1,5 +1,6 @@
 //! `ydebug errors`.
 
+use crate::data::data_of;
 use crate::messages::{Messages, bytes_of};
 use crate::sheet::put_input;
 use crate::update::{Update, confirm_all};
@@ -16,6 +17,7 @@ use yfiles::same::refused_output;
 use yfiles::writing::put_output;
 use yinput::grammars::{GrammarFile, open_file};
 use yparse::Session;
+use ytables::Tables;
 use yview::page::Page;
 
 /// What is asked for: the errors of a grammar, or a file of messages for them.
@@ -29,6 +31,8 @@ pub struct Asked<'a> {
     pub complete: bool,
     /// Whether the file is to be written anew.
     pub update: bool,
+    /// The file to which the messages are to be written as data.
+    pub table: Option<&'a str>,
 }
 
 /// A file of messages with what is found for it.
@@ -189,7 +193,35 @@ fn put_checked<W: Write>(out: &mut W, line: &[u8], end: &str) -> io::Result<u8> 
     Ok(0)
 }
 
-/// Says what is wrong with a file, or that nothing is, and gives the exit status.
+/// The messages as data, where that is asked for.
+fn data_asked(
+    alloc: Global,
+    asked: Asked<'_>,
+    tables: &Tables,
+    messages: &Messages,
+) -> io::Result<Vec<u8>> {
+    match asked.table {
+        Some(_) => data_of(alloc, tables, messages),
+        None => Ok(Vec::new(alloc)),
+    }
+}
+
+/// Writes a text to the file that is asked for, where one is, and gives the exit status.
+fn put_data<F: Files + AllocGlobal, W: Write, E: Write>(
+    rt: &F,
+    asked: Asked<'_>,
+    text: &[u8],
+    out: &mut W,
+    errors: &mut E,
+) -> io::Result<u8> {
+    match asked.table {
+        Some(_) => put_output(rt, asked.table, text, out, errors),
+        None => Ok(0),
+    }
+}
+
+/// Says what is wrong with a file, or that nothing is, and gives the exit status. Where nothing is,
+/// the messages are written as data first, if that is asked for.
 fn check<F: Files + AllocGlobal, W: Write, E: Write>(
     rt: &F,
     asked: Asked<'_>,
@@ -204,18 +236,46 @@ fn check<F: Files + AllocGlobal, W: Write, E: Write>(
     };
     let mut line = Vec::new(rt.alloc());
     put_inputs(&mut line, file.path, &messages)?;
-    if !asked.complete {
-        return put_checked(out, &line, "");
+    let data = data_asked(rt.alloc(), asked, &opened.tables, &messages)?;
+    if asked.complete {
+        let status = complete(rt.alloc(), file, (opened, messages), errors)?;
+        if status > 0 {
+            return Ok(status);
+        }
     }
-    match complete(rt.alloc(), file, (opened, messages), errors)? {
-        0 => put_checked(out, &line, ", complete"),
+    match put_data(rt, asked, &data, out, errors)? {
+        0 if asked.complete => put_checked(out, &line, ", complete"),
+        0 => put_checked(out, &line, ""),
         status => Ok(status),
+    }
+}
+
+/// The file that is written, where one is.
+fn output_of(asked: Asked<'_>) -> Option<&str> {
+    match asked.messages {
+        Some(file) if asked.update => Some(file.path),
+        _ => asked.table,
+    }
+}
+
+/// The exit status where what is written would be a file that is read.
+fn refused<F: Files + AllocGlobal, E: Write>(
+    rt: &F,
+    asked: Asked<'_>,
+    errors: &mut E,
+) -> io::Result<Option<u8>> {
+    let (output, grammar) = (output_of(asked), asked.grammar.path);
+    match asked.messages {
+        Some(file) if !asked.update => {
+            refused_output(rt, output, &[grammar, file.path], errors)
+        }
+        _ => refused_output(rt, output, &[grammar], errors),
     }
 }
 
 /// Writes what is asked for, and gives the exit status: 0; 1 where the grammar or the file of
 /// messages is refused, one of its inputs is wrong, or a state has no message and is to have one; 2
-/// where the grammar file would be written over; 3 where a file can't be read or written, memory
+/// where a file that is read would be written over; 3 where a file can't be read or written, memory
 /// runs out, or there are too many states.
 pub fn run_errors<F: Files + AllocGlobal, W: Write, E: Write>(
     rt: &F,
@@ -223,12 +283,7 @@ pub fn run_errors<F: Files + AllocGlobal, W: Write, E: Write>(
     out: &mut W,
     errors: &mut E,
 ) -> io::Result<u8> {
-    let output = if asked.update {
-        asked.messages.map(|file| file.path)
-    } else {
-        None
-    };
-    if let Some(status) = refused_output(rt, output, &[asked.grammar.path], errors)? {
+    if let Some(status) = refused(rt, asked, errors)? {
         return Ok(status);
     }
     let opened = match open_file(rt, asked.grammar, errors)? {

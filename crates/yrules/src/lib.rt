@@ -2,12 +2,11 @@
 //!
 //! `opening` finds the lexemes of an open file. `comments` finds the comments among its rules, `given`
 //! the names that they give, `stems` has what each alternative is called, `names` the names of all
-//! rules, and `refusal` why there are none. `digest` makes the digest of a table. `list`, `header`
-//! and `python` write a `sheet` of all of it, and `run` is the command.
+//! rules, and `refusal` why there are none. `list`, `header` and `python` write a `sheet` of all of
+//! it, and `run` is the command.
 #![tactic(auto)]
 
 mod comments;
-mod digest;
 mod given;
 mod header;
 mod list;

@@ -1,7 +1,6 @@
 //! `ydebug rules`.
 
 use crate::comments::comments_of;
-use crate::digest::digest_of;
 use crate::given::given_in;
 use crate::header::put_header;
 use crate::list::put_list;
@@ -14,6 +13,7 @@ use crate::stems::stems_of;
 use std::alloc::Global;
 use std::io::{self, ErrorKind, Write};
 use std::rt::Files;
+use ydigest::digest_of;
 use yexplain::reads::grammar_of;
 use yfaults::opening::Opened;
 use yfiles::same::{is_same_file, refused_output};
