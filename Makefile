@@ -85,10 +85,12 @@ features: build
 packages: build
 	@$(checks) packages $(call at,ycc) $(PACKAGES)
 
-bin/libydriver.a: drivers/c/ydriver.c drivers/c/ydriver.h
+objects := bin/ydriver.o bin/ydmessages.o
+$(objects): bin/%.o: drivers/c/%.c drivers/c/ydriver.h drivers/c/ydmessages.h
 	@mkdir -p bin
-	@$(CC) -std=c99 -O2 -Wall -Wextra -c -o bin/ydriver.o $<
-	@$(AR) rcs $@ bin/ydriver.o
+	@$(CC) -std=c99 -O2 -Wall -Wextra -c -o $@ $<
+bin/libydriver.a: $(objects)
+	@$(AR) rcs $@ $(objects)
 
 drivers: build bin/libydriver.a
 	@$(checks) drivers $(call at,yacc ystep ydebug)
@@ -113,6 +115,7 @@ define copies
 644 man/ystep.1 share/man/man1/ystep.1
 644 man/ydebug.1 share/man/man1/ydebug.1
 644 drivers/c/ydriver.h include/ydriver.h
+644 drivers/c/ydmessages.h include/ydmessages.h
 644 bin/libydriver.a $(LIBDIR)/libydriver.a
 644 bin/ydriver.pc $(LIBDIR)/pkgconfig/ydriver.pc
 644 bin/SulderkoConfig.cmake share/cmake/Sulderko/SulderkoConfig.cmake
@@ -126,8 +129,10 @@ define copies
 644 packaging/completions/zsh/_ydebug $(ZSHDIR)/_ydebug
 644 packaging/completions/zsh/_yacc $(ZSHDIR)/_yacc
 644 drivers/c/ydriver.c $(shared)/ydriver.c
+644 drivers/c/ydmessages.c $(shared)/ydmessages.c
 644 drivers/c/calculator.c $(shared)/calculator.c
 644 drivers/python/ydriver.py $(shared)/ydriver.py
+644 drivers/python/ydmessages.py $(shared)/ydmessages.py
 644 drivers/python/calculator.py $(shared)/calculator.py
 644 drivers/calculator.y $(shared)/calculator.y
 644 docs/TUTORIAL.md $(books)/TUTORIAL.md

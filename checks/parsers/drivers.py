@@ -3,7 +3,9 @@
     drivers [--try] [--seed N] [--sessions N] [--tables N] [yacc=PATH] [ystep=PATH] [ydebug=PATH]
 
 Over the grammar and tokens of every scenario and example, and over 1,000 random ones, both drivers
-make the steps of `ystep`, line for line, and the digest of the table is that of `ydebug rules`. Of
+make the steps of `ystep`, line for line, the digest of the table is that of `ydebug rules`, and what
+they say of the first error is what `ydebug check` says. With messages for some states of a few
+grammars they say what `ydebug check --messages` says, for each input of `ydebug errors`. Of
 10,000 tables with bytes changed or cut both say the same: the line that is at fault, or the same
 steps. Each beginning of a table is refused with its last line. C runs as it is and with the
 sanitizers of the compiler (CC, or cc). Both calculators, and the program of the tutorial, answer as
@@ -19,6 +21,7 @@ import tempfile
 from collections import Counter
 from pathlib import Path
 
+from checks.parsers import messages
 from checks.parsers.pairs import MOST, cases_of, pairs_of_scenarios, taken
 from checks.parsers.spoil import spoiled
 from checks.scenarios import proved, tried
@@ -33,6 +36,7 @@ from checks.shared.tally import Tally
 
 sys.path.append(str(DRIVERS / "python"))
 
+from ydmessages import Messages, read_messages
 from ydriver import Fault, Kind, Parser, Result, digest_of, read_table
 
 FEW = 200
@@ -46,32 +50,53 @@ CHECKED = ["-g", "-O1", "-fsanitize=address,undefined", "-fno-sanitize-recover=a
 WAYS = {"plain": ["-O2"], "checked": CHECKED, "refusing": ["-O2", "-Drealloc=refusing"]}
 
 
-def steps_of_python(table, names, most):
-    """The steps of the driver in Python, and what came of them."""
-    read_as, lines = read_table(table, digest_of(table)), []
-    if isinstance(read_as, Fault):
-        return "", str(read_as)
+class Trace:
+    """A parse of the driver in Python: its steps, and what it says of the first error."""
 
-    def say(kind, number):
+    def __init__(self, table, messages, most):
+        """A parse that hasn't begun."""
+        self.messages, self.lines, self.said = messages, [], ""
+        self.parser = Parser(table, step=self.step, error=self.error, limit=most)
+
+    def step(self, kind, number):
         """Keeps a step."""
-        shown = f" {read_as.names[number]}" if kind in NAMED else ""
-        lines.append(kind.value + (f" {number}" if kind is Kind.REDUCE else shown))
+        shown = f" {self.parser.table.names[number]}" if kind in NAMED else ""
+        self.lines.append(kind.value + (f" {number}" if kind is Kind.REDUCE else shown))
 
-    parser, result = Parser(read_as, step=say, limit=most), Result.MORE
-    for name in names:
-        if result is Result.MORE and len(lines) < most:
-            result = parser.push(name)
-    if result is Result.MORE and len(lines) < most:
-        result = parser.finish()
-    text = "".join(f"{at} {line}\n" for at, line in enumerate(lines[:most], 1))
-    return text, "cut" if len(lines) >= most else result.value
+    def error(self, token, place):
+        """Keeps what is said of the first error."""
+        self.said = self.said or self.messages.of(self.parser, token, place)
+
+    def run(self, names, most):
+        """Parses, and gives the steps with what came of them."""
+        result = Result.MORE
+        for name in names:
+            if result is Result.MORE and len(self.lines) < most:
+                result = self.parser.push(name)
+        if result is Result.MORE and len(self.lines) < most:
+            result = self.parser.finish()
+        text = "".join(f"{at} {line}\n" for at, line in enumerate(self.lines[:most], 1))
+        ended = "cut" if len(self.lines) >= most else result.value
+        said = self.said.replace("\n", "\\n")
+        return text, f"{ended}: {said}" if said else ended
 
 
-def steps_of_c(program, cases, most):
+def steps_of_python(table, names, most, said=b""):
+    """The steps of the driver in Python, and what came of them and is said of the first error."""
+    read_as = read_table(table, digest_of(table))
+    read_said = read_messages(said, digest_of(table)) if said else Messages()
+    for it in (read_as, read_said):
+        if isinstance(it, Fault):
+            return "", str(it)
+    return Trace(read_as, read_said, most).run(names, most)
+
+
+def steps_of_c(program, cases, most, said=b""):
     """The same of the driver in C, of all cases in one run."""
     frames = []
     for table, names, *_ in cases:
-        frames += [b"%d %d %d %d\n" % (len(table), len(names), most, digest_of(table)), table]
+        sizes = len(table), len(said), len(names), most, digest_of(table)
+        frames += [b"%d %d %d %d %d\n" % sizes, table, said]
         frames += [f"{name}\n".encode() for name in names]
     made = ran([program], None, b"".join(frames))
     if made.returncode or made.stderr:
@@ -108,6 +133,20 @@ def compare_steps(cases, answers_of, tally):
             tally.take(name, [kept(case[:2], case.steps, steps)] if wrong else [])
 
 
+def said_by(result):
+    """What a driver says of the first error, nothing where there is none."""
+    return result.partition(": ")[2]
+
+
+def compare_said(cases, answers_of, tally):
+    """What each way to run a driver says of the first error against `ydebug`."""
+    for name, answers in answers_of.items():
+        for case, (_, result) in zip(cases, answers):
+            if case.said is not None and not result.startswith("cut"):
+                wrong = said_by(result) != case.said
+                tally.take(name, [kept(case[:2], case.said, result)] if wrong else [])
+
+
 def answers_by_all(cases, built):
     """What the driver in Python, and that in C in each way that it is built, answer to cases."""
     answers = {name: steps_of_c(program, cases, MOST) for name, program in built.items()}
@@ -122,6 +161,18 @@ def wrong_answer(case, ours, theirs, must_end_last):
     return [kept(case, ours, theirs)] if ours != theirs else []
 
 
+def compare_messages(built, way, programs, tally):
+    """What drivers with messages say of the inputs of some grammars against `ydebug`."""
+    for grammar in messages.grammars():
+        cases, said, wanted = messages.cases_of(grammar, way, programs)
+        answers = {it: steps_of_c(program, cases, MOST, said) for it, program in built.items()}
+        answers["python"] = [steps_of_python(*case, MOST, said) for case in cases]
+        for name, found in answers.items():
+            for case, (_, result), text in zip(cases, found, wanted, strict=True):
+                fits = said_by(result) == text
+                tally.take(f"messages by {name}", [] if fits else [kept(case, text, result)])
+
+
 def compare_spoiled(cases, program, rng, count, tally):
     """Both drivers on tables that are cut or changed; how often each thing came of them."""
     short = [case for case in cases if len(case.table) < 20_000 and len(case.names) < 100]
@@ -132,7 +183,7 @@ def compare_spoiled(cases, program, rng, count, tally):
     for case, theirs in zip(wrong, steps_of_c(program, wrong, FEW), strict=True):
         ours = steps_of_python(case[0], case[1], FEW)
         tally.take("a wrong table", wrong_answer(case, ours, theirs, case[2] == "cut"))
-        counts["refused" if theirs[1].startswith("line ") else theirs[1]] += 1
+        counts["refused" if theirs[1].startswith("line ") else theirs[1].split(":")[0]] += 1
     return counts
 
 
@@ -211,7 +262,7 @@ def compare_tutorial(folder, way, programs, tally):
 
 def build(folder, name, main, flags):
     """A program of the driver in C."""
-    files = [str(DRIVERS / "c" / it) for it in ("ydriver.c", main)]
+    files = [str(DRIVERS / "c" / it) for it in ("ydriver.c", "ydmessages.c", main)]
     made = f"{folder}/{name}"
     subprocess.run([compiler(), *STRICT, *flags, "-o", made, *files], check=True)
     return made
@@ -236,7 +287,10 @@ def main(words):
     compare_digests(cases, tally)
     with tempfile.TemporaryDirectory() as folder:
         built = {name: build(folder, name, "steps.c", flags) for name, flags in WAYS.items()}
-        compare_steps(cases, answers_by_all(cases, built), tally)
+        answers = answers_by_all(cases, built)
+        compare_steps(cases, answers, tally)
+        compare_said(cases, answers, tally)
+        compare_messages(built, way, given.programs, tally)
         counts = compare_spoiled(cases, built["checked"], rng, given.tables, tally)
         compare_beginnings(min((it.table for it in cases), key=len), built["checked"], tally)
         compare_calculators(folder, way, given.programs, tally)

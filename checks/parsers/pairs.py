@@ -10,15 +10,18 @@ from checks.shared.spelling import names_of
 # The most steps of a parse that are compared.
 MOST = 20_000
 DIGEST = re.compile(rb"a table with the digest ([0-9a-f]{8})\n")
+SAID = re.compile(rb"tokens: rejected at token \d+: (.*?)(?:; can't tell of .*)?\n")
 
 
 class Case(NamedTuple):
-    """A table, tokens by their names, the steps of `ystep`, and the digest that `ydebug` says."""
+    """A table, tokens by their names, the steps of `ystep`; the digest that `ydebug` says, and what
+    it says of the first error, nothing where there is none."""
 
     table: bytes
     names: list
     steps: str
     digest: object
+    said: object = None
 
 
 def pairs_in(folder, root):
@@ -47,6 +50,8 @@ def runs_of(pairs, has_names):
         yield Scenario(DRIVERS, ["ystep", "grammar", "tokens"], run, files, {}, {}, {})
         if has_names:
             yield Scenario(DRIVERS, ["ydebug", "rules", "grammar"], b"", files, {}, {}, {})
+            words = ["ydebug", "check", "grammar", "tokens"]
+            yield Scenario(DRIVERS, words, b"", files, {}, {}, {})
 
 
 def taken(made):
@@ -62,13 +67,25 @@ def digest_in(told):
     return found[1] if found else b"none"
 
 
+def said_in(told):
+    """What a verdict says of the first error, nothing where it accepts; `None` where it says that it
+    can't tell."""
+    found = SAID.match(told)
+    if found:
+        return found[1].decode()
+    return "" if b": accepted after " in told else None
+
+
 def cases_of(pairs, way, programs):
     """The case of each pair that no program refuses."""
     runs = list(runs_of(pairs, "ydebug" in programs))
     made = [taken(it) for it in way.run_all(runs, programs)]
     many = len(runs) // max(len(pairs), 1)
     for at, (_, tokens) in enumerate(pairs):
-        table, steps, *rules = made[at * many : (at + 1) * many]
+        table, steps, *told = made[at * many : (at + 1) * many]
         if table["status"] == steps["status"] == b"0\n":
-            digest = digest_in(rules[0]["stdout"]) if rules else None
-            yield Case(table["left/y.tab"], names_of(tokens), steps["stdout"].decode(), digest)
+            rules, verdict = [it["stdout"] for it in told] if told else (None, b"")
+            digest = digest_in(rules) if told else None
+            told_steps = steps["stdout"].decode()
+            made_of = table["left/y.tab"], names_of(tokens), told_steps, digest
+            yield Case(*made_of, said_in(verdict))

@@ -33,8 +33,9 @@ static yd_value calculate(void *context, int rule, int left, const yd_entry *ent
   return value;
 }
 
-static void complain(void *table, int token, yd_span line) {
-  printf("line %zu: %s can't come here\n", line.begin, yd_name(table, token));
+static void complain(void *context, const yd_parser *parser, int token, yd_span line) {
+  (void)context;
+  printf("line %zu: %s can't come here\n", line.begin, yd_name(parser->table, token));
 }
 
 /* A lexer: the number of the next token, its value, and where the text goes on. */
@@ -76,7 +77,7 @@ int main(int words, char **word) {
   yd_table *table = yd_read_checked(text, length, TABLE_DIGEST, &fault);
   if (!table) return refuse(&fault);
   yd_parser parser;
-  yd_start(&parser, table, (yd_calls){.context = table, .reduce = calculate, .error = complain});
+  yd_start(&parser, table, (yd_calls){.reduce = calculate, .error = complain});
   read_file(stdin, text);
   yd_result result = run(&parser, text);
   if (result == YD_NO_TOKEN) printf("no token begins here\n");

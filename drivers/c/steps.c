@@ -1,14 +1,16 @@
-/* Writes the steps of parses, for checks/parsers/drivers.py. Standard input has any number of cases: a line
-   `LENGTH TOKENS MOST DIGEST`, LENGTH bytes of a table, and TOKENS lines with the name of a token
-   each. The answer to each is a line for each step, at most MOST, as `ystep` has them, and `== `
-   with what came of it. With -Drealloc=refusing each growth of a stack is refused once, and asked
-   for again.
+/* Writes the steps of parses, for checks/parsers/drivers.py. Standard input has any number of cases: a
+   line `LENGTH MESSAGES TOKENS MOST DIGEST`, LENGTH bytes of a table, MESSAGES bytes of messages, none
+   where that is 0, and TOKENS lines with the name of a token each. The answer to each is a line for
+   each step, at most MOST, as `ystep` has them, and `== ` with what came of it, and after a colon the
+   message for its first error, where there is one. With -Drealloc=refusing each growth of a stack is
+   refused once, and asked for again.
 */
 #ifdef realloc
 #undef realloc
 #define REFUSES
 #endif
 
+#include "ydmessages.h"
 #include "ydriver.h"
 
 #include <stdio.h>
@@ -26,7 +28,9 @@ void *refusing(void *old, size_t size) {
 
 typedef struct {
   const yd_table *table;
+  const yd_messages *messages;
   size_t made, most;
+  char said[4096];
 } trace;
 
 static const char *const words[] = {"shift ", "reduce ", "accept", "detect",
@@ -41,6 +45,23 @@ static void write_step(void *context, yd_kind kind, int number) {
   if (kind == YD_REDUCE) printf("%d", number);
   if (kind == YD_SHIFT || kind == YD_POP || kind == YD_DISCARD)
     fputs(yd_name(to->table, number), stdout);
+  putchar('\n');
+}
+
+/* Keeps the message for the first error; it is asked for again where there was no memory. */
+static void keep_message(void *context, const yd_parser *parser, int token, yd_span span) {
+  trace *to = context;
+  size_t length = *to->said ? 0 : YD_UNKNOWN;
+  for (int turn = 0; turn < 64 && length == YD_UNKNOWN; turn++)
+    length = yd_message(to->messages, parser, token, span, NULL, NULL, to->said, sizeof to->said);
+}
+
+/* Writes what came of a case, and the message, its ends of lines as `\\n`. */
+static void write_result(const trace *of, const char *result) {
+  printf("== %s%s", result, *of->said ? ": " : "");
+  for (const char *at = of->said; *at; at++)
+    if (*at == '\n') fputs("\\n", stdout);
+    else putchar(*at);
   putchar('\n');
 }
 
@@ -61,13 +82,12 @@ static yd_result push_all(yd_parser *parser, const trace *to, char **names, size
   return result;
 }
 
-static void parse(const yd_table *table, char **names, size_t count, size_t most) {
-  trace to = {table, 0, most};
+static void parse(trace *to, char **names, size_t count) {
   yd_parser parser;
-  yd_start(&parser, table, (yd_calls){.context = &to, .step = write_step});
-  parser.limit = most;
-  yd_result result = push_all(&parser, &to, names, count);
-  printf("== %s\n", to.made >= most ? "cut" : results[result]);
+  yd_start(&parser, to->table, (yd_calls){.context = to, .step = write_step, .error = keep_message});
+  parser.limit = to->most;
+  yd_result result = push_all(&parser, to, names, count);
+  write_result(to, to->made >= to->most ? "cut" : results[result]);
   yd_stop(&parser);
 }
 
@@ -86,25 +106,41 @@ static char *read_name(void) {
   return name ? strcpy(name, line) : (exit(2), NULL);
 }
 
-static void answer(size_t length, size_t count, size_t most, unsigned long digest) {
-  char *text = read_bytes(length), **names = calloc(count + 1, sizeof *names);
-  if (!names) exit(2);
-  for (size_t at = 0; at < count; at++) names[at] = read_name();
+/* Parses a case, or says which line of its table, or of its messages, is at fault. */
+static void answer_with(const char *text, size_t length, unsigned long digest, char **names,
+                        size_t count, const char *said, size_t said_length, size_t most) {
   yd_fault fault;
   yd_table *table = yd_read_checked(text, length, digest, &fault);
-  free(text);
-  if (table) parse(table, names, count, most);
-  if (!table) printf("== line %zu: %s\n", fault.line, fault.what);
+  yd_messages *messages =
+      table && said_length ? yd_read_messages(said, said_length, digest, &fault) : NULL;
+  if (!table || (said_length && !messages)) {
+    printf("== line %zu: %s\n", fault.line, fault.what);
+  } else {
+    trace to = {table, messages, 0, most, ""};
+    parse(&to, names, count);
+  }
+  yd_free_messages(messages);
   yd_free(table);
+}
+
+static void answer(size_t length, size_t said_length, size_t count, size_t most,
+                   unsigned long digest) {
+  char *text = read_bytes(length), *said = read_bytes(said_length);
+  char **names = calloc(count + 1, sizeof *names);
+  if (!names) exit(2);
+  for (size_t at = 0; at < count; at++) names[at] = read_name();
+  answer_with(text, length, digest, names, count, said, said_length, most);
   for (size_t at = 0; at < count; at++) free(names[at]);
   free(names);
+  free(text);
+  free(said);
 }
 
 int main(void) {
-  size_t length, count, most;
+  size_t length, said, count, most;
   unsigned long digest;
   char newline;
-  while (scanf("%zu %zu %zu %lu%c", &length, &count, &most, &digest, &newline) == 5)
-    answer(length, count, most, digest);
+  while (scanf("%zu %zu %zu %zu %lu%c", &length, &said, &count, &most, &digest, &newline) == 6)
+    answer(length, said, count, most, digest);
   return 0;
 }

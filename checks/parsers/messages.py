@@ -1,0 +1,74 @@
+"""Messages of `ydebug errors --table` in both drivers, beside those of `ydebug check --messages`."""
+import re
+from itertools import count
+
+from checks.parsers.pairs import taken
+from checks.scenarios.folders import Scenario
+from checks.scenarios.pages import blocks_of
+from checks.shared.places import DRIVERS, TUTORIAL
+from checks.shared.spelling import names_of
+
+# What stands in place of the messages that `ydebug errors` writes, one after the other.
+TEXTS = (
+    "no $0 here",
+    "$expected can come,\nand not $0",
+    "$$5, $x and $0$",
+    "unexpected $0, expected $expected",
+)
+# A block of such a file, and the first line of one.
+BLOCK = re.compile(r"((?:.+\n)+)\nunexpected \$0, expected \$expected\n\n?")
+INPUT = re.compile(r"(?m)^(.+)\n## state")
+REJECTED = re.compile(rb"input: rejected at token \d+: (.*?)\n  (?:after|at the start)", re.DOTALL)
+
+
+def grammars():
+    """The grammars for which messages are made: of the calculators and of the tutorial's queries."""
+    blocks = blocks_of(TUTORIAL.read_text())
+    queries = ["".join(lines) for kind, name, lines, _ in blocks
+               if kind == "file" and name == "queries.y"]
+    return [(DRIVERS / "calculator.y").read_bytes(), *(it.encode() for it in queries[:1])]
+
+
+def with_texts(listed):
+    """A file of messages with other texts, and without every fifth block."""
+    numbers = count()
+
+    def changed(found):
+        """A block with another text."""
+        number = next(numbers)
+        return "" if number % 5 == 4 else f"{found[1]}\n{TEXTS[number % len(TEXTS)]}\n\n"
+
+    return BLOCK.sub(changed, listed.decode()).encode()
+
+
+def inputs_of(listed):
+    """The inputs of a file that `ydebug errors` writes, without the end."""
+    return [f"{it.removesuffix('$end').rstrip()}\n".encode() for it in INPUT.findall(listed.decode())]
+
+
+def run_of(words, files):
+    """What is run with these files."""
+    return Scenario(DRIVERS, words, b"", files, {}, {}, {})
+
+
+def told_by(way, programs, runs):
+    """What comes back of runs."""
+    return [taken(it) for it in way.run_all(runs, programs)]
+
+
+def cases_of(grammar, way, programs):
+    """The table and the messages of a grammar, its inputs, and what `ydebug` says of each."""
+    files = {"grammar": grammar}
+    listing, table = told_by(way, programs, [
+        run_of(["ydebug", "errors", "grammar"], files), run_of(["yacc", "grammar"], files)
+    ])
+    files["messages"] = with_texts(listing["stdout"])
+    words = ["ydebug", "errors", "grammar", "--messages", "messages", "--table", "y.msg"]
+    made = told_by(way, programs, [run_of(words, {**files, "y.msg": b""})])[0]
+    inputs = inputs_of(listing["stdout"])
+    words = ["ydebug", "check", "grammar", "input", "--messages", "messages"]
+    said = told_by(way, programs, [run_of(words, {**files, "input": it}) for it in inputs])
+    wanted = [REJECTED.match(it["stdout"]) for it in said]
+    cases = [(table["left/y.tab"], names_of(it)) for it in inputs]
+    texts = [it[1].decode().replace("\n", "\\n") if it else None for it in wanted]
+    return cases, made["left/y.msg"], texts
