@@ -1,6 +1,7 @@
 //! The files that are made of a grammar file.
 
 use crate::ending::{Ending, File, outside};
+use crate::messages::speech_of;
 use crate::names::{Names, names_of};
 use crate::reading::Reading;
 use crate::words::Given;
@@ -93,6 +94,7 @@ fn wishes_of(given: Given<'_>, options: &Options<'_>) -> Wishes {
         mode: mode_of(given, options),
         is_yacc: given.yacc || options.is_yacc,
         lists: given.lists,
+        speaks: given.messages.is_some(),
     }
 }
 
@@ -123,6 +125,7 @@ pub fn write_files(
     }
     let style = style_of(alloc, parts, wishes, given.prefix)?;
     let code = code_of(alloc, tables)?;
+    let speech = speech_of(rt, given.messages, tables, &style)?;
     let skeleton = Skeleton {
         path: file.path.as_str(),
         parser_path: names.parser.as_str(),
@@ -131,6 +134,7 @@ pub fn write_files(
         parts,
         style: &style,
         code: &code,
+        speech: speech.as_ref(),
     };
     make(rt, given, file, tables, &skeleton, &names)
 }

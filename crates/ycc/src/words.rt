@@ -46,6 +46,8 @@ pub struct Given<'a> {
     pub locations: bool,
     /// The file of the report, where it is named.
     pub report: Option<&'a str>,
+    /// The file of messages for errors, where there are some.
+    pub messages: Option<&'a str>,
 }
 
 /// A flag.
@@ -107,6 +109,8 @@ fn with_kinds<'a>(alloc: Global, command: Command<'a>) -> Result<Command<'a>, Al
 fn with_options<'a>(alloc: Global, command: Command<'a>) -> Result<Command<'a>, AllocError> {
     let prefix = "What the names of the files begin with";
     let names = "What names in C begin with, yy unless given";
+    let messages = Arg::new(alloc, "messages").long("messages").value_name("FILE");
+    let spoken = "The parser says the messages of this file for its errors";
     let defines = option(
         alloc,
         'D',
@@ -118,6 +122,7 @@ fn with_options<'a>(alloc: Global, command: Command<'a>) -> Result<Command<'a>, 
         .arg(option(alloc, 'o', ("output", "FILE"), "The file of the parser").long("output"))?
         .arg(option(alloc, 'p', ("name-prefix", "PREFIX"), names).long("name-prefix"))?
         .arg(option(alloc, 'H', ("H", "FILE"), "Writes the header to this file"))?
+        .arg(messages.action(ArgAction::Set).help(spoken))?
         .arg(
             defines
                 .long("define")
@@ -195,6 +200,7 @@ pub fn given_in<'a>(matches: &ArgMatches<'a>) -> Option<Given<'a>> {
         pure: is_given("P"),
         locations: is_given("locations"),
         report: matches.get_str("report-file"),
+        messages: matches.get_str("messages"),
     })
 }
 

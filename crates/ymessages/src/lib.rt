@@ -16,5 +16,5 @@ pub mod messages;
 mod refusal;
 pub mod run;
 mod sheet;
-mod slots;
+pub mod slots;
 mod update;

@@ -119,6 +119,25 @@ impl Messages {
         source.put_claims(errors, grammar_of(tables), &self.claims)
     }
 
+    /// A file of these bytes, for these tables. Where something is wrong with it, that is written,
+    /// and the exit status is the answer.
+    pub fn checked<E: Write>(
+        alloc: Global,
+        tables: &Tables,
+        path: &str,
+        bytes: Vec<u8>,
+        errors: &mut E,
+    ) -> io::Result<Result<Messages, u8>> {
+        let messages = match Messages::read(alloc, tables, path, bytes, errors)? {
+            Ok(messages) => messages,
+            Err(status) => return Ok(Err(status)),
+        };
+        match messages.put_wrong(tables, path, errors)? {
+            0 => Ok(Ok(messages)),
+            _ => Ok(Err(1)),
+        }
+    }
+
     /// Opens a file, for these tables. Where something is wrong with it, that is written, and the
     /// exit status is the answer.
     pub fn open<F: Files + AllocGlobal, E: Write>(
@@ -131,14 +150,7 @@ impl Messages {
             Ok(bytes) => bytes,
             Err(status) => return Ok(Err(status)),
         };
-        let messages = match Messages::read(rt.alloc(), tables, file.path, bytes, errors)? {
-            Ok(messages) => messages,
-            Err(status) => return Ok(Err(status)),
-        };
-        match messages.put_wrong(tables, file.path, errors)? {
-            0 => Ok(Ok(messages)),
-            _ => Ok(Err(1)),
-        }
+        Messages::checked(rt.alloc(), tables, file.path, bytes, errors)
     }
 
     /// The message of a state, where it has one.

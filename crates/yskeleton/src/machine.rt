@@ -293,6 +293,17 @@ yyerrlab:
 @if bison
       ++yynerrs;
 @end
+@if speaks
+      if (yysaid[yystate] != 0)
+        {
+          char *yymsg = yyspoken (yyss, yyssp, (int) yytoken);
+          YYERROR_CALL (yymsg ? yymsg : YY_("syntax error"));
+          if (!yymsg)
+            YYNOMEM;
+          YYFREE (yymsg);
+        }
+      else
+@end
 @if expecting
       {
         char yyroom[128];

@@ -7,6 +7,7 @@ use crate::errors::{
 };
 use crate::machine::{BEGIN, END, MACHINE};
 use crate::skeleton::Skeleton;
+use crate::spoken::SPOKEN;
 use crate::style::Style;
 use crate::tables::READING;
 use crate::template::put_template;
@@ -223,8 +224,13 @@ impl Skeleton<'_> {
 
     /// Writes how texts of errors are made.
     fn put_texts(&self, out: &mut Text<'_>) -> io::Result<()> {
-        if self.style.names_tokens() || self.style.is_custom() {
+        let lists = self.style.names_tokens() || self.style.is_custom();
+        if lists || self.style.wishes.speaks {
             self.put_fixed(out, TEXTS)?;
+        }
+        if let Some(speech) = self.speech {
+            speech.put(out)?;
+            self.put_fixed(out, SPOKEN)?;
         }
         if self.style.names_tokens() {
             self.put_fixed(out, MESSAGE)?;

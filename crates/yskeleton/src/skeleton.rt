@@ -3,6 +3,7 @@
 use crate::actions::{Trouble, put_action};
 use crate::references::{Dialect, names_place};
 use crate::scene::Scene;
+use crate::spoken::Speech;
 use crate::style::{Mode, Style, Wishes};
 use crate::text::Text;
 use std::alloc::{AllocError, Global};
@@ -28,6 +29,8 @@ pub struct Skeleton<'a> {
     pub style: &'a Style<'a>,
     /// The arrays of the tables.
     pub code: &'a Code,
+    /// Messages for errors, where the parser has some.
+    pub speech: Option<&'a Speech>,
 }
 
 /// What actions of a parser in this mode may name. Names and places are bison's, but byacc has

@@ -26,6 +26,8 @@ pub struct Wishes {
     pub is_yacc: bool,
     /// Whether the tokens that could come are listed as bison lists them.
     pub lists: bool,
+    /// Whether there are messages for errors.
+    pub speaks: bool,
 }
 
 /// How a parser looks.
@@ -166,7 +168,7 @@ impl<'a> Style<'a> {
     }
 
     /// The conditions of the fixed texts.
-    pub fn switches(&self) -> [(&'static str, bool); 9] {
+    pub fn switches(&self) -> [(&'static str, bool); 10] {
         [
             ("bison", self.is_bison()),
             ("pure", self.is_pure()),
@@ -177,6 +179,7 @@ impl<'a> Style<'a> {
             ("verbose", self.errors() == Errors::Verbose),
             ("custom", self.is_custom()),
             ("lists", self.lists()),
+            ("speaks", self.wishes.speaks),
         ]
     }
 }

@@ -159,6 +159,9 @@ impl<'a> Skeleton<'a> {
         out.add(b"#endif\n#if YYDEBUG\n")?;
         self.put_rules(out)?;
         out.add(b"#endif\n")?;
+        if self.style.wishes.speaks {
+            self.put_symbols(out, "yycalled", Spelled::Plain)?;
+        }
         if matches!(self.style.errors(), Errors::Detailed | Errors::Custom) {
             self.put_symbols(out, "yysymbols", Spelled::Plain)?;
             self.put_symbol_name(out)?;
@@ -309,7 +312,7 @@ impl Skeleton<'_> {
         ] {
             put_array(out, name, numbers)?;
         }
-        if self.style.destroys || self.style.prints {
+        if self.style.destroys || self.style.prints || self.style.wishes.speaks {
             self.put_leading(alloc, out)?;
         }
         if self.style.lists() {

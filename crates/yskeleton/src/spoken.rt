@@ -1,0 +1,169 @@
+//! Messages for errors that a parser in C says by itself: their pieces as an array, and the fixed
+//! texts that put them together.
+
+use crate::arrays::put_list;
+use crate::text::Text;
+use std::alloc::{AllocError, Global};
+use std::io::{self, Write};
+
+/// The most bytes of a text in one piece: so no string is longer than C90 promises to take.
+const MOST_BYTES: usize = 100;
+
+/// The messages of a parser: their pieces as items of an array, and where those of each state begin.
+#[derive(Drop)]
+pub struct Speech {
+    items: Vec<u8>,
+    /// How many items there are; the first one is the end of no message.
+    count: usize,
+    /// For each state the first item of its message; 0 where it has none.
+    firsts: Vec<usize>,
+}
+
+/// Writes a byte within a string of C.
+fn put_byte<W: Write>(out: &mut W, byte: u8) -> io::Result<()> {
+    match byte {
+        b'"' | b'\\' | b'?' => out.write_all(&[b'\\', byte]),
+        b'\n' => out.write_all(b"\\n"),
+        b' '..=b'~' => out.write_all(&[byte]),
+        _ => write!(out, "\\{byte:03o}"),
+    }
+}
+
+impl Speech {
+    /// No message yet, for so many states.
+    pub fn new(alloc: Global, states: usize) -> Result<Speech, AllocError> {
+        Ok(Speech {
+            items: Vec::from_slice(alloc, b"  { 0, -2 },\n")?,
+            count: 1,
+            firsts: vec![in alloc; 0usize; states]?,
+        })
+    }
+
+    /// Begins the message of a state.
+    pub fn begin(&mut self, state: usize) {
+        if let Some(first) = self.firsts.get_mut(state) {
+            *first = self.count;
+        }
+    }
+
+    /// Adds bytes to the message, in pieces.
+    pub fn add_text(&mut self, text: &[u8]) -> io::Result<()> {
+        for piece in text.chunks(MOST_BYTES) {
+            self.items.write_all(b"  { \"")?;
+            for byte in piece {
+                put_byte(&mut self.items, *byte)?;
+            }
+            self.items.write_all(b"\", 0 },\n")?;
+            self.count = self.count.saturating_add(1);
+        }
+        Ok(())
+    }
+
+    /// Adds the token that can't come, as 0, or an entry of the stack, counted from 1 at the top.
+    pub fn add_value(&mut self, number: usize) -> io::Result<()> {
+        self.count = self.count.saturating_add(1);
+        writeln!(self.items, "  {{ 0, {number} }},")
+    }
+
+    /// Adds the tokens that could come.
+    pub fn add_expected(&mut self) -> io::Result<()> {
+        self.count = self.count.saturating_add(1);
+        self.items.write_all(b"  { 0, -1 },\n")
+    }
+
+    /// Ends the message.
+    pub fn end(&mut self) -> io::Result<()> {
+        self.count = self.count.saturating_add(1);
+        self.items.write_all(b"  { 0, -2 },\n")
+    }
+
+    /// Writes the arrays.
+    pub(crate) fn put(&self, out: &mut Text<'_>) -> io::Result<()> {
+        out.add(PIECE.as_bytes())?;
+        out.add(b"static const yypiece yypieces[] = {\n")?;
+        out.add(&self.items)?;
+        out.add(b"};\n")?;
+        put_list(out, "yysaid", &self.firsts, self.count)
+    }
+}
+
+/// What a piece of a message is.
+const PIECE: &str = r##"
+/* A piece of a message: a text; or, where it has none, the token (0), an entry of the stack from the
+   top (1 ..), the tokens that could come (-1), or the end (-2). */
+typedef struct
+{
+  const char *yytext;
+  int yyvalue;
+} yypiece;
+"##;
+
+/// How a message is put together.
+pub const SPOKEN: &str = r##"
+/* Copies a text to a place of another, unless that is null, and gives the place after it. */
+static size_t
+yyadd (char *yyto, size_t yyat, const char *yytext)
+{
+  size_t yylength = strlen (yytext);
+  if (yyto)
+    memcpy (yyto + yyat, yytext, yylength + 1);
+  return yyat + yylength;
+}
+
+/* The same of the tokens that could come: the first 20, and dots where there are more. */
+static size_t
+yyadd_expected (char *yyto, size_t yyat, const yystate_number *yyssp)
+{
+  int yytokens[YYNTOKENS];
+  int yycount = yyexpected (yyssp, yytokens, YYNTOKENS);
+  int yyn;
+  for (yyn = 0; yyn < yycount && yyn < 20; ++yyn)
+    {
+      if (yyn != 0)
+        yyat = yyadd (yyto, yyat, yyn + 1 == yycount ? " or " : ", ");
+      yyat = yyadd (yyto, yyat, yycalled[yytokens[yyn]]);
+    }
+  return yycount > 20 ? yyadd (yyto, yyat, ", ..") : yyat;
+}
+
+/* The same of a piece; an entry of the stack that isn't there is nothing. */
+static size_t
+yyadd_piece (char *yyto, size_t yyat, const yypiece *yyp, const yystate_number *yyss,
+             const yystate_number *yyssp, int yytoken)
+{
+  if (yyp->yytext)
+    return yyadd (yyto, yyat, yyp->yytext);
+  if (yyp->yyvalue < 0)
+    return yyadd_expected (yyto, yyat, yyssp);
+  if (yyp->yyvalue == 0)
+    return yyadd (yyto, yyat, yycalled[yytoken]);
+  if (yyp->yyvalue > yyssp - yyss)
+    return yyat;
+  return yyadd (yyto, yyat, yycalled[yystos[*(yyssp - (yyp->yyvalue - 1))]]);
+}
+
+/* The same of the message of the state on top of the stack. */
+static size_t
+yyadd_all (char *yyto, const yystate_number *yyss, const yystate_number *yyssp, int yytoken)
+{
+  const yypiece *yyp = yypieces + yysaid[*yyssp];
+  size_t yyat = 0;
+  for (; yyp->yytext || yyp->yyvalue > -2; ++yyp)
+    yyat = yyadd_piece (yyto, yyat, yyp, yyss, yyssp, yytoken);
+  return yyat;
+}
+
+/* That message, in memory of its own; null where there is none. */
+static char *
+yyspoken (const yystate_number *yyss, const yystate_number *yyssp, int yytoken)
+{
+  size_t yylength = yyadd_all (0, yyss, yyssp, yytoken);
+  char *yymsg = (char *) YYMALLOC (yylength + 1);
+  if (yymsg)
+    {
+      *yymsg = '\0';
+      (void) yyadd_all (yymsg, yyss, yyssp, yytoken);
+    }
+  return yymsg;
+}
+"##;
