@@ -161,16 +161,22 @@ def wrong_answer(case, ours, theirs, must_end_last):
     return [kept(case, ours, theirs)] if ours != theirs else []
 
 
+def compare_texts(name, found, told, tally):
+    """What a driver with messages says of inputs against `ydebug`."""
+    for case, (_, result), text in zip(told.cases, found, told.texts, strict=True):
+        fits = said_by(result) == text
+        tally.take(f"messages by {name}", [] if fits else [kept(case, text, result)])
+
+
 def compare_messages(built, way, programs, tally):
     """What drivers with messages say of the inputs of some grammars against `ydebug`."""
     for grammar in messages.grammars():
-        cases, said, wanted = messages.cases_of(grammar, way, programs)
-        answers = {it: steps_of_c(program, cases, MOST, said) for it, program in built.items()}
-        answers["python"] = [steps_of_python(*case, MOST, said) for case in cases]
+        told = messages.told_of(grammar, way, programs)
+        cases, data = told.cases, told.data
+        answers = {it: steps_of_c(program, cases, MOST, data) for it, program in built.items()}
+        answers["python"] = [steps_of_python(*case, MOST, data) for case in cases]
         for name, found in answers.items():
-            for case, (_, result), text in zip(cases, found, wanted, strict=True):
-                fits = said_by(result) == text
-                tally.take(f"messages by {name}", [] if fits else [kept(case, text, result)])
+            compare_texts(name, found, told, tally)
 
 
 def compare_spoiled(cases, program, rng, count, tally):

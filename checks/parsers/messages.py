@@ -1,6 +1,7 @@
-"""Messages of `ydebug errors --table` in both drivers, beside those of `ydebug check --messages`."""
+"""Messages for errors: grammars with files of messages, inputs, and what `ydebug` says of each."""
 import re
 from itertools import count
+from typing import NamedTuple
 
 from checks.parsers.pairs import taken
 from checks.scenarios.folders import Scenario
@@ -13,7 +14,7 @@ TEXTS = (
     "no $0 here",
     "$expected can come,\nand not $0",
     "$$5, $x and $0$",
-    "unexpected $0, expected $expected",
+    "$expected, please; $1 $0 isn't",
 )
 # A block of such a file, and the first line of one.
 BLOCK = re.compile(r"((?:.+\n)+)\nunexpected \$0, expected \$expected\n\n?")
@@ -56,8 +57,19 @@ def told_by(way, programs, runs):
     return [taken(it) for it in way.run_all(runs, programs)]
 
 
-def cases_of(grammar, way, programs):
-    """The table and the messages of a grammar, its inputs, and what `ydebug` says of each."""
+class Told(NamedTuple):
+    """A grammar with messages: the file of them, these as data, a table and tokens for each input,
+    and what `ydebug check --messages` says of it."""
+
+    grammar: bytes
+    messages: bytes
+    data: bytes
+    cases: list
+    texts: list
+
+
+def told_of(grammar, way, programs):
+    """What `ydebug` says of the inputs of a grammar."""
     files = {"grammar": grammar}
     listing, table = told_by(way, programs, [
         run_of(["ydebug", "errors", "grammar"], files), run_of(["yacc", "grammar"], files)
@@ -71,4 +83,4 @@ def cases_of(grammar, way, programs):
     wanted = [REJECTED.match(it["stdout"]) for it in said]
     cases = [(table["left/y.tab"], names_of(it)) for it in inputs]
     texts = [it[1].decode().replace("\n", "\\n") if it else None for it in wanted]
-    return cases, made["left/y.msg"], texts
+    return Told(grammar, files["messages"], made["left/y.msg"], cases, texts)

@@ -1,6 +1,6 @@
 """Compares the steps of parsers that `ycc` makes with those of `ystep`.
 
-    parsers [--seed N] [--drawn N] [yacc=PATH] [ystep=PATH] [ycc=PATH]
+    parsers [--seed N] [--drawn N] [yacc=PATH] [ystep=PATH] [ycc=PATH] [ydebug=PATH]
 
 Over the grammar and tokens of every scenario and example, and over N grammars drawn at random (40),
 each parser, in byacc's order or in bison's, is compiled by the compiler (CC, or cc) with its
@@ -8,8 +8,9 @@ sanitizers, as C90 without a warning, and makes the steps of `ystep`, line for l
 actions, code and `%union` are left out, since those of scenarios are no C; values are numbers. The
 calculator of examples/calculator-c is built as C90, C99, C17 and C++17 by each compiler that is
 there, without a warning, with a trace and without, and answers as it should; a copy of it with
-another prefix is linked beside it. The program of the tutorial answers as the tutorial says. The
-last line is `N passed, M failed`.
+another prefix is linked beside it. Parsers with messages say of each input of `ydebug errors` what
+`ydebug check --messages` says. The program of the tutorial answers as the tutorial says. The last
+line is `N passed, M failed`.
 """
 import os
 import random
@@ -19,6 +20,7 @@ import zlib
 from concurrent.futures import ThreadPoolExecutor
 from pathlib import Path
 
+from checks.parsers.messages import grammars, told_of
 from checks.parsers.pairs import MOST, cases_of, pairs_of_scenarios
 from checks.scenarios import proved
 from checks.scenarios.pages import blocks_of
@@ -75,6 +77,13 @@ int main (void)
 """ % MOST
 
 
+# What a parser does at an error.
+SILENT = b"""  if (what[0] != 's')
+    exit (4);
+"""
+SPEAKS = b"""  printf ("m %s", what);
+  exit (fflush (stdout) ? 3 : 0);
+"""
 LONGEST = 1_000_000
 CALCULATOR = EXAMPLES / "calculator-c"
 # Compilers, and what each is asked to take the calculator for.
@@ -148,10 +157,42 @@ def compare(grammar, cases, ycc):
     """The parser of a grammar on each of its lists of tokens."""
     with tempfile.TemporaryDirectory() as folder:
         program = built(folder, grammar, ycc)
-        for table, names, steps, _ in cases:
+        for table, names, steps, *_ in cases:
             made = steps_of(program, table, names)
             if made != steps:
                 raise Differs(f"{grammar.decode()}\n{names}\nystep:\n{steps}\nthe parser:\n{made}")
+
+
+def speaking(folder, told, ycc, order):
+    """The parser of a grammar with messages, which ends at the first error."""
+    names = ("grammar.y", "messages", "parser.c", "parser")
+    file, messages, parser, program = (f"{folder}/{it}" for it in names)
+    Path(file).write_bytes(HEAD + bare(told.grammar) + TAIL.replace(SILENT, SPEAKS))
+    Path(messages).write_bytes(told.messages)
+    ran([ycc, *order, "--messages", messages, "-o", parser, file], "ycc")
+    ran([compiler(), *WAY, *CHECKED, "-o", program, parser], "the compiler")
+    return program
+
+
+def said_of(program, table, names):
+    """What a parser says of the first error."""
+    numbers = table_of(table).numbers
+    given = " ".join(str(numbers[name]) for name in names)
+    made = ran([program], "the parser", given.encode()).decode()
+    return made.partition("m ")[2].replace("\n", "\\n")
+
+
+def compare_said(grammar, programs, order):
+    """What the parser of a grammar with messages says of errors against `ydebug`."""
+    told = told_of(grammar, proved, programs)
+    with tempfile.TemporaryDirectory() as folder:
+        program = speaking(folder, told, programs["ycc"], order)
+        for (table, names), text in zip(told.cases, told.texts, strict=True):
+            wanted = "syntax error" if text.startswith("unexpected ") else text
+            wanted = wanted.replace("$end", "end of file") if order else wanted
+            made = said_of(program, table, names)
+            if made != wanted:
+                raise Differs(f"{names}\nydebug:\n{wanted}\nthe parser:\n{made}")
 
 
 def by_grammar(pairs, programs):
@@ -225,9 +266,13 @@ def compare_tutorial(ycc):
         raise Differs(f"the tutorial: {answers.decode(errors='replace')}")
 
 
-def examples(ycc):
-    """What is tried with the example, and the program of the tutorial."""
+def examples(programs):
+    """What is tried with the example, messages, and the program of the tutorial."""
+    ycc = programs["ycc"]
     yield compare_tutorial, (ycc,)
+    for grammar in grammars():
+        for order in ([], ["--bison"]):
+            yield compare_said, (grammar, programs, order)
     for compiler, language in compilers():
         for options in ([], ["-t"], ["-l"]):
             yield compare_calculator, (ycc, options, compiler, language)
@@ -254,11 +299,12 @@ def pairs_in(given):
 
 def main(words):
     """Compares parsers with `ystep`."""
-    given = asked(__doc__, words, ("yacc", "ystep", "ycc"), seed=1, drawn=40)
+    given = asked(__doc__, words, ("yacc", "ystep", "ycc", "ydebug"), seed=1, drawn=40)
     tally, ycc = Tally(), given.programs["ycc"]
-    found = by_grammar(pairs_in(given), given.programs)
+    makers = {name: given.programs[name] for name in ("yacc", "ystep")}
+    found = by_grammar(pairs_in(given), makers)
     jobs = [(compare, grammar, cases, ycc) for grammar, cases in found.items()]
-    jobs += [(check, *more) for check, more in examples(ycc)]
+    jobs += [(check, *more) for check, more in examples(given.programs)]
     with ThreadPoolExecutor(os.cpu_count()) as pool:
         for job, lines in zip(jobs, pool.map(wrong, jobs)):
             tally.take(job[0].__name__, lines)

@@ -2,8 +2,8 @@
 import random
 from unittest import mock
 
-from checks.parsers import drivers, parsers, spoil
-from checks.parsers.pairs import Case, digest_in
+from checks.parsers import drivers, messages, parsers, spoil
+from checks.parsers.pairs import Case, digest_in, said_in
 from checks.shared.places import EXAMPLES
 from checks.shared.table_file import table_of
 from checks.tests.fakes import Planted, changed, ended
@@ -49,6 +49,27 @@ class Parsers(Planted):
                 job = parsers.compare_calculator, "ycc", [], "cc", "-std=c90"
                 self.assertEqual(bool(parsers.wrong(job)), wrong)
 
+    def test_messages(self):
+        """A parser with messages that says another one, the one of `yyerror`, or none."""
+        told = messages.Told(b"%%", b"", b"", [(TABLE, ["'x'"])] * 2, ["no 'x'", "unexpected $end"])
+        for said, order, wrong in (
+            (["no 'x'", "syntax error"], [], False),
+            (["no 'x'", "unexpected $end"], [], True),
+            (["no 'y'", "syntax error"], [], True),
+            (["", "syntax error"], [], True),
+        ):
+            lines = mock.Mock(side_effect=said)
+            with mock.patch.multiple(
+                parsers, told_of=lambda *_: told, speaking=mock.Mock(), said_of=lines
+            ):
+                job = parsers.compare_said, b"%%", {"ycc": "ycc"}, order
+                self.assertEqual(bool(parsers.wrong(job)), wrong, said)
+
+    def test_said(self):
+        """What a parser says of the first error is what comes after its steps."""
+        program = self.program("parser", "sys.stdin.read(); print('s 120\\ne 0\\nm a\\nb', end='')\n")
+        self.assertEqual(parsers.said_of(program, TABLE, ["'x'"]), "a\\nb")
+
     def test_compilers(self):
         """A compiler that complains fails the build."""
         for status, message, wrong in ((0, b"", False), (1, b"", True), (0, b"warning: it", True)):
@@ -88,6 +109,47 @@ class Drivers(Planted):
         self.assertEqual(
             self.counted(drivers.compare_steps, [CASE], {**right, "plain": []}), (1, 1)
         )
+
+    def test_said(self):
+        """Another text for the first error, none, and one where there is no error."""
+        text = "unexpected 'x', expected $end"
+        case = CASE._replace(said=text)
+        for case, result, counts in (
+            (case, f"failed: {text}", (1, 0)),
+            (case, f"accepted: {text}", (1, 0)),
+            (case, "failed: unexpected 'x', expected 'y'", (0, 1)),
+            (case, "failed", (0, 1)),
+            (CASE._replace(said=""), "accepted", (1, 0)),
+            (CASE._replace(said=""), f"accepted: {text}", (0, 1)),
+            (case, "cut", (0, 0)),
+            (CASE, "failed", (0, 0)),
+        ):
+            answers = {"plain": [(STEPS, result)]}
+            self.assertEqual(self.counted(drivers.compare_said, [case], answers), counts, result)
+
+    def test_texts(self):
+        """A driver with messages that says another one."""
+        told = messages.Told(b"", b"", b"", [(TABLE, ["'x'"])], ["no 'x'"])
+        for result, counts in (("failed: no 'x'", (1, 0)), ("failed: no x", (0, 1)), ("", (0, 1))):
+            look = drivers.compare_texts
+            self.assertEqual(
+                self.counted(lambda tally: look("plain", [("", result)], told, tally)), counts
+            )
+
+    def test_verdicts(self):
+        """What a verdict says of an error."""
+        told = b"tokens: rejected at token 2: unexpected 'x', expected $end; can't tell of 'y'\n  after"
+        self.assertEqual(said_in(told), "unexpected 'x', expected $end")
+        self.assertEqual(said_in(b"tokens: accepted after 3 steps\n"), "")
+        self.assertIsNone(said_in(b"tokens: undecided after 1,000,000 steps\n"))
+
+    def test_files_of_messages(self):
+        """Blocks get other messages, and every fifth one is left out."""
+        block = "'x'\n## state 2\n## expected $end\n\nunexpected $0, expected $expected\n\n"
+        made = messages.with_texts(("## front\n\n" + block * 6).encode()).decode()
+        self.assertEqual(made.count("## state"), 5)
+        self.assertNotIn("unexpected", made)
+        self.assertEqual(messages.inputs_of((block * 2).encode()), [b"'x'\n"] * 2)
 
     def test_digests(self):
         """Another digest, and none."""
