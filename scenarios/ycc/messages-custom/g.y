@@ -1,0 +1,4 @@
+%define parse.error custom
+%token NUM
+%%
+sum : sum '+' NUM | NUM ;
