@@ -168,8 +168,18 @@ def compare_texts(name, found, told, tally):
         tally.take(f"messages by {name}", [] if fits else [kept(case, text, result)])
 
 
-def compare_messages(built, way, programs, tally):
-    """What drivers with messages say of the inputs of some grammars against `ydebug`."""
+def compare_wrong_messages(told, program, rng, tally):
+    """Both drivers on messages that are cut or changed: they say the same."""
+    case = told.cases[0]
+    for said, _ in (spoiled(told.data, rng) for _ in range(FEW)):
+        theirs = steps_of_c(program, [case], FEW, said)[0]
+        ours = steps_of_python(*case, FEW, said)
+        tally.take("wrong messages", [kept(case, ours, theirs)] if ours != theirs else [])
+
+
+def compare_messages(built, way, programs, rng, tally):
+    """What drivers with messages say of the inputs of some grammars against `ydebug`, and of
+    messages that are spoiled."""
     for grammar in messages.grammars():
         told = messages.told_of(grammar, way, programs)
         cases, data = told.cases, told.data
@@ -177,6 +187,7 @@ def compare_messages(built, way, programs, tally):
         answers["python"] = [steps_of_python(*case, MOST, data) for case in cases]
         for name, found in answers.items():
             compare_texts(name, found, told, tally)
+        compare_wrong_messages(told, built["checked"], rng, tally)
 
 
 def compare_spoiled(cases, program, rng, count, tally):
@@ -296,7 +307,7 @@ def main(words):
         answers = answers_by_all(cases, built)
         compare_steps(cases, answers, tally)
         compare_said(cases, answers, tally)
-        compare_messages(built, way, given.programs, tally)
+        compare_messages(built, way, given.programs, rng, tally)
         counts = compare_spoiled(cases, built["checked"], rng, given.tables, tally)
         compare_beginnings(min((it.table for it in cases), key=len), built["checked"], tally)
         compare_calculators(folder, way, given.programs, tally)

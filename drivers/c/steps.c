@@ -31,6 +31,7 @@ typedef struct {
   const yd_messages *messages;
   size_t made, most;
   char said[4096];
+  size_t said_length;
 } trace;
 
 static const char *const words[] = {"shift ", "reduce ", "accept", "detect",
@@ -51,17 +52,18 @@ static void write_step(void *context, yd_kind kind, int number) {
 /* Keeps the message for the first error; it is asked for again where there was no memory. */
 static void keep_message(void *context, const yd_parser *parser, int token, yd_span span) {
   trace *to = context;
-  size_t length = *to->said ? 0 : YD_UNKNOWN;
+  size_t length = to->said_length ? to->said_length : YD_UNKNOWN;
   for (int turn = 0; turn < 64 && length == YD_UNKNOWN; turn++)
     length = yd_message(to->messages, parser, token, span, NULL, NULL, to->said, sizeof to->said);
+  to->said_length = length < sizeof to->said ? length : sizeof to->said - 1;
 }
 
 /* Writes what came of a case, and the message, its ends of lines as `\\n`. */
 static void write_result(const trace *of, const char *result) {
-  printf("== %s%s", result, *of->said ? ": " : "");
-  for (const char *at = of->said; *at; at++)
-    if (*at == '\n') fputs("\\n", stdout);
-    else putchar(*at);
+  printf("== %s%s", result, of->said_length ? ": " : "");
+  for (size_t at = 0; at < of->said_length; at++)
+    if (of->said[at] == '\n') fputs("\\n", stdout);
+    else putchar(of->said[at]);
   putchar('\n');
 }
 
@@ -116,7 +118,7 @@ static void answer_with(const char *text, size_t length, unsigned long digest, c
   if (!table || (said_length && !messages)) {
     printf("== line %zu: %s\n", fault.line, fault.what);
   } else {
-    trace to = {table, messages, 0, most, ""};
+    trace to = {table, messages, 0, most, "", 0};
     parse(&to, names, count);
   }
   yd_free_messages(messages);
