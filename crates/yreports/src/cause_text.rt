@@ -1,6 +1,7 @@
 //! Causes as they are written.
 
 use crate::causes::{Causes, Change};
+use crate::covered::Covered;
 use std::io::{self, Write};
 use yexplain::lines::Lines;
 use yexplain::text::{Name, Numbered};
@@ -82,6 +83,24 @@ impl CauseText<'_> {
         Ok(())
     }
 
+    /// Writes which conflicts go without a rule that others cover.
+    fn put_covered<W: Write>(
+        self,
+        out: &mut W,
+        covered: &Covered,
+        all: usize,
+    ) -> io::Result<()> {
+        let (settles, rule) = (covered.settles, Numbered(self.lines, covered.rule));
+        let go = if settles == 1 { "conflicts goes" } else { "conflicts go" };
+        write!(out, "  {settles} of {all} {go} without {rule}: what it derives comes of ")?;
+        for (place, rule) in covered.by.iter().enumerate() {
+            let front = if place == 0 { "" } else { ", " };
+            let rule = Numbered(self.lines, *rule);
+            write!(out, "{front}{rule}")?;
+        }
+        writeln!(out, " too")
+    }
+
     /// Writes the changes that settle the most conflicts, and the rules that others are between.
     pub fn put<W: Write>(self, out: &mut W, causes: &Causes) -> io::Result<()> {
         let all = causes.all;
@@ -94,6 +113,10 @@ impl CauseText<'_> {
             }
             self.put_what(out, change)?;
         }
-        self.put_pairs(out, causes)
+        self.put_pairs(out, causes)?;
+        for covered in &causes.covered {
+            self.put_covered(out, covered, all)?;
+        }
+        Ok(())
     }
 }

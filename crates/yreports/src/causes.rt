@@ -1,6 +1,7 @@
 //! What many conflicts have in common: tokens that have no precedence, and rules that two conflicts
 //! are between. Each change that is named was tried on all cells.
 
+use crate::covered::{Covered, covered_of};
 use crate::tried::{Marks, Tried, counted, tried_of};
 use indexmap::IndexMap;
 use std::alloc::{AllocError, Global};
@@ -18,6 +19,9 @@ const MOST_KINDS: usize = 2_000;
 const MOST_CHANGES: usize = 60;
 
 const MOST_CAUSES: usize = 8;
+
+/// The most pairs of rules of which one may be covered by the other.
+const MOST_COVERED: usize = 5;
 
 /// A change that settles conflicts: these tokens get precedence lines, and this rule a name of its
 /// own.
@@ -40,6 +44,8 @@ pub struct Causes {
     pub changes: Vec<Change>,
     /// How many conflicts are between each two rules, whatever precedences they have.
     pub pairs: IndexMap<(usize, usize), usize>,
+    /// Rules of these pairs that others cover.
+    pub covered: Vec<Covered>,
 }
 
 /// Tokens in classes: those that a conflict needs to have precedences are in one.
@@ -244,6 +250,23 @@ fn pairs_of(
     Ok(pairs)
 }
 
+/// The rules of the first pairs that others cover.
+fn all_covered(
+    alloc: Global,
+    tables: &Tables,
+    lines: &Lines,
+    pairs: &IndexMap<(usize, usize), usize>,
+    all: usize,
+) -> Result<Vec<Covered>, AllocError> {
+    let mut found = Vec::new(alloc);
+    for (pair, _) in pairs.iter().take(MOST_COVERED) {
+        if let Some(covered) = covered_of(alloc, tables, lines, *pair, all)? {
+            found.push(covered)?;
+        }
+    }
+    Ok(found)
+}
+
 /// What these conflicts come from; `None` where they are of one kind, or of too many.
 pub fn causes_of(
     alloc: Global,
@@ -271,9 +294,11 @@ pub fn causes_of(
     };
     let changes = seeker.choose(changes, all)?;
     let pairs = pairs_of(alloc, found)?;
+    let covered = all_covered(alloc, tables, lines, &pairs, all)?;
     Ok(Some(Causes {
         all,
         changes,
         pairs,
+        covered,
     }))
 }

@@ -19,13 +19,18 @@ pub struct Speech {
     firsts: Vec<usize>,
 }
 
+/// The octal digit of a byte that so many bits stand below.
+fn octal(byte: u8, below: u32) -> u8 {
+    b'0'.saturating_add(byte.checked_shr(below).unwrap_or(0) & 7)
+}
+
 /// Writes a byte within a string of C.
 fn put_byte<W: Write>(out: &mut W, byte: u8) -> io::Result<()> {
     match byte {
         b'"' | b'\\' | b'?' => out.write_all(&[b'\\', byte]),
         b'\n' => out.write_all(b"\\n"),
         b' '..=b'~' => out.write_all(&[byte]),
-        _ => write!(out, "\\{byte:03o}"),
+        _ => out.write_all(&[b'\\', octal(byte, 6), octal(byte, 3), octal(byte, 0)]),
     }
 }
 
@@ -48,14 +53,26 @@ impl Speech {
 
     /// Adds bytes to the message, in pieces.
     pub fn add_text(&mut self, text: &[u8]) -> io::Result<()> {
-        for piece in text.chunks(MOST_BYTES) {
-            self.items.write_all(b"  { \"")?;
-            for byte in piece {
-                put_byte(&mut self.items, *byte)?;
+        let mut rest = text;
+        for _ in 0..=text.len() / MOST_BYTES {
+            let piece = rest.get(..MOST_BYTES).unwrap_or(rest);
+            if piece.is_empty() {
+                break;
             }
-            self.items.write_all(b"\", 0 },\n")?;
-            self.count = self.count.saturating_add(1);
+            self.add_piece(piece)?;
+            rest = rest.get(piece.len()..).unwrap_or(&[]);
         }
+        Ok(())
+    }
+
+    /// Adds a piece of a text.
+    fn add_piece(&mut self, piece: &[u8]) -> io::Result<()> {
+        self.items.write_all(b"  { \"")?;
+        for byte in piece {
+            put_byte(&mut self.items, *byte)?;
+        }
+        self.items.write_all(b"\", 0 },\n")?;
+        self.count = self.count.saturating_add(1);
         Ok(())
     }
 
