@@ -19,9 +19,9 @@ pub struct Speech {
     firsts: Vec<usize>,
 }
 
-/// The octal digit of a byte that so many bits stand below.
-fn octal(byte: u8, below: u32) -> u8 {
-    b'0'.saturating_add(byte.checked_shr(below).unwrap_or(0) & 7)
+/// The digit of the last three bits of a byte.
+fn octal(byte: u8) -> u8 {
+    b'0'.saturating_add(byte & 7)
 }
 
 /// Writes a byte within a string of C.
@@ -30,7 +30,7 @@ fn put_byte<W: Write>(out: &mut W, byte: u8) -> io::Result<()> {
         b'"' | b'\\' | b'?' => out.write_all(&[b'\\', byte]),
         b'\n' => out.write_all(b"\\n"),
         b' '..=b'~' => out.write_all(&[byte]),
-        _ => out.write_all(&[b'\\', octal(byte, 6), octal(byte, 3), octal(byte, 0)]),
+        _ => out.write_all(&[b'\\', octal(byte >> 6), octal(byte >> 3), octal(byte)]),
     }
 }
 
