@@ -11,6 +11,10 @@ OWN = re.compile(r"rule (\d+) (?:\(line \d+\) )?a name of its own by %prec")
 PAIR = re.compile(
     r"  (\d+) of (\d+) conflicts stands? between rule (\d+)[^,]*, which is taken, and rule (\d+)"
 )
+COVERED = re.compile(
+    r"  (\d+) of (\d+) conflicts goe?s? without rule (\d+)[^:]*: what it derives comes of (.*) too"
+)
+RULE = re.compile(r"rule (\d+)")
 MOST_PAIRS = 5
 
 
@@ -75,6 +79,32 @@ def wrong_pairs(checked, lines, total):
     return None
 
 
+def is_covered(rules, number, by):
+    """Whether the left side of a rule derives its body by other rules, all but the last of one
+    symbol."""
+    symbol = rules[number].left
+    for at in by[:-1]:
+        if at == number or rules[at].left != symbol or len(rules[at].body) != 1:
+            return False
+        symbol = rules[at].body[0]
+    last = rules[by[-1]]
+    return by[-1] != number and last.left == symbol and last.body == rules[number].body
+
+
+def wrong_covered(grammar, lines, total):
+    """What is wrong with the rules that were told to be covered by others, each tried by tables
+    without it."""
+    for settles, all_told, number, told in lines:
+        number, by = int(number), [int(it) for it in RULE.findall(told)]
+        if not is_covered(grammar.rules, number, by):
+            return f"rules {by} don't cover rule {number}"
+        rules = [rule for at, rule in enumerate(grammar.rules) if at != number]
+        left = counted(Tables(replace(grammar, rules=rules)))
+        if total - left != int(settles) or int(all_told) != total:
+            return f"{settles} told to go without rule {number}, for {total - left}"
+    return None
+
+
 def wrong_causes(checked, text):
     """What is wrong with what was told of several kinds of conflicts together."""
     head = text.split("\n\n")[0]
@@ -82,4 +112,8 @@ def wrong_causes(checked, text):
     total = counted(checked.tables)
     if "kinds\n" not in head + "\n":
         return "causes of one kind" if changes or pairs else None
-    return wrong_changes(checked.grammar, changes, total) or wrong_pairs(checked, pairs, total)
+    return (
+        wrong_changes(checked.grammar, changes, total)
+        or wrong_pairs(checked, pairs, total)
+        or wrong_covered(checked.grammar, COVERED.findall(head), total)
+    )

@@ -3,7 +3,8 @@ import random
 from collections import Counter
 from unittest import mock
 
-from checks.comparers import conflicts, coverage, errors, faults, hints, programs, texts, verdicts
+from checks.comparers import causes, conflicts, coverage, errors, faults, hints, programs, texts
+from checks.comparers import verdicts
 from checks.shared.grammars import grammar_of
 from checks.shared.machine import replies_of
 from checks.shared.places import SCENARIOS
@@ -118,6 +119,21 @@ class Conflicts(Planted):
         gone = report[: report.index("\nwarning")], report.replace("conflict 2", "conflict two")
         lists = report.replace("  for rule 10 (line 15):\n  tokens  D A . B\n", "")
         self.each_caught(look, report, *changed(report, *pairs), *gone, lists, "")
+
+    def test_covered(self):
+        """A rule that isn't covered by those that are named, and a wrong count without it."""
+        grammar = grammar_in(b"%token N\n%%\ne : p | N ;\np : N ;\n")
+        for line, wrong in (
+            (("1", "1", "2", "rule 1 (line 3), rule 3 (line 4)"), False),
+            (("0", "1", "2", "rule 1 (line 3), rule 3 (line 4)"), True),
+            (("1", "2", "2", "rule 1 (line 3), rule 3 (line 4)"), True),
+            (("1", "1", "2", "rule 3 (line 4)"), True),
+            (("1", "1", "2", "rule 1 (line 3), rule 2 (line 3)"), True),
+            (("1", "1", "3", "rule 2 (line 3)"), True),
+        ):
+            self.assertEqual(bool(causes.wrong_covered(grammar, [line], 1)), wrong, line)
+        head = "  18 of 88 conflicts go without rule 76 (line 57): what it derives comes of rule 75 too\n"
+        self.assertEqual(causes.COVERED.findall(head), [("18", "88", "76", "rule 75")])
 
     def test_none(self):
         """A conflict that isn't told, and one that isn't there."""
