@@ -1,10 +1,11 @@
-//! A grammar without one of its rules: written as a text without actions, which is read anew, so
-//! that its own tables tell how many conflicts it has.
+//! A grammar without one of its rules, or with a copy of a nonterminal: written as a text without
+//! actions, which is read anew, so that its own tables tell how many conflicts it has.
 #![tactic(auto)]
 
 mod text;
 
-use crate::text::put_grammar;
+pub use crate::text::Change;
+use crate::text::Changed;
 use std::alloc::{AllocError, Global};
 use std::io;
 use yexplain::lines::Lines;
@@ -33,27 +34,27 @@ fn tables_of(alloc: Global, grammar: Grammar) -> Result<Option<Tables>, AllocErr
     }
 }
 
-/// The text of a grammar without a rule.
-fn text_without(
-    alloc: Global,
-    grammar: &Grammar,
-    lines: &Lines,
-    rule: usize,
-) -> io::Result<Vec<u8>> {
+/// The text of a changed grammar.
+fn text_of(alloc: Global, changed: Changed<'_>) -> io::Result<Vec<u8>> {
     let mut text = Vec::new(alloc);
-    put_grammar(&mut text, grammar, lines, rule)?;
+    changed.put(&mut text)?;
     Ok(text)
 }
 
-/// How many conflicts the tables of a grammar have without one of its rules; `None` where what is
-/// left is no grammar, or one with too many states.
-pub fn conflicts_without(
+/// How many conflicts the tables of a grammar have after a change; `None` where what comes of it is
+/// no grammar, or one with too many states.
+pub fn conflicts_after(
     alloc: Global,
     grammar: &Grammar,
     lines: &Lines,
-    rule: usize,
+    change: Change,
 ) -> Result<Option<usize>, AllocError> {
-    let Ok(text) = text_without(alloc, grammar, lines, rule) else {
+    let changed = Changed {
+        grammar,
+        lines,
+        change,
+    };
+    let Ok(text) = text_of(alloc, changed) else {
         return Err(AllocError);
     };
     let Some(changed) = grammar_in(alloc, &text)? else {

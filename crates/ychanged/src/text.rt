@@ -1,4 +1,4 @@
-//! A grammar as the text of a grammar file, without actions and without one of its rules.
+//! A changed grammar as the text of a grammar file, without actions.
 
 use std::io::{self, Write};
 use yexplain::lines::{Lines, is_inner};
@@ -62,63 +62,118 @@ fn put_level<W: Write>(out: &mut W, grammar: &Grammar, level: usize) -> io::Resu
     writeln!(out)
 }
 
-/// Writes a body, in which an action stands for each symbol that was made for one.
-fn put_body<W: Write>(out: &mut W, grammar: &Grammar, rule: usize) -> io::Result<()> {
-    let body = body_of(grammar, rule);
-    for symbol in body {
-        if name_of(grammar, *symbol).starts_with(b"$$") {
+/// A change of a grammar.
+#[derive(Clone, Copy, Drop, PartialEq, Eq)]
+pub enum Change {
+    /// Without this rule.
+    Without(usize),
+    /// With a copy of a nonterminal, which has the same rules, in its place in the body of a rule.
+    Copied {
+        /// The nonterminal.
+        symbol: Sym,
+        /// The rule.
+        rule: usize,
+    },
+}
+
+/// A grammar, where its rules stand, and what is changed.
+#[derive(Clone, Copy)]
+pub struct Changed<'a> {
+    /// The grammar.
+    pub grammar: &'a Grammar,
+    /// Where its rules stand.
+    pub lines: &'a Lines,
+    /// The change.
+    pub change: Change,
+}
+
+/// What follows the name of a nonterminal in that of its copy.
+const COPY: &[u8] = b".copy";
+
+impl Changed<'_> {
+    /// Whether a symbol is an action's.
+    fn is_action(self, symbol: Sym) -> bool {
+        name_of(self.grammar, symbol).starts_with(b"$$")
+    }
+
+    /// Writes a symbol of a body; an action stands for each symbol that was made for one.
+    fn put_symbol<W: Write>(self, out: &mut W, rule: usize, symbol: Sym) -> io::Result<()> {
+        if self.is_action(symbol) {
+            return out.write_all(b" {}");
+        }
+        put_name(out, self.grammar, symbol)?;
+        if self.change == (Change::Copied { symbol, rule }) {
+            out.write_all(COPY)?;
+        }
+        Ok(())
+    }
+
+    /// Writes a body with the token that gives its rule a precedence.
+    fn put_body<W: Write>(self, out: &mut W, rule: usize) -> io::Result<()> {
+        let body = body_of(self.grammar, rule);
+        for symbol in body {
+            self.put_symbol(out, rule, *symbol)?;
+        }
+        if body.last().map_or(false, |last| self.is_action(*last)) {
+            // an action at the end would be that of the rule
             out.write_all(b" {}")?;
-        } else {
-            put_name(out, grammar, *symbol)?;
+        }
+        if let Some(giver) = self.lines.giver(self.grammar, rule) {
+            out.write_all(b" %prec")?;
+            put_name(out, self.grammar, giver)?;
+        }
+        out.write_all(b" ;\n")
+    }
+
+    /// Writes a rule.
+    fn put_rule<W: Write>(self, out: &mut W, rule: usize) -> io::Result<()> {
+        if let Some(left) = left_of(self.grammar, rule) {
+            out.write_all(name_of(self.grammar, left))?;
+            out.write_all(b" :")?;
+            self.put_body(out, rule)?;
+        }
+        Ok(())
+    }
+
+    /// Writes the rules of a copy, which are those of its nonterminal.
+    fn put_copy<W: Write>(self, out: &mut W, symbol: Sym) -> io::Result<()> {
+        for rule in 1..self.grammar.rules() {
+            if left_of(self.grammar, rule) == Some(symbol) {
+                out.write_all(name_of(self.grammar, symbol))?;
+                out.write_all(COPY)?;
+                out.write_all(b" :")?;
+                let change = Change::Without(rule);
+                Changed { change, ..self }.put_body(out, rule)?;
+            }
+        }
+        Ok(())
+    }
+
+    /// Writes the declarations.
+    fn put_front<W: Write>(self, out: &mut W) -> io::Result<()> {
+        put_tokens(out, self.grammar)?;
+        for level in 1..=last_level(self.grammar) {
+            put_level(out, self.grammar, level)?;
+        }
+        if let Some(start) = body_of(self.grammar, 0).first() {
+            out.write_all(b"%start")?;
+            put_name(out, self.grammar, *start)?;
+        }
+        Ok(())
+    }
+
+    /// Writes the grammar.
+    pub fn put<W: Write>(self, out: &mut W) -> io::Result<()> {
+        self.put_front(out)?;
+        out.write_all(b"\n%%\n")?;
+        for rule in 1..self.grammar.rules() {
+            if self.change != Change::Without(rule) && !is_inner(self.grammar, rule) {
+                self.put_rule(out, rule)?;
+            }
+        }
+        match self.change {
+            Change::Copied { symbol, .. } => self.put_copy(out, symbol),
+            Change::Without(_) => Ok(()),
         }
     }
-    match body.last() {
-        // an action at the end would be that of the rule
-        Some(last) if name_of(grammar, *last).starts_with(b"$$") => out.write_all(b" {}"),
-        _ => Ok(()),
-    }
-}
-
-/// Writes a rule with the token that gives its precedence.
-fn put_rule<W: Write>(
-    out: &mut W,
-    grammar: &Grammar,
-    lines: &Lines,
-    rule: usize,
-) -> io::Result<()> {
-    let Some(left) = left_of(grammar, rule) else {
-        return Ok(());
-    };
-    out.write_all(name_of(grammar, left))?;
-    out.write_all(b" :")?;
-    put_body(out, grammar, rule)?;
-    if let Some(giver) = lines.giver(grammar, rule) {
-        out.write_all(b" %prec")?;
-        put_name(out, grammar, giver)?;
-    }
-    out.write_all(b" ;\n")
-}
-
-/// Writes a grammar without a rule.
-pub fn put_grammar<W: Write>(
-    out: &mut W,
-    grammar: &Grammar,
-    lines: &Lines,
-    without: usize,
-) -> io::Result<()> {
-    put_tokens(out, grammar)?;
-    for level in 1..=last_level(grammar) {
-        put_level(out, grammar, level)?;
-    }
-    if let Some(start) = body_of(grammar, 0).first() {
-        out.write_all(b"%start")?;
-        put_name(out, grammar, *start)?;
-    }
-    out.write_all(b"\n%%\n")?;
-    for rule in 1..grammar.rules() {
-        if rule != without && !is_inner(grammar, rule) {
-            put_rule(out, grammar, lines, rule)?;
-        }
-    }
-    Ok(())
 }

@@ -2,7 +2,7 @@
 //! without them.
 
 use std::alloc::{AllocError, Global};
-use ychanged::conflicts_without;
+use ychanged::{Change, conflicts_after};
 use yexplain::lines::Lines;
 use yexplain::reads::{body_of, grammar_of, left_of, set};
 use ysymbols::{Grammar, Sym};
@@ -123,7 +123,8 @@ pub fn covered_of(
         let Some(by) = cover_by(alloc, grammar, rule, other)? else {
             continue;
         };
-        let left = conflicts_without(alloc, grammar, lines, rule)?.unwrap_or(all);
+        let changed = conflicts_after(alloc, grammar, lines, Change::Without(rule))?;
+        let left = changed.unwrap_or(all);
         if left < all {
             let settles = all.saturating_sub(left);
             return Ok(Some(Covered { rule, by, settles }));

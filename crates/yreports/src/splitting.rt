@@ -1,0 +1,115 @@
+//! Copies of nonterminals that split states which were merged: each was tried by tables of its own.
+
+use std::alloc::{AllocError, Global};
+use std::io::{self, Write};
+use ychanged::{Change, conflicts_after};
+use yexplain::lines::{Lines, is_inner};
+use yexplain::reads::{body_of, grammar_of, left_of};
+use yexplain::text::{Name, Numbered};
+use ysymbols::{Grammar, Sym};
+use ytables::Tables;
+
+/// The most copies that are tried for a conflict.
+const MOST_COPIES: usize = 12;
+
+/// The most states of tables that are made anew.
+const MOST_STATES: usize = 1_500;
+
+/// A copy of a nonterminal for the body of a rule.
+#[derive(Clone, Copy, Drop)]
+pub struct Split {
+    /// The nonterminal.
+    symbol: Sym,
+    /// The rule.
+    rule: usize,
+    /// How many conflicts are left with it.
+    left: usize,
+    /// How many there are.
+    all: usize,
+}
+
+/// How many conflicts tables have.
+fn count_of(tables: &Tables) -> usize {
+    let counts = tables.conflicts();
+    counts.shift_reduce.saturating_add(counts.reduce_reduce)
+}
+
+/// The rules whose bodies have a nonterminal, where there are several.
+fn users_of(alloc: Global, grammar: &Grammar, symbol: Sym) -> Result<Vec<usize>, AllocError> {
+    let mut users = Vec::new(alloc);
+    for rule in 1..grammar.rules() {
+        if body_of(grammar, rule).iter().any(|it| *it == symbol) {
+            users.push(rule)?;
+        }
+    }
+    if users.len() < 2 {
+        users.clear();
+    }
+    Ok(users)
+}
+
+/// The copies that may split a state: of the left sides of these rules.
+fn copies_of(
+    alloc: Global,
+    grammar: &Grammar,
+    rules: &[usize],
+) -> Result<Vec<(Sym, usize)>, AllocError> {
+    let mut copies = Vec::new(alloc);
+    for rule in rules {
+        let Some(symbol) = left_of(grammar, *rule) else {
+            continue;
+        };
+        if is_inner(grammar, *rule) || copies.iter().any(|(it, _)| *it == symbol) {
+            continue;
+        }
+        for user in &users_of(alloc, grammar, symbol)? {
+            copies.push((symbol, *user))?;
+        }
+    }
+    Ok(copies)
+}
+
+/// The copy that leaves the fewest conflicts, where one leaves fewer than there are: of the left
+/// sides of the rules of a conflict, for the bodies that have them.
+pub fn split_of(
+    alloc: Global,
+    tables: &Tables,
+    lines: &Lines,
+    rules: &[usize],
+) -> Result<Option<Split>, AllocError> {
+    let (grammar, all) = (grammar_of(tables), count_of(tables));
+    if tables.automaton().states() > MOST_STATES {
+        return Ok(None);
+    }
+    let mut best: Option<Split> = None;
+    for (symbol, rule) in copies_of(alloc, grammar, rules)?.iter().take(MOST_COPIES) {
+        let (symbol, rule) = (*symbol, *rule);
+        let change = Change::Copied { symbol, rule };
+        let left = conflicts_after(alloc, grammar, lines, change)?.unwrap_or(all);
+        if left < best.map_or(all, |split| split.left) {
+            best = Some(Split {
+                symbol,
+                rule,
+                left,
+                all,
+            });
+        }
+    }
+    Ok(best)
+}
+
+impl Split {
+    /// Writes how states are split.
+    pub fn put<W: Write>(
+        self,
+        out: &mut W,
+        grammar: &Grammar,
+        lines: &Lines,
+    ) -> io::Result<()> {
+        let (name, rule) = (Name(grammar, self.symbol), Numbered(lines, self.rule));
+        let (left, all) = (self.left, self.all);
+        let conflicts = if all == 1 { "conflict is" } else { "conflicts are" };
+        write!(out, "  With a copy of {name}, which has the same rules, in {rule} ")?;
+        writeln!(out, "{left} of {all} {conflicts} left.")
+    }
+}
