@@ -41,6 +41,12 @@ impl<'a> ListText<'a> {
         Name(grammar_of(self.tables), self.kind.token)
     }
 
+    /// Whether no list allows both rivals: then states were merged.
+    pub fn is_merged(self, finding: &Finding) -> bool {
+        let mut lists = finding.lists.iter().map(|list| list.allows);
+        lists.find(|allows| *allows != Allows::Both) == Some(Allows::One)
+    }
+
     /// Writes that no list allows both rivals, where that is so.
     pub fn put_merged<W: Write>(self, page: &mut Page<W>, finding: &Finding) {
         let mut lists = finding.lists.iter().map(|list| list.allows);

@@ -6,6 +6,7 @@ use crate::causes::causes_of;
 use crate::kinds::{put_counts, put_named, put_states};
 use crate::list_text::{ListText, put_unfound};
 use crate::saving::Folder;
+use crate::splitting::{MOST_SPLITS, split_of};
 use crate::warnings::put_warnings;
 use std::alloc::{AllocError, Global};
 use std::io::{self, Write};
@@ -48,6 +49,8 @@ struct Report<'a, W, F> {
     page: &'a mut Page<W>,
     lines: &'a Lines,
     folder: Folder<'a, F>,
+    /// For how many more conflicts copies of nonterminals are tried.
+    splits: usize,
 }
 
 /// Where the tokens of the first kinds come from.
@@ -116,6 +119,18 @@ impl<W: Write, F: Files + AllocGlobal + Clone + Drop> Report<'_, W, F> {
         let _ = asked.put_sources(self.page, sources);
     }
 
+    /// Writes which copy of a nonterminal splits merged states, where one does.
+    fn put_split(&mut self, tables: &Tables, kind: &Kind) -> io::Result<()> {
+        if self.splits == 0 {
+            return Ok(());
+        }
+        self.splits = self.splits.saturating_sub(1);
+        match split_of(self.alloc, tables, self.lines, kind)? {
+            Some(split) => split.put(self.page, grammar_of(tables), self.lines),
+            None => Ok(()),
+        }
+    }
+
     /// Writes the lists for a kind of conflict.
     fn put_finding(
         &mut self,
@@ -133,6 +148,9 @@ impl<W: Write, F: Files + AllocGlobal + Clone + Drop> Report<'_, W, F> {
             lists: finding.lists.len(),
         };
         text.put_merged(self.page, finding);
+        if text.is_merged(finding) {
+            self.put_split(tables, kind)?;
+        }
         for (part, list) in finding.lists.iter().enumerate() {
             text.put_list(self.page, list);
             if let Some((tokens, last)) = file_tokens(list, kind.token) {
@@ -193,6 +211,7 @@ fn put_lists<'a, W: Write, F: Files + AllocGlobal + Clone + Drop>(
             name: ("conflict-", ""),
             failed: None,
         },
+        splits: MOST_SPLITS,
     };
     report.page.put(asked.grammar);
     if found.cells == 0 {

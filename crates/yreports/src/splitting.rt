@@ -3,6 +3,7 @@
 use std::alloc::{AllocError, Global};
 use std::io::{self, Write};
 use ychanged::{Change, conflicts_after};
+use ycounterexample::groups::Kind;
 use yexplain::lines::{Lines, is_inner};
 use yexplain::reads::{body_of, grammar_of, left_of};
 use yexplain::text::{Name, Numbered};
@@ -13,7 +14,10 @@ use ytables::Tables;
 const MOST_COPIES: usize = 12;
 
 /// The most states of tables that are made anew.
-const MOST_STATES: usize = 1_500;
+const MOST_STATES: usize = 800;
+
+/// The most conflicts of a report for which copies are tried.
+pub const MOST_SPLITS: usize = 2;
 
 /// A copy of a nonterminal for the body of a rule.
 #[derive(Clone, Copy, Drop)]
@@ -70,19 +74,19 @@ fn copies_of(
 }
 
 /// The copy that leaves the fewest conflicts, where one leaves fewer than there are: of the left
-/// sides of the rules of a conflict, for the bodies that have them.
+/// sides of the rules of a kind of conflict, for the bodies that have them.
 pub fn split_of(
     alloc: Global,
     tables: &Tables,
     lines: &Lines,
-    rules: &[usize],
+    kind: &Kind,
 ) -> Result<Option<Split>, AllocError> {
     let (grammar, all) = (grammar_of(tables), count_of(tables));
     if tables.automaton().states() > MOST_STATES {
         return Ok(None);
     }
     let mut best: Option<Split> = None;
-    for (symbol, rule) in copies_of(alloc, grammar, rules)?.iter().take(MOST_COPIES) {
+    for (symbol, rule) in copies_of(alloc, grammar, kind.rules())?.iter().take(MOST_COPIES) {
         let (symbol, rule) = (*symbol, *rule);
         let change = Change::Copied { symbol, rule };
         let left = conflicts_after(alloc, grammar, lines, change)?.unwrap_or(all);
