@@ -15,6 +15,9 @@ COVERED = re.compile(
     r"  (\d+) of (\d+) conflicts goe?s? without rule (\d+)[^:]*: what it derives comes of (.*) too"
 )
 RULE = re.compile(r"rule (\d+)")
+COPY = re.compile(
+    r"  With a copy of (\S+), which has the same rules, in rule (\d+)[^)]*\) (\d+) of (\d+) conflicts? "
+)
 MOST_PAIRS = 5
 
 
@@ -105,6 +108,25 @@ def wrong_covered(grammar, lines, total):
     return None
 
 
+def with_copy(grammar, symbol, number):
+    """The grammar with a copy of a nonterminal in the body of a rule."""
+    copy, rules = len(grammar.names), list(grammar.rules)
+    body = [copy if it == symbol else it for it in rules[number].body]
+    copies = [replace(rule, left=copy) for rule in rules if rule.left == symbol]
+    rules[number] = replace(rules[number], body=body)
+    return replace(grammar, names=[*grammar.names, "copy"], rules=rules + copies)
+
+
+def wrong_copies(grammar, lines, total):
+    """What is wrong with the copies that were told to split states, each tried."""
+    for name, number, left, all_told in lines:
+        changed_so = with_copy(grammar, grammar.names.index(name), int(number))
+        now = counted(Tables(changed_so))
+        if now != int(left) or now >= total or int(all_told) != total:
+            return f"{left} told to be left with a copy of {name} in rule {number}, for {now}"
+    return None
+
+
 def wrong_causes(checked, text):
     """What is wrong with what was told of several kinds of conflicts together."""
     head = text.split("\n\n")[0]
@@ -117,3 +139,9 @@ def wrong_causes(checked, text):
         or wrong_pairs(checked, pairs, total)
         or wrong_covered(checked.grammar, COVERED.findall(head), total)
     )
+
+
+def wrong_trials(checked, text):
+    """What is wrong with what was told of causes, and of copies that split states."""
+    copies, total = COPY.findall(text), counted(checked.tables)
+    return wrong_causes(checked, text) or wrong_copies(checked.grammar, copies, total)

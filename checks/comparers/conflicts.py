@@ -16,7 +16,7 @@ from copy import copy
 from functools import partial
 from pathlib import Path
 
-from checks.comparers.causes import wrong_causes
+from checks.comparers.causes import wrong_trials
 from checks.comparers.chains import wrong_chains
 from checks.shared.arguments import asked
 from checks.shared.grammars import ERROR, productive
@@ -278,7 +278,7 @@ def differences(grammar, text):
     lost = {int(it) for it in re.findall(r"rule (\d+) is never reduced", text)}
     if lost != checked.lost():
         return f"rules never reduced: {sorted(lost)} for {sorted(checked.lost())}"
-    wrong = wrong_counts(checked.tables, text) or wrong_causes(checked, text)
+    wrong = wrong_counts(checked.tables, text) or wrong_trials(checked, text)
     if wrong:
         return wrong
     return wrong_kinds(checked, len(parts), text)
@@ -292,6 +292,8 @@ COUNTED = {
     "without what is taken": (" alone:", "without what is taken:"),
     "chains": (" from:\n    state ",),
     "changes that settle some": (" conflicts go when ", " conflicts goes when ", " more when "),
+    "rules that others cover": (" without rule ",),
+    "copies that split states": ("  With a copy of ",),
     "pairs of rules": (" conflicts stand between ", " conflicts stands between "),
     "with error": ("  Not tried",),
     "missed by a parse": ("settled otherwise", "given up"),

@@ -135,6 +135,19 @@ class Conflicts(Planted):
         head = "  18 of 88 conflicts go without rule 76 (line 57): what it derives comes of rule 75 too\n"
         self.assertEqual(causes.COVERED.findall(head), [("18", "88", "76", "rule 75")])
 
+    def test_copies(self):
+        """A copy that leaves more conflicts than is told, or as many as there are."""
+        grammar = grammar_in(b"%%\ns : 'a' x 'd' | 'b' y 'd' | 'a' y 'e' | 'b' x 'e' ;\nx : 'c' ;\ny : 'c' ;\n")
+        for line, wrong in (
+            (("x", "1", "0", "2"), False),
+            (("x", "1", "1", "2"), True),
+            (("x", "1", "0", "3"), True),
+            (("x", "5", "0", "2"), True),
+        ):
+            self.assertEqual(bool(causes.wrong_copies(grammar, [line], 2)), wrong, line)
+        told = "  With a copy of x, which has the same rules, in rule 1 (line 2) 0 of 2 conflicts are left.\n"
+        self.assertEqual(causes.COPY.findall(told), [("x", "1", "0", "2")])
+
     def test_none(self):
         """A conflict that isn't told, and one that isn't there."""
         report, look = self.look("dangling-else")
