@@ -63,7 +63,8 @@ pub fn conflicts_after(
     match tables_of(alloc, changed)? {
         Some(tables) => {
             let counts = tables.conflicts();
-            Ok(Some(counts.shift_reduce.saturating_add(counts.reduce_reduce)))
+            let all = counts.shift_reduce.saturating_add(counts.reduce_reduce);
+            Ok(Some(all as usize))
         }
         None => Ok(None),
     }

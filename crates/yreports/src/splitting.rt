@@ -35,7 +35,7 @@ pub struct Split {
 /// How many conflicts tables have.
 fn count_of(tables: &Tables) -> usize {
     let counts = tables.conflicts();
-    counts.shift_reduce.saturating_add(counts.reduce_reduce)
+    counts.shift_reduce.saturating_add(counts.reduce_reduce) as usize
 }
 
 /// The rules whose bodies have a nonterminal, where there are several.
