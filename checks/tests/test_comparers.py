@@ -344,3 +344,27 @@ class Faults(Planted):
         for wrong in (("ystep: G3 at line 2\n",), ("ystep: G2 at line 1\n",), ("", 0),
                       ("ystep: G2 at line 2\n", 3), ("ystep: G2 at line 2\n", 1, "more")):
             self.assertEqual(self.counted_with(*wrong), (0, 1), wrong)
+
+
+class Ambiguities(Planted):
+    """Sentences and trees that are told of rivals, and aren't so."""
+
+    def look(self, name):
+        """What a scenario's report is, and what is wrong with another."""
+        folder = SCENARIOS / "ydebug/conflicts" / name
+        grammar = grammar_in((folder / "grammar.y").read_bytes())
+        report = (folder / "stdout").read_text()
+        return report, lambda text: ambiguities.differences(grammar, text, Counter())
+
+    def test_two_trees(self):
+        """Another token, a rule of another left side, a leaf too many, one tree twice."""
+        report, look = self.look("dangling-else")
+        lines = report.splitlines()
+        self.each_caught(look, report, *changed(report))
+
+    def test_each_report(self):
+        """All that the scenarios say holds."""
+        for folder in sorted((SCENARIOS / "ydebug/conflicts").iterdir()):
+            if (folder / "grammar.y").exists() and "trees" in (folder / "stdout").read_text():
+                report, look = self.look(folder.name)
+                self.assertIsNone(look(report), folder.name)
