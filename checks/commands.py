@@ -13,6 +13,7 @@ GROUPS = {
     "comparisons with machines in Python": {
         "compare": "comparers.programs",
         "conflicts": "comparers.conflicts",
+        "ambiguities": "comparers.ambiguities",
         "hints": "comparers.hints",
         "texts": "comparers.texts",
         "verdicts": "comparers.verdicts",

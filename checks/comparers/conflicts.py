@@ -14,6 +14,7 @@ import re
 import tempfile
 from copy import copy
 from functools import partial
+from operator import mul
 from pathlib import Path
 
 from checks.comparers.causes import wrong_trials
@@ -144,6 +145,8 @@ def parts_of(text):
 GIVEN_UP = "  The search for a list of tokens took too long."
 # What is said of a parse that comes to the state by a recovery alone.
 AFTER_ERROR = " only after an error, "
+# How the lines begin after which further tokens of a block stand.
+OTHERS = "  The same on ", "  Also on "
 
 
 class Told:
@@ -184,12 +187,31 @@ def lists_in(part, names):
     return found
 
 
+def others_in(part, names):
+    """The further tokens of a block: those on the lines after each that says so."""
+    tokens, is_list = [], False
+    for line in part:
+        is_list = line.startswith(OTHERS) or (is_list and line.startswith("    "))
+        if is_list and not line.startswith(OTHERS):
+            tokens += [names.index(it) for it in line.split()]
+    return tokens
+
+
+def states_in(part):
+    """In how many states the conflicts of a block are."""
+    found = re.search(r"(?m)^  The same in (\d+) states", "\n".join(part))
+    return int(found[1]) if found else 1
+
+
 def difference(checked, part):
-    """What is wrong with what was told of one conflict."""
+    """What is wrong with what was told of one block."""
     names = checked.grammar.names
     head = HEAD.match(part[0])
     state, token = int(head[1]), names.index(head[2])
     taken, left = checked.cells[state, token]
+    for other in others_in(part, names):
+        if checked.cells.get((state, other)) != [taken, left]:
+            return f"other rivals on {names[other]}"
     if taken != (head[3] != "reduce"):
         return "what is taken"
     first, others = (set(), left) if taken else ({left[0]}, left[1:])
@@ -258,11 +280,11 @@ def wrong_kinds(checked, parts, text):
     cells = [(int(state), names.index(token)) for state, token in UNSOUGHT_CELL.findall(text)]
     counts = re.search(r"in (\d+) cells? of (\d+) kinds?", text)
     told = [int(it) for it in counts.groups()] if counts else [0, 0]
-    same = sum(int(it) - 1 for it in re.findall(r"The same in (\d+) states", text))
-    listed = parts + same + len(cells)
+    sizes = [1 + len(others_in(part, names)) for part in parts]
+    listed = sum(map(mul, sizes, map(states_in, parts))) + len(cells)
     fits = listed <= told[0] if cells else listed == told[0]
-    if told != [len(checked.cells), parts + len(cells)] or not fits:
-        return f"{len(checked.cells)} cells, {parts} kinds, {len(cells)} unsought, told {told}"
+    if told != [len(checked.cells), sum(sizes) + len(cells)] or not fits:
+        return f"{len(checked.cells)} cells, {sizes} kinds, {len(cells)} unsought, told {told}"
     if len(cells) != (int(unsought[1]) if unsought else 0) or set(cells) - checked.cells.keys():
         return f"unsought {cells}"
     return None
@@ -281,12 +303,13 @@ def differences(grammar, text):
     wrong = wrong_counts(checked.tables, text) or wrong_trials(checked, text)
     if wrong:
         return wrong
-    return wrong_kinds(checked, len(parts), text)
+    return wrong_kinds(checked, parts, text)
 
 
 # What is counted, so that a run shows that each of it was met.
 COUNTED = {
-    "conflicts": ("\nconflict ",),
+    "blocks": ("\nconflict ",),
+    "with further tokens": OTHERS,
     "in several states": ("  The same in",),
     "lists": ("\n  tokens ",),
     "without what is taken": (" alone:", "without what is taken:"),

@@ -22,6 +22,8 @@ KINDS = ["left", "right", "nonassoc"]
 LOW, HIGH = "LOWEST", "HIGHEST"
 CONFLICT = re.compile(r"conflict \d+: state (\d+) on (\S+): ")
 RIVAL = re.compile(r"  reduce  rule (\d+)")
+FURTHER = re.compile(r"  Also on ")
+SAME = re.compile(r"  The same on ")
 IDLE_TOKEN = re.compile(r"warning: line (\d+): the precedence of (\S+) settles nothing")
 IDLE_RULE = re.compile(r"warning: line \d+: the %prec of rule (\d+) settles nothing")
 
@@ -223,23 +225,63 @@ def judged_warning(draw, line):
     return None
 
 
+class Report:
+    """The lines of a report, and the cell of which they tell."""
+
+    def __init__(self, draw, text):
+        self.draw, self.lines = draw, text.splitlines()
+        self.trial, self.said, self.rest = None, [], []
+
+    def tokens_after(self, at):
+        """The tokens on the lines after one."""
+        rest = self.lines[at + 1 :]
+        end = next((at for at, line in enumerate(rest) if not line.startswith("    ")), len(rest))
+        return [it for line in rest[:end] for it in line.split()]
+
+    def begin(self, state, tokens, rules):
+        """Other cells are told of together, the first one by its name."""
+        self.trial, self.said = Trial(self.draw, state, tokens[0], rules), []
+        self.rest = tokens[1:]
+
+    def judge(self, line, trial):
+        """A hint with whether it holds; none for a hint on the grammar."""
+        cases = cases_of(trial, line.strip())
+        return [] if cases is None else [("hints", line, trial.holds(cases))]
+
+    def same(self, tokens, lines):
+        """Hints that were told, for each further token in place of the cell's."""
+        ours = self.trial
+        for token in tokens:
+            trial = Trial(self.draw, ours.state, token, ours.rules)
+            word = re.compile(rf"(?<!\S){re.escape(ours.token)}(?=[.,:]?(?:\s|$))")
+            for line in lines:
+                yield from self.judge(word.sub(lambda _, it=token: it, line), trial)
+
+    def judged(self):
+        """The lines that were judged, each with whether it holds."""
+        for at, line in enumerate(self.lines):
+            conflict, rival = CONFLICT.match(line), RIVAL.match(line)
+            if conflict:
+                self.begin(int(conflict[1]), [conflict[2]], [])
+            elif FURTHER.match(line) and self.trial:
+                self.begin(self.trial.state, self.tokens_after(at), self.trial.rules)
+            elif rival and self.trial:
+                self.trial.rules.append(int(rival[1]))
+            elif SAME.match(line) and self.trial:
+                yield from self.same(self.tokens_after(at), self.said)
+            elif line.startswith("  To ") and self.trial:
+                self.said.append(line)
+                yield from self.judge(line, self.trial)
+                yield from self.same(self.rest, [line])
+            elif line.startswith("warning: "):
+                holds = judged_warning(self.draw, line)
+                if holds is not None:
+                    yield "warnings", line, holds
+
+
 def judged(draw, text):
     """The lines of a report that were judged, each with whether it holds."""
-    trial = None
-    for line in text.splitlines():
-        conflict, rival = CONFLICT.match(line), RIVAL.match(line)
-        if conflict:
-            trial = Trial(draw, int(conflict[1]), conflict[2], [])
-        elif rival and trial:
-            trial.rules.append(int(rival[1]))
-        elif line.startswith("  To ") and trial:
-            cases = cases_of(trial, line.strip())
-            if cases is not None:
-                yield "hints", line, trial.holds(cases)
-        elif line.startswith("warning: "):
-            holds = judged_warning(draw, line)
-            if holds is not None:
-                yield "warnings", line, holds
+    return Report(draw, text).judged()
 
 
 def main(words):

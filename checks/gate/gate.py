@@ -33,6 +33,7 @@ RUNNERS = (
     ["drivers", "--sessions=200", "--tables=2000"],
     ["compare", SECONDS],
     ["conflicts", SECONDS],
+    ["ambiguities", SECONDS],
     ["hints", SECONDS],
     ["coverage", SECONDS],
     ["texts", SECONDS],

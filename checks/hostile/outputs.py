@@ -216,6 +216,7 @@ def spent(count, programs):
     text = run(it, programs)["stdout"].decode()
     kinds = re.match(r"dense.y: .* of (\d+) kinds\n", text)
     told = len(re.findall(r"^conflict \d+: ", text, re.M))
+    told += sum(map(int, re.findall(r"^  (?:The same|Also) on (\d+) other tokens?,", text, re.M)))
     rest = r"^(\d+) kinds more; the search for their lists of tokens would take too long:$"
     more = re.search(rest, text, re.M)
     counted = kinds and more and told + int(more[1]) == int(kinds[1])

@@ -3,8 +3,8 @@ import random
 from collections import Counter
 from unittest import mock
 
-from checks.comparers import causes, conflicts, coverage, errors, faults, hints, programs, texts
-from checks.comparers import verdicts
+from checks.comparers import ambiguities, causes, conflicts, coverage, errors, faults, hints
+from checks.comparers import programs, texts, verdicts
 from checks.shared.grammars import grammar_of
 from checks.shared.machine import replies_of
 from checks.shared.places import SCENARIOS
@@ -428,3 +428,27 @@ class Coverage(Planted):
         look = lambda it: coverage.wrong_cover(machine, [tokens], it)
         fewer = "".join(text.splitlines(keepends=True)[:-1])
         self.each_caught(look, text, *changed(text, *pairs), fewer)
+
+
+class Ambiguities(Planted):
+    """Sentences and trees that are told of rivals, and aren't so."""
+
+    def look(self, name):
+        """What a scenario's report is, and what is wrong with another."""
+        folder = SCENARIOS / "ydebug/conflicts" / name
+        grammar = grammar_in((folder / "grammar.y").read_bytes())
+        report = (folder / "stdout").read_text()
+        return report, lambda text: ambiguities.differences(grammar, text, Counter())
+
+    def test_two_trees(self):
+        """Another token, a rule of another left side, a leaf too many, one tree twice."""
+        report, look = self.look("dangling-else")
+        lines = report.splitlines()
+        self.each_caught(look, report, *changed(report))
+
+    def test_each_report(self):
+        """All that the scenarios say holds."""
+        for folder in sorted((SCENARIOS / "ydebug/conflicts").iterdir()):
+            if (folder / "grammar.y").exists() and "trees" in (folder / "stdout").read_text():
+                report, look = self.look(folder.name)
+                self.assertIsNone(look(report), folder.name)

@@ -1,9 +1,13 @@
-//! `ydebug conflicts`: each kind of conflict with its rivals, what settled it, and lists of tokens
-//! that get there; then the warnings.
+//! `ydebug conflicts`: the kinds of conflicts of each state with their rivals, what settled them,
+//! and lists of tokens that get there; then the warnings.
 
+use crate::ambiguity::{answers_of, put_answers};
+use crate::ambiguity_text::AmbiguityText;
+use crate::block_text::BlockText;
+use crate::blocks::{Block, Blocks, blocks_of};
 use crate::cause_text::CauseText;
 use crate::causes::causes_of;
-use crate::kinds::{put_counts, put_named, put_states};
+use crate::kinds::{put_counts, put_named};
 use crate::list_text::{ListText, put_unfound};
 use crate::saving::Folder;
 use crate::splitting::{MOST_SPLITS, split_of};
@@ -11,8 +15,9 @@ use crate::warnings::put_warnings;
 use std::alloc::{AllocError, Global};
 use std::io::{self, Write};
 use std::rt::Files;
+use yambiguity::answer::Ambiguities;
 use ycounterexample::finding::{Finding, Seeker, file_tokens};
-use ycounterexample::groups::{Conflicts, Group, Kind};
+use ycounterexample::groups::{Conflicts, Kind};
 use ycounterexample::trial::empty_session;
 use yexplain::lines::Lines;
 use yexplain::reads::grammar_of;
@@ -24,10 +29,7 @@ use yreasons::Reasons;
 use ytables::Tables;
 use yview::page::Page;
 
-/// The most kinds for which lists are made.
-const MOST_GROUPS: usize = 200;
-
-/// The most kinds that are named after those.
+/// The most kinds that are named after those with lists.
 const MOST_NAMED: usize = 1_000;
 
 /// What is asked for: the conflicts of a grammar file, where to keep the lists, and whether a
@@ -53,41 +55,58 @@ struct Report<'a, W, F> {
     splits: usize,
 }
 
-/// Where the tokens of the first kinds come from.
+/// Where the tokens of the first conflicts of blocks come from.
 fn all_sources(
     alloc: Global,
     tables: &Tables,
     lines: &Lines,
-    found: &Conflicts,
+    blocks: &[Block],
 ) -> Result<Vec<Vec<Source>>, AllocError> {
     let reasons = Reasons::of(alloc, tables.automaton())?;
     let mut sources = Vec::new(alloc);
-    for (kind, group) in found.groups.iter().take(MOST_GROUPS) {
-        let asked = kind.cell(*group, tables, lines);
+    for block in blocks {
+        let asked = block.first.cell(tables, lines);
         sources.push(sources_of(alloc, &reasons, asked)?)?;
     }
     Ok(sources)
 }
 
+/// Whether a block is the first one of its state.
+fn begins_state(blocks: &[Block], place: usize) -> bool {
+    let before = place.checked_sub(1).and_then(|place| blocks.get(place));
+    match (before, blocks.get(place)) {
+        (Some(before), Some(block)) => !before.first.is_beside(&block.first),
+        _ => true,
+    }
+}
+
 impl<W: Write, F: Files + AllocGlobal + Clone + Drop> Report<'_, W, F> {
-    /// Writes the conflicts of the first kinds, with their lists, as long as there are steps to
-    /// seek them, and says how many kinds these are.
-    fn put_groups(&mut self, session: &mut Session, found: &Conflicts) -> io::Result<usize> {
-        let sources = all_sources(self.alloc, session.tables(), self.lines, found)?;
-        let mut number: usize = 0;
+    /// Writes the conflicts of the first states, with lists, as long as there are steps to seek
+    /// them, and says how many kinds these are.
+    fn put_blocks(&mut self, session: &mut Session, blocks: &Blocks) -> io::Result<usize> {
+        let list = blocks.list.as_slice();
+        let sources = all_sources(self.alloc, session.tables(), self.lines, list)?;
         let mut seeker = Seeker::new(self.alloc, session)?;
-        for (kind, group) in found.groups.iter().take(MOST_GROUPS) {
-            if !seeker.finder.has_steps() {
-                break;
+        let mut found = Ambiguities::new(self.alloc);
+        for (place, block) in list.iter().enumerate() {
+            if begins_state(list, place) && !seeker.finder.has_steps() {
+                return Ok(block.first.number);
             }
-            let finding = seeker.find(kind, *group)?;
+            let finding = seeker.find(&block.first.kind, block.first.group)?;
+            let answers = answers_of(self.alloc, &mut seeker, &mut found, &block.first, &finding)?;
             let tables = seeker.session.tables();
-            let sources = sources.get(number).map_or(&[][..], Vec::as_slice);
-            number = number.saturating_add(1);
-            self.put_group(tables, number, kind, *group, sources);
-            self.put_finding(tables, number, kind, *group, &finding)?;
+            let sources = sources.get(place).map_or(&[][..], Vec::as_slice);
+            self.put_block(tables, block, sources);
+            self.put_finding(tables, block, &finding)?;
+            let text = AmbiguityText {
+                grammar: grammar_of(tables),
+                lines: self.lines,
+                trees: &found.trees,
+            };
+            put_answers(self.alloc, self.page, text, &answers)?;
+            self.put_further(tables, block);
         }
-        Ok(number)
+        Ok(blocks.kinds)
     }
 
     /// Writes what the conflicts come from, where there are several kinds.
@@ -102,20 +121,13 @@ impl<W: Write, F: Files + AllocGlobal + Clone + Drop> Report<'_, W, F> {
         }
     }
 
-    /// Writes a kind of conflict, why it is settled so, and where its token comes from.
-    fn put_group(
-        &mut self,
-        tables: &Tables,
-        number: usize,
-        kind: &Kind,
-        group: Group,
-        sources: &[Source],
-    ) {
-        let asked = kind.cell(group, tables, self.lines);
-        self.page.end();
-        let _ = write!(self.page, "conflict {number}: ");
-        let _ = explain(self.page, asked);
-        put_states(self.page, group);
+    /// Writes the conflicts of a block, why they are settled so, and where the token of the first
+    /// one comes from.
+    fn put_block(&mut self, tables: &Tables, block: &Block, sources: &[Source]) {
+        let lines = self.lines;
+        let text = BlockText { tables, lines };
+        text.put(self.page, block);
+        let asked = block.first.cell(tables, lines);
         let _ = asked.put_sources(self.page, sources);
     }
 
@@ -131,29 +143,31 @@ impl<W: Write, F: Files + AllocGlobal + Clone + Drop> Report<'_, W, F> {
         }
     }
 
-    /// Writes the lists for a kind of conflict.
-    fn put_finding(
-        &mut self,
-        tables: &Tables,
-        number: usize,
-        kind: &Kind,
-        group: Group,
-        finding: &Finding,
-    ) -> io::Result<()> {
+    /// Writes on which tokens the other conflicts of a block are settled otherwise.
+    fn put_further(&mut self, tables: &Tables, block: &Block) {
+        let lines = self.lines;
+        let text = BlockText { tables, lines };
+        text.put_further(self.page, block);
+    }
+
+    /// Writes the lists for the first conflict of a block.
+    fn put_finding(&mut self, tables: &Tables, block: &Block, finding: &Finding) -> io::Result<()> {
+        let entry = block.first;
+        let number = entry.number.saturating_add(1);
         let text = ListText {
             tables,
             lines: self.lines,
-            kind,
-            group,
+            kind: &entry.kind,
+            group: entry.group,
             lists: finding.lists.len(),
         };
         text.put_merged(self.page, finding);
         if text.is_merged(finding) {
-            self.put_split(tables, kind)?;
+            self.put_split(tables, &entry.kind)?;
         }
         for (part, list) in finding.lists.iter().enumerate() {
             text.put_list(self.page, list);
-            if let Some((tokens, last)) = file_tokens(list, kind.token) {
+            if let Some((tokens, last)) = file_tokens(list, entry.kind.token) {
                 let (name, grammar) = ((number, part), grammar_of(tables));
                 self.folder.keep(self.page, grammar, name, tokens, last)?;
             }
@@ -162,13 +176,14 @@ impl<W: Write, F: Files + AllocGlobal + Clone + Drop> Report<'_, W, F> {
         self.page.checked()
     }
 
-    /// Names the kinds for which no lists are made: those after so many.
-    fn put_rest(&mut self, tables: &Tables, found: &Conflicts, first: usize) {
+    /// Names the kinds for which no lists are made: those after so many, which are all that stand
+    /// in blocks, or fewer.
+    fn put_rest(&mut self, tables: &Tables, found: &Conflicts, first: usize, all: usize) {
         let rest = found.groups.len().saturating_sub(first);
         if rest > 0 {
             self.page.end();
             self.page.count(rest, "kind", "kinds");
-            self.page.line(if first < MOST_GROUPS {
+            self.page.line(if first < all {
                 " more; the search for their lists of tokens would take too long:"
             } else {
                 " more, without lists of tokens:"
@@ -225,8 +240,9 @@ fn put_lists<'a, W: Write, F: Files + AllocGlobal + Clone + Drop>(
     report.folder.clear()?;
     if found.cells > 0 {
         report.folder.make()?;
-        let first = report.put_groups(session, found)?;
-        report.put_rest(session.tables(), found, first);
+        let blocks = blocks_of(report.alloc, session.tables(), lines, found)?;
+        let first = report.put_blocks(session, &blocks)?;
+        report.put_rest(session.tables(), found, first, blocks.kinds);
     }
     let Report { folder, .. } = report;
     let Folder { failed, .. } = folder;

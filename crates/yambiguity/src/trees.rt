@@ -1,0 +1,209 @@
+//! Trees of rules, by their numbers.
+
+use crate::stacks::Deed;
+use std::alloc::Global;
+use yexplain::reads::{Made, body_of, left_of};
+use ysymbols::{Grammar, Sym};
+
+/// The most nodes that are gone over for one answer.
+pub const MOST_NODES: usize = 20_000;
+
+/// The root of a tree.
+#[derive(Clone, Copy, Drop)]
+pub struct Node {
+    /// Its symbol.
+    pub symbol: Sym,
+    /// The rule by which its children are below it; none for a token.
+    pub rule: Option<usize>,
+    /// Whether it stands for any tree of its symbol, of which it has a smallest one.
+    pub stands: bool,
+    start: usize,
+    end: usize,
+}
+
+/// Trees, of which the larger ones share the smaller.
+#[derive(Drop)]
+pub struct Trees {
+    nodes: Vec<Node>,
+    children: Vec<usize>,
+}
+
+impl Trees {
+    /// No trees.
+    pub fn new(alloc: Global) -> Trees {
+        Trees {
+            nodes: Vec::new(alloc),
+            children: Vec::new(alloc),
+        }
+    }
+
+    /// The root of a tree.
+    pub fn node(&self, tree: usize) -> Option<Node> {
+        self.nodes.get(tree).copied()
+    }
+
+    /// The symbol of a tree.
+    pub fn symbol(&self, tree: usize) -> Option<Sym> {
+        self.nodes.get(tree).map(|node| node.symbol)
+    }
+
+    /// The children of a tree.
+    pub fn children(&self, tree: usize) -> &[usize] {
+        match self.nodes.get(tree) {
+            Some(node) => self.children.get(node.start..node.end).unwrap_or(&[]),
+            None => &[],
+        }
+    }
+
+    /// Adds a token.
+    pub fn leaf(&mut self, token: Sym) -> Made<usize> {
+        self.add(token, None, &[], true)
+    }
+
+    /// Adds a tree of a rule, and says its number.
+    pub fn add(
+        &mut self,
+        symbol: Sym,
+        rule: Option<usize>,
+        children: &[usize],
+        stands: bool,
+    ) -> Made<usize> {
+        let number = self.nodes.len();
+        let start = self.children.len();
+        self.children.extend_from_slice(children)?;
+        self.nodes.push(Node {
+            symbol,
+            rule,
+            stands,
+            start,
+            end: self.children.len(),
+        })?;
+        Ok(number)
+    }
+
+    /// Puts trees below the left side of a rule, where there are as many as its body has symbols:
+    /// the last ones of a stack.
+    fn reduce(&mut self, grammar: &Grammar, stack: &mut Vec<usize>, rule: usize) -> Made<bool> {
+        let rest = stack.len().checked_sub(body_of(grammar, rule).len());
+        let (Some(rest), Some(left)) = (rest, left_of(grammar, rule)) else {
+            return Ok(false);
+        };
+        let tree = self.add(left, Some(rule), stack.get(rest..).unwrap_or(&[]), false)?;
+        stack.truncate(rest);
+        stack.push(tree)?;
+        Ok(true)
+    }
+
+    /// The tree that a parse makes, where it is one: the leaves stand for the symbols that it
+    /// shifts.
+    pub fn made(
+        &mut self,
+        alloc: Global,
+        grammar: &Grammar,
+        deeds: &[Deed],
+        leaves: &[usize],
+    ) -> Made<Option<usize>> {
+        let mut stack = Vec::new(alloc);
+        let mut rest = leaves.iter();
+        for deed in deeds {
+            let is_done = match deed {
+                Deed::Reduce(rule) => self.reduce(grammar, &mut stack, *rule)?,
+                Deed::Shift(_) => match rest.next() {
+                    Some(leaf) => {
+                        stack.push(*leaf)?;
+                        true
+                    }
+                    None => false,
+                },
+            };
+            if !is_done {
+                return Ok(None);
+            }
+        }
+        let is_one = stack.len() == 1;
+        Ok(stack.pop().filter(|_| is_one))
+    }
+
+    /// Whether two trees are equal; trees with more than so many nodes never are.
+    pub fn are_equal(&self, alloc: Global, one: usize, other: usize) -> Made<bool> {
+        let mut open = Vec::new(alloc);
+        open.push((one, other))?;
+        for _ in 0..MOST_NODES {
+            let Some((one, other)) = open.pop() else {
+                return Ok(true);
+            };
+            if one != other {
+                if !self.have_equal_roots(one, other) {
+                    return Ok(false);
+                }
+                for pair in self.children(one).iter().zip(self.children(other)) {
+                    open.push((*pair.0, *pair.1))?;
+                }
+            }
+        }
+        Ok(false)
+    }
+
+    /// Whether the roots of two trees are equal, with as many children.
+    fn have_equal_roots(&self, one: usize, other: usize) -> bool {
+        match (self.node(one), self.node(other)) {
+            (Some(ours), Some(theirs)) => {
+                ours.symbol == theirs.symbol
+                    && ours.rule == theirs.rule
+                    && self.children(one).len() == self.children(other).len()
+            }
+            _ => false,
+        }
+    }
+
+    /// How many leaves a tree has as it is drawn.
+    fn width(&self, alloc: Global, tree: usize) -> Made<usize> {
+        let mut open = Vec::new(alloc);
+        open.push(tree)?;
+        let mut width: usize = 0;
+        for _ in 0..MOST_NODES {
+            let Some(tree) = open.pop() else {
+                break;
+            };
+            if self.node(tree).is_some_and(|node| node.stands) {
+                width = width.saturating_add(1);
+            } else {
+                open.extend_from_slice(self.children(tree))?;
+            }
+        }
+        Ok(width)
+    }
+
+    /// Goes down from two trees with equal roots to the children that differ, where these are two,
+    /// and counts the leaves before them.
+    fn narrower(&self, alloc: Global, both: (usize, usize)) -> Made<Option<(usize, usize, usize)>> {
+        if !self.have_equal_roots(both.0, both.1) {
+            return Ok(None);
+        }
+        let mut found = None;
+        let mut before: usize = 0;
+        for (one, other) in self.children(both.0).iter().zip(self.children(both.1)) {
+            if !self.are_equal(alloc, *one, *other)? {
+                if found.is_some() {
+                    return Ok(None);
+                }
+                found = Some((*one, *other, before));
+            }
+            before = before.saturating_add(self.width(alloc, *one)?);
+        }
+        Ok(found)
+    }
+
+    /// The least trees in which two trees of one sentence differ, and how many leaves stand before
+    /// these.
+    pub fn least(&self, alloc: Global, both: (usize, usize)) -> Made<(usize, usize, usize)> {
+        let mut least = (both.0, both.1, 0usize);
+        for _ in 0..MOST_NODES {
+            let Some((one, other, before)) = self.narrower(alloc, (least.0, least.1))? else {
+                break;
+            };
+            least = (one, other, least.2.saturating_add(before));
+        }
+        Ok(least)
+    }
+}

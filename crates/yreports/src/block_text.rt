@@ -1,0 +1,115 @@
+//! A block of conflicts as it is written, but for the lists of tokens that get to it.
+
+use crate::blocks::{Block, Class, Entry};
+use crate::kinds::put_states;
+use std::io::Write;
+use yexplain::lines::Lines;
+use yexplain::reads::{grammar_of, name_of};
+use yexplain::text::Name;
+use yexplain::why::explain;
+use ytables::Tables;
+use yview::page::Page;
+
+/// How far tokens are indented, and how long their lines are.
+const INDENT: usize = 4;
+
+const WIDTH: usize = 78;
+
+/// What blocks are written with.
+#[derive(Clone, Copy)]
+pub struct BlockText<'a> {
+    /// The tables.
+    pub tables: &'a Tables,
+    /// Where rules stand in the file.
+    pub lines: &'a Lines,
+}
+
+/// The number of a conflict in the report, where there is one.
+fn number_of(entry: Option<&Entry>) -> Option<usize> {
+    entry.map(|entry| entry.number.saturating_add(1))
+}
+
+/// Writes the numbers of conflicts, those that follow one another as a range:
+/// `conflicts 2 to 4, 7`.
+fn put_numbers<W: Write>(page: &mut Page<W>, entries: &[Entry]) {
+    let many = entries.len() > 1;
+    page.put(if many { "conflicts" } else { "conflict" });
+    let mut front = " ";
+    let mut before: Option<usize> = None;
+    for (place, entry) in entries.iter().enumerate() {
+        let number = entry.number.saturating_add(1);
+        let follows = before == Some(entry.number);
+        let next = number_of(entries.get(place.saturating_add(1)));
+        let goes_on = next == Some(number.saturating_add(1));
+        if !follows {
+            let _ = write!(page, "{front}{number}");
+            front = ", ";
+        } else if !goes_on {
+            let _ = write!(page, " to {number}");
+        }
+        before = Some(number);
+    }
+}
+
+impl BlockText<'_> {
+    /// Writes the tokens of conflicts on lines of their own.
+    fn put_tokens<W: Write>(self, page: &mut Page<W>, entries: &[Entry]) {
+        let grammar = grammar_of(self.tables);
+        page.spaces(INDENT - 1);
+        for entry in entries {
+            let token = entry.kind.token;
+            let width = page.column().saturating_add(name_of(grammar, token).len());
+            if width >= WIDTH && page.column() >= INDENT {
+                page.end();
+                page.spaces(INDENT - 1);
+            }
+            let _ = write!(page, " {}", Name(grammar, token));
+        }
+        page.end();
+    }
+
+    /// Writes the tokens and numbers of conflicts after some words.
+    fn put_others<W: Write>(self, page: &mut Page<W>, entries: &[Entry], words: (&str, &str)) {
+        page.put(words.0);
+        page.count(entries.len(), "other token", "other tokens");
+        page.put(words.1);
+        put_numbers(page, entries);
+        page.line(":");
+        self.put_tokens(page, entries);
+    }
+
+    /// Writes on which further tokens the same was said as on the first one of a class.
+    fn put_same<W: Write>(self, page: &mut Page<W>, class: &Class) {
+        let rest = class.entries.get(1..).unwrap_or(&[]);
+        if !rest.is_empty() {
+            self.put_others(page, rest, ("  The same on ", ", "));
+        }
+    }
+
+    /// Writes a further class: its tokens, and what is said of the first of them.
+    fn put_class<W: Write>(self, page: &mut Page<W>, class: &Class) {
+        let words = ("  Also on ", ", ");
+        self.put_others(page, &class.entries, words);
+        let _ = page.write_all(&class.reason);
+    }
+
+    /// Writes the first conflict of a block, why it is settled so, and on which tokens it is the
+    /// same.
+    pub fn put<W: Write>(self, page: &mut Page<W>, block: &Block) {
+        let entry = block.first;
+        page.end();
+        let _ = write!(page, "conflict {}: ", entry.number.saturating_add(1));
+        let _ = explain(page, entry.cell(self.tables, self.lines));
+        if let Some(class) = block.classes.first() {
+            self.put_same(page, class);
+        }
+        put_states(page, entry.group);
+    }
+
+    /// Writes what is said on the tokens of a block on which it is otherwise than on the first one.
+    pub fn put_further<W: Write>(self, page: &mut Page<W>, block: &Block) {
+        for class in block.classes.get(1..).unwrap_or(&[]) {
+            self.put_class(page, class);
+        }
+    }
+}
