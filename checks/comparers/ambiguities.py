@@ -149,10 +149,12 @@ def read_words(words, names):
 
 
 def tree_in(lines, names):
-    """A drawn tree: a list of its root's name, its rule, and its children."""
+    """A drawn tree: a list of its root's name, its rule, and its children; or a leaf alone."""
     stack, top = [], None
     for line in lines:
         root = ROOT.fullmatch(line)
+        if not root and not stack:
+            return next(names.index(it) for it in line.split() if it != ".")
         level = (len((root or LEAVES.fullmatch(line))[1]) - INDENT) // STEP
         del stack[level:]
         if root:
