@@ -94,7 +94,12 @@ impl CauseText<'_> {
         let go = if settles == 1 { "conflicts goes" } else { "conflicts go" };
         write!(out, "  {settles} of {all} {go} without {rule}: what it derives comes of ")?;
         for (place, rule) in covered.by.iter().enumerate() {
-            let front = if place == 0 { "" } else { ", " };
+            let is_last = place.saturating_add(1) == covered.by.len();
+            let front = match place {
+                0 => "",
+                _ if is_last => " and ",
+                _ => ", ",
+            };
             let rule = Numbered(self.lines, *rule);
             write!(out, "{front}{rule}")?;
         }
