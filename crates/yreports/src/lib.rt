@@ -13,4 +13,4 @@ pub mod report;
 pub mod saving;
 mod tried;
 mod unused;
-mod warnings;
+pub mod warnings;
