@@ -13,6 +13,7 @@ GROUPS = {
     "comparisons with machines in Python": {
         "compare": "comparers.programs",
         "conflicts": "comparers.conflicts",
+        "documents": "comparers.documents",
         "hints": "comparers.hints",
         "texts": "comparers.texts",
         "verdicts": "comparers.verdicts",

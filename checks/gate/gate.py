@@ -33,6 +33,7 @@ RUNNERS = (
     ["drivers", "--sessions=200", "--tables=2000"],
     ["compare", SECONDS],
     ["conflicts", SECONDS],
+    ["documents", SECONDS],
     ["hints", SECONDS],
     ["texts", SECONDS],
     ["verdicts"],

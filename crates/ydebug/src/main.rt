@@ -7,11 +7,12 @@
 //! programs that read its table, and `ydebug table` writes that as `yacc` does.
 //!
 //! `forms` has the arguments of the forms, and `near` what could be meant by others. `check`,
-//! `tokens`, `sketch` and `table` are forms; the others have a crate each. What the forms are given
+//! `conflicts`, `tokens`, `sketch` and `table` are forms; the others have a crate each. What the forms are given
 //! is opened by `yinput`.
 #![tactic(auto)]
 
 mod check;
+mod conflicts;
 mod forms;
 mod near;
 mod sketch;
@@ -19,6 +20,7 @@ mod table;
 mod tokens;
 
 use crate::check::run_check;
+use crate::conflicts::run_conflicts;
 use crate::forms::{FORMS, Form, USAGE, command_of, form_of, name_of};
 use crate::near::{put_near_arguments, put_near_form};
 use crate::sketch::run_sketch;
@@ -33,13 +35,12 @@ use std::process::ExitCode;
 use ybison::import::{Asked as Import, run_import};
 use ydebugger::{Setting, debug};
 use yfiles::reading::{LONGEST_INPUT, Limited};
-use yinput::grammars::{GrammarFile, open_file};
+use yinput::grammars::GrammarFile;
 use yinput::language::LanguageFiles;
 use yinput::source::Source;
 use ymessages::run::{Asked as Errors, run_errors};
 use ypage::page::{self, run_page};
 use ypage::walk::Part;
-use yreports::report::{Asked, put_conflicts};
 use yrules::run::{Asked as Rules, run_rules};
 
 /// The exit status of a program that a signal ends since its pipe has no reader any more.
@@ -180,21 +181,16 @@ fn report<W: Write>(
     matches: &ArgMatches<'_>,
     out: &mut W,
 ) -> Result<u8, Refused> {
-    let file = grammar_in(matches)?;
-    let asked = Asked {
-        grammar: file.path,
+    let asked = conflicts::Asked {
+        grammar: grammar_in(matches)?,
         save: matches.get_str("save"),
         strict: is_given(matches, "strict"),
+        expect: matches.get_str("expect"),
+        accept: matches.get_str("accept"),
+        update: is_given(matches, "update"),
+        format: matches.get_str("format"),
     };
-    if asked.save == Some("") {
-        rt.stderr()
-            .write_all(b"ydebug: --save wants the name of a folder\n")?;
-        return Ok(2);
-    }
-    match open_file(rt, file, &mut rt.stderr())? {
-        Ok(opened) => Ok(put_conflicts(rt, out, &mut rt.stderr(), asked, opened)?),
-        Err(status) => Ok(status),
-    }
+    Ok(run_conflicts(rt, asked, out, &mut rt.stderr())?)
 }
 
 /// Verdicts on inputs.
@@ -210,6 +206,7 @@ fn check_files<W: Write>(
         choice: is_given(matches, "choice"),
         plain: is_given(matches, "plain"),
         most: most_of(matches)?,
+        format: matches.get_str("format"),
     };
     Ok(run_check(rt, asked, &mut rt.stdin(), out, &mut rt.stderr())?)
 }
