@@ -5,7 +5,7 @@ use crate::document::Said;
 use crate::format::Format;
 use crate::inputs::{InputSheet, Judged, judged, refused};
 use crate::places::place_fault;
-use crate::told::{About, add_all};
+use crate::told::{About, add_all, checked};
 use std::alloc::{AllocError, Global};
 use std::io::{self, Read, Write};
 use std::rt::Files;
@@ -261,6 +261,7 @@ pub fn run_checking<F: Files + AllocGlobal, R: Read, W: Write>(
     match opened {
         Ok(told) => put_inputs(rt, asked, stdin, &told, &notes, out),
         Err(status) => {
+            checked(&notes)?;
             let mut diagnostics = asked.told(rt.alloc(), &notes, Severity::Error)?;
             if !asked.files.grammar.bison {
                 place_fault(rt, asked.files.grammar.path, &mut diagnostics);

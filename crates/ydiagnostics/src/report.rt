@@ -5,7 +5,7 @@ use crate::document::{ConflictSheet, Said};
 use crate::format::Format;
 use crate::kinds::Shown;
 use crate::places::{columns_of, place_fault};
-use crate::told::{About, add_all};
+use crate::told::{About, add_all, checked};
 use std::alloc::{AllocError, Global};
 use std::io::{self, Write};
 use std::rt::Files;
@@ -327,6 +327,7 @@ pub fn run_report<F: Files + AllocGlobal, W: Write>(
     match opened {
         Ok(counted) => put_counted(rt, asked, counted, &told, out),
         Err(status) => {
+            checked(&told)?;
             let mut diagnostics = asked.told(rt.alloc(), &told, Severity::Error)?;
             if !asked.file.bison {
                 place_fault(rt, asked.file.path, &mut diagnostics);

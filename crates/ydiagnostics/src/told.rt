@@ -119,6 +119,15 @@ impl<'a> About<'a> {
     }
 }
 
+/// Lines that say why a file isn't taken, as an error where they say that memory ran out: that is
+/// told in no form.
+pub fn checked(text: &[u8]) -> io::Result<()> {
+    if text.ends_with(b"ydebug: no memory\n") {
+        return Err(io::Error::from(ErrorKind::OutOfMemory));
+    }
+    Ok(())
+}
+
 /// Adds diagnostics to others.
 pub fn add_all(all: &mut Vec<Diagnostic>, more: Vec<Diagnostic>) -> Result<(), AllocError> {
     for diagnostic in more {
