@@ -219,9 +219,9 @@ fn put_text<F: Files + AllocGlobal, R: Read, W: Write, E: Write>(
 }
 
 /// Writes what is asked for, and gives the exit status: 0 where all inputs are accepted, 1 where
-/// the grammar, the SPEC, the file of messages or an input is refused or one isn't accepted, 2 where the arguments are refused, 3 where
-/// one can't be read, or memory runs out. Faults of the grammar, the SPEC and the file of messages
-/// go to `errors`.
+/// the grammar, the SPEC, the file of messages or an input is refused or one isn't accepted, 2
+/// where the arguments are refused, 3 where one can't be read, or memory runs out. Faults of the
+/// grammar, the SPEC and the file of messages go to `errors`.
 pub fn run_check<F: Files + AllocGlobal, R: Read, W: Write, E: Write>(
     rt: &F,
     asked: Asked<'_>,

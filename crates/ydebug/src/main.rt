@@ -7,8 +7,8 @@
 //! programs that read its table, and `ydebug table` writes that as `yacc` does.
 //!
 //! `forms` has the arguments of the forms, and `near` what could be meant by others. `check`,
-//! `conflicts`, `tokens`, `sketch` and `table` are forms; the others have a crate each. What the forms are given
-//! is opened by `yinput`.
+//! `conflicts`, `tokens`, `sketch` and `table` are forms; the others have a crate each. What the
+//! forms are given is opened by `yinput`.
 #![tactic(auto)]
 
 mod check;

@@ -189,8 +189,8 @@ impl Asked<'_> {
         about.take(alloc, text)
     }
 
-    /// Opens the file of messages, where there is one. Where it is refused, that is written, and the
-    /// exit status is the answer.
+    /// Opens the file of messages, where there is one. Where it is refused, that is written, and
+    /// the exit status is the answer.
     fn with_messages<F: Files + AllocGlobal, E: Write>(
         self,
         rt: &F,

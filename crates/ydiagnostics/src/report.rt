@@ -315,8 +315,8 @@ fn put_counted<F: Files + AllocGlobal, W: Write>(
     }
 }
 
-/// Writes what is asked for, and gives the exit status, as `ydebug conflicts` does. All that is said
-/// goes to `out`.
+/// Writes what is asked for, and gives the exit status, as `ydebug conflicts` does. All that is
+/// said goes to `out`.
 pub fn run_report<F: Files + AllocGlobal, W: Write>(
     rt: &F,
     asked: Asked<'_>,
