@@ -7,7 +7,7 @@
 # make refuse     refuses allocations of a run, each once and each with all later ones, on every example and some scenarios, and counts those of each line of every session; FILES="a.y b.y" refuses some thousands over these grammar files instead
 # make debug      refuses the allocations of twelve sessions and sixteen commands of ydebug in turn, gives it 100,000 random command lines over random grammars, and shows its screens at a terminal, which needs tmux
 # make page-test  steps through the pages of every example in a headless browser, which apt-get installs where it is missing, and compares them with ystep; keeps pictures in screenshots/
-# make compare    compares the programs that make build left with plain machines in Python, on grammars drawn at random, for a minute, its reports on conflicts with all canonical sets, verdicts with sessions over every scenario, errors with a search over all stacks, texts with a lexer in Python, what hints and warnings on conflicts say with changed grammars, and sentences and what they use, for a minute each; FILES="a.y b.y" adds these, cut off and spoiled, with a second reader
+# make compare    compares the programs that make build left with plain machines in Python, on grammars drawn at random, for a minute, its reports on conflicts with all canonical sets and with what it says for programs, verdicts with sessions over every scenario, errors with a search over all stacks, texts with a lexer in Python, and what hints and warnings on conflicts say with changed grammars, for a minute each; FILES="a.y b.y" adds these, cut off and spoiled, with a second reader
 # make parsers    compares the steps of parsers that ycc makes with those of ystep, over scenarios and 2,000 grammars at random, their messages for errors with those of ydebug, and builds the calculator of examples/calculator-c in every way; some minutes
 # make features   builds small programs, each of which uses a feature of bison's or byacc's files, by the peer and by ycc, and compares what they do; it takes bison, byacc and a C compiler; some minutes
 # make packages   builds some source packages of Debian with parsers that ycc makes and with those of byacc or bison, runs their own tests, and gives both builds 300 spoiled inputs for each program; PACKAGES="bc units" names some. It takes a network, byacc, bison, flex, cmake, automake and meson
@@ -69,6 +69,7 @@ page-test: build
 compare:
 	@$(checks) compare $(call at,yacc ystep)
 	@$(checks) conflicts $(call at,ydebug)
+	@$(checks) documents $(call at,ydebug)
 	@$(checks) verdicts $(call at,ydebug ystep)
 	@$(checks) errors $(call at,ydebug ystep)
 	@$(checks) texts $(call at,ydebug)

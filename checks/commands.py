@@ -14,6 +14,7 @@ GROUPS = {
         "compare": "comparers.programs",
         "conflicts": "comparers.conflicts",
         "ambiguities": "comparers.ambiguities",
+        "documents": "comparers.documents",
         "hints": "comparers.hints",
         "texts": "comparers.texts",
         "verdicts": "comparers.verdicts",

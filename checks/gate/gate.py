@@ -34,6 +34,7 @@ RUNNERS = (
     ["compare", SECONDS],
     ["conflicts", SECONDS],
     ["ambiguities", SECONDS],
+    ["documents", SECONDS],
     ["hints", SECONDS],
     ["coverage", SECONDS],
     ["texts", SECONDS],

@@ -4,7 +4,8 @@ from collections import Counter
 from unittest import mock
 
 from checks.comparers import (
-    ambiguities, causes, conflicts, coverage, errors, faults, hints, programs, texts, verdicts
+    ambiguities, causes, conflicts, coverage, documents, errors, faults, hints, programs, texts,
+    verdicts
 )
 from checks.shared.grammars import grammar_of
 from checks.shared.machine import replies_of
@@ -155,6 +156,51 @@ class Conflicts(Planted):
         longer = report.replace("IF ID IF ID ID ';' .", "IF ID IF ID IF ID ID ';' .")
         none = "grammar.y: no conflicts\n"
         self.each_caught(look, report, longer, none, report.replace("in 1 cell of 1 kind", ""))
+
+
+class Documents(Planted):
+    """Documents and lines that say something else than the report."""
+
+    def setUp(self):
+        """Reads a report, and the same as a document and as lines."""
+        super().setUp()
+        several = SCENARIOS / "ydebug/conflicts/a-list-for-each-rule"
+        self.source = (several / "grammar.y").read_bytes()
+        self.report = (several / "stdout").read_text()
+        self.document = (SCENARIOS / "ydebug/machine/json-several/stdout").read_text()
+        self.lines = (SCENARIOS / "ydebug/machine/gcc-several-kinds/stdout").read_text()
+
+    def look(self, document):
+        """What is wrong with a document whose lines are as they should be."""
+        return documents.differences(self.source, self.report, document, self.lines)
+
+    def test_each_change(self):
+        """Counts, states, tokens, rules, lists, columns and warnings that are others."""
+        pairs = [('"shift_reduce":2', '"shift_reduce":1'), ('"cells":2', '"cells":3')]
+        pairs += [('"state":4,', '"state":5,'), ('"states":1', '"states":2'), ('"last":4', '"last":5')]
+        pairs += [('"token":"E"', '"token":"B"'), ('"taken":"shift"', '"taken":"reduce"')]
+        pairs += [('"rule":10,', '"rule":11,'), ('"text":"x: A"', '"text":"x: B"')]
+        pairs += [('"line":14,"column":1', '"line":15,"column":1'), ('"column":1,', '"column":2,')]
+        pairs += [('"tokens":["C","A"]', '"tokens":["C"]'), ('"rules":[9]', '"rules":[10]')]
+        pairs += [('"both":false', '"both":true'), ('"version":1', '"version":2')]
+        pairs += [("is never reduced", "is never used"), ('"form":"conflicts"', '"form":"check"')]
+        self.each_caught(self.look, self.document, *changed(self.document, *pairs))
+
+    def test_lines(self):
+        """A line too few, another place, another severity."""
+        look = lambda it: documents.differences(self.source, self.report, self.document, it)
+        pairs = [("grammar.y:14:1:", "grammar.y:14:2:"), ("warning: ", "note: "), ("rule 9", "rule 8")]
+        less = self.lines.split("\n", 1)[1]
+        self.each_caught(look, self.lines, *changed(self.lines, *pairs), less)
+
+    def test_verdicts(self):
+        """Another verdict, number or token than the plain line has."""
+        sheet = {"verdict": "rejected", "steps": None, "number": 2, "token": "B", "expected": ["A"]}
+        plain, tokens = "inputs/0: rejected at token 2", ["A", "B"]
+        wrong = lambda it: documents.wrong_verdict(plain, it) or documents.wrong_token(tokens, it)
+        others = [{"verdict": "accepted", "steps": 2}, {"number": 1}, {"token": "A"}]
+        others += [{"expected": ["A", "B"]}, {"verdict": "undecided"}]
+        self.each_caught(wrong, sheet, *(sheet | it for it in others))
 
 
 class Hints(Planted):

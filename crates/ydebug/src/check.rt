@@ -3,8 +3,10 @@
 use std::alloc::Global;
 use std::io::{self, ErrorKind, Read, Write};
 use std::rt::Files;
+use ydiagnostics::checking::{self, bytes_of, run_checking};
+use ydiagnostics::format::{Format, NO_FORM, form_of};
 use yexplain::reads::grammar_of;
-use yfiles::reading::{Limited, all_bytes};
+use yfiles::reading::Limited;
 use yinput::fault::Fault;
 use yinput::language::{Input, Language, LanguageFiles};
 use yinput::verdict::{Verdict, verdict_on};
@@ -27,19 +29,8 @@ pub struct Asked<'a> {
     pub plain: bool,
     /// The most bytes of an input.
     pub most: u64,
-}
-
-/// All bytes of a file, or of standard input where the path is a dash; `None` where there are
-/// more than it may have.
-pub fn bytes_of<F: Files + AllocGlobal, R: Read>(
-    rt: &F,
-    input: &mut R,
-    file: Limited<'_>,
-) -> io::Result<Option<Vec<u8>>> {
-    match file.path {
-        "-" => all_bytes(rt.alloc(), input, file.most),
-        _ => file.bytes(rt),
-    }
+    /// The form of what is said; without it, it is for people.
+    pub format: Option<&'a str>,
 }
 
 /// A language, and the messages for its errors, where there are some.
@@ -196,11 +187,18 @@ impl Asked<'_> {
     }
 }
 
-/// Writes what is asked for, and gives the exit status: 0 where all inputs are accepted, 1 where
-/// the grammar, the SPEC, the file of messages or an input is refused or one isn't accepted, 3 where
-/// one can't be read, or memory runs out. Faults of the grammar, the SPEC and the file of messages
-/// go to `errors`.
-pub fn run_check<F: Files + AllocGlobal, R: Read, W: Write, E: Write>(
+/// What is wrong with arguments.
+fn wrong_in(asked: Asked<'_>) -> Option<&'static str> {
+    match form_of(asked.format) {
+        None => Some(NO_FORM),
+        Some(Format::Text) => None,
+        Some(_) if asked.plain || asked.choice => Some("--choice and --plain want --format text"),
+        Some(_) => None,
+    }
+}
+
+/// Writes what is asked for, for people, and gives the exit status.
+fn put_text<F: Files + AllocGlobal, R: Read, W: Write, E: Write>(
     rt: &F,
     asked: Asked<'_>,
     stdin: &mut R,
@@ -217,5 +215,35 @@ pub fn run_check<F: Files + AllocGlobal, R: Read, W: Write, E: Write>(
             asked.put_all(rt, stdin, out, &told)
         }
         Err(status) => Ok(status),
+    }
+}
+
+/// Writes what is asked for, and gives the exit status: 0 where all inputs are accepted, 1 where
+/// the grammar, the SPEC, the file of messages or an input is refused or one isn't accepted, 2
+/// where the arguments are refused, 3 where one can't be read, or memory runs out. Faults of the
+/// grammar, the SPEC and the file of messages go to `errors`.
+pub fn run_check<F: Files + AllocGlobal, R: Read, W: Write, E: Write>(
+    rt: &F,
+    asked: Asked<'_>,
+    stdin: &mut R,
+    out: &mut W,
+    errors: &mut E,
+) -> io::Result<u8> {
+    if let Some(wrong) = wrong_in(asked) {
+        writeln!(errors, "ydebug: {wrong}")?;
+        return Ok(2);
+    }
+    match form_of(asked.format) {
+        Some(Format::Text) | None => put_text(rt, asked, stdin, out, errors),
+        Some(format) => {
+            let asked = checking::Asked {
+                files: asked.files,
+                inputs: asked.inputs,
+                messages: asked.messages,
+                most: asked.most,
+                format,
+            };
+            run_checking(rt, asked, stdin, out)
+        }
     }
 }

@@ -1,12 +1,12 @@
 //! `ydebug cover`: what inputs use of the tables of a grammar, and what none of them uses.
 
-use crate::check::bytes_of;
 use std::alloc::{AllocError, Global};
 use std::io::{self, Read, Write};
 use std::rt::Files;
 use ycover::elements::Elements;
 use ycover::report::put_report;
 use ycover::walk::{Walked, Walker};
+use ydiagnostics::checking::bytes_of;
 use yexplain::lines::Lines;
 use yexplain::reads::grammar_of;
 use yfaults::opening::Opened;

@@ -8,8 +8,10 @@ pub const USAGE: &str = "usage: ydebug grammar tokens [--lex SPEC]\n";
 
 /// The other forms, and what holds of all, as help and usage have them.
 pub const FORMS: &str = "Other forms:\n\
-    \x20 ydebug conflicts grammar [--save FOLDER] [--strict]\n\
+    \x20 ydebug conflicts grammar [--save FOLDER] [--strict] [--expect N[,M]]\n\
+    \x20     [--accept FILE [--update]] [--format FORM]\n\
     \x20 ydebug check grammar tokens.. [--lex SPEC] [--messages FILE] [--choice] [--plain]\n\
+    \x20     [--format FORM]\n\
     \x20 ydebug errors grammar [--messages FILE [--complete] [--update | --table OUT]]\n\
     \x20 ydebug sentences grammar [--cover KIND] [--near] [--save FOLDER] [--strict]\n\
     \x20 ydebug sentences grammar --random N [--length L] [--seed S] [--near] [--save FOLDER]\n\
@@ -96,13 +98,20 @@ const LIMIT: &str = "--limit N: The most bytes of an input; without it, 16777216
 
 const FROM: &str = "--from FORM: bison: the grammar is a file of bison or byacc";
 
+const FORMAT: &str =
+    "--format FORM: gcc: a line for each thing; json: a document; text: for people";
+
 const DEBUG: &[&str] = &[GRAMMAR, INPUT, LEX, LIMIT, FROM];
 
 const CONFLICTS: &[&str] = &[
     GRAMMAR,
     "--save save: Writes the tokens of each conflict to a file of this folder",
     FROM,
-    "--strict: Ends with 1 where there is a conflict or a warning",
+    "--strict: Ends with 1 where a conflict isn't accepted, or there is a warning",
+    "--expect N: Accepts N shift/reduce conflicts; with N,M also M reduce/reduce ones",
+    "--accept FILE: Accepts the conflicts that this file lists",
+    "--update: Writes the list of accepted conflicts anew",
+    FORMAT,
 ];
 
 const MESSAGES: &str = "--messages FILE: A file of messages";
@@ -118,6 +127,7 @@ const CHECK: &[&str] = &[
     MESSAGES,
     "--choice: Says whether the grammar is free of choices",
     "--plain: Writes a plain line for the grammar and for each input",
+    FORMAT,
 ];
 
 const ERRORS: &[&str] = &[

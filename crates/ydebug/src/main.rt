@@ -8,11 +8,12 @@
 //! programs that read its table, and `ydebug table` writes that as `yacc` does.
 //!
 //! `forms` has the arguments of the forms, `given` reads what they say, and `near` has what could be
-//! meant by others. `check`, `cover`, `tokens`, `sketch` and `table` are forms; the others have a
-//! crate each. What the forms are given is opened by `yinput`.
+//! meant by others. `check`, `conflicts`, `cover`, `tokens`, `sketch` and `table` are forms; the
+//! others have a crate each. What the forms are given is opened by `yinput`.
 #![tactic(auto)]
 
 mod check;
+mod conflicts;
 mod cover;
 mod forms;
 mod given;
@@ -22,6 +23,7 @@ mod table;
 mod tokens;
 
 use crate::check::run_check;
+use crate::conflicts::run_conflicts;
 use crate::cover::run_cover;
 use crate::forms::{FORMS, Form, USAGE, command_of, form_of, name_of};
 use crate::given::{
@@ -40,13 +42,12 @@ use std::io::{self, BufWriter, IsTerminal, Write};
 use std::process::ExitCode;
 use ybison::import::{Asked as Import, run_import};
 use ydebugger::{Setting, debug};
-use yinput::grammars::{GrammarFile, open_file};
+use yinput::grammars::GrammarFile;
 use yinput::language::LanguageFiles;
 use yinput::source::Source;
 use ymessages::run::{Asked as Errors, run_errors};
 use ypage::page::{self, run_page};
 use ypage::walk::Part;
-use yreports::report::{Asked, put_conflicts};
 use yrules::run::{Asked as Rules, run_rules};
 use ysentences::run::{Asked as Sentences, run_sentences};
 
@@ -98,19 +99,16 @@ fn report<W: Write>(
     matches: &ArgMatches<'_>,
     out: &mut W,
 ) -> Result<u8, Refused> {
-    let file = grammar_in(matches)?;
-    let asked = Asked {
-        grammar: file.path,
+    let asked = conflicts::Asked {
+        grammar: grammar_in(matches)?,
         save: matches.get_str("save"),
         strict: is_given(matches, "strict"),
+        expect: matches.get_str("expect"),
+        accept: matches.get_str("accept"),
+        update: is_given(matches, "update"),
+        format: matches.get_str("format"),
     };
-    if asked.save == Some("") {
-        return refuse_save(rt);
-    }
-    match open_file(rt, file, &mut rt.stderr())? {
-        Ok(opened) => Ok(put_conflicts(rt, out, &mut rt.stderr(), asked, opened)?),
-        Err(status) => Ok(status),
-    }
+    Ok(run_conflicts(rt, asked, out, &mut rt.stderr())?)
 }
 
 /// Verdicts on inputs.
@@ -126,6 +124,7 @@ fn check_files<W: Write>(
         choice: is_given(matches, "choice"),
         plain: is_given(matches, "plain"),
         most: most_of(matches)?,
+        format: matches.get_str("format"),
     };
     Ok(run_check(rt, asked, &mut rt.stdin(), out, &mut rt.stderr())?)
 }

@@ -21,4 +21,4 @@ pub mod saving;
 mod splitting;
 mod tried;
 mod unused;
-mod warnings;
+pub mod warnings;

@@ -24,13 +24,28 @@ struct Named {
     in_body: Vec<bool>,
 }
 
-/// What warnings are written with.
+/// A warning: the line of the file that it is about, where there is one, and what it says.
+pub struct Warning {
+    /// The line, counted from 1.
+    pub line: Option<usize>,
+    /// What it says.
+    pub text: String,
+}
+
+impl Drop for Warning {
+    // A call in each owner, which keeps their proofs short.
+    fn drop(self) {
+        let Warning { line: _, text: _ } = self;
+    }
+}
+
+/// What seeks warnings.
 #[derive(Drop)]
-struct Warner<'a, W> {
-    page: &'a mut Page<W>,
+struct Warner<'a> {
+    alloc: Global,
     grammar: &'a Grammar,
     lines: &'a Lines,
-    count: usize,
+    found: Vec<Warning>,
 }
 
 impl Named {
@@ -76,40 +91,39 @@ fn note_line(lines: &mut [Option<usize>], mention: Mention) {
     }
 }
 
-impl<W: Write> Warner<'_, W> {
-    /// Begins a warning, after an empty line where it is the first, with the line of the file
-    /// where there is one.
-    fn begin(&mut self, line: Option<usize>) {
-        if self.count == 0 {
-            self.page.end();
-        }
-        self.count = self.count.saturating_add(1);
-        self.page.put("warning: ");
-        if let Some(line) = line {
-            let _ = write!(self.page, "line {line}: ");
-        }
+impl Warner<'_> {
+    /// Adds a warning.
+    fn add(&mut self, line: Option<usize>, text: String) -> Result<(), AllocError> {
+        self.found.push(Warning { line, text })?;
+        Ok(())
     }
 
-    /// Writes a warning about a symbol between two texts.
-    fn warn(&mut self, line: Option<usize>, before: &str, symbol: Sym, after: &str) {
-        self.begin(line);
+    /// Adds a warning about a symbol between two texts.
+    fn warn(
+        &mut self,
+        line: Option<usize>,
+        before: &str,
+        symbol: Sym,
+        after: &str,
+    ) -> Result<(), AllocError> {
         let name = Name(self.grammar, symbol);
-        let _ = writeln!(self.page, "{before}{name}{after}");
+        let text = format!(in self.alloc; "{before}{name}{after}")?;
+        self.add(line, text)
     }
 
     /// Rules of symbols that can be reached, which are never reduced.
-    fn put_lost(&mut self, done: &Done) {
+    fn add_lost(&mut self, done: &Done) -> Result<(), AllocError> {
         for rule in 1..self.grammar.rules() {
             let is_done = done.reduced.get(rule).copied().unwrap_or(true);
             if !is_done && self.is_live(rule) {
-                self.begin(self.lines.rule(rule));
-                let text = RuleText(self.grammar, rule);
-                let _ = writeln!(
-                    self.page,
-                    "rule {rule} is never reduced, since it lost every cell:  {text}"
-                );
+                let shown = RuleText(self.grammar, rule);
+                let text = format!(in self.alloc;
+                    "rule {rule} is never reduced, since it lost every cell:  {shown}"
+                )?;
+                self.add(self.lines.rule(rule), text)?;
             }
         }
+        Ok(())
     }
 
     /// Whether the left side of a rule can be reached.
@@ -118,80 +132,110 @@ impl<W: Write> Warner<'_, W> {
     }
 
     /// Precedences of tokens that are used, but settled no cell.
-    fn put_idle_tokens(&mut self, done: &Done, named: &Named) {
+    fn add_idle_tokens(&mut self, done: &Done, named: &Named) -> Result<(), AllocError> {
         for token in 0..self.grammar.symbols() {
             let settles = done.by_token.get(token).copied().unwrap_or(true);
             let is_meant = named.is_used(token) && level_of(self.grammar, token).is_some();
             if is_meant && !settles {
                 let line = named.levelled.get(token).copied().flatten();
-                self.warn(line, "the precedence of ", token, " settles nothing");
+                self.warn(line, "the precedence of ", token, " settles nothing")?;
             }
         }
+        Ok(())
     }
 
     /// Precedences by `%prec` that settled no cell.
-    fn put_idle_rules(&mut self, done: &Done) {
+    fn add_idle_rules(&mut self, done: &Done) -> Result<(), AllocError> {
         for rule in 1..self.grammar.rules() {
             let settles = done.by_rule.get(rule).copied().unwrap_or(true);
             if !settles && self.lines.prec(rule).is_some() && self.is_live(rule) {
-                self.begin(self.lines.rule(rule));
                 let may = if done.all_tried {
                     "settles"
                 } else {
                     "may settle"
                 };
-                let _ = writeln!(self.page, "the %prec of rule {rule} {may} nothing");
+                let text = format!(in self.alloc; "the %prec of rule {rule} {may} nothing")?;
+                self.add(self.lines.rule(rule), text)?;
             }
         }
+        Ok(())
     }
 
     /// Tokens that are declared and named in no rule.
-    fn put_unused(&mut self, named: &Named) {
+    fn add_unused(&mut self, named: &Named) -> Result<(), AllocError> {
         for token in 0..self.grammar.symbols() {
             let is_token = self.grammar.is_token(token) && token > ERROR;
             if is_token && !named.is_used(token) {
                 let line = named.line(token);
-                self.warn(line, "the token ", token, " is declared and used nowhere");
+                self.warn(line, "the token ", token, " is declared and used nowhere")?;
             }
         }
+        Ok(())
     }
 
     /// Symbols that are used, but can't be reached.
-    fn put_unreachable(&mut self, named: &Named) {
+    fn add_unreachable(&mut self, named: &Named) -> Result<(), AllocError> {
         for symbol in 0..self.grammar.symbols() {
             let is_left = !self.grammar.is_token(symbol);
             let is_in_rules = is_left || named.in_body.get(symbol) == Some(&true);
             let is_meant = is_in_rules && named.line(symbol).is_some();
             if is_meant && symbol != ERROR && !is_reachable(self.grammar, symbol) {
                 let line = named.line(symbol);
-                self.warn(line, "", symbol, " can't be reached from the start");
+                self.warn(line, "", symbol, " can't be reached from the start")?;
             }
         }
+        Ok(())
     }
 }
 
-/// Writes a line for each warning, and says how many there are. It fails only when memory runs
-/// out.
+/// What deserves a warning in a grammar, in the order in which it is written.
+pub fn warnings_of(
+    alloc: Global,
+    tables: &Tables,
+    lines: &Lines,
+) -> Result<Vec<Warning>, AllocError> {
+    let grammar = grammar_of(tables);
+    let mut done = Done::new(alloc, tables, lines)?;
+    done.spread(grammar, lines);
+    let named = Named::new(alloc, grammar, lines.mentions())?;
+    let mut warner = Warner {
+        alloc,
+        grammar,
+        lines,
+        found: Vec::new(alloc),
+    };
+    warner.add_lost(&done)?;
+    warner.add_idle_tokens(&done, &named)?;
+    warner.add_idle_rules(&done)?;
+    warner.add_unused(&named)?;
+    warner.add_unreachable(&named)?;
+    let Warner { found, .. } = warner;
+    Ok(found)
+}
+
+/// Writes a warning.
+fn put_warning<W: Write>(page: &mut Page<W>, warning: &Warning) {
+    page.put("warning: ");
+    if let Some(line) = warning.line {
+        let _ = write!(page, "line {line}: ");
+    }
+    page.line(&warning.text);
+}
+
+/// Writes a line for each warning, after an empty one, and says how many there are. It fails only
+/// when memory runs out.
 pub fn put_warnings<W: Write>(
     page: &mut Page<W>,
     alloc: Global,
     tables: &Tables,
     lines: &Lines,
 ) -> Result<usize, AllocError> {
-    let grammar = grammar_of(tables);
-    let mut done = Done::new(alloc, tables, lines)?;
-    done.spread(grammar, lines);
-    let named = Named::new(alloc, grammar, lines.mentions())?;
-    let mut warner = Warner {
-        page,
-        grammar,
-        lines,
-        count: 0,
-    };
-    warner.put_lost(&done);
-    warner.put_idle_tokens(&done, &named);
-    warner.put_idle_rules(&done);
-    warner.put_unused(&named);
-    warner.put_unreachable(&named);
-    Ok(warner.count)
+    let warnings = warnings_of(alloc, tables, lines)?;
+    if !warnings.is_empty() {
+        page.end();
+    }
+    for warning in &warnings {
+        put_warning(page, warning);
+    }
+    Ok(warnings.len())
 }

@@ -1,0 +1,230 @@
+"""Compares what `ydebug` says in JSON and as a compiler with its report for people.
+
+    documents [ydebug=PATH] [--seconds N] [--seed N]
+
+The conflicts of each grammar of the scenarios, and of random ones: their counts, cells and kinds,
+their states, tokens, rules and counterexamples, the warnings, and each line as gcc has it. Rules
+and their columns are looked up in the file. Then verdicts on random inputs. The last line is
+`N passed, M failed`: grammars.
+"""
+import json
+import random
+import re
+import tempfile
+from pathlib import Path
+
+from checks.comparers.conflicts import HEAD, lists_in, parts_of
+from checks.shared.arguments import asked
+from checks.shared.grammars import productive
+from checks.shared.places import SCENARIOS
+from checks.shared.running import ran, turns
+from checks.shared.tally import Tally
+
+VERSION = 1
+COUNTS = re.compile(
+    r"grammar\.y: (\d+) shift/reduce, (\d+) reduce/reduce, in (\d+) cells? of (\d+) kinds?"
+)
+REDUCE = re.compile(r"  reduce  rule (\d+) (?:\(line (\d+)\))? *(.*)")
+WARNING = re.compile(r"warning: (?:line (\d+): )?(.*)")
+STATES = re.compile(r"  The same in (\d+) states, the last of them (\d+)\.")
+WORDS = {"shift": "shift", "accept": "shift", "reduce": "reduce"}
+
+
+class Names:
+    """Names that stand for themselves where a report is read by numbers."""
+
+    @staticmethod
+    def index(name):
+        """The name."""
+        return name
+
+
+def wrong_counts(text, found):
+    """What is wrong with the counts."""
+    told = COUNTS.match(text)
+    counts = tuple(map(int, told.groups())) if told else (0, 0, 0, 0)
+    ours = (*(found[it] for it in ("shift_reduce", "reduce_reduce", "cells")), len(found["kinds"]))
+    return None if counts == ours else f"counts {ours}, told {counts}"
+
+
+def lists_told(part):
+    """The counterexamples of a conflict: the rules that each is for, where it says so, and tokens."""
+    return [(it.rules, it.alone, it.tokens) for it in lists_in(part, Names)]
+
+
+def wrong_lists(part, kind):
+    """What is wrong with counterexamples."""
+    told, lists = lists_told(part), kind["lists"]
+    if lists is None or len(told) != len(lists):
+        return f"{len(told)} lists, told {lists}"
+    for (rules, alone, tokens), found in zip(told, lists):
+        if tokens != found["tokens"] or (alone and found["both"]):
+            return f"list {tokens}, told {found}"
+        if rules and rules != found["rules"]:
+            return f"list for {rules}, told {found}"
+    return None
+
+
+def wrong_states(part, kind):
+    """What is wrong with the states of a conflict."""
+    same = next(filter(None, map(STATES.fullmatch, part)), None)
+    states, last = map(int, same.groups()) if same else (1, kind["state"])
+    return None if (kind["states"], kind["last"]) == (states, last) else f"states, told {kind}"
+
+
+def wrong_kind(part, kind):
+    """What is wrong with a conflict."""
+    head = HEAD.match(part[0])
+    told = int(head[1]), head[2], WORDS[head[3]]
+    if told != (kind["state"], kind["token"], kind["taken"]):
+        return f"{told}, told {kind}"
+    rules = {
+        (int(it[1]), it[2] and int(it[2]), it[3].strip())
+        for it in map(REDUCE.match, part) if it
+    }
+    for rule in kind["rules"]:
+        if (rule["rule"], rule["line"], rule["text"]) not in rules:
+            return f"rules {rules}, told {rule}"
+    return wrong_states(part, kind) or wrong_lists(part, kind)
+
+
+def wrong_columns(source, kinds):
+    """What is wrong with the columns of rules: there stands a left side, or a bar."""
+    lines = source.split(b"\n")
+    for rule in (rule for kind in kinds for rule in kind["rules"]):
+        left = rule["text"].split(":")[0].encode()
+        if rule["column"] is None:
+            continue
+        rest = lines[rule["line"] - 1][rule["column"] - 1 :]
+        if not rest.startswith((left, b"|")):
+            return f"no rule begins at {rule}"
+    return None
+
+
+def wrong_warnings(text, diagnostics):
+    """What is wrong with the warnings: they stand after the conflicts."""
+    told = [(it[1] and int(it[1]), it[2]) for it in map(WARNING.fullmatch, text.split("\n")) if it]
+    ours = [(it["line"], it["message"]) for it in diagnostics][len(diagnostics) - len(told) :]
+    return None if told == ours else f"warnings {told}, told {ours}"
+
+
+def lines_of(diagnostics):
+    """Diagnostics as gcc has them."""
+    for it in diagnostics:
+        front = ":".join(str(it[at]) for at in ("file", "line", "column") if it[at] is not None)
+        yield f"{front}: {it['severity']}: {it['message']}"
+        yield from (f"{front}: note: {note}" for note in it["notes"])
+
+
+def wrong_conflicts(source, text, found, diagnostics):
+    """What is wrong with the conflicts of a grammar."""
+    parts, kinds = parts_of(text), found["kinds"]
+    wrong = wrong_counts(text, found) or wrong_columns(source, kinds)
+    wrong = wrong or wrong_warnings(text, diagnostics)
+    if wrong or len(parts) > len(kinds):
+        return wrong or f"{len(parts)} conflicts, told {len(kinds)}"
+    return next(filter(None, map(wrong_kind, parts, kinds)), None)
+
+
+def differences(source, text, document, lines):
+    """What is wrong with a document and with lines beside a report."""
+    made = json.loads(document)
+    diagnostics = made["diagnostics"]
+    if made["version"] != VERSION or made["form"] != "conflicts" or made["inputs"] is not None:
+        return f"no document on conflicts: {document}"
+    if list(lines_of(diagnostics)) != lines.splitlines():
+        return f"lines: {lines}"
+    if made["conflicts"] is None:
+        return None if diagnostics and not text else f"no conflicts: {document}"
+    return wrong_conflicts(source, text, made["conflicts"], diagnostics)
+
+
+def wrong_report(ydebug, room):
+    """What is wrong with what is said of the grammar of a folder."""
+    words = [ydebug, "conflicts", "grammar.y"]
+    made = [ran([*words, *it], room) for it in ([], ["--format=json"], ["--format=gcc"])]
+    text, document, lines = made
+    source = (Path(room) / "grammar.y").read_bytes()
+    wrong = differences(source, text.stdout, document.stdout, lines.stdout)
+    if any(it.returncode != text.returncode for it in made):
+        wrong = f"statuses {[it.returncode for it in made]}"
+    return wrong or (document.stderr + lines.stderr) or None
+
+
+PLAIN = {
+    "accepted": re.compile(r"inputs/\d+: accepted at (\d+)"),
+    "rejected": re.compile(r"inputs/\d+: rejected at token (\d+)"),
+    "undecided": re.compile(r"inputs/\d+: limit()"),
+}
+
+
+def wrong_verdict(told, sheet):
+    """What is wrong with a verdict beside a plain line."""
+    found = PLAIN[sheet["verdict"]].fullmatch(told)
+    number = {"accepted": sheet["steps"], "rejected": sheet["number"], "undecided": ""}
+    fits = found and found[1] == str(number[sheet["verdict"]])
+    return None if fits else f"{told}, told {sheet}"
+
+
+def wrong_token(tokens, sheet):
+    """What is wrong with the token of a rejection."""
+    if sheet["verdict"] != "rejected":
+        return None
+    token = [*tokens, "$end"][sheet["number"] - 1]
+    fits = token == sheet["token"] and token not in sheet["expected"]
+    return None if fits else f"{token}, told {sheet}"
+
+
+def wrong_verdicts(ydebug, room, inputs):
+    """What is wrong with what is said of inputs, each a list of tokens."""
+    folder = Path(room) / "inputs"
+    folder.mkdir(exist_ok=True)
+    paths = [f"inputs/{at}" for at in range(len(inputs))]
+    for path, tokens in zip(paths, inputs):
+        (Path(room) / path).write_text(" ".join(tokens) + "\n")
+    words = [ydebug, "check", "grammar.y", *paths]
+    plain, document = (ran([*words, it], room) for it in ("--plain", "--format=json"))
+    made = json.loads(document.stdout)
+    lines, sheets = plain.stdout.splitlines()[1:], made["inputs"]
+    statuses = {made["status"], document.returncode, plain.returncode}
+    if len(lines) != len(sheets) or len(statuses) > 1:
+        return f"{lines}, told {document.stdout}"
+    wrong = map(wrong_verdict, lines, sheets)
+    return next(filter(None, [*wrong, *map(wrong_token, inputs, sheets)]), None)
+
+
+def inputs_of(grammar, rng):
+    """Random lists of tokens that a tokens file can have."""
+    names = grammar.names[2 : grammar.tokens] or ["$end"]
+    return [[rng.choice(names) for _ in range(rng.randrange(6))] for _ in range(8)]
+
+
+def compared(ydebug, room, rng):
+    """What is wrong with what is said of a random grammar and of inputs."""
+    grammar = productive(rng)
+    (Path(room) / "grammar.y").write_text(grammar.text)
+    inputs = inputs_of(grammar, rng) if grammar.tokens > 2 else [[]]
+    wrong = wrong_report(ydebug, room) or wrong_verdicts(ydebug, room, inputs)
+    return [f"{grammar.text}{wrong}\n"] if wrong else []
+
+
+def scenarios():
+    """The grammar files of scenarios on conflicts."""
+    return sorted((SCENARIOS / "ydebug/conflicts").glob("*/grammar.y"))
+
+
+def main(words):
+    """Compares forms of what is said for some seconds."""
+    given = asked(__doc__, words, ("ydebug",), seconds=30.0, seed="1")
+    ydebug, tally = given.programs["ydebug"], Tally()
+    with tempfile.TemporaryDirectory() as room:
+        for file in scenarios():
+            (Path(room) / "grammar.y").write_bytes(file.read_bytes())
+            wrong = wrong_report(ydebug, room)
+            tally.take(file.parent.name, [f"{wrong}\n"] if wrong else [])
+        rng = random.Random(given.seed)
+        for turn in turns(given.seconds):
+            tally.take(f"grammar {turn}", compared(ydebug, room, rng))
+            if tally.failed:
+                break
+    return tally.end()

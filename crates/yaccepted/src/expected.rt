@@ -1,0 +1,162 @@
+//! Numbers of conflicts that are expected, beside those that are counted.
+
+use crate::comments::Numbers;
+use std::io::{self, Write};
+use yimport::symbols::Expected;
+
+/// Numbers of conflicts: shift/reduce, and reduce/reduce.
+#[derive(Clone, Copy, Default, Drop, PartialEq, Eq)]
+pub struct Counts {
+    /// Shift/reduce conflicts.
+    pub shift_reduce: usize,
+    /// Reduce/reduce conflicts.
+    pub reduce_reduce: usize,
+}
+
+/// The numbers of conflicts that are expected, and who expects them.
+#[derive(Clone, Copy, Drop)]
+pub enum Expectation {
+    /// Nobody expects a number.
+    Open,
+    /// The option `--expect`.
+    Given(Counts),
+    /// Comments of the file.
+    Comments(Numbers),
+    /// Directives of a file of bison or byacc, and the conflicts as bison counts them. That these
+    /// aren't the ones that a directive names was told.
+    Directives(Numbers, Counts),
+}
+
+/// The numbers that an option's word gives: `N`, or `N,M`.
+pub fn numbers_in(word: &str) -> Option<Counts> {
+    let (first, second) = word.split_once(',').unwrap_or((word, "0"));
+    Some(Counts {
+        shift_reduce: first.parse::<usize>().ok()?,
+        reduce_reduce: second.parse::<usize>().ok()?,
+    })
+}
+
+/// A kind of conflict: its word in a file, and its name.
+const KINDS: [(&str, &str); 2] = [("%expect", "shift/reduce"), ("%expect-rr", "reduce/reduce")];
+
+/// Writes where the numbers of an option aren't those that were counted, and says whether they are.
+fn is_given<W: Write>(out: &mut W, path: &str, given: Counts, found: Counts) -> io::Result<bool> {
+    let Counts {
+        shift_reduce: shifts,
+        reduce_reduce: reduces,
+    } = given;
+    for (kind, wanted, counted) in [
+        ("shift/reduce", shifts, found.shift_reduce),
+        ("reduce/reduce", reduces, found.reduce_reduce),
+    ] {
+        if wanted != counted {
+            writeln!(
+                out,
+                "{path}: --expect {shifts},{reduces}: {kind} conflicts: {counted}"
+            )?;
+        }
+    }
+    Ok(given == found)
+}
+
+/// A kind of conflict with the number that a file expects, where it expects one, that of the other
+/// kind, and the number that was counted.
+#[derive(Clone, Copy)]
+struct Compared {
+    kind: usize,
+    wanted: Option<Expected>,
+    other: Option<Expected>,
+    counted: usize,
+    /// Whether conflicts are counted as bison does, and a number that isn't the wanted one is told.
+    is_bison: bool,
+}
+
+impl Compared {
+    /// Whether the number is the expected one; where only the other kind has one, that is 0.
+    fn fits(self) -> bool {
+        match (self.wanted, self.other) {
+            (Some(wanted), _) => wanted.number == self.counted,
+            (None, Some(_)) => self.counted == 0,
+            (None, None) => true,
+        }
+    }
+
+    /// Writes that the number isn't the expected one, where that isn't told.
+    fn put<W: Write>(self, out: &mut W, path: &str) -> io::Result<()> {
+        let counted = self.counted;
+        let (word, kind) = KINDS.get(self.kind).copied().unwrap_or(("", ""));
+        let other = KINDS.iter().rev().nth(self.kind);
+        let other_word = other.map_or("", |(word, _)| *word);
+        let as_bison = if self.is_bison {
+            ", as bison counts them"
+        } else {
+            ""
+        };
+        match (self.wanted, self.other) {
+            (Some(Expected { line, number }), _) if !self.is_bison => writeln!(
+                out,
+                "{path}:{line}: {word} {number}: {kind} conflicts: {counted}"
+            ),
+            (None, Some(Expected { line, number })) => writeln!(
+                out,
+                "{path}:{line}: {other_word} {number} without {word}: {kind} \
+                 conflicts{as_bison}: {counted}"
+            ),
+            _ => Ok(()),
+        }
+    }
+}
+
+/// Writes where the numbers that a file expects aren't those that were counted, and says whether
+/// they are.
+fn is_told<W: Write>(
+    out: &mut W,
+    path: &str,
+    numbers: Numbers,
+    counts: Counts,
+    is_bison: bool,
+) -> io::Result<bool> {
+    let (shifts, reduces) = (numbers.shift_reduce, numbers.reduce_reduce);
+    let mut fits = true;
+    for (kind, wanted, other, counted) in [
+        (0, shifts, reduces, counts.shift_reduce),
+        (1, reduces, shifts, counts.reduce_reduce),
+    ] {
+        let compared = Compared {
+            kind,
+            wanted,
+            other,
+            counted,
+            is_bison,
+        };
+        if !compared.fits() {
+            compared.put(out, path)?;
+            fits = false;
+        }
+    }
+    Ok(fits)
+}
+
+impl Expectation {
+    /// Whether a number is expected.
+    pub fn any(&self) -> bool {
+        match self {
+            Expectation::Open => false,
+            Expectation::Given(_) => true,
+            Expectation::Comments(numbers) | Expectation::Directives(numbers, _) => numbers.any(),
+        }
+    }
+
+    /// Writes where expected numbers aren't those that were counted, unless that is told, and says
+    /// whether they are.
+    pub fn is_met<W: Write>(self, out: &mut W, path: &str, found: Counts) -> io::Result<bool> {
+        match self {
+            Expectation::Open => Ok(true),
+            Expectation::Given(given) => is_given(out, path, given, found),
+            Expectation::Comments(numbers) => is_told(out, path, numbers, found, false),
+            Expectation::Directives(numbers, counts) => {
+                is_told(out, path, numbers, counts, true)
+            }
+        }
+    }
+}

@@ -1,0 +1,155 @@
+//! The conflicts of tables, each as what settles it and one rule that is not taken.
+
+use crate::conflict::{Conflict, Conflicts};
+use crate::items::{Dotted, Hosts};
+use indexmap::IndexMap;
+use std::alloc::{AllocError, Global};
+use std::io;
+use yexplain::lines::Lines;
+use yexplain::reads::{
+    body_of, candidates_of, conflicts_of, grammar_of, items_of, name_of, next_of, shift_of,
+};
+use ysymbols::Sym;
+use ytables::{Class, Tables};
+
+/// The most conflicts that are told apart.
+pub const MOST_FOUND: usize = 100_000;
+
+/// A conflict between two items of a token.
+#[derive(Clone, Copy, Drop, PartialEq, Eq, Hash)]
+struct Pair {
+    token: Sym,
+    taken: Dotted,
+    other: usize,
+}
+
+/// The pairs of items that are rivals, in the order of their states.
+#[derive(Drop)]
+struct Pairs {
+    /// Each with the first state that has it.
+    all: IndexMap<Pair, usize>,
+}
+
+/// The rules of a cell that don't lose to its shift, by their order, and nothing where there is
+/// none of this place.
+fn rules_of(alloc: Global, tables: &Tables, cell: (usize, Sym)) -> Result<Vec<usize>, AllocError> {
+    let shifts = shift_of(tables, cell.0, cell.1).is_some();
+    let mut rules = Vec::new(alloc);
+    for candidate in candidates_of(tables, cell.0, cell.1) {
+        if !shifts || candidate.standing.class() != Class::Lose {
+            rules.push(candidate.rule)?;
+        }
+    }
+    Ok(rules)
+}
+
+impl Pairs {
+    /// Whether there are too many.
+    fn is_full(&self) -> bool {
+        self.all.len() > MOST_FOUND
+    }
+
+    /// Adds what an item of a cell is taken before.
+    fn add(
+        &mut self,
+        cell: (usize, Sym),
+        taken: Dotted,
+        others: &[usize],
+    ) -> Result<(), AllocError> {
+        for other in others {
+            let pair = Pair {
+                token: cell.1,
+                taken,
+                other: *other,
+            };
+            if !self.is_full() && !self.all.contains_key(&pair) {
+                self.all.insert(pair, cell.0)?;
+            }
+        }
+        Ok(())
+    }
+
+    /// Adds the rules that each shift of a cell is taken before.
+    fn add_shifts(
+        &mut self,
+        tables: &Tables,
+        cell: (usize, Sym),
+        rules: &[usize],
+    ) -> Result<(), AllocError> {
+        let grammar = grammar_of(tables);
+        for item in items_of(tables.automaton(), cell.0) {
+            if next_of(grammar, *item) == Some(cell.1) {
+                self.add(cell, (item.rule, item.dot), rules)?;
+            }
+        }
+        Ok(())
+    }
+
+    /// Adds the conflicts of a state.
+    fn add_state(
+        &mut self,
+        alloc: Global,
+        tables: &Tables,
+        state: usize,
+    ) -> Result<(), AllocError> {
+        for conflict in conflicts_of(tables, state) {
+            let cell = (state, conflict.token);
+            let rules = rules_of(alloc, tables, cell)?;
+            if conflict.shift_reduce > 0 {
+                self.add_shifts(tables, cell, &rules)?;
+            } else if let Some((first, others)) = rules.split_first() {
+                let dot = body_of(grammar_of(tables), *first).len();
+                self.add(cell, (*first, dot), others)?;
+            }
+        }
+        Ok(())
+    }
+
+    /// Those of tables; once there are too many, no more are sought.
+    fn new(alloc: Global, tables: &Tables) -> Result<Pairs, AllocError> {
+        let mut pairs = Pairs {
+            all: IndexMap::new(alloc),
+        };
+        for state in 0..tables.automaton().states() {
+            if pairs.is_full() {
+                break;
+            }
+            pairs.add_state(alloc, tables, state)?;
+        }
+        Ok(pairs)
+    }
+}
+
+/// A pair as texts.
+fn conflict_of(
+    alloc: Global,
+    tables: &Tables,
+    lines: &Lines,
+    hosts: &Hosts,
+    pair: &Pair,
+) -> io::Result<Conflict> {
+    let grammar = grammar_of(tables);
+    let other = (pair.other, body_of(grammar, pair.other).len());
+    Ok(Conflict {
+        line: lines.rule(pair.other).unwrap_or(1),
+        token: Vec::from_slice(alloc, name_of(grammar, pair.token))?,
+        taken: hosts.text(alloc, grammar, pair.taken)?,
+        other: hosts.text(alloc, grammar, other)?,
+    })
+}
+
+/// The conflicts of tables as texts, in the order of their states; `None` where there are more than
+/// can be told apart.
+pub fn found_in(alloc: Global, tables: &Tables, lines: &Lines) -> io::Result<Option<Conflicts>> {
+    let pairs = Pairs::new(alloc, tables)?;
+    if pairs.is_full() {
+        return Ok(None);
+    }
+    let hosts = Hosts::new(alloc, grammar_of(tables))?;
+    let mut found = Conflicts::new(alloc);
+    for (pair, _) in &pairs.all {
+        let conflict = conflict_of(alloc, tables, lines, &hosts, pair)?;
+        found.add(alloc, conflict)?;
+    }
+    Ok(Some(found))
+}

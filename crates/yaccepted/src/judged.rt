@@ -1,0 +1,293 @@
+//! Whether the conflicts of a grammar are accepted.
+
+use crate::conflict::{Conflict, Conflicts};
+use crate::expected::{Counts, Expectation};
+use crate::found::{MOST_FOUND, found_in};
+use crate::list::{List, Trouble, list_of};
+use crate::opening::Counted;
+use crate::refusal::put_wrong_line;
+use crate::written::put_list;
+use std::alloc::{AllocError, Global};
+use std::fs;
+use std::io::{self, ErrorKind, Write};
+use std::rt::Files;
+use yexplain::text::Bytes;
+use yfaults::opening::Opened;
+use yfiles::reading::{LONGEST_INPUT, Limited};
+use yfiles::writing::put_output;
+
+/// The most conflicts that are told of those that are new, and of those that are gone.
+const MOST_TOLD: usize = 1_000;
+
+/// What is accepted.
+#[derive(Clone, Copy)]
+pub struct Asked<'a> {
+    /// The path of the grammar file.
+    pub grammar: &'a str,
+    /// The numbers that the option `--expect` gives, in place of those of the file.
+    pub expect: Option<Counts>,
+    /// The path of the list of accepted conflicts.
+    pub accept: Option<&'a str>,
+    /// Whether the list is written anew.
+    pub update: bool,
+}
+
+/// What a list comes to.
+#[derive(Drop)]
+pub struct Listed {
+    /// The conflicts that it hasn't.
+    pub new: Vec<Conflict>,
+    /// Those that it has, and the grammar hasn't.
+    pub gone: Vec<Conflict>,
+    /// How many it has that the grammar has, too; once it is written anew, all of the grammar.
+    pub accepted: usize,
+    /// Whether it is written anew.
+    pub is_updated: bool,
+}
+
+/// What is said of the conflicts of a grammar.
+#[derive(Drop)]
+pub struct Judged {
+    /// Whether their numbers are the expected ones; nothing where nobody expects any.
+    pub expected: Option<bool>,
+    /// What the list comes to, where there is one.
+    pub listed: Option<Listed>,
+}
+
+impl Judged {
+    /// Whether all conflicts are accepted; nothing where neither numbers nor a list are given.
+    pub fn is_accepted(&self) -> Option<bool> {
+        let listed = self
+            .listed
+            .as_ref()
+            .map(|it| it.is_updated || it.new.is_empty());
+        match (self.expected, listed) {
+            (Some(expected), Some(listed)) => Some(expected && listed),
+            (expected, listed) => expected.or(listed),
+        }
+    }
+}
+
+/// The conflicts that aren't among others.
+fn beside(alloc: Global, conflicts: &Conflicts, others: &Conflicts) -> io::Result<Vec<Conflict>> {
+    let mut beside = Vec::new(alloc);
+    for conflict in &conflicts.all {
+        if !others.has(alloc, conflict)? {
+            let conflict = conflict.copy(alloc)?;
+            beside.push(conflict).map_err(AllocError::from)?;
+        }
+    }
+    Ok(beside)
+}
+
+/// What a list comes to that isn't written anew.
+fn compared(alloc: Global, list: &List, found: &Conflicts) -> io::Result<Listed> {
+    let gone = beside(alloc, &list.accepted, found)?;
+    Ok(Listed {
+        new: beside(alloc, found, &list.accepted)?,
+        accepted: list.accepted.all.len().saturating_sub(gone.len()),
+        gone,
+        is_updated: false,
+    })
+}
+
+/// The bytes of a list, which may be absent where it is to be written; where it can't be read, that
+/// is written, and the exit status is the answer.
+fn bytes_of<F: Files + AllocGlobal, E: Write>(
+    rt: &F,
+    path: &str,
+    may_lack: bool,
+    errors: &mut E,
+) -> io::Result<Result<Option<Vec<u8>>, u8>> {
+    if may_lack && fs::metadata(rt, path).is_err() {
+        return Ok(Ok(None));
+    }
+    let most = LONGEST_INPUT;
+    let file = Limited { path, most };
+    match file.bytes(rt) {
+        Ok(Some(bytes)) => Ok(Ok(Some(bytes))),
+        Ok(None) => {
+            file.put_long(rt, errors)?;
+            Ok(Err(1))
+        }
+        Err(error) if error.kind() == ErrorKind::OutOfMemory => Err(error),
+        Err(_) => {
+            writeln!(errors, "ydebug: cannot read {path}")?;
+            Ok(Err(3))
+        }
+    }
+}
+
+/// The list of a path; where it is refused, that is written, and the exit status is the answer.
+fn read_list<F: Files + AllocGlobal, E: Write>(
+    rt: &F,
+    path: &str,
+    may_lack: bool,
+    errors: &mut E,
+) -> io::Result<Result<List, u8>> {
+    let bytes = match bytes_of(rt, path, may_lack, errors)? {
+        Ok(Some(bytes)) => bytes,
+        Ok(None) => return Ok(Ok(List::new(rt.alloc()))),
+        Err(status) => return Ok(Err(status)),
+    };
+    match list_of(rt.alloc(), &bytes) {
+        Ok(list) => Ok(Ok(list)),
+        Err(Trouble::Wrong(line, why)) => {
+            put_wrong_line(errors, (path, &bytes), line, why)?;
+            Ok(Err(1))
+        }
+        Err(Trouble::Memory) => Err(io::Error::from(ErrorKind::OutOfMemory)),
+    }
+}
+
+/// Writes conflicts as a list has them, each after a front.
+fn put_conflicts<W: Write>(
+    out: &mut W,
+    path: &str,
+    front: &str,
+    conflicts: &[Conflict],
+) -> io::Result<()> {
+    for conflict in conflicts.iter().take(MOST_TOLD) {
+        let (line, token) = (conflict.line, Bytes(&conflict.token));
+        writeln!(out, "{path}:{line}: {front}conflict on {token}")?;
+        writeln!(out, "  {}", Bytes(&conflict.taken))?;
+        writeln!(out, "  {}", Bytes(&conflict.other))?;
+    }
+    let more = conflicts.len().saturating_sub(MOST_TOLD);
+    if more > 0 {
+        writeln!(out, "{path}: {front}conflicts more: {more}")?;
+    }
+    Ok(())
+}
+
+/// Writes a list anew, and gives the exit status.
+fn update<F: Files + AllocGlobal, E: Write>(
+    rt: &F,
+    (grammar, path): (&str, &str),
+    list: &List,
+    found: &Conflicts,
+    errors: &mut E,
+) -> io::Result<u8> {
+    let mut text = Vec::new(rt.alloc());
+    put_list(rt.alloc(), &mut text, grammar, list, found)?;
+    let mut nowhere = Vec::new(rt.alloc());
+    put_output(rt, Some(path), &text, &mut nowhere, errors)
+}
+
+/// Compares a list with the conflicts that were found, and writes it anew, where that is asked for.
+fn judge_list<F: Files + AllocGlobal, E: Write>(
+    rt: &F,
+    asked: Asked<'_>,
+    path: &str,
+    (list, found): (&List, &Conflicts),
+    errors: &mut E,
+) -> io::Result<Result<Listed, u8>> {
+    let mut listed = compared(rt.alloc(), list, found)?;
+    if !asked.update {
+        return Ok(Ok(listed));
+    }
+    match update(rt, (asked.grammar, path), list, found, errors)? {
+        0 => {
+            listed.accepted = found.all.len();
+            listed.is_updated = true;
+            Ok(Ok(listed))
+        }
+        status => Ok(Err(status)),
+    }
+}
+
+/// Writes that a grammar has too many conflicts for a list, and gives the exit status.
+fn put_too_many<E: Write>(grammar: &str, errors: &mut E) -> io::Result<u8> {
+    writeln!(
+        errors,
+        "{grammar}: more than {MOST_FOUND} conflicts, the most that a list of accepted ones can have"
+    )?;
+    Ok(1)
+}
+
+/// What a list comes to.
+fn listed_in<F: Files + AllocGlobal, E: Write>(
+    rt: &F,
+    asked: Asked<'_>,
+    path: &str,
+    opened: &Opened,
+    errors: &mut E,
+) -> io::Result<Result<Listed, u8>> {
+    let list = match read_list(rt, path, asked.update, errors)? {
+        Ok(list) => list,
+        Err(status) => return Ok(Err(status)),
+    };
+    match found_in(rt.alloc(), &opened.tables, &opened.lines)? {
+        Some(found) => judge_list(rt, asked, path, (&list, &found), errors),
+        None => put_too_many(asked.grammar, errors).map(Err),
+    }
+}
+
+/// Whether the numbers of conflicts are the expected ones, where some are; where they aren't, that
+/// is written.
+fn is_expected<E: Write>(
+    asked: Asked<'_>,
+    counted: &Counted,
+    errors: &mut E,
+) -> io::Result<Option<bool>> {
+    let expected = match asked.expect {
+        Some(given) => Expectation::Given(given),
+        None => counted.expected,
+    };
+    if !expected.any() {
+        return Ok(None);
+    }
+    let counts = counted.opened.tables.conflicts();
+    let found = Counts {
+        shift_reduce: usize::try_from(counts.shift_reduce).unwrap_or(usize::MAX),
+        reduce_reduce: usize::try_from(counts.reduce_reduce).unwrap_or(usize::MAX),
+    };
+    expected.is_met(errors, asked.grammar, found).map(Some)
+}
+
+/// What is said of the conflicts of a grammar: whether their numbers are the expected ones, and
+/// what a list of accepted ones comes to. Numbers that aren't the expected ones are written. Where
+/// the list is refused or can't be read or written, that is written, and the exit status is the
+/// answer: 1 or 3.
+pub fn judge<F: Files + AllocGlobal, E: Write>(
+    rt: &F,
+    asked: Asked<'_>,
+    counted: &Counted,
+    errors: &mut E,
+) -> io::Result<Result<Judged, u8>> {
+    let expected = is_expected(asked, counted, errors)?;
+    let Some(path) = asked.accept else {
+        let listed = None;
+        return Ok(Ok(Judged { expected, listed }));
+    };
+    match listed_in(rt, asked, path, &counted.opened, errors)? {
+        Ok(listed) => Ok(Ok(Judged {
+            expected,
+            listed: Some(listed),
+        })),
+        Err(status) => Ok(Err(status)),
+    }
+}
+
+impl Listed {
+    /// Writes the conflicts that a list hasn't, and those that the grammar hasn't, each at the line
+    /// of its file and as a list has it; nothing once it is written anew.
+    pub fn put_told<W: Write>(&self, out: &mut W, grammar: &str, path: &str) -> io::Result<()> {
+        if self.is_updated {
+            return Ok(());
+        }
+        put_conflicts(out, grammar, "new ", &self.new)?;
+        put_conflicts(out, path, "gone: ", &self.gone)
+    }
+
+    /// Writes how many conflicts a list has, how many are new, and how many are gone.
+    pub fn put<W: Write>(&self, out: &mut W, path: &str) -> io::Result<()> {
+        let (accepted, new, gone) = (self.accepted, self.new.len(), self.gone.len());
+        let what = if self.is_updated {
+            "written"
+        } else {
+            "accepted"
+        };
+        writeln!(out, "{path}: {accepted} {what}, {new} new, {gone} gone")
+    }
+}

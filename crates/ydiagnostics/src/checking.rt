@@ -1,0 +1,272 @@
+//! `ydebug check` for programs.
+
+use crate::diagnostic::{Diagnostic, Severity};
+use crate::document::Said;
+use crate::format::Format;
+use crate::inputs::{InputSheet, Judged, judged, refused};
+use crate::places::place_fault;
+use crate::told::{About, add_all, checked};
+use std::alloc::{AllocError, Global};
+use std::io::{self, Read, Write};
+use std::rt::Files;
+use yexplain::reads::grammar_of;
+use yfiles::reading::{Limited, all_bytes};
+use yinput::language::{Input, Language, LanguageFiles};
+use yinput::verdict::{Verdict, verdict_on};
+use ymessages::filling::filled;
+use ymessages::messages::Messages;
+
+/// What is asked for: verdicts on inputs.
+#[derive(Clone, Copy)]
+pub struct Asked<'a> {
+    /// The files of their language.
+    pub files: LanguageFiles<'a>,
+    /// The paths of the inputs; `-` is standard input.
+    pub inputs: &'a [&'a str],
+    /// The path of the file of messages, where one is given.
+    pub messages: Option<&'a str>,
+    /// The most bytes of an input.
+    pub most: u64,
+    /// The form of what is said.
+    pub format: Format,
+}
+
+/// All bytes of a file, or of standard input where the path is a dash; `None` where there are
+/// more than it may have.
+pub fn bytes_of<F: Files + AllocGlobal, R: Read>(
+    rt: &F,
+    input: &mut R,
+    file: Limited<'_>,
+) -> io::Result<Option<Vec<u8>>> {
+    match file.path {
+        "-" => all_bytes(rt.alloc(), input, file.most),
+        _ => file.bytes(rt),
+    }
+}
+
+/// A language with the messages for its errors.
+#[derive(Drop)]
+struct Told {
+    language: Language,
+    messages: Option<Messages>,
+}
+
+/// What was said of inputs so far.
+#[derive(Drop)]
+struct Sheets {
+    inputs: Vec<InputSheet>,
+    diagnostics: Vec<Diagnostic>,
+    status: u8,
+}
+
+impl Sheets {
+    /// Adds what is said of an input.
+    fn add(&mut self, judged: Judged) -> Result<(), AllocError> {
+        let Judged {
+            sheet,
+            diagnostics,
+            status,
+        } = judged;
+        self.inputs.push(sheet)?;
+        add_all(&mut self.diagnostics, diagnostics)?;
+        self.status = self.status.max(status);
+        Ok(())
+    }
+}
+
+/// The bytes again, where there are some.
+fn copy_of(alloc: Global, bytes: &io::Result<Option<Vec<u8>>>) -> Result<Vec<u8>, AllocError> {
+    match bytes {
+        Ok(Some(bytes)) => Vec::from_slice(alloc, bytes),
+        _ => Ok(Vec::new(alloc)),
+    }
+}
+
+impl Told {
+    /// The message about an input of the language that is rejected, where there is one.
+    fn message(
+        &self,
+        alloc: Global,
+        input: &Input,
+        verdict: &Verdict,
+    ) -> io::Result<Option<Vec<u8>>> {
+        let (Some(messages), Verdict::Rejected(rejection)) = (&self.messages, verdict) else {
+            return Ok(None);
+        };
+        let grammar = grammar_of(&self.language.opened.tables);
+        match messages.of(rejection.state()) {
+            Some(message) => filled(alloc, grammar, message, input, rejection).map(Some),
+            None => Ok(None),
+        }
+    }
+
+    /// What is said of an input of these bytes.
+    fn judged(&self, alloc: Global, source: (&str, &[u8]), input: &Input) -> io::Result<Judged> {
+        let tables = &self.language.opened.tables;
+        let verdict = verdict_on(alloc, tables, &input.tokens)?;
+        let message = self.message(alloc, input, &verdict)?;
+        let message = message.as_ref().map(Vec::as_slice);
+        judged(
+            alloc,
+            grammar_of(tables),
+            source,
+            (input, &verdict),
+            message,
+        )
+    }
+}
+
+impl Asked<'_> {
+    /// What is said of an input.
+    fn take<F: Files + AllocGlobal, R: Read>(
+        self,
+        rt: &F,
+        stdin: &mut R,
+        told: &Told,
+        path: &str,
+    ) -> io::Result<Judged> {
+        let (alloc, most) = (rt.alloc(), self.most);
+        let file = Limited { path, most };
+        let bytes = bytes_of(rt, stdin, file);
+        let source = copy_of(alloc, &bytes)?;
+        match told.language.input_of(alloc, file, bytes)? {
+            Ok(input) => told.judged(alloc, (path, &source), &input),
+            Err(fault) => {
+                let mut text = Vec::new(alloc);
+                let opened = &told.language.opened;
+                let status = fault.put(rt, &mut text, self.files.grammar.path, opened)?;
+                refused(alloc, path, &text, status)
+            }
+        }
+    }
+
+    /// What is said of all inputs.
+    fn take_all<F: Files + AllocGlobal, R: Read>(
+        self,
+        rt: &F,
+        stdin: &mut R,
+        told: &Told,
+        sheets: &mut Sheets,
+    ) -> io::Result<()> {
+        for path in self.inputs {
+            let judged = self.take(rt, stdin, told, path)?;
+            sheets.add(judged)?;
+        }
+        Ok(())
+    }
+
+    /// Writes what is said of inputs, or without them, and gives the exit status.
+    fn put<W: Write>(
+        self,
+        alloc: Global,
+        (diagnostics, inputs): (&[Diagnostic], Option<&[InputSheet]>),
+        status: u8,
+        out: &mut W,
+    ) -> io::Result<u8> {
+        let said = Said {
+            form: "check",
+            grammar: self.files.grammar.path,
+            status,
+            diagnostics,
+            conflicts: None,
+            inputs,
+        };
+        said.put(alloc, out, self.format)
+    }
+
+    /// What lines for people say of the files of the language.
+    fn told(self, alloc: Global, text: &[u8], severity: Severity) -> io::Result<Vec<Diagnostic>> {
+        let grammar = self.files.grammar.path;
+        let paths = [
+            grammar,
+            self.files.spec.unwrap_or(grammar),
+            self.messages.unwrap_or(grammar),
+        ];
+        let about = About {
+            paths: &paths,
+            severity,
+        };
+        about.take(alloc, text)
+    }
+
+    /// Opens the file of messages, where there is one. Where it is refused, that is written, and
+    /// the exit status is the answer.
+    fn with_messages<F: Files + AllocGlobal, E: Write>(
+        self,
+        rt: &F,
+        language: Language,
+        errors: &mut E,
+    ) -> io::Result<Result<Told, u8>> {
+        let Some(path) = self.messages else {
+            let messages = None;
+            return Ok(Ok(Told { language, messages }));
+        };
+        let most = self.most;
+        match Messages::open(rt, &language.opened.tables, Limited { path, most }, errors)? {
+            Ok(messages) => {
+                let messages = Some(messages);
+                Ok(Ok(Told { language, messages }))
+            }
+            Err(status) => Ok(Err(status)),
+        }
+    }
+
+    /// Opens the language and its messages likewise.
+    fn open<F: Files + AllocGlobal, E: Write>(
+        self,
+        rt: &F,
+        errors: &mut E,
+    ) -> io::Result<Result<Told, u8>> {
+        match Language::open(rt, self.files, errors)? {
+            Ok(language) => self.with_messages(rt, language, errors),
+            Err(status) => Ok(Err(status)),
+        }
+    }
+}
+
+/// Writes what is said of the inputs of a language, after notes on its files, and gives the exit
+/// status.
+fn put_inputs<F: Files + AllocGlobal, R: Read, W: Write>(
+    rt: &F,
+    asked: Asked<'_>,
+    stdin: &mut R,
+    told: &Told,
+    notes: &[u8],
+    out: &mut W,
+) -> io::Result<u8> {
+    let alloc = rt.alloc();
+    let mut sheets = Sheets {
+        inputs: Vec::new(alloc),
+        diagnostics: asked.told(alloc, notes, Severity::Warning)?,
+        status: 0,
+    };
+    asked.take_all(rt, stdin, told, &mut sheets)?;
+    let said = (
+        sheets.diagnostics.as_slice(),
+        Some(sheets.inputs.as_slice()),
+    );
+    asked.put(alloc, said, sheets.status, out)
+}
+
+/// Writes what is asked for, and gives the exit status, as `ydebug check` does. All that is said
+/// goes to `out`.
+pub fn run_checking<F: Files + AllocGlobal, R: Read, W: Write>(
+    rt: &F,
+    asked: Asked<'_>,
+    stdin: &mut R,
+    out: &mut W,
+) -> io::Result<u8> {
+    let mut notes = Vec::new(rt.alloc());
+    let opened = asked.open(rt, &mut notes)?;
+    match opened {
+        Ok(told) => put_inputs(rt, asked, stdin, &told, &notes, out),
+        Err(status) => {
+            checked(&notes)?;
+            let mut diagnostics = asked.told(rt.alloc(), &notes, Severity::Error)?;
+            if !asked.files.grammar.bison {
+                place_fault(rt, asked.files.grammar.path, &mut diagnostics);
+            }
+            asked.put(rt.alloc(), (&diagnostics, None), status, out)
+        }
+    }
+}

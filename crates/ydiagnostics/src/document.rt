@@ -1,0 +1,105 @@
+//! All that is said, as lines or as one document.
+
+use crate::diagnostic::Diagnostic;
+use crate::format::Format;
+use crate::inputs::InputSheet;
+use crate::kinds::KindSheet;
+use serde::Serialize;
+use std::alloc::Global;
+use std::io::{self, ErrorKind, Write};
+
+/// The version of the document.
+const VERSION: usize = 1;
+
+/// The conflicts of a grammar.
+#[derive(Serialize)]
+pub struct ConflictSheet {
+    /// How many there are of each sort.
+    pub shift_reduce: usize,
+    pub reduce_reduce: usize,
+    /// How many cells have one.
+    pub cells: usize,
+    /// Whether all are accepted; none where nothing says which are.
+    pub accepted: Option<bool>,
+    /// The kinds.
+    pub kinds: Vec<KindSheet>,
+    /// How many cells belong to none of them.
+    pub others: usize,
+}
+
+impl Drop for ConflictSheet {
+    // A call in each owner, which keeps their proofs short.
+    fn drop(self) {
+        let ConflictSheet {
+            shift_reduce: _,
+            reduce_reduce: _,
+            cells: _,
+            accepted: _,
+            kinds: _,
+            others: _,
+        } = self;
+    }
+}
+
+/// All that is said.
+#[derive(Clone, Copy)]
+pub struct Said<'a> {
+    /// The form of the command line.
+    pub form: &'static str,
+    /// The path of the grammar file.
+    pub grammar: &'a str,
+    /// The exit status.
+    pub status: u8,
+    /// What is said of places.
+    pub diagnostics: &'a [Diagnostic],
+    /// The conflicts, where they were asked for and the grammar is open.
+    pub conflicts: Option<&'a ConflictSheet>,
+    /// The verdicts, likewise.
+    pub inputs: Option<&'a [InputSheet]>,
+}
+
+/// The document.
+#[derive(Drop, Serialize)]
+struct Document<'a> {
+    version: usize,
+    form: &'static str,
+    grammar: &'a str,
+    status: u8,
+    diagnostics: &'a [Diagnostic],
+    conflicts: Option<&'a ConflictSheet>,
+    inputs: Option<&'a [InputSheet]>,
+}
+
+impl Said<'_> {
+    /// Writes a document and a newline.
+    fn put_json<W: Write>(self, alloc: Global, out: &mut W) -> io::Result<()> {
+        let document = Document {
+            version: VERSION,
+            form: self.form,
+            grammar: self.grammar,
+            status: self.status,
+            diagnostics: self.diagnostics,
+            conflicts: self.conflicts,
+            inputs: self.inputs,
+        };
+        match serde_json::to_vec(alloc, &document) {
+            Ok(json) => {
+                out.write_all(&json)?;
+                out.write_all(b"\n")
+            }
+            Err(_) => Err(io::Error::from(ErrorKind::OutOfMemory)),
+        }
+    }
+
+    /// Writes it, and gives the exit status.
+    pub fn put<W: Write>(self, alloc: Global, out: &mut W, format: Format) -> io::Result<u8> {
+        if format == Format::Json {
+            self.put_json(alloc, out)?;
+            return Ok(self.status);
+        }
+        for diagnostic in self.diagnostics {
+            diagnostic.put(out)?;
+        }
+        Ok(self.status)
+    }
+}

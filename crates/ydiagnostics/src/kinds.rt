@@ -1,0 +1,313 @@
+//! Conflicts, each kind with its rules and with lists of tokens that get there.
+
+use crate::diagnostic::{Diagnostic, Severity, Spot};
+use serde::Serialize;
+use std::alloc::{AllocError, Global};
+use std::io::{self, Write};
+use std::str;
+use ycounterexample::finding::{Allows, Finding, List, Seeker};
+use ycounterexample::groups::{Conflicts, Group, Kind};
+use ycounterexample::trial::Trial;
+use yexplain::lines::Lines;
+use yexplain::reads::grammar_of;
+use yexplain::text::{Name, RuleText};
+use yparse::Session;
+use ysymbols::{Grammar, Sym};
+
+/// The most kinds for which lists are sought.
+const MOST_SOUGHT: usize = 200;
+
+/// A rule: its number, its place and its text.
+#[derive(Serialize)]
+pub struct RuleSheet {
+    rule: usize,
+    line: Option<usize>,
+    column: Option<usize>,
+    text: String,
+}
+
+impl Drop for RuleSheet {
+    // A call in each owner, which keeps their proofs short.
+    fn drop(self) {
+        let RuleSheet {
+            rule: _,
+            line: _,
+            column: _,
+            text: _,
+        } = self;
+    }
+}
+
+/// A list of tokens that gets to a conflict.
+#[derive(Serialize)]
+pub struct ListSheet {
+    /// The rules that it is for.
+    rules: Vec<usize>,
+    /// Whether it allows what is taken, too.
+    both: bool,
+    /// The tokens before that of the conflict.
+    tokens: Vec<String>,
+    /// What a parse over it comes to.
+    parse: &'static str,
+}
+
+impl Drop for ListSheet {
+    // A call in each owner, which keeps their proofs short.
+    fn drop(self) {
+        let ListSheet {
+            rules: _,
+            both: _,
+            tokens: _,
+            parse: _,
+        } = self;
+    }
+}
+
+/// A kind of conflict.
+#[derive(Serialize)]
+pub struct KindSheet {
+    /// The first state that has it, how many have it, and the last one.
+    state: usize,
+    states: usize,
+    last: usize,
+    token: String,
+    /// `shift` or `reduce`.
+    taken: &'static str,
+    /// The rules: first the one that is taken, where that is no shift.
+    rules: Vec<RuleSheet>,
+    /// How many rules there are more.
+    more: usize,
+    /// Lists of tokens, where they were sought.
+    lists: Option<Vec<ListSheet>>,
+}
+
+impl Drop for KindSheet {
+    // A call in each owner, which keeps their proofs short.
+    fn drop(self) {
+        let KindSheet {
+            state: _,
+            states: _,
+            last: _,
+            token: _,
+            taken: _,
+            rules: _,
+            more: _,
+            lists: _,
+        } = self;
+    }
+}
+
+/// What rules are shown with: where they stand in the file, and their columns.
+#[derive(Clone, Copy)]
+pub struct Shown<'a> {
+    /// The lines.
+    pub lines: &'a Lines,
+    /// The columns, by number.
+    pub columns: &'a [Option<usize>],
+    /// The path of the file.
+    pub path: &'a str,
+    /// How bad a conflict is.
+    pub severity: Severity,
+}
+
+/// The name of a symbol.
+fn named(alloc: Global, grammar: &Grammar, symbol: Sym) -> Result<String, AllocError> {
+    let name = Name(grammar, symbol);
+    format!(in alloc; "{name}")
+}
+
+/// The names of symbols.
+pub fn names_of(
+    alloc: Global,
+    grammar: &Grammar,
+    symbols: &[Sym],
+) -> Result<Vec<String>, AllocError> {
+    let mut names = Vec::new(alloc);
+    for symbol in symbols {
+        names.push(named(alloc, grammar, *symbol)?)?;
+    }
+    Ok(names)
+}
+
+/// What a parse comes to.
+fn word_of(trial: Trial) -> &'static str {
+    match trial {
+        Trial::Reached(_) => "reached",
+        Trial::Recovered(_) => "recovered",
+        Trial::Missed => "missed",
+        Trial::Late(_) => "late",
+        Trial::HasError => "untried",
+    }
+}
+
+/// A list.
+fn list_sheet(alloc: Global, grammar: &Grammar, list: &List) -> Result<ListSheet, AllocError> {
+    Ok(ListSheet {
+        rules: Vec::from_slice(alloc, &list.rules)?,
+        both: list.allows == Allows::Both,
+        tokens: names_of(alloc, grammar, &list.tokens)?,
+        parse: word_of(list.trial),
+    })
+}
+
+/// The lists that were found.
+fn list_sheets(
+    alloc: Global,
+    grammar: &Grammar,
+    finding: &Finding,
+) -> Result<Vec<ListSheet>, AllocError> {
+    let mut lists = Vec::new(alloc);
+    for list in &finding.lists {
+        lists.push(list_sheet(alloc, grammar, list)?)?;
+    }
+    Ok(lists)
+}
+
+impl Shown<'_> {
+    /// The place of a rule.
+    fn spot(self, rule: usize) -> Spot {
+        Spot {
+            line: self.lines.rule(rule),
+            column: self.columns.get(rule).copied().flatten(),
+        }
+    }
+
+    /// A rule.
+    fn rule_sheet(
+        self,
+        alloc: Global,
+        grammar: &Grammar,
+        rule: usize,
+    ) -> Result<RuleSheet, AllocError> {
+        let (spot, text) = (self.spot(rule), RuleText(grammar, rule));
+        Ok(RuleSheet {
+            rule,
+            line: spot.line,
+            column: spot.column,
+            text: format!(in alloc; "{text}")?,
+        })
+    }
+
+    /// The rules of a kind.
+    fn rule_sheets(
+        self,
+        alloc: Global,
+        grammar: &Grammar,
+        kind: &Kind,
+    ) -> Result<Vec<RuleSheet>, AllocError> {
+        let mut rules = Vec::new(alloc);
+        for rule in kind.rules() {
+            rules.push(self.rule_sheet(alloc, grammar, *rule)?)?;
+        }
+        Ok(rules)
+    }
+
+    /// A kind with its lists, where they were sought.
+    fn kind_sheet(
+        self,
+        alloc: Global,
+        grammar: &Grammar,
+        (kind, group): (&Kind, Group),
+        lists: Option<Vec<ListSheet>>,
+    ) -> Result<KindSheet, AllocError> {
+        let rules = self.rule_sheets(alloc, grammar, kind)?;
+        let all = kind.rivals.saturating_add(usize::from(!kind.shift));
+        Ok(KindSheet {
+            state: group.state,
+            states: group.states,
+            last: group.last,
+            token: named(alloc, grammar, kind.token)?,
+            taken: if kind.shift { "shift" } else { "reduce" },
+            more: all.saturating_sub(rules.len()),
+            rules,
+            lists,
+        })
+    }
+
+    /// The kinds of conflicts of a session without tokens, in the order of their states.
+    pub fn kind_sheets(
+        self,
+        alloc: Global,
+        session: &mut Session,
+        found: &Conflicts,
+    ) -> io::Result<Vec<KindSheet>> {
+        let mut sheets = Vec::new(alloc);
+        let mut seeker = Seeker::new(alloc, session)?;
+        let mut is_sought = true;
+        for (kind, group) in &found.groups {
+            is_sought = is_sought && sheets.len() < MOST_SOUGHT && seeker.finder.has_steps();
+            let lists = if is_sought {
+                let finding = seeker.find(kind, *group)?;
+                Some(list_sheets(alloc, grammar_of(seeker.session.tables()), &finding)?)
+            } else {
+                None
+            };
+            let grammar = grammar_of(seeker.session.tables());
+            let sheet = self.kind_sheet(alloc, grammar, (kind, *group), lists)?;
+            sheets.push(sheet).map_err(AllocError::from)?;
+        }
+        Ok(sheets)
+    }
+}
+
+/// Writes what is taken, and in how many states.
+fn put_taken<W: Write>(
+    out: &mut W,
+    grammar: &Grammar,
+    (kind, group): (&Kind, Group),
+) -> io::Result<()> {
+    let (name, state) = (Name(grammar, kind.token), group.state);
+    let what = if kind.shift { "shift" } else { "reduce" };
+    write!(out, "{what}/reduce conflict on {name} in state {state}")?;
+    match group.states.saturating_sub(1) {
+        0 => {}
+        1 => write!(out, " and 1 more")?,
+        more => write!(out, " and {more} more")?,
+    }
+    match kind.taken() {
+        Some(rule) => write!(out, ": rule {rule} is taken"),
+        None => write!(out, ": the shift is taken"),
+    }
+}
+
+/// What is said of a kind.
+fn message_of(alloc: Global, grammar: &Grammar, cells: (&Kind, Group)) -> io::Result<String> {
+    let mut text = Vec::new(alloc);
+    put_taken(&mut text, grammar, cells)?;
+    for (place, rule) in cells.0.others().iter().enumerate() {
+        let front = if place == 0 { ", not" } else { " nor" };
+        let shown = RuleText(grammar, *rule);
+        write!(text, "{front} rule {rule} ({shown})")?;
+    }
+    Ok(String::from_str(alloc, str::from_utf8(&text).unwrap_or(""))?)
+}
+
+impl Shown<'_> {
+    /// A kind as what is said of the first rule that isn't taken.
+    fn diagnostic(
+        self,
+        alloc: Global,
+        grammar: &Grammar,
+        cells: (&Kind, Group),
+    ) -> io::Result<Diagnostic> {
+        let rule = cells.0.others().first().copied().unwrap_or(0);
+        let (spot, path) = (self.spot(rule), Some(self.path));
+        let message = message_of(alloc, grammar, cells)?;
+        Ok(Diagnostic::new(alloc, path, spot, self.severity, message)?)
+    }
+
+    /// The kinds likewise, in the order of their states.
+    pub fn diagnostics(
+        self,
+        alloc: Global,
+        grammar: &Grammar,
+        found: &Conflicts,
+    ) -> io::Result<Vec<Diagnostic>> {
+        let mut diagnostics = Vec::new(alloc);
+        for (kind, group) in &found.groups {
+            let diagnostic = self.diagnostic(alloc, grammar, (kind, *group))?;
+            diagnostics.push(diagnostic).map_err(AllocError::from)?;
+        }
+        Ok(diagnostics)
+    }
+}

@@ -1,0 +1,17 @@
+//! What `ydebug conflicts` and `ydebug check` say, for editors and other programs: lines as a C
+//! compiler writes them, or one document in JSON.
+//!
+//! `format` has the forms, `diagnostic` what is said of a place, and `told` makes that of lines for
+//! people. `places` has the columns of rules and faults, `kinds` the conflicts, `inputs` the
+//! verdicts, and `document` writes all of it. `report` and `checking` are the runs.
+#![tactic(auto)]
+
+pub mod checking;
+mod diagnostic;
+mod document;
+pub mod format;
+mod inputs;
+mod kinds;
+mod places;
+pub mod report;
+mod told;

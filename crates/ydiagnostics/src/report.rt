@@ -1,0 +1,338 @@
+//! `ydebug conflicts` for programs.
+
+use crate::diagnostic::{Diagnostic, Severity, Spot};
+use crate::document::{ConflictSheet, Said};
+use crate::format::Format;
+use crate::kinds::Shown;
+use crate::places::{columns_of, place_fault};
+use crate::told::{About, add_all, checked};
+use std::alloc::{AllocError, Global};
+use std::io::{self, Write};
+use std::rt::Files;
+use yaccepted::conflict::Conflict;
+use yaccepted::judged::{self, Judged, Listed, judge};
+use yaccepted::opening::{Counted, File, open_counted};
+use ycounterexample::groups::Conflicts;
+use ycounterexample::trial::empty_session;
+use yexplain::reads::grammar_of;
+use yexplain::text::Bytes;
+use yfaults::opening::Opened;
+use yparse::Session;
+use yreports::warnings::warnings_of;
+
+/// What is asked for.
+#[derive(Clone, Copy)]
+pub struct Asked<'a> {
+    /// The grammar file.
+    pub file: File<'a>,
+    /// Which conflicts are accepted.
+    pub accepted: judged::Asked<'a>,
+    /// Whether a conflict that isn't accepted, or a warning, makes the status 1.
+    pub strict: bool,
+    /// The form of what is said.
+    pub format: Format,
+}
+
+impl<'a> Asked<'a> {
+    /// How bad a warning is.
+    fn severity(self) -> Severity {
+        if self.strict {
+            Severity::Error
+        } else {
+            Severity::Warning
+        }
+    }
+
+    /// How bad a conflict is. Where there is a list, what it hasn't is told by itself.
+    fn conflict_severity(self, judged: &Judged) -> Severity {
+        match judged.is_accepted() {
+            Some(true) => Severity::Note,
+            _ if judged.listed.is_some() => Severity::Note,
+            _ => self.severity(),
+        }
+    }
+
+    /// What lines for people say of the files.
+    fn told(self, alloc: Global, text: &[u8], severity: Severity) -> io::Result<Vec<Diagnostic>> {
+        let grammar = self.file.path;
+        let paths = [grammar, self.accepted.accept.unwrap_or(grammar)];
+        let about = About {
+            paths: &paths,
+            severity,
+        };
+        about.take(alloc, text)
+    }
+}
+
+/// What is said, with this exit status and without conflicts.
+fn said<'a>(asked: Asked<'a>, status: u8, diagnostics: &'a [Diagnostic]) -> Said<'a> {
+    Said {
+        form: "conflicts",
+        grammar: asked.file.path,
+        status,
+        diagnostics,
+        conflicts: None,
+        inputs: None,
+    }
+}
+
+/// A conflict that a list hasn't, or that the grammar hasn't any more.
+fn listed_diagnostic(
+    alloc: Global,
+    path: &str,
+    (front, severity): (&str, Severity),
+    conflict: &Conflict,
+) -> Result<Diagnostic, AllocError> {
+    let spot = Spot {
+        line: Some(conflict.line),
+        column: None,
+    };
+    let token = Bytes(&conflict.token);
+    let message = format!(in alloc; "{front}conflict on {token}")?;
+    let mut diagnostic = Diagnostic::new(alloc, Some(path), spot, severity, message)?;
+    for item in [&conflict.taken, &conflict.other] {
+        let item = Bytes(item);
+        diagnostic.notes.push(format!(in alloc; "{item}")?)?;
+    }
+    Ok(diagnostic)
+}
+
+/// Adds conflicts that a list hasn't, or that the grammar hasn't any more.
+fn add_conflicts(
+    alloc: Global,
+    all: &mut Vec<Diagnostic>,
+    path: &str,
+    front: (&str, Severity),
+    conflicts: &[Conflict],
+) -> Result<(), AllocError> {
+    for conflict in conflicts {
+        all.push(listed_diagnostic(alloc, path, front, conflict)?)?;
+    }
+    Ok(())
+}
+
+/// Adds what a list comes to.
+fn add_listed(
+    alloc: Global,
+    all: &mut Vec<Diagnostic>,
+    asked: Asked<'_>,
+    listed: &Listed,
+) -> Result<(), AllocError> {
+    let grammar = asked.file.path;
+    let list = asked.accepted.accept.unwrap_or(grammar);
+    if listed.is_updated {
+        return Ok(());
+    }
+    add_conflicts(alloc, all, grammar, ("new ", asked.severity()), &listed.new)?;
+    add_conflicts(
+        alloc,
+        all,
+        list,
+        ("gone: ", Severity::Warning),
+        &listed.gone,
+    )
+}
+
+/// Adds the warnings, and says whether there are some.
+fn add_warnings(
+    alloc: Global,
+    all: &mut Vec<Diagnostic>,
+    asked: Asked<'_>,
+    opened: &Opened,
+) -> Result<bool, AllocError> {
+    let warnings = warnings_of(alloc, &opened.tables, &opened.lines)?;
+    for warning in &warnings {
+        let spot = Spot {
+            line: warning.line,
+            column: None,
+        };
+        let (path, message) = (Some(asked.file.path), warning.text.clone()?);
+        all.push(Diagnostic::new(alloc, path, spot, asked.severity(), message)?)?;
+    }
+    Ok(!warnings.is_empty())
+}
+
+/// The conflicts of a session without tokens.
+fn sheet_of(
+    alloc: Global,
+    session: &mut Session,
+    shown: Shown<'_>,
+    found: &Conflicts,
+    accepted: Option<bool>,
+) -> io::Result<ConflictSheet> {
+    let counts = session.tables().conflicts();
+    Ok(ConflictSheet {
+        shift_reduce: usize::try_from(counts.shift_reduce).unwrap_or(usize::MAX),
+        reduce_reduce: usize::try_from(counts.reduce_reduce).unwrap_or(usize::MAX),
+        cells: found.cells,
+        accepted,
+        kinds: shown.kind_sheets(alloc, session, found)?,
+        others: found.others,
+    })
+}
+
+/// The conflicts of a grammar, where the form of what is said has them.
+fn sheet_in(
+    alloc: Global,
+    asked: Asked<'_>,
+    opened: Opened,
+    columns: &[Option<usize>],
+    found: &Conflicts,
+    accepted: Option<bool>,
+) -> io::Result<Option<ConflictSheet>> {
+    if asked.format == Format::Gcc {
+        return Ok(None);
+    }
+    let Opened { tables, lines } = opened;
+    let mut session = empty_session(alloc, tables);
+    let shown = Shown {
+        lines: &lines,
+        columns,
+        path: asked.file.path,
+        severity: Severity::Note,
+    };
+    sheet_of(alloc, &mut session, shown, found, accepted).map(Some)
+}
+
+/// The exit status, where all conflicts are accepted or not, there are some or none, and there is a
+/// warning or none.
+fn status_of(strict: bool, accepted: Option<bool>, has_conflicts: bool, is_warned: bool) -> u8 {
+    let is_bad = match accepted {
+        Some(accepted) => !accepted,
+        None => has_conflicts,
+    };
+    if strict && (is_bad || is_warned) {
+        1
+    } else {
+        0
+    }
+}
+
+/// Adds what is said of conflicts and of what else deserves a warning, and says whether something
+/// does.
+fn add_found(
+    alloc: Global,
+    all: &mut Vec<Diagnostic>,
+    (asked, severity): (Asked<'_>, Severity),
+    opened: &Opened,
+    columns: &[Option<usize>],
+    found: &Conflicts,
+) -> io::Result<bool> {
+    let shown = Shown {
+        lines: &opened.lines,
+        columns,
+        path: asked.file.path,
+        severity,
+    };
+    let conflicts = shown.diagnostics(alloc, grammar_of(&opened.tables), found)?;
+    add_all(all, conflicts)?;
+    Ok(add_warnings(alloc, all, asked, opened)?)
+}
+
+/// Writes what is said of a grammar whose conflicts are judged, and gives the exit status.
+fn put_judged<W: Write>(
+    alloc: Global,
+    asked: Asked<'_>,
+    (opened, columns): (Opened, &[Option<usize>]),
+    judged: &Judged,
+    diagnostics: Vec<Diagnostic>,
+    out: &mut W,
+) -> io::Result<u8> {
+    let mut diagnostics = diagnostics;
+    if let Some(listed) = &judged.listed {
+        add_listed(alloc, &mut diagnostics, asked, listed)?;
+    }
+    let found = Conflicts::new(alloc, &opened.tables)?;
+    let (accepted, severity) = (judged.is_accepted(), asked.conflict_severity(judged));
+    let is_warned = add_found(
+        alloc,
+        &mut diagnostics,
+        (asked, severity),
+        &opened,
+        columns,
+        &found,
+    )?;
+    let status = status_of(asked.strict, accepted, found.cells > 0, is_warned);
+    let sheet = sheet_in(alloc, asked, opened, columns, &found, accepted)?;
+    let conflicts = sheet.as_ref();
+    let said = Said {
+        conflicts,
+        ..said(asked, status, &diagnostics)
+    };
+    said.put(alloc, out, asked.format)
+}
+
+/// The columns of the rules of a grammar; none where they aren't those of its file.
+fn columns_in(alloc: Global, counted: &Counted) -> io::Result<Vec<Option<usize>>> {
+    match &counted.source {
+        Some(source) => columns_of(alloc, source, grammar_of(&counted.opened.tables)),
+        None => Ok(Vec::new(alloc)),
+    }
+}
+
+/// What is said of a grammar's files beside its conflicts: notes on an import, and numbers of
+/// conflicts that aren't the expected ones.
+fn told_of(
+    alloc: Global,
+    asked: Asked<'_>,
+    judged: &Judged,
+    (notes, numbers): (&[u8], &[u8]),
+) -> io::Result<Vec<Diagnostic>> {
+    // an import tells of its directives
+    let severity = if judged.expected == Some(false) {
+        asked.severity()
+    } else {
+        Severity::Warning
+    };
+    let mut told = asked.told(alloc, notes, severity)?;
+    add_all(&mut told, asked.told(alloc, numbers, asked.severity())?)?;
+    Ok(told)
+}
+
+/// Judges the conflicts of a grammar that is open, writes what is said, and gives the exit status.
+fn put_counted<F: Files + AllocGlobal, W: Write>(
+    rt: &F,
+    asked: Asked<'_>,
+    counted: Counted,
+    notes: &[u8],
+    out: &mut W,
+) -> io::Result<u8> {
+    let alloc = rt.alloc();
+    let mut numbers = Vec::new(alloc);
+    let judged = judge(rt, asked.accepted, &counted, &mut numbers)?;
+    match judged {
+        Ok(judged) => {
+            let told = told_of(alloc, asked, &judged, (notes, &numbers))?;
+            let columns = columns_in(alloc, &counted)?;
+            let Counted { opened, .. } = counted;
+            put_judged(alloc, asked, (opened, &columns), &judged, told, out)
+        }
+        Err(status) => {
+            let mut told = asked.told(alloc, notes, Severity::Warning)?;
+            add_all(&mut told, asked.told(alloc, &numbers, Severity::Error)?)?;
+            said(asked, status, &told).put(alloc, out, asked.format)
+        }
+    }
+}
+
+/// Writes what is asked for, and gives the exit status, as `ydebug conflicts` does. All that is
+/// said goes to `out`.
+pub fn run_report<F: Files + AllocGlobal, W: Write>(
+    rt: &F,
+    asked: Asked<'_>,
+    out: &mut W,
+) -> io::Result<u8> {
+    let mut told = Vec::new(rt.alloc());
+    let opened = open_counted(rt, asked.file, &mut told)?;
+    match opened {
+        Ok(counted) => put_counted(rt, asked, counted, &told, out),
+        Err(status) => {
+            checked(&told)?;
+            let mut diagnostics = asked.told(rt.alloc(), &told, Severity::Error)?;
+            if !asked.file.bison {
+                place_fault(rt, asked.file.path, &mut diagnostics);
+            }
+            said(asked, status, &diagnostics).put(rt.alloc(), out, asked.format)
+        }
+    }
+}

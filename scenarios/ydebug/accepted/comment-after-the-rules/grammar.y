@@ -1,0 +1,7 @@
+%token N
+%%
+e : e '-' e
+  | N
+  ;
+%%
+/* %expect 1 */

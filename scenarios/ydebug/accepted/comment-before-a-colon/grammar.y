@@ -1,0 +1,5 @@
+%token N
+%%
+e /* %expect 1 */ : e '-' e
+  | N
+  ;

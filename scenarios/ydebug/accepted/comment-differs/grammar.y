@@ -1,0 +1,6 @@
+%token N
+%%
+/* %expect 2 */
+e : e '-' e
+  | N
+  ;

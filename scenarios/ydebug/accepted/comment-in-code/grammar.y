@@ -1,0 +1,8 @@
+%{
+/* %expect 1 */
+%}
+%token N
+%%
+e : e '-' e { /* %expect 1 */ }
+  | N
+  ;

@@ -1,0 +1,6 @@
+%token N
+%%
+/* %expect 1 or so */
+e : e '-' e
+  | N
+  ;

@@ -1,0 +1,6 @@
+%token N
+%%
+/* %expect-rr 0 */
+e : e '-' e
+  | N
+  ;

@@ -1,0 +1,7 @@
+%token N
+%%
+/* %expect 1 */
+/* %expect 1 */
+e : e '-' e
+  | N
+  ;

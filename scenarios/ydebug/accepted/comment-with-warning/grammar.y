@@ -1,0 +1,6 @@
+%token N IDLE
+/* %expect 1 */
+%%
+e : e '-' e
+  | N
+  ;

@@ -1,0 +1,6 @@
+%token N
+%%
+/* %expect one */
+e : e '-' e
+  | N
+  ;

@@ -1,0 +1,6 @@
+%token N
+%expect 3
+%%
+e: e '-' e
+ | N
+ ;

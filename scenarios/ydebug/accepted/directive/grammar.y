@@ -1,0 +1,6 @@
+%token N
+%expect 1
+%%
+e: e '-' e
+ | N
+ ;

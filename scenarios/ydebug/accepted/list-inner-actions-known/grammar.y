@@ -1,0 +1,7 @@
+%token A B C D
+%%
+s : D { zero(); } C
+  | A { one(); } B
+  | A { two(); } C
+  | A B
+  ;

@@ -1,0 +1,6 @@
+%token A B C
+%%
+s : A { one(); } B
+  | A { two(); } C
+  | A B
+  ;

@@ -1,0 +1,4 @@
+%token N A
+%%
+s : A e | e ;
+e : N | e '-' e ;

@@ -1,0 +1,5 @@
+%token N IDLE
+%%
+e : e '-' e
+  | N
+  ;

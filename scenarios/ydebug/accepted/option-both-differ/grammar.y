@@ -1,0 +1,5 @@
+%token N A
+%%
+s : a | b | b A ;
+a : N ;
+b : N ;

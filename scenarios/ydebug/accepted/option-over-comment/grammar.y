@@ -1,0 +1,6 @@
+%token N
+%%
+/* %expect 7 */
+e : e '-' e
+  | N
+  ;

@@ -1,0 +1,4 @@
+%glr-parser
+%token N
+%%
+e: N ;

@@ -1,0 +1,6 @@
+%define lr.type ielr
+%token N
+%%
+e: e '-' e
+ | N
+ ;

@@ -1,0 +1,5 @@
+%token NUM IDLE
+%left '+'
+%%
+e : e '+' e | NUM ;
+alone : NUM ;

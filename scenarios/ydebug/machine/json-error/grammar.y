@@ -1,0 +1,4 @@
+%token N
+%%
+s : error e ;
+e : e '-' e | N ;
