@@ -80,7 +80,10 @@ pub fn speech_of(
     };
     if style.is_custom() {
         let mut out = rt.stderr();
-        writeln!(out, "ycc: {path}: with %define parse.error custom no message is said")?;
+        writeln!(
+            out,
+            "ycc: {path}: with %define parse.error custom no message is said"
+        )?;
         return Err(Ending::Refused);
     }
     Ok(Some(read_speech(rt, path, tables)?))

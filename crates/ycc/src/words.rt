@@ -109,7 +109,9 @@ fn with_kinds<'a>(alloc: Global, command: Command<'a>) -> Result<Command<'a>, Al
 fn with_options<'a>(alloc: Global, command: Command<'a>) -> Result<Command<'a>, AllocError> {
     let prefix = "What the names of the files begin with";
     let names = "What names in C begin with, yy unless given";
-    let messages = Arg::new(alloc, "messages").long("messages").value_name("FILE");
+    let messages = Arg::new(alloc, "messages")
+        .long("messages")
+        .value_name("FILE");
     let spoken = "The parser says the messages of this file for its errors";
     let defines = option(
         alloc,

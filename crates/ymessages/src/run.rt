@@ -266,9 +266,7 @@ fn refused<F: Files + AllocGlobal, E: Write>(
 ) -> io::Result<Option<u8>> {
     let (output, grammar) = (output_of(asked), asked.grammar.path);
     match asked.messages {
-        Some(file) if !asked.update => {
-            refused_output(rt, output, &[grammar, file.path], errors)
-        }
+        Some(file) if !asked.update => { refused_output(rt, output, &[grammar, file.path], errors) }
         _ => refused_output(rt, output, &[grammar], errors),
     }
 }

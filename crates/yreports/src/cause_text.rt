@@ -84,15 +84,17 @@ impl CauseText<'_> {
     }
 
     /// Writes which conflicts go without a rule that others cover.
-    fn put_covered<W: Write>(
-        self,
-        out: &mut W,
-        covered: &Covered,
-        all: usize,
-    ) -> io::Result<()> {
+    fn put_covered<W: Write>(self, out: &mut W, covered: &Covered, all: usize) -> io::Result<()> {
         let (settles, rule) = (covered.settles, Numbered(self.lines, covered.rule));
-        let go = if settles == 1 { "conflicts goes" } else { "conflicts go" };
-        write!(out, "  {settles} of {all} {go} without {rule}: what it derives comes of ")?;
+        let go = if settles == 1 {
+            "conflicts goes"
+        } else {
+            "conflicts go"
+        };
+        write!(
+            out,
+            "  {settles} of {all} {go} without {rule}: what it derives comes of "
+        )?;
         for (place, rule) in covered.by.iter().enumerate() {
             let is_last = place.saturating_add(1) == covered.by.len();
             let front = match place {

@@ -86,7 +86,10 @@ pub fn split_of(
         return Ok(None);
     }
     let mut best: Option<Split> = None;
-    for (symbol, rule) in copies_of(alloc, grammar, kind.rules())?.iter().take(MOST_COPIES) {
+    for (symbol, rule) in copies_of(alloc, grammar, kind.rules())?
+        .iter()
+        .take(MOST_COPIES)
+    {
         let (symbol, rule) = (*symbol, *rule);
         let change = Change::Copied { symbol, rule };
         let left = conflicts_after(alloc, grammar, lines, change)?.unwrap_or(all);
@@ -104,16 +107,18 @@ pub fn split_of(
 
 impl Split {
     /// Writes how states are split.
-    pub fn put<W: Write>(
-        self,
-        out: &mut W,
-        grammar: &Grammar,
-        lines: &Lines,
-    ) -> io::Result<()> {
+    pub fn put<W: Write>(self, out: &mut W, grammar: &Grammar, lines: &Lines) -> io::Result<()> {
         let (name, rule) = (Name(grammar, self.symbol), Numbered(lines, self.rule));
         let (left, all) = (self.left, self.all);
-        let conflicts = if all == 1 { "conflict is" } else { "conflicts are" };
-        write!(out, "  With a copy of {name}, which has the same rules, in {rule} ")?;
+        let conflicts = if all == 1 {
+            "conflict is"
+        } else {
+            "conflicts are"
+        };
+        write!(
+            out,
+            "  With a copy of {name}, which has the same rules, in {rule} "
+        )?;
         writeln!(out, "{left} of {all} {conflicts} left.")
     }
 }
