@@ -18,12 +18,12 @@ use ysymbols::Sym;
 use ytables::Tables;
 
 /// The most steps of a search for two trees: items that are looked at, and pairs of stacks.
-const MOST_STEPS: usize = 200_000;
+const MOST_STEPS: usize = 20_000;
 
 /// How many steps all searches of a run may take, beside those that each may take in any case.
-const ALL_STEPS: usize = 2_000_000;
+const ALL_STEPS: usize = 200_000;
 
-const LEAST_STEPS: usize = 5_000;
+const LEAST_STEPS: usize = 1_000;
 
 /// The most pairs of parses that come to one stack of which sentences are made.
 const MOST_JOINED: usize = 20;
@@ -293,28 +293,27 @@ impl Ambiguities {
         let Some(tree) = self.tree(automaton, finder, &course)? else {
             return Ok(None);
         };
+        let dot = before.len();
         let claim = Claim {
-            grammar: automaton.grammar(),
-            tokens: &tokens,
-            dot: before.len(),
+            tokens,
+            dot,
             token: cell.token,
-            way: frame.way,
+            way: Vec::from_slice(self.alloc, frame.way)?,
             choice,
         };
-        let is_right = is_derivation(self.alloc, &self.trees, tree, claim)?;
-        let dot = before.len();
-        let is_short = tokens.len() as u64 <= MOST_TOKENS && !tokens.contains(&ERROR);
+        let grammar = automaton.grammar();
+        let is_right = is_derivation(self.alloc, grammar, &self.trees, tree, &claim)?;
+        let Claim { tokens, .. } = claim;
+        if !is_right || tokens.len() as u64 > MOST_TOKENS || tokens.contains(&ERROR) {
+            return Ok(None);
+        }
         let sentence = Sentence {
             choice,
             tokens,
             dot,
             refused: None,
         };
-        if is_right && is_short {
-            Ok(Some((sentence, tree)))
-        } else {
-            Ok(None)
-        }
+        Ok(Some((sentence, tree)))
     }
 
     /// What a parse does in all: it comes to the conflict, makes a choice, goes on, and ends.

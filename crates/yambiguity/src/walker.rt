@@ -10,18 +10,16 @@ use ysymbols::{Grammar, Sym};
 
 /// What a tree is to be: one of the start symbol, with these tokens, in which the rival stands after
 /// so many of them, with a way before it: the symbols that a parse has on its stack there.
-#[derive(Clone, Copy)]
-pub struct Claim<'a> {
-    /// The grammar.
-    pub grammar: &'a Grammar,
+#[derive(Drop)]
+pub struct Claim {
     /// The sentence.
-    pub tokens: &'a [Sym],
+    pub tokens: Vec<Sym>,
     /// How many of its tokens stand before the conflict.
     pub dot: usize,
     /// The token of the conflict.
     pub token: Sym,
     /// The symbols on the stack.
-    pub way: &'a [Sym],
+    pub way: Vec<Sym>,
     /// The rival.
     pub choice: Choice,
 }
@@ -37,9 +35,7 @@ enum Visit {
 
 /// A walk over a tree, from left to right.
 #[derive(Drop)]
-struct Walk<'a> {
-    claim: Claim<'a>,
-    trees: &'a Trees,
+struct Walk {
     open: Vec<Visit>,
     /// The symbols of the whole trees to the left.
     before: Vec<Sym>,
@@ -49,7 +45,7 @@ struct Walk<'a> {
     is_met: bool,
 }
 
-impl Claim<'_> {
+impl Claim {
     /// Whether the token of the conflict comes after those before the conflict.
     fn has_token(&self) -> bool {
         match self.tokens.get(self.dot) {
@@ -59,53 +55,64 @@ impl Claim<'_> {
     }
 }
 
-impl Walk<'_> {
+impl Walk {
     /// Whether the walk stands at the place of the conflict.
-    fn is_there(&self) -> bool {
-        self.tokens.len() == self.claim.dot && self.before.as_slice() == self.claim.way
+    fn is_there(&self, claim: &Claim) -> bool {
+        self.tokens.len() == claim.dot && self.before.as_slice() == claim.way.as_slice()
     }
 
     /// Goes over a tree, and says whether it is one of its rule.
-    fn enter(&mut self, tree: usize) -> Made<bool> {
-        let Some(node) = self.trees.node(tree) else {
+    fn enter(
+        &mut self,
+        grammar: &Grammar,
+        trees: &Trees,
+        claim: &Claim,
+        tree: usize,
+    ) -> Made<bool> {
+        let Some(node) = trees.node(tree) else {
             return Ok(false);
         };
         match node.rule {
-            Some(rule) => self.enter_rule(tree, node, rule),
-            None => self.enter_token(node.symbol),
+            Some(rule) => self.enter_rule(grammar, trees, tree, node, rule),
+            None => self.enter_token(grammar, claim, node.symbol),
         }
     }
 
     /// Goes over a token.
-    fn enter_token(&mut self, token: Sym) -> Made<bool> {
-        if self.claim.choice == Choice::Shift && self.is_there() && token == self.claim.token {
+    fn enter_token(&mut self, grammar: &Grammar, claim: &Claim, token: Sym) -> Made<bool> {
+        if claim.choice == Choice::Shift && token == claim.token && self.is_there(claim) {
             self.is_met = true;
         }
         self.before.push(token)?;
         self.tokens.push(token)?;
-        Ok(self.claim.grammar.is_token(token))
+        Ok(grammar.is_token(token))
     }
 
     /// Goes over a tree of a rule: its children come next.
-    fn enter_rule(&mut self, tree: usize, node: Node, rule: usize) -> Made<bool> {
-        let children = self.trees.children(tree);
-        let body = body_of(self.claim.grammar, rule);
-        let mut is_right = left_of(self.claim.grammar, rule) == Some(node.symbol);
-        is_right = is_right && body.len() == children.len();
+    fn enter_rule(
+        &mut self,
+        grammar: &Grammar,
+        trees: &Trees,
+        tree: usize,
+        node: Node,
+        rule: usize,
+    ) -> Made<bool> {
+        let children = trees.children(tree);
+        let body = body_of(grammar, rule);
+        let mut pairs = children.iter().zip(body);
+        let are_right = pairs.all(|(child, symbol)| trees.symbol(*child) == Some(*symbol));
         self.open.push(Visit::Close(node, self.before.len()))?;
-        for (child, symbol) in children.iter().zip(body) {
-            is_right = is_right && self.trees.symbol(*child) == Some(*symbol);
-        }
         for child in children.iter().rev() {
             self.open.push(Visit::Open(*child))?;
         }
-        Ok(is_right)
+        let is_left = left_of(grammar, rule) == Some(node.symbol);
+        Ok(is_left && are_right && body.len() == children.len())
     }
 
     /// The symbol of a tree comes in place of its children.
-    fn leave(&mut self, node: Node, before: usize) -> Made<()> {
-        let rule = self.claim.choice.rule();
-        if rule.is_some() && rule == node.rule && self.is_there() {
+    fn leave(&mut self, claim: &Claim, node: Node, before: usize) -> Made<()> {
+        let rule = claim.choice.rule();
+        if rule.is_some() && rule == node.rule && self.is_there(claim) {
             self.is_met = true;
         }
         self.before.truncate(before);
@@ -114,13 +121,13 @@ impl Walk<'_> {
     }
 
     /// Goes over all, and says whether each tree is one of its rule.
-    fn go(&mut self) -> Made<bool> {
+    fn go(&mut self, grammar: &Grammar, trees: &Trees, claim: &Claim) -> Made<bool> {
         for _ in 0..MOST_NODES {
             match self.open.pop() {
                 None => return Ok(true),
-                Some(Visit::Close(node, before)) => self.leave(node, before)?,
+                Some(Visit::Close(node, before)) => self.leave(claim, node, before)?,
                 Some(Visit::Open(tree)) => {
-                    if !self.enter(tree)? {
+                    if !self.enter(grammar, trees, claim, tree)? {
                         return Ok(false);
                     }
                 }
@@ -131,25 +138,30 @@ impl Walk<'_> {
 }
 
 /// Whether a tree is what is claimed.
-pub fn is_derivation(alloc: Global, trees: &Trees, tree: usize, claim: Claim<'_>) -> Made<bool> {
+pub fn is_derivation(
+    alloc: Global,
+    grammar: &Grammar,
+    trees: &Trees,
+    tree: usize,
+    claim: &Claim,
+) -> Made<bool> {
     let mut walk = Walk {
-        claim,
-        trees,
         open: Vec::new(alloc),
         before: Vec::new(alloc),
         tokens: Vec::new(alloc),
         is_met: false,
     };
     walk.open.push(Visit::Open(tree))?;
-    let is_whole = walk.go()?;
-    let start = body_of(claim.grammar, 0).get(..1).unwrap_or(&[]);
+    let is_whole = walk.go(grammar, trees, claim)?;
+    let start = body_of(grammar, 0).get(..1).unwrap_or(&[]);
     // where the end is the token, the input is accepted: nothing is shifted
-    let is_accepted = claim.choice == Choice::Shift && claim.token == END && claim.way == start;
+    let is_last = claim.choice == Choice::Shift && claim.token == END;
+    let is_accepted = is_last && claim.way.as_slice() == start;
     Ok(
         is_whole
             && (walk.is_met || is_accepted)
             && claim.has_token()
             && walk.before.as_slice() == start
-            && walk.tokens.as_slice() == claim.tokens,
+            && walk.tokens.as_slice() == claim.tokens.as_slice(),
     )
 }

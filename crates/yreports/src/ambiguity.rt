@@ -27,6 +27,17 @@ fn allows_of(finding: &Finding, rule: usize) -> Option<Allows> {
     list.map(|list| list.allows)
 }
 
+/// Which rivals the lists allow that were found for two rivals, where they need no further search.
+fn allowed(finding: &Finding, rivals: Rivals) -> Option<Allows> {
+    let allows = allows_of(finding, rivals.second)?;
+    let taken = rivals.first.rule();
+    let lacks = taken.is_some_and(|rule| allows_of(finding, rule).is_none());
+    if allows == Allows::One && lacks {
+        return None;
+    }
+    Some(allows)
+}
+
 /// What can be found for a rule beside what is taken, where there is a list for it.
 fn answer_of(
     seeker: &mut Seeker<'_>,
@@ -62,7 +73,7 @@ pub fn answers_of(
             first: taken_of(entry),
             second: *rule,
         };
-        let allows = allows_of(finding, *rule);
+        let allows = allowed(finding, rivals);
         if let Some(answer) = answer_of(seeker, found, allows, rivals)? {
             let is_last = answer.twins.is_some();
             answers.push(answer)?;

@@ -99,7 +99,8 @@ impl BlockText<'_> {
         let entry = block.first;
         page.end();
         let _ = write!(page, "conflict {}: ", entry.number.saturating_add(1));
-        let _ = explain(page, entry.cell(self.tables, self.lines));
+        let asked = entry.cell(self.tables, self.lines);
+        let _ = explain(page, asked);
         if let Some(class) = block.classes.first() {
             self.put_same(page, class);
         }

@@ -120,8 +120,9 @@ impl Class {
     fn new(alloc: Global, asked: Question<'_>, entry: Entry) -> io::Result<Class> {
         let mut text = Vec::new(alloc);
         asked.put_reason(&mut text)?;
+        let shown = asked.name();
         let mut name = Vec::new(alloc);
-        write!(name, "{}", asked.name())?;
+        write!(name, "{shown}")?;
         let reason = without_rivals(alloc, &text)?;
         let marked = marked(alloc, &reason, &name)?;
         Ok(Class {
@@ -209,7 +210,8 @@ pub fn blocks_of(
         if blocks.is_full(&entry) {
             break;
         }
-        let class = Class::new(alloc, entry.cell(tables, lines), entry)?;
+        let asked = entry.cell(tables, lines);
+        let class = Class::new(alloc, asked, entry)?;
         blocks.add(alloc, entry, class)?;
     }
     Ok(blocks)
