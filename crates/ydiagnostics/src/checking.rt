@@ -105,14 +105,9 @@ impl Told {
         let tables = &self.language.opened.tables;
         let verdict = verdict_on(alloc, tables, &input.tokens)?;
         let message = self.message(alloc, input, &verdict)?;
-        let message = message.as_ref().map(Vec::as_slice);
-        judged(
-            alloc,
-            grammar_of(tables),
-            source,
-            (input, &verdict),
-            message,
-        )
+        let told = message.as_ref().map(Vec::as_slice);
+        let grammar = grammar_of(tables);
+        judged(alloc, grammar, source, (input, &verdict), told)
     }
 }
 

@@ -238,11 +238,14 @@ impl Shown<'_> {
             is_sought = is_sought && sheets.len() < MOST_SOUGHT && seeker.finder.has_steps();
             let lists = if is_sought {
                 let finding = seeker.find(kind, *group)?;
-                Some(list_sheets(alloc, grammar_of(seeker.session.tables()), &finding)?)
+                let tables = seeker.session.tables();
+                let grammar = grammar_of(tables);
+                Some(list_sheets(alloc, grammar, &finding)?)
             } else {
                 None
             };
-            let grammar = grammar_of(seeker.session.tables());
+            let tables = seeker.session.tables();
+            let grammar = grammar_of(tables);
             let sheet = self.kind_sheet(alloc, grammar, (kind, *group), lists)?;
             sheets.push(sheet).map_err(AllocError::from)?;
         }

@@ -68,14 +68,17 @@ fn fault_spot(alloc: Global, source: &[u8]) -> Option<(usize, usize)> {
     }
 }
 
-/// Gives the fault of a grammar file of yacc its column.
+/// Gives the fault of a grammar file of yacc its column, where it stands on the line of that.
 pub fn place_fault<F: Files + AllocGlobal>(rt: &F, path: &str, diagnostics: &mut [Diagnostic]) {
     let Ok(source) = grammar_bytes(rt, path) else {
         return;
     };
-    if let (Some(spot), Some(first)) = (fault_spot(rt.alloc(), &source), diagnostics.first_mut()) {
-        if first.line == Some(spot.0) {
-            first.column = Some(spot.1);
+    let Some((line, column)) = fault_spot(rt.alloc(), &source) else {
+        return;
+    };
+    if let Some(first) = diagnostics.first_mut() {
+        if first.line == Some(line) {
+            first.column = Some(column);
         }
     }
 }

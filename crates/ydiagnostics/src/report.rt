@@ -224,7 +224,8 @@ fn add_found(
         path: asked.file.path,
         severity,
     };
-    let conflicts = shown.diagnostics(alloc, grammar_of(&opened.tables), found)?;
+    let grammar = grammar_of(&opened.tables);
+    let conflicts = shown.diagnostics(alloc, grammar, found)?;
     add_all(all, conflicts)?;
     Ok(add_warnings(alloc, all, asked, opened)?)
 }
@@ -254,18 +255,18 @@ fn put_judged<W: Write>(
     )?;
     let status = status_of(asked.strict, accepted, found.cells > 0, is_warned);
     let sheet = sheet_in(alloc, asked, opened, columns, &found, accepted)?;
-    let conflicts = sheet.as_ref();
-    let said = Said {
-        conflicts,
-        ..said(asked, status, &diagnostics)
-    };
-    said.put(alloc, out, asked.format)
+    let mut all = said(asked, status, &diagnostics);
+    all.conflicts = sheet.as_ref();
+    all.put(alloc, out, asked.format)
 }
 
 /// The columns of the rules of a grammar; none where they aren't those of its file.
 fn columns_in(alloc: Global, counted: &Counted) -> io::Result<Vec<Option<usize>>> {
     match &counted.source {
-        Some(source) => columns_of(alloc, source, grammar_of(&counted.opened.tables)),
+        Some(source) => {
+            let grammar = grammar_of(&counted.opened.tables);
+            columns_of(alloc, source, grammar)
+        }
         None => Ok(Vec::new(alloc)),
     }
 }

@@ -60,7 +60,7 @@ impl<'a> About<'a> {
         for path in self.paths {
             if let Some(rest) = line.strip_prefix(path.as_bytes()) {
                 if let Some(rest) = rest.strip_prefix(b":") {
-                    return Some((path, rest));
+                    return Some((*path, rest));
                 }
             }
         }
