@@ -5,7 +5,8 @@
 
 use crate::diagnostic::{Diagnostic, Severity, Spot};
 use std::alloc::{AllocError, Global};
-use std::{io, str};
+use std::io::{self, ErrorKind};
+use std::str;
 use yexplain::text::Escaped;
 
 /// What lines are about: the files that they may name, and how bad what they say is.
