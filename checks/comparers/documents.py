@@ -3,17 +3,19 @@
     documents [ydebug=PATH] [--seconds N] [--seed N]
 
 The conflicts of each grammar of the scenarios, and of random ones: their counts, cells and kinds,
-their states, tokens, rules and counterexamples, the warnings, and each line as gcc has it. Rules
-and their columns are looked up in the file. Then verdicts on random inputs. The last line is
+their states, tokens, rules and counterexamples, the warnings, and each line as gcc has it. The
+numbers of conflicts in the report are the places of kinds in the document. Columns of rules are
+looked up in the file. Then verdicts on random inputs. The last line is
 `N passed, M failed`: grammars.
 """
 import json
 import random
 import re
 import tempfile
+from itertools import takewhile
 from pathlib import Path
 
-from checks.comparers.conflicts import HEAD, lists_in, parts_of
+from checks.comparers.conflicts import GIVEN_UP, HEAD, lists_in, parts_of
 from checks.shared.arguments import asked
 from checks.shared.grammars import productive
 from checks.shared.places import SCENARIOS
@@ -27,6 +29,11 @@ COUNTS = re.compile(
 REDUCE = re.compile(r"  reduce  rule (\d+) (?:\(line (\d+)\))? *(.*)")
 WARNING = re.compile(r"warning: (?:line (\d+): )?(.*)")
 STATES = re.compile(r"  The same in (\d+) states, the last of them (\d+)\.")
+MORE = re.compile(r"(?m)^\d+ kinds? more[;,]")
+NUMBER = re.compile(r"conflict (\d+): ")
+# Further tokens of a block, which stand on the lines after this one.
+OTHERS = re.compile(r"  (?:The same|Also) on \d+ other tokens?, conflicts? (.*):")
+TOKEN = re.compile(r"'.[^']*'|\S+")
 WORDS = {"shift": "shift", "accept": "shift", "reduce": "reduce"}
 
 
@@ -53,9 +60,11 @@ def lists_told(part):
 
 
 def wrong_lists(part, kind):
-    """What is wrong with counterexamples."""
+    """What is wrong with counterexamples, unless they weren't sought, or were given up."""
     told, lists = lists_told(part), kind["lists"]
-    if lists is None or len(told) != len(lists):
+    if lists is None or GIVEN_UP in part:
+        return None
+    if len(told) != len(lists):
         return f"{len(told)} lists, told {lists}"
     for (rules, alone, tokens), found in zip(told, lists):
         if tokens != found["tokens"] or (alone and found["both"]):
@@ -86,6 +95,45 @@ def wrong_kind(part, kind):
         if (rule["rule"], rule["line"], rule["text"]) not in rules:
             return f"rules {rules}, told {rule}"
     return wrong_states(part, kind) or wrong_lists(part, kind)
+
+
+def numbers_in(text):
+    """The numbers that a text lists: `2 to 4, 7`."""
+    for part in text.split(", "):
+        first, _, last = part.partition(" to ")
+        yield from range(int(first), int(last or first) + 1)
+
+
+def others_in(part):
+    """The further conflicts of a block: the number and the token of each."""
+    for at, line in enumerate(part):
+        if found := OTHERS.fullmatch(line):
+            tokens = takewhile(lambda it: it.startswith("    "), part[at + 1 :])
+            yield from zip(numbers_in(found[1]), TOKEN.findall(" ".join(tokens)))
+
+
+def wrong_other(head, kind, token):
+    """What is wrong with a further conflict of a block: it differs from the first by its token."""
+    same = "state", "taken", "rules", "more"
+    fits = kind["token"] == token and all(kind[it] == head[it] for it in same)
+    return None if fits else f"{token} beside {head}, told {kind}"
+
+
+def wrong_block(part, kinds):
+    """What is wrong with a block of conflicts."""
+    head = kinds[int(NUMBER.match(part[0])[1]) - 1]
+    wrong = [wrong_other(head, kinds[at - 1], token) for at, token in others_in(part)]
+    return wrong_kind(part, head) or next(filter(None, wrong), None)
+
+
+def wrong_places(parts, kinds, text):
+    """What is wrong with the numbers of conflicts: unless some weren't sought, all are told."""
+    told = [int(NUMBER.match(part[0])[1]) for part in parts]
+    told += [at for part in parts for at, _ in others_in(part)]
+    wanted = set(range(1, len(kinds) + 1))
+    fits = len(told) == len(set(told)) and set(told) <= wanted
+    fits = fits and (set(told) == wanted or MORE.search(text))
+    return None if fits else f"conflicts {sorted(told)}, told {len(kinds)}"
 
 
 def wrong_columns(source, kinds):
@@ -119,11 +167,11 @@ def lines_of(diagnostics):
 def wrong_conflicts(source, text, found, diagnostics):
     """What is wrong with the conflicts of a grammar."""
     parts, kinds = parts_of(text), found["kinds"]
+    if kinds and kinds[0]["lists"] is None:
+        return f"no lists: {kinds[0]}"
     wrong = wrong_counts(text, found) or wrong_columns(source, kinds)
-    wrong = wrong or wrong_warnings(text, diagnostics)
-    if wrong or len(parts) > len(kinds):
-        return wrong or f"{len(parts)} conflicts, told {len(kinds)}"
-    return next(filter(None, map(wrong_kind, parts, kinds)), None)
+    wrong = wrong or wrong_warnings(text, diagnostics) or wrong_places(parts, kinds, text)
+    return wrong or next(filter(None, (wrong_block(it, kinds) for it in parts)), None)
 
 
 def differences(source, text, document, lines):

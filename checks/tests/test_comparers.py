@@ -193,6 +193,19 @@ class Documents(Planted):
         less = self.lines.split("\n", 1)[1]
         self.each_caught(look, self.lines, *changed(self.lines, *pairs), less)
 
+    def test_blocks(self):
+        """Further tokens of a block: each stands once, and differs from the first by its token."""
+        part = ["conflict 1: state 4 on A: shift, to state 3"]
+        part += ["  The same on 3 other tokens, conflicts 2 to 3, 5:", "    '-' ' '", "    B", "  so"]
+        others = [(2, "'-'"), (3, "' '"), (5, "B")]
+        self.assertEqual(list(documents.others_in(part)), others)
+        look = lambda count: documents.wrong_places([part, ["conflict 4: "]], [{}] * count, "")
+        self.each_caught(look, 5, 4, 6)
+        head = {"state": 4, "taken": "shift", "rules": [], "more": 0, "token": "A"}
+        changes = [{}, {"token": "B", "state": 5}, {"token": "B", "rules": [1]}]
+        wrong = lambda it: documents.wrong_other(head, head | it, "B")
+        self.each_caught(wrong, {"token": "B"}, *changes)
+
     def test_verdicts(self):
         """Another verdict, number or token than the plain line has."""
         sheet = {"verdict": "rejected", "steps": None, "number": 2, "token": "B", "expected": ["A"]}
