@@ -12,7 +12,9 @@
 # make features   builds small programs, each of which uses a feature of bison's or byacc's files, by the peer and by ycc, and compares what they do; it takes bison, byacc and a C compiler; some minutes
 # make packages   builds some source packages of Debian with parsers that ycc makes and with those of byacc or bison, runs their own tests, and gives both builds 300 spoiled inputs for each program; PACKAGES="bc units" names some. It takes a network, byacc, bison, flex, cmake, automake and meson
 # make drivers    builds the drivers in C and Python, and compares their steps with those of ystep, over scenarios, at random and by tables that are wrong
-# make install    copies programs, manual pages, completions, drivers and books below PREFIX (/usr/local), and with DESTDIR below that; make build comes first. The yacc that writes tables and no C goes to libexec/sulderko; TABLE_WRITER=1 puts it into bin. YACC_LINK=1 makes bin/yacc a symbolic link to ycc, for builds that call it so
+# make library    proves the crate yembed and leaves libsulderko.a and libsulderko.so.1 in bin/: the proved core for programs in C and Python
+# make library-test  runs that library: the scenarios of ystep through C and Python, every room, refused memory, threads; some minutes
+# make install    copies programs, manual pages, completions, drivers and books below PREFIX (/usr/local), and with DESTDIR below that; make build comes first. The library is copied where make library built it, but for NO_LIBRARY=1. The yacc that writes tables and no C goes to libexec/sulderko; TABLE_WRITER=1 puts it into bin. YACC_LINK=1 makes bin/yacc a symbolic link to ycc, for builds that call it so
 # make uninstall  takes the same files away; a bin/yacc that isn't ours stays
 # make dist       packs what git has of this state into bin/; its name has what VERSION says
 # make deb        makes a Debian package in bin/ of the programs there; make deb-test tries it in a scratch root, with lintian, CMake and Meson (packaging/README.md says what both need)
@@ -21,10 +23,10 @@
 # make edits      tries every mutant that the prover must refuse, also those that the gate leaves out, on a copy; some 40 minutes
 # make selftest   gives each check wrong answers, which it has to catch; under a minute
 # make try-install   tries make install, uninstall and dist in an empty folder, by the programs that make build left
-# make test       the gate: every proof from nothing, the mutants in must-fail, the tests, the stored runs, make selftest, the scenarios, make hostile, make refuse over three examples, the allocations of every session, the parsers, the drivers, each comparison for half a minute at most, and the pages where there is a browser
+# make test       the gate: every proof from nothing, the mutants in must-fail, the tests, the stored runs, make selftest, the scenarios, make hostile, make refuse over three examples, the allocations of every session, the parsers, the drivers, the library, each comparison for half a minute at most, and the pages where there is a browser
 #
 # python3 -m checks --help lists all checks as commands; python3 -m checks scenario NAME runs one scenario.
-.PHONY: demo examples scenarios accept build bench refuse debug page-test compare parsers features packages drivers install uninstall dist deb deb-test imports hostile edits selftest try-install test
+.PHONY: demo examples scenarios accept build bench refuse debug page-test compare parsers features packages drivers library library-test install uninstall dist deb deb-test imports hostile edits selftest try-install test
 
 # The checks, and where `make build` leaves a program. Without a path a check takes crates/NAME/out/NAME.
 checks := python3 -m checks
@@ -96,13 +98,21 @@ bin/libydriver.a: $(objects)
 drivers: build bin/libydriver.a
 	@$(checks) drivers $(call at,yacc ystep ydebug)
 
+library:
+	@python3 packaging/library.py
+
+library-test:
+	@$(checks) library
+
 # The files that name where things are.
 writer := $(if $(TABLE_WRITER),bin/yacc,libexec/sulderko/yacc)
-filled := bin/ydriver.pc bin/SulderkoConfig.cmake bin/SulderkoConfigVersion.cmake
+filled := bin/ydriver.pc bin/sulderko.pc bin/SulderkoConfig.cmake bin/SulderkoConfigVersion.cmake
 fill = mkdir -p bin && sed 's,@PREFIX@,$(PREFIX),; s,@LIBDIR@,$(LIBDIR),; s,@WRITER@,$(writer),; s,@VERSION@,$(VERSION),' $< > $@
 
 .PHONY: $(filled)
 bin/ydriver.pc: drivers/c/ydriver.pc.in
+	@$(fill)
+bin/sulderko.pc: packaging/sulderko.pc.in
 	@$(fill)
 bin/SulderkoConfig.cmake bin/SulderkoConfigVersion.cmake: bin/%.cmake: packaging/cmake/%.cmake.in
 	@$(fill)
@@ -147,6 +157,19 @@ define copies
 endef
 export copies
 
+# What is copied of the library, where it was built.
+define library_copies
+644 include/sulderko.h include/sulderko.h
+644 bin/libsulderko.a $(LIBDIR)/libsulderko.a
+644 bin/libsulderko.so.1 $(LIBDIR)/libsulderko.so.1
+644 bin/sulderko.pc $(LIBDIR)/pkgconfig/sulderko.pc
+644 man/sulderko.3 share/man/man3/sulderko.3
+644 docs/LIBRARY.md $(books)/LIBRARY.md
+endef
+export library_copies
+has_library := test -z "$(NO_LIBRARY)" && test -f bin/libsulderko.a
+shared_link := $(there)/$(LIBDIR)/libsulderko.so
+
 # The program that writes tables and no C is on the path only where that is asked for.
 define aside
 755 bin/yacc libexec/sulderko/yacc
@@ -161,12 +184,16 @@ export aside on_path
 install: bin/libydriver.a $(filled)
 	@test -z "$(TABLE_WRITER)" || test -z "$(YACC_LINK)" || { echo "TABLE_WRITER and YACC_LINK both want bin/yacc"; exit 1; }
 	@for name in ycc yacc ystep ydebug; do test -x bin/$$name || { echo "no bin/$$name: make build"; exit 1; }; done
-	@{ echo "$$copies"; echo "$$$(if $(TABLE_WRITER),on_path,aside)"; } | while read -r mode from to; do \
+	@{ echo "$$copies"; echo "$$$(if $(TABLE_WRITER),on_path,aside)"; \
+	  ! { $(has_library); } || echo "$$library_copies"; } | while read -r mode from to; do \
 	  mkdir -p "$(there)/$${to%/*}" && install -m "$$mode" "$$from" "$(there)/$$to" || exit 1; done
+	@! { $(has_library); } || ln -sf libsulderko.so.1 "$(shared_link)"
 	@test -z "$(YACC_LINK)" || ln -sf ycc "$(there)/bin/yacc"
 
 uninstall:
-	@{ echo "$$copies"; echo "$$aside"; } | while read -r mode from to; do rm -f "$(there)/$$to" || exit 1; done
+	@{ echo "$$copies"; echo "$$aside"; echo "$$library_copies"; } | while read -r mode from to; do \
+	  rm -f "$(there)/$$to" || exit 1; done
+	@rm -f "$(shared_link)"
 	@test "$$(readlink "$(there)/bin/yacc")" != ycc || rm "$(there)/bin/yacc"
 	@echo "$$on_path" | while read -r mode from to; do \
 	  ! cmp -s "$$from" "$(there)/$$to" || rm "$(there)/$$to" || exit 1; done

@@ -34,6 +34,9 @@ GROUPS = {
         "parsers": "parsers.parsers",
         "drivers": "parsers.drivers",
     },
+    "the library": {
+        "library": "library.run",
+    },
     "bison, byacc, and packages that use them": {
         "features": "peers.features",
         "packages": "peers.packages",

@@ -21,7 +21,7 @@ export SOURCE_DATE_EPOCH
 machine=$(dpkg --print-architecture)
 
 make -s -C "$top" install DESTDIR="$root" PREFIX=/usr \
-  LIBDIR="lib/$(dpkg-architecture -q DEB_HOST_MULTIARCH)" ZSHDIR=share/zsh/vendor-completions
+  LIBDIR="lib/$(dpkg-architecture -q DEB_HOST_MULTIARCH)" ZSHDIR=share/zsh/vendor-completions NO_LIBRARY=1
 
 set -- "$root"/usr/bin/* "$root"/usr/libexec/sulderko/*
 strip --strip-unneeded --remove-section=.comment --remove-section=.note "$@"

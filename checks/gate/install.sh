@@ -1,6 +1,7 @@
 #!/bin/sh
 # Tries `make install`, `make uninstall` and `make dist` in an empty folder: the programs run from
 # there, both calculators are built from what lies there, and nothing stays behind.
+# So does the library, where make library built it.
 #
 #     install.sh        after make build
 set -eu
@@ -41,8 +42,16 @@ ${CC:-cc} -std=c99 -I. -o sums $(pkg-config --cflags ydriver) "$there/share/ydri
 PYTHONPATH=. python3 -B "$there/share/ydriver/calculator.py" y.tab < "$top/drivers/sums" |
   cmp - "$top/drivers/answers" || fail "other sums in Python"
 
+if test -f "$top/bin/libsulderko.a"; then
+  sed -n '/^```c$/,/^```$/{/^```/d;p}' "$there/share/doc/sulderko/LIBRARY.md" > example.c
+  # shellcheck disable=SC2046
+  ${CC:-cc} -o example example.c $(pkg-config --cflags --libs sulderko)
+  LD_LIBRARY_PATH="$there/lib" ./example | grep -q "a sentence" || fail "no answer of the library"
+  test -s "$there/share/man/man3/sulderko.3" || fail "no page of the library"
+fi
+
 make -s -C "$top" uninstall DESTDIR="$room/root" PREFIX=/opt/y
-left=$(find "$room/root" -type f)
+left=$(find "$room/root" ! -type d)
 test -z "$left" || fail "left behind: $left"
 
 make -s -C "$top" dist VERSION=0

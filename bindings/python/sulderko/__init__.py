@@ -1,0 +1,35 @@
+"""Sulderko's proved core: tables of yacc grammars, verdicts on tokens, sessions of `ystep`.
+
+    >>> import sulderko
+    >>> grammar = "%token NUM %% list : | list NUM ';' ;"
+    >>> sulderko.judge(grammar, "NUM ';'")
+    Verdict(outcome=<Outcome.ACCEPTED: 1>, exact=True, steps=5, token=None)
+
+Each function is one call of libsulderko, by ctypes: nothing is built, and nothing is decided
+here. Texts are bytes, or strings, which are encoded as UTF-8; texts that come back are bytes. A
+grammar or tokens with a fault raise `Fault`, a grammar with more than 16,384 item sets
+`TooManySets`, and where memory runs out `MemoryError` comes. Threads may call at once: ctypes lets
+the others run meanwhile.
+
+The library is the file that the variable SULDERKO_LIBRARY names; else libsulderko.so.1 where the
+system finds it, or in the folder bin of the checkout that holds this module.
+"""
+from sulderko.answers import Conflicts, Fault, Outcome, TooManySets, Verdict
+from sulderko.calls import conflicts, fault, judge, report, session, table, tokens
+from sulderko.sessions import Session
+
+__all__ = [
+    "Conflicts",
+    "Fault",
+    "Outcome",
+    "Session",
+    "TooManySets",
+    "Verdict",
+    "conflicts",
+    "fault",
+    "judge",
+    "report",
+    "session",
+    "table",
+    "tokens",
+]

@@ -1,0 +1,67 @@
+"""What the library answers."""
+from __future__ import annotations
+
+from dataclasses import dataclass
+from enum import IntEnum
+from typing import Optional
+
+
+class Fault(Exception):
+    """A fault of a grammar or of tokens.
+
+    `code` is that of docs/FAULTS.md, as `G5` or `K1`. Of a grammar, `line` is its line, counted
+    from 1, and `offset` how many bytes stand before what is at fault. Of tokens, `place` says which
+    of them is at fault, counted from 1. What a fault doesn't have is None.
+    """
+
+    def __init__(
+        self,
+        code: str,
+        line: Optional[int] = None,
+        offset: Optional[int] = None,
+        place: Optional[int] = None,
+    ):
+        super().__init__(code, line, offset, place)
+        self.code, self.line, self.offset, self.place = code, line, offset, place
+
+    def __str__(self) -> str:
+        """The words in which `ystep` says it."""
+        if self.line is not None:
+            return f"{self.code} at line {self.line}"
+        return self.code if self.place is None else f"{self.code} at token {self.place}"
+
+
+class TooManySets(Exception):
+    """The grammar has more than 16,384 item sets."""
+
+
+class Outcome(IntEnum):
+    """What a verdict says."""
+
+    ACCEPTED = 1
+    REJECTED = 2
+    LIMIT = 3
+
+
+@dataclass(frozen=True)
+class Verdict:
+    """Whether tokens are a sentence of a grammar.
+
+    They are accepted after `steps` steps, or an error is detected at the token `token`, counted
+    from 1, the end after the last one; or neither within 1,000,000 steps. Where `exact` is true, no
+    cell of the tables has a choice: then no sentence is rejected, and none begins with the tokens
+    up to the rejected one.
+    """
+
+    outcome: Outcome
+    exact: bool
+    steps: Optional[int] = None
+    token: Optional[int] = None
+
+
+@dataclass(frozen=True)
+class Conflicts:
+    """How many conflicts the cells of a grammar's tables count."""
+
+    shift_reduce: int
+    reduce_reduce: int

@@ -1,0 +1,67 @@
+"""The library, and the forms of its calls."""
+from __future__ import annotations
+
+import ctypes
+import os
+from ctypes import POINTER, c_char, c_char_p, c_size_t, c_uint
+from functools import cache
+from pathlib import Path
+
+NAME = "libsulderko.so.1"
+TEXT = [c_char_p, c_size_t]
+
+
+class Conflicts(ctypes.Structure):
+    """struct sulderko_conflicts"""
+
+    _fields_ = [("shift_reduce", c_size_t), ("reduce_reduce", c_size_t)]
+
+
+class Verdict(ctypes.Structure):
+    """struct sulderko_verdict"""
+
+    _fields_ = [
+        ("outcome", c_uint),
+        ("exact", c_uint),
+        ("steps", c_size_t),
+        ("token", c_size_t),
+    ]
+
+
+class Fault(ctypes.Structure):
+    """struct sulderko_fault_info"""
+
+    _fields_ = [
+        ("code", c_uint),
+        ("line", c_size_t),
+        ("offset", c_size_t),
+        ("place", c_size_t),
+    ]
+
+
+BYTES = [POINTER(c_char), c_size_t, POINTER(c_size_t)]
+NUMBERS = [POINTER(c_size_t), c_size_t, POINTER(c_size_t)]
+FORMS = {
+    "session": 3 * TEXT + BYTES,
+    "table": TEXT + BYTES + [POINTER(Conflicts)],
+    "report": TEXT + BYTES + [POINTER(Conflicts)],
+    "tokens": 2 * TEXT + NUMBERS,
+    "judge": 2 * TEXT + [POINTER(Verdict)],
+    "fault": 2 * TEXT + [POINTER(Fault)],
+}
+
+
+def path() -> str:
+    """Where the library is."""
+    built = Path(__file__).resolve().parents[3] / "bin" / NAME
+    return os.environ.get("SULDERKO_LIBRARY") or (str(built) if built.is_file() else NAME)
+
+
+@cache
+def library() -> ctypes.CDLL:
+    """The library, with the forms of its calls."""
+    found = ctypes.CDLL(path())
+    for name, form in FORMS.items():
+        call = getattr(found, f"sulderko_{name}")
+        call.argtypes, call.restype = form, c_uint
+    return found

@@ -1,0 +1,1 @@
+"""The library in C and Python, beside `ystep`."""

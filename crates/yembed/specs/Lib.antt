@@ -1,0 +1,6 @@
+pub mod Memory
+pub mod Refusals
+pub mod Sessions
+pub mod Texts
+pub mod Verdicts
+pub mod Faults
