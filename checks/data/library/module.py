@@ -30,14 +30,14 @@ def raised(call, *words):
 
 def look_at_faults():
     """Each call raises a fault, and `fault` answers it."""
-    syntax, unknown = ("G5", 3, 38, None, "G5 at line 3"), ("K1", None, None, 3, "K1 at token 3")
+    left, unknown = ("G6", 3, 35, None, "G6 at line 3"), ("K1", None, None, 3, "K1 at token 3")
     for call in (sulderko.table, sulderko.report, sulderko.conflicts):
-        hold(call.__name__, raised(call, BROKEN), syntax)
+        hold(call.__name__, raised(call, BROKEN), left)
     for call in (sulderko.tokens, sulderko.judge):
-        hold(call.__name__, raised(call, BROKEN, ""), syntax)
+        hold(call.__name__, raised(call, BROKEN, ""), left)
         hold(call.__name__, raised(call, SUMS, "NUM '+' NIM"), unknown)
     hold("session", raised(sulderko.session, SUMS, "NUM '+' NIM", "show"), unknown)
-    hold("Session", raised(sulderko.Session, BROKEN, ""), syntax)
+    hold("Session", raised(sulderko.Session, BROKEN, ""), left)
     long = raised(sulderko.table, b" " * (1 << 20) + b" ")
     hold("too long", long, ("G1", None, None, None, "G1"))
     hold("no fault", sulderko.fault(SUMS, "NUM"), None)
