@@ -3,7 +3,7 @@
 use crate::diagnostic::{Diagnostic, Severity};
 use crate::document::Said;
 use crate::format::Format;
-use crate::inputs::{InputSheet, Judged, judged, refused};
+use crate::inputs::{InputSheet, Judged, answer_of, refused};
 use crate::places::place_fault;
 use crate::told::{About, add_all, checked};
 use std::alloc::{AllocError, Global};
@@ -101,13 +101,13 @@ impl Told {
     }
 
     /// What is said of an input of these bytes.
-    fn judged(&self, alloc: Global, source: (&str, &[u8]), input: &Input) -> io::Result<Judged> {
+    fn answer(&self, alloc: Global, source: (&str, &[u8]), input: &Input) -> io::Result<Judged> {
         let tables = &self.language.opened.tables;
         let verdict = verdict_on(alloc, tables, &input.tokens)?;
         let message = self.message(alloc, input, &verdict)?;
         let told = message.as_ref().map(Vec::as_slice);
         let grammar = grammar_of(tables);
-        judged(alloc, grammar, source, (input, &verdict), told)
+        answer_of(alloc, grammar, source, (input, &verdict), told)
     }
 }
 
@@ -125,7 +125,7 @@ impl Asked<'_> {
         let bytes = bytes_of(rt, stdin, file);
         let source = copy_of(alloc, &bytes)?;
         match told.language.input_of(alloc, file, bytes)? {
-            Ok(input) => told.judged(alloc, (path, &source), &input),
+            Ok(input) => told.answer(alloc, (path, &source), &input),
             Err(fault) => {
                 let mut text = Vec::new(alloc);
                 let opened = &told.language.opened;

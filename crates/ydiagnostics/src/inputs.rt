@@ -133,7 +133,7 @@ fn place(diagnostics: &mut [Diagnostic], source: &[u8], number: usize) {
 }
 
 /// What is said of an input of these bytes, with a message for its error, where there is one.
-pub fn judged(
+pub fn answer_of(
     alloc: Global,
     grammar: &Grammar,
     (path, source): (&str, &[u8]),
