@@ -150,25 +150,6 @@ impl Asked<'_> {
         Ok(())
     }
 
-    /// Writes what is said of inputs, or without them, and gives the exit status.
-    fn put<W: Write>(
-        self,
-        alloc: Global,
-        (diagnostics, inputs): (&[Diagnostic], Option<&[InputSheet]>),
-        status: u8,
-        out: &mut W,
-    ) -> io::Result<u8> {
-        let said = Said {
-            form: "check",
-            grammar: self.files.grammar.path,
-            status,
-            diagnostics,
-            conflicts: None,
-            inputs,
-        };
-        said.put(alloc, out, self.format)
-    }
-
     /// What lines for people say of the files of the language.
     fn told(self, alloc: Global, text: &[u8], severity: Severity) -> io::Result<Vec<Diagnostic>> {
         let grammar = self.files.grammar.path;
@@ -219,6 +200,25 @@ impl Asked<'_> {
     }
 }
 
+/// Writes what is said of inputs, or without them, and gives the exit status.
+fn put_said<'a, W: Write>(
+    alloc: Global,
+    asked: Asked<'a>,
+    (diagnostics, inputs): (&'a [Diagnostic], Option<&'a [InputSheet]>),
+    status: u8,
+    out: &mut W,
+) -> io::Result<u8> {
+    let said = Said {
+        form: "check",
+        grammar: asked.files.grammar.path,
+        status,
+        diagnostics,
+        conflicts: None,
+        inputs,
+    };
+    said.put(alloc, out, asked.format)
+}
+
 /// Writes what is said of the inputs of a language, after notes on its files, and gives the exit
 /// status.
 fn put_inputs<F: Files + AllocGlobal, R: Read, W: Write>(
@@ -240,7 +240,7 @@ fn put_inputs<F: Files + AllocGlobal, R: Read, W: Write>(
         sheets.diagnostics.as_slice(),
         Some(sheets.inputs.as_slice()),
     );
-    asked.put(alloc, said, sheets.status, out)
+    put_said(alloc, asked, said, sheets.status, out)
 }
 
 /// Writes what is asked for, and gives the exit status, as `ydebug check` does. All that is said
@@ -261,7 +261,8 @@ pub fn run_checking<F: Files + AllocGlobal, R: Read, W: Write>(
             if !asked.files.grammar.bison {
                 place_fault(rt, asked.files.grammar.path, &mut diagnostics);
             }
-            asked.put(rt.alloc(), (&diagnostics, None), status, out)
+            let said = (diagnostics.as_slice(), None);
+            put_said(rt.alloc(), asked, said, status, out)
         }
     }
 }
