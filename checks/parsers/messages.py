@@ -9,12 +9,13 @@ from checks.scenarios.pages import blocks_of
 from checks.shared.places import DRIVERS, TUTORIAL
 from checks.shared.spelling import names_of
 
-# What stands in place of the messages that `ydebug errors` writes, one after the other.
+# What stands in place of the messages that `ydebug errors` writes, one after the other. `$1` isn't
+# among it: an entry of the stack stands by its tokens in `ydebug`, and by its symbol elsewhere.
 TEXTS = (
     "no $0 here",
     "$expected can come,\nand not $0",
     "$$5, $x and $0$",
-    "$expected, please; $1 $0 isn't",
+    "$expected, please; $99$0 isn't",
 )
 # A block of such a file, and the first line of one.
 BLOCK = re.compile(r"((?:.+\n)+)\nunexpected \$0, expected \$expected\n\n?")

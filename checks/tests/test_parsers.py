@@ -136,6 +136,21 @@ class Drivers(Planted):
                 self.counted(lambda tally: look("plain", [("", result)], told, tally)), counts
             )
 
+    def test_pieces(self):
+        """An entry of the stack stands by what the program says, or by its symbol."""
+        said = drivers.Messages(dict.fromkeys(range(9), [b"after ", 1, b" no ", 0]))
+        for show, text in ((None, "after s no 'x'"), (lambda symbol, *_: f"<{symbol}>", None)):
+            told = []
+            parser = drivers.Parser(
+                drivers.read_table(TABLE),
+                error=lambda token, place: told.append(said.of(parser, token, place, show)),
+            )
+            for _ in range(2):
+                parser.push("'x'")
+            symbols = parser.table.names.index("s"), parser.table.names.index("'x'")
+            wanted = text or "after <{}> no <{}>".format(*symbols)
+            self.assertEqual(told, [wanted])
+
     def test_verdicts(self):
         """What a verdict says of an error."""
         told = b"tokens: rejected at token 2: unexpected 'x', expected $end; can't tell of 'y'\n  after"
