@@ -31,7 +31,6 @@ RUNNERS = (
     ["allocations"],
     ["parsers"],
     ["drivers", "--sessions=200", "--tables=2000"],
-    ["library"],
     ["compare", SECONDS],
     ["conflicts", SECONDS],
     ["ambiguities", SECONDS],

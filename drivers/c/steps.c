@@ -2,8 +2,8 @@
    line `LENGTH MESSAGES TOKENS MOST DIGEST`, LENGTH bytes of a table, MESSAGES bytes of messages, none
    where that is 0, and TOKENS lines with the name of a token each. The answer to each is a line for
    each step, at most MOST, as `ystep` has them, and `== ` with what came of it, and after a colon the
-   message for its first error, where there is one. With -Drealloc=refusing each growth of a stack is
-   refused once, and asked for again.
+   message for its first error, where there is one. With -Drealloc=refusing each size of memory is
+   refused once in a case, and asked for again.
 */
 #ifdef realloc
 #undef realloc
@@ -20,9 +20,19 @@
 #ifdef REFUSES
 void *refusing(void *old, size_t size);
 
+/* The sizes that were refused in this case. */
+static size_t sizes[64], refused;
+
+static int is_new(size_t size) {
+  for (size_t at = 0; at < refused; at++)
+    if (sizes[at] == size) return 0;
+  return refused < sizeof sizes / sizeof *sizes;
+}
+
 void *refusing(void *old, size_t size) {
-  static int turn;
-  return ++turn % 2 ? NULL : realloc(old, size);
+  if (!is_new(size)) return realloc(old, size);
+  sizes[refused++] = size;
+  return NULL;
 }
 #endif
 
@@ -86,6 +96,9 @@ static yd_result push_all(yd_parser *parser, const trace *to, char **names, size
 
 static void parse(trace *to, char **names, size_t count) {
   yd_parser parser;
+#ifdef REFUSES
+  refused = 0;
+#endif
   yd_start(&parser, to->table, (yd_calls){.context = to, .step = write_step, .error = keep_message});
   parser.limit = to->most;
   yd_result result = push_all(&parser, to, names, count);
