@@ -23,7 +23,7 @@
 # make edits      tries every mutant that the prover must refuse, also those that the gate leaves out, on a copy; some 40 minutes
 # make selftest   gives each check wrong answers, which it has to catch; under a minute
 # make try-install   tries make install, uninstall and dist in an empty folder, by the programs that make build left
-# make test       the gate: every proof from nothing, the mutants in must-fail, the tests, the stored runs, make selftest, the scenarios, make hostile, make refuse over three examples, the allocations of every session, the parsers, the drivers, the library, each comparison for half a minute at most, and the pages where there is a browser
+# make test       the gate: every proof from nothing, the mutants in must-fail, the tests, the stored runs, make selftest, the scenarios, make hostile, make refuse over three examples, the allocations of every session, the parsers, the drivers, each comparison for half a minute at most, and the pages where there is a browser
 #
 # python3 -m checks --help lists all checks as commands; python3 -m checks scenario NAME runs one scenario.
 .PHONY: demo examples scenarios accept build bench refuse debug page-test compare parsers features packages drivers library library-test install uninstall dist deb deb-test imports hostile edits selftest try-install test

@@ -29,6 +29,7 @@ REFUSED = re.compile(r"    The tables refuse it at (?:token (\d+)|its end)\.")
 INDENT, STEP = 4, 2
 # The most steps of a parse that is looked at.
 MOST_STEPS = 10_000
+ENDLESS = "endless"
 
 
 class Counts:
@@ -123,7 +124,8 @@ def wrong_one(grammar, tokens, dot, rule, token):
 
 
 def refused_by(grammar, tokens):
-    """The place of the token that a parse by the tables refuses, none where it accepts."""
+    """The place of the token that a parse by the tables refuses, none where it accepts; `ENDLESS`
+    where it doesn't end in so many steps."""
     tables, stack, taken = Tables(grammar), [0], 0
     for _ in range(MOST_STEPS):
         ahead = tokens[taken] if taken < len(tokens) else 0
@@ -139,7 +141,7 @@ def refused_by(grammar, tokens):
             rule = grammar.rules[action[1]]
             del stack[len(stack) - len(rule.body) :]
             stack.append(tables.gotos[stack[-1], rule.left])
-    return None
+    return ENDLESS
 
 
 def read_words(words, names):
@@ -199,7 +201,9 @@ def wrong_trees(grammar, drawn):
         return "no tree of rules"
     if one == other:
         return "one tree twice"
-    return None if form_of(one) == form_of(other) else "trees of two forms"
+    # what is below a symbol is left out where the other tree derives it otherwise
+    is_cut = isinstance(one, int) != isinstance(other, int) and symbol_of(one) == symbol_of(other)
+    return None if is_cut or form_of(one) == form_of(other) else "trees of two forms"
 
 
 class Told:
@@ -224,30 +228,41 @@ class Told:
             is_tree = bool(by and not by[2]) or (is_tree and line.startswith("    "))
 
 
-def wrong_told(grammar, told, counts):
-    """What is wrong with what is told of one conflict."""
+def wrong_apart(grammar, told, counts, ends):
+    """What is wrong with the sentences that are told of rivals. After one whose parse doesn't end, of
+    none is told that the tables refuse it, and `ends` is empty."""
     names = grammar.names
-    token = names.index(told.token)
-    if told.two:
-        counts["sentences with two trees"] += 1
-        tokens, _ = read_words(told.two, names)
-        return wrong_two(grammar, tokens) or wrong_trees(grammar, told.drawn)
     for rule, words, refused in told.apart:
         counts["sentences"] += 1
         counts["of these refused by the tables"] += refused is not None
         tokens, dot = read_words(words, names)
-        wrong = wrong_one(grammar, tokens, dot, rule, token)
-        if wrong or refused != refused_by(grammar, tokens):
-            return wrong or f"refused at {refused_by(grammar, tokens)}"
+        wrong = wrong_one(grammar, tokens, dot, rule, names.index(told.token))
+        place = refused_by(grammar, tokens)
+        if place == ENDLESS:
+            ends.clear()
+        wanted = place if ends else None
+        if wrong or refused != wanted:
+            return wrong or f"refused at {place}"
     return None
+
+
+def wrong_told(grammar, told, counts, ends):
+    """What is wrong with what is told of one conflict."""
+    names = grammar.names
+    if told.two:
+        counts["sentences with two trees"] += 1
+        tokens, _ = read_words(told.two, names)
+        return wrong_two(grammar, tokens) or wrong_trees(grammar, told.drawn)
+    return wrong_apart(grammar, told, counts, ends)
 
 
 def differences(grammar, text, counts):
     """What is wrong with the sentences of a report."""
+    ends = {"all"}
     for part in text.split("\n\n")[1:]:
         lines = part.splitlines()
         if lines and HEAD.match(lines[0]):
-            wrong = wrong_told(grammar, Told(lines), counts)
+            wrong = wrong_told(grammar, Told(lines), counts, ends)
             if wrong:
                 return f"{wrong}:\n{part}"
     return None
