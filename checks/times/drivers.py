@@ -7,6 +7,7 @@ at its top. The driver calls a function at each reduction; the actions of byacc 
 byacc and a C compiler (CC, or cc).
 """
 import array
+import sys
 import tempfile
 from pathlib import Path
 
@@ -48,6 +49,8 @@ def build(folder):
 def main(words):
     """Times both parsers."""
     given = asked(__doc__, words, ("yacc",))
+    if len(given.words) < 2:
+        sys.exit(__doc__)
     grammar, tokens, times = [*given.words, "100000"][:3]
     with tempfile.TemporaryDirectory() as name:
         folder = Path(name)
