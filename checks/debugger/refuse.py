@@ -3,7 +3,7 @@
     refuse-debugger [ydebug=PATH] [NAME..]
 
 Each session below gives command lines over an example or a scenario. After every line stands a
-mark, a word that is no command and too long to be compared with one, and `where`. A run must end
+mark, a command whose answer is known and takes no memory, and `where`. A run must end
 with `ydebug: no memory`, status 3 and nothing on standard output, or go on: then each answer is as
 usual for the parse as it stands, or says that there is no memory, and the parse after it is as it
 was, or, after a move, where the steps that were told have led. A suggestion that is missing, or is
@@ -71,7 +71,9 @@ COMMANDS = {
     "update": (HERE / "errors", "errors sums.y --messages update/own --update"),
     "messages": (HERE / "check/messages", "check sums.y one two --messages sums.messages"),
 }
-MARK = "#" * 50
+# A line whose answer takes no memory, and that answer.
+MARK = "help quit"
+MARKED = re.compile(r"(?m)^  quit +ends the session, as the end of input does\n")
 # What a move is, and where a parse stands.
 MOVE = re.compile(r"(s|step|b|back|to|r|run)( |$)")
 PLACE = re.compile(r"^ *(\d+)  \S")
@@ -98,7 +100,7 @@ def run(ydebug, source, given, **more):
 
 def answers(text):
     """The answer to each line and the place after it; none where marks are missing."""
-    parts = re.split(rf"(?m)^{MARK} is no command; .*\n", text)
+    parts = MARKED.split(text)
     if len(parts) % 2 == 0 or parts[-1]:
         return None
     return list(zip(parts[:-1:2], parts[1::2]))

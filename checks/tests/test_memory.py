@@ -222,7 +222,8 @@ class Libraries(Planted):
         return contextlib.redirect_stdout(io.StringIO())
 
 
-STEP, MARKED = "      1  shift    'x'\n", f"{debugger.MARK} is no command; try help\n"
+STEP = "      1  shift    'x'\n"
+MARKED = "  quit        ends the session, as the end of input does\n"
 
 
 class Debugger(Planted):
