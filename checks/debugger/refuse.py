@@ -170,14 +170,21 @@ def is_begun(text, usual):
     return usual.startswith(text) or not others
 
 
-def way_of_command(made, wanted):
-    """How a command has ended, and what is wrong with that, if anything is."""
+def laid(source):
+    """The files that a run finds."""
+    folder, words = source
+    return {it: (folder / it).read_bytes() for it in words if (folder / it).is_file()}
+
+
+def way_of_command(made, wanted, before):
+    """How a command has ended, and what is wrong with that, if anything is: without memory a file is
+    what it was before, or what it is to become."""
     status, text, message, files = made
     if made == wanted:
         return "as usual", None
     told = message.removesuffix(f"ydebug: {NO_MEMORY}\n")
     begun = [is_begun(text, wanted[1]), wanted[2].startswith(told)]
-    begun += [files[it] == wanted[3].get(it) or it == "page" for it in files]
+    begun += [files[it] in (wanted[3].get(it), before.get(it)) or it == "page" for it in files]
     if status == 3 and NO_MEMORY in text + message and all(begun):
         return "end with no memory", None
     return "wrong", f"{status} {message}{text}"
@@ -189,7 +196,7 @@ def refused_once(number, last, ydebug, source, lines, library):
     run_it = partial(run, ydebug, source, given)
     made, calls = refusing(number, last or number, library, run_it)
     if not lines:
-        return *way_of_command(made, run(ydebug, source, given)), calls
+        return *way_of_command(made, run(ydebug, source, given), laid(source)), calls
     status, text, message, _ = made
     if (status, text, message) == (3, "", "ydebug: no memory\n"):
         return "end with no memory", None, calls

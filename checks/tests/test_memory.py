@@ -254,13 +254,14 @@ class Debugger(Planted):
 
         def look(made):
             """Whether an end is wrong."""
-            return debugger.way_of_command(made, usual)[1]
+            return debugger.way_of_command(made, usual, {"out": b"old"})[1]
 
         refused = 3, "one\n", "ydebug: no memory\n", {}
         wrong = (3, "one\n", "", {}), (0, "one\n", "ydebug: no memory\n", {})
         wrong += (3, "other\n", "ydebug: no memory\n", {}), (*refused[:3], {"out": b"tex"})
         wrong += (3, "one\n", "told\nydebug: no memory\n", {}), (*refused[:3], {"more": b""})
         self.each_caught(look, refused, *wrong)
+        self.assertIsNone(look((*refused[:3], {"out": b"old"})))
         self.each_caught(look, usual, (1, *usual[1:]), (0, "one\n", "", usual[3]))
 
 
