@@ -150,6 +150,19 @@ class Conflicts(Planted):
         told = "  With a copy of x, which has the same rules, in rule 1 (line 2) 0 of 2 conflicts are left.\n"
         self.assertEqual(causes.COPY.findall(told), [("x", "1", "0", "2")])
 
+    def test_beside(self):
+        """Conflicts that a hint is told to settle, or a kernel item, too many or too few."""
+        report, look = self.look("three-mistakes")
+        also = ", that also settles conflicts 22, 25"
+        pairs = [(also, also.replace("22, ", "")), (also, also.replace("22", "20, 22"))]
+        self.each_caught(look, report, *changed(report, *pairs))
+        report, look = self.look("kernel-items")
+        item = "    rule 1 (line 3)  stat: EXPLAIN . storage constants NAME\n"
+        begins = "  STATIC can begin what comes next in:\n"
+        other = item.replace("rule 1 (line 3)", "rule 2 (line 4)")
+        pairs = [(item, other), (begins + item, ""), (item, item + other)]
+        self.each_caught(look, report, *changed(report, *pairs))
+
     def test_none(self):
         """A conflict that isn't told, and one that isn't there."""
         report, look = self.look("dangling-else")
