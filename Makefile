@@ -13,6 +13,7 @@
 # make packages   builds some source packages of Debian with parsers that ycc makes and with those of byacc or bison, runs their own tests, and gives both builds 300 spoiled inputs for each program; PACKAGES="bc units" names some. It takes a network, byacc, bison, flex, cmake, automake and meson
 # make drivers    builds the drivers in C and Python, and compares their steps with those of ystep, over scenarios, at random and by tables that are wrong
 # make library    proves the crate yembed and leaves libsulderko.a and libsulderko.so.1 in bin/: the proved core for programs in C and Python
+# make wheel      makes a wheel of the module in Python in bin/, with the library in it; PYTHON names a Python that has build, setuptools and wheel
 # make library-test  runs that library: the scenarios of ystep through C and Python, every room, refused memory, threads; some minutes
 # make install    copies programs, manual pages, completions, drivers and books below PREFIX (/usr/local), and with DESTDIR below that; make build comes first. The library is copied where make library built it, but for NO_LIBRARY=1. The yacc that writes tables and no C goes to libexec/sulderko; TABLE_WRITER=1 puts it into bin. YACC_LINK=1 makes bin/yacc a symbolic link to ycc, for builds that call it so
 # make uninstall  takes the same files away; a bin/yacc that isn't ours stays
@@ -26,7 +27,7 @@
 # make test       the gate: every proof from nothing, the mutants in must-fail, the tests, the stored runs, make selftest, the scenarios, make hostile, make refuse over three examples, the allocations of every session, the parsers, the drivers, each comparison for half a minute at most, and the pages where there is a browser
 #
 # python3 -m checks --help lists all checks as commands; python3 -m checks scenario NAME runs one scenario.
-.PHONY: demo examples scenarios accept build bench refuse debug page-test compare parsers features packages drivers library library-test install uninstall dist deb deb-test imports hostile edits selftest try-install test
+.PHONY: demo examples scenarios accept build bench refuse debug page-test compare parsers features packages drivers library library-test wheel install uninstall dist deb deb-test imports hostile edits selftest try-install test
 
 # The checks, and where `make build` leaves a program. Without a path a check takes crates/NAME/out/NAME.
 checks := python3 -m checks
@@ -103,6 +104,18 @@ library:
 
 library-test:
 	@$(checks) library
+
+# The wheel is made in a folder of its own, with the library beside the module.
+PYTHON ?= python3
+WHEELS ?= bin
+LIBRARY ?= bin/libsulderko.so.1
+wheel:
+	@test -f "$(LIBRARY)" || { echo "no $(LIBRARY): make library"; exit 1; }
+	@rm -rf bin/wheel && mkdir -p bin/wheel/sulderko
+	@cp VERSION LICENSE bindings/python/pyproject.toml bindings/python/setup.py bin/wheel
+	@cp bindings/python/sulderko/*.py bindings/python/sulderko/py.typed "$(LIBRARY)" bin/wheel/sulderko
+	@$(PYTHON) -m build --wheel --no-isolation --outdir "$(WHEELS)" bin/wheel > bin/wheel.log || { cat bin/wheel.log; exit 1; }
+	@rm -rf bin/wheel bin/wheel.log
 
 # The files that name where things are.
 writer := $(if $(TABLE_WRITER),bin/yacc,libexec/sulderko/yacc)

@@ -8,9 +8,10 @@ Python ends at them by itself. Each call gets every room up to more than it need
 without bytes, and things that it must refuse; each of its allocations is refused in turn; eight
 threads call at once. C runs as it is, with the sanitizers of the compiler (CC, or cc), and
 with valgrind where that is there. The header is compiled as C89 and as C++, both libraries export
-the calls alone, and the examples of docs/LIBRARY.md answer what stands there. FOLDER has
-libsulderko.a and libsulderko.so.1; without one they are built. The last line is `N passed, M
-failed`.
+the calls alone, and the examples of docs/LIBRARY.md answer what stands there. A wheel of the module is
+built and used, and the tests of the crate in Rust are run. FOLDER has libsulderko.a and
+libsulderko.so.1, and the link libsulderko.so; without one they are built. The last line is `N
+passed, M failed`.
 """
 import os
 import re
@@ -19,6 +20,7 @@ import sys
 import tempfile
 from pathlib import Path
 
+from checks.library.packaged import compare_packaged
 from checks.scenarios import proved
 from checks.scenarios.folders import Fault, found_below, read, summed
 from checks.scenarios.pages import scenarios_of
@@ -178,6 +180,7 @@ def compare(room, folder, tally):
     compare_header(room, tally)
     compare_rooms(room, folder, tally)
     compare_module(folder, tally)
+    compare_packaged(room, folder, tally)
     examples = examples_of(PAGE.read_text())
     tally.hold("examples", {it[0] for it in examples} == {"c", "python"}, "one is missing")
     for it in examples:

@@ -11,8 +11,9 @@ grammar or tokens with a fault raise `Fault`, a grammar with more than 16,384 it
 `TooManySets`, and where memory runs out `MemoryError` comes. Threads may call at once: ctypes lets
 the others run meanwhile.
 
-The library is the file that the variable SULDERKO_LIBRARY names; else libsulderko.so.1 where the
-system finds it, or in the folder bin of the checkout that holds this module.
+The library is the file that the variable SULDERKO_LIBRARY names; else libsulderko.so.1 beside this
+module, where a wheel has it, or in the folder bin of the checkout that holds this module; else the
+one that the system finds.
 """
 from sulderko.answers import Conflicts, Fault, Outcome, TooManySets, Verdict
 from sulderko.calls import conflicts, fault, judge, report, session, table, tokens

@@ -53,8 +53,11 @@ FORMS = {
 
 def path() -> str:
     """Where the library is."""
-    built = Path(__file__).resolve().parents[3] / "bin" / NAME
-    return os.environ.get("SULDERKO_LIBRARY") or (str(built) if built.is_file() else NAME)
+    if named := os.environ.get("SULDERKO_LIBRARY"):
+        return named
+    here = Path(__file__).resolve().parent
+    places = here / NAME, here.parents[2] / "bin" / NAME
+    return next((str(it) for it in places if it.is_file()), NAME)
 
 
 @cache

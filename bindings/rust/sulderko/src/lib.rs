@@ -1,0 +1,17 @@
+//! Sulderko's proved core: tables of yacc grammars, verdicts on tokens, sessions of `ystep`.
+//!
+//! Each function is one call of libsulderko; nothing is decided here. Texts are bytes. Threads may
+//! call at once.
+//!
+//! ```
+//! let grammar = b"%token NUM %% list : | list NUM ';' ;";
+//! let verdict = sulderko::judge(grammar, b"NUM ';'")?;
+//! assert_eq!(verdict.outcome, sulderko::Outcome::Accepted { steps: 5 });
+//! # Ok::<(), sulderko::Error>(())
+//! ```
+
+mod answers;
+mod calls;
+
+pub use answers::{Conflicts, Error, Fault, Outcome, Verdict};
+pub use calls::{fault, judge, report, session, table, tokens};
