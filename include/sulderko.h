@@ -72,6 +72,32 @@ typedef struct sulderko_fault_info {
   size_t place;
 } sulderko_fault_info;
 
+/* The arrays of a parser in C, by the names that ycc gives them. */
+enum sulderko_array {
+  SULDERKO_ROW = 0,     /* yyrow: by a state */
+  SULDERKO_CHECK = 1,   /* yycheck: by a row and a token */
+  SULDERKO_VALUE = 2,   /* yyvalue: likewise */
+  SULDERKO_USUAL = 3,   /* yyusual: by a state */
+  SULDERKO_SET = 4,     /* yyset: by a state */
+  SULDERKO_BITS = 5,    /* yybits: by a set and a token */
+  SULDERKO_GROW = 6,    /* yygrow: by a state */
+  SULDERKO_GCHECK = 7,  /* yygcheck: by a row and a left side */
+  SULDERKO_GVALUE = 8,  /* yygvalue: likewise */
+  SULDERKO_TARGET = 9,  /* yytarget: by a left side */
+  SULDERKO_STOS = 10,   /* the symbol that leads to a state, as the table numbers it */
+  SULDERKO_LEN = 11,    /* yylen: by a rule */
+  SULDERKO_LHS = 12,    /* yylhs: by a rule */
+  SULDERKO_TRANSLATE = 13 /* yytranslate: by the number of a token, up to the greatest */
+};
+
+/* The numbers by which the arrays of a parser are read. */
+typedef struct sulderko_sizes {
+  size_t states; /* how many states there are */
+  size_t rules;  /* how many rules there are */
+  size_t tokens; /* how many tokens there are: also the number of what is no token */
+  size_t span;   /* how many bytes of SULDERKO_BITS a set has */
+} sulderko_sizes;
+
 /* What ystep replies to command lines, from the start of a parse of the tokens by the grammar. */
 unsigned int sulderko_session(const char *grammar, size_t grammar_len, const char *tokens,
                               size_t tokens_len, const char *commands, size_t commands_len,
@@ -84,6 +110,12 @@ unsigned int sulderko_table(const char *grammar, size_t grammar_len, char *out, 
 /* The report on a grammar, as yacc -v writes it to PREFIX.output, and its conflicts. */
 unsigned int sulderko_report(const char *grammar, size_t grammar_len, char *out, size_t room,
                              size_t *len, sulderko_conflicts *conflicts);
+
+/* One of the arrays of the parser in C that ycc writes, by a number of sulderko_array, and the
+   numbers by which they are read; docs/LIBRARY.md says how. There is no number in an array of
+   another number. */
+unsigned int sulderko_code(const char *grammar, size_t grammar_len, unsigned int array, size_t *out,
+                           size_t room, size_t *len, sulderko_sizes *sizes);
 
 /* The number of the symbol that each of the tokens names, as the table has it. The number at index
    i is that of the token with the place i + 1 in verdicts and faults. */

@@ -34,7 +34,7 @@ from checks.shared.tally import Tally, sum_of
 SOURCES, HEADERS, MODULE = DATA / "library", TOP / "include", TOP / "bindings/python"
 PAGE = TOP / "docs/LIBRARY.md"
 STATIC, SHARED = "libsulderko.a", "libsulderko.so.1"
-CALLS = {f"sulderko_{it}" for it in ("session", "table", "report", "tokens", "judge", "fault")}
+CALLS = {f"sulderko_{it}" for it in ("session", "table", "report", "code", "tokens", "judge", "fault")}
 STRICT = ["-std=c99", "-Wall", "-Wextra", "-Wpedantic", "-Wconversion", "-Werror"]
 CHECKED = ["-g", "-O1", "-fsanitize=address,undefined", "-fno-sanitize-recover=all"]
 WRAPPED = ["-Wl,--wrap=malloc", "-Wl,--wrap=realloc", "-Wl,--wrap=free"]

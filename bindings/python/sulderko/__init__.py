@@ -15,17 +15,19 @@ The library is the file that the variable SULDERKO_LIBRARY names; else libsulder
 module, where a wheel has it, or in the folder bin of the checkout that holds this module; else the
 one that the system finds.
 """
-from sulderko.answers import Conflicts, Fault, Outcome, TooManySets, Verdict
-from sulderko.calls import conflicts, fault, judge, report, session, table, tokens
+from sulderko.answers import Code, Conflicts, Fault, Outcome, TooManySets, Verdict
+from sulderko.calls import code, conflicts, fault, judge, report, session, table, tokens
 from sulderko.sessions import Session
 
 __all__ = [
+    "Code",
     "Conflicts",
     "Fault",
     "Outcome",
     "Session",
     "TooManySets",
     "Verdict",
+    "code",
     "conflicts",
     "fault",
     "judge",

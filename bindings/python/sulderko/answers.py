@@ -3,7 +3,7 @@ from __future__ import annotations
 
 from dataclasses import dataclass
 from enum import IntEnum
-from typing import Optional
+from typing import ClassVar, List, Optional, Tuple
 
 
 class Fault(Exception):
@@ -41,6 +41,35 @@ class Outcome(IntEnum):
     ACCEPTED = 1
     REJECTED = 2
     LIMIT = 3
+
+
+@dataclass(frozen=True)
+class Code:
+    """The arrays of a parser in C, by the names that `ycc` gives them; docs/LIBRARY.md says how
+    they are read."""
+
+    ARRAYS: ClassVar[Tuple[str, ...]] = (
+        *"row check value usual set bits grow gcheck gvalue target stos len lhs translate".split(),
+    )
+
+    states: int
+    rules: int
+    tokens: int
+    span: int
+    row: List[int]
+    check: List[int]
+    value: List[int]
+    usual: List[int]
+    set: List[int]
+    bits: List[int]
+    grow: List[int]
+    gcheck: List[int]
+    gvalue: List[int]
+    target: List[int]
+    stos: List[int]
+    len: List[int]
+    lhs: List[int]
+    translate: List[int]
 
 
 @dataclass(frozen=True)

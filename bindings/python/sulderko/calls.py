@@ -6,7 +6,7 @@ from ctypes import byref, c_char, c_size_t
 from typing import Any, List, Optional, Tuple, Union
 
 from sulderko import library
-from sulderko.answers import Conflicts, Fault, Outcome, TooManySets, Verdict
+from sulderko.answers import Code, Conflicts, Fault, Outcome, TooManySets, Verdict
 
 Text = Union[bytes, str]
 FIRST_ROOM = 1 << 16
@@ -39,12 +39,14 @@ def look(status: int, grammar: Text, tokens: Text = b"") -> None:
         raise fault(grammar, tokens) or RuntimeError(f"status {status} without a fault")
 
 
-def filled(name: str, kind: Any, texts: Tuple[Text, ...], *more: Any) -> Tuple[int, Any, int]:
+def filled(
+    name: str, kind: Any, texts: Tuple[Text, ...], *more: Any, which: Tuple[int, ...] = ()
+) -> Tuple[int, Any, int]:
     """The status of a call that fills memory with items of a kind, the memory, and how many."""
     room, length = FIRST_ROOM, c_size_t()
     while True:
         out = (kind * room)()
-        status = called(name, *given(*texts), out, room, byref(length), *more)
+        status = called(name, *given(*texts), *which, out, room, byref(length), *more)
         if length.value <= room:
             return status, out, length.value
         room = length.value
@@ -78,6 +80,20 @@ def report(grammar: Text) -> bytes:
 def conflicts(grammar: Text) -> Conflicts:
     """How many conflicts the cells of a grammar's tables count."""
     return of_tables("table", grammar)[1]
+
+
+def array(grammar: Text, number: int, sizes: library.Sizes) -> List[int]:
+    """An array of the parser in C of a grammar; the sizes are filled in."""
+    status, out, length = filled("code", c_size_t, (grammar,), byref(sizes), which=(number,))
+    look(status, grammar)
+    return list(out[:length])
+
+
+def code(grammar: Text) -> Code:
+    """The arrays of the parser in C that `ycc` writes for a grammar."""
+    sizes = library.Sizes()
+    arrays = [array(grammar, number, sizes) for number in range(len(Code.ARRAYS))]
+    return Code(sizes.states, sizes.rules, sizes.tokens, sizes.span, *arrays)
 
 
 def tokens(grammar: Text, text: Text) -> List[int]:

@@ -28,6 +28,17 @@ class Verdict(ctypes.Structure):
     ]
 
 
+class Sizes(ctypes.Structure):
+    """struct sulderko_sizes"""
+
+    _fields_ = [
+        ("states", c_size_t),
+        ("rules", c_size_t),
+        ("tokens", c_size_t),
+        ("span", c_size_t),
+    ]
+
+
 class Fault(ctypes.Structure):
     """struct sulderko_fault_info"""
 
@@ -45,6 +56,7 @@ FORMS = {
     "session": 3 * TEXT + BYTES,
     "table": TEXT + BYTES + [POINTER(Conflicts)],
     "report": TEXT + BYTES + [POINTER(Conflicts)],
+    "code": TEXT + [c_uint] + NUMBERS + [POINTER(Sizes)],
     "tokens": 2 * TEXT + NUMBERS,
     "judge": 2 * TEXT + [POINTER(Verdict)],
     "fault": 2 * TEXT + [POINTER(Fault)],

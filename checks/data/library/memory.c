@@ -48,6 +48,7 @@ typedef struct answer {
   sulderko_verdict verdict;
   sulderko_fault_info fault;
   sulderko_conflicts conflicts;
+  sulderko_sizes sizes;
 } answer;
 
 static answer whole, made, blank;
@@ -63,6 +64,11 @@ static unsigned int table(answer *it) {
 
 static unsigned int report(answer *it) {
   return sulderko_report(GRAMMAR, strlen(GRAMMAR), it->text, MOST, &it->len, &it->conflicts);
+}
+
+static unsigned int code(answer *it) {
+  return sulderko_code(GRAMMAR, strlen(GRAMMAR), SULDERKO_ROW, it->numbers, 64, &it->len,
+                       &it->sizes);
 }
 
 static unsigned int tokens(answer *it) {
@@ -121,7 +127,8 @@ static void each_refused(unsigned int (*call)(answer *)) {
 }
 
 int main(void) {
-  unsigned int (*const calls[])(answer *) = {session, table, report, tokens, verdict, fault};
+  unsigned int (*const calls[])(answer *) = {session, table, report, code,
+                                                tokens, verdict, fault};
   size_t at;
   memset(&blank, CANARY, sizeof blank);
   for (at = 0; at < sizeof calls / sizeof *calls; at++)

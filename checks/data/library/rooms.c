@@ -65,6 +65,22 @@ static unsigned int tokens(const asked *it, char *out, size_t room, size_t *len)
   return status;
 }
 
+/* The longest array of a parser likewise. */
+static unsigned int code(const asked *it, char *out, size_t room, size_t *len) {
+  static size_t numbers[MOST];
+  sulderko_sizes sizes = {77, 77, 77, 77};
+  unsigned int status;
+  if (room)
+    memcpy(numbers, out, room);
+  status = sulderko_code(it->grammar, strlen(it->grammar), SULDERKO_CHECK, numbers,
+                         room / sizeof *numbers, len, &sizes);
+  hold((status == SULDERKO_DONE) == (sizes.states != 77), "sizes of arrays", room);
+  if (room)
+    memcpy(out, numbers, room);
+  *len *= sizeof *numbers;
+  return status;
+}
+
 /* Whether bytes are as they were before the call. */
 static int untouched(const char *out, size_t from, size_t to) {
   for (; from < to; from++)
@@ -131,6 +147,20 @@ static void faults(void) {
        "no grammar", 0);
 }
 
+static void arrays(void) {
+  static const size_t lengths[] = {2, 3, 1};
+  sulderko_sizes sizes;
+  size_t out[9], len;
+  hold(sulderko_code(GRAMMAR, strlen(GRAMMAR), SULDERKO_LEN, out, 9, &len, &sizes) ==
+           SULDERKO_DONE,
+       "arrays", 0);
+  hold(len == 3 && !memcmp(out, lengths, sizeof lengths), "arrays", 1);
+  hold(sizes.rules == 3 && sizes.tokens == 4 && sizes.span == 1, "arrays", 2);
+  hold(sulderko_code(GRAMMAR, strlen(GRAMMAR), 14, NULL, 0, &len, &sizes) == SULDERKO_DONE &&
+           len == 0,
+       "arrays", 3);
+}
+
 static void counts(void) {
   sulderko_conflicts it;
   size_t len;
@@ -144,11 +174,12 @@ int main(int argc, char **argv) {
   const asked texts[] = {{"session", session, GRAMMAR, TOKENS},
                          {"table", table, GRAMMAR, ""},
                          {"report", report, GRAMMAR, ""},
+                         {"code", code, GRAMMAR, ""},
                          {"tokens", tokens, GRAMMAR, TOKENS}};
   size_t at;
   for (at = 0; at < sizeof texts / sizeof *texts; at++) {
     asked bad = texts[at];
-    every_room(&bad, bad.call == tokens ? sizeof(size_t) : by);
+    every_room(&bad, bad.call == tokens || bad.call == code ? sizeof(size_t) : by);
     bad.grammar = BROKEN;
     refused(&bad, SULDERKO_BAD_GRAMMAR);
     bad.grammar = GRAMMAR, bad.tokens = "NUM NIM";
@@ -157,6 +188,7 @@ int main(int argc, char **argv) {
   }
   verdicts();
   faults();
+  arrays();
   counts();
   printf("%lu passed, %lu failed\n", passed, failed);
   return failed != 0;

@@ -1,3 +1,4 @@
+pub mod Codes
 pub mod Memory
 pub mod Refusals
 pub mod Sessions

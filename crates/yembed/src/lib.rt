@@ -8,6 +8,7 @@
 #![tactic(auto)]
 
 ghost use Rattle.std.specs.Prelude.{◌≡◌, ◌≢◌};
+ghost use Rattle.yembed.specs.Codes.{IsArray};
 ghost use Rattle.yembed.specs.Faults.{Shows, ShowsNone};
 ghost use Rattle.yembed.specs.Memory.{Hands, HandsNothing};
 ghost use Rattle.yembed.specs.Refusals.{IsRefused, LacksTables, Refuses};
@@ -15,6 +16,7 @@ ghost use Rattle.yembed.specs.Sessions.{IsSession};
 ghost use Rattle.yembed.specs.Texts.{IsReport, IsTable};
 ghost use Rattle.yembed.specs.Verdicts.{AreTokens, IsJudged};
 
+mod codes;
 mod faults;
 mod memory;
 mod refusal;
@@ -22,6 +24,7 @@ mod sources;
 mod texts;
 mod verdicts;
 
+use crate::codes::{Sizes, array_of, arrays_of, sizes_of};
 use crate::faults::{Fault, no_fault, tokens_read};
 use crate::memory::{put_bytes, put_numbers};
 use crate::texts::{Conflicts, report_text, session_text, table_text};
@@ -103,6 +106,37 @@ pub extern "C" fn sulderko_report(
         Ok(written) => {
             *len = put_bytes(&written.text, out);
             *conflicts = written.conflicts;
+            0
+        }
+        Err(refusal) => {
+            *len = 0;
+            refusal.status()
+        }
+    }
+}
+
+/// An array of the parser in C by the tables of a grammar, as the program `ycc` writes it, and the
+/// numbers by which the arrays are read. There are 14 arrays, from 0 on; another number has an array
+/// without numbers.
+#[unsafe(no_mangle)]
+pub extern "C" fn sulderko_code(
+    alloc: Global,
+    grammar: &[u8],
+    array: u32,
+    out: &mut [usize],
+    len: &mut usize,
+    sizes: &mut Sizes,
+) -> u32
+    ensures answer { result ≡ 0 → Hands (IsArray grammar.now array sizes.new) out.old out.new
+        len.new }
+    ensures refused { result ≢ 0 → IsRefused (LacksTables grammar.now) result }
+    ensures nothing { result ≢ 0 → HandsNothing out.old out.new len.new }
+    ensures stays { result ≢ 0 → sizes.new ≡ sizes.old }
+{
+    match arrays_of(alloc, grammar) {
+        Ok(code) => {
+            *len = put_numbers(array_of(&code, array), out);
+            *sizes = sizes_of(&code);
             0
         }
         Err(refusal) => {

@@ -25,6 +25,20 @@ pub struct Conflicts {
     pub reduce_reduce: usize,
 }
 
+/// The numbers by which the arrays of a parser are read.
+#[repr(C)]
+#[derive(Clone, Copy, Debug, Default, PartialEq, Eq)]
+pub struct Sizes {
+    /// How many states there are.
+    pub states: usize,
+    /// How many rules there are.
+    pub rules: usize,
+    /// How many tokens there are: also the number of what is no token.
+    pub tokens: usize,
+    /// How many bytes a set of tokens has.
+    pub span: usize,
+}
+
 /// The verdict on tokens.
 #[repr(C)]
 #[derive(Clone, Copy, Debug, Default, PartialEq, Eq)]
@@ -80,6 +94,15 @@ extern "C" {
         room: usize,
         len: *mut usize,
         conflicts: *mut Conflicts,
+    ) -> c_uint;
+    pub fn sulderko_code(
+        grammar: *const c_char,
+        grammar_len: usize,
+        array: c_uint,
+        out: *mut usize,
+        room: usize,
+        len: *mut usize,
+        sizes: *mut Sizes,
     ) -> c_uint;
     pub fn sulderko_tokens(
         grammar: *const c_char,

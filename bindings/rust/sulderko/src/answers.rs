@@ -3,7 +3,41 @@
 use std::error;
 use std::fmt::{self, Display, Formatter};
 
-pub use sulderko_sys::Conflicts;
+pub use sulderko_sys::{Conflicts, Sizes};
+
+/// The arrays of a parser in C; the library's documents say how they are read.
+#[derive(Clone, Copy, Debug, PartialEq, Eq)]
+#[repr(u32)]
+pub enum Array {
+    /// `yyrow`
+    Row,
+    /// `yycheck`
+    Check,
+    /// `yyvalue`
+    Value,
+    /// `yyusual`
+    Usual,
+    /// `yyset`
+    Set,
+    /// `yybits`
+    Bits,
+    /// `yygrow`
+    Grow,
+    /// `yygcheck`
+    Gcheck,
+    /// `yygvalue`
+    Gvalue,
+    /// `yytarget`
+    Target,
+    /// The symbol that leads to each state, as the table numbers it.
+    Stos,
+    /// `yylen`
+    Len,
+    /// `yylhs`
+    Lhs,
+    /// `yytranslate`
+    Translate,
+}
 
 /// What a verdict says of tokens.
 #[derive(Clone, Copy, Debug, PartialEq, Eq)]

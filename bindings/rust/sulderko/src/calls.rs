@@ -1,6 +1,6 @@
 //! The calls.
 
-use crate::answers::{Conflicts, Error, Fault, Outcome, Verdict};
+use crate::answers::{Array, Conflicts, Error, Fault, Outcome, Sizes, Verdict};
 use std::ffi::{c_char, c_uint};
 use std::ptr;
 use sulderko_sys as sys;
@@ -103,6 +103,20 @@ pub fn report(grammar: &[u8]) -> Result<(Vec<u8>, Conflicts), Error> {
     })
     .map_err(|status| error_of(status, grammar, b""))?;
     Ok((text, conflicts))
+}
+
+/// An array of the parser in C that `ycc` writes for a grammar, and the numbers by which the arrays
+/// are read.
+pub fn code(grammar: &[u8], array: Array) -> Result<(Vec<usize>, Sizes), Error> {
+    let g = parts(grammar);
+    let mut sizes = Sizes::default();
+    let read = ptr::addr_of_mut!(sizes);
+    let numbers = handed(|out: *mut usize, room, len| {
+        // SAFETY: each pointer is to as much as its length says; `len` and `read` are there.
+        unsafe { sys::sulderko_code(g.0, g.1, array as c_uint, out, room, len, read) }
+    })
+    .map_err(|status| error_of(status, grammar, b""))?;
+    Ok((numbers, sizes))
 }
 
 /// The number of the symbol that each of the tokens names, as the table has it.

@@ -13,5 +13,5 @@
 mod answers;
 mod calls;
 
-pub use answers::{Conflicts, Error, Fault, Outcome, Verdict};
-pub use calls::{fault, judge, report, session, table, tokens};
+pub use answers::{Array, Conflicts, Error, Fault, Outcome, Sizes, Verdict};
+pub use calls::{code, fault, judge, report, session, table, tokens};

@@ -1,5 +1,5 @@
 //! Each call, on a small grammar: values by hand.
-use sulderko::{Error, Fault, Outcome};
+use sulderko::{Array, Error, Fault, Outcome};
 
 const GRAMMAR: &[u8] = b"%token NUM\n%%\nlist : | list NUM ';' ;\n";
 
@@ -43,6 +43,15 @@ fn tokens_have_the_numbers_of_the_table() {
         line.rsplit(' ').next().unwrap().to_string()
     };
     assert_eq!([name(numbers[0]), name(numbers[1])], ["NUM", "';'"]);
+}
+
+#[test]
+fn the_arrays_of_a_parser_have_the_rules() {
+    let (lengths, sizes) = sulderko::code(GRAMMAR, Array::Len).unwrap();
+    assert_eq!(lengths, [2, 0, 3]);
+    assert_eq!((sizes.rules, sizes.tokens), (3, 4));
+    let (rows, _) = sulderko::code(GRAMMAR, Array::Row).unwrap();
+    assert_eq!(rows.len(), sizes.states);
 }
 
 #[test]
