@@ -200,7 +200,8 @@ fn judge_list<F: Files + AllocGlobal, E: Write>(
 fn put_too_many<E: Write>(grammar: &str, errors: &mut E) -> io::Result<u8> {
     writeln!(
         errors,
-        "{grammar}: more than {MOST_FOUND} conflicts, the most that a list of accepted ones can have"
+        "{grammar}: more than {MOST_FOUND} conflicts, the most that a list of accepted ones can \
+         have"
     )?;
     Ok(1)
 }

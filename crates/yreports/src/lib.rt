@@ -2,9 +2,10 @@
 //!
 //! `kinds` has the conflicts in short, `blocks` those of one state between the same rivals together
 //! (written by `block_text`), `ambiguity` whole sentences for their rivals (written by
-//! `ambiguity_text`), `causes` what many have in common, found by changes that are tried on all cells
-//! (`tried`) and by tables without a rule that others cover (`covered`), `list_text` a list of tokens
-//! that gets to one, `splitting` what mends one of merged states, and `saving` keeps lists as files.
+//! `ambiguity_text`), `causes` what many have in common, found by changes that are tried on all
+//! cells (`tried`) and by tables without a rule that others cover (`covered`), `list_text` a list
+//! of tokens that gets to one, `splitting` what mends one of merged states, and `saving` keeps
+//! lists as files.
 #![tactic(auto)]
 
 mod ambiguity;
