@@ -116,7 +116,7 @@ impl Asked<'_> {
         if self.plain {
             fault.put_plain(out)
         } else {
-            fault.put(rt, out, self.files.grammar.path, &language.opened)
+            fault.put(rt, out, self.files.grammar, &language.opened)
         }
     }
 
@@ -177,7 +177,8 @@ impl Asked<'_> {
             }));
         };
         let most = self.most;
-        match Messages::open(rt, &language.opened.tables, Limited { path, most }, errors)? {
+        let file = Limited { path, most };
+        match Messages::open(rt, &language.opened.tables, file, false, errors)? {
             Ok(messages) => Ok(Ok(Told {
                 language,
                 messages: Some(messages),
@@ -237,7 +238,7 @@ pub fn run_check<F: Files + AllocGlobal, R: Read, W: Write, E: Write>(
         Some(Format::Text) | None => put_text(rt, asked, stdin, out, errors),
         Some(format) => {
             let asked = checking::Asked {
-                files: asked.files,
+                files: asked.files.with_columns(),
                 inputs: asked.inputs,
                 messages: asked.messages,
                 most: asked.most,

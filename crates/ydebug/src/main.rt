@@ -203,7 +203,7 @@ fn cover_files<W: Write>(
 fn page<W: Write>(rt: &HostRuntime, matches: &ArgMatches<'_>, out: &mut W) -> Result<u8, Refused> {
     let (bison, from) = page_from(matches.get_strs("from").unwrap_or(&[]))?;
     let path = value_of(matches, "grammar")?;
-    let grammar = GrammarFile { path, bison };
+    let grammar = GrammarFile::new(path, bison);
     let spec = matches.get_str("lex");
     let source = Source {
         rt,

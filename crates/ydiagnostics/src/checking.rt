@@ -4,7 +4,6 @@ use crate::diagnostic::{Diagnostic, Severity};
 use crate::document::Said;
 use crate::format::Format;
 use crate::inputs::{InputSheet, Judged, answer_of, refused};
-use crate::places::place_fault;
 use crate::told::{About, add_all, checked};
 use std::alloc::{AllocError, Global};
 use std::io::{self, Read, Write};
@@ -129,7 +128,7 @@ impl Asked<'_> {
             Err(fault) => {
                 let mut text = Vec::new(alloc);
                 let opened = &told.language.opened;
-                let status = fault.put(rt, &mut text, self.files.grammar.path, opened)?;
+                let status = fault.put(rt, &mut text, self.files.grammar, opened)?;
                 refused(alloc, path, &text, status)
             }
         }
@@ -178,7 +177,8 @@ impl Asked<'_> {
             return Ok(Ok(Told { language, messages }));
         };
         let most = self.most;
-        match Messages::open(rt, &language.opened.tables, Limited { path, most }, errors)? {
+        let (file, columns) = (Limited { path, most }, self.files.grammar.columns);
+        match Messages::open(rt, &language.opened.tables, file, columns, errors)? {
             Ok(messages) => {
                 let messages = Some(messages);
                 Ok(Ok(Told { language, messages }))
@@ -257,10 +257,7 @@ pub fn run_checking<F: Files + AllocGlobal, R: Read, W: Write>(
         Ok(told) => put_inputs(rt, asked, stdin, &told, &notes, out),
         Err(status) => {
             checked(&notes)?;
-            let mut diagnostics = asked.told(rt.alloc(), &notes, Severity::Error)?;
-            if !asked.files.grammar.bison {
-                place_fault(rt, asked.files.grammar.path, &mut diagnostics);
-            }
+            let diagnostics = asked.told(rt.alloc(), &notes, Severity::Error)?;
             let said = (diagnostics.as_slice(), None);
             put_said(rt.alloc(), asked, said, status, out)
         }
