@@ -119,7 +119,7 @@ impl<'a> Place<'a> {
 
     /// The column of the place, where it is wanted.
     pub fn column(self, is_wanted: bool) -> Option<usize> {
-        is_wanted.then_some(self.spot().1)
+        if is_wanted { Some(self.spot().1) } else { None }
     }
 
     /// Writes what is wrong at the place, with this column where there is one, its line with a
