@@ -4,16 +4,15 @@ use crate::diagnostic::{Diagnostic, Severity};
 use crate::document::Said;
 use crate::format::Format;
 use crate::inputs::{InputSheet, Judged, answer_of, refused};
+use crate::messaged::Messaged;
 use crate::told::{About, add_all, checked};
 use std::alloc::{AllocError, Global};
 use std::io::{self, Read, Write};
 use std::rt::Files;
 use yexplain::reads::grammar_of;
 use yfiles::reading::{Limited, all_bytes};
-use yinput::language::{Input, Language, LanguageFiles};
-use yinput::verdict::{Verdict, verdict_on};
-use ymessages::filling::filled;
-use ymessages::messages::Messages;
+use yinput::language::{Input, LanguageFiles};
+use yinput::verdict::verdict_on;
 
 /// What is asked for: verdicts on inputs.
 #[derive(Clone, Copy)]
@@ -41,13 +40,6 @@ pub fn bytes_of<F: Files + AllocGlobal, R: Read>(
         "-" => all_bytes(rt.alloc(), input, file.most),
         _ => file.bytes(rt),
     }
-}
-
-/// A language with the messages for its errors.
-#[derive(Drop)]
-struct Told {
-    language: Language,
-    messages: Option<Messages>,
 }
 
 /// What was said of inputs so far.
@@ -81,24 +73,7 @@ fn copy_of(alloc: Global, bytes: &io::Result<Option<Vec<u8>>>) -> Result<Vec<u8>
     }
 }
 
-impl Told {
-    /// The message about an input of the language that is rejected, where there is one.
-    fn message(
-        &self,
-        alloc: Global,
-        input: &Input,
-        verdict: &Verdict,
-    ) -> io::Result<Option<Vec<u8>>> {
-        let (Some(messages), Verdict::Rejected(rejection)) = (&self.messages, verdict) else {
-            return Ok(None);
-        };
-        let grammar = grammar_of(&self.language.opened.tables);
-        match messages.of(rejection.state()) {
-            Some(message) => filled(alloc, grammar, message, input, rejection).map(Some),
-            None => Ok(None),
-        }
-    }
-
+impl Messaged {
     /// What is said of an input of these bytes.
     fn answer(&self, alloc: Global, source: (&str, &[u8]), input: &Input) -> io::Result<Judged> {
         let tables = &self.language.opened.tables;
@@ -116,7 +91,7 @@ impl Asked<'_> {
         self,
         rt: &F,
         stdin: &mut R,
-        told: &Told,
+        told: &Messaged,
         path: &str,
     ) -> io::Result<Judged> {
         let (alloc, most) = (rt.alloc(), self.most);
@@ -139,7 +114,7 @@ impl Asked<'_> {
         self,
         rt: &F,
         stdin: &mut R,
-        told: &Told,
+        told: &Messaged,
         sheets: &mut Sheets,
     ) -> io::Result<()> {
         for path in self.inputs {
@@ -164,39 +139,16 @@ impl Asked<'_> {
         about.take(alloc, text)
     }
 
-    /// Opens the file of messages, where there is one. Where it is refused, that is written, and
-    /// the exit status is the answer.
-    fn with_messages<F: Files + AllocGlobal, E: Write>(
-        self,
-        rt: &F,
-        language: Language,
-        errors: &mut E,
-    ) -> io::Result<Result<Told, u8>> {
-        let Some(path) = self.messages else {
-            let messages = None;
-            return Ok(Ok(Told { language, messages }));
-        };
-        let most = self.most;
-        let (file, columns) = (Limited { path, most }, self.files.grammar.columns);
-        match Messages::open(rt, &language.opened.tables, file, columns, errors)? {
-            Ok(messages) => {
-                let messages = Some(messages);
-                Ok(Ok(Told { language, messages }))
-            }
-            Err(status) => Ok(Err(status)),
-        }
-    }
-
-    /// Opens the language and its messages likewise.
+    /// Opens the language and its messages. Where one is refused, that is written, and the exit
+    /// status is the answer.
     fn open<F: Files + AllocGlobal, E: Write>(
         self,
         rt: &F,
         errors: &mut E,
-    ) -> io::Result<Result<Told, u8>> {
-        match Language::open(rt, self.files, errors)? {
-            Ok(language) => self.with_messages(rt, language, errors),
-            Err(status) => Ok(Err(status)),
-        }
+    ) -> io::Result<Result<Messaged, u8>> {
+        let most = self.most;
+        let messages = self.messages.map(|path| Limited { path, most });
+        Messaged::open(rt, self.files, messages, errors)
     }
 }
 
@@ -225,7 +177,7 @@ fn put_inputs<F: Files + AllocGlobal, R: Read, W: Write>(
     rt: &F,
     asked: Asked<'_>,
     stdin: &mut R,
-    told: &Told,
+    told: &Messaged,
     notes: &[u8],
     out: &mut W,
 ) -> io::Result<u8> {
