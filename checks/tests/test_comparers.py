@@ -206,6 +206,26 @@ class Documents(Planted):
         less = self.lines.split("\n", 1)[1]
         self.each_caught(look, self.lines, *changed(self.lines, *pairs), less)
 
+    def test_places(self):
+        """A place where something else stands, one that lacks, and that of another conflict."""
+        source = b"%token A '+'\n%%\ns : A { x } A\n  | s '+'\n  ;\n"
+        lost = "is never reduced, since it lost every cell:  "
+        for message, line, column in (
+            ("the token A is declared and used nowhere", 1, 8),
+            ("'\\053' can't be reached from the start", 1, 10),
+            (f"rule 1 {lost}$$1: (empty)", 3, 7),
+            (f"rule 3 {lost}s: s '+'", 4, 3),
+            ("the %prec of rule 2 settles nothing", 3, 1),
+        ):
+            told = {"message": message, "line": line}
+            look = lambda it: documents.wrong_spots(source, [told | {"column": it}])
+            self.each_caught(look, column, column + 1, None)
+        rule = {"rule": 3, "line": 4, "column": 3, "text": "s: s '+'"}
+        look = lambda it: documents.wrong_columns(source, [{"rules": [rule | it]}])
+        self.each_caught(look, {}, {"column": 2}, {"column": None}, {"line": 3})
+        look = lambda it: documents.wrong_heads([{"taken": "shift", "rules": [rule]}], [rule | it])
+        self.each_caught(look, {}, {"column": 4}, {"line": 3})
+
     def test_blocks(self):
         """Further tokens of a block: each stands once, and differs from the first by its token."""
         part = ["conflict 1: state 4 on A: shift, to state 3"]

@@ -62,7 +62,7 @@ fn bytes_in(rt: &HostRuntime, path: &str) -> Result<Vec<u8>, Ending> {
 /// The messages of a file. Where something is wrong with it, that is said.
 fn read_speech(rt: &HostRuntime, path: &str, tables: &Tables) -> Result<Speech, Ending> {
     let bytes = bytes_in(rt, path)?;
-    match Messages::checked(rt.alloc(), tables, path, bytes, &mut rt.stderr())? {
+    match Messages::checked(rt.alloc(), tables, (path, false), bytes, &mut rt.stderr())? {
         Ok(messages) => Ok(spoken(rt.alloc(), tables, &messages)?),
         Err(_) => Err(Ending::Refused),
     }

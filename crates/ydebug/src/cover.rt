@@ -70,7 +70,7 @@ impl Asked<'_> {
                 Ok(Ok(input))
             }
             Err(fault) => fault
-                .put(rt, out, self.files.grammar.path, &language.opened)
+                .put(rt, out, self.files.grammar, &language.opened)
                 .map(Err),
         }
     }

@@ -6,11 +6,11 @@ use crate::told::About;
 use serde::Serialize;
 use std::alloc::{AllocError, Global};
 use std::io;
-use yexplain::lines::Spots;
+use yfaults::opening::word_place;
+use yfaults::shown::Place;
 use yinput::language::Input;
 use yinput::verdict::{Rejection, Verdict};
 use ysymbols::Grammar;
-use ytokens::token_words::{Front, front_of};
 
 /// What comes of an input.
 #[derive(Serialize)]
@@ -109,23 +109,10 @@ impl InputSheet {
     }
 }
 
-/// How many bytes of a tokens file stand before a word, counted from 1; before the end for a number
-/// of no word.
-fn word_start(source: &[u8], number: usize) -> usize {
-    let mut rest = source;
-    for _ in 1..number {
-        match front_of(rest) {
-            Front::Word(_, after) | Front::Literal(_, after) => rest = after,
-            Front::Nothing | Front::Broken => return source.len(),
-        }
-    }
-    let rest = rest.trim_ascii_start();
-    source.len().saturating_sub(rest.len())
-}
-
 /// Gives a diagnostic the place of a token in its tokens file.
-fn place(diagnostics: &mut [Diagnostic], source: &[u8], number: usize) {
-    let (line, column) = Spots::new(source).reach(word_start(source, number));
+fn place(diagnostics: &mut [Diagnostic], (path, source): (&str, &[u8]), number: usize) {
+    let at = word_place(source, number).unwrap_or(source.len());
+    let (line, column) = Place { path, source, at }.spot();
     if let Some(first) = diagnostics.first_mut() {
         first.line = Some(line);
         first.column = Some(column);
@@ -151,7 +138,7 @@ pub fn answer_of(
         diagnostics = about.take(alloc, &told)?;
     }
     if let (Verdict::Rejected(rejection), None) = (verdict, &input.text) {
-        place(&mut diagnostics, source, rejection.number);
+        place(&mut diagnostics, (path, source), rejection.number);
     }
     Ok(Judged {
         sheet: InputSheet::of(alloc, grammar, path, verdict)?,

@@ -1,5 +1,5 @@
-//! How to choose otherwise than a cell with a shift does. Each hint is tried on the cell first, with
-//! the precedences that it asks for.
+//! How to choose otherwise than a cell with a shift does. Each hint is tried on the cell first,
+//! with the precedences that it asks for.
 
 use crate::advice::Advice;
 use crate::lines::is_inner;

@@ -1,5 +1,6 @@
 //! Symbols as `yacc` spells them.
 
+use crate::applied::Changed;
 use crate::edits::Edits;
 use crate::note::Reason;
 use crate::refusal::{Refusal, Trouble};
@@ -10,11 +11,11 @@ use yforeign::lexeme::{Lexeme, Span};
 use yforeign::survey::{Survey, inside, is_text};
 use ysymbols::names::is_among;
 
-/// A number of conflicts that a file expects, and the line that says so.
+/// A number of conflicts that a file expects, and what says so.
 #[derive(Clone, Copy, Drop)]
 pub struct Expected {
-    /// The line, counted from 1.
-    pub line: usize,
+    /// Where the directive or the comment stands.
+    pub span: Span,
     /// The number.
     pub number: usize,
 }
@@ -44,8 +45,8 @@ pub struct Work<'a> {
     last_made: usize,
     /// The names that have no dashes any more, and where one stands that became each.
     renamed: IndexMap<Vec<u8>, Lexeme>,
-    /// The line of `%precedence` for each level that comes from one.
-    pub levels: Vec<Option<usize>>,
+    /// Where the `%precedence` stands for each level that comes from one.
+    pub levels: Vec<Option<Span>>,
     /// The shift/reduce conflicts that the file expects.
     pub shift_reduce: Option<Expected>,
     /// The reduce/reduce conflicts that the file expects.
@@ -59,7 +60,7 @@ pub struct Work<'a> {
     /// Whether a `%start` was met.
     pub has_start: bool,
     /// The file with its changes.
-    pub text: Vec<u8>,
+    pub changed: Changed,
 }
 
 impl Drop for Work<'_> {
@@ -80,7 +81,7 @@ impl Drop for Work<'_> {
             ended: _,
             left: _,
             has_start: _,
-            text: _,
+            changed: _,
         } = self;
         drop(made);
         drop(renamed);
@@ -105,7 +106,7 @@ impl<'a> Work<'a> {
             ended: Vec::new(alloc),
             left: None,
             has_start: false,
-            text: Vec::new(alloc),
+            changed: Changed::new(alloc),
         }
     }
 

@@ -1,8 +1,10 @@
 //! Why an input, or the SPEC by which inputs are cut, isn't taken.
 
+use crate::grammars::GrammarFile;
 use std::alloc::Global;
 use std::io::{self, ErrorKind, Write};
 use std::rt::Files;
+use yexplain::lines::Spot;
 use yexplain::reads::{Made, grammar_of};
 use yexplain::text::{Escaped, Name};
 use yfaults::opening::{Opened, put_near_token, put_token_fault};
@@ -45,21 +47,22 @@ pub struct Fault {
     what: What,
 }
 
-/// Writes that no line of a SPEC gives a token, with its line in the grammar file.
+/// Writes that no line of a SPEC gives a token, with its place in the grammar file.
 fn put_ungiven<W: Write>(
     out: &mut W,
     spec: &str,
-    path: &str,
+    grammar: GrammarFile<'_>,
     opened: &Opened,
     token: Sym,
 ) -> io::Result<()> {
     let mut mentions = opened.lines.mentions().iter();
     let mention = mentions.find(|it| it.symbol == token);
-    let line = mention.map_or(1, |it| it.line);
+    let first = mention.map_or(Spot::of_line(1), |it| it.spot);
+    let (path, spot) = (grammar.path, first.told(grammar.columns));
     let name = Name(grammar_of(&opened.tables), token);
     writeln!(
         out,
-        "{path}:{line}: {name}: no line of {spec} gives this token; write one, or name it after \
+        "{path}:{spot}: {name}: no line of {spec} gives this token; write one, or name it after \
          %none"
     )
 }
@@ -142,19 +145,20 @@ impl Fault {
         out: &mut W,
         opened: &Opened,
         fault: TokenFault,
+        columns: bool,
     ) -> io::Result<()> {
         let grammar = grammar_of(&opened.tables);
-        put_token_fault(out, &self.path, &self.bytes, fault)?;
+        put_token_fault(out, (&self.path, &self.bytes), fault, columns)?;
         put_near_token(out, alloc, grammar, &self.bytes, fault)
     }
 
     /// Writes what is wrong, with its place and the text there, for people, and gives the exit
-    /// status. The grammar of the language is open, and its file has this path.
+    /// status. The grammar of the language is open, and this is its file.
     pub fn put<F: Files + AllocGlobal, W: Write>(
         &self,
         rt: &F,
         out: &mut W,
-        grammar: &str,
+        grammar: GrammarFile<'_>,
         opened: &Opened,
     ) -> io::Result<u8> {
         let path = self.path.as_str();
@@ -163,7 +167,9 @@ impl Fault {
             What::Unread => writeln!(out, "{path}: cannot read it"),
             What::Long => Limited { path, most }.put_long_input(rt, out),
             What::LongSpec => Limited { path, most }.put_long(rt, out),
-            What::Tokens(fault) => self.put_token(rt.alloc(), out, opened, fault),
+            What::Tokens(fault) => {
+                self.put_token(rt.alloc(), out, opened, fault, grammar.columns)
+            }
             What::Unmatched(at) => {
                 self.put_unmatched(out, at, "no line of the SPEC matches here")
             }

@@ -5,6 +5,7 @@ use std::io::{self, Write};
 use std::mem;
 use std::rt::Files;
 use ybison::import::{Foreign, open_foreign};
+use ybison::notes::Source;
 use ybison::opening::open_text;
 use yexplain::reads::{body_of, set};
 use yfaults::opening::{Opened, grammar_bytes, put_unread};
@@ -17,6 +18,29 @@ pub struct GrammarFile<'a> {
     pub path: &'a str,
     /// Whether it is one of bison or byacc.
     pub bison: bool,
+    /// Whether places in it and in inputs are told with their columns.
+    pub columns: bool,
+}
+
+impl<'a> GrammarFile<'a> {
+    /// That of a path, of yacc or of bison, whose places are told by their lines.
+    pub fn new(path: &'a str, bison: bool) -> GrammarFile<'a> {
+        GrammarFile {
+            path,
+            bison,
+            columns: false,
+        }
+    }
+
+    /// The file of these bytes.
+    fn source(self, bytes: &'a [u8]) -> Source<'a> {
+        let GrammarFile { path, columns, .. } = self;
+        Source {
+            path,
+            bytes,
+            columns,
+        }
+    }
 }
 
 /// A grammar file that is open: the text that `yacc` reads, and what that comes to.
@@ -41,12 +65,12 @@ pub fn open_with_text<F: Files + AllocGlobal, E: Write>(
         Err(error) => return put_unread(errors, path, &error).map(Err),
     };
     if !file.bison {
-        return match open_text(alloc, path, &bytes, errors)? {
+        return match open_text(alloc, file.source(&bytes), errors)? {
             Ok(opened) => Ok(Ok(GrammarText { bytes, opened })),
             Err(status) => Ok(Err(status)),
         };
     }
-    match open_foreign(alloc, errors, path, &bytes)? {
+    match open_foreign(alloc, errors, file.source(&bytes))? {
         Ok(foreign) => {
             let Foreign {
                 mut imported,

@@ -23,6 +23,18 @@ pub struct LanguageFiles<'a> {
     pub spec: Option<&'a str>,
 }
 
+impl<'a> LanguageFiles<'a> {
+    /// The same files, whose places are told with their columns.
+    pub fn with_columns(self) -> LanguageFiles<'a> {
+        let LanguageFiles { grammar, spec } = self;
+        let grammar = GrammarFile {
+            columns: true,
+            ..grammar
+        };
+        LanguageFiles { grammar, spec }
+    }
+}
+
 /// A grammar that is open, and what cuts its texts, where a SPEC is given.
 #[derive(Drop)]
 pub struct Language {
@@ -114,7 +126,7 @@ impl Language {
                 let lexer = Some(lexer);
                 Ok(Ok(Language { opened, lexer }))
             }
-            Err(fault) => fault.put(rt, errors, files.grammar.path, &opened).map(Err),
+            Err(fault) => fault.put(rt, errors, files.grammar, &opened).map(Err),
         }
     }
 

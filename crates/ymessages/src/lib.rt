@@ -2,10 +2,10 @@
 //! errors are detected.
 //!
 //! `file` cuts a file into its parts, `claims` reads the inputs and says which state each claims,
-//! and `messages` is a file whose inputs are read. `refusal` says what is wrong with one. `slots` are
-//! the pieces of a message; `filling` writes one with what stands for its `$0`, `$1` and `$expected`,
-//! and `data` all of them as data. `sheet` is what is written of a state, and `update` a whole file.
-//! `run` is `ydebug errors`.
+//! and `messages` is a file whose inputs are read. `refusal` says what is wrong with one. `slots`
+//! are the pieces of a message; `filling` writes one with what stands for its `$0`, `$1` and
+//! `$expected`, and `data` all of them as data. `sheet` is what is written of a state, and
+//! `update` a whole file. `run` is `ydebug errors`.
 #![tactic(auto)]
 
 mod claims;

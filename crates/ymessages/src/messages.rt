@@ -77,18 +77,19 @@ pub(crate) fn bytes_of<F: Files + AllocGlobal, E: Write>(
 
 impl Messages {
     /// A file of these bytes, for these tables. Where it can't be read, what is wrong is written,
-    /// and the exit status is the answer. Inputs that aren't errors at their last token are read
+    /// with its column where columns are wanted, and the exit status is the answer. Inputs that aren't errors at their last token are read
     /// too.
     pub(crate) fn read<E: Write>(
         alloc: Global,
         tables: &Tables,
-        path: &str,
+        (path, columns): (&str, bool),
         bytes: Vec<u8>,
         errors: &mut E,
     ) -> io::Result<Result<Messages, u8>> {
         let source = Source {
             path,
             bytes: &bytes,
+            columns,
         };
         let parts = match read_parts(alloc, source, errors)? {
             Ok(parts) => parts,
@@ -115,42 +116,44 @@ impl Messages {
         let source = Source {
             path,
             bytes: &self.bytes,
+            columns: false,
         };
         source.put_claims(errors, grammar_of(tables), &self.claims)
     }
 
-    /// A file of these bytes, for these tables. Where something is wrong with it, that is written,
-    /// and the exit status is the answer.
+    /// A file of these bytes, for these tables, by its path and whether columns are wanted. Where
+    /// something is wrong with it, that is written, and the exit status is the answer.
     pub fn checked<E: Write>(
         alloc: Global,
         tables: &Tables,
-        path: &str,
+        named: (&str, bool),
         bytes: Vec<u8>,
         errors: &mut E,
     ) -> io::Result<Result<Messages, u8>> {
-        let messages = match Messages::read(alloc, tables, path, bytes, errors)? {
+        let messages = match Messages::read(alloc, tables, named, bytes, errors)? {
             Ok(messages) => messages,
             Err(status) => return Ok(Err(status)),
         };
-        match messages.put_wrong(tables, path, errors)? {
+        match messages.put_wrong(tables, named.0, errors)? {
             0 => Ok(Ok(messages)),
             _ => Ok(Err(1)),
         }
     }
 
-    /// Opens a file, for these tables. Where something is wrong with it, that is written, and the
-    /// exit status is the answer.
+    /// Opens a file, for these tables. Where something is wrong with it, that is written, with
+    /// columns where they are wanted, and the exit status is the answer.
     pub fn open<F: Files + AllocGlobal, E: Write>(
         rt: &F,
         tables: &Tables,
         file: Limited<'_>,
+        columns: bool,
         errors: &mut E,
     ) -> io::Result<Result<Messages, u8>> {
         let bytes = match bytes_of(rt, file, errors)? {
             Ok(bytes) => bytes,
             Err(status) => return Ok(Err(status)),
         };
-        Messages::checked(rt.alloc(), tables, file.path, bytes, errors)
+        Messages::checked(rt.alloc(), tables, (file.path, columns), bytes, errors)
     }
 
     /// The message of a state, where it has one.

@@ -16,6 +16,8 @@ pub struct Source<'a> {
     pub path: &'a str,
     /// The bytes.
     pub bytes: &'a [u8],
+    /// Whether places are told with their columns. What is wrong with a whole line has none.
+    pub columns: bool,
 }
 
 /// What a parse over an input comes to, where its last token is no error.
@@ -73,8 +75,8 @@ impl Source<'_> {
         unread: Unread,
     ) -> io::Result<()> {
         let Unread { line, fault } = unread;
-        let (place, part) = (self.place(line), line.of(self.bytes));
-        put_part_fault(out, alloc, grammar, place, part, fault)
+        let tokens = (self.place(line), line.of(self.bytes));
+        put_part_fault(out, alloc, grammar, tokens, fault, self.columns)
     }
 
     /// Writes that the last token of an input is no error.

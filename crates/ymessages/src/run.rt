@@ -116,7 +116,8 @@ fn list<W: Write, E: Write>(
     errors: &mut E,
 ) -> io::Result<u8> {
     let path = asked.grammar.path;
-    match Messages::read(alloc, &opened.tables, path, Vec::new(alloc), errors)? {
+    let (named, nothing) = ((path, false), Vec::new(alloc));
+    match Messages::read(alloc, &opened.tables, named, nothing, errors)? {
         Ok(messages) => {
             let mut found = Found::new(alloc, opened, messages)?;
             found.put(alloc, path, out).map(|_| 0)
@@ -166,7 +167,8 @@ fn renew<F: Files + AllocGlobal, W: Write, E: Write>(
         },
         Err(_) => Vec::new(rt.alloc()),
     };
-    match Messages::read(rt.alloc(), &opened.tables, file.path, bytes, errors)? {
+    let named = (file.path, false);
+    match Messages::read(rt.alloc(), &opened.tables, named, bytes, errors)? {
         Ok(messages) => rewrite(rt, asked, file, (opened, messages), out, errors),
         Err(status) => Ok(status),
     }
@@ -230,7 +232,7 @@ fn check<F: Files + AllocGlobal, W: Write, E: Write>(
     out: &mut W,
     errors: &mut E,
 ) -> io::Result<u8> {
-    let messages = match Messages::open(rt, &opened.tables, file, errors)? {
+    let messages = match Messages::open(rt, &opened.tables, file, false, errors)? {
         Ok(messages) => messages,
         Err(status) => return Ok(status),
     };

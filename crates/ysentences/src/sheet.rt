@@ -143,8 +143,8 @@ impl<W: Write, F: Files + AllocGlobal + Clone + Drop> Sheet<'_, W, F> {
         self.put_near(number, tokens)
     }
 
-    /// Writes a sentence that was drawn, with its verdict, and says whether it is accepted. Without a
-    /// verdict there are no lists near to it.
+    /// Writes a sentence that was drawn, with its verdict, and says whether it is accepted.
+    /// Without a verdict there are no lists near to it.
     pub fn put_drawn(&mut self, number: usize, tokens: &[Sym]) -> io::Result<bool> {
         let (verdict, elements) = (self.verdict(tokens)?, self.elements);
         let is_accepted = matches!(verdict, Verdict::Accepted(_));
