@@ -5,7 +5,6 @@ use std::io::{self, ErrorKind, Read, Write};
 use std::rt::Files;
 use ydiagnostics::checking::{self, bytes_of, run_checking};
 use ydiagnostics::format::{Format, NO_FORM, form_of};
-use yexplain::reads::grammar_of;
 use yfiles::reading::Limited;
 use yinput::fault::Fault;
 use yinput::language::{Input, Language, LanguageFiles};
@@ -51,9 +50,9 @@ impl Told {
         let (Some(messages), Verdict::Rejected(rejection)) = (&self.messages, verdict) else {
             return Ok(None);
         };
-        let grammar = grammar_of(&self.language.opened.tables);
+        let spoken = self.language.spoken();
         match messages.of(rejection.state()) {
-            Some(message) => filled(alloc, grammar, message, input, rejection).map(Some),
+            Some(message) => filled(alloc, spoken, message, input, rejection).map(Some),
             None => Ok(None),
         }
     }
@@ -67,10 +66,10 @@ impl Told {
         input: &Input,
         verdict: &Verdict,
     ) -> io::Result<u8> {
-        let grammar = grammar_of(&self.language.opened.tables);
+        let spoken = self.language.spoken();
         match self.message(alloc, input, verdict)? {
-            Some(message) => verdict.put(out, grammar, path, input, Some(message.as_slice())),
-            None => verdict.put(out, grammar, path, input, None),
+            Some(message) => verdict.put(out, spoken, path, input, Some(message.as_slice())),
+            None => verdict.put(out, spoken, path, input, None),
         }
     }
 }

@@ -9,7 +9,6 @@ use crate::told::{About, add_all, checked};
 use std::alloc::{AllocError, Global};
 use std::io::{self, Read, Write};
 use std::rt::Files;
-use yexplain::reads::grammar_of;
 use yfiles::reading::{Limited, all_bytes};
 use yinput::language::{Input, Language, LanguageFiles};
 use yinput::verdict::{Verdict, verdict_on};
@@ -93,9 +92,9 @@ impl Told {
         let (Some(messages), Verdict::Rejected(rejection)) = (&self.messages, verdict) else {
             return Ok(None);
         };
-        let grammar = grammar_of(&self.language.opened.tables);
+        let spoken = self.language.spoken();
         match messages.of(rejection.state()) {
-            Some(message) => filled(alloc, grammar, message, input, rejection).map(Some),
+            Some(message) => filled(alloc, spoken, message, input, rejection).map(Some),
             None => Ok(None),
         }
     }
@@ -106,8 +105,8 @@ impl Told {
         let verdict = verdict_on(alloc, tables, &input.tokens)?;
         let message = self.message(alloc, input, &verdict)?;
         let told = message.as_ref().map(Vec::as_slice);
-        let grammar = grammar_of(tables);
-        answer_of(alloc, grammar, source, (input, &verdict), told)
+        let spoken = self.language.spoken();
+        answer_of(alloc, spoken, source, (input, &verdict), told)
     }
 }
 

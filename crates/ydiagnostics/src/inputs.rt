@@ -8,6 +8,7 @@ use std::alloc::{AllocError, Global};
 use std::io;
 use yexplain::lines::Spots;
 use yinput::language::Input;
+use yinput::spelled::Spoken;
 use yinput::verdict::{Rejection, Verdict};
 use ysymbols::Grammar;
 use ytokens::token_words::{Front, front_of};
@@ -135,13 +136,13 @@ fn place(diagnostics: &mut [Diagnostic], source: &[u8], number: usize) {
 /// What is said of an input of these bytes, with a message for its error, where there is one.
 pub fn answer_of(
     alloc: Global,
-    grammar: &Grammar,
+    spoken: Spoken<'_>,
     (path, source): (&str, &[u8]),
     (input, verdict): (&Input, &Verdict),
     message: Option<&[u8]>,
 ) -> io::Result<Judged> {
     let mut told = Vec::new(alloc);
-    let status = verdict.put(&mut told, grammar, path, input, message)?;
+    let status = verdict.put(&mut told, spoken, path, input, message)?;
     let about = About {
         paths: &[path],
         severity: Severity::Error,
@@ -154,7 +155,7 @@ pub fn answer_of(
         place(&mut diagnostics, source, rejection.number);
     }
     Ok(Judged {
-        sheet: InputSheet::of(alloc, grammar, path, verdict)?,
+        sheet: InputSheet::of(alloc, spoken.grammar, path, verdict)?,
         diagnostics,
         status,
     })
