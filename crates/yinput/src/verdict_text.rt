@@ -81,7 +81,8 @@ fn between(index: usize, count: usize) -> &'static str {
 /// Writes the first of some tokens as a list, and dots where there are more.
 pub fn put_list<W: Write>(out: &mut W, spoken: Spoken<'_>, tokens: &[Sym]) -> io::Result<()> {
     for (index, token) in tokens.iter().take(MOST_NAMED).enumerate() {
-        write!(out, "{}", between(index, tokens.len()))?;
+        let front = between(index, tokens.len());
+        write!(out, "{front}")?;
         spoken.put(out, *token)?;
     }
     if tokens.len() > MOST_NAMED {

@@ -105,7 +105,9 @@ impl<'a, 'b> Gather<'a, 'b> {
         let spelling = &self.imported.spelling;
         let strings = spelling.strings(self.alloc, source, self.grammar)?;
         for (looks, string) in self.parts.looks.iter_mut().zip(&strings) {
-            looks.label = string.map(|string| string.text(source)).or(looks.label);
+            if let Some(string) = string {
+                looks.label = Some(string.text(source));
+            }
         }
         Ok(())
     }
