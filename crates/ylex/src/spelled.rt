@@ -65,7 +65,7 @@ fn put_first(texts: &mut Texts, token: Sym, text: Vec<u8>) {
 
 /// The text of each token all of whose lines have one: that of the first. Whether the text is cut
 /// into this token isn't tried.
-fn plain_texts(alloc: Global, grammar: &Grammar, spec: &Spec<'_>) -> Made<Texts> {
+pub fn plain_texts(alloc: Global, grammar: &Grammar, spec: &Spec<'_>) -> Made<Texts> {
     let mut texts = no_texts(alloc, grammar.symbols())?;
     let mut others = others_of(alloc, grammar, spec)?;
     for rule in &spec.rules {
