@@ -32,7 +32,13 @@ LOOKS = {
     "<=?": ["<", "<="],
     r"\+\+": ["++"],
     "(ab)+c?": ["ab", "ababc"],
+    "<=": ["<="],
+    "num": ["num"],
+    r'"\\': ['"\\'],
+    "[-]>": ["->"],
 }
+# Those that match one text alone.
+PLAIN = {r"\+\+": "++", "<=": "<=", "num": "num", r'"\\': '"\\', "[-]>": "->"}
 SKIPS = [r"[ \t\n]+", r"#[^\n]*", "~", r"[ \n]"]
 BLANKS = [" ", "\n", "  ", "\t", "\n\n"]
 # What only some SPECs, and what none pass over.
@@ -47,7 +53,7 @@ NAMED = re.compile(
     r"|no token of the grammar has this name"
     r"|an input has tokens alone, and neither error nor \$end"
     r"|no directive of a SPEC; there are %skip, %keywords and %none)"
-    r"|text:\d+:\d+: (no line of the SPEC matches here: .+|unexpected \S+[,;] .+)"
+    r"|text:\d+:\d+: (no line of the SPEC matches here: .+|unexpected (\S+|\".+\")[,;] .+)"
     r"|text: (accepted after \d+ steps|undecided after 1,000,000 steps)"
 )
 
@@ -86,9 +92,9 @@ class Spec:
             self.absent.add(token)
             self.lines.append((2, f"%none {name}", None))
         else:
-            look = rng.choice([*LOOKS])
-            self.texts += LOOKS[look]
-            self.lines.append((3, f"{name}  {look}", (token, re.compile(look.encode()))))
+            for look in rng.sample([*LOOKS], rng.choice([1, 1, 1, 2])):
+                self.texts += LOOKS[look]
+                self.lines.append((3, f"{name}  {look}", (token, re.compile(look.encode()))))
 
     def text(self):
         """The text of the SPEC."""
@@ -130,6 +136,14 @@ class Spec:
                 end = at + length
             at += length
         return tokens, end
+
+    def called(self, token):
+        """What people are told of a token: its name, or the text that it always is."""
+        texts = [PLAIN.get(rule.pattern.decode()) for it, rule in self.rules if it == token]
+        if not texts or None in texts or self.cut(texts[0].encode()) != ([(token, 0)], len(texts[0])):
+            return self.grammar.names[token]
+        shown = texts[0].replace("\\", r"\\").replace('"', r'\"')
+        return f'"{shown}"'
 
 
 def text_of(spec, tokens, rng):
@@ -196,13 +210,13 @@ def can_come(tables, tokens, token):
     return ended and (ended[2] or token != END and ended[0] > len(tokens))
 
 
-def expected(tables, tokens):
+def expected(tables, spec, tokens):
     """What could come in place of what came; none where that takes too long to say."""
     every = [it for it in range(tables.grammar.tokens) if it != ERROR]
     can = [can_come(tables, tokens, it) for it in every]
     if None in can:
         return None
-    names = [tables.grammar.names[it] for it, yes in zip(every, can) if yes]
+    names = [spec.called(it) for it, yes in zip(every, can) if yes]
     if not names:
         return "; no token can come"
     if len(names) > 20:
@@ -224,11 +238,11 @@ def answer(tables, spec, text):
     taken, steps, good = ended
     if good:
         return f"text: accepted after {steps} steps\n"
-    wanted = expected(tables, symbols[:taken])
+    wanted = expected(tables, spec, symbols[:taken])
     ahead, at = tokens[taken] if taken < len(tokens) else (END, end)
     line, column = spot(text, at)
-    name = tables.grammar.names[ahead]
-    said = f"text:{line}:{column}: unexpected {name}{wanted}\n" + shown_line(text, at)
+    called = spec.called(ahead)
+    said = f"text:{line}:{column}: unexpected {called}{wanted}\n" + shown_line(text, at)
     return said if wanted else None
 
 

@@ -330,6 +330,18 @@ class Texts(Planted):
         self.assertEqual(texts.answer(self.tables, self.spec, b"1 +\n2 3 +\n"), wanted)
         self.assertIsNone(self.fault())
 
+    def test_called(self):
+        """A token is called by its text where each of its lines has one, and no other takes that."""
+        for looks, called in (
+            (("<=", "[-]>"), '"<="'), (('"\\\\', "<="), r'"\"\\"'), (("<=", "[0-9]+"), "NUM"), ((), "NUM")
+        ):
+            self.spec.rules = [(2, texts.re.compile(it.encode())) for it in looks]
+            self.assertEqual(self.spec.called(2), called)
+        self.spec.rules = [(2, texts.re.compile(b"num"))]
+        self.spec.words = [(3, b"NUM", True)]
+        self.assertEqual(self.spec.called(2), "NUM")
+        self.assertEqual(self.spec.called(3), "'+'")
+
     def test_each_change(self):
         """Another column, token, caret, status; a token less; a session that fails."""
         pairs = [

@@ -6,7 +6,6 @@ use std::rt::Files;
 use ydiagnostics::checking::{self, bytes_of, run_checking};
 use ydiagnostics::format::{Format, NO_FORM, form_of};
 use ydiagnostics::messaged::Messaged;
-use yexplain::reads::grammar_of;
 use yfiles::reading::Limited;
 use yinput::fault::Fault;
 use yinput::language::{Input, Language, LanguageFiles};
@@ -40,10 +39,10 @@ fn put_told<W: Write>(
     path: &str,
     (input, verdict): (&Input, &Verdict),
 ) -> io::Result<u8> {
-    let grammar = grammar_of(&told.language.opened.tables);
+    let spoken = told.language.spoken();
     match told.message(alloc, input, verdict)? {
-        Some(message) => verdict.put(out, grammar, path, input, Some(message.as_slice())),
-        None => verdict.put(out, grammar, path, input, None),
+        Some(message) => verdict.put(out, spoken, path, input, Some(message.as_slice())),
+        None => verdict.put(out, spoken, path, input, None),
     }
 }
 

@@ -9,7 +9,6 @@ use crate::told::{About, add_all, checked};
 use std::alloc::{AllocError, Global};
 use std::io::{self, Read, Write};
 use std::rt::Files;
-use yexplain::reads::grammar_of;
 use yfiles::reading::{Limited, all_bytes};
 use yinput::language::{Input, LanguageFiles};
 use yinput::verdict::verdict_on;
@@ -80,8 +79,8 @@ impl Messaged {
         let verdict = verdict_on(alloc, tables, &input.tokens)?;
         let message = self.message(alloc, input, &verdict)?;
         let told = message.as_ref().map(Vec::as_slice);
-        let grammar = grammar_of(tables);
-        answer_of(alloc, grammar, source, (input, &verdict), told)
+        let spoken = self.language.spoken();
+        answer_of(alloc, spoken, source, (input, &verdict), told)
     }
 }
 

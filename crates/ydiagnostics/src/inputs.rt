@@ -9,6 +9,7 @@ use std::io;
 use yfaults::opening::word_place;
 use yfaults::shown::Place;
 use yinput::language::Input;
+use yinput::spelled::Spoken;
 use yinput::verdict::{Rejection, Verdict};
 use ysymbols::Grammar;
 
@@ -122,13 +123,13 @@ fn place(diagnostics: &mut [Diagnostic], (path, source): (&str, &[u8]), number: 
 /// What is said of an input of these bytes, with a message for its error, where there is one.
 pub fn answer_of(
     alloc: Global,
-    grammar: &Grammar,
+    spoken: Spoken<'_>,
     (path, source): (&str, &[u8]),
     (input, verdict): (&Input, &Verdict),
     message: Option<&[u8]>,
 ) -> io::Result<Judged> {
     let mut told = Vec::new(alloc);
-    let status = verdict.put(&mut told, grammar, path, input, message)?;
+    let status = verdict.put(&mut told, spoken, path, input, message)?;
     let about = About {
         paths: &[path],
         severity: Severity::Error,
@@ -141,7 +142,7 @@ pub fn answer_of(
         place(&mut diagnostics, (path, source), rejection.number);
     }
     Ok(Judged {
-        sheet: InputSheet::of(alloc, grammar, path, verdict)?,
+        sheet: InputSheet::of(alloc, spoken.grammar, path, verdict)?,
         diagnostics,
         status,
     })

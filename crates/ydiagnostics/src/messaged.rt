@@ -3,7 +3,6 @@
 use std::alloc::Global;
 use std::io::{self, Write};
 use std::rt::Files;
-use yexplain::reads::grammar_of;
 use yfiles::reading::Limited;
 use yinput::language::{Input, Language, LanguageFiles};
 use yinput::verdict::Verdict;
@@ -65,9 +64,9 @@ impl Messaged {
         let (Some(messages), Verdict::Rejected(rejection)) = (&self.messages, verdict) else {
             return Ok(None);
         };
-        let grammar = grammar_of(&self.language.opened.tables);
+        let spoken = self.language.spoken();
         match messages.of(rejection.state()) {
-            Some(message) => filled(alloc, grammar, message, input, rejection).map(Some),
+            Some(message) => filled(alloc, spoken, message, input, rejection).map(Some),
             None => Ok(None),
         }
     }

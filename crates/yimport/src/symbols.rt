@@ -4,7 +4,7 @@ use crate::applied::Changed;
 use crate::edits::Edits;
 use crate::note::Reason;
 use crate::refusal::{Refusal, Trouble};
-use crate::spelling::{made_name, other_name, unbroken};
+use crate::spelling::{Made, made_name, other_name, unbroken};
 use indexmap::IndexMap;
 use std::alloc::{AllocError, Global};
 use yforeign::lexeme::{Lexeme, Span};
@@ -39,8 +39,8 @@ pub struct Work<'a> {
     pub survey: Survey,
     /// The changes so far.
     pub edits: Edits<'a>,
-    /// The number of the name made for each string that stands for no token.
-    pub made: IndexMap<Vec<u8>, usize>,
+    /// The name made for each string that stands for no token.
+    pub made: IndexMap<Vec<u8>, Made>,
     /// The last of these numbers.
     last_made: usize,
     /// The names that have no dashes any more, and where one stands that became each.
@@ -172,24 +172,25 @@ impl<'a> Work<'a> {
     }
 
     /// Makes a name for a string, lists it, and gives its number.
-    fn make_name(&mut self, key: &[u8]) -> usize {
+    fn make_name(&mut self, key: &[u8], text: &Lexeme) -> usize {
         let number = self.free_number();
         self.last_made = number;
         let name = self.made_name(number);
         self.edits.list_made(&name);
         let key = Vec::from_slice(self.alloc, key);
         let key = self.made_or_trouble(key);
-        if self.made.insert(key, number).is_err() {
+        let text = *text;
+        if self.made.insert(key, Made { number, text }).is_err() {
             self.edits.trouble.remember(Trouble::Memory);
         }
         number
     }
 
     /// Writes the name made for a string.
-    fn write_made(&mut self, key: &[u8]) {
+    fn write_made(&mut self, key: &[u8], text: &Lexeme) {
         let number = match self.made.get(key) {
-            Some(number) => *number,
-            None => self.make_name(key),
+            Some(made) => made.number,
+            None => self.make_name(key, text),
         };
         let name = self.made_name(number);
         self.edits.write(&name);
@@ -205,7 +206,7 @@ impl<'a> Work<'a> {
         }
         let key = unbroken(self.alloc, inside(self.source, text));
         let key = self.made_or_trouble(key);
-        self.write_made(&key);
+        self.write_made(&key, text);
         if key.len() == 1 {
             Reason::MadeSign
         } else {

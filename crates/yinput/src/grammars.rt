@@ -1,5 +1,6 @@
 //! Grammar files of yacc and of bison.
 
+use crate::spelled::Spelled;
 use std::alloc::{AllocError, Global};
 use std::io::{self, Write};
 use std::mem;
@@ -7,7 +8,7 @@ use std::rt::Files;
 use ybison::import::{Foreign, open_foreign};
 use ybison::notes::Source;
 use ybison::opening::open_text;
-use yexplain::reads::{body_of, set};
+use yexplain::reads::{body_of, grammar_of, set};
 use yfaults::opening::{Opened, grammar_bytes, put_unread};
 use ysymbols::Grammar;
 
@@ -50,6 +51,25 @@ pub struct GrammarText {
     pub bytes: Vec<u8>,
     /// The tables, and where things stand in the text.
     pub opened: Opened,
+    /// What its tokens are called by the file.
+    pub spelled: Spelled,
+}
+
+/// The text of an import with the grammar that it is, and what the file calls its tokens.
+fn text_of(alloc: Global, source: &[u8], foreign: Foreign) -> Result<GrammarText, AllocError> {
+    let Foreign {
+        mut imported,
+        opened,
+        ..
+    } = foreign;
+    let grammar = grammar_of(&opened.tables);
+    let spelled = Spelled::of_import(alloc, source, grammar, &imported)?;
+    let bytes = mem::replace(&mut imported.text, Vec::new(alloc));
+    Ok(GrammarText {
+        bytes,
+        opened,
+        spelled,
+    })
 }
 
 /// Opens a grammar file with its text. Where it is refused, that is written, and the exit status is
@@ -66,20 +86,16 @@ pub fn open_with_text<F: Files + AllocGlobal, E: Write>(
     };
     if !file.bison {
         return match open_text(alloc, file.source(&bytes), errors)? {
-            Ok(opened) => Ok(Ok(GrammarText { bytes, opened })),
+            Ok(opened) => Ok(Ok(GrammarText {
+                bytes,
+                opened,
+                spelled: Spelled::none(alloc),
+            })),
             Err(status) => Ok(Err(status)),
         };
     }
     match open_foreign(alloc, errors, file.source(&bytes))? {
-        Ok(foreign) => {
-            let Foreign {
-                mut imported,
-                opened,
-                ..
-            } = foreign;
-            let bytes = mem::replace(&mut imported.text, Vec::new(alloc));
-            Ok(Ok(GrammarText { bytes, opened }))
-        }
+        Ok(foreign) => Ok(Ok(text_of(alloc, &bytes, foreign)?)),
         Err(status) => Ok(Err(status)),
     }
 }

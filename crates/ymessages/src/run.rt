@@ -15,7 +15,9 @@ use yfaults::opening::Opened;
 use yfiles::reading::Limited;
 use yfiles::same::refused_output;
 use yfiles::writing::put_output;
-use yinput::grammars::{GrammarFile, open_file};
+use yinput::grammars::GrammarFile;
+use yinput::language::{Language, LanguageFiles};
+use yinput::spelled::Spelled;
 use yparse::Session;
 use ytables::Tables;
 use yview::page::Page;
@@ -199,11 +201,11 @@ fn put_checked<W: Write>(out: &mut W, line: &[u8], end: &str) -> io::Result<u8> 
 fn data_asked(
     alloc: Global,
     asked: Asked<'_>,
-    tables: &Tables,
+    (tables, spelled): (&Tables, &Spelled),
     messages: &Messages,
 ) -> io::Result<Vec<u8>> {
     match asked.table {
-        Some(_) => data_of(alloc, tables, messages),
+        Some(_) => data_of(alloc, tables, spelled, messages),
         None => Ok(Vec::new(alloc)),
     }
 }
@@ -228,17 +230,19 @@ fn check<F: Files + AllocGlobal, W: Write, E: Write>(
     rt: &F,
     asked: Asked<'_>,
     file: Limited<'_>,
-    opened: Opened,
+    language: Language,
     out: &mut W,
     errors: &mut E,
 ) -> io::Result<u8> {
-    let messages = match Messages::open(rt, &opened.tables, file, false, errors)? {
+    let tables = &language.opened.tables;
+    let messages = match Messages::open(rt, tables, file, false, errors)? {
         Ok(messages) => messages,
         Err(status) => return Ok(status),
     };
     let mut line = Vec::new(rt.alloc());
     put_inputs(&mut line, file.path, &messages)?;
-    let data = data_asked(rt.alloc(), asked, &opened.tables, &messages)?;
+    let data = data_asked(rt.alloc(), asked, (tables, &language.spelled), &messages)?;
+    let opened = language.into_opened();
     if asked.complete {
         let status = complete(rt.alloc(), file, (opened, messages), errors)?;
         if status > 0 {
@@ -286,13 +290,19 @@ pub fn run_errors<F: Files + AllocGlobal, W: Write, E: Write>(
     if let Some(status) = refused(rt, asked, errors)? {
         return Ok(status);
     }
-    let opened = match open_file(rt, asked.grammar, errors)? {
-        Ok(opened) => opened,
+    let files = LanguageFiles {
+        grammar: asked.grammar,
+        spec: None,
+    };
+    let language = match Language::open(rt, files, errors)? {
+        Ok(language) => language,
         Err(status) => return Ok(status),
     };
     match asked.messages {
-        None => list(rt.alloc(), asked, opened, out, errors),
-        Some(file) if asked.update => renew(rt, asked, file, opened, out, errors),
-        Some(file) => check(rt, asked, file, opened, out, errors),
+        None => list(rt.alloc(), asked, language.into_opened(), out, errors),
+        Some(file) if asked.update => {
+            renew(rt, asked, file, language.into_opened(), out, errors)
+        }
+        Some(file) => check(rt, asked, file, language, out, errors),
     }
 }
