@@ -177,7 +177,7 @@ impl Asked<'_> {
             }));
         };
         let most = self.most;
-        match Messages::open(rt, &language.opened.tables, Limited { path, most }, errors)? {
+        match Messages::open_for(rt, &language, Limited { path, most }, errors)? {
             Ok(messages) => Ok(Ok(Told {
                 language,
                 messages: Some(messages),

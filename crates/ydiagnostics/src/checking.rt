@@ -178,7 +178,7 @@ impl Asked<'_> {
             return Ok(Ok(Told { language, messages }));
         };
         let most = self.most;
-        match Messages::open(rt, &language.opened.tables, Limited { path, most }, errors)? {
+        match Messages::open_for(rt, &language, Limited { path, most }, errors)? {
             Ok(messages) => {
                 let messages = Some(messages);
                 Ok(Ok(Told { language, messages }))
