@@ -119,7 +119,7 @@ impl<'a> Search<'a> {
         let tokens = token_count(self.ways.grammar());
         self.rows.spend(tokens);
         for token in 0..tokens {
-            if self.ways.reduces(state, rule, token) {
+            if can_stand(self.absent, token) && self.ways.reduces(state, rule, token) {
                 self.rows.sets.add(mask, token);
             }
         }
