@@ -153,8 +153,8 @@ fn outcome_of(
 }
 
 impl Errors {
-    /// The errors of all states of a session's tables, by inputs without the tokens that are marked.
-    /// The session is at its start, without tokens, and is left there.
+    /// The errors of all states of a session's tables, by inputs without the tokens that are
+    /// marked. The session is at its start, without tokens, and is left there.
     pub fn new(alloc: Global, session: &mut Session, absent: &[bool]) -> io::Result<Errors> {
         let mut outcomes = Vec::new(alloc);
         let mut left = Left::all();

@@ -64,8 +64,8 @@ fn put_ungiven<W: Write>(
     )
 }
 
-/// Writes the place of what isn't cut from a text, what is wrong there, and the first bytes up to the
-/// end of its line; a newline where the line ends there.
+/// Writes the place of what isn't cut from a text, what is wrong there, and the first bytes up to
+/// the end of its line; a newline where the line ends there.
 fn put_bytes_at<W: Write>(out: &mut W, place: Place<'_>, what: &str) -> io::Result<()> {
     let rest = place.source.get(place.at..).unwrap_or(&[]);
     let newline = rest.iter().skip(1).position(|b| *b == b'\n');

@@ -1,5 +1,5 @@
-//! Texts for lists of tokens: a short one for each token, and between them what is passed over. Each
-//! was tried with the lexer, which cuts it into exactly these tokens.
+//! Texts for lists of tokens: a short one for each token, and between them what is passed over.
+//! Each was tried with the lexer, which cuts it into exactly these tokens.
 
 use crate::fault::TextFault;
 use crate::lexer::Lexer;
@@ -233,13 +233,20 @@ impl Writer {
         &self.lexer
     }
 
+    /// Whether a text is found for a token.
+    pub fn tells(&self, token: Sym) -> bool {
+        self.samples
+            .get(token)
+            .map_or(false, |sample| sample.is_some())
+    }
+
     /// What may stand between tokens, in the order in which it is tried.
     pub fn separators(&self) -> &[Vec<u8>] {
         &self.separators
     }
 
-    /// The texts of tokens with a separator between them, which is still to be tried; `None` where a
-    /// token has no text.
+    /// The texts of tokens with a separator between them, which is still to be tried; `None` where
+    /// a token has no text.
     pub fn joined(&self, alloc: Global, tokens: &[Sym], separator: &[u8]) -> Made<Option<Vec<u8>>> {
         let mut text = Vec::new(alloc);
         for (index, token) in tokens.iter().enumerate() {
@@ -284,7 +291,8 @@ impl Writer {
         Ok(None)
     }
 
-    /// A text of these tokens as a file has it: with a newline at its end, where that is passed over.
+    /// A text of these tokens as a file has it: with a newline at its end, where that is passed
+    /// over.
     pub fn filed(
         &self,
         alloc: Global,

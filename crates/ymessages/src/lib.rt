@@ -2,10 +2,11 @@
 //! errors are detected.
 //!
 //! `file` cuts a file into its parts, `inputs` reads a line as tokens or as a text, `claims` says
-//! which state each input claims, and `messages` is a file whose inputs are read. `refusal` says what
-//! is wrong with one. `slots` are the pieces of a message; `filling` writes one with what stands for
-//! its `$0`, `$1` and `$expected`, and `data` all of them as data. `written` is an input as a line,
-//! `sheet` what is written of a state, and `update` a whole file. `run` is `ydebug errors`.
+//! which state each input claims, and `messages` is a file whose inputs are read. `refusal` says
+//! what is wrong with one. `slots` are the pieces of a message; `filling` writes one with what
+//! stands for its `$0`, `$1` and `$expected`, and `data` all of them as data. `written` is an
+//! input as a line, `sheet` what is written of a state, and `update` a whole file. `run` is
+//! `ydebug errors`.
 #![tactic(auto)]
 
 mod claims;

@@ -47,6 +47,8 @@ struct Found {
     session: Session,
     messages: Messages,
     errors: Errors,
+    /// Those by inputs for whose tokens texts are found, where some have none.
+    told: Option<Errors>,
     writer: Option<Writer>,
 }
 
@@ -69,6 +71,31 @@ fn absent_in(alloc: Global, grammar: &Grammar, writer: Option<&Writer>) -> Made<
     Ok(absent)
 }
 
+/// Which tokens have no text, where inputs are texts: those among them, and those for which none
+/// is found.
+fn untold_in(alloc: Global, grammar: &Grammar, writer: Option<&Writer>) -> Made<Vec<bool>> {
+    let mut untold = Vec::new(alloc);
+    if let Some(writer) = writer {
+        for token in 0..grammar.symbols() {
+            untold.push(token != END && !writer.tells(token))?;
+        }
+    }
+    Ok(untold)
+}
+
+/// The errors of states by inputs for whose tokens texts are found, where that leaves some out.
+fn told_errors(
+    alloc: Global,
+    session: &mut Session,
+    absent: &[bool],
+    untold: &[bool],
+) -> io::Result<Option<Errors>> {
+    if absent == untold {
+        return Ok(None);
+    }
+    Errors::new(alloc, session, untold).map(Some)
+}
+
 impl Found {
     /// What is found for a file, by the tables of a language.
     fn new(alloc: Global, language: Language, messages: Messages) -> io::Result<Found> {
@@ -76,12 +103,15 @@ impl Found {
         let Opened { tables, lines: _ } = opened;
         let writer = writer_of(alloc, &tables, lexer)?;
         let absent = absent_in(alloc, grammar_of(&tables), writer.as_ref())?;
+        let untold = untold_in(alloc, grammar_of(&tables), writer.as_ref())?;
         let mut session = empty_session(alloc, tables);
         let errors = Errors::new(alloc, &mut session, &absent)?;
+        let told = told_errors(alloc, &mut session, &absent, &untold)?;
         Ok(Found {
             session,
             messages,
             errors,
+            told,
             writer,
         })
     }
@@ -94,6 +124,7 @@ impl Found {
             path,
             tables: self.session.tables(),
             errors: &self.errors,
+            told: self.told.as_ref(),
             messages: &self.messages,
             confirmed: &confirmed,
             writer: self.writer.as_ref(),
@@ -117,6 +148,7 @@ impl Found {
             path,
             tables: self.session.tables(),
             errors: &self.errors,
+            told: self.told.as_ref(),
             messages: &self.messages,
             confirmed: &[],
             writer: self.writer.as_ref(),
@@ -301,8 +333,8 @@ fn put_data<F: Files + AllocGlobal, W: Write, E: Write>(
     }
 }
 
-/// Says what is wrong with a file, or that nothing is, and gives the exit status. Where nothing is,
-/// the messages are written as data first, if that is asked for.
+/// Says what is wrong with a file, or that nothing is, and gives the exit status. Where nothing
+/// is, the messages are written as data first, if that is asked for.
 fn check<F: Files + AllocGlobal, W: Write, E: Write>(
     rt: &F,
     asked: Asked<'_>,
@@ -355,10 +387,10 @@ fn refused<F: Files + AllocGlobal, E: Write>(
     }
 }
 
-/// Writes what is asked for, and gives the exit status: 0; 1 where the grammar, the SPEC or the file
-/// of messages is refused, one of its inputs is wrong, or a state has no message and is to have one;
-/// 2 where a file that is read would be written over; 3 where a file can't be read or written,
-/// memory runs out, or there are too many states.
+/// Writes what is asked for, and gives the exit status: 0; 1 where the grammar, the SPEC or the
+/// file of messages is refused, one of its inputs is wrong, or a state has no message and is to
+/// have one; 2 where a file that is read would be written over; 3 where a file can't be read or
+/// written, memory runs out, or there are too many states.
 pub fn run_errors<F: Files + AllocGlobal, W: Write, E: Write>(
     rt: &F,
     asked: Asked<'_>,

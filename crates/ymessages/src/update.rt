@@ -33,6 +33,8 @@ pub struct Update<'a> {
     pub tables: &'a Tables,
     /// The errors of their states.
     pub errors: &'a Errors,
+    /// Those to be written rather than others, where there are some.
+    pub told: Option<&'a Errors>,
     /// The file.
     pub messages: &'a Messages,
     /// What sessions have of its inputs.
@@ -87,6 +89,11 @@ pub fn confirm_all(
         all.push(confirmed).map_err(AllocError::from)?;
     }
     Ok(all)
+}
+
+/// The list of a state, where it has one.
+fn list_in(errors: &Errors, state: usize) -> Option<&Confirmed> {
+    errors.outcomes.get(state)?.list()
 }
 
 impl<'a> Update<'a> {
@@ -166,7 +173,8 @@ impl<'a> Update<'a> {
         if messages.claims.owner(state).is_some() {
             return None;
         }
-        errors.outcomes.get(state)?.list()
+        let list = list_in(errors, state);
+        self.told.and_then(|told| list_in(told, state)).or(list)
     }
 
     /// The line of the input of a list; `None` where it is to be a text, and none is found.

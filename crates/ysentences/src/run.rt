@@ -283,8 +283,8 @@ fn put_open<F: Files + AllocGlobal + Clone + Drop, W: Write, E: Write>(
 
 /// Writes what is asked for, and gives the exit status: 0; 1 where the grammar or the SPEC is
 /// refused, or where something isn't found or accepted and that is to count; 2 where longer
-/// sentences are asked for than are drawn; 3 where a file can't be read or written, memory runs out,
-/// or there are too many states.
+/// sentences are asked for than are drawn; 3 where a file can't be read or written, memory runs
+/// out, or there are too many states.
 pub fn run_sentences<F: Files + AllocGlobal + Clone + Drop, W: Write, E: Write>(
     rt: &F,
     asked: Asked<'_>,

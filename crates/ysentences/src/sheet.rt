@@ -1,6 +1,6 @@
-//! Sentences as they are written: each stands in a line of its own, as a tokens file has it or as a
-//! text, and all other lines begin with `#`. A text of several lines, or one that begins with `#`,
-//! stands after a line that says how many they are.
+//! Sentences as they are written: each stands in a line of its own, as a tokens file has it or as
+//! a text, and all other lines begin with `#`. A text of several lines, or one that begins with
+//! `#`, stands after a line that says how many they are.
 
 use crate::choice::Missing;
 use crate::near::{Change, Near};
@@ -56,8 +56,8 @@ enum Shown {
     Untold,
 }
 
-/// Writes a text. Where it has several lines, or could be taken for a comment, how many lines it has
-/// stands before it.
+/// Writes a text. Where it has several lines, or could be taken for a comment, how many lines it
+/// has stands before it.
 fn put_text<W: Write>(out: &mut W, text: &[u8]) -> io::Result<()> {
     let lines = newlines(text).saturating_add(1);
     if lines > 1 {
@@ -189,8 +189,8 @@ impl<W: Write, F: Files + AllocGlobal + Clone + Drop> Sheet<'_, W, F> {
         self.put_near(number, tokens)
     }
 
-    /// Writes a sentence that was drawn, with its verdict, and says whether it is accepted. Without a
-    /// verdict there are no lists near to it.
+    /// Writes a sentence that was drawn, with its verdict, and says whether it is accepted.
+    /// Without a verdict there are no lists near to it.
     pub fn put_drawn(&mut self, number: usize, tokens: &[Sym]) -> io::Result<bool> {
         let (verdict, elements) = (self.verdict(tokens)?, self.elements);
         let is_accepted = matches!(verdict, Verdict::Accepted(_));
