@@ -1,2 +1,2 @@
-%skip [ \t]+
+%skip [ \t\n]+
 NUM   [0-9]+
