@@ -4,16 +4,20 @@
 
 `ydebug check --lex` must say of each text what the SPEC, cut by `re`, and a plain machine say, byte
 for byte; `ydebug tokens` must write these tokens. Spoiled SPECs and texts must be refused by name,
-or judged. A session over each text must go on to its end. The first fault ends the run: its files
-stay in a folder that is named. The last line is `N passed, M failed`: grammars.
+or judged. A session over each text must go on to its end. The texts that `ydebug sentences` and
+`ydebug errors` write must be cut into the tokens for which they stand, and a listing of errors must
+be a file of messages. The first fault ends the run: its files stay in a folder that is named. The
+last line is `N passed, M failed`: grammars.
 """
 import random
 import re
 import shutil
 import tempfile
 from collections import Counter
+from functools import partial
 from pathlib import Path
 
+from checks.comparers import written
 from checks.shared import running
 from checks.shared.arguments import asked
 from checks.shared.grammars import END, ERROR, productive, tokens_of
@@ -154,14 +158,14 @@ def text_of(spec, tokens, rng):
     looks = [*spec.texts, *literals] or ["a"]
     some = [rng.choice(looks) for _ in range(rng.randint(0, 12))]
     if rng.random() < 0.7:
-        some = [written(spec, token, rng) for token in tokens]
+        some = [look_of(spec, token, rng) for token in tokens]
     some = [it + rng.choice(blanks) for it in some]
     if rng.random() < 0.2:
         some.insert(rng.randint(0, len(some)), rng.choice(JUNK))
     return "".join(some).encode()
 
 
-def written(spec, token, rng):
+def look_of(spec, token, rng):
     """A text of a token."""
     name = spec.grammar.names[token]
     lines = [line for _, line, _ in spec.lines]
@@ -312,6 +316,10 @@ def fault_in(folder, ydebug, rng, counts):
         fault = fault_of_text(folder, ydebug, tables, spec, counts)
         if fault:
             return fault
+    parse = partial(parsed, tables)
+    fault = written.fault_of_written(folder, ydebug, spec, parse, counts)
+    if fault:
+        return fault
     return fault_of_spoiled(folder, ydebug, rng, counts)
 
 

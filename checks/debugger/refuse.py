@@ -57,6 +57,7 @@ COMMANDS = {
     "sentences": (HERE / "sentences", "sentences grammar.y --cover actions --near"),
     "drawn": (HERE / "sentences", "sentences grammar.y --random 3"),
     "kept": (HERE / "sentences", "sentences odd.y --save lists"),
+    "told": (HERE / "sentences", "sentences query.y --near --lex query.lex --save lists"),
     "cover": (HERE / "cover", "cover grammar.y one two"),
     "rules": (HERE / "rules", "rules grammar.y"),
     "header": (HERE / "rules", "rules grammar.y --header sums.h --python sums.py"),
@@ -72,6 +73,10 @@ COMMANDS = {
     "update": (HERE / "errors", "errors sums.y --messages update/own --update"),
     "messages": (HERE / "check/messages", "check sums.y one two --messages sums.messages"),
     "data": (HERE / "errors/spelled-table", "errors grammar.y --messages own --table y.msg --from bison"),
+    "told errors": (HERE / "errors/texts-without", "errors blocks.y --lex blocks.lex"),
+    "told messages": (
+        HERE / "check/messages-as-texts", "check sums.y one two --lex sums.lex --messages own"
+    ),
 }
 # A line whose answer takes no memory, and that answer.
 MARK = "help quit"

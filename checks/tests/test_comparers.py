@@ -1,11 +1,12 @@
 """The comparers: programs that say something else than the machines."""
 import random
 from collections import Counter
+from functools import partial
 from unittest import mock
 
 from checks.comparers import (
     ambiguities, causes, conflicts, coverage, documents, errors, faults, hints, programs, texts,
-    verdicts
+    verdicts, written
 )
 from checks.shared.grammars import grammar_of
 from checks.shared.machine import replies_of
@@ -296,8 +297,8 @@ class Hints(Planted):
         self.assertEqual([it[2] for it in hints.judged(self.draw, missed)], [False])
 
 
-class Texts(Planted):
-    """Verdicts on texts, and tokens, that are wrong."""
+class OverTexts(Planted):
+    """A grammar, and a SPEC for it."""
 
     def setUp(self):
         """Lays a grammar, a SPEC and a text with a mistake, and knows what is said of it."""
@@ -310,6 +311,10 @@ class Texts(Planted):
         self.spec.lines.append((3, "NUM  [0-9]+", (2, texts.re.compile(b"[0-9]+"))))
         self.spec.rules = [it[2] for it in self.spec.lines]
         (self.room / "text").write_bytes(b"1 +\n2 3 +\n")
+
+
+class Texts(OverTexts):
+    """Verdicts on texts, and tokens, that are wrong."""
 
     def fault(self, check=None, tokens="NUM '+' NUM NUM '+'\n", status=1, session=0):
         """What is found where `ydebug` says this."""
@@ -362,6 +367,53 @@ class Texts(Planted):
             with mock.patch.object(texts, "run", return_value=answer):
                 fault = texts.fault_of_spoiled(self.room, "ydebug", random.Random(1), Counter())
             self.assertEqual(bool(fault), found, answer)
+
+
+class Written(OverTexts):
+    """Texts that haven't the tokens for which they stand."""
+
+    PLAIN = "# sentence 1, the first to use rules 1, 2\nNUM '+' NUM\n# 1 sentence uses all 2 rules\n"
+    TEXT = PLAIN.replace("NUM '+' NUM", "1 + 1")
+    NEAR = TEXT + "# token 3 left out: rejected at token 3: unexpected $end, expected NUM\n1 +\n"
+    LISTING = (
+        "## head\n\n+\n## tokens   '+'\n## state 0\n\nno\n\n"
+        "1 + $end\n## tokens   NUM '+' $end\n## state 4\n\nno\n\n## end\n"
+    )
+
+    def fault(self, plain=PLAIN, text=TEXT, near=NEAR, listing=LISTING, anew=None, status=0):
+        """What is found where `ydebug` says this."""
+
+        def run(_, __, form, ___, *words):
+            """A run of one of the forms."""
+            if form == "sentences":
+                said = {0: plain, 2: text, 3: near}[len(words)]
+                return status, said, ""
+            if "--update" in words:
+                (self.room / "made").write_text(listing if anew is None else anew)
+            if "--complete" in words:
+                return 0, "made: 2 inputs, complete\n", ""
+            return 0, listing, ""
+
+        parse = partial(texts.parsed, self.tables)
+        with mock.patch.object(written, "run", run):
+            return written.fault_of_written(self.room, "ydebug", self.spec, parse, Counter())
+
+    def test_right(self):
+        """What is right is no fault, and neither is a list without a text."""
+        self.assertIsNone(self.fault())
+        self.assertIsNone(self.fault(text=self.TEXT.replace("1 + 1", "# no text: NUM '+' NUM")))
+        self.assertIsNone(self.fault(text=self.TEXT.replace("1 + 1", "# a text of 2 lines:\n1 +\n1")))
+
+    def test_each_change(self):
+        """A token less, what nothing matches, other tokens, another verdict; a listing that changes."""
+        for wrong in changed(self.TEXT, ("1 + 1", "1 +"), ("1 + 1", "a"), ("1 + 1", "# no text: NUM")):
+            self.assertTrue(self.fault(text=wrong), wrong)
+        for wrong in changed(self.NEAR, ("token 3:", "token 2:"), ("\n1 +\n", "\n1\n")):
+            self.assertTrue(self.fault(near=wrong), wrong)
+        for wrong in changed(self.LISTING, ("\n+\n", "\n1\n"), ("$end\n##", "\n##"), ("## state 4", "##")):
+            self.assertTrue(self.fault(listing=wrong), wrong)
+        self.assertTrue(self.fault(anew="another"))
+        self.assertTrue(self.fault(status=1))
 
 
 REPLIES = "1 shift A\n2 detect\n3 pop A\n4 fail\n"

@@ -151,7 +151,7 @@ fn list_errors<W: Write>(
     out: &mut W,
 ) -> Result<u8, Refused> {
     let asked = Errors {
-        grammar: grammar_in(matches)?,
+        files: language_in(matches)?,
         messages: messages_in(matches)?,
         complete: is_given(matches, "complete"),
         update: is_given(matches, "update"),
@@ -171,7 +171,7 @@ fn write_sentences<W: Write>(
     out: &mut W,
 ) -> Result<u8, Refused> {
     let asked = Sentences {
-        grammar: grammar_in(matches)?,
+        files: language_in(matches)?,
         kind: kind_in(matches)?,
         drawn: drawn_in(matches)?,
         near: is_given(matches, "near"),

@@ -29,7 +29,7 @@ fn with_messages<F: Files + AllocGlobal, E: Write>(
         let messages = None;
         return Ok(Ok(Messaged { language, messages }));
     };
-    match Messages::open(rt, &language.opened.tables, file, columns, errors)? {
+    match Messages::open_for(rt, &language, (file, columns), errors)? {
         Ok(messages) => {
             let messages = Some(messages);
             Ok(Ok(Messaged { language, messages }))

@@ -67,6 +67,29 @@ fn put_ungiven<W: Write>(
     )
 }
 
+/// Writes the place of what isn't cut from a text, what is wrong there, and the first bytes up to
+/// the end of its line; a newline where the line ends there.
+fn put_bytes_at<W: Write>(out: &mut W, place: Place<'_>, what: &str) -> io::Result<()> {
+    let rest = place.source.get(place.at..).unwrap_or(&[]);
+    let newline = rest.iter().skip(1).position(|b| *b == b'\n');
+    let end = newline.map_or(rest.len(), |count| count.saturating_add(1));
+    let shown = Escaped(rest.get(..end.min(MOST_BYTES)).unwrap_or(rest));
+    let more = if end > MOST_BYTES { ".." } else { "" };
+    place.put_front(out)?;
+    writeln!(out, "{what}: {shown}{more}")?;
+    place.put_text(out, true)
+}
+
+/// Writes that no line of a SPEC matches at a place of a text, with the line there.
+pub fn put_unmatched<W: Write>(out: &mut W, place: Place<'_>) -> io::Result<()> {
+    put_bytes_at(out, place, "no line of the SPEC matches here")
+}
+
+/// Writes that a token too many begins at a place of a text, with the line there.
+pub fn put_too_many<W: Write>(out: &mut W, place: Place<'_>) -> io::Result<()> {
+    put_bytes_at(out, place, "more than 1,000,000 tokens; this is one more")
+}
+
 impl Fault {
     /// What is wrong with a file of these bytes.
     pub fn new(alloc: Global, file: Limited<'_>, bytes: Vec<u8>, what: What) -> Made<Fault> {
@@ -113,19 +136,6 @@ impl Fault {
         }
     }
 
-    /// Writes the place, and what nothing matches there: the first bytes up to the end of its line;
-    /// a newline where the line ends there.
-    fn put_unmatched<W: Write>(&self, out: &mut W, at: usize, what: &str) -> io::Result<()> {
-        let rest = self.bytes.get(at..).unwrap_or(&[]);
-        let newline = rest.iter().skip(1).position(|b| *b == b'\n');
-        let end = newline.map_or(rest.len(), |count| count.saturating_add(1));
-        let shown = Escaped(rest.get(..end.min(MOST_BYTES)).unwrap_or(rest));
-        let more = if end > MOST_BYTES { ".." } else { "" };
-        self.place(at).put_front(out)?;
-        writeln!(out, "{what}: {shown}{more}")?;
-        self.place(at).put_text(out, true)
-    }
-
     /// Writes what is wrong with a line of a SPEC.
     fn put_line<W: Write>(&self, out: &mut W, at: usize, wrong: Wrong) -> io::Result<()> {
         let front = match wrong {
@@ -170,12 +180,8 @@ impl Fault {
             What::Tokens(fault) => {
                 self.put_token(rt.alloc(), out, opened, fault, grammar.columns)
             }
-            What::Unmatched(at) => {
-                self.put_unmatched(out, at, "no line of the SPEC matches here")
-            }
-            What::TooMany(at) => {
-                self.put_unmatched(out, at, "more than 1,000,000 tokens; this is one more")
-            }
+            What::Unmatched(at) => put_unmatched(out, self.place(at)),
+            What::TooMany(at) => put_too_many(out, self.place(at)),
             What::Spec(at, wrong) => self.put_line(out, at, wrong),
             What::Ungiven(token) => put_ungiven(out, path, grammar, opened, token),
         };

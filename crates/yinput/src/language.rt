@@ -165,10 +165,21 @@ impl Language {
         Spoken::new(grammar_of(&self.opened.tables), &self.spelled)
     }
 
+    /// What cuts its texts, where inputs are texts.
+    pub fn lexer(&self) -> Option<&Lexer> {
+        self.lexer.as_ref()
+    }
+
     /// The grammar, once no more inputs are read.
     pub fn into_opened(self) -> Opened {
         let Language { opened, .. } = self;
         opened
+    }
+
+    /// The grammar, and what cuts its texts, where a SPEC is given.
+    pub fn into_parts(self) -> (Opened, Option<Lexer>) {
+        let Language { opened, lexer, .. } = self;
+        (opened, lexer)
     }
 
     /// The tokens of an input of which this was read, or why it has none.

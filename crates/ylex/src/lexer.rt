@@ -49,11 +49,14 @@ impl Found {
 /// What cuts texts.
 #[derive(Drop)]
 pub struct Lexer {
-    words: Vec<Word>,
-    literals: Vec<Option<Sym>>,
+    /// The words that stand for themselves.
+    pub(crate) words: Vec<Word>,
+    /// The literal of each byte.
+    pub(crate) literals: Vec<Option<Sym>>,
     /// The token of each expression; `None` where what it matches is passed over.
-    tokens: Vec<Option<Sym>>,
-    regexes: Vec<Regex>,
+    pub(crate) tokens: Vec<Option<Sym>>,
+    /// The expressions.
+    pub(crate) regexes: Vec<Regex>,
     named: Vec<bool>,
     /// The texts of tokens, none of them tried.
     plain: Texts,
@@ -185,6 +188,13 @@ impl Lexer {
     /// Whether the SPEC names a symbol.
     pub fn names(&self, symbol: Sym) -> bool {
         self.named.get(symbol) == Some(&true)
+    }
+
+    /// Whether a text can have a token: a line gives it, or it stands for itself.
+    pub fn gives(&self, token: Sym) -> bool {
+        self.tokens.contains(&Some(token))
+            || self.literals.contains(&Some(token))
+            || self.words.iter().any(|word| word.token == token)
     }
 
     /// A text before it is cut.

@@ -231,7 +231,7 @@ fn put_lists<'a, W: Write, F: Files + AllocGlobal + Clone + Drop>(
         folder: Folder {
             rt,
             path: asked.save,
-            grammar: asked.grammar,
+            inputs: (asked.grammar, None),
             name: ("conflict-", ""),
             failed: None,
         },
