@@ -13,6 +13,7 @@ use yfaults::opening::Opened;
 use yfiles::reading::Limited;
 use ylex::fault::TextFault;
 use ylex::lexer::{Lexed, Lexer};
+use ylex::writer::Writer;
 use yparse::{TokenFault, Tokens, read_tokens};
 
 /// The files of a language.
@@ -176,10 +177,14 @@ impl Language {
         opened
     }
 
-    /// The grammar, and what cuts its texts, where a SPEC is given.
-    pub fn into_parts(self) -> (Opened, Option<Lexer>) {
+    /// The grammar, and what writes texts of the language, where a SPEC is given.
+    pub fn into_writing(self, alloc: Global) -> io::Result<(Opened, Option<Writer>)> {
         let Language { opened, lexer, .. } = self;
-        (opened, lexer)
+        let writer = match lexer {
+            Some(lexer) => Some(Writer::new(alloc, grammar_of(&opened.tables), lexer)?),
+            None => None,
+        };
+        Ok((opened, writer))
     }
 
     /// The tokens of an input of which this was read, or why it has none.

@@ -20,7 +20,6 @@ use yfiles::writing::put_output;
 use yinput::language::{Language, LanguageFiles};
 use yinput::spelled::Spelled;
 use ylalr::END;
-use ylex::lexer::Lexer;
 use ylex::writer::Writer;
 use yparse::Session;
 use ysymbols::Grammar;
@@ -51,14 +50,6 @@ struct Found {
     /// Those by inputs for whose tokens texts are found, where some have none.
     told: Option<Errors>,
     writer: Option<Writer>,
-}
-
-/// What writes inputs as texts, where they are.
-fn writer_of(alloc: Global, tables: &Tables, lexer: Option<Lexer>) -> io::Result<Option<Writer>> {
-    match lexer {
-        Some(lexer) => Writer::new(alloc, grammar_of(tables), lexer).map(Some),
-        None => Ok(None),
-    }
 }
 
 /// Which tokens no input has: where inputs are texts, those that no line of the SPEC gives.
@@ -100,9 +91,8 @@ fn told_errors(
 impl Found {
     /// What is found for a file, by the tables of a language.
     fn new(alloc: Global, language: Language, messages: Messages) -> io::Result<Found> {
-        let (opened, lexer) = language.into_parts();
+        let (opened, writer) = language.into_writing(alloc)?;
         let Opened { tables, lines: _ } = opened;
-        let writer = writer_of(alloc, &tables, lexer)?;
         let absent = absent_in(alloc, grammar_of(&tables), writer.as_ref())?;
         let untold = untold_in(alloc, grammar_of(&tables), writer.as_ref())?;
         let mut session = empty_session(alloc, tables);

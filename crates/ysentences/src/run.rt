@@ -16,7 +16,6 @@ use ycover::elements::{Elements, Kind};
 use yexplain::reads::{grammar_of, set};
 use yfaults::opening::Opened;
 use yinput::language::{Language, LanguageFiles};
-use ylex::lexer::Lexer;
 use ylex::writer::Writer;
 use yreports::report::put_failed;
 use yreports::saving::Folder;
@@ -247,14 +246,6 @@ fn put_sheet<'a, W: Write, E: Write, F: Files + AllocGlobal + Clone + Drop>(
     put_failed(errors, failed.or(sheet.near_folder.failed.as_ref()), status)
 }
 
-/// What writes lists as texts, where that is wanted.
-fn writer_of(alloc: Global, tables: &Tables, lexer: Option<Lexer>) -> io::Result<Option<Writer>> {
-    match lexer {
-        Some(lexer) => Writer::new(alloc, grammar_of(tables), lexer).map(Some),
-        None => Ok(None),
-    }
-}
-
 /// Writes sentences of a language that is open, and gives the exit status.
 fn put_open<F: Files + AllocGlobal + Clone + Drop, W: Write, E: Write>(
     rt: &F,
@@ -263,9 +254,8 @@ fn put_open<F: Files + AllocGlobal + Clone + Drop, W: Write, E: Write>(
     out: &mut W,
     errors: &mut E,
 ) -> io::Result<u8> {
-    let (opened, lexer) = language.into_parts();
+    let (opened, writer) = language.into_writing(rt.alloc())?;
     let Opened { tables, lines } = opened;
-    let writer = writer_of(rt.alloc(), &tables, lexer)?;
     let mut session = empty_session(rt.alloc(), tables);
     let chosen = match asked.drawn {
         Some(_) => None,
