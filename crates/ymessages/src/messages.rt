@@ -76,9 +76,9 @@ pub(crate) fn bytes_of<F: Files + AllocGlobal, E: Write>(
 }
 
 impl Messages {
-    /// A file of these bytes, for these tables. Where it can't be read, what is wrong is written,
-    /// with its column where columns are wanted, and the exit status is the answer. Inputs that aren't errors at their last token are read
-    /// too.
+    /// A file of these bytes, for these tables, by its path and whether columns are wanted. Where
+    /// it can't be read, what is wrong is written, and the exit status is the answer. Inputs that
+    /// aren't errors at their last token are read too.
     pub(crate) fn read<E: Write>(
         alloc: Global,
         tables: &Tables,
