@@ -36,15 +36,19 @@ NUMBER = re.compile(r"conflict (\d+): ")
 OTHERS = re.compile(r"  (?:The same|Also) on \d+ other tokens?, conflicts? (.*):")
 TOKEN = re.compile(r"'.[^']*'|\S+")
 WORDS = {"shift": "shift", "accept": "shift", "reduce": "reduce"}
-# Warnings about a symbol, and about a rule.
+# Warnings about a symbol, and what is said of a rule.
 SYMBOL = re.compile(
     r"(?:the precedence of |the token )?('.[^']*'|\S+)"
     r" (?:settles nothing|is declared and used nowhere|can't be reached from the start)"
 )
-LOST = re.compile(r"rule \d+ is never reduced, since it lost every cell:  (\S+): .*")
+LEFT_SIDE = re.compile(
+    r"(?:rule \d+ is never reduced, since it lost every cell:  |.* conflict on .*?, not rule \d+ \()"
+    r"(\S+): .*"
+)
 IDLE = re.compile(r"the %prec of rule \d+ (?:settles|may settle) nothing")
 # What rules begin with, where the left side isn't told.
 SOME_RULE = r"[A-Za-z_.][\w.]*(?:\[\w+\])?\s*:|\|"
+FOREIGN = re.compile(r"foreign\.y:(\d+)(?::(\d+))?: \w+: (.*)")
 # In the text of a grammar that was drawn: a left side, what a body begins with, a listed token.
 LEFT, FIRST, LISTED = (
     re.compile(it) for it in (r"(?m)^([a-z]+)(?= :)", r"([:|] [A-Za-z]+)", r"\b([A-Z]+)\b")
@@ -180,16 +184,16 @@ def wrong_heads(kinds, diagnostics):
 
 
 def front_in(message):
-    """What stands at the place of a warning: a symbol, whose literals may be spelled otherwise, or
-    the front of a rule; nothing where it is no warning."""
+    """What stands at the place of a conflict or a warning: a symbol, whose literals may be spelled
+    otherwise, or the front of a rule; nothing where it is neither."""
     if found := SYMBOL.fullmatch(message):
         return "'" if found[1][0] == "'" else rf"{re.escape(found[1])}\b"
-    found = LOST.fullmatch(message)
+    found = LEFT_SIDE.fullmatch(message)
     return front_of(found[1]) if found else IDLE.fullmatch(message) and SOME_RULE
 
 
 def wrong_spots(source, diagnostics):
-    """What is wrong with the places of warnings."""
+    """What is wrong with the places of conflicts and warnings."""
     fronts = [front_in(it["message"]) for it in diagnostics]
     wrong = (wrong_place(source, it, front) for it, front in zip(diagnostics, fronts) if front)
     return next(filter(None, wrong), None)
@@ -254,15 +258,13 @@ def foreign_text(text):
 
 
 def wrong_import(ydebug, room, text):
-    """What is wrong with the places in the same grammar as a file of bison, unless it is refused."""
+    """What is wrong with the places in the same grammar as a file of bison."""
     source = foreign_text(text)
     (Path(room) / "foreign.y").write_text(source)
-    words = [ydebug, "conflicts", "foreign.y", "--from=bison", "--format=json"]
-    made = json.loads(ran(words, room).stdout)
-    diagnostics, found = made["diagnostics"], made["conflicts"]
-    if found is None:
-        return None if any("refused: " in it["message"] for it in diagnostics) else f"{made}"
-    wrong = wrong_columns(source.encode(), found["kinds"]) or wrong_spots(source.encode(), diagnostics)
+    words = [ydebug, "conflicts", "foreign.y", "--from=bison", "--format=gcc"]
+    found = filter(None, map(FOREIGN.fullmatch, ran(words, room).stdout.splitlines()))
+    told = [{"line": int(it[1]), "column": it[2] and int(it[2]), "message": it[3]} for it in found]
+    wrong = wrong_spots(source.encode(), told)
     return wrong and f"{source}{wrong}"
 
 

@@ -215,6 +215,7 @@ class Documents(Planted):
             ("the token A is declared and used nowhere", 1, 8),
             ("'\\053' can't be reached from the start", 1, 10),
             (f"rule 1 {lost}$$1: (empty)", 3, 7),
+            ("shift/reduce conflict on ',' in state 1: the shift is taken, not rule 3 (s: s)", 4, 3),
             (f"rule 3 {lost}s: s '+'", 4, 3),
             ("the %prec of rule 2 settles nothing", 3, 1),
         ):

@@ -111,7 +111,7 @@ impl InputSheet {
 }
 
 /// Gives a diagnostic the place of a token in its tokens file.
-fn place(diagnostics: &mut [Diagnostic], (path, source): (&str, &[u8]), number: usize) {
+fn give_place(diagnostics: &mut [Diagnostic], (path, source): (&str, &[u8]), number: usize) {
     let at = word_place(source, number).unwrap_or(source.len());
     let (line, column) = Place { path, source, at }.spot();
     if let Some(first) = diagnostics.first_mut() {
@@ -139,7 +139,7 @@ pub fn answer_of(
         diagnostics = about.take(alloc, &told)?;
     }
     if let (Verdict::Rejected(rejection), None) = (verdict, &input.text) {
-        place(&mut diagnostics, (path, source), rejection.number);
+        give_place(&mut diagnostics, (path, source), rejection.number);
     }
     Ok(Judged {
         sheet: InputSheet::of(alloc, spoken.grammar, path, verdict)?,

@@ -31,7 +31,7 @@ impl Changed {
 struct Page<'a> {
     source: &'a [u8],
     out: Vec<u8>,
-    pieces: Pieces,
+    pieces: Vec<Piece>,
     at: usize,
     /// Whether blanks that come next are left out.
     passing: bool,
@@ -59,12 +59,15 @@ impl<'a> Page<'a> {
         self.source.get(from..to).unwrap_or(&[])
     }
 
-    /// Notes where the file has what comes next: so many bytes, after so many others.
+    /// Notes where the file has what comes next: so many bytes, after so many others. Parts that
+    /// aren't before it have nothing, or were cut off.
     fn note(&mut self, file: usize, length: usize) {
         let text = self.out.len();
-        self.pieces.cut(text);
+        let last = self.pieces.iter().rposition(|piece| piece.text < text);
+        self.pieces
+            .truncate(last.map_or(0, |last| last.saturating_add(1)));
         let piece = Piece { text, file, length };
-        self.trouble.push(&mut self.pieces.all, piece);
+        self.trouble.push(&mut self.pieces, piece);
     }
 
     /// Copies the file up to a place, without the spaces around what was left out.
@@ -129,7 +132,7 @@ pub fn applied(alloc: Global, changes: &mut Edits<'_>) -> Result<Changed, Troubl
     let mut page = Page {
         source,
         out: Vec::with_capacity(alloc, source.len())?,
-        pieces: Pieces::new(alloc),
+        pieces: Vec::new(alloc),
         at: 0,
         passing: false,
         trouble: FirstTrouble { first: None },
@@ -141,5 +144,8 @@ pub fn applied(alloc: Global, changes: &mut Edits<'_>) -> Result<Changed, Troubl
     page.note(source.len(), 1);
     page.trouble.checked()?;
     let Page { out, pieces, .. } = page;
-    Ok(Changed { text: out, pieces })
+    Ok(Changed {
+        text: out,
+        pieces: Pieces { all: pieces },
+    })
 }

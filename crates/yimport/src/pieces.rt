@@ -28,13 +28,6 @@ impl Pieces {
         }
     }
 
-    /// Forgets those that aren't before a place of the text: they have nothing, or were cut off.
-    pub fn cut(&mut self, text: usize) {
-        let last = self.all.iter().rposition(|piece| piece.text < text);
-        let kept = last.map_or(0, |last| last.saturating_add(1));
-        self.all.truncate(kept);
-    }
-
     /// The place in the file of what stands at a place of the text; `None` where the file hasn't
     /// it, or has it elsewhere.
     pub fn original_place(&self, at: usize) -> Option<usize> {

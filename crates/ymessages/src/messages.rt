@@ -102,8 +102,8 @@ fn has_tokens_alone(alloc: Global, tables: &Tables, source: &[u8]) -> io::Result
 }
 
 impl Messages {
-    /// A file of these bytes, whose inputs are read so. Where it can't be read, what is wrong is
-    /// written, with its column where columns are wanted, and the exit status is the answer. Inputs
+    /// A file of these bytes, by its path and whether columns are wanted, whose inputs are read so.
+    /// Where it can't be read, what is wrong is written, and the exit status is the answer. Inputs
     /// that aren't errors at their last token are read too.
     pub(crate) fn read<E: Write>(
         alloc: Global,
