@@ -113,8 +113,10 @@ fn plain_symbol(
 
 /// Puts a string at its symbol, where that is one.
 fn put(strings: &mut [Option<Lexeme>], symbol: Option<Sym>, text: Lexeme) {
-    if let Some(string) = symbol.and_then(|symbol| strings.get_mut(symbol)) {
-        *string = Some(text);
+    if let Some(symbol) = symbol {
+        if let Some(string) = strings.get_mut(symbol) {
+            *string = Some(text);
+        }
     }
 }
 
