@@ -46,10 +46,9 @@ fn joined(
         line.extend_from_slice(separator)?;
     }
     line.extend_from_slice(&text)?;
-    match (last, text.is_empty()) {
-        (END, true) => line.extend_from_slice(b"$end")?,
-        (END, false) => line.extend_from_slice(b" $end")?,
-        _ => {}
+    if last == END {
+        let end: &[u8] = if text.is_empty() { b"$end" } else { b" $end" };
+        line.extend_from_slice(end)?;
     }
     Ok(Some(line))
 }
