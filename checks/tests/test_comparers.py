@@ -153,9 +153,9 @@ class Conflicts(Planted):
 
     def test_beside(self):
         """Conflicts that a hint is told to settle, or a kernel item, too many or too few."""
-        report, look = self.look("three-mistakes")
-        also = ", that also settles conflicts 22, 25"
-        pairs = [(also, also.replace("22, ", "")), (also, also.replace("22", "20, 22"))]
+        report, look = self.look("sums-and-products")
+        also = "settles conflicts 1, 3 to 4"
+        pairs = [(also, also.replace("1, ", "")), (also, also.replace("1, 3", "1"))]
         self.each_caught(look, report, *changed(report, *pairs))
         report, look = self.look("kernel-items")
         item = "    rule 1 (line 3)  stat: EXPLAIN . storage constants NAME\n"

@@ -137,39 +137,6 @@ impl AmbiguityText<'_> {
         }
     }
 
-    /// Begins a tree: the root of one that stands for any tree of its symbol is drawn too, since
-    /// nothing else would be. The conflict is before all of its leaves or after them.
-    fn put_top<W: Write>(
-        self,
-        page: &mut Page<W>,
-        open: &mut Vec<(usize, usize)>,
-        tree: usize,
-        dot: usize,
-    ) -> Result<Drawn, AllocError> {
-        let line = None;
-        match self.trees.node(tree) {
-            Some(node) if node.stands && node.rule.is_some() => {
-                let all = self.trees.children(tree).len();
-                let dot = if dot > 0 { all } else { 0 };
-                let drawn = Drawn {
-                    leaves: 0,
-                    dot,
-                    line,
-                };
-                self.push_children(open, 0, tree)?;
-                Ok(self.put_root(page, drawn, 0, node))
-            }
-            _ => {
-                open.push((0usize, tree))?;
-                Ok(Drawn {
-                    leaves: 0,
-                    dot,
-                    line,
-                })
-            }
-        }
-    }
-
     /// Draws a tree: each rule on a line, its children below it, leaves beside one another.
     fn put_tree<W: Write>(
         self,
@@ -179,7 +146,12 @@ impl AmbiguityText<'_> {
         dot: usize,
     ) -> Result<(), AllocError> {
         let mut open = Vec::new(alloc);
-        let mut drawn = self.put_top(page, &mut open, tree, dot)?;
+        open.push((0usize, tree))?;
+        let mut drawn = Drawn {
+            leaves: 0,
+            dot,
+            line: None,
+        };
         for _ in 0..MOST_NODES {
             let Some((level, tree)) = open.pop() else {
                 break;
