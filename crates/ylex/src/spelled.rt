@@ -16,20 +16,35 @@ fn is_readable(bytes: &[u8]) -> bool {
     str::from_utf8(bytes).is_ok() && bytes.iter().all(|b| *b >= b' ' && *b != 0x7f)
 }
 
-/// The text that an expression matches alone, where there is one, and it can be read.
-fn plain_text(alloc: Global, expression: &str) -> Made<Option<Vec<u8>>> {
-    let mut config = Config::default();
-    config.utf8 = false;
+/// The tree of an expression; `None` where it isn't read, as it was when it was compiled.
+pub(crate) fn tree_of(alloc: Global, expression: &str) -> Made<Option<Hir>> {
+    let config = Config {
+        utf8: false,
+        ..Config::default()
+    };
     match parse(alloc, expression, &config) {
         Ok(parsed) => {
-            let Parsed { hir, names: _ } = parsed;
-            match hir {
-                Hir::Literal(bytes) if is_readable(&bytes) => Ok(Some(bytes)),
-                _ => Ok(None),
-            }
+            let Parsed { hir, .. } = parsed;
+            Ok(Some(hir))
         }
         Err(error) if error.kind == ErrorKind::OutOfMemory => Err(AllocError),
         Err(_) => Ok(None),
+    }
+}
+
+/// The bytes of a tree that is one text, where it can be read.
+fn literal_in(alloc: Global, tree: &Hir) -> Made<Option<Vec<u8>>> {
+    match tree {
+        Hir::Literal(bytes) if is_readable(bytes) => Vec::from_slice(alloc, bytes).map(Some),
+        _ => Ok(None),
+    }
+}
+
+/// The text that an expression matches alone, where there is one, and it can be read.
+fn plain_text(alloc: Global, expression: &str) -> Made<Option<Vec<u8>>> {
+    match tree_of(alloc, expression)? {
+        Some(tree) => literal_in(alloc, &tree),
+        None => Ok(None),
     }
 }
 

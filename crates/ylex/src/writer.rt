@@ -4,9 +4,9 @@
 use crate::fault::TextFault;
 use crate::lexer::Lexer;
 use crate::sample::{Taste, sample_of};
+use crate::spelled::tree_of;
 use regex::bytes::Regex;
 use regex_hir::Hir;
-use regex_syntax::{Config, ErrorKind as Kind, Parsed, parse};
 use std::alloc::{AllocError, Global};
 use std::io::{self, ErrorKind};
 use yexplain::reads::{Made, name_of};
@@ -47,24 +47,6 @@ fn is_cut(
         Ok(lexed) => Ok(lexed.tokens.symbols.as_slice() == tokens),
         Err(TextFault::Memory) => Err(io::Error::from(ErrorKind::OutOfMemory)),
         Err(TextFault::Unmatched(_) | TextFault::TooMany(_)) => Ok(false),
-    }
-}
-
-/// The tree of an expression; `None` where it isn't read, as it was when it was compiled.
-fn tree_of(alloc: Global, regex: &Regex) -> io::Result<Option<Hir>> {
-    let config = Config {
-        utf8: false,
-        ..Config::default()
-    };
-    match parse(alloc, regex.as_str(), &config) {
-        Ok(parsed) => {
-            let Parsed { hir, .. } = parsed;
-            Ok(Some(hir))
-        }
-        Err(error) if error.kind == Kind::OutOfMemory => {
-            Err(io::Error::from(ErrorKind::OutOfMemory))
-        }
-        Err(_) => Ok(None),
     }
 }
 
@@ -128,7 +110,7 @@ impl<'a> Trial<'a> {
 
     /// A text of an expression that is cut into what is wanted, where one is found.
     fn by_regex(self, regex: &Regex, wanted: &[Sym]) -> io::Result<Option<Vec<u8>>> {
-        match tree_of(self.alloc, regex)? {
+        match tree_of(self.alloc, regex.as_str())? {
             Some(tree) => self.by_tree(&tree, wanted),
             None => Ok(None),
         }
