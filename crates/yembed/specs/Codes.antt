@@ -13,22 +13,22 @@ pub record IsCodeOf (grammar : List ℕ) (code : Code) : Type 0 where
   pub says : IsCode tables code
 
 -- the numbers are those of the array with this number; there are 14
-pub record IsArrayOf (code : Code) (array : ℕ) (numbers : List ℕ) : Type 0 where
-  pub action_rows : array ≡ 0 → numbers ≡ code.actions.rows
-  pub action_checks : array ≡ 1 → numbers ≡ code.actions.checks
-  pub action_values : array ≡ 2 → numbers ≡ code.actions.values
-  pub usual : array ≡ 3 → numbers ≡ code.usual
-  pub sets : array ≡ 4 → numbers ≡ code.sets
-  pub bits : array ≡ 5 → numbers ≡ code.bits
-  pub goto_rows : array ≡ 6 → numbers ≡ code.gotos.rows
-  pub goto_checks : array ≡ 7 → numbers ≡ code.gotos.checks
-  pub goto_values : array ≡ 8 → numbers ≡ code.gotos.values
-  pub targets : array ≡ 9 → numbers ≡ code.targets
-  pub symbols : array ≡ 10 → numbers ≡ code.symbols
-  pub lengths : array ≡ 11 → numbers ≡ code.lengths
-  pub lefts : array ≡ 12 → numbers ≡ code.lefts
-  pub numbers : array ≡ 13 → numbers ≡ code.numbers
-  pub none : 13 < array → numbers ≡ []
+pub record IsArrayOf (code : Code) (array : ℕ) (list : List ℕ) : Type 0 where
+  pub action_rows : array ≡ 0 → list ≡ code.actions.rows
+  pub action_checks : array ≡ 1 → list ≡ code.actions.checks
+  pub action_values : array ≡ 2 → list ≡ code.actions.values
+  pub usual : array ≡ 3 → list ≡ code.usual
+  pub sets : array ≡ 4 → list ≡ code.sets
+  pub bits : array ≡ 5 → list ≡ code.bits
+  pub goto_rows : array ≡ 6 → list ≡ code.gotos.rows
+  pub goto_checks : array ≡ 7 → list ≡ code.gotos.checks
+  pub goto_values : array ≡ 8 → list ≡ code.gotos.values
+  pub targets : array ≡ 9 → list ≡ code.targets
+  pub symbols : array ≡ 10 → list ≡ code.symbols
+  pub lengths : array ≡ 11 → list ≡ code.lengths
+  pub lefts : array ≡ 12 → list ≡ code.lefts
+  pub numbers : array ≡ 13 → list ≡ code.numbers
+  pub none : 13 < array → list ≡ []
 
 -- the numbers by which the arrays are read
 pub record HasSizes (code : Code) (sizes : Sizes) : Type 0 where
