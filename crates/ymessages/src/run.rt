@@ -120,10 +120,10 @@ impl Found {
             confirmed: &confirmed,
             writer: self.writer.as_ref(),
         };
-        let mut page = Page::new(out, false);
-        let new = update.put(&mut page)?;
+        let mut page = Page::new(&mut *out, false);
+        let new = update.put(&mut page);
         page.checked()?;
-        Ok(new)
+        new
     }
 
     /// Writes the states that have no message, each with an input for it, and says how many they
